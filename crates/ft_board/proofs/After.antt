@@ -1,0 +1,90 @@
+-- What an edit answers, case by case.
+use Rattle.std.proofs.Common.{◌≡◌, ℕ, ◌+◌, ◌<◌, ◌≤◌, Bool, true, false, cond, ◌||◌, ltb, leb, List, length, refl, sym, ap, ◌∙◌, subst, Option, Some, None, Result, Ok, Err, is_err, OnOk}
+use Rattle.std.specs.List.{AllByRecursion}
+use Rattle.std.specs.Option.{option_map_or}
+use Rattle.std.specs.FinMap as map
+use Rattle.std.proofs.lemmas.Bool.{le-ltb, lt-ltb, le-leb, lt-leb, ltb-false, leb-false, or_parts, or_left, or_right}
+use Rattle.ft_event.specs.Traced.{Traced}
+use Rattle.ft_board.specs.declared.trigger.Trigger.{Trigger}
+use Rattle.ft_board.specs.declared.refused.Refused.{Refused}
+use Rattle.ft_board.specs.declared.refused.Refused.TheVariants.{LaneHeld, Full, TooManyTriggers}
+use Rattle.ft_board.specs.Base.{Base, number_limit, event_limit, trigger_limit, held_in}
+use Rattle.ft_board.specs.After.{after_load, after_attach, with_lanes, first_held}
+use Rattle.ft_board.specs.Reachable.{HasCpu, IsReachable}
+use Rattle.ft_board.proofs.Reachable.{load-IsReachable, attach-IsReachable}
+
+-- a clause on success, where a call did not fail
+pub at_ok : {T E P : Type 0} (r : Result T E) → false ≡ is_err r → OnOk r P → P
+at_ok (Ok x) e h = h
+at_ok (Err y) e h = cc
+
+-- the cases of a load, by the CPU that is held and by the test of the total
+abbrev loaded : Base → List Traced → Option ℕ → Bool → Result (Base × ℕ) Refused
+loaded base es held full = option_map_or (λ cpu. Err (LaneHeld cpu)) held (cond full (Err Full) (Ok (record base { lanes = with_lanes base.lanes es }, length es)))
+
+abbrev is_full : Base → List Traced → Bool
+is_full base es = ltb event_limit (held_in base.lanes + length es)
+
+after_load-cases : (base : Base) (es : List Traced) → after_load base es ≡ loaded base es (first_held base.lanes es) (is_full base es)
+unfolding after_load
+after_load-cases base es = refl
+
+pub load-held : (base : Base) (es : List Traced) (cpu : ℕ) → Some cpu ≡ first_held base.lanes es → after_load base es ≡ Err (LaneHeld cpu)
+load-held base es cpu held = after_load-cases base es ∙ ap (λ o. loaded base es o (is_full base es)) (sym held)
+
+pub load-full : (base : Base) (es : List Traced) → None ≡ first_held base.lanes es → event_limit < held_in base.lanes + length es → after_load base es ≡ Err Full
+load-full base es free full = after_load-cases base es ∙ ap (λ o. loaded base es o (is_full base es)) (sym free) ∙ ap (loaded base es None) (lt-ltb _ _ full)
+
+pub load-ok : (base : Base) (es : List Traced) → None ≡ first_held base.lanes es → held_in base.lanes + length es ≤ event_limit → after_load base es ≡ Ok (record base { lanes = with_lanes base.lanes es }, length es)
+load-ok base es free few = after_load-cases base es ∙ ap (λ o. loaded base es o (is_full base es)) (sym free) ∙ ap (loaded base es None) (le-ltb _ _ few)
+
+abbrev answered : Base → ℕ → Result (Base × ℕ) Refused
+answered base n = Ok (base, n)
+
+abbrev base_of : Base → Result (Base × ℕ) Refused → Base
+base_of other (Ok answer) = answer.0
+base_of other (Err refused) = other
+
+same-base : (x y : Base) (m n : ℕ) → answered x m ≡ answered y n → x ≡ y
+same-base x y m n e = ap (base_of x) e
+
+pub load-reachable : (base : Base) (es : List Traced) (new : Base) (count : ℕ) → IsReachable base → AllByRecursion HasCpu es → after_load base es ≡ Ok (new, count) → IsReachable new
+load-reachable base es new count is at answer =
+    elim (first_held base.lanes es) as (λ o. first_held base.lanes es ≡ o → loaded base es o (is_full base es) ≡ Ok (new, count) → IsReachable new) [
+      | Some cpu ↦ λ _ e. cc
+      | None ↦ λ free. elim (is_full base es) as (λ b. is_full base es ≡ b → loaded base es None b ≡ Ok (new, count) → IsReachable new) [
+        | true ↦ λ _ e. cc
+        | false ↦ λ few e. subst IsReachable (same-base _ new (length es) count e) (load-IsReachable base es is at free (ltb-false event_limit (held_in base.lanes + length es) few))
+      ] refl
+    ] refl (sym (after_load-cases base es) ∙ answer)
+
+-- the cases of an attachment, by the test of what is used up
+abbrev attached : Base → Trigger → Bool → Result (Base × ℕ) Refused
+attached base trigger used = cond used (Err TooManyTriggers) (Ok (record base { triggers = map.insert base.triggers base.next_id trigger; next_id = base.next_id + 1 }, base.next_id))
+
+abbrev is_used : Base → Bool
+is_used base = leb trigger_limit (map.len base.triggers) || ltb number_limit base.next_id
+
+after_attach-cases : (base : Base) (trigger : Trigger) → after_attach base trigger ≡ attached base trigger (is_used base)
+unfolding after_attach
+after_attach-cases base trigger = refl
+
+pub attach-reachable : (base : Base) (trigger : Trigger) (new : Base) (id : ℕ) → IsReachable base → after_attach base trigger ≡ Ok (new, id) → IsReachable new
+attach-reachable base trigger new id is answer =
+    elim (is_used base) as (λ b. is_used base ≡ b → attached base trigger b ≡ Ok (new, id) → IsReachable new) [
+      | true ↦ λ _ e. cc
+      | false ↦ λ free e.
+          let parts = or_parts _ _ free in
+          subst IsReachable (same-base _ new base.next_id id e) (attach-IsReachable base trigger is (leb-false trigger_limit (map.len base.triggers) parts.0) (ltb-false number_limit base.next_id parts.1))
+    ] refl (sym (after_attach-cases base trigger) ∙ answer)
+
+pub attach-many : (base : Base) (trigger : Trigger) → trigger_limit ≤ map.len base.triggers → after_attach base trigger ≡ Err TooManyTriggers
+attach-many base trigger many = after_attach-cases base trigger ∙ ap (attached base trigger) (or_left _ _ (le-leb trigger_limit (map.len base.triggers) many))
+
+pub attach-high : (base : Base) (trigger : Trigger) → number_limit < base.next_id → after_attach base trigger ≡ Err TooManyTriggers
+attach-high base trigger high = after_attach-cases base trigger ∙ ap (attached base trigger) (or_right _ _ (lt-ltb number_limit base.next_id high))
+
+pub attach-ok : (base : Base) (trigger : Trigger) → map.len base.triggers < trigger_limit → base.next_id ≤ number_limit → after_attach base trigger ≡ Ok (record base { triggers = map.insert base.triggers base.next_id trigger; next_id = base.next_id + 1 }, base.next_id)
+attach-ok base trigger few low =
+    after_attach-cases base trigger
+    ∙ (λ i. attached base trigger (lt-leb trigger_limit (map.len base.triggers) few i || le-ltb number_limit base.next_id low i))

@@ -1,0 +1,15 @@
+pub mod Seen
+pub mod SeenEntries
+pub mod Filling
+pub mod Loading
+pub mod Held
+pub mod Reachable
+pub mod After
+pub mod Orders
+pub mod Merging
+pub mod Counting
+pub mod Replaying
+pub mod Sorting
+pub mod Texts
+pub mod HistText
+pub mod Places

@@ -1,0 +1,166 @@
+-- Edits keep what holds of reachable bases.
+use Rattle.std.proofs.Common.{◌≡◌, ℕ, ◌+◌, ◌<◌, ◌≤◌, Bool, true, false, cond, List, [], ◌∷◌, map as list_map, length, fold, refl, sym, ap, ◌∙◌, subst, Option, Some, None, unwrap_or, is_some, ⊎_elim, arith}
+use Rattle.std.specs.List.{AllByRecursion, sum_by}
+use Rattle.std.specs.Option.{option_map_or}
+use Rattle.std.specs.Ordering.{nat_cmp}
+use Rattle.std.specs.Cmp.{nat_cmp_total}
+use Rattle.std.specs.FinMap as map
+use Rattle.std.specs.FinMap.{FinMap, get-empty, len-empty, len-insert}
+use Rattle.std.proofs.lemmas.Bool.{cases_eq}
+use Rattle.ft_event.specs.Traced.{Traced}
+use Rattle.ft_board.specs.declared.trigger.Trigger.{Trigger}
+use Rattle.ft_board.specs.Base.{Lane, Base, empty_base, number_limit, event_limit, trigger_limit, held_in}
+use Rattle.ft_board.specs.After.{with_lanes, first_held}
+use Rattle.ft_board.specs.Reachable.{HasCpu, IsReachable}
+use Rattle.ft_board.specs.Filling.{new_lane, with_line, with_event, HasRoom}
+use Rattle.ft_board.proofs.SeenEntries.{entries-empty}
+use Rattle.ft_board.proofs.Filling.{get-here, get-apart}
+use Rattle.ft_board.proofs.Loading.{room-here, room-next, room-from, free-from, with_lanes-fold}
+use Rattle.ft_board.proofs.Held.{sum-insert}
+
+abbrev Lanes : Type 0
+Lanes = FinMap nat_cmp Lane
+
+-- what holds of a CPU's lane
+record IsLane (cpu : ℕ) (lane : Lane) : Type 0 where
+  at_cpu : cpu ≤ 8191
+  numbers : (1 ≤ lane.next) × (lane.next ≤ number_limit + 1)
+  lines : (line : ℕ) (event : Traced) → map.get lane.events line ≡ Some event → (1 ≤ line) × (line < lane.next) × (event.cpu ≡ cpu)
+
+abbrev AreLanes : Lanes → Type 0
+AreLanes lanes = (cpu : ℕ) (lane : Lane) → map.get lanes cpu ≡ Some lane → IsLane cpu lane
+
+same-Some : {X : Type 0} (x y : X) → Some x ≡ Some y → x ≡ y
+same-Some x y e = ap (λ o. unwrap_or o x) e
+
+new-IsLane : (cpu : ℕ) → cpu ≤ 8191 → IsLane cpu new_lane
+new-IsLane cpu le = record {
+  at_cpu = le;
+  numbers = (omega arith, omega arith);
+  lines = λ line event is. let none : None ≡ Some event = sym (get-empty nat_cmp line) ∙ is in cc;
+}
+
+with_line-IsLane : (cpu : ℕ) (lane : Lane) (e : Traced) → IsLane cpu lane → e.cpu ≡ cpu → lane.next ≤ number_limit → IsLane cpu (with_line lane e)
+with_line-IsLane cpu lane e is at room = record {
+  at_cpu = is.at_cpu;
+  numbers = (omega arith, omega arith);
+  lines = λ line event found.
+      ⊎_elim
+      (λ s.
+      let same : e ≡ event = same-Some e event (sym (ap (map.get (map.insert lane.events lane.next e)) s ∙ get-here lane.events lane.next e) ∙ found) in
+      (omega (arith, is.numbers.0), omega arith, ap (λ t. t.cpu) (sym same) ∙ at))
+      (λ ne.
+      let old = is.lines line event (sym (get-apart lane.events lane.next e line ne) ∙ found) in
+      (old.0, omega (arith, old.1), old.2))
+      (cases_eq line lane.next);
+}
+
+-- the lane that an event goes to
+lane-or_new : (lanes : Lanes) (cpu : ℕ) → AreLanes lanes → cpu ≤ 8191 → IsLane cpu (unwrap_or (map.get lanes cpu) new_lane)
+lane-or_new lanes cpu are le =
+    elim (map.get lanes cpu) as (λ o. map.get lanes cpu ≡ o → IsLane cpu (unwrap_or o new_lane)) [
+      | None ↦ λ _. new-IsLane cpu le
+      | Some lane ↦ λ is. are cpu lane is
+    ] refl
+
+with_event-AreLanes : (lanes : Lanes) (e : Traced) → AreLanes lanes → HasCpu e → (unwrap_or (map.get lanes e.cpu) new_lane).next ≤ number_limit → AreLanes (with_event lanes e)
+with_event-AreLanes lanes e are at room cpu lane is =
+    let old = unwrap_or (map.get lanes e.cpu) new_lane in
+    ⊎_elim
+    (λ s.
+    let same : with_line old e ≡ lane = same-Some (with_line old e) lane (sym (ap (map.get (with_event lanes e)) s ∙ get-here lanes e.cpu (with_line old e)) ∙ is) in
+    subst (λ k. IsLane k lane) (sym s) (subst (IsLane e.cpu) same (with_line-IsLane e.cpu old e (lane-or_new lanes e.cpu are at) refl room)))
+    (λ ne. are cpu lane (sym (get-apart lanes e.cpu (with_line old e) cpu ne) ∙ is))
+    (cases_eq cpu e.cpu)
+
+-- the next line of a lane is free, so an event more makes it one longer
+next_free : (cpu : ℕ) (lane : Lane) → IsLane cpu lane → map.get lane.events lane.next ≡ None
+next_free cpu lane is =
+    elim (map.get lane.events lane.next) as (λ o. map.get lane.events lane.next ≡ o → o ≡ None) [
+      | None ↦ λ _. refl
+      | Some event ↦ λ found. absurd (omega (arith, (is.lines lane.next event found).1))
+    ] refl
+
+len-with_line : (cpu : ℕ) (lane : Lane) (e : Traced) → IsLane cpu lane → map.len (with_line lane e).events ≡ map.len lane.events + 1
+len-with_line cpu lane e is = len-insert nat_cmp_total lane.events lane.next e ∙ ap (λ o. cond (is_some o) (map.len lane.events) (map.len lane.events + 1)) (next_free cpu lane is)
+
+len-or_new : (o : Option Lane) → option_map_or (λ l. map.len l.events) o 0 ≡ map.len (unwrap_or o new_lane).events
+len-or_new None = sym (len-empty nat_cmp Traced)
+len-or_new (Some lane) = refl
+
+held-with_event : (lanes : Lanes) (e : Traced) → AreLanes lanes → HasCpu e → held_in (with_event lanes e) ≡ held_in lanes + 1
+held-with_event lanes e are at =
+    let old = unwrap_or (map.get lanes e.cpu) new_lane in
+    let sums = sum-insert nat_cmp_total (λ l. map.len l.events) lanes e.cpu (with_line old e) in
+    let more = len-with_line e.cpu old e (lane-or_new lanes e.cpu are at) in
+    let was = len-or_new (map.get lanes e.cpu) in
+    omega (arith, sums, more, was)
+
+-- events one by one keep the lanes and are counted
+fold-AreLanes : (lanes : Lanes) (es : List Traced) → AreLanes lanes → AllByRecursion HasCpu es → HasRoom lanes es → AreLanes (fold with_event lanes es) × (held_in (fold with_event lanes es) ≡ held_in lanes + length es)
+fold-AreLanes lanes [] are at room = (are, omega arith)
+fold-AreLanes lanes (e ∷ es) are at room =
+    let rest = fold-AreLanes (with_event lanes e) es (with_event-AreLanes lanes e are at.0 (room-here lanes e es room)) at.1 (room-next lanes e es room) in
+    (rest.0, omega (arith, rest.1, held-with_event lanes e are at.0))
+
+lanes-from : (base : Base) → IsReachable base → AreLanes base.lanes
+lanes-from base is cpu lane found = record {
+  at_cpu = is.cpus cpu lane found;
+  numbers = is.numbers cpu lane found;
+  lines = is.lines cpu lane found;
+}
+
+-- a load that is not refused counts its events
+pub held-with_lanes : (base : Base) (es : List Traced) → IsReachable base → AllByRecursion HasCpu es → first_held base.lanes es ≡ None → length es ≤ event_limit → held_in (with_lanes base.lanes es) ≡ held_in base.lanes + length es
+held-with_lanes base es is at none few =
+    ap held_in (sym (with_lanes-fold base.lanes es (free-from base.lanes es none)))
+    ∙ (fold-AreLanes base.lanes es (lanes-from base is) at (room-from base.lanes es none few)).1
+
+-- and keeps the base reachable
+pub load-IsReachable : (base : Base) (es : List Traced) → IsReachable base → AllByRecursion HasCpu es → first_held base.lanes es ≡ None → held_in base.lanes + length es ≤ event_limit → IsReachable (record base { lanes = with_lanes base.lanes es })
+load-IsReachable base es is at none few =
+    let same = with_lanes-fold base.lanes es (free-from base.lanes es none) in
+    let are : AreLanes (with_lanes base.lanes es) = subst AreLanes same (fold-AreLanes base.lanes es (lanes-from base is) at (room-from base.lanes es none (omega arith))).0 in
+    record {
+      cpus = λ cpu lane found. (are cpu lane found).at_cpu;
+      numbers = λ cpu lane found. (are cpu lane found).numbers;
+      lines = λ cpu lane found. (are cpu lane found).lines;
+      ids = is.ids;
+      next_id = is.next_id;
+      few_events = omega (arith, held-with_lanes base es is at none (omega arith));
+      few_triggers = is.few_triggers;
+    }
+
+at_most : (known : Bool) (n : ℕ) → n < trigger_limit → cond known n (n + 1) ≤ trigger_limit
+at_most true n few = omega arith
+at_most false n few = omega arith
+
+-- attaching a trigger does so too
+pub attach-IsReachable : (base : Base) (trigger : Trigger) → IsReachable base → map.len base.triggers < trigger_limit → base.next_id ≤ number_limit → IsReachable (record base { triggers = map.insert base.triggers base.next_id trigger; next_id = base.next_id + 1 })
+attach-IsReachable base trigger is few ids = record {
+  cpus = is.cpus;
+  numbers = is.numbers;
+  lines = is.lines;
+  ids = λ id other found.
+      ⊎_elim
+      (λ s. (omega (arith, is.next_id.0), omega arith))
+      (λ ne. let old = is.ids id other (sym (get-apart base.triggers base.next_id trigger id ne) ∙ found) in (old.0, omega (arith, old.1)))
+      (cases_eq id base.next_id);
+  next_id = (omega arith, omega arith);
+  few_events = is.few_events;
+  few_triggers = subst (λ n. n ≤ trigger_limit) (sym (len-insert nat_cmp_total base.triggers base.next_id trigger)) (at_most (is_some (map.get base.triggers base.next_id)) (map.len base.triggers) few);
+}
+
+pub held-empty : held_in map.empty ≡ 0
+held-empty = ap (λ es. sum_by (λ lane. map.len lane.events) (list_map (λ e. e.1) es)) (entries-empty nat_cmp)
+
+pub empty-IsReachable : IsReachable empty_base
+empty-IsReachable = record {
+  cpus = λ cpu lane found. let none : None ≡ Some lane = sym (get-empty nat_cmp cpu) ∙ found in cc;
+  numbers = λ cpu lane found. let none : None ≡ Some lane = sym (get-empty nat_cmp cpu) ∙ found in cc;
+  lines = λ cpu lane found. let none : None ≡ Some lane = sym (get-empty nat_cmp cpu) ∙ found in cc;
+  ids = λ id trigger found. let none : None ≡ Some trigger = sym (get-empty nat_cmp id) ∙ found in cc;
+  next_id = (omega arith, omega arith);
+  few_events = omega (arith, held-empty);
+  few_triggers = subst (λ n. n ≤ trigger_limit) (sym (len-empty nat_cmp Trigger)) (omega arith);
+}

@@ -1,0 +1,44 @@
+-- What is left of the list has the same first event, and each event that was passed has a CPU.
+use Rattle.std.proofs.Common.{◌≡◌, ℕ, ◌+◌, ◌<◌, ◌≤◌, Bool, true, false, cond, List, get_or, drop, length, sym, ap, ◌∙◌, subst, Some, is_some, arith}
+use Rattle.std.specs.Ordering.{nat_cmp}
+use Rattle.std.specs.Cmp.{nat_cmp_total}
+use Rattle.std.specs.BTreeMap as tree
+use Rattle.std.specs.BTreeMap.{BTreeMap}
+use Rattle.std.specs.FinMap as map
+use Rattle.ft_event.specs.Traced.{Traced}
+use Rattle.ft_board.specs.Seen.{seen}
+use Rattle.ft_board.specs.Base.{Lane}
+use Rattle.ft_board.specs.After.{first_held}
+use Rattle.ft_board.specs.Reachable.{HasCpu}
+use Rattle.ft_board.proofs.Seen.{get-seen}
+use Rattle.ft_board.proofs.Loading.{first_held-at, first_held-end, all-from_each, each-more}
+use Rattle.ft_board.proofs.load.held_cpu.Goals as goal
+
+-- the list from this event on
+step : (m : BTreeMap ℕ Lane) (es : List Traced) (i : ℕ) (item : Traced) (cpu : ℕ) (held : Bool) → i < length es → cpu ≡ (get_or es i item).cpu → held ≡ is_some (tree.get nat_cmp m cpu) → first_held (seen nat_cmp m) (drop i es) ≡ cond held (Some cpu) (first_held (seen nat_cmp m) (drop (i + 1) es))
+step m es i item cpu held lt is found =
+    first_held-at (seen nat_cmp m) es i item lt
+    ∙ ap (λ k. cond (is_some (map.get (seen nat_cmp m) k)) (Some k) (first_held (seen nat_cmp m) (drop (i + 1) es))) (sym is)
+    ∙ ap (λ b. cond b (Some cpu) (first_held (seen nat_cmp m) (drop (i + 1) es))) (ap is_some (get-seen nat_cmp_total m cpu) ∙ sym found)
+
+pub returns-then-contains_key-clause-value : goal.returns-then-contains_key-clause-value
+returns-then-contains_key-clause-value c =
+    let cpu = ap (λ t. t.cpu) (c.event.view_is ∙ c.event-item.is) in
+    sym (c.loop-event.invariant.0 ∙ step c.args.lanes.now c.args.events.now c.loop-event.event-index c.event-item.result c.event.inside.cpu true c.loop-event-test.true cpu c.if-contains_key.ensures)
+
+pub loop-event-preserved : goal.loop-event-preserved
+loop-event-preserved c =
+    let es = c.args.events.now in
+    let i = c.loop-event.event-index in
+    let item = c.event-item.result in
+    let cpu : c.event.inside.cpu ≡ (get_or es i item).cpu = ap (λ t. t.cpu) (c.event.view_is ∙ c.event-item.is) in (
+      c.loop-event.invariant.0 ∙ step c.args.lanes.now es i item c.event.inside.cpu false c.loop-event-test.true cpu c.if-contains_key.ensures,
+      each-more HasCpu es i item c.loop-event-test.true (subst (λ n. n ≤ 8191) cpu c.event.invariant.1) c.loop-event.invariant.1,
+    )
+
+pub returns-clause-value : goal.returns-clause-value
+returns-clause-value c =
+    sym (c.loop-event.invariant.0 ∙ first_held-end (seen nat_cmp c.args.lanes.now) c.args.events.now c.loop-event.event-index (omega arith))
+
+pub returns-clause-cpus : goal.returns-clause-cpus
+returns-clause-cpus c _ = all-from_each HasCpu c.args.events.now (λ k d lt. c.loop-event.invariant.1 k d (omega arith))

@@ -1,0 +1,20 @@
+-- Event by event gives the lanes of a load, and what was half done is undone.
+use Rattle.std.proofs.Common.{◌∙◌}
+use Rattle.std.specs.Ordering.{nat_cmp}
+use Rattle.std.proofs.lemmas.Result.{on_ok_weaker, on_err_weaker}
+use Rattle.ft_board.specs.Seen.{seen}
+use Rattle.ft_board.proofs.Loading.{room-from, free-from, with_lanes-fold, removed-back}
+use Rattle.ft_board.proofs.load.load_lanes.Goals as goal
+
+pub push_all-pushed-requires : goal.push_all-pushed-requires
+push_all-pushed-requires c = room-from (seen nat_cmp c.args.lanes.now) c.args.events.now c.requires.apart c.requires.few
+
+pub returns-then-is_err-clause-err : goal.returns-then-is_err-clause-err
+returns-then-is_err-clause-err c =
+    on_err_weaker c.push_all-pushed.result (λ beside.
+    c.remove_all.ensures ∙ removed-back (seen nat_cmp c.args.lanes.now) (seen nat_cmp c.push_all-pushed.new.lanes) c.args.events.now c.requires.apart beside) c.push_all-pushed.ensures.err
+
+pub returns-else-is_err-clause-ok : goal.returns-else-is_err-clause-ok
+returns-else-is_err-clause-ok c =
+    on_ok_weaker c.push_all-pushed.result (λ e.
+    e ∙ with_lanes-fold (seen nat_cmp c.args.lanes.now) c.args.events.now (free-from (seen nat_cmp c.args.lanes.now) c.args.events.now c.requires.apart)) c.push_all-pushed.ensures.ok

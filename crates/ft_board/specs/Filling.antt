@@ -1,0 +1,32 @@
+-- What one event adds to the lanes, as a load goes on (our own choice).
+use Rattle.std.specs.Prelude.{◌≡◌, ℕ, ◌+◌, ◌≤◌, Bool, true, false, ◌==◌, List, length, unwrap_or}
+use Rattle.std.specs.List.{list_any}
+use Rattle.std.specs.Ordering.{nat_cmp}
+use Rattle.std.specs.FinMap as map
+use Rattle.std.specs.FinMap.{FinMap}
+use Rattle.ft_event.specs.Traced.{Traced}
+use Rattle.ft_board.specs.Base.{Lane, number_limit}
+
+-- a lane without events: its first line is 1 (our own choice)
+abbrev pub new_lane : Lane
+new_lane = record { events = map.empty; next = 1 }
+
+-- a lane with one more event, at its next number (our own choice)
+abbrev pub with_line : Lane → Traced → Lane
+with_line lane event = record { events = map.insert lane.events lane.next event; next = lane.next + 1 }
+
+-- the lanes with one more event, in the lane of its CPU (our own choice)
+abbrev pub with_event : FinMap nat_cmp Lane → Traced → FinMap nat_cmp Lane
+with_event lanes event = map.insert lanes event.cpu (with_line (unwrap_or (map.get lanes event.cpu) new_lane) event)
+
+-- an event of the list has the CPU (our own choice)
+abbrev pub has_cpu : List Traced → ℕ → Bool
+has_cpu events cpu = list_any (λ e. e.cpu == cpu) events
+
+-- two sets of lanes are the same but for the CPUs of the events (our own choice)
+abbrev pub AgreeBeside : List Traced → FinMap nat_cmp Lane → FinMap nat_cmp Lane → Type 0
+AgreeBeside events old new = (cpu : ℕ) → has_cpu events cpu ≡ false → map.get new cpu ≡ map.get old cpu
+
+-- the lanes of the events' CPUs have numbers left for all of them (our own choice)
+abbrev pub HasRoom : FinMap nat_cmp Lane → List Traced → Type 0
+HasRoom lanes events = (cpu : ℕ) → has_cpu events cpu ≡ true → (unwrap_or (map.get lanes cpu) new_lane).next + length events ≤ number_limit + 1

@@ -1,0 +1,16 @@
+-- The numbers of refusals (our own choice).
+use Rattle.std.specs.Prelude.{ℕ}
+use Rattle.ft_board.specs.declared.refused.Refused.{Refused}
+use Rattle.ft_board.specs.declared.refused.Refused.TheVariants.{Memory, NoFile, BadLine, LaneHeld, Full, BadTrigger, NoTrigger, TooManyTriggers, BadCommand}
+
+-- the number that a refused command prints
+abbrev pub number_of : Refused → ℕ
+number_of Memory = 1
+number_of NoFile = 2
+number_of (BadLine line fault) = 3
+number_of (LaneHeld cpu) = 4
+number_of Full = 7
+number_of (BadTrigger fault) = 8
+number_of NoTrigger = 10
+number_of TooManyTriggers = 15
+number_of BadCommand = 16

@@ -1,0 +1,76 @@
+//! What an edit answers.
+
+use crate::trigger::TriggerFault;
+use ft_event::LineFault;
+
+/// An accepted edit: its value, and whether the kept tables are up to date.
+#[derive(Clone, Copy, Debug, PartialEq, Eq)]
+pub struct Done<T> {
+    /// What the edit gives.
+    pub value: T,
+    /// Whether the kept tables have the edit.
+    pub kept: Kept,
+}
+
+/// Whether the tables that a board keeps have an edit.
+#[derive(Clone, Copy, Debug, PartialEq, Eq)]
+pub enum Kept {
+    /// They have it.
+    Now,
+    /// Memory ran out for them: the next answer rebuilds them.
+    Later,
+}
+
+/// Where an event stands: its lane, and its line number there.
+#[derive(Clone, Copy, Debug, PartialEq, Eq)]
+pub struct Place {
+    /// The CPU of the lane.
+    pub cpu: u16,
+    /// The line number, from 1.
+    pub line: u32,
+}
+
+/// Why an edit or an answer is refused. Nothing held has changed then.
+#[derive(Clone, Copy, Debug, PartialEq, Eq)]
+pub enum Refused {
+    /// Memory ran out.
+    Memory,
+    /// The script has no trace file with that number.
+    NoFile,
+    /// A line cannot be read: the first such line, counted from 1, and what is wrong with it.
+    BadLine(u64, LineFault),
+    /// The CPU's lane is held already.
+    LaneHeld(u32),
+    /// More than 1,048,576 events would be held.
+    Full,
+    /// The trigger's text cannot be read.
+    BadTrigger(TriggerFault),
+    /// No trigger with that id is attached.
+    NoTrigger,
+    /// 64 triggers are attached, or the ids are used up.
+    TooManyTriggers,
+    /// The command or its event has no such form.
+    BadCommand,
+}
+
+impl Refused {
+    ghost use Rattle.std.specs.Prelude.{◌≡◌};
+    ghost use Rattle.ft_board.specs.Refused.{number_of};
+
+    /// Its number in the desk's texts.
+    pub fn number(self) -> u8
+        ensures { result ≡ number_of self }
+    {
+        match self {
+            Refused::Memory => 1,
+            Refused::NoFile => 2,
+            Refused::BadLine(_, _) => 3,
+            Refused::LaneHeld(_) => 4,
+            Refused::Full => 7,
+            Refused::BadTrigger(_) => 8,
+            Refused::NoTrigger => 10,
+            Refused::TooManyTriggers => 15,
+            Refused::BadCommand => 16,
+        }
+    }
+}

@@ -1,0 +1,141 @@
+ghost use Rattle.std.specs.Prelude.{◌≤◌};
+
+use super::*;
+use ft_event::{Body, Comm, Event, Name, Wake};
+use std::alloc::Global;
+use std::test::Fail;
+
+/// What `hist` shows of a trigger that counted pid 42 twice.
+const TWO_WAKINGS: &[u8] = b"# event histogram
+#
+# trigger info: hist:keys=pid:vals=hitcount:sort=hitcount:size=2048 [active]
+#
+
+{ pid:         42 } hitcount:          2
+
+Totals:
+    Hits: 2
+    Entries: 1
+    Dropped: 0
+";
+
+/// A waking of pid 42 on a CPU.
+fn waking(cpu: u16, stamp: u64) -> Result<Event, Refused>
+    requires cpu { cpu ≤ 8191 }
+    requires stamp { stamp ≤ 4294967295999999 }
+{
+    let task = Comm::of(b"sim").ok_or(Refused::BadCommand)?;
+    let comm = Comm::of(b"w").ok_or(Refused::BadCommand)?;
+    Ok(Event {
+        task,
+        pid: 1,
+        cpu,
+        stamp,
+        body: Body::Waking(Wake {
+            comm,
+            pid: 42,
+            prio: 120,
+            target_cpu: 0,
+        }),
+    })
+}
+
+/// Loads two wakings on two CPUs: how many were loaded.
+fn load_two(alloc: Global, board: &mut PlainBoard, first: u16, second: u16) -> Result<u64, Refused>
+    requires first { first ≤ 8191 }
+    requires second { second ≤ 8191 }
+{
+    let mut events = Vec::new(alloc);
+    for event in [
+        waking(first, 6_012_000_100)?,
+        waking(second, 6_012_000_200)?,
+    ] {
+        if events.push(event).is_err() {
+            return Err(Refused::Memory);
+        }
+    }
+    Ok(board.load(events)?.value)
+}
+
+/// Attaches the trigger of this stage: its id.
+fn attach(board: &mut PlainBoard) -> Result<u32, Refused> {
+    match Trigger::parse(Name::Waking, b"hist:keys=pid") {
+        Ok(trigger) => Ok(board.attach(trigger)?.value),
+        Err(fault) => Err(Refused::BadTrigger(fault)),
+    }
+}
+
+#[test]
+fn two_wakings(rt: HostRuntime) -> Result<(), Fail> {
+    let mut board = PlainBoard::new(rt.alloc());
+    assert_eq!(rt; load_two(rt.alloc(), &mut board, 1, 1)?, 2);
+    assert_eq!(rt; attach(&mut board)?, 1);
+    assert_eq!(rt; board.hist(1)?.as_slice(), TWO_WAKINGS);
+    assert!(rt; !board.is_deferred());
+    Ok(())
+}
+
+#[test]
+fn held_lane_is_refused(rt: HostRuntime) -> Result<(), Fail> {
+    let mut board = PlainBoard::new(rt.alloc());
+    load_two(rt.alloc(), &mut board, 1, 1)?;
+    assert_eq!(rt;
+        load_two(rt.alloc(), &mut board, 1, 1),
+        Err(Refused::LaneHeld(1))
+    );
+    Ok(())
+}
+
+#[test]
+fn refused_load_leaves_nothing(rt: HostRuntime) -> Result<(), Fail> {
+    let mut board = PlainBoard::new(rt.alloc());
+    load_two(rt.alloc(), &mut board, 1, 1)?;
+    assert_eq!(rt;
+        load_two(rt.alloc(), &mut board, 2, 1),
+        Err(Refused::LaneHeld(1))
+    );
+    assert_eq!(rt; load_two(rt.alloc(), &mut board, 2, 3)?, 2);
+    Ok(())
+}
+
+#[test]
+fn load_after_want_of_memory(rt: HostRuntime) -> Result<(), Fail> {
+    let mut board = PlainBoard::new(rt.alloc());
+    let loaded = match load_two(rt.alloc(), &mut board, 1, 2) {
+        Err(Refused::Memory) => load_two(rt.alloc(), &mut board, 1, 2)?,
+        other => other?,
+    };
+    assert_eq!(rt; loaded, 2);
+    let id = match attach(&mut board) {
+        Err(Refused::Memory) => attach(&mut board)?,
+        other => other?,
+    };
+    assert_eq!(rt; id, 1);
+    let text = match board.hist(1) {
+        Err(Refused::Memory) => board.hist(1)?,
+        other => other?,
+    };
+    assert_eq!(rt; text.as_slice(), TWO_WAKINGS);
+    Ok(())
+}
+
+#[test]
+fn ids_and_their_limit(rt: HostRuntime) -> Result<(), Fail> {
+    let mut board = PlainBoard::new(rt.alloc());
+    assert_eq!(rt; board.hist(1).err(), Some(Refused::NoTrigger));
+    for id in 1..65 {
+        assert_eq!(rt; attach(&mut board)?, id);
+    }
+    assert_eq!(rt; attach(&mut board), Err(Refused::TooManyTriggers));
+    Ok(())
+}
+
+#[test]
+fn lines_of_a_lane(rt: HostRuntime) -> Result<(), Fail> {
+    let mut lane = Lane::new(rt.alloc());
+    lane.push(waking(7, 1)?)?;
+    lane.push(waking(7, 1)?)?;
+    assert_eq!(rt; lane.len(), 2);
+    reachable_bases();
+    Ok(())
+}

@@ -1,0 +1,11 @@
+pub mod Cuts
+pub mod Reading
+pub mod Edits
+pub mod Numbers
+pub mod WordLemmas
+pub mod Outcomes
+pub mod LineLemmas
+pub mod OutputLemmas
+pub mod Progress
+pub mod Endings
+pub mod WordWalk

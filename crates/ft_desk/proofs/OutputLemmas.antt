@@ -1,0 +1,63 @@
+-- Laws of what lines of a script print.
+use Rattle.std.proofs.Common.{◌≡◌, ℕ, ◌<◌, List, [], ◌∷◌, ◌++◌, length, take, refl, sym, ap, ◌∙◌, ⊎_elim, append_assoc, append-nil, arith}
+use Rattle.std.specs.Prelude.{◌||◌}
+use Rattle.std.proofs.Math.Bool.{or_assoc, or-false}
+use Rattle.std.proofs.lemmas.Bool.{cases_lt, lt-ltb}
+use Rattle.std.proofs.lemmas.List.{take_all, length-take-le}
+use Rattle.ft_board.specs.Base.{Base}
+use Rattle.ft_desk.specs.Script.{asked_by}
+use Rattle.ft_desk.specs.Script.Asked.{NoForm}
+use Rattle.ft_desk.specs.Output.{Outcome, outcome, output_from}
+
+-- what first lines did, and then further ones
+abbrev pub Joins : Outcome → Outcome → Outcome → Type 0
+Joins all first rest = (all.text ≡ first.text ++ rest.text) × (all.base ≡ rest.base) × (all.refused ≡ (first.refused || rest.refused))
+
+-- lines do what the first of them do, and then the rest
+pub output_from-append : (files : List (List ℕ)) (base : Base) (xs ys : List (List ℕ))
+    → Joins (output_from files base (xs ++ ys)) (output_from files base xs) (output_from files (output_from files base xs).base ys)
+unfolding output_from
+output_from-append files base [] ys = (refl, refl, refl)
+output_from-append files base (line ∷ lines) ys =
+    let first = outcome files base (asked_by line) in
+    let h = output_from-append files first.base lines ys in (
+      ap (λ t. first.text ++ t) h.0 ∙ sym (append_assoc first.text _ _),
+      h.1,
+      ap (λ r. first.refused || r) h.2 ∙ sym (or_assoc first.refused _ _),
+    )
+
+-- lines and one more
+pub output_from-push : (files : List (List ℕ)) (base : Base) (lines : List (List ℕ)) (line : List ℕ)
+    → Joins (output_from files base (lines ++ line ∷ [])) (output_from files base lines) (outcome files (output_from files base lines).base (asked_by line))
+unfolding output_from
+output_from-push files base lines line =
+    let done = output_from files base lines in
+    let next = outcome files done.base (asked_by line) in
+    let h = output_from-append files base lines (line ∷ []) in (
+      h.0 ∙ ap (λ t. done.text ++ t) (append-nil next.text),
+      h.1,
+      h.2 ∙ ap (λ r. done.refused || r) (or-false next.refused),
+    )
+
+-- what a line prints stands behind what the lines before it print
+pub output_from-line : (files : List (List ℕ)) (base : Base) (lines : List (List ℕ)) (line : List ℕ) (more : List (List ℕ))
+    → let done = output_from files base lines in
+    let next = outcome files done.base (asked_by line) in
+    (output_from files base (lines ++ line ∷ more)).text ≡ done.text ++ (next.text ++ (output_from files next.base more).text)
+unfolding output_from
+output_from-line files base lines line more = (output_from-append files base lines (line ∷ more)).0
+
+-- a line over the limit has no form
+asked_by-long : (line : List ℕ) → 8192 < length line → asked_by line ≡ NoForm
+unfolding asked_by
+asked_by-long line more = rw (lt-ltb 8192 (length line) more) refl
+
+-- the first 8,193 bytes of a line ask for what the line asks for
+pub asked_by-kept : (line : List ℕ) → asked_by (take 8193 line) ≡ asked_by line
+asked_by-kept line =
+    ⊎_elim
+    (λ more.
+    let kept = length-take-le 8193 line (omega arith) in
+    asked_by-long (take 8193 line) (omega arith) ∙ sym (asked_by-long line (omega arith)))
+    (λ all. ap asked_by (take_all 8193 line all))
+    (cases_lt 8193 (length line))

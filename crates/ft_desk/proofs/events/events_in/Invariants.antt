@@ -1,0 +1,14 @@
+use Rattle.std.proofs.Common.{◌≡◌, ◌+◌, ◌≤◌, length}
+use Rattle.ft_desk.specs.Lines.{lines_of}
+use Rattle.ft_desk.specs.Output.{events_of, events_from}
+use Rattle.ft_desk.specs.Reading.{in_front}
+use Rattle.ft_desk.proofs.events.events_in.Given as goal
+
+abbrev pub invariant-loop-line : goal.invariant-loop-line
+invariant-loop-line l = record {
+  same : in_front l.events.items (events_from l.number (lines_of l.rest)) ≡ events_of l.fn.text;
+  counted : l.number + length l.rest ≤ length l.fn.text + 1;
+}
+
+abbrev pub decreases-loop-line : goal.decreases-loop-line
+decreases-loop-line l = length l.rest

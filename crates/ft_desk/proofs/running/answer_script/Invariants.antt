@@ -1,0 +1,8 @@
+use Rattle.std.specs.Prelude.{map}
+use Rattle.ft_desk.proofs.Progress.{Progress}
+use Rattle.ft_desk.proofs.running.answer_script.Given as goal
+
+abbrev pub invariant-loop : goal.invariant-loop
+invariant-loop g l =
+    Progress (map (λ f. f.items) l.files) (g.R.Read.remaining l.initial.script) (g.R.Read.remaining l.script)
+    (g.W.Write.contents l.initial.out) (g.W.Write.contents l.out) l.desk.base l.refused l.piece.items

@@ -1,0 +1,6 @@
+use Rattle.std.proofs.Common.{◌∙◌}
+use Rattle.ft_desk.proofs.Words.{word_ends}
+use Rattle.ft_desk.proofs.script.word_len.Goals as goal
+
+pub returns : goal.returns
+returns c = c.unwrap_or.ensures ∙ word_ends c.args.text.now c.memchr.result c.memchr.ensures

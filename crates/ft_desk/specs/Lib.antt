@@ -1,0 +1,12 @@
+pub mod Lines
+pub mod Reading
+pub mod Script
+pub mod Command
+pub mod Output
+pub mod Printed
+pub mod Turns
+pub mod Run
+pub mod Shown
+pub mod Files
+pub mod Words
+pub mod Program

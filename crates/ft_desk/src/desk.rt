@@ -1,0 +1,91 @@
+//! The desk over a board.
+
+ghost use Rattle.std.specs.Prelude.{◌≡◌};
+ghost use Rattle.ft_desk.specs.Reading.{trigger_for};
+
+use crate::events::events_in;
+use ft_board::{Board, Done, Refused, Trigger};
+use ft_event::Name;
+use std::alloc::Global;
+use std::marker::Model;
+
+/// A desk: texts in, edits and answers of a board out.
+#[derive(Drop)]
+pub struct Desk<B: Board> {
+    board: B,
+    alloc: Global,
+}
+
+impl<B: Board> Model for Desk<B> {
+    ghost use Rattle.ft_desk.specs.Shown.{Shown, shown_code};
+
+    ghost Value = { Shown };
+
+    ghost coded = { shown_code };
+
+    ghost view = { λ d. record { base = B.content d.board; deferred = B.deferred d.board } };
+}
+
+impl<B: Board> Desk<B> {
+    ghost use Rattle.std.specs.Prelude.{◌≡◌};
+    ghost use Rattle.ft_board.specs.After.{EditGives, AnswersFrom};
+    ghost use Rattle.ft_board.specs.Hist.{hist_text};
+    ghost use Rattle.ft_desk.specs.Output.{after_load_text, after_attach_text};
+
+    /// A desk over a board, as the board is.
+    pub fn new(alloc: Global, board: B) -> Desk<B>
+        ensures base { result.base ≡ B.content board }
+        ensures deferred { result.deferred ≡ B.deferred board }
+    {
+        Desk { board, alloc }
+    }
+
+    /// Loads a trace text, a lane for each of its CPUs: how many events were loaded. Refused at the
+    /// first line that cannot be read, where a lane is held, where too many events would be, or for
+    /// memory.
+    pub fn load(&mut self, text: &[u8]) -> Result<Done<u64>, Refused>
+        ensures { EditGives (after_load_text self.old.base text.now) self.old.base self.new.base
+            self.old.deferred self.new.deferred result }
+    {
+        let events = events_in(self.alloc, text)?;
+        self.board.load(events)
+    }
+
+    /// Attaches a trigger's text to an event: the trigger's id. Refused for another event than
+    /// `sched_waking`, where the text cannot be read, where 64 triggers are attached, where the ids
+    /// are used up, or for memory.
+    pub fn attach(&mut self, event: Name, text: &[u8]) -> Result<Done<u32>, Refused>
+        ensures { EditGives (after_attach_text self.old.base event text.now) self.old.base self.new.base
+            self.old.deferred self.new.deferred result }
+    {
+        let trigger = read_trigger(event, text)?;
+        self.board.attach(trigger)
+    }
+
+    /// The text of a trigger's table. Refused where no trigger has the id, or for memory.
+    pub fn hist(&mut self, id: u32) -> Result<Vec<u8>, Refused>
+        ensures { AnswersFrom (λ text. text.items) (hist_text self.old.base id) self.old.base self.new.base result }
+    {
+        self.board.hist(id)
+    }
+
+    /// Whether the board's kept tables are behind what it holds.
+    pub fn is_deferred(&self) -> bool
+        ensures { result ≡ self.now.deferred }
+    {
+        self.board.is_deferred()
+    }
+}
+
+/// Reads the text of a trigger on an event: on `sched_waking` alone for this stage.
+fn read_trigger(event: Name, text: &[u8]) -> Result<Trigger, Refused>
+    ensures { result ≡ trigger_for event text.now }
+{
+    match event {
+        Name::Waking => match Trigger::parse(event, text) {
+            Ok(trigger) => Ok(trigger),
+            Err(fault) => Err(Refused::BadTrigger(fault)),
+        },
+        _ => Err(Refused::BadCommand),
+    }
+}

@@ -1,0 +1,54 @@
+//! The events of a trace text.
+
+ghost use Rattle.std.specs.Prelude.{◌≡◌, ◌⊎◌, List, ◌++◌, ◌∷◌, [], Result, Err, OnOk, IfErr};
+ghost use Rattle.ft_event.specs.Line.{line_of};
+ghost use Rattle.ft_event.specs.Traced.{Traced};
+ghost use Rattle.ft_board.specs.After.{AnswerIs};
+ghost use Rattle.ft_desk.specs.Output.{events_of, with_line};
+ghost use Rattle.ft_desk.specs.Reading.{in_front};
+
+use crate::lines::next_line;
+use ft_board::Refused;
+use ft_event::{Event, Line, read_line};
+use std::alloc::Global;
+
+/// Reads every line of a trace text: its events in file order. Refused at the first line that
+/// cannot be read, or for memory.
+pub(crate) fn events_in(alloc: Global, text: &[u8]) -> Result<Vec<Event>, Refused>
+    ensures { AnswerIs (λ events. events.items) (events_of text.now) result }
+{
+    let mut events = Vec::new(alloc);
+    let mut rest = text;
+    let mut number = 1;
+    while let Some((line, behind)) = next_line(rest) {
+        add_line(&mut events, number, line)?;
+        rest = behind;
+        number += 1;
+    }
+    Ok(events)
+}
+
+/// Adds the event of the line of this number, if the line is not blank.
+fn add_line(events: &mut Vec<Event>, number: u64, line: &[u8]) -> Result<(), Refused>
+    ensures ok { OnOk result ((behind : Result (List Traced) Refused) →
+        in_front events.old.items (with_line number (line_of line.now) behind) ≡ in_front events.new.items behind) }
+    ensures err { IfErr result (λ refused. (refused ≡ Refused.Memory) ⊎ ((behind : Result (List Traced) Refused) →
+        with_line number (line_of line.now) behind ≡ Err refused)) }
+{
+    match read_line(line) {
+        // One pattern `Ok(Line::Event(event))` gets no generated proof outside the crate of `Event`.
+        Ok(given) => match given {
+            Line::Skip => Ok(()),
+            Line::Event(event) => keep(events, event),
+        },
+        Err(fault) => Err(Refused::BadLine(number, fault)),
+    }
+}
+
+/// Adds an event.
+fn keep(events: &mut Vec<Event>, event: Event) -> Result<(), Refused>
+    ensures ok { OnOk result (events.new.items ≡ events.old.items ++ event ∷ []) }
+    ensures err { IfErr result (λ refused. refused ≡ Refused.Memory) }
+{
+    events.push(event).map_err(|_| Refused::Memory)
+}

@@ -1,0 +1,24 @@
+//! The desk: texts to edits and answers, scripts, and the program.
+#![tactic(auto)]
+
+mod desk;
+mod events;
+mod files;
+mod lines;
+mod perform;
+mod pieces;
+mod program;
+mod running;
+mod script;
+mod sending;
+mod text;
+mod words;
+
+pub use desk::Desk;
+pub use files::{FileFault, read_file, read_whole};
+pub use program::histdesk;
+pub use running::{RunFault, Status, run};
+pub use words::{Words, WordsFault, read_words};
+
+#[cfg(test)]
+mod tests_run;

@@ -1,0 +1,141 @@
+//! One line of a script.
+
+ghost use Rattle.std.specs.Prelude.{◌≡◌, ◌≢◌, ◌++◌, Err, true, codes, decimal, map, is_err, IfOk, OnOk, Some, None, MatchOption};
+ghost use Rattle.ft_board.specs.After.{EditGives};
+ghost use Rattle.ft_desk.specs.Script.{asked_by};
+ghost use Rattle.ft_desk.specs.Output.{outcome, refused_text, file_at, after_load_file};
+ghost use Rattle.ft_desk.specs.Printed.{printed};
+
+use crate::desk::Desk;
+use crate::script::{Command, read_command};
+use crate::text::{done_line, refused_line};
+use ft_board::{Board, Done, Refused};
+use std::alloc::{AllocError, Global};
+
+/// What a line of a script prints, and whether it was refused.
+#[derive(Drop)]
+pub(crate) struct Performed {
+    /// What it prints: whole lines.
+    pub(crate) text: Vec<u8>,
+    /// Whether it was refused.
+    pub(crate) refused: bool,
+}
+
+/// Does what a line of a script asks for. Only memory can fail.
+pub(crate) fn perform<B: Board>(
+    desk: &mut Desk<B>,
+    alloc: Global,
+    files: &[Vec<u8>],
+    line: &[u8],
+) -> Result<Performed, AllocError>
+    ensures text { IfOk result (λ done.
+        done.text.items ≡ (outcome (map (λ f. f.items) files.now) desk.old.base (asked_by line.now)).text) }
+    ensures refused { IfOk result (λ done.
+        done.refused ≡ (outcome (map (λ f. f.items) files.now) desk.old.base (asked_by line.now)).refused) }
+    ensures base { IfOk result (λ _.
+        desk.new.base ≡ (outcome (map (λ f. f.items) files.now) desk.old.base (asked_by line.now)).base) }
+{
+    match read_command(line) {
+        Command::Nothing => Ok(Performed {
+            text: Vec::new(alloc),
+            refused: false,
+        }),
+        Command::Load(number) => edited(alloc, b"loaded ", load_file(desk, files, number)),
+        Command::Attach(event, text) => edited(
+            alloc,
+            b"attached ",
+            widened(desk.attach(event, text)),
+        ),
+        Command::Hist(id) => answered(alloc, desk.hist(id)),
+        Command::NoForm => refused(alloc, Refused::BadCommand),
+    }
+}
+
+/// Loads the trace file of a number, from 1.
+#[tactic(auto, unfolding(crate::specs::Output::after_load_file))]
+fn load_file<B: Board>(
+    desk: &mut Desk<B>,
+    files: &[Vec<u8>],
+    number: u32,
+) -> Result<Done<u64>, Refused>
+    ensures { EditGives (after_load_file (map (λ f. f.items) files.now) desk.old.base number)
+        desk.old.base desk.new.base desk.old.deferred desk.new.deferred result }
+{
+    match nth_file(files, number) {
+        Some(text) => desk.load(text),
+        None => Err(Refused::NoFile),
+    }
+}
+
+/// The text of the file of a number, from 1.
+fn nth_file(files: &[Vec<u8>], number: u32) -> Option<&[u8]>
+    ensures { MatchOption result (file_at (map (λ f. f.items) files.now) number ≡ None)
+        (λ text. file_at (map (λ f. f.items) files.now) number ≡ Some text.now) }
+{
+    let index = number.checked_sub(1)?;
+    files.get(index as usize).map(|file| file.as_slice())
+}
+
+/// What an edit answered, its value as one of 64 bits.
+fn widened(attached: Result<Done<u32>, Refused>) -> Result<Done<u64>, Refused>
+    ensures { result ≡ attached }
+{
+    let done = attached?;
+    Ok(Done {
+        value: u64::from(done.value),
+        kept: done.kept,
+    })
+}
+
+/// What an edit prints: a text and its value, or its refusal.
+fn edited(
+    alloc: Global,
+    text: &[u8],
+    edit: Result<Done<u64>, Refused>,
+) -> Result<Performed, AllocError>
+    ensures text { IfOk result (λ done.
+        done.text.items ≡ printed (λ edit. text.now ++ decimal edit.value ++ codes "\n") edit) }
+    ensures refused { IfOk result (λ done. done.refused ≡ is_err edit) }
+    ensures memory { OnOk result (edit ≢ Err Refused.Memory) }
+{
+    match edit {
+        Ok(done) => Ok(Performed {
+            text: done_line(alloc, text, done.value)?,
+            refused: false,
+        }),
+        Err(reason) => refused(alloc, reason),
+    }
+}
+
+/// What an answer prints: its text, or its refusal.
+fn answered(alloc: Global, answer: Result<Vec<u8>, Refused>) -> Result<Performed, AllocError>
+    ensures text { IfOk result (λ done. done.text.items ≡ printed (λ text. text.items) answer) }
+    ensures refused { IfOk result (λ done. done.refused ≡ is_err answer) }
+    ensures memory { OnOk result (answer ≢ Err Refused.Memory) }
+{
+    match answer {
+        Ok(text) => Ok(Performed {
+            text,
+            refused: false,
+        }),
+        Err(reason) => refused(alloc, reason),
+    }
+}
+
+/// What a refusal prints. Want of memory has no line: it ends the run.
+fn refused(alloc: Global, reason: Refused) -> Result<Performed, AllocError>
+    ensures text { IfOk result (λ done. done.text.items ≡ refused_text reason) }
+    ensures refused { IfOk result (λ done. done.refused ≡ true) }
+    ensures memory { OnOk result (reason ≢ Refused.Memory) }
+{
+    if reason == Refused::Memory {
+        return Err(AllocError);
+    }
+    Ok(Performed {
+        text: refused_line(alloc, reason)?,
+        refused: true,
+    })
+}
+
+#[cfg(test)]
+mod tests;

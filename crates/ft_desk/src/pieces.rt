@@ -1,0 +1,71 @@
+//! Reading a script by pieces of its lines.
+
+ghost use Rattle.std.specs.Prelude.{◌≡◌, ◌≢◌, ◌++◌, ◌+◌, ◌≤◌, take, length, All, OnOk, OnErr, vec_len};
+ghost use Rattle.ft_desk.specs.Script.{line_limit};
+ghost use Rattle.ft_desk.specs.Turns.{CutsAt, TurnGives};
+
+use crate::running::RunFault;
+use memchr::memchr;
+use std::alloc::AllocError;
+use std::io::BufRead;
+
+/// The most bytes that are kept of a line: one more than a command has, so that a longer line is
+/// seen to be one.
+const KEPT: usize = 8193;
+
+/// What a turn of reading took from a script.
+#[derive(Clone, Copy, Debug, PartialEq, Eq)]
+pub(crate) enum Turn {
+    /// A part of a line.
+    Part,
+    /// The rest of a line, and its end.
+    Line,
+    /// Nothing: the script is at its end.
+    End,
+}
+
+/// Reads what the reader shows, up to and with a line's end, and adds the line's part to its piece.
+/// Memory and the reader can fail; an interrupted read is an error too.
+pub(crate) fn read_turn<R: BufRead>(script: &mut R, piece: &mut Vec<u8>) -> Result<Turn, RunFault>
+    requires { vec_len piece.old ≤ line_limit + 1 }
+    ensures { TurnGives result (R.remaining script.old) (R.remaining script.new)
+        piece.old.items piece.new.items }
+{
+    let shown = match script.fill_buf() {
+        Ok(shown) => shown,
+        Err(_) => return Err(RunFault::Read),
+    };
+    if shown.is_empty() {
+        return Ok(Turn::End);
+    }
+    let (part, turn) = cut(shown);
+    if add_part(piece, &shown[..part]).is_err() {
+        return Err(RunFault::Memory);
+    }
+    let taken = match turn {
+        Turn::Line => part + 1,
+        Turn::Part | Turn::End => part,
+    };
+    script.consume(taken);
+    Ok(turn)
+}
+
+/// Where the line's part ends, and whether its end was met there.
+fn cut(shown: &[u8]) -> (usize, Turn)
+    ensures plain { All (λ byte. byte ≢ 10) (take result.0 shown.now) }
+    ensures end { CutsAt result.1 shown.now result.0 }
+{
+    match memchr(b'\n', shown) {
+        Some(end) => (end, Turn::Line),
+        None => (shown.len(), Turn::Part),
+    }
+}
+
+/// Adds a part to the piece of a line, which keeps its first `KEPT` bytes.
+fn add_part(piece: &mut Vec<u8>, part: &[u8]) -> Result<(), AllocError>
+    requires { vec_len piece.old ≤ line_limit + 1 }
+    ensures { OnOk result (piece.new.items ≡ take (line_limit + 1) (piece.old.items ++ part.now)) }
+{
+    let room = KEPT - piece.len();
+    piece.extend_from_slice(&part[..room.min(part.len())])
+}

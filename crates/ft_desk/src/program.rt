@@ -1,0 +1,183 @@
+//! The program: its words, its files, the run of its script, and its exit status.
+
+ghost use Rattle.std.specs.Prelude.{◌≡◌, ◌≤◌, length, IfOk};
+ghost use Rattle.ft_board.specs.Base.{empty_base};
+ghost use Rattle.ft_desk.specs.Program.{exit_status_of};
+
+use crate::files::{FileFault, read_file};
+use crate::running::{RunFault, Status, run};
+use crate::words::{WordsFault, read_words};
+use ft_board::Board;
+use std::alloc::{AllocError, AllocFailed, Global};
+use std::io::{BufReader, BufWriter, ErrorKind, Read};
+use std::rt::{Env, Files};
+use std::{env, fs, io};
+use thiserror::Error;
+
+/// How many bytes the script is read in, and how many are written at once.
+const BUFFER: usize = 65_536;
+
+/// Why the program ended before its script did.
+#[derive(Debug, Drop, Error)]
+pub enum Fault<'a> {
+    /// A word looks like an option.
+    #[error("bad words")]
+    Words,
+    /// A trace file cannot be read whole, or the script cannot be opened.
+    #[error("cannot read {0}")]
+    File(&'a str),
+    /// Memory ran out.
+    #[error("out of memory")]
+    Memory,
+    /// The script opened, but reading it failed; or the words are no text.
+    #[error("read failed")]
+    Read,
+    /// Standard output failed.
+    #[error("write failed")]
+    Write,
+}
+
+impl<'a> From<AllocError> for Fault<'a> {
+    fn from(_error: AllocError) -> Fault<'a> {
+        Fault::Memory
+    }
+}
+
+impl<'a, T: Drop> From<AllocFailed<T>> for Fault<'a> {
+    fn from(_error: AllocFailed<T>) -> Fault<'a> {
+        Fault::Memory
+    }
+}
+
+impl<'a> From<WordsFault> for Fault<'a> {
+    fn from(fault: WordsFault) -> Fault<'a> {
+        match fault {
+            WordsFault::Memory => Fault::Memory,
+            WordsFault::Refused => Fault::Words,
+        }
+    }
+}
+
+impl<'a> From<RunFault> for Fault<'a> {
+    fn from(fault: RunFault) -> Fault<'a> {
+        match fault {
+            RunFault::Memory => Fault::Memory,
+            RunFault::Read => Fault::Read,
+            RunFault::Write => Fault::Write,
+        }
+    }
+}
+
+impl<'a> Fault<'a> {
+    /// The fault of words that cannot be had, as where one is no text.
+    fn of_arguments(error: &io::Error) -> Fault<'a> {
+        match error.kind() {
+            ErrorKind::OutOfMemory => Fault::Memory,
+            _ => Fault::Read,
+        }
+    }
+
+    /// The fault of a file that has this path.
+    fn at(path: &'a str, fault: FileFault) -> Fault<'a> {
+        match fault {
+            FileFault::Memory => Fault::Memory,
+            FileFault::Unreadable => Fault::File(path),
+        }
+    }
+}
+
+/// The whole program, over a board that holds nothing: its exit status, 0 where each command of the
+/// script was accepted, 1 where some was refused, and 2 after a fault, which goes to standard error.
+pub fn histdesk<P, B>(rt: &P, board: B) -> u8
+where
+    P: Env + Files + Input + Print + Eprint + AllocGlobal,
+    B: Board,
+    requires { B.content board ≡ empty_base }
+    ensures { result ≤ 2 }
+{
+    let args = match arguments(rt) {
+        Ok(args) => args,
+        Err(error) => return exit_status(rt, Err(Fault::of_arguments(&error))),
+    };
+    exit_status(rt, run_words(rt, board, args.as_slice()))
+}
+
+/// The program's words, its own name first.
+fn arguments<P: Env + AllocGlobal>(rt: &P) -> io::Result<Vec<String>> {
+    Ok(env::args(rt)?.collect(rt.alloc())?)
+}
+
+/// The exit status of a run, whose fault is printed.
+fn exit_status<P: Eprint>(rt: &P, ended: Result<Status, Fault<'_>>) -> u8
+    ensures { result ≡ exit_status_of ended.entry }
+{
+    match ended {
+        Ok(Status::AllAccepted) => 0,
+        Ok(Status::SomeRefused) => 1,
+        Err(fault) => {
+            let _ = eprintln!(rt; "histdesk: {fault}");
+            2
+        }
+    }
+}
+
+/// Reads the words, then the trace files in order, then runs the script: the first fault decides.
+fn run_words<'a, P, B>(rt: &P, board: B, args: &'a [String]) -> Result<Status, Fault<'a>>
+where
+    P: Files + Input + Print + AllocGlobal,
+    B: Board,
+    requires { B.content board ≡ empty_base }
+{
+    let alloc = rt.alloc();
+    let words = read_words(alloc, args)?;
+    let traces = read_traces(alloc, rt, words.traces.as_slice())?;
+    let Some(path) = words.script else {
+        return run_script(rt, board, traces.as_slice(), rt.reader());
+    };
+    match fs::open(rt, path) {
+        Ok(script) => run_script(rt, board, traces.as_slice(), script),
+        Err(error) => Err(Fault::at(path, FileFault::from(error))),
+    }
+}
+
+/// The trace files at these paths, each read whole.
+fn read_traces<'a, F: Files>(
+    alloc: Global,
+    files: &F,
+    paths: &[&'a str],
+) -> Result<Vec<Vec<u8>>, Fault<'a>>
+    ensures { IfOk result (λ traces. length traces.items ≡ length paths.now) }
+{
+    let mut traces = Vec::with_capacity(alloc, paths.len())?;
+    for path in paths {
+        match read_file(alloc, files, path) {
+            Ok(trace) => traces.push(trace)?,
+            Err(fault) => return Err(Fault::at(path, fault)),
+        }
+    }
+    Ok(traces)
+}
+
+/// Runs a script from its reader to standard output.
+fn run_script<'a, P, B, R>(
+    rt: &P,
+    board: B,
+    traces: &[Vec<u8>],
+    script: R,
+) -> Result<Status, Fault<'a>>
+where
+    P: Print + AllocGlobal,
+    B: Board,
+    R: Read + Drop,
+    requires { B.content board ≡ empty_base }
+{
+    let alloc = rt.alloc();
+    let mut script = BufReader::with_capacity(alloc, BUFFER, script).map_err(|_| Fault::Memory)?;
+    let mut out = BufWriter::with_capacity(alloc, BUFFER, io::writer(rt)).map_err(
+        |_| Fault::Memory,
+    )?;
+    let ended = run(alloc, board, traces, &mut script, &mut out);
+    // A drop would try to write once more what a failed write left.
+    let _unwritten = out.into_parts();
+    Ok(ended?)
+}

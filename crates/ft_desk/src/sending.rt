@@ -1,0 +1,24 @@
+//! Writing what a command prints.
+
+ghost use Rattle.std.specs.Prelude.{◌≡◌, List, ℕ, OnOk, OnErr};
+ghost use Rattle.std.specs.Io.{StartsWith};
+ghost use Rattle.std.specs.Io.KnownBytes.{Appends};
+ghost use Rattle.ft_desk.specs.Turns.{WritesFront};
+
+use std::io::{self, ErrorKind, Write};
+
+/// Writes a text, by as many calls as the writer asks for. An error of the writer, an interrupted
+/// write too, and a write that takes nothing leave a beginning of it written.
+pub(crate) fn send<W: Write>(out: &mut W, text: &[u8]) -> io::Result<()>
+    ensures ok { OnOk result (Appends (W.contents out.old) (W.contents out.new) text.now) }
+    ensures err { OnErr result (WritesFront (W.contents out.old) (W.contents out.new) text.now) }
+{
+    let mut rest = text;
+    while !rest.is_empty() {
+        match out.write(rest)? {
+            0 => return Err(io::Error::from(ErrorKind::WriteZero)),
+            taken => rest = &rest[taken..],
+        }
+    }
+    Ok(())
+}

@@ -1,0 +1,13 @@
+mod Backs
+mod Bodies
+mod Breaks
+mod Digits
+mod Filled
+mod Firsts
+mod HeadLoop
+mod Heads
+mod Lines
+mod Numbers
+mod Payload
+mod Runs
+mod Stamps

@@ -1,0 +1,72 @@
+-- How a reader finds the texts of a line's columns, from left to right (our own choice).
+use Rattle.std.specs.Prelude.{ℕ, ◌+◌, ◌*◌, ◌||◌, not, List, [], ◌∷◌, ◌++◌, length, Option, Some, None, ◌==◌, nat_lt, if◌then◌else◌, codes}
+use Rattle.std.specs.List.{list_any}
+use Rattle.ft_event.specs.Bytes.{is_space, is_digit, is_colon}
+use Rattle.ft_event.specs.LineIs.{Tail, Head}
+use Rattle.ft_event.specs.Spans.{run_of, word_of, without_spaces, behind, number_of}
+use Rattle.ft_event.specs.declared.columns.Tail as declared_tail
+use Rattle.ft_event.specs.declared.columns.Head as declared_head
+
+-- the texts that a `Tail` of the code points to (our own choice)
+abbrev pub tail_texts : declared_tail.Tail → Tail
+tail_texts t = record { pid = t.pid.now; cpu = t.cpu.now; rest = t.rest.now }
+
+-- the texts that a `Head` of the code points to (our own choice)
+abbrev pub head_texts : declared_head.Head → Head
+head_texts h = record { task = h.task.now; tail = tail_texts h.tail }
+
+infixl 10 ◌>>=◌
+-- the second step, on what the first one found (our own choice)
+abbrev pub ◌>>=◌ : {A B : Type 0} → Option A → (A → Option B) → Option B
+None >>= f = None
+(Some x) >>= f = f x
+
+-- PID, spaces, `[`, CPU, `]`, a space, and the rest (kernel: ftrace.rst, the trace output)
+unfoldable pub tail_of : List ℕ → Option Tail
+tail_of text = do
+  pid ← run_of is_digit text
+  gap ← run_of is_space pid.1
+  bracket ← behind (codes "[") gap.1
+  cpu ← run_of is_digit bracket
+  rest ← behind (codes "] ") cpu.1
+  Some (record { pid = pid.0; cpu = cpu.0; rest = rest })
+
+-- the head that ends at this `-`, or else a later one (our own choice)
+abbrev pub head_from : Option Tail → Option Head → Option Head
+head_from (Some tail) later = Some (record { task = []; tail = tail })
+head_from None later = later
+
+-- the head with a longer TASK (our own choice)
+abbrev pub with_front : List ℕ → Option Head → Option Head
+with_front front None = None
+with_front front (Some head) = Some (record { task = front ++ head.task; tail = head.tail })
+
+-- the head that ends at the first `-` with a tail (our own choice)
+unfoldable pub head_of : List ℕ → Option Head
+head_of [] = None
+head_of (b ∷ bs) = if b == 45 then head_from (tail_of bs) (with_front (b ∷ []) (head_of bs)) else with_front (b ∷ []) (head_of bs)
+
+-- the word that is STAMP: the first if it holds a `:`, else the one behind LETTERS of at most 16 bytes (kernel: ftrace.rst, the option irq-info)
+unfoldable pub stamp_word_of : List ℕ → Option (List ℕ × List ℕ)
+stamp_word_of text =
+    let first = word_of (without_spaces text) in
+    if list_any is_colon first.0 then Some first
+    else (if nat_lt 16 (length first.0) then None else Some (word_of (without_spaces first.1)))
+
+-- the microseconds that STAMP says: SECONDS of up to ten digits, `.`, six digits, `:` (kernel: ftrace.rst, TIMESTAMP)
+unfoldable pub micros_of : List ℕ → Option ℕ
+micros_of word = do
+  seconds ← run_of is_digit word
+  point ← behind (codes ".") seconds.1
+  micros ← run_of is_digit point
+  end ← behind (codes ":") micros.1
+  whole ← number_of 4294967295 seconds.0
+  part ← number_of 999999 micros.0
+  if nat_lt 10 (length seconds.0) || not (length micros.0 == 6) || not (length end == 0) then None else Some (whole * 1000000 + part)
+
+-- the event's stamp in microseconds, and what stands behind STAMP (kernel: ftrace.rst, TIMESTAMP)
+unfoldable pub stamp_of : List ℕ → Option (ℕ × List ℕ)
+stamp_of text = do
+  word ← stamp_word_of text
+  micros ← micros_of word.0
+  Some (micros, word.1)

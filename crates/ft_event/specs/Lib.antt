@@ -1,0 +1,10 @@
+pub mod Bytes
+pub mod Columns
+pub mod Line
+pub mod LineFault
+pub mod LineIs
+pub mod Padded
+pub mod Spans
+pub mod Traced
+pub mod Codes
+pub mod Wakes

@@ -1,0 +1,103 @@
+//! The columns of a line, before the event's own text.
+
+ghost use Rattle.std.specs.Prelude.{◌≡◌, ◌≤◌, IfSome};
+ghost use Rattle.std.specs.Option.{option_map};
+ghost use Rattle.ft_event.specs.Columns.{tail_texts, head_texts, tail_of, head_of};
+ghost use Rattle.ft_event.specs.Columns.{stamp_word_of, micros_of, stamp_of};
+
+use crate::scan::{Class, behind, number, run, without_spaces, word};
+
+/// What stands behind TASK and its `-`.
+#[derive(Clone, Copy)]
+pub(crate) struct Tail<'a> {
+    /// The digits of PID.
+    pub(crate) pid: &'a [u8],
+    /// The digits of CPU.
+    pub(crate) cpu: &'a [u8],
+    /// What stands behind `] `.
+    pub(crate) rest: &'a [u8],
+}
+
+/// TASK, and what stands behind it.
+#[derive(Clone, Copy)]
+pub(crate) struct Head<'a> {
+    /// TASK, of any length.
+    pub(crate) task: &'a [u8],
+    /// What stands behind its `-`.
+    pub(crate) tail: Tail<'a>,
+}
+
+/// PID, spaces, `[`, CPU, `]`, a space, and the rest.
+#[tactic(auto, unfolding(crate::specs::Columns::tail_of))]
+fn tail_of(text: &[u8]) -> Option<Tail<'_>>
+    ensures { option_map tail_texts result ≡ tail_of text.now }
+{
+    let (pid, rest) = run(text, Class::Digit)?;
+    let (_, rest) = run(rest, Class::Space)?;
+    let rest = behind(b"[", rest)?;
+    let (cpu, rest) = run(rest, Class::Digit)?;
+    let rest = behind(b"] ", rest)?;
+    Some(Tail { pid, cpu, rest })
+}
+
+/// The head that ends at the first `-` with a tail.
+pub(crate) fn head_of(text: &[u8]) -> Option<Head<'_>>
+    ensures { option_map head_texts result ≡ head_of text.now }
+{
+    for (at, byte) in text.iter().enumerate() {
+        if *byte == b'-' {
+            if let Some(tail) = tail_of(&text[at + 1..]) {
+                return Some(Head {
+                    task: &text[..at],
+                    tail,
+                });
+            }
+        }
+    }
+    None
+}
+
+/// The word that is STAMP, and what stands behind it: the first word if it holds a `:`, else the
+/// one behind LETTERS of at most 16 bytes.
+#[tactic(auto, unfolding(crate::specs::Columns::stamp_word_of))]
+fn stamp_word_of(text: &[u8]) -> Option<(&[u8], &[u8])>
+    ensures { option_map (λ x. (x.0.now, x.1.now)) result ≡ stamp_word_of text.now }
+{
+    let (first, rest) = word(without_spaces(text));
+    if first.contains(&b':') {
+        return Some((first, rest));
+    }
+    if first.len() > 16 {
+        return None;
+    }
+    Some(word(without_spaces(rest)))
+}
+
+/// The microseconds that STAMP says: SECONDS of up to ten digits, `.`, six digits, `:`.
+#[tactic(auto, unfolding(crate::specs::Columns::micros_of))]
+fn micros_of(word: &[u8]) -> Option<u64>
+    ensures value { result ≡ micros_of word.now }
+    ensures within { IfSome result (λ micros. micros ≤ 4294967295999999) }
+{
+    let (seconds, rest) = run(word, Class::Digit)?;
+    let rest = behind(b".", rest)?;
+    let (micros, rest) = run(rest, Class::Digit)?;
+    let rest = behind(b":", rest)?;
+    let whole = number(seconds, u32::MAX)?;
+    let part = number(micros, 999_999)?;
+    if seconds.len() > 10 || micros.len() != 6 || !rest.is_empty() {
+        return None;
+    }
+    Some(whole * 1_000_000 + part)
+}
+
+/// The event's stamp in microseconds, and what stands behind STAMP.
+#[tactic(auto, unfolding(crate::specs::Columns::stamp_of))]
+pub(crate) fn stamp_of(text: &[u8]) -> Option<(u64, &[u8])>
+    ensures value { option_map (λ x. (x.0, x.1.now)) result ≡ stamp_of text.now }
+    ensures within { IfSome result (λ x. x.0 ≤ 4294967295999999) }
+{
+    let (word, rest) = stamp_word_of(text)?;
+    let micros = micros_of(word)?;
+    Some((micros, rest))
+}

@@ -1,0 +1,141 @@
+//! Cuts of a text: runs of bytes, words, labels.
+
+ghost use Rattle.std.specs.Prelude.{◌≡◌, ◌≤◌, length, IfSome};
+ghost use Rattle.std.specs.Option.{option_map, option_copied};
+ghost use Rattle.std.specs.List.{prefix_len, suffix_len};
+ghost use Rattle.ft_event.specs.Spans.{test_of, run_of, word_of, without_spaces, trimmed};
+ghost use Rattle.ft_event.specs.Spans.{behind, last_cut, number_of};
+
+/// A class of bytes.
+#[derive(Clone, Copy)]
+pub(crate) enum Class {
+    /// A space.
+    Space,
+    /// Any byte but a space.
+    Word,
+    /// A decimal digit.
+    Digit,
+    /// A space or a tab.
+    Blank,
+}
+
+impl Class {
+    /// Whether the byte is of the class.
+    fn has(self, byte: u8) -> bool
+        ensures { result ≡ test_of self byte }
+    {
+        match self {
+            Class::Space => byte == b' ',
+            Class::Word => byte != b' ',
+            Class::Digit => byte.is_ascii_digit(),
+            Class::Blank => byte == b' ' || byte == b'\t',
+        }
+    }
+}
+
+/// How many bytes of the class the text begins with.
+pub(crate) fn front_len(text: &[u8], class: Class) -> usize
+    ensures within { result ≤ length text.now }
+    ensures value { result ≡ prefix_len (test_of class) text.now }
+{
+    for (at, byte) in text.iter().enumerate() {
+        if !class.has(*byte) {
+            return at;
+        }
+    }
+    text.len()
+}
+
+/// How many bytes of the class the text ends with.
+pub(crate) fn back_len(text: &[u8], class: Class) -> usize
+    ensures within { result ≤ length text.now }
+    ensures value { result ≡ suffix_len (test_of class) text.now }
+{
+    let mut start = text.len();
+    while start > 0 {
+        if !class.has(text[start - 1]) {
+            return text.len() - start;
+        }
+        start -= 1;
+    }
+    text.len()
+}
+
+/// A run of one or more bytes of the class, as long as it goes, and what is behind it.
+#[tactic(auto, unfolding(crate::specs::Spans::run_of))]
+pub(crate) fn run(text: &[u8], class: Class) -> Option<(&[u8], &[u8])>
+    ensures { option_map (λ x. (x.0.now, x.1.now)) result ≡ run_of (test_of class) text.now }
+{
+    let len = front_len(text, class);
+    if len == 0 {
+        return None;
+    }
+    Some(text.split_at(len))
+}
+
+/// The word that the text begins with, which may be empty, and what is behind it.
+pub(crate) fn word(text: &[u8]) -> (&[u8], &[u8])
+    ensures { (result.0.now, result.1.now) ≡ word_of text.now }
+{
+    text.split_at(front_len(text, Class::Word))
+}
+
+/// The text without the spaces that it begins with.
+pub(crate) fn without_spaces(text: &[u8]) -> &[u8]
+    ensures { result.now ≡ without_spaces text.now }
+{
+    &text[front_len(text, Class::Space)..]
+}
+
+/// The text without the spaces at both ends.
+#[tactic(auto, unfolding(crate::specs::Spans::trimmed))]
+pub(crate) fn trimmed(text: &[u8]) -> &[u8]
+    ensures { result.now ≡ trimmed text.now }
+{
+    let rest = without_spaces(text);
+    &rest[..rest.len() - back_len(rest, Class::Space)]
+}
+
+/// What is behind a label that the text begins with.
+#[tactic(auto, unfolding(crate::specs::Spans::behind))]
+pub(crate) fn behind<'a>(label: &[u8], text: &'a [u8]) -> Option<&'a [u8]>
+    ensures { option_copied result ≡ behind label.now text.now }
+{
+    if text.starts_with(label) {
+        Some(&text[label.len()..])
+    } else {
+        None
+    }
+}
+
+/// What stands before and behind the last space.
+#[tactic(auto, unfolding(crate::specs::Spans::last_cut))]
+pub(crate) fn last_cut(text: &[u8]) -> Option<(&[u8], &[u8])>
+    ensures { option_map (λ x. (x.0.now, x.1.now)) result ≡ last_cut text.now }
+{
+    let word_len = back_len(text, Class::Word);
+    if word_len == text.len() {
+        return None;
+    }
+    let start = text.len() - word_len;
+    Some((&text[..start - 1], &text[start..]))
+}
+
+/// The number that digits write, or `None` where it is above the limit or a byte is no digit.
+#[tactic(auto, unfolding(crate::specs::Spans::number_of))]
+pub(crate) fn number(text: &[u8], limit: u32) -> Option<u64>
+    ensures value { result ≡ number_of limit text.now }
+    ensures within { IfSome result (λ n. n ≤ limit) }
+{
+    let mut number: u64 = 0;
+    for byte in text {
+        if !Class::Digit.has(*byte) {
+            return None;
+        }
+        number = number * 10 + u64::from(*byte - b'0');
+        if number > u64::from(limit) {
+            return None;
+        }
+    }
+    Some(number)
+}
