@@ -20,7 +20,7 @@ pub record Count : Type 0 where
   pub hitcount : ℕ
   pub key : Key
 
--- the row of a table's entry
+-- the row of a table's entry (our own choice)
 abbrev pub row_of : Key × ℕ → Count
 row_of entry = record { hitcount = entry.1; key = entry.0 }
 

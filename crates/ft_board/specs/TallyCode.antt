@@ -7,7 +7,7 @@ use Rattle.ft_board.specs.contracts.trigger.Key as key
 use Rattle.ft_board.specs.Trigger.{key_cmp}
 use Rattle.ft_board.specs.Replay.{Tally}
 
--- a trigger's table, stored as its hits by key and the dropped hits
+-- a trigger's table, stored as its hits by key and the dropped hits (our own choice)
 abbrev pub tally_code : Coded Tally
 tally_code = code_by
     (FinMap key_cmp ℕ × ℕ) (coded× (map.code key.the_row.coded coded_ℕ) coded_ℕ)

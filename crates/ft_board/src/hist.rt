@@ -4,6 +4,7 @@ ghost use Rattle.std.specs.Prelude.{◌≡◌, ◌<◌, ℕ, ◌++◌, IfOk, OnO
 ghost use Rattle.std.specs.List.{flat_map};
 ghost use Rattle.std.specs.Ordering.{nat_cmp};
 ghost use Rattle.std.specs.FinMap as map;
+ghost use Rattle.ft_board.specs.Base.{Base};
 ghost use Rattle.ft_board.specs.Seen.{seen};
 ghost use Rattle.ft_board.specs.After.{AnswerIs};
 ghost use Rattle.ft_board.specs.Replay.{replay, empty_tally};
@@ -138,7 +139,9 @@ pub(crate) fn hist_of(
     triggers: &BTreeMap<u32, Trigger>,
     id: u32,
 ) -> Result<Vec<u8>, Refused>
-    ensures { (next_id : ℕ) → AnswerIs (λ text. text.items) (hist_text (record { lanes = seen nat_cmp lanes.now; triggers = seen nat_cmp triggers.now; next_id = next_id }) id) result }
+    ensures { (next_id : ℕ) →
+        let base : Base = record { lanes = seen nat_cmp lanes.now; triggers = seen nat_cmp triggers.now; next_id = next_id } in
+        AnswerIs (λ text. text.items) (hist_text base id) result }
 {
     let Some(trigger) = triggers.get(&id) else {
         return Err(Refused::NoTrigger);

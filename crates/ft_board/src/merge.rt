@@ -2,7 +2,6 @@
 
 ghost use Rattle.std.specs.Prelude.{◌≡◌, ℕ, IfOk, OnOk};
 ghost use Rattle.std.specs.Ordering.{nat_cmp};
-ghost use Rattle.std.specs.FinMap as map;
 ghost use Rattle.std.specs.FinMap.{FinMap};
 ghost use Rattle.ft_board.specs.Seen.{seen};
 ghost use Rattle.ft_board.specs.Replay.{pos_cmp, merged};
@@ -19,7 +18,8 @@ pub(crate) fn merged_events(
     alloc: Global,
     lanes: &BTreeMap<u16, Lane>,
 ) -> Result<BTreeMap<Pos, Event>, AllocError>
-    ensures { IfOk result (λ m. (triggers : FinMap nat_cmp Trigger) (next_id : ℕ) → seen pos_cmp m ≡ merged (record { lanes = seen nat_cmp lanes.now; triggers = triggers; next_id = next_id })) }
+    ensures { IfOk result (λ m. (triggers : FinMap nat_cmp Trigger) (next_id : ℕ) →
+        seen pos_cmp m ≡ merged (record { lanes = seen nat_cmp lanes.now; triggers = triggers; next_id = next_id })) }
 {
     let mut all = BTreeMap::new(alloc);
     for (cpu, lane) in lanes.iter() {
@@ -42,3 +42,6 @@ fn merge_lane(all: &mut BTreeMap<Pos, Event>, cpu: u16, lane: &Lane) -> Result<(
     }
     Ok(())
 }
+
+#[cfg(test)]
+mod tests;

@@ -2,7 +2,7 @@
 
 ghost use Rattle.std.specs.Prelude.{◌≡◌, ℕ, IfOk, OnOk};
 ghost use Rattle.std.specs.Ordering.{nat_cmp};
-ghost use Rattle.ft_event.specs.declared.pos.Pos.{Pos as Place};
+ghost use Rattle.ft_event.specs.declared.pos.Pos.{Pos};
 ghost use Rattle.ft_board.specs.Seen.{seen};
 ghost use Rattle.ft_board.specs.Replay.{replay, started, step, act};
 ghost use Rattle.ft_board.specs.Turns.{IsBelow, AreBelow, turn_limit};
@@ -21,7 +21,8 @@ pub(crate) fn replayed(
     lanes: &BTreeMap<u16, Lane>,
     triggers: &BTreeMap<u32, Trigger>,
 ) -> Result<BTreeMap<u32, Tally>, AllocError>
-    ensures value { IfOk result (λ state. (next_id : ℕ) → seen nat_cmp state ≡ replay (record { lanes = seen nat_cmp lanes.now; triggers = seen nat_cmp triggers.now; next_id = next_id })) }
+    ensures value { IfOk result (λ state. (next_id : ℕ) →
+        seen nat_cmp state ≡ replay (record { lanes = seen nat_cmp lanes.now; triggers = seen nat_cmp triggers.now; next_id = next_id })) }
     ensures small { IfOk result (λ state. AreBelow turn_limit (seen nat_cmp state)) }
 {
     let merged = merged_events(alloc, lanes)?;
@@ -53,7 +54,8 @@ fn step(
     event: &Event,
 ) -> Result<(), AllocError>
     requires { AreBelow turn_limit (seen nat_cmp state.old) }
-    ensures { OnOk result ((place : Place) → seen nat_cmp state.new ≡ step (seen nat_cmp triggers.now) (seen nat_cmp state.old) (place, event.now)) }
+    ensures { OnOk result ((pos : Pos) →
+        seen nat_cmp state.new ≡ step (seen nat_cmp triggers.now) (seen nat_cmp state.old) (pos, event.now)) }
 {
     for (id, trigger) in triggers.iter() {
         act(event, state, *id, trigger)?;

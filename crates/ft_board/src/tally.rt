@@ -88,7 +88,9 @@ impl Tally {
 // Counts one hit of a key in a table for `size` keys: whether it found room.
 fn count_in(table: &mut BTreeMap<Key, u64>, size: u32, key: Key) -> Result<bool, AllocError>
     requires { sum (map.values (seen key_cmp table.old)) < turn_limit }
-    ensures { IfOk result (λ found. (dropped : ℕ) → count size key (record { table = seen key_cmp table.old; dropped = dropped }) ≡ record { table = seen key_cmp table.new; dropped = (if found then dropped else dropped + 1) }) }
+    ensures { IfOk result (λ found. (dropped : ℕ) →
+        count size key (record { table = seen key_cmp table.old; dropped = dropped })
+        ≡ record { table = seen key_cmp table.new; dropped = (if found then dropped else dropped + 1) }) }
 {
     if let Some(hits) = table.get_mut(&key) {
         *hits += 1;

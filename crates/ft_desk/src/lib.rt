@@ -21,4 +21,4 @@ pub use running::{RunFault, Status, run};
 pub use words::{Words, WordsFault, read_words};
 
 #[cfg(test)]
-mod tests_run;
+mod tests;

@@ -159,7 +159,13 @@ line_found bytes =
                 λ broken. both_ways _ whole (any_break bytes broken),
                 rw whole (elim (cases_Bool (eqb (prefix_len is_blank bytes) (length bytes))) [
                   | inl blank ↦ inl (len_blank bytes (eqb-true _ _ blank), rw blank refl)
-                  | inr other ↦ inr (λ blank. eqb-false _ _ other (blank_len bytes blank), rw other (task_gives bytes))
+                  | inr other ↦ inr (
+                    λ blank. eqb-false _ _ other (blank_len bytes blank),
+                    rw other (elim (cases_Bool (eqb (get_or bytes 0 0) 35)) [
+                      | inl comment ↦ inl (eqb-true _ _ comment, rw comment refl)
+                      | inr plain ↦ inr (λ comment. eqb-false _ _ plain comment, rw plain (task_gives bytes))
+                    ]),
+                  )
                 ]),
               )
             ]),
@@ -173,8 +179,9 @@ line_same bytes x y g h =
     where_same x y _ _ _ _ _ g h (λ a b. a ∙ sym b) (λ g1 h1.
     where_same x y _ _ _ _ _ g1 h1 (λ a b. a ∙ sym b) (λ g2 h2.
     where_same x y _ _ _ _ _ g2 h2 (λ a b. a ∙ sym b) (λ g3 h3.
-    cut_same x y (IsHead bytes) (λ head. IsShortest bytes head × HeadGives head x) (λ head. IsShortest bytes head × HeadGives head y) _ _ g3 h3
+    where_same x y _ _ _ _ _ g3 h3 (λ a b. a ∙ sym b) (λ g4 h4.
+    cut_same x y (IsHead bytes) (λ head. IsShortest bytes head × HeadGives head x) (λ head. IsShortest bytes head × HeadGives head y) _ _ g4 h4
     (λ c d cut_c cut_d a b.
     let same : d ≡ c = same_Some _ _ (sym (head_found bytes d cut_d b.0) ∙ head_found bytes c cut_c a.0) in
     head_gives_same c x y a.1 (subst (λ (head : Head). HeadGives head y) same b.1))
-    (λ a b. a ∙ sym b))))
+    (λ a b. a ∙ sym b)))))

@@ -1,5 +1,5 @@
 -- What a line gives, as a function: its parts from left to right, with the first fault that is met (kernel: ftrace.rst, the trace output).
-use Rattle.std.specs.Prelude.{ℕ, List, length, Option, Some, None, Result, Ok, Err, ◌==◌, nat_lt, if◌then◌else◌, codes, pos}
+use Rattle.std.specs.Prelude.{ℕ, List, length, slice_index, Option, Some, None, Result, Ok, Err, ◌==◌, nat_lt, if◌then◌else◌, codes, pos}
 use Rattle.std.specs.List.{prefix_len, list_any}
 use Rattle.ft_event.specs.declared.event.Body.{Body}
 use Rattle.ft_event.specs.declared.event.Body.TheVariants as bodies
@@ -73,10 +73,11 @@ abbrev pub line_with : Result Traced LineFault → Result Line LineFault
 line_with (Ok event) = Ok (lines.Event event)
 line_with (Err fault) = Err fault
 
--- what the line gives: too long, broken by byte 10, blank, or else its event (our own choice)
+-- what the line gives: too long, broken by byte 10, blank, a comment, or else its event (our own choice: a comment has no task)
 unfoldable pub line_of : List ℕ → Result Line LineFault
 line_of bytes =
     if nat_lt 4096 (length bytes) then Err LineLong
     else (if list_any (λ b. b == 10) bytes then Err NoTask
     else (if prefix_len is_blank bytes == length bytes then Ok lines.Skip
-    else line_with (traced_from bytes)))
+    else (if slice_index bytes 0 == 35 then Err NoTask
+    else line_with (traced_from bytes))))

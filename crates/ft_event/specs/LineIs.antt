@@ -1,5 +1,5 @@
 -- What a line of the kernel's `trace` file says: cuts of the whole line, and conditions on their parts (kernel: ftrace.rst, the trace output).
-use Rattle.std.specs.Prelude.{◌≡◌, ◌⊎◌, ◌<◌, ◌≤◌, ℕ, ◌+◌, ◌*◌, Bool, false, IsTrue, List, [], ◌∷◌, ◌++◌, length, reverse, Contains, Result, Ok, Err, codes, ℤ, pos, neg_ℤ, FitsSigned}
+use Rattle.std.specs.Prelude.{◌≡◌, ◌⊎◌, ◌<◌, ◌≤◌, ℕ, ◌+◌, ◌*◌, Bool, false, IsTrue, List, [], ◌∷◌, ◌++◌, length, reverse, slice_index, Contains, Result, Ok, Err, codes, ℤ, pos, neg_ℤ, FitsSigned}
 use Rattle.std.specs.Int.{w32}
 use Rattle.std.specs.List.{list_all, list_any}
 use Rattle.std.specs.Str.Parse.{digits_value}
@@ -145,6 +145,10 @@ BodyIs rest body =
 
 -- ---- the line
 
+-- a line of the header: its first byte is `#` (kernel: ftrace.rst, the trace output)
+abbrev pub IsComment : List ℕ → Type 0
+IsComment bytes = slice_index bytes 0 ≡ 35
+
 -- the event, or else its body's fault (our own choice)
 abbrev pub answer_with : Head → ℕ → Result Body LineFault → Result Line LineFault
 answer_with head stamp (Ok body) =
@@ -161,10 +165,11 @@ HeadGives head answer =
     (λ s. (body : Result Body LineFault) × BodyIs s.1 body × (answer ≡ answer_with head s.0 body))
     (answer ≡ Err BadStamp))))
 
--- the answer to a line: too long, broken by byte 10, blank, without a task, or what its columns give (our own choice: blank lines are skipped)
+-- the answer to a line: too long, broken by byte 10, blank, a comment, without a task, or what its columns give (our own choice: blank lines are skipped)
 unfoldable pub LineIs : List ℕ → Result Line LineFault → Type 0
 LineIs bytes answer =
     Where (4096 < length bytes) (answer ≡ Err LineLong)
     (Where (Contains bytes 10) (answer ≡ Err NoTask)
     (Where (IsTrue (list_all is_blank bytes)) (answer ≡ Ok lines.Skip)
-    (WhereCut (IsHead bytes) (λ head. IsShortest bytes head × HeadGives head answer) (answer ≡ Err NoTask))))
+    (Where (IsComment bytes) (answer ≡ Err NoTask)
+    (WhereCut (IsHead bytes) (λ head. IsShortest bytes head × HeadGives head answer) (answer ≡ Err NoTask)))))

@@ -113,6 +113,10 @@ fn answer_to(line: &[u8]) -> Result<Line, LineFault>
     if front_len(line, Class::Blank) == line.len() {
         return Ok(Line::Skip);
     }
+    // A line of the header has no task, whatever follows.
+    if line[0] == b'#' {
+        return Err(LineFault::NoTask);
+    }
     let event = traced_from(line)?;
     Ok(Line::Event(event))
 }

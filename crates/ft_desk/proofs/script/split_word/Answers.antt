@@ -1,7 +1,7 @@
 use Rattle.std.proofs.Common.{arith}
 use Rattle.std.proofs.lemmas.List.Sums.{prefix_len-le-length}
 use Rattle.ft_desk.specs.Script.{is_in_word, after_word}
-use Rattle.ft_desk.proofs.Words.{drop_while_is}
+use Rattle.ft_desk.proofs.WordLemmas.{drop_while_is}
 use Rattle.ft_desk.proofs.script.split_word.Goals as goal
 
 pub split_at-requires : goal.split_at-requires

@@ -1,5 +1,5 @@
 use Rattle.std.proofs.Common.{◌∙◌}
-use Rattle.ft_desk.proofs.Words.{word_ends}
+use Rattle.ft_desk.proofs.WordLemmas.{word_ends}
 use Rattle.ft_desk.proofs.script.word_len.Goals as goal
 
 pub returns : goal.returns

@@ -1,0 +1,3 @@
+mod endings;
+mod examples;
+mod streams;

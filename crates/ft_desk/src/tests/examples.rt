@@ -1,0 +1,217 @@
+//! The worked examples, over the plain board.
+
+use super::streams::{Sink, Source};
+use crate::{Desk, RunFault, Status, run};
+use ft_board::{Done, Kept, PlainBoard, Refused, TriggerFault};
+use ft_event::{LineFault, Name};
+use std::alloc::{AllocError, Global};
+use std::io::ErrorKind;
+use std::test::*;
+
+/// Two wakings of pid 42 on CPU 1.
+const TRACE: &[u8] =
+    b" sim-1 [001] d.h.. 6012.000100: sched_waking: comm=w pid=42 prio=120 target_cpu=000
+ sim-1 [001] d.h.. 6012.000200: sched_waking: comm=w pid=42 prio=120 target_cpu=000
+";
+
+/// Loads the trace, attaches a trigger and asks for its table.
+const SCRIPT: &[u8] = b"load @1\nattach sched_waking hist:keys=pid\nhist 1\n";
+
+/// What the script prints.
+const PRINTED: &[u8] = b"loaded 2
+attached 1
+# event histogram
+#
+# trigger info: hist:keys=pid:vals=hitcount:sort=hitcount:size=2048 [active]
+#
+
+{ pid:         42 } hitcount:          2
+
+Totals:
+    Hits: 2
+    Entries: 1
+    Dropped: 0
+";
+
+/// How many bytes each command of the script ends at, and how many are printed by then.
+const ENDS: [(usize, usize); 4] = [(0, 0), (8, 9), (42, 20), (49, 212)];
+
+/// The one trace file.
+fn files(alloc: Global) -> Result<Vec<Vec<u8>>, AllocError> {
+    let mut files = Vec::new(alloc);
+    files.push(Vec::from_slice(alloc, TRACE)?)?;
+    Ok(files)
+}
+
+/// Runs a script over the plain board with the trace file.
+fn ran(
+    alloc: Global,
+    script: &mut Source<'_>,
+    out: &mut Sink,
+) -> Result<Result<Status, RunFault>, AllocError> {
+    let files = files(alloc)?;
+    Ok(run(alloc, PlainBoard::new(alloc), files.as_slice(), script, out))
+}
+
+/// How much is printed by the commands that end within the first bytes of the script.
+fn printed_by(bytes: usize) -> usize {
+    let mut most = 0;
+    for (end, printed) in ENDS {
+        if end <= bytes {
+            most = printed;
+        }
+    }
+    most
+}
+
+#[test]
+fn two_wakings(rt: HostRuntime) -> Result<(), Fail> {
+    for step in [1, 7, 4096] {
+        let mut out = Sink::new(rt.alloc(), step);
+        let ended = ran(rt.alloc(), &mut Source::new(SCRIPT, step), &mut out)?;
+        assert!(rt; matches!(ended, Ok(Status::AllAccepted)));
+        assert_eq!(rt; out.bytes.as_slice(), PRINTED);
+        assert_eq!(rt; out.flushes, 1);
+    }
+    Ok(())
+}
+
+#[test]
+fn empty_script(rt: HostRuntime) -> Result<(), Fail> {
+    let mut out = Sink::new(rt.alloc(), 1);
+    let ended = ran(rt.alloc(), &mut Source::new(b"", 1), &mut out)?;
+    assert!(rt; matches!(ended, Ok(Status::AllAccepted)));
+    assert_eq!(rt; out.bytes.len(), 0);
+    Ok(())
+}
+
+#[test]
+fn refusals_by_number(rt: HostRuntime) -> Result<(), Fail> {
+    let script = b"load @1
+attach sched_waking hist:keys=pid
+load @1
+hist 2
+attach sched_waking hist:keys=prio
+attach sched_switch hist:keys=pid
+load @2
+unload 1";
+    let printed = b"loaded 2
+attached 1
+refused 4: cpu 1
+refused 10
+refused 8: fault 2 at 0
+refused 16
+refused 2
+refused 16
+";
+    let mut out = Sink::new(rt.alloc(), 100);
+    let ended = ran(rt.alloc(), &mut Source::new(script, 100), &mut out)?;
+    assert!(rt; matches!(ended, Ok(Status::SomeRefused)));
+    assert_eq!(rt; out.bytes.as_slice(), printed.as_slice());
+    Ok(())
+}
+
+#[test]
+fn ends_where_the_reader_fails(rt: HostRuntime) -> Result<(), Fail> {
+    for read in 0..SCRIPT.len() + 1 {
+        let mut out = Sink::new(rt.alloc(), 100);
+        let mut script = Source::new(&SCRIPT[..read], 5);
+        script.end = Some(ErrorKind::Other);
+        let ended = ran(rt.alloc(), &mut script, &mut out)?;
+        assert!(rt; matches!(ended, Err(RunFault::Read)));
+        let printed = printed_by(read).min(PRINTED.len());
+        assert_eq!(rt;
+            out.bytes.as_slice(),
+            &PRINTED[..printed],
+            "after {read} bytes"
+        );
+    }
+    Ok(())
+}
+
+#[test]
+fn ends_where_the_writer_fails(rt: HostRuntime) -> Result<(), Fail> {
+    for room in 0..PRINTED.len() {
+        for full in [None, Some(ErrorKind::Other)] {
+            let mut out = Sink::new(rt.alloc(), 100);
+            out.room = room;
+            out.full = full;
+            let ended = ran(rt.alloc(), &mut Source::new(SCRIPT, 100), &mut out)?;
+            assert!(rt; matches!(ended, Err(RunFault::Write)));
+            assert_eq!(rt; out.bytes.as_slice(), &PRINTED[..room]);
+            assert_eq!(rt; out.flushes, 0);
+        }
+    }
+    Ok(())
+}
+
+#[test]
+fn fails_where_the_flush_does(rt: HostRuntime) -> Result<(), Fail> {
+    let mut out = Sink::new(rt.alloc(), 100);
+    out.broken_flush = true;
+    let ended = ran(rt.alloc(), &mut Source::new(SCRIPT, 100), &mut out)?;
+    assert!(rt; matches!(ended, Err(RunFault::Write)));
+    assert_eq!(rt; out.bytes.as_slice(), PRINTED);
+    Ok(())
+}
+
+/// Run by hand with each allocation refused in turn: `tests/each_allocation.sh`.
+#[test]
+fn whole_output_or_that_of_the_commands_before(rt: HostRuntime) -> Result<(), Fail> {
+    let Ok(bytes) = Vec::with_capacity(rt.alloc(), PRINTED.len()) else {
+        return Ok(());
+    };
+    let mut out = Sink::new(rt.alloc(), 100);
+    out.bytes = bytes;
+    let Ok(ended) = ran(rt.alloc(), &mut Source::new(SCRIPT, 100), &mut out) else {
+        return Ok(());
+    };
+    let printed = out.bytes.as_slice();
+    match ended {
+        Ok(status) => {
+            assert_eq!(rt; status, Status::AllAccepted);
+            assert_eq!(rt; printed, PRINTED);
+        }
+        Err(fault) => {
+            assert!(rt; matches!(fault, RunFault::Memory));
+            assert!(rt;
+                printed.is_empty()
+                    || printed == b"loaded 2\n".as_slice()
+                    || printed == b"loaded 2\nattached 1\n".as_slice()
+            );
+        }
+    }
+    Ok(())
+}
+
+#[test]
+fn desk_over_the_plain_board(rt: HostRuntime) -> Result<(), Fail> {
+    let mut desk = Desk::new(rt.alloc(), PlainBoard::new(rt.alloc()));
+    let loaded = Done {
+        value: 2,
+        kept: Kept::Now,
+    };
+    assert_eq!(rt; desk.load(TRACE), Ok(loaded));
+    assert_eq!(rt; desk.load(TRACE), Err(Refused::LaneHeld(1)));
+    assert_eq!(rt;
+        desk.load(b"\nhello\n# x"),
+        Err(Refused::BadLine(2, LineFault::NoTask))
+    );
+    let attached = Done {
+        value: 1,
+        kept: Kept::Now,
+    };
+    assert_eq!(rt; desk.attach(Name::Waking, b"hist:keys=pid"), Ok(attached));
+    assert_eq!(rt;
+        desk.attach(Name::Waking, b"hist:keys=pid "),
+        Err(Refused::BadTrigger(TriggerFault::Syntax(0)))
+    );
+    assert_eq!(rt;
+        desk.attach(Name::Other, b"hist:keys=pid"),
+        Err(Refused::BadCommand)
+    );
+    assert_eq!(rt; desk.hist(1)?.as_slice(), &PRINTED[20..]);
+    assert_eq!(rt; desk.hist(0).err(), Some(Refused::NoTrigger));
+    assert!(rt; !desk.is_deferred());
+    Ok(())
+}

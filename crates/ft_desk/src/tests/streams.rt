@@ -1,0 +1,93 @@
+//! Readers and writers over memory that fail where a test says.
+
+use std::alloc::Global;
+use std::io::{self, BufRead, ErrorKind, Read, Write};
+
+/// Shows at most `step` bytes a turn, and then its end or an error.
+#[derive(Drop)]
+pub(super) struct Source<'a> {
+    pub(super) text: &'a [u8],
+    pub(super) step: usize,
+    pub(super) end: Option<ErrorKind>,
+}
+
+impl<'a> Source<'a> {
+    /// A source that ends.
+    pub(super) fn new(text: &'a [u8], step: usize) -> Source<'a> {
+        Source {
+            text,
+            step,
+            end: None,
+        }
+    }
+}
+
+impl Read for Source<'_> {
+    fn read(&mut self, _buf: &mut [u8]) -> io::Result<usize> {
+        Err(ErrorKind::Unsupported.into())
+    }
+}
+
+impl BufRead for Source<'_> {
+    fn fill_buf(&mut self) -> io::Result<&[u8]> {
+        match self.end {
+            Some(kind) if self.text.is_empty() => Err(kind.into()),
+            _ => {
+                let shown = self.step.min(self.text.len());
+                Ok(&self.text[..shown])
+            }
+        }
+    }
+
+    fn consume(&mut self, amount: usize) {
+        let taken = amount.min(self.text.len());
+        self.text = &self.text[taken..];
+    }
+}
+
+/// Takes at most `step` bytes a call, and `room` bytes in all. Then it fails, or takes nothing.
+#[derive(Drop)]
+pub(super) struct Sink {
+    pub(super) bytes: Vec<u8>,
+    pub(super) step: usize,
+    pub(super) room: usize,
+    pub(super) full: Option<ErrorKind>,
+    pub(super) broken_flush: bool,
+    pub(super) flushes: u32,
+}
+
+impl Sink {
+    /// A sink with room for all.
+    pub(super) fn new(alloc: Global, step: usize) -> Sink {
+        Sink {
+            bytes: Vec::new(alloc),
+            step,
+            room: usize::MAX,
+            full: None,
+            broken_flush: false,
+            flushes: 0,
+        }
+    }
+}
+
+impl Write for Sink {
+    fn write(&mut self, buf: &[u8]) -> io::Result<usize> {
+        let taken = self.step.min(self.room).min(buf.len());
+        match self.full {
+            Some(kind) if taken == 0 => Err(kind.into()),
+            _ => {
+                self.bytes.extend_from_slice(&buf[..taken])?;
+                self.room = self.room.saturating_sub(taken);
+                Ok(taken)
+            }
+        }
+    }
+
+    fn flush(&mut self) -> io::Result<()> {
+        self.flushes = self.flushes.saturating_add(1);
+        if self.broken_flush {
+            return Err(ErrorKind::BrokenPipe.into());
+        }
+        Ok(())
+    }
+}
