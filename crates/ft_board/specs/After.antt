@@ -20,41 +20,41 @@ lane_of cpu events =
     let own = filter (λ e. e.cpu == cpu) events in
     record { events = map.from_entries (enumerate_from 1 own); next = length own + 1 }
 
--- the lanes, and one more for each CPU of the events
+-- the lanes, and one more for each CPU of the events (our own choice)
 unfoldable pub with_lanes : FinMap nat_cmp Lane → List Traced → FinMap nat_cmp Lane
 with_lanes lanes events = fold (λ m e. map.insert m e.cpu (lane_of e.cpu events)) lanes events
 
--- the CPU of the first event whose lane is held
+-- the CPU of the first event whose lane is held (our own choice)
 unfoldable pub first_held : FinMap nat_cmp Lane → List Traced → Option ℕ
 first_held lanes events = option_map (λ e. e.cpu) (find (λ e. map.contains_key lanes e.cpu) events)
 
--- loading events in file order: a lane for each CPU, unless one is held or they are too many
+-- loading events in file order: a lane for each CPU, unless one is held or they are too many (our own choice)
 unfoldable pub after_load : Base → List Traced → Result (Base × ℕ) Refused
 after_load base events =
     option_map_or (λ cpu. Err (LaneHeld cpu)) (first_held base.lanes events)
     (if nat_lt event_limit (held_in base.lanes + length events) then Err Full else Ok (record base { lanes = with_lanes base.lanes events }, length events))
 
--- attaching a trigger: at the next id, unless the triggers or the ids are used up
+-- attaching a trigger: at the next id, unless the triggers or the ids are used up (our own choice)
 unfoldable pub after_attach : Base → Trigger → Result (Base × ℕ) Refused
 after_attach base trigger =
     if nat_le trigger_limit (map.len base.triggers) || nat_lt number_limit base.next_id then Err TooManyTriggers
     else Ok (record base { triggers = map.insert base.triggers base.next_id trigger; next_id = base.next_id + 1 }, base.next_id)
 
--- `Later` just where the tables are behind
+-- `Later` just where the tables are behind (our own choice)
 abbrev pub kept_of : Bool → Kept
 kept_of true = Later
 kept_of false = Now
 
--- An edit did what after says: the new content and the value, or its refusal and nothing changed. Want of memory may stand in place of any answer, and changes nothing either.
+-- An edit did what after says: the new content and the value, or its refusal and nothing changed. Want of memory may stand in place of any answer, and changes nothing either (our own choice).
 abbrev pub EditGives : {T : Type 0} → Result (Base × T) Refused → Base → Base → Bool → Bool → Result (Done T) Refused → Type 0
 EditGives after old new behind_old behind_new (Ok done) = (after ≡ Ok (new, done.value)) × (done.kept ≡ kept_of behind_new)
 EditGives after old new behind_old behind_new (Err refused) = (new ≡ old) × (behind_new ≡ behind_old) × ((refused ≡ Memory) ⊎ (after ≡ Err refused))
 
--- An answer is the one expected, as view sees it, unless memory ran out.
+-- An answer is the one expected, as view sees it, unless memory ran out (our own choice).
 abbrev pub AnswerIs : {S T : Type 0} → (S → T) → Result T Refused → Result S Refused → Type 0
 AnswerIs view expected (Ok answer) = expected ≡ Ok (view answer)
 AnswerIs view expected (Err refused) = (refused ≡ Memory) ⊎ (expected ≡ Err refused)
 
--- An answer is the one expected, and the content stays.
+-- An answer is the one expected, and the content stays (our own choice).
 abbrev pub AnswersFrom : {S T : Type 0} → (S → T) → Result T Refused → Base → Base → Result S Refused → Type 0
 AnswersFrom view expected old new answer = (new ≡ old) × AnswerIs view expected answer

@@ -18,26 +18,26 @@ pub record Base : Type 0 where
   pub triggers : FinMap nat_cmp Trigger
   pub next_id : ℕ
 
--- nothing held and nothing attached; the first trigger gets id 1
+-- nothing held and nothing attached; the first trigger gets id 1 (our own choice)
 abbrev pub empty_base : Base
 empty_base = record { lanes = map.empty; triggers = map.empty; next_id = 1 }
 
--- the most events that are held
+-- the most events that are held (our own choice)
 abbrev pub event_limit : ℕ
 event_limit = 1048576
 
--- the most triggers that are attached
+-- the most triggers that are attached (our own choice)
 abbrev pub trigger_limit : ℕ
 trigger_limit = 64
 
--- the greatest id and the greatest line number
+-- the greatest id and the greatest line number (our own choice)
 abbrev pub number_limit : ℕ
 number_limit = 4294967295
 
--- how many events the lanes hold together
+-- how many events the lanes hold together (our own choice)
 abbrev pub held_in : FinMap nat_cmp Lane → ℕ
 held_in lanes = sum_by (λ lane. map.len lane.events) (map.values lanes)
 
--- the event of a lane's line, where there is one
+-- the event of a lane's line, where there is one (our own choice)
 abbrev pub event_at : Base → ℕ → ℕ → Option Traced
 event_at base cpu line = option_and_then (λ lane. map.get lane.events line) (map.get base.lanes cpu)

@@ -10,13 +10,13 @@ use Rattle.ft_board.specs.declared.trigger.Trigger.{Trigger}
 use Rattle.ft_board.specs.contracts.trigger.Trigger as trigger
 use Rattle.ft_board.specs.Base.{Lane, Base}
 
--- a lane, stored as its events and its next number
+-- a lane, stored as its events and its next number (our own choice)
 abbrev pub lane_code : Coded Lane
 lane_code = code_by
     (FinMap nat_cmp Traced × ℕ) (coded× (map.code coded_ℕ traced_code) coded_ℕ)
     (λ lane. (lane.events, lane.next)) (λ p. record { events = p.0; next = p.1 }) (λ _. refl)
 
--- a base, stored as its lanes, its triggers and its next id
+-- a base, stored as its lanes, its triggers and its next id (our own choice)
 abbrev pub base_code : Coded Base
 base_code = code_by
     (FinMap nat_cmp Lane × (FinMap nat_cmp Trigger × ℕ)) (coded× (map.code coded_ℕ lane_code) (coded× (map.code coded_ℕ trigger.the_row.coded) coded_ℕ))

@@ -5,11 +5,11 @@ use Rattle.ft_event.specs.Traced.{Traced}
 use Rattle.ft_board.specs.declared.trigger.Trigger.{Trigger}
 use Rattle.ft_board.specs.Base.{Lane, Base, event_limit, trigger_limit, number_limit, held_in}
 
--- an event fits the lanes: its CPU is at most 8,191
+-- an event fits the lanes: its CPU is at most 8,191 (our own choice)
 abbrev pub HasCpu : Traced → Type 0
 HasCpu event = event.cpu ≤ 8191
 
--- lanes are of CPUs and hold their own CPU's events below their next number, ids are below the next id, and the limits are kept
+-- lanes are of CPUs and hold their own CPU's events below their next number, ids are below the next id, and the limits are kept (our own choice)
 pub record IsReachable (base : Base) : Type 0 where
   pub cpus : (cpu : ℕ) (lane : Lane) → map.get base.lanes cpu ≡ Some lane → cpu ≤ 8191
   pub numbers : (cpu : ℕ) (lane : Lane) → map.get base.lanes cpu ≡ Some lane → (1 ≤ lane.next) × (lane.next ≤ number_limit + 1)

@@ -3,7 +3,7 @@ use Rattle.std.specs.Prelude.{ℕ}
 use Rattle.ft_board.specs.declared.refused.Refused.{Refused}
 use Rattle.ft_board.specs.declared.refused.Refused.TheVariants.{Memory, NoFile, BadLine, LaneHeld, Full, BadTrigger, NoTrigger, TooManyTriggers, BadCommand}
 
--- the number that a refused command prints
+-- the number that a refused command prints (our own choice)
 abbrev pub number_of : Refused → ℕ
 number_of Memory = 1
 number_of NoFile = 2

@@ -25,7 +25,7 @@ canonical trigger = codes "hist:keys=pid:vals=hitcount:sort=hitcount:size=2048"
 abbrev pub size_of : Trigger → ℕ
 size_of trigger = 2048
 
--- keys in order: by their PIDs as signed numbers
+-- keys in order: by their PIDs as signed numbers (our own choice)
 abbrev pub key_cmp : Key → Key → Ordering
 key_cmp = on (λ k. k.pid) int_cmp
 
@@ -34,6 +34,6 @@ abbrev pub key_of : Name → Body → Option Key
 key_of names.Waking (bodies.Waking wake) = Some (record { pid = wake.pid })
 key_of _ _ = None
 
--- what a trigger counts an event under, if it is a hit
+-- what a trigger counts an event under, if it is a hit (kernel: histogram.rst, hist triggers)
 abbrev pub hit : Trigger → Traced → Option Key
 hit trigger event = key_of trigger.event event.body

@@ -3,7 +3,7 @@ use Rattle.ft_desk.specs.declared.script.Command.{Command}
 use Rattle.ft_desk.specs.declared.script.Command.TheVariants as commands
 use Rattle.ft_desk.specs.Script.{Asked, Nothing, Load, Attach, Hist, NoForm}
 
--- a command as what it asks for, a text by its bytes
+-- a command as what it asks for, a text by its bytes (our own choice)
 abbrev pub asked : Command → Asked
 asked commands.Nothing = Nothing
 asked (commands.Load number) = Load number

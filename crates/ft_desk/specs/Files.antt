@@ -2,14 +2,14 @@
 use Rattle.std.specs.Prelude.{◌≡◌, ◌≤◌, ℕ, List, ◌++◌, length, Option}
 use Rattle.std.specs.Io.KnownBytes.{Consumes, IsAtEnd}
 
--- the most bytes of a trace file
+-- the most bytes of a trace file (our own choice)
 abbrev pub file_limit : ℕ
 file_limit = 1073741824
 
--- bytes that the reader gives are added
+-- bytes that the reader gives are added (our own choice)
 abbrev pub GivesTo : Option (List ℕ) → Option (List ℕ) → List ℕ → List ℕ → Type 0
 GivesTo reader rest before after = (given : List ℕ) × Consumes reader rest given × (after ≡ before ++ given)
 
--- all that the reader had, within the limit
+-- all that the reader had, within the limit (our own choice)
 abbrev pub ReadsWhole : Option (List ℕ) → Option (List ℕ) → List ℕ → Type 0
 ReadsWhole reader rest bytes = Consumes reader rest bytes × IsAtEnd rest × (length bytes ≤ file_limit)

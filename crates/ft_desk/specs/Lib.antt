@@ -10,3 +10,12 @@ pub mod Shown
 pub mod Files
 pub mod Words
 pub mod Program
+pub use Rattle.ft_event.specs.Traced
+pub use Rattle.ft_event.specs.Line
+pub use Rattle.ft_event.specs.LineFault
+pub use Rattle.ft_board.specs.Refused
+pub use Rattle.ft_board.specs.Trigger
+pub use Rattle.ft_board.specs.TriggerFault
+pub use Rattle.ft_board.specs.Base
+pub use Rattle.ft_board.specs.After
+pub use Rattle.ft_board.specs.Hist

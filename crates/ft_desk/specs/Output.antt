@@ -22,56 +22,56 @@ use Rattle.ft_board.specs.Hist.{hist_text}
 use Rattle.ft_desk.specs.Lines.{lines_of}
 use Rattle.ft_desk.specs.Script.{Asked, Nothing, Load, Attach, Hist, NoForm, asked_by}
 
--- a line's event in front of those of the lines behind it; a line that cannot be read is the fault of all
+-- a line's event in front of those of the lines behind it; a line that cannot be read is the fault of all (our own choice)
 abbrev pub with_line : ℕ → Result Line LineFault → Result (List Traced) Refused → Result (List Traced) Refused
 with_line number (Err fault) rest = Err (BadLine number fault)
 with_line number (Ok lines.Skip) rest = rest
 with_line number (Ok (lines.Event event)) (Ok events) = Ok (event ∷ events)
 with_line number (Ok (lines.Event event)) (Err refused) = Err refused
 
--- the events of lines, the first of which has this number; or the first line that cannot be read
+-- the events of lines, the first of which has this number; or the first line that cannot be read (our own choice)
 unfoldable pub events_from : ℕ → List (List ℕ) → Result (List Traced) Refused
 events_from number [] = Ok []
 events_from number (line ∷ lines) = with_line number (line_of line) (events_from (number + 1) lines)
 
--- the events of a trace text, in file order
+-- the events of a trace text, in file order (our own choice)
 abbrev pub events_of : List ℕ → Result (List Traced) Refused
 events_of text = events_from 1 (lines_of text)
 
 infixl 10 ◌>>=◌
--- what follows a step that was not refused
+-- what follows a step that was not refused (our own choice)
 abbrev pub ◌>>=◌ : {A B : Type 0} → Result A Refused → (A → Result B Refused) → Result B Refused
 (Ok x) >>= f = f x
 (Err refused) >>= f = Err refused
 
--- loading a trace text
+-- loading a trace text (our own choice)
 unfoldable pub after_load_text : Base → List ℕ → Result (Base × ℕ) Refused
 after_load_text base text = events_of text >>= after_load base
 
--- a trigger's text as read, or refused
+-- a trigger's text as read, or refused (our own choice)
 abbrev pub trigger_or_refused : Result Trigger TriggerFault → Result Trigger Refused
 trigger_or_refused (Ok trigger) = Ok trigger
 trigger_or_refused (Err fault) = Err (BadTrigger fault)
 
--- attaching a trigger's text to an event: `sched_waking` alone for this stage
+-- attaching a trigger's text to an event: `sched_waking` alone for this stage (our own choice)
 unfoldable pub after_attach_text : Base → Name → List ℕ → Result (Base × ℕ) Refused
 after_attach_text base names.Waking text = trigger_or_refused (trigger_of names.Waking text) >>= after_attach base
 after_attach_text base _ text = Err BadCommand
 
--- the Nth file, from 1
+-- the Nth file, from 1 (our own choice)
 abbrev pub file_at : List (List ℕ) → ℕ → Option (List ℕ)
 file_at files n = if n == 0 then None else slice_get files (n - 1)
 
--- loading the Nth file
+-- loading the Nth file (our own choice)
 unfoldable pub after_load_file : List (List ℕ) → Base → ℕ → Result (Base × ℕ) Refused
 after_load_file files base n = option_map_or (after_load_text base) (file_at files n) (Err NoFile)
 
--- where a fault is, in a refusal's line
+-- where a fault is, in a refusal's line (our own choice)
 abbrev pub place_text : Option ℕ → List ℕ
 place_text None = []
 place_text (Some place) = codes " at " ++ decimal place
 
--- what a refusal says beside its number
+-- what a refusal says beside its number (our own choice)
 abbrev pub detail : Refused → List ℕ
 detail (BadLine line fault) = codes ": line " ++ decimal line ++ codes " fault " ++ decimal (fault_number fault)
 detail (LaneHeld cpu) = codes ": cpu " ++ decimal cpu
@@ -83,27 +83,27 @@ detail NoTrigger = []
 detail TooManyTriggers = []
 detail BadCommand = []
 
--- the line of a refused command
+-- the line of a refused command (our own choice)
 unfoldable pub refused_text : Refused → List ℕ
 refused_text refused = codes "refused " ++ decimal (number_of refused) ++ detail refused ++ codes "\n"
 
--- what lines of a script print and make of the base, and whether one was refused
+-- what lines of a script print and make of the base, and whether one was refused (our own choice)
 pub record Outcome : Type 0 where
   pub text : List ℕ
   pub base : Base
   pub refused : Bool
 
--- an edit prints its word and its value, or its refusal, which keeps the base
+-- an edit prints its word and its value, or its refusal, which keeps the base (our own choice)
 abbrev pub edit_outcome : Base → List ℕ → Result (Base × ℕ) Refused → Outcome
 edit_outcome base word (Ok done) = record { text = word ++ decimal done.1 ++ codes "\n"; base = done.0; refused = false }
 edit_outcome base word (Err refused) = record { text = refused_text refused; base = base; refused = true }
 
--- an answer prints its text, or its refusal
+-- an answer prints its text, or its refusal (our own choice)
 abbrev pub answer_outcome : Base → Result (List ℕ) Refused → Outcome
 answer_outcome base (Ok text) = record { text = text; base = base; refused = false }
 answer_outcome base (Err refused) = record { text = refused_text refused; base = base; refused = true }
 
--- what a command does
+-- what a command does (our own choice)
 unfoldable pub outcome : List (List ℕ) → Base → Asked → Outcome
 outcome files base Nothing = record { text = []; base = base; refused = false }
 outcome files base (Load n) = edit_outcome base (codes "loaded ") (after_load_file files base n)
@@ -111,7 +111,7 @@ outcome files base (Attach name text) = edit_outcome base (codes "attached ") (a
 outcome files base (Hist id) = answer_outcome base (hist_text base id)
 outcome files base NoForm = record { text = refused_text BadCommand; base = base; refused = true }
 
--- what lines of a script do, one after the other, from a base on
+-- what lines of a script do, one after the other, from a base on (our own choice)
 unfoldable pub output_from : List (List ℕ) → Base → List (List ℕ) → Outcome
 output_from files base [] = record { text = []; base = base; refused = false }
 output_from files base (line ∷ lines) =
@@ -119,10 +119,10 @@ output_from files base (line ∷ lines) =
     let rest = output_from files first.base lines in
     record { text = first.text ++ rest.text; base = rest.base; refused = first.refused || rest.refused }
 
--- what the first lines of a script do
+-- what the first lines of a script do (our own choice)
 abbrev pub output_of_lines : List (List ℕ) → List (List ℕ) → Outcome
 output_of_lines files lines = output_from files empty_base lines
 
--- what a script does, with the trace files that it may load
+-- what a script does, with the trace files that it may load (our own choice)
 abbrev pub output : List (List ℕ) → List ℕ → Outcome
 output files script = output_of_lines files (lines_of script)

@@ -7,48 +7,48 @@ use Rattle.ft_desk.specs.declared.words.Words.{Words}
 use Rattle.ft_desk.specs.declared.words.WordsFault.{WordsFault}
 use Rattle.ft_desk.specs.declared.words.WordsFault.TheVariants.{Memory, Refused}
 
--- the script's path, none for standard input, and the traces' paths
+-- the script's path, none for standard input, and the traces' paths (our own choice)
 pub record Named : Type 0 where
   pub script : Option (List ℕ)
   pub traces : List (List ℕ)
 
--- a word that begins with `-` and has a further character
+-- a word that begins with `-` and has a further character (our own choice)
 abbrev pub is_option : List ℕ → Bool
 is_option [] = false
 is_option (byte ∷ rest) = byte == 45 && is_some (slice_get (chars rest) 0)
 
--- the words without the first `--`, before which none may be an option
+-- the words without the first `--`, before which none may be an option (our own choice)
 abbrev pub paths_in : List (List ℕ) → Option (List (List ℕ))
 paths_in [] = Some []
 paths_in (word ∷ words) =
     if bytes_eq word (codes "--") then Some words
     else (if is_option word then None else option_map (λ paths. word ∷ paths) (paths_in words))
 
--- the path of a script; `-` is standard input
+-- the path of a script; `-` is standard input (our own choice)
 abbrev pub script_at : List ℕ → Option (List ℕ)
 script_at path = if bytes_eq path (codes "-") then None else Some path
 
--- the script, and then the traces; no path is standard input
+-- the script, and then the traces; no path is standard input (our own choice)
 abbrev pub named_by : List (List ℕ) → Named
 named_by [] = record { script = None; traces = [] }
 named_by (script ∷ traces) = record { script = script_at script; traces = traces }
 
--- what the program's words name, of which the first is its own name; none where one is refused
+-- what the program's words name, of which the first is its own name; none where one is refused (our own choice)
 abbrev pub named_in : List (List ℕ) → Option Named
 named_in args = option_map named_by (paths_in (drop 1 args))
 
--- what words as read name
+-- what words as read name (our own choice)
 abbrev pub shown : Words → Named
 shown words = record { script = option_map (λ path. path.now) words.script; traces = map (λ path. path.now) words.traces.items }
 
--- what the parser of command lines found under the two names
+-- what the parser of command lines found under the two names (our own choice)
 abbrev pub found_by : ArgMatches → Named
 found_by matches = record {
   script = option_and_then script_at (first_value (found_of matches) (codes "SCRIPT"));
   traces = unwrap_or (option_map raw_values (matched_of (found_of matches) (codes "TRACE"))) [];
 }
 
--- the words are read as they name, or refused where they name nothing
+-- the words are read as they name, or refused where they name nothing (our own choice)
 abbrev pub WordsGive : Option Named → Result Words WordsFault → Type 0
 WordsGive named (Ok words) = named ≡ Some (shown words)
 WordsGive named (Err Refused) = named ≡ None

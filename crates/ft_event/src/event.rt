@@ -32,7 +32,7 @@ pub enum Field {
     /// The CPU that the task is woken on.
     TargetCpu,
     /// The woken task's name.
-    WokenComm,
+    Comm,
     /// The PID of the task that is switched from.
     PrevPid,
     /// Its priority.
