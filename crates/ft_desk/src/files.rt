@@ -1,8 +1,11 @@
 //! Trace files, read whole.
 
-ghost use Rattle.std.specs.Prelude.{◌≡◌, ◌≤◌, ◌<◌, length, IfOk};
+ghost use Rattle.std.specs.Prelude.{◌≡◌, ◌≢◌, ◌+◌, ◌≤◌, ◌<◌, length, IfOk, IsOk};
+ghost use Rattle.std.specs.IoError.{error_kind};
 ghost use Rattle.std.specs.Io.KnownBytes.{IsAtEnd};
 ghost use Rattle.ft_desk.specs.Files.{GivesTo, ReadsWhole, file_limit};
+ghost use Rattle.ft_desk.specs.declared.files.FileFault.TheVariants.{Memory, Unreadable};
+ghost use Rattle.std.specs.declared.io.ErrorKind.TheVariants.{OutOfMemory};
 
 use std::alloc::{AllocError, Global};
 use std::fs::OpenFile;
@@ -34,12 +37,17 @@ pub enum FileFault {
 }
 
 impl From<AllocError> for FileFault {
+    ghost from_gives = { λ _ fault. fault ≡ Memory };
+
     fn from(_error: AllocError) -> FileFault {
         FileFault::Memory
     }
 }
 
 impl From<io::Error> for FileFault {
+    ghost from_gives = { λ error fault. (error_kind error ≡ OutOfMemory → fault ≡ Memory)
+        × (error_kind error ≢ OutOfMemory → fault ≡ Unreadable) };
+
     fn from(error: io::Error) -> FileFault {
         match error.kind() {
             ErrorKind::OutOfMemory => FileFault::Memory,
@@ -74,7 +82,8 @@ pub fn read_whole<R: Read>(alloc: Global, size: u64, file: &mut R) -> Result<Vec
 
 /// The room that a file of this size wants, if it is within the limit.
 fn room_for(size: u64) -> Result<usize, FileFault>
-    ensures { IfOk result (λ room. room ≡ size) }
+    ensures room { IfOk result (λ room. room ≡ size) }
+    ensures within { size ≤ file_limit → IsOk result }
 {
     match usize::try_from(size) {
         Ok(room) if room <= FILE_LIMIT => Ok(room),
@@ -100,6 +109,7 @@ fn read_piece<R: Read>(
     ensures same_piece { length piece.new ≡ length piece.old }
     ensures gives { IfOk result (λ n. GivesTo (R.remaining file.old) (R.remaining file.new) bytes.old.items bytes.new.items) }
     ensures end { IfOk result (λ n. n ≡ 0 → IsAtEnd (R.remaining file.new)) }
+    ensures count { IfOk result (λ n. length bytes.new.items ≡ length bytes.old.items + n) }
     ensures limit { IfOk result (λ n. length bytes.new.items ≤ file_limit) }
 {
     let count = file.read(piece)?;

@@ -2,7 +2,8 @@
 
 ghost use Rattle.std.specs.Prelude.{◌≡◌, ◌≤◌, length, IfOk};
 ghost use Rattle.ft_board.specs.Base.{empty_base};
-ghost use Rattle.ft_desk.specs.Program.{exit_status_of};
+ghost use Rattle.ft_desk.specs.Program.{exit_status_of, told_of_words, told_of_run, told_of_file};
+ghost use Rattle.ft_desk.specs.declared.program.Fault.TheVariants.{Memory};
 
 use crate::files::{FileFault, read_file};
 use crate::running::{RunFault, Status, run};
@@ -38,18 +39,24 @@ pub enum Fault<'a> {
 }
 
 impl<'a> From<AllocError> for Fault<'a> {
+    ghost from_gives = { λ _ fault. fault ≡ Memory };
+
     fn from(_error: AllocError) -> Fault<'a> {
         Fault::Memory
     }
 }
 
 impl<'a, T: Drop> From<AllocFailed<T>> for Fault<'a> {
+    ghost from_gives = { λ _ fault. fault ≡ Memory };
+
     fn from(_error: AllocFailed<T>) -> Fault<'a> {
         Fault::Memory
     }
 }
 
 impl<'a> From<WordsFault> for Fault<'a> {
+    ghost from_gives = { λ fault told. told ≡ told_of_words fault };
+
     fn from(fault: WordsFault) -> Fault<'a> {
         match fault {
             WordsFault::Memory => Fault::Memory,
@@ -59,6 +66,8 @@ impl<'a> From<WordsFault> for Fault<'a> {
 }
 
 impl<'a> From<RunFault> for Fault<'a> {
+    ghost from_gives = { λ fault told. told ≡ told_of_run fault };
+
     fn from(fault: RunFault) -> Fault<'a> {
         match fault {
             RunFault::Memory => Fault::Memory,
@@ -78,7 +87,9 @@ impl<'a> Fault<'a> {
     }
 
     /// The fault of a file that has this path.
-    fn at(path: &'a str, fault: FileFault) -> Fault<'a> {
+    fn at(path: &'a str, fault: FileFault) -> Fault<'a>
+        ensures { result ≡ told_of_file path.entry fault }
+    {
         match fault {
             FileFault::Memory => Fault::Memory,
             FileFault::Unreadable => Fault::File(path),
