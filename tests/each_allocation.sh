@@ -11,7 +11,8 @@ cd -- "$here/../crates/ft_desk"
 failed=0
 for number in $(seq "${1:-1}" "${2:-40}"); do
     # Other tests fail there, as they should: they take want of memory for a fault.
-    if rt try --test --fail-alloc "$number" 2>&1 | grep -q "^test $test ... ok"; then
+    told=$(rt try --test --fail-alloc "$number" 2>&1 || true)
+    if [[ $told == *"test $test ... ok"* ]]; then
         echo "allocation $number refused: ok"
     else
         echo "allocation $number refused: FAILED"
