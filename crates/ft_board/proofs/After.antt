@@ -9,7 +9,7 @@ use Rattle.ft_board.specs.declared.trigger.Trigger.{Trigger}
 use Rattle.ft_board.specs.declared.refused.Refused.{Refused}
 use Rattle.ft_board.specs.declared.refused.Refused.TheVariants.{LaneHeld, Full, TooManyTriggers}
 use Rattle.ft_board.specs.Base.{Base, number_limit, event_limit, trigger_limit, held_in}
-use Rattle.ft_board.specs.After.{after_load, after_attach, with_lanes, first_held}
+use Rattle.ft_board.specs.After.{after_load, after_attach, with_lanes, first_held, AnswerKeeps}
 use Rattle.ft_board.specs.Reachable.{HasCpu, IsReachable}
 use Rattle.ft_board.proofs.Reachable.{load-IsReachable, attach-IsReachable}
 
@@ -17,6 +17,11 @@ use Rattle.ft_board.proofs.Reachable.{load-IsReachable, attach-IsReachable}
 pub at_ok : {T E P : Type 0} (r : Result T E) → false ≡ is_err r → OnOk r P → P
 at_ok (Ok x) e h = h
 at_ok (Err y) e h = cc
+
+-- an answer of a board whose tables are never behind
+pub never-behind : {S : Type 0} (answer : Result S Refused) → AnswerKeeps false false answer
+never-behind (Ok answer) = refl
+never-behind (Err refused) = λ e. e
 
 -- the cases of a load, by the CPU that is held and by the test of the total
 abbrev loaded : Base → List Traced → Option ℕ → Bool → Result (Base × ℕ) Refused

@@ -45,9 +45,9 @@ abbrev pub kept_of : Bool → Kept
 kept_of true = Later
 kept_of false = Now
 
--- An edit did what after says: the new content and the value, or its refusal and nothing changed. Want of memory may stand in place of any answer, and changes nothing either (our own choice).
+-- An edit did what after says: the new content and the value, or its refusal and nothing changed. Want of memory may stand in place of any answer, and changes nothing either. No edit brings tables that are behind up to date (our own choice).
 abbrev pub EditGives : {T : Type 0} → Result (Base × T) Refused → Base → Base → Bool → Bool → Result (Done T) Refused → Type 0
-EditGives after old new behind_old behind_new (Ok done) = (after ≡ Ok (new, done.value)) × (done.kept ≡ kept_of behind_new)
+EditGives after old new behind_old behind_new (Ok done) = (after ≡ Ok (new, done.value)) × (done.kept ≡ kept_of behind_new) × (behind_old ≡ true → behind_new ≡ true)
 EditGives after old new behind_old behind_new (Err refused) = (new ≡ old) × (behind_new ≡ behind_old) × ((refused ≡ Memory) ⊎ (after ≡ Err refused))
 
 -- An answer is the one expected, as view sees it, unless memory ran out (our own choice).
@@ -55,6 +55,11 @@ abbrev pub AnswerIs : {S T : Type 0} → (S → T) → Result T Refused → Resu
 AnswerIs view expected (Ok answer) = expected ≡ Ok (view answer)
 AnswerIs view expected (Err refused) = (refused ≡ Memory) ⊎ (expected ≡ Err refused)
 
--- An answer is the one expected, and the content stays (our own choice).
-abbrev pub AnswersFrom : {S T : Type 0} → (S → T) → Result T Refused → Base → Base → Result S Refused → Type 0
-AnswersFrom view expected old new answer = (new ≡ old) × AnswerIs view expected answer
+-- After an accepted answer the tables are not behind, and none makes them so (our own choice).
+abbrev pub AnswerKeeps : {S : Type 0} → Bool → Bool → Result S Refused → Type 0
+AnswerKeeps behind_old behind_new (Ok answer) = behind_new ≡ false
+AnswerKeeps behind_old behind_new (Err refused) = behind_new ≡ true → behind_old ≡ true
+
+-- An answer is the one expected, the content stays, and the tables are not further behind (our own choice).
+abbrev pub AnswersFrom : {S T : Type 0} → (S → T) → Result T Refused → Base → Base → Bool → Bool → Result S Refused → Type 0
+AnswersFrom view expected old new behind_old behind_new answer = (new ≡ old) × AnswerIs view expected answer × AnswerKeeps behind_old behind_new answer

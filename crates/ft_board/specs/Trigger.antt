@@ -1,4 +1,4 @@
--- The one trigger of this stage (kernel: histogram.rst, `hist:keys=..`).
+-- The one trigger of today (kernel: histogram.rst, `hist:keys=..`).
 use Rattle.std.specs.Prelude.{ℕ, List, Option, Some, None, Result, Ok, Err, codes, if◌then◌else◌}
 use Rattle.std.specs.Str.{bytes_eq}
 use Rattle.std.specs.declared.cmp.Ordering.{Ordering}
@@ -13,9 +13,10 @@ use Rattle.ft_board.specs.declared.trigger.TriggerFault.{TriggerFault}
 use Rattle.ft_board.specs.declared.trigger.TriggerFault.TheVariants.{Syntax}
 use Rattle.ft_board.specs.declared.trigger.Key.{Key}
 
--- what a trigger's text says: `hist:keys=pid`, and no other text is one (our own choice for this stage)
+-- what a trigger's text says on an event: `hist:keys=pid` on `sched_waking`, and no other is a trigger (our own choice for now)
 unfoldable pub trigger_of : Name → List ℕ → Result Trigger TriggerFault
-trigger_of event text = if bytes_eq text (codes "hist:keys=pid") then Ok (record { event = event }) else Err (Syntax 0)
+trigger_of names.Waking text = if bytes_eq text (codes "hist:keys=pid") then Ok (record { event = names.Waking }) else Err (Syntax 0)
+trigger_of _ text = Err (Syntax 0)
 
 -- the trigger's text, with what it leaves to defaults (our own choice)
 unfoldable pub canonical : Trigger → List ℕ

@@ -34,7 +34,7 @@ pub trait Board: Drop {
     /// The text of a trigger's table. Refused where no trigger has the id, or for memory.
     fn hist(&mut self, id: u32) -> Result<Vec<u8>, Refused>
         ensures { AnswersFrom (λ text. text.items) (hist_text (content self.old) id)
-            (content self.old) (content self.new) result };
+            (content self.old) (content self.new) (deferred self.old) (deferred self.new) result };
 
     /// Whether the kept tables are behind: then the next answer rebuilds them.
     fn is_deferred(&self) -> bool

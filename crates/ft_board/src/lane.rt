@@ -12,7 +12,7 @@ use std::marker::Model;
 
 /// One CPU's events by line number, and the next number.
 #[derive(Drop)]
-pub struct Lane {
+pub(crate) struct Lane {
     events: BTreeMap<u32, Event>,
     next: u64,
 }

@@ -17,12 +17,11 @@ mod tally;
 mod trigger;
 
 pub use board::Board;
-pub use lane::Lane;
 pub use laws::reachable_bases;
 pub use order::merged_order;
 pub use plain::PlainBoard;
 pub use refused::{Done, Kept, Place, Refused};
-pub use trigger::{Key, Trigger, TriggerFault};
+pub use trigger::{Key, Trigger, TriggerFault, one_key_order};
 
 #[cfg(test)]
 mod tests;

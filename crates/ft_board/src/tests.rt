@@ -1,6 +1,7 @@
 ghost use Rattle.std.specs.Prelude.{◌≤◌};
 
 use super::*;
+use crate::lane::Lane;
 use ft_event::{Body, Comm, Event, Name, Wake};
 use std::alloc::Global;
 use std::test::Fail;
@@ -57,7 +58,7 @@ fn load_two(alloc: Global, board: &mut PlainBoard, first: u16, second: u16) -> R
     Ok(board.load(events)?.value)
 }
 
-/// Attaches the trigger of this stage: its id.
+/// Attaches the trigger of today: its id.
 fn attach(board: &mut PlainBoard) -> Result<u32, Refused> {
     match Trigger::parse(Name::Waking, b"hist:keys=pid") {
         Ok(trigger) => Ok(board.attach(trigger)?.value),
@@ -137,5 +138,6 @@ fn lines_of_a_lane(rt: HostRuntime) -> Result<(), Fail> {
     lane.push(waking(7, 1)?)?;
     assert_eq!(rt; lane.len(), 2);
     reachable_bases();
+    one_key_order();
     Ok(())
 }

@@ -1,9 +1,9 @@
-//! The one trigger of this stage, `hist:keys=pid` on `sched_waking`.
+//! The one trigger of today, `hist:keys=pid` on `sched_waking`.
 //!
 //! It stands here until the trigger language has a crate of its own.
 
 ghost use Rattle.std.specs.Prelude.{◌≡◌, ℕ, codes, Some, length, option_map, OnOk, OnErr, ◌++◌};
-ghost use Rattle.ft_board.specs.Trigger.{trigger_of, canonical, hit, size_of};
+ghost use Rattle.ft_board.specs.Trigger.{trigger_of, canonical, hit, size_of, key_cmp};
 ghost use Rattle.ft_board.specs.TriggerFault.{number_of, place_of};
 
 use ft_event::{Body, Event, Name};
@@ -53,15 +53,14 @@ impl TriggerFault {
 }
 
 impl Trigger {
-    /// Reads a trigger's text, for an event.
+    /// Reads a trigger's text, for an event: `sched_waking` alone has one.
     #[tactic(auto, unfolding(crate::specs::Trigger::trigger_of))]
     pub fn parse(event: Name, text: &[u8]) -> Result<Trigger, TriggerFault>
         ensures { result ≡ trigger_of event text.now }
     {
-        if text == TEXT {
-            Ok(Trigger { event })
-        } else {
-            Err(TriggerFault::Syntax(0))
+        match event {
+            Name::Waking => waking_trigger(text),
+            _ => Err(TriggerFault::Syntax(0)),
         }
     }
 
@@ -98,3 +97,22 @@ impl Trigger {
         text.extend_from_slice(b"hist:keys=pid:vals=hitcount:sort=hitcount:size=2048")
     }
 }
+
+/// Reads the text of a trigger on `sched_waking`.
+#[tactic(auto, unfolding(crate::specs::Trigger::trigger_of))]
+fn waking_trigger(text: &[u8]) -> Result<Trigger, TriggerFault>
+    ensures { result ≡ trigger_of Name.Waking text.now }
+{
+    if text == TEXT {
+        Ok(Trigger {
+            event: Name::Waking,
+        })
+    } else {
+        Err(TriggerFault::Syntax(0))
+    }
+}
+
+/// A law: keys are ordered by their PIDs, as signed numbers.
+pub fn one_key_order()
+    ensures { (a b : Key) → ⟦<Key as Ord>⟧.cmp a b ≡ key_cmp a b }
+{}

@@ -2,13 +2,11 @@
 use Rattle.std.proofs.Common.{◌≡◌, ℕ, List, Ok, Err, refl, ap, ◌∙◌}
 use Rattle.ft_event.specs.Traced.{Traced}
 use Rattle.ft_event.specs.declared.event.Name.{Name}
-use Rattle.ft_event.specs.declared.event.Name.TheVariants.{Waking, Wakeup, WakeupNew, Switch, Other}
 use Rattle.ft_board.specs.declared.refused.Refused.{Refused}
 use Rattle.ft_board.specs.declared.trigger.Trigger.{Trigger}
 use Rattle.ft_board.specs.Base.{Base}
 use Rattle.ft_board.specs.After.{after_load, after_attach}
-use Rattle.ft_desk.specs.Output.{events_of, after_load_text, after_attach_text, ◌>>=◌}
-use Rattle.ft_desk.specs.Reading.{trigger_for}
+use Rattle.ft_desk.specs.Output.{events_of, after_load_text, trigger_for, after_attach_text, ◌>>=◌}
 
 -- a text whose lines can be read is loaded as its events
 pub load-events : (base : Base) (text : List ℕ) (events : List Traced) → events_of text ≡ Ok events → after_load_text base text ≡ after_load base events
@@ -23,11 +21,7 @@ load-refused base text refused e = ap (λ read. read >>= after_load base) e
 -- attaching a text is attaching its trigger
 attach-text : (base : Base) (event : Name) (text : List ℕ) → after_attach_text base event text ≡ (trigger_for event text >>= after_attach base)
 unfolding after_attach_text
-attach-text base Waking text = refl
-attach-text base Wakeup text = refl
-attach-text base WakeupNew text = refl
-attach-text base Switch text = refl
-attach-text base Other text = refl
+attach-text base event text = refl
 
 -- a trigger's text that can be read
 pub attach-trigger : (base : Base) (event : Name) (text : List ℕ) (trigger : Trigger) → trigger_for event text ≡ Ok trigger → after_attach_text base event text ≡ after_attach base trigger

@@ -1,5 +1,5 @@
 -- How the endings of a run follow from what it has done.
-use Rattle.std.proofs.Common.{◌≡◌, ◌≢◌, ℕ, ◌<◌, Bool, List, [], ◌∷◌, ◌++◌, Option, None, Some, Ok, Err, IfSome, length, take, drop, refl, sym, ap, subst, ◌∙◌, append_assoc, length-append, arith}
+use Rattle.std.proofs.Common.{◌≡◌, ◌≢◌, ℕ, ◌<◌, Bool, List, [], ◌∷◌, ◌++◌, Option, None, Some, Ok, Err, IfSome, length, take, drop, refl, sym, ap, subst, ◌∙◌, append_assoc, append-nil, length-append, arith}
 use Rattle.std.specs.Prelude.{◌||◌}
 use Rattle.std.specs.Io.{StartsWith}
 use Rattle.std.specs.Io.KnownBytes.{Keeps, Appends}
@@ -48,6 +48,10 @@ front_at files script read piece front next base held begins =
     ∙ ap (λ t. done.text ++ t) (append_assoc front behind later)
     ∙ sym (append_assoc done.text front (behind ++ later)))
 
+-- a script of which nothing is left was read whole
+all_read : (script rest : List ℕ) → rest ≡ [] → script ≡ script ++ rest
+all_read script rest none = sym (append-nil script) ∙ ap (λ l. script ++ l) (sym none)
+
 module _ (files : List (List ℕ)) where
   -- a reader that failed
   pub read_fails : (reader left rest before after : Option (List ℕ)) (base : Base) (refused : Bool) (piece : List ℕ)
@@ -69,7 +73,7 @@ module _ (files : List (List ℕ)) where
       → RunEnds files (Err faults.Write) reader rest before later
   flush_fails status None rest before after later ends kept = tt
   flush_fails status (Some script) rest before after later ends kept =
-      ((output files script).text, Appends-kept before after later (output files script).text ends.1 kept, starts_with_of_eq _ _ refl)
+      ((output files script).text, Appends-kept before after later (output files script).text ends.2 kept, starts_with_of_eq _ _ refl)
 
   module _ (base : Base) (refused : Bool) (piece next : List ℕ) where
     -- the line that a turn ended is the next one
@@ -128,6 +132,7 @@ module _ (files : List (List ℕ)) where
     ends (Some script) (Some bytes) None before after p turn none = absurd turn.0
     ends (Some script) (Some bytes) (Some further) before after p turn none =
         let lines = whole_lines script p.read (p.consumed ∙ ap (λ l. p.read ++ l) turn.1) (kept-none (last_piece p.read) next (turn.2 ∙ p.kept) none) in (
+          all_read script further (turn.0 ∙ turn.1),
           turn.0 ∙ turn.1,
           rw lines p.written,
           rw lines (ap status_of p.told),
@@ -148,6 +153,7 @@ module _ (files : List (List ℕ)) where
         let done = output_of_lines files (ended_lines p.read) in
         let does = outcome files done.base (asked_by line) in
         let same = ap (λ b. outcome files b (asked_by next)) p.held ∙ ap (outcome files done.base) (ap asked_by kept ∙ asked_by-kept line) in (
+          all_read script further (turn.0 ∙ turn.1),
           turn.0 ∙ turn.1,
           rw (lines, pushed.0) (Appends-trans before after later _ does.text p.written (subst (λ o. Appends after later o.text) same gives.2)),
           ap status_of (ap (λ t. refused || t) gives.0 ∙ ap (λ o. refused || o.refused) same ∙ ap (λ r. r || does.refused) p.told ∙ sym pushed.2 ∙ ap (λ l. (output_of_lines files l).refused) (sym lines)),

@@ -50,9 +50,9 @@ answer-text view base expected (Err refused) is kept =
     ]
 
 -- an answer
-pub answer_shows : {S : Type 0} (view : S → List ℕ) (old new : Base) (wanted : Result (List ℕ) Refused) (answer : Result S Refused) (result : Result Performed AllocError) (expected : Outcome) → AnswersFrom view wanted old new answer → expected ≡ answer_outcome old wanted → IfOk result (λ done. done.text.items ≡ printed view answer) → IfOk result (λ done. done.refused ≡ is_err answer) → OnOk result (answer ≢ Err Memory) → Shows result new expected
-answer_shows view old new wanted answer (Err lack) expected gives so text refused memory = record { text = tt; refused = tt; base = tt }
-answer_shows view old new wanted answer (Ok done) expected gives so text refused memory =
+pub answer_shows : {S : Type 0} (view : S → List ℕ) (old new : Base) (wanted : Result (List ℕ) Refused) (behind_old behind_new : Bool) (answer : Result S Refused) (result : Result Performed AllocError) (expected : Outcome) → AnswersFrom view wanted old new behind_old behind_new answer → expected ≡ answer_outcome old wanted → IfOk result (λ done. done.text.items ≡ printed view answer) → IfOk result (λ done. done.refused ≡ is_err answer) → OnOk result (answer ≢ Err Memory) → Shows result new expected
+answer_shows view old new wanted behind_old behind_new answer (Err lack) expected gives so text refused memory = record { text = tt; refused = tt; base = tt }
+answer_shows view old new wanted behind_old behind_new answer (Ok done) expected gives so text refused memory =
     let same = answer-text view old wanted answer gives.1 memory in
     record {
       text = text ∙ same.0 ∙ ap (λ o. o.text) (sym so);

@@ -53,10 +53,14 @@ abbrev pub trigger_or_refused : Result Trigger TriggerFault → Result Trigger R
 trigger_or_refused (Ok trigger) = Ok trigger
 trigger_or_refused (Err fault) = Err (BadTrigger fault)
 
--- attaching a trigger's text to an event: `sched_waking` alone for this stage (our own choice)
+-- a trigger's text on an event: `sched_waking` alone for now (our own choice)
+abbrev pub trigger_for : Name → List ℕ → Result Trigger Refused
+trigger_for names.Waking text = trigger_or_refused (trigger_of names.Waking text)
+trigger_for _ text = Err BadCommand
+
+-- attaching a trigger's text to an event (our own choice)
 unfoldable pub after_attach_text : Base → Name → List ℕ → Result (Base × ℕ) Refused
-after_attach_text base names.Waking text = trigger_or_refused (trigger_of names.Waking text) >>= after_attach base
-after_attach_text base _ text = Err BadCommand
+after_attach_text base name text = trigger_for name text >>= after_attach base
 
 -- the Nth file, from 1 (our own choice)
 abbrev pub file_at : List (List ℕ) → ℕ → Option (List ℕ)

@@ -16,7 +16,7 @@ status_of false = AllAccepted
 
 -- what was read and written, by how the run ended: the whole output; that of the lines before one that found no memory; that of the lines that were read to their end; a beginning of the output (our own choice)
 abbrev pub RunEnds : List (List ℕ) → Result Status RunFault → Option (List ℕ) → Option (List ℕ) → Option (List ℕ) → Option (List ℕ) → Type 0
-RunEnds files (Ok status) reader rest before after = IfSome reader (λ script. IsAtEnd rest × Appends before after (output files script).text × (status ≡ status_of (output files script).refused))
+RunEnds files (Ok status) reader rest before after = IfSome reader (λ script. Consumes reader rest script × IsAtEnd rest × Appends before after (output files script).text × (status ≡ status_of (output files script).refused))
 RunEnds files (Err faults.Memory) reader rest before after = IfSome reader (λ script. (n : ℕ) × (n < length (lines_of script)) × Appends before after (output_of_lines files (take n (lines_of script))).text)
 RunEnds files (Err faults.Read) reader rest before after = IfSome reader (λ script. (read : List ℕ) × Consumes reader rest read × Appends before after (output_of_lines files (ended_lines read)).text)
 RunEnds files (Err faults.Write) reader rest before after = IfSome reader (λ script. (written : List ℕ) × Appends before after written × StartsWith (output files script).text written)

@@ -1,7 +1,7 @@
 //! The desk over a board.
 
 ghost use Rattle.std.specs.Prelude.{◌≡◌};
-ghost use Rattle.ft_desk.specs.Reading.{trigger_for};
+ghost use Rattle.ft_desk.specs.Output.{trigger_for};
 
 use crate::events::events_in;
 use ft_board::{Board, Done, Refused, Trigger};
@@ -64,7 +64,8 @@ impl<B: Board> Desk<B> {
 
     /// The text of a trigger's table. Refused where no trigger has the id, or for memory.
     pub fn hist(&mut self, id: u32) -> Result<Vec<u8>, Refused>
-        ensures { AnswersFrom (λ text. text.items) (hist_text self.old.base id) self.old.base self.new.base result }
+        ensures { AnswersFrom (λ text. text.items) (hist_text self.old.base id) self.old.base self.new.base
+            self.old.deferred self.new.deferred result }
     {
         self.board.hist(id)
     }
@@ -77,7 +78,7 @@ impl<B: Board> Desk<B> {
     }
 }
 
-/// Reads the text of a trigger on an event: on `sched_waking` alone for this stage.
+/// Reads the text of a trigger on an event: on `sched_waking` alone for now.
 fn read_trigger(event: Name, text: &[u8]) -> Result<Trigger, Refused>
     ensures { result ≡ trigger_for event text.now }
 {

@@ -1,6 +1,6 @@
 //! Trace files, read whole.
 
-ghost use Rattle.std.specs.Prelude.{◌≡◌, ◌≢◌, ◌+◌, ◌≤◌, ◌<◌, length, IfOk, IsOk};
+ghost use Rattle.std.specs.Prelude.{◌≡◌, ◌≢◌, ◌+◌, ◌≤◌, ◌<◌, length, Err, IfOk, IsOk};
 ghost use Rattle.std.specs.IoError.{error_kind};
 ghost use Rattle.std.specs.Io.KnownBytes.{IsAtEnd};
 ghost use Rattle.ft_desk.specs.Files.{GivesTo, ReadsWhole, file_limit};
@@ -57,7 +57,9 @@ impl From<io::Error> for FileFault {
 }
 
 /// Reads the file at a path, whole.
-pub fn read_file<F: Files>(alloc: Global, files: &F, path: &str) -> Result<Vec<u8>, FileFault> {
+pub fn read_file<F: Files>(alloc: Global, files: &F, path: &str) -> Result<Vec<u8>, FileFault>
+    ensures { IfOk result (λ bytes. length bytes.items ≤ file_limit) }
+{
     let mut file = fs::open(files, path)?;
     let size = match file.metadata() {
         Ok(metadata) => metadata.len(),
@@ -66,9 +68,11 @@ pub fn read_file<F: Files>(alloc: Global, files: &F, path: &str) -> Result<Vec<u
     read_whole(alloc, size, &mut file)
 }
 
-/// Reads to the reader's end. Room is made first for `size` bytes, which is a guess.
+/// Reads to the reader's end. Room is made first for `size` bytes, which is a guess; but a size past
+/// the limit is refused before anything is read.
 pub fn read_whole<R: Read>(alloc: Global, size: u64, file: &mut R) -> Result<Vec<u8>, FileFault>
-    ensures { IfOk result (λ bytes. ReadsWhole (R.remaining file.old) (R.remaining file.new) bytes.items) }
+    ensures whole { IfOk result (λ bytes. ReadsWhole (R.remaining file.old) (R.remaining file.new) bytes.items) }
+    ensures past { file_limit < size → result ≡ Err Unreadable }
 {
     let mut bytes = Vec::with_capacity(alloc, room_for(size)?)?;
     let mut piece = zeros(alloc, PIECE)?;
@@ -84,6 +88,7 @@ pub fn read_whole<R: Read>(alloc: Global, size: u64, file: &mut R) -> Result<Vec
 fn room_for(size: u64) -> Result<usize, FileFault>
     ensures room { IfOk result (λ room. room ≡ size) }
     ensures within { size ≤ file_limit → IsOk result }
+    ensures past { file_limit < size → result ≡ Err Unreadable }
 {
     match usize::try_from(size) {
         Ok(room) if room <= FILE_LIMIT => Ok(room),

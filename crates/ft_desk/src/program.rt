@@ -10,12 +10,12 @@ use crate::running::{RunFault, Status, run};
 use crate::words::{WordsFault, read_words};
 use ft_board::Board;
 use std::alloc::{AllocError, AllocFailed, Global};
-use std::io::{BufReader, BufWriter, ErrorKind, Read};
+use std::io::{BufReader, ErrorKind, Read};
 use std::rt::{Env, Files};
 use std::{env, fs, io};
 use thiserror::Error;
 
-/// How many bytes the script is read in, and how many are written at once.
+/// How many bytes of the script are read at once.
 const BUFFER: usize = 65_536;
 
 /// Why the program ended before its script did.
@@ -184,11 +184,10 @@ where
 {
     let alloc = rt.alloc();
     let mut script = BufReader::with_capacity(alloc, BUFFER, script).map_err(|_| Fault::Memory)?;
-    let mut out = BufWriter::with_capacity(alloc, BUFFER, io::writer(rt)).map_err(
-        |_| Fault::Memory,
-    )?;
-    let ended = run(alloc, board, traces, &mut script, &mut out);
-    // A drop would try to write once more what a failed write left.
-    let _unwritten = out.into_parts();
-    Ok(ended?)
+    // A command's output is written at once, so that who types a script sees it.
+    let mut out = io::writer(rt);
+    Ok(run(alloc, board, traces, &mut script, &mut out)?)
 }
+
+#[cfg(test)]
+mod tests;

@@ -14,7 +14,7 @@ pub enum Line {
 /// The first thing that is wrong with a line, from left to right.
 #[derive(Clone, Copy, Debug, PartialEq, Eq)]
 pub enum LineFault {
-    /// No `TASK-PID [CPU]` begins the line, or a line break stands in it.
+    /// No `TASK-PID [CPU]` begins the line, its first byte is `#`, or a line break stands in it.
     NoTask,
     /// The CPU is above 8,191.
     BadCpu,

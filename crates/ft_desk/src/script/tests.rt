@@ -1,4 +1,4 @@
-//! Lines of a script, and what they ask for. No clause says which lines have a form.
+//! Lines of a script, and what they ask for.
 
 use super::{Command, LINE_LIMIT, read_command};
 use ft_event::Name;

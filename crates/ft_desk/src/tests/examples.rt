@@ -66,7 +66,17 @@ fn printed_by(bytes: usize) -> usize {
 
 #[test]
 fn two_wakings(rt: HostRuntime) -> Result<(), Fail> {
-    for step in [1, 7, 4096] {
+    let mut out = Sink::new(rt.alloc(), 4096);
+    let ended = ran(rt.alloc(), &mut Source::new(SCRIPT, 4096), &mut out)?;
+    assert!(rt; matches!(ended, Ok(Status::AllAccepted)));
+    assert_eq!(rt; out.bytes.as_slice(), PRINTED);
+    assert_eq!(rt; out.flushes, 1);
+    Ok(())
+}
+
+#[test]
+fn two_wakings_by_pieces(rt: HostRuntime) -> Result<(), Fail> {
+    for step in [1, 7, 100] {
         let mut out = Sink::new(rt.alloc(), step);
         let ended = ran(rt.alloc(), &mut Source::new(SCRIPT, step), &mut out)?;
         assert!(rt; matches!(ended, Ok(Status::AllAccepted)));

@@ -1,4 +1,4 @@
-//! The lines that commands print. No clause says their wording.
+//! The lines that commands print.
 
 use super::{done_line, refused_line};
 use ft_board::{Refused, TriggerFault};

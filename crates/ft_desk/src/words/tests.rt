@@ -1,4 +1,4 @@
-//! What lists of words name. No clause says it.
+//! What lists of words name.
 
 use super::{WordsFault, read_words};
 

@@ -41,7 +41,7 @@ returns-in-Hist g c =
     let files = map (λ f. f.items) c.args.files.now in
     let old = c.args.desk.now in
     let so = hist_outcome files old.base c.in-Hist.id (asked_by c.args.line.now) c.in-Hist.ensures in
-    let shows = answer_shows (λ text. text.items) old.base c.hist.new.self.base (hist_text old.base c.in-Hist.id) c.hist.result c.answered.result (outcome files old.base (asked_by c.args.line.now)) c.hist.ensures so c.answered.ensures.text c.answered.ensures.refused c.answered.ensures.memory in
+    let shows = answer_shows (λ text. text.items) old.base c.hist.new.self.base (hist_text old.base c.in-Hist.id) old.deferred c.hist.new.self.deferred c.hist.result c.answered.result (outcome files old.base (asked_by c.args.line.now)) c.hist.ensures so c.answered.ensures.text c.answered.ensures.refused c.answered.ensures.memory in
     record { text = shows.text; refused = shows.refused; base = shows.base }
 
 pub returns-in-NoForm : goal.returns-in-NoForm

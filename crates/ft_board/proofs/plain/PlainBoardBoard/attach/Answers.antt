@@ -35,4 +35,4 @@ returns c =
     let base = the_view c.self.inside in
     let triggers : seen nat_cmp c.put_trigger.new.triggers ≡ map.insert base.triggers base.next_id c.args.trigger = at_ok c.put_trigger.result c.if-is_err.ensures.value c.put_trigger.ensures.ok in
     let few : map.len base.triggers < trigger_limit = omega (arith, c.attached.ensures) in
-    (ap (λ b. after_attach b c.args.trigger) (sym c.self.view_is) ∙ attach-ok base c.args.trigger few (omega arith) ∙ (λ i. Ok (record base { triggers = sym triggers i; next_id = base.next_id + 1 }, base.next_id)), refl)
+    (ap (λ b. after_attach b c.args.trigger) (sym c.self.view_is) ∙ attach-ok base c.args.trigger few (omega arith) ∙ (λ i. Ok (record base { triggers = sym triggers i; next_id = base.next_id + 1 }, base.next_id)), refl, λ e. e)

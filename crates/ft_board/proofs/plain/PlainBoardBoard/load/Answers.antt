@@ -52,4 +52,4 @@ returns c =
     let lanes : seen nat_cmp c.load_lanes.new.lanes ≡ with_lanes base.lanes es = at_ok c.load_lanes.result c.if-is_err.ensures.value c.load_lanes.ensures.ok ∙ ap (with_lanes base.lanes) c.deref-2.ensures.value in
     let few : held_in base.lanes + length es ≤ event_limit = omega (arith, c.self.invariant.1) in
     let count : length es ≡ c.len-count.result = omega arith in
-    (ap (λ b. after_load b es) (sym c.self.view_is) ∙ load-ok base es free few ∙ (λ i. Ok (record base { lanes = sym lanes i }, count i)), refl)
+    (ap (λ b. after_load b es) (sym c.self.view_is) ∙ load-ok base es free few ∙ (λ i. Ok (record base { lanes = sym lanes i }, count i)), refl, λ e. e)
