@@ -28,7 +28,7 @@ pub(crate) fn events_in(alloc: Global, text: &[u8]) -> Result<Vec<Event>, Refuse
     Ok(events)
 }
 
-/// Adds the event of the line of this number, if the line is not blank.
+/// Adds the event of the line of this number, if the line is not skipped.
 fn add_line(events: &mut Vec<Event>, number: u64, line: &[u8]) -> Result<(), Refused>
     ensures ok { OnOk result ((behind : Result (List Traced) Refused) →
         in_front events.old.items (with_line number (line_of line.now) behind) ≡ in_front events.new.items behind) }

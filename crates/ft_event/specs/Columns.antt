@@ -1,7 +1,7 @@
 -- How a reader finds the texts of a line's columns, from left to right (our own choice).
-use Rattle.std.specs.Prelude.{ℕ, ◌+◌, ◌*◌, ◌||◌, not, List, [], ◌∷◌, ◌++◌, length, Option, Some, None, ◌==◌, nat_lt, if◌then◌else◌, codes}
+use Rattle.std.specs.Prelude.{ℕ, ◌+◌, ◌*◌, ◌||◌, not, List, [], ◌∷◌, ◌++◌, length, Option, Some, None, ◌==◌, nat_lt, if◌then◌else◌, codes, unwrap_or}
 use Rattle.std.specs.List.{list_any}
-use Rattle.ft_event.specs.Bytes.{is_space, is_digit, is_colon}
+use Rattle.ft_event.specs.Bytes.{is_space, is_digit, is_colon, is_in_group}
 use Rattle.ft_event.specs.LineIs.{Tail, Head}
 use Rattle.ft_event.specs.Spans.{run_of, word_of, without_spaces, behind, number_of}
 use Rattle.ft_event.specs.declared.columns.Tail as declared_tail
@@ -21,12 +21,21 @@ abbrev pub ◌>>=◌ : {A B : Type 0} → Option A → (A → Option B) → Opti
 None >>= f = None
 (Some x) >>= f = f x
 
--- PID, spaces, `[`, CPU, `]`, a space, and the rest (kernel: ftrace.rst, the trace output)
+-- what stands behind GROUP and its spaces: `(`, any spaces, digits or `-`, `)`, spaces (kernel: ftrace.rst, the option record-tgid)
+unfoldable pub behind_group : List ℕ → Option (List ℕ)
+behind_group text = do
+  inner ← behind (codes "(") text
+  group ← run_of is_in_group (without_spaces inner)
+  close ← behind (codes ")") group.1
+  gap ← run_of is_space close
+  Some gap.1
+
+-- PID, spaces, perhaps GROUP, `[`, CPU, `]`, a space, and the rest (kernel: ftrace.rst, the trace output)
 unfoldable pub tail_of : List ℕ → Option Tail
 tail_of text = do
   pid ← run_of is_digit text
   gap ← run_of is_space pid.1
-  bracket ← behind (codes "[") gap.1
+  bracket ← behind (codes "[") (unwrap_or (behind_group gap.1) gap.1)
   cpu ← run_of is_digit bracket
   rest ← behind (codes "] ") cpu.1
   Some (record { pid = pid.0; cpu = cpu.0; rest = rest })

@@ -1,8 +1,8 @@
 //! The columns of a line, before the event's own text.
 
 ghost use Rattle.std.specs.Prelude.{◌≡◌, ◌≤◌, IfSome};
-ghost use Rattle.std.specs.Option.{option_map};
-ghost use Rattle.ft_event.specs.Columns.{tail_texts, head_texts, tail_of, head_of};
+ghost use Rattle.std.specs.Option.{option_map, option_copied};
+ghost use Rattle.ft_event.specs.Columns.{tail_texts, head_texts, behind_group, tail_of, head_of};
 ghost use Rattle.ft_event.specs.Columns.{stamp_word_of, micros_of, stamp_of};
 
 use crate::scan::{Class, behind, number, run, without_spaces, word};
@@ -27,13 +27,26 @@ pub(crate) struct Head<'a> {
     pub(crate) tail: Tail<'a>,
 }
 
-/// PID, spaces, `[`, CPU, `]`, a space, and the rest.
+/// What stands behind GROUP and its spaces: `(`, any spaces, digits or `-`, `)`, spaces.
+#[tactic(auto, unfolding(crate::specs::Columns::behind_group))]
+fn behind_group(text: &[u8]) -> Option<&[u8]>
+    ensures { option_copied result ≡ behind_group text.now }
+{
+    let rest = behind(b"(", text)?;
+    let (_, rest) = run(without_spaces(rest), Class::Group)?;
+    let rest = behind(b")", rest)?;
+    let (_, rest) = run(rest, Class::Space)?;
+    Some(rest)
+}
+
+/// PID, spaces, perhaps GROUP, `[`, CPU, `]`, a space, and the rest.
 #[tactic(auto, unfolding(crate::specs::Columns::tail_of))]
 fn tail_of(text: &[u8]) -> Option<Tail<'_>>
     ensures { option_map tail_texts result ≡ tail_of text.now }
 {
     let (pid, rest) = run(text, Class::Digit)?;
     let (_, rest) = run(rest, Class::Space)?;
+    let rest = behind_group(rest).unwrap_or(rest);
     let rest = behind(b"[", rest)?;
     let (cpu, rest) = run(rest, Class::Digit)?;
     let rest = behind(b"] ", rest)?;

@@ -5,14 +5,20 @@ mod columns;
 mod comm;
 mod event;
 mod fault;
+mod field;
+mod label;
 mod line;
+mod parts;
 mod pos;
 mod scan;
+mod skipped;
+mod turns;
 mod wakes;
 
 pub use comm::Comm;
-pub use event::{Body, Event, Field, Name, Turn, Value, Wake};
+pub use event::{Body, Event, Name, Turn, Wake};
 pub use fault::{Line, LineFault};
+pub use field::{Field, Value, field_named, field_text, values_of_fields};
 pub use line::{one_answer, read_line};
 pub use pos::{Pos, one_order};
 

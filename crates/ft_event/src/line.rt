@@ -2,19 +2,24 @@
 
 ghost use Rattle.std.specs.Prelude.{◌≡◌, ◌==◌, ℕ, List, Result};
 ghost use Rattle.std.specs.List.{list_any};
+ghost use Rattle.std.specs.Option.{option_copied};
 ghost use Rattle.ft_event.specs.Columns.{head_texts};
 ghost use Rattle.ft_event.specs.declared.fault.Line.{Line};
 ghost use Rattle.ft_event.specs.declared.fault.LineFault.{LineFault};
 ghost use Rattle.ft_event.specs.LineIs.{LineIs};
-ghost use Rattle.ft_event.specs.Line.{name_from, wake_from, body_from};
-ghost use Rattle.ft_event.specs.Line.{event_from, traced_from, line_of};
+ghost use Rattle.ft_event.specs.Line.{name_from, signed_from, success_from, wake_from, turn_from};
+ghost use Rattle.ft_event.specs.Line.{payload_from, body_from, event_from, traced_from, line_of};
 
 use crate::columns::{Head, head_of, stamp_of};
 use crate::comm::Comm;
-use crate::event::{Body, Event, Wake};
+use crate::event::{Body, Event, Turn, Wake};
 use crate::fault::{Line, LineFault};
-use crate::scan::{Class, behind, front_len, number, trimmed, without_spaces};
-use crate::wakes::{signed_of, wake_text_of};
+use crate::label::{Label, label_of};
+use crate::parts::signed_of;
+use crate::scan::{number, trimmed, without_spaces};
+use crate::skipped::is_skipped;
+use crate::turns::turn_text_of;
+use crate::wakes::wake_text_of;
 use memchr::memchr;
 
 /// The longest line that is read, in bytes.
@@ -31,6 +36,27 @@ fn name_from(text: &[u8]) -> Result<Comm, LineFault>
     Comm::of(text).ok_or(LineFault::NameLong)
 }
 
+/// A number that fits an `i32`.
+fn signed_from(text: &[u8]) -> Result<i32, LineFault>
+    ensures { result ≡ signed_from text.now }
+{
+    signed_of(text).ok_or(LineFault::NumberRange)
+}
+
+/// Tests the number of ` success=N`, which is not kept.
+#[tactic(auto, unfolding(crate::specs::Line::success_from))]
+fn success_from(success: Option<&[u8]>) -> Result<(), LineFault>
+    ensures { result ≡ success_from (option_copied success.entry) }
+{
+    match success {
+        Some(text) => {
+            signed_from(text)?;
+            Ok(())
+        }
+        None => Ok(()),
+    }
+}
+
 /// What the payload of a wake event says.
 #[tactic(auto, unfolding(crate::specs::Line::wake_from))]
 fn wake_from(payload: &[u8]) -> Result<Wake, LineFault>
@@ -38,8 +64,9 @@ fn wake_from(payload: &[u8]) -> Result<Wake, LineFault>
 {
     let text = wake_text_of(payload).ok_or(LineFault::BadPayload)?;
     let comm = name_from(text.comm)?;
-    let pid = signed_of(text.pid).ok_or(LineFault::NumberRange)?;
-    let prio = signed_of(text.prio).ok_or(LineFault::NumberRange)?;
+    let pid = signed_from(text.pid)?;
+    let prio = signed_from(text.prio)?;
+    success_from(text.success)?;
     let target_cpu = number(text.target_cpu, i32::MAX as u32).ok_or(LineFault::NumberRange)?;
     Ok(Wake {
         comm,
@@ -49,17 +76,44 @@ fn wake_from(payload: &[u8]) -> Result<Wake, LineFault>
     })
 }
 
+/// What the payload of a switch says.
+#[tactic(auto, unfolding(crate::specs::Line::turn_from))]
+fn turn_from(payload: &[u8]) -> Result<Turn, LineFault>
+    ensures { result ≡ turn_from payload.now }
+{
+    let text = turn_text_of(payload).ok_or(LineFault::BadPayload)?;
+    Ok(Turn {
+        prev_comm: name_from(text.prev_comm)?,
+        prev_pid: signed_from(text.prev_pid)?,
+        prev_prio: signed_from(text.prev_prio)?,
+        prev_state: name_from(text.prev_state)?,
+        next_comm: name_from(text.next_comm)?,
+        next_pid: signed_from(text.next_pid)?,
+        next_prio: signed_from(text.next_prio)?,
+    })
+}
+
+/// The event that the payload behind a label says.
+#[tactic(auto, unfolding(crate::specs::Line::payload_from))]
+fn payload_from(label: Label, payload: &[u8]) -> Result<Body, LineFault>
+    ensures { result ≡ payload_from label payload.now }
+{
+    Ok(match label {
+        Label::Waking => Body::Waking(wake_from(payload)?),
+        Label::Wakeup => Body::Wakeup(wake_from(payload)?),
+        Label::WakeupNew => Body::WakeupNew(wake_from(payload)?),
+        Label::Switch => Body::Switch(turn_from(payload)?),
+    })
+}
+
 /// What stands behind STAMP: a named event with its payload, or any other event.
 #[tactic(auto, unfolding(crate::specs::Line::body_from))]
 fn body_from(rest: &[u8]) -> Result<Body, LineFault>
     ensures { result ≡ body_from rest.now }
 {
-    match behind(b"sched_waking:", without_spaces(rest)) {
+    match label_of(without_spaces(rest)) {
+        Some((label, payload)) => payload_from(label, trimmed(payload)),
         None => Ok(Body::Other),
-        Some(payload) => {
-            let wake = wake_from(trimmed(payload))?;
-            Ok(Body::Waking(wake))
-        }
     }
 }
 
@@ -83,7 +137,7 @@ fn event_from(head: &Head<'_>) -> Result<Event, LineFault>
     })
 }
 
-/// The event of a line that is not blank.
+/// The event of a line that is not skipped.
 #[tactic(auto, unfolding(crate::specs::Line::traced_from))]
 fn traced_from(line: &[u8]) -> Result<Event, LineFault>
     ensures { result ≡ traced_from line.now }
@@ -110,12 +164,8 @@ fn answer_to(line: &[u8]) -> Result<Line, LineFault>
     if is_broken(line) {
         return Err(LineFault::NoTask);
     }
-    if front_len(line, Class::Blank) == line.len() {
+    if is_skipped(line) {
         return Ok(Line::Skip);
-    }
-    // A line of the header has no task, whatever follows.
-    if line[0] == b'#' {
-        return Err(LineFault::NoTask);
     }
     let event = traced_from(line)?;
     Ok(Line::Event(event))

@@ -1,10 +1,10 @@
 //! Cuts of a text: runs of bytes, words, labels.
 
-ghost use Rattle.std.specs.Prelude.{◌≡◌, ◌≤◌, length, IfSome};
+ghost use Rattle.std.specs.Prelude.{◌≡◌, ◌<◌, ◌≤◌, length, IfSome};
 ghost use Rattle.std.specs.Option.{option_map, option_copied};
 ghost use Rattle.std.specs.List.{prefix_len, suffix_len};
 ghost use Rattle.ft_event.specs.Spans.{test_of, run_of, word_of, without_spaces, trimmed};
-ghost use Rattle.ft_event.specs.Spans.{behind, last_cut, number_of};
+ghost use Rattle.ft_event.specs.Spans.{behind, last_cut, label_cut, number_of};
 
 /// A class of bytes.
 #[derive(Clone, Copy)]
@@ -17,6 +17,8 @@ pub(crate) enum Class {
     Digit,
     /// A space or a tab.
     Blank,
+    /// A decimal digit or a `-`.
+    Group,
 }
 
 impl Class {
@@ -29,6 +31,7 @@ impl Class {
             Class::Word => byte != b' ',
             Class::Digit => byte.is_ascii_digit(),
             Class::Blank => byte == b' ' || byte == b'\t',
+            Class::Group => byte.is_ascii_digit() || byte == b'-',
         }
     }
 }
@@ -119,6 +122,21 @@ pub(crate) fn last_cut(text: &[u8]) -> Option<(&[u8], &[u8])>
     }
     let start = text.len() - word_len;
     Some((&text[..start - 1], &text[start..]))
+}
+
+/// What stands before and behind the last place of a label, which must not be empty.
+pub(crate) fn label_cut<'a>(label: &[u8], text: &'a [u8]) -> Option<(&'a [u8], &'a [u8])>
+    requires { 0 < length label.now }
+    ensures { option_map (λ x. (x.0.now, x.1.now)) result ≡ label_cut label.now text.now }
+{
+    let mut start = text.len();
+    while start > 0 {
+        start -= 1;
+        if let Some(rest) = behind(label, &text[start..]) {
+            return Some((&text[..start], rest));
+        }
+    }
+    None
 }
 
 /// The number that digits write, or `None` where it is above the limit or a byte is no digit.

@@ -122,6 +122,58 @@ refused 16
 }
 
 #[test]
+fn every_form_of_line(rt: HostRuntime) -> Result<(), Fail> {
+    let trace = b"# tracer: nop
+CPU:1 [LOST 7 EVENTS]
+
+ bash-1994 [000] d... 152.583900: update_curr <-task_tick_fair
+          my-app 2-9       (      9) [003]  100.000001: sched_waking: comm=x pid=3 prio=-1 target_cpu=003
+ a-1 [000] 1.000000: sched_wakeup: comm=x pid=3 prio=1 success=1 target_cpu=001
+ a-1 [002] 1.000000: sched_switch: prev_comm=p prev_pid=1 prev_prio=2 prev_state=R+ ==> next_comm=c next_pid=3 next_prio=4
+";
+    let mut desk = Desk::new(rt.alloc(), PlainBoard::new(rt.alloc()));
+    let loaded = Done {
+        value: 4,
+        kept: Kept::Now,
+    };
+    assert_eq!(rt; desk.load(trace), Ok(loaded));
+    desk.attach(Name::Waking, b"hist:keys=pid")?;
+    let rows = b"
+{ pid:          3 } hitcount:          1
+
+Totals:
+    Hits: 1
+    Entries: 1
+    Dropped: 0
+";
+    assert!(rt; desk.hist(1)?.ends_with(rows));
+    Ok(())
+}
+
+#[test]
+fn first_bad_line(rt: HostRuntime) -> Result<(), Fail> {
+    let lines: [(&[u8], LineFault); 3] = [
+        (
+            b"# x\n\nCPU:1 [LOST  EVENTS]\na-1 [8192] 1.000000:",
+            LineFault::NoTask,
+        ),
+        (
+            b"# x\n\na-1 [000] 1.000000: sched_wakeup_new: comm=x\nhello",
+            LineFault::BadPayload,
+        ),
+        (
+            b"# x\n\na-1 (2) [000] 1.000000: sched_switch: prev_comm=p prev_pid=1 prev_prio=2 prev_state=R ==> next_comm=c next_pid=2147483648 next_prio=4",
+            LineFault::NumberRange,
+        ),
+    ];
+    for (trace, fault) in lines {
+        let mut desk = Desk::new(rt.alloc(), PlainBoard::new(rt.alloc()));
+        assert_eq!(rt; desk.load(trace), Err(Refused::BadLine(3, fault)));
+    }
+    Ok(())
+}
+
+#[test]
 fn ends_where_the_reader_fails(rt: HostRuntime) -> Result<(), Fail> {
     for read in 0..SCRIPT.len() + 1 {
         let mut out = Sink::new(rt.alloc(), 100);
