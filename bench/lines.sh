@@ -1,33 +1,29 @@
 #!/usr/bin/env bash
 # lines.sh [TIMES]: what hostile lines of 4,096 bytes cost against plain ones, by the byte. A trace of
-# one line, which has a fault at its end, is loaded and refused so many times (20,000) in one run; what
-# a load of a line of one byte takes, refused as well, is taken off.
+# one line, which has a fault at its end, is loaded and refused so many times (100) in one run under
+# valgrind, which counts instructions; what a load of a line of one byte takes is taken off.
 set -euo pipefail
 
 here=$(dirname -- "$(realpath -- "${BASH_SOURCE[0]}")")
-histdesk=$here/../histdesk
-times=${1:-20000}
-runs=5
+program=$here/../crates/histdesk/out/histdesk
+times=${1:-100}
 
 folder=$(mktemp -d)
 trap 'rm -rf -- "$folder"' EXIT
-yes 'load @1' | head -n "$times" >"$folder/loads" || true
-echo x >"$folder/refused"
+for ((i = 0; i < times; i++)); do
+    echo 'load @1'
+done >"$folder/loads"
 : >"$folder/nothing"
-"$histdesk" "$folder/nothing"
+# The launcher builds the program where it is stale.
+"$here/../histdesk" "$folder/nothing"
 
-# The least time of some runs over one trace, in nanoseconds a load.
+# Instructions of a load of this trace.
 each() {
-    local best=0 start took
-    for ((i = 0; i < runs; i++)); do
-        start=$(date +%s%N)
-        "$histdesk" "$folder/loads" "$1" >"$folder/out" || (($? == 1))
-        took=$(($(date +%s%N) - start))
-        if ((best == 0 || took < best)); then
-            best=$took
-        fi
-    done
-    echo $((best / times))
+    local count
+    valgrind --tool=callgrind --callgrind-out-file=/dev/null "$program" "$folder/loads" "$1" \
+        >"$folder/out" 2>"$folder/err" || (($? == 1))
+    count=$(sed -n 's/,//g; s/.*refs: *//p' "$folder/err")
+    echo $((count / times))
 }
 
 # FRONT, and as much of PIECE as makes a line of 4,096 bytes with BACK.
@@ -40,26 +36,26 @@ sys.stdout.write(front + middle + back + "\n")
 PYTHON
 }
 
+echo x >"$folder/refused"
 refused=$(each "$folder/refused")
+plain=
 
 row() {
-    local bytes ns
+    local bytes count
     bytes=$(($(stat -c %s "$folder/line") - 1))
-    ns=$(($(each "$folder/line") - refused))
-    if [[ -z ${plain:-} ]]; then
-        plain=$(awk -v ns="$ns" -v bytes="$bytes" 'BEGIN { print ns / bytes }')
-    fi
-    awk -v what="$1" -v bytes="$bytes" -v ns="$ns" -v plain="$plain" 'BEGIN {
-        printf "%-34s %5d bytes %8d ns %7.2f ns a byte %6.2f times a plain one\n",
-            what, bytes, ns, ns / bytes, ns / bytes / plain }'
+    count=$(($(each "$folder/line") - refused))
+    plain=${plain:-$(awk -v count="$count" -v bytes="$bytes" 'BEGIN { print count / bytes }')}
+    awk -v what="$1" -v bytes="$bytes" -v count="$count" -v plain="$plain" 'BEGIN {
+        printf "%-34s %5d bytes %7d instructions %6.1f a byte %5.2f times a plain one\n",
+            what, bytes, count, count / bytes, count / bytes / plain }'
 }
 
 common='            bash-1994    [003] d.h4.  6012.000176: '
 switch='sched_switch: prev_comm=bash prev_pid=1994 prev_prio=120 prev_state=S ==> next_comm='
-printf '%ssched_waking: comm=kworker/3:2 pid=7105 prio=120 target_cpu=\n' "$common" >"$folder/line"
-row "a waking, its last number torn off"
-printf '%s%sswapper/3 next_pid=0 next_prio=\n' "$common" "$switch" >"$folder/line"
-row "a switch, its last number torn off"
+printf '%ssched_waking: comm=kworker/3:2 pid=7105 prio=120 target_cpu=2147483648\n' "$common" >"$folder/line"
+row "a waking, its last number too great"
+printf '%s%sswapper/3 next_pid=0 next_prio=2147483648\n' "$common" "$switch" >"$folder/line"
+row "a switch, its last number too great"
 line "" "-1 " "" && row '"-1 "'
 line "" "[0] " "" && row '"[0] "'
 line "" "-1 (" "" && row '"-1 ("'

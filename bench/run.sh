@@ -1,17 +1,17 @@
 #!/usr/bin/env bash
-# run.sh [LINES]: times histdesk on a trace of so many lines (1,048,576, the most it holds), against
+# run.sh [EVENTS]: times histdesk on a trace of so many events (1,048,576, the most it holds), against
 # `wc -l` on the same file in the same run.
 set -euo pipefail
 
 here=$(dirname -- "$(realpath -- "${BASH_SOURCE[0]}")")
 histdesk=$here/../histdesk
-lines=${1:-1048576}
+events=${1:-1048576}
 times=5
 
 folder=$(mktemp -d)
 trap 'rm -rf -- "$folder"' EXIT
 trace=$folder/trace
-python3 "$here/make_trace.py" "$lines" >"$trace"
+python3 "$here/make_trace.py" "$events" >"$trace"
 
 : >"$folder/nothing"
 printf 'load @1\n' >"$folder/load"
@@ -39,7 +39,7 @@ row() {
 "$histdesk" "$folder/nothing" "$trace"
 
 wc_ms=$(least wc -l "$trace")
-echo "$lines lines, $(stat -c %s "$trace") bytes, the least of $times runs"
+echo "$events events, $(stat -c %s "$trace") bytes, the least of $times runs"
 row "wc -l" "$wc_ms" "$wc_ms"
 row "read the file alone" "$(least "$histdesk" "$folder/nothing" "$trace")" "$wc_ms"
 row "load" "$(least "$histdesk" "$folder/load" "$trace")" "$wc_ms"
