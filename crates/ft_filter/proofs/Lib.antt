@@ -1,0 +1,7 @@
+mod Cuts
+mod Firsts
+mod Members
+mod Readings
+mod Same
+mod Stars
+mod Tries
