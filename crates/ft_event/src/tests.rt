@@ -1,7 +1,4 @@
 mod fields;
-mod groups;
-mod hostile;
-mod order;
 mod payloads;
 mod skipped;
 
@@ -19,9 +16,6 @@ const LONGEST: &str = "abcdefghijklmnopqrstuvwxyz01234";
 /// A name of 32 bytes.
 const TOO_LONG: &str = "abcdefghijklmnopqrstuvwxyz012345";
 
-/// A number that is one too great for a part of a payload.
-const TOO_GREAT: &str = "2147483648";
-
 /// The texts, one behind the other.
 fn joined(alloc: Global, texts: &[&str]) -> Result<Vec<u8>, AllocError> {
     let mut line = Vec::new(alloc);
@@ -30,17 +24,6 @@ fn joined(alloc: Global, texts: &[&str]) -> Result<Vec<u8>, AllocError> {
     }
     Ok(line)
 }
-
-/// Adds the text as often as that.
-fn repeat(line: &mut Vec<u8>, text: &str, times: usize) -> Result<(), AllocError> {
-    for _ in 0..times {
-        line.extend_from_slice(text.as_bytes())?;
-    }
-    Ok(())
-}
-
-/// The labels of a wake event's parts: of A, the Ns, and D.
-const WAKE_LABELS: [&str; 5] = ["comm=", " pid=", " prio=", " success=", " target_cpu="];
 
 /// The labels of a switch's parts: of A, two Ns, T, B, and two Ns.
 const TURN_LABELS: [&str; 7] = [
@@ -66,11 +49,6 @@ fn line_of(
         line.extend_from_slice(part.as_bytes())?;
     }
     Ok(line)
-}
-
-/// A line of a `sched_wakeup` with these parts.
-fn wakeup_line(alloc: Global, parts: [&str; 5]) -> Result<Vec<u8>, AllocError> {
-    line_of(alloc, "sched_wakeup", &WAKE_LABELS, &parts)
 }
 
 /// A line of a `sched_switch` with these parts.
@@ -160,6 +138,30 @@ fn one_line_of_each_kind(rt: HostRuntime) {
     let line = "aaaaaaaaaaaaaaaaaaaaaaaaaaaaaaaa-1 [000] 1.000000:";
     assert_eq!(rt; kind_of(line.as_bytes()), "name long");
     assert_eq!(rt; kind_of(&[b'#'; 4097]), "line long");
+}
+
+#[test]
+fn beginnings(rt: HostRuntime) {
+    one_answer();
+    let line: &[u8] =
+        b" sim-1 [000] d.h.. 1.000100: sched_waking: comm=w pid=42 prio=120 target_cpu=000";
+    assert_eq!(rt; line.len(), 80);
+    let kinds = [
+        (2, "skip"),
+        (13, "no task"),
+        (28, "bad stamp"),
+        (42, "other"),
+        (78, "bad payload"),
+        (81, "waking"),
+    ];
+    let mut first: usize = 0;
+    for (end, kind) in kinds {
+        for len in first..end {
+            let beginning = line.get(..len).unwrap_or(b"too short");
+            assert_eq!(rt; kind_of(beginning), kind, "{len} bytes");
+        }
+        first = end;
+    }
 }
 
 #[test]
