@@ -1,12 +1,13 @@
 #!/usr/bin/env bash
-# lines.sh [TIMES]: what hostile lines of 4,096 bytes cost against plain ones, by the byte. A trace of
-# one line, which has a fault at its end, is loaded and refused so many times (100) in one run under
+# lines.sh [BYTES]: what hostile lines of so many bytes (4,096) cost against plain ones, by the byte. A
+# trace of one line, which has a fault at its end, is loaded and refused 100 times in one run under
 # valgrind, which counts instructions; what a load of a line of one byte takes is taken off.
 set -euo pipefail
 
 here=$(dirname -- "$(realpath -- "${BASH_SOURCE[0]}")")
 program=$here/../crates/histdesk/out/histdesk
-times=${1:-100}
+length=${1:-4096}
+times=100
 
 folder=$(mktemp -d)
 trap 'rm -rf -- "$folder"' EXIT
@@ -26,12 +27,12 @@ each() {
     echo $((count / times))
 }
 
-# FRONT, and as much of PIECE as makes a line of 4,096 bytes with BACK.
+# FRONT, and as much of PIECE as makes a line of the length with BACK.
 line() {
-    python3 - "$1" "$2" "$3" >"$folder/line" <<'PYTHON'
+    python3 - "$length" "$1" "$2" "$3" >"$folder/line" <<'PYTHON'
 import sys
-front, piece, back = sys.argv[1:]
-middle = (piece * 4096)[: 4096 - len(front) - len(back)]
+length, (front, piece, back) = int(sys.argv[1]), sys.argv[2:]
+middle = (piece * length)[: length - len(front) - len(back)]
 sys.stdout.write(front + middle + back + "\n")
 PYTHON
 }
