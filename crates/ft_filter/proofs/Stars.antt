@@ -27,7 +27,7 @@ pub end_of_end : (Q : List ℕ → Type 0) (text : List ℕ) → SomeEnd (SomeEn
 end_of_end Q text h = (h.0 ++ h.3.0, h.3.1, h.2 ∙ ap (λ (t : List ℕ). h.0 ++ t) h.3.2 ∙ sym (append_assoc h.0 h.3.0 h.3.1), h.3.3)
 
 -- the end of no bytes is no bytes
-end_of_none : (Q : List ℕ → Type 0) → SomeEnd Q [] → Q []
+pub end_of_none : (Q : List ℕ → Type 0) → SomeEnd Q [] → Q []
 end_of_none Q h = elim (end_cases Q [] h) [ inl q ↦ q | inr later ↦ go later.0 later.1 later.2 later.3 ]
   where
     go : (front end : List ℕ) → [] ≡ front ++ end → Q end → Q []

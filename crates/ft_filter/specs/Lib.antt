@@ -1,2 +1,14 @@
 pub mod Glob
 pub mod Walk
+pub mod Matching
+pub mod Tree
+pub mod Codes
+pub mod Holds
+pub mod FilterFault
+pub mod Tokens
+pub mod Predicate
+pub mod FilterIs
+pub mod Answers
+pub mod Canonical
+pub mod Given
+pub mod Words

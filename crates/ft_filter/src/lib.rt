@@ -1,9 +1,22 @@
-//! Filters of events: globs.
+//! Filters of events, as they stand behind a trigger: reading them, writing them, and testing
+//! events. And globs, with which filters compare texts.
 #![tactic(auto)]
 
+mod fault;
+mod filter;
+mod passing;
 mod pattern;
+mod predicate;
+mod reading;
+mod tokens;
+mod tree;
+mod writing;
 
-pub use pattern::{glob, is_glob, one_reading};
+pub use fault::FilterFault;
+pub use filter::Filter;
+pub use pattern::{glob, is_glob, one_reading, what_matches};
+pub use reading::{one_answer, parse, reads_again};
+pub use tree::{Expr, Exprs, Literal, Op, Pred, Text};
 
 #[cfg(test)]
 mod tests;

@@ -4,13 +4,17 @@ ghost use Rattle.std.specs.Prelude.{◌≡◌, ◌<◌, ◌≤◌, ◌↔◌, �
 ghost use Rattle.std.specs.List.{list_all};
 ghost use Rattle.ft_filter.specs.Glob.{Item, Member, MembersAre, SomeHas, ClassHas, IsCut};
 ghost use Rattle.ft_filter.specs.Glob.{ItemsAre, GlobIs, IsGlob, Glob};
+ghost use Rattle.ft_filter.specs.Matching.{is_glob, matches, Matches};
 ghost use Rattle.ft_filter.specs.Walk.{ReadsAsMembers, ReadsAsItems, Bounds, StepIs, Shortens};
 
 /// Whether the pattern is a glob. It is none where a class is not closed, has no member or has a
 /// range from a higher byte to a lower one, where a backslash stands anywhere, and where a `!`
 /// stands first.
 pub fn is_glob(pattern: &[u8]) -> bool
-    ensures { IsTrue result ↔ IsGlob pattern.now }
+    // The answer, worked out from the pattern.
+    ensures exact { result ≡ is_glob pattern.now }
+    // What the answer says.
+    ensures meaning { IsTrue result ↔ IsGlob pattern.now }
 {
     if pattern.starts_with(b"!") || pattern.contains(&b'\\') {
         return false;
@@ -66,6 +70,11 @@ pub fn glob(pattern: &[u8], text: &[u8]) -> bool
 pub fn one_reading()
     ensures { (pattern : List ℕ) (items other : List Item) → ItemsAre pattern items
         → ItemsAre pattern other → items ≡ other }
+{}
+
+/// A law: a pattern matches just the texts that its items match.
+pub fn what_matches()
+    ensures { (pattern text : List ℕ) → IsTrue (matches pattern text) ↔ Matches pattern text }
 {}
 
 /// What is left of a pattern, and of a text that it is to match.

@@ -1,3 +1,7 @@
+mod passing;
+mod reading;
+mod writing;
+
 use super::*;
 use std::test::*;
 
@@ -67,6 +71,9 @@ fn dash_before_bracket(rt: HostRuntime) -> Result<(), Fail> {
 #[test]
 fn members_from_the_left(rt: HostRuntime) -> Result<(), Fail> {
     one_reading();
+    one_answer();
+    reads_again();
+    what_matches();
     let pattern = b"[a-c-e]";
     assert!(rt; matches(pattern, b"b"));
     assert!(rt; matches(pattern, b"c"));
