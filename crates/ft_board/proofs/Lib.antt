@@ -10,6 +10,7 @@ pub mod Merging
 pub mod Counting
 pub mod Replaying
 pub mod Sorting
+pub mod Cutting
 pub mod Texts
 pub mod HistText
 pub mod Places

@@ -11,6 +11,11 @@ pub last_added : {X E : Type 0} (r : Result X E) (old now new one two : List ℕ
 last_added (Ok x) old now new one two first second = added old now new one two first second
 last_added (Err e) old now new one two first second = tt
 
+-- where the last call says so of an accepted one
+pub then_added : {X E : Type 0} (r : Result X E) (old now new one two : List ℕ) → now ≡ old ++ one → OnOk r (new ≡ now ++ two) → OnOk r (new ≡ old ++ (one ++ two))
+then_added (Ok x) old now new one two first second = added old now new one two first second
+then_added (Err e) old now new one two first second = tt
+
 -- the spaces in front of n digits, cut from ten
 pub spaces_left : (n m : ℕ) → m ≡ min n 10 → take (10 - m) (drop m (replicate {A = ℕ} 10 32)) ≡ replicate {A = ℕ} (10 - n) 32
 spaces_left n m is =

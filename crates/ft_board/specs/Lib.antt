@@ -1,5 +1,6 @@
 pub mod Refused
 pub mod TriggerFault
+pub mod Cut
 pub mod Trigger
 pub mod Base
 pub mod Codes

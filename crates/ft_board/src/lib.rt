@@ -3,6 +3,7 @@
 #![tactic(auto)]
 
 mod board;
+mod cut;
 mod hist;
 mod lane;
 mod laws;

@@ -3,6 +3,7 @@ ghost use Rattle.std.specs.Prelude.{◌≤◌};
 use super::*;
 use crate::lane::Lane;
 use ft_event::{Body, Comm, Event, Name, Wake};
+use ft_filter::FilterFault;
 use std::alloc::Global;
 use std::test::Fail;
 
@@ -59,8 +60,8 @@ fn load_two(alloc: Global, board: &mut PlainBoard, first: u16, second: u16) -> R
 }
 
 /// Attaches the trigger of today: its id.
-fn attach(board: &mut PlainBoard) -> Result<u32, Refused> {
-    match Trigger::parse(Name::Waking, b"hist:keys=pid") {
+fn attach(alloc: Global, board: &mut PlainBoard) -> Result<u32, Refused> {
+    match Trigger::parse(alloc, Name::Waking, b"hist:keys=pid") {
         Ok(trigger) => Ok(board.attach(trigger)?.value),
         Err(fault) => Err(Refused::BadTrigger(fault)),
     }
@@ -70,7 +71,7 @@ fn attach(board: &mut PlainBoard) -> Result<u32, Refused> {
 fn two_wakings(rt: HostRuntime) -> Result<(), Fail> {
     let mut board = PlainBoard::new(rt.alloc());
     assert_eq!(rt; load_two(rt.alloc(), &mut board, 1, 1)?, 2);
-    assert_eq!(rt; attach(&mut board)?, 1);
+    assert_eq!(rt; attach(rt.alloc(), &mut board)?, 1);
     assert_eq!(rt; board.hist(1)?.as_slice(), TWO_WAKINGS);
     assert!(rt; !board.is_deferred());
     Ok(())
@@ -107,8 +108,8 @@ fn load_after_want_of_memory(rt: HostRuntime) -> Result<(), Fail> {
         other => other?,
     };
     assert_eq!(rt; loaded, 2);
-    let id = match attach(&mut board) {
-        Err(Refused::Memory) => attach(&mut board)?,
+    let id = match attach(rt.alloc(), &mut board) {
+        Err(Refused::Memory) => attach(rt.alloc(), &mut board)?,
         other => other?,
     };
     assert_eq!(rt; id, 1);
@@ -125,9 +126,12 @@ fn ids_and_their_limit(rt: HostRuntime) -> Result<(), Fail> {
     let mut board = PlainBoard::new(rt.alloc());
     assert_eq!(rt; board.hist(1).err(), Some(Refused::NoTrigger));
     for id in 1..65 {
-        assert_eq!(rt; attach(&mut board)?, id);
+        assert_eq!(rt; attach(rt.alloc(), &mut board)?, id);
     }
-    assert_eq!(rt; attach(&mut board), Err(Refused::TooManyTriggers));
+    assert_eq!(rt;
+        attach(rt.alloc(), &mut board),
+        Err(Refused::TooManyTriggers)
+    );
     Ok(())
 }
 
@@ -139,5 +143,64 @@ fn lines_of_a_lane(rt: HostRuntime) -> Result<(), Fail> {
     assert_eq!(rt; lane.len(), 2);
     reachable_bases();
     one_key_order();
+    Ok(())
+}
+
+/// Texts that are no triggers of `sched_wakeup`, each with its fault.
+fn faults() -> [(&'static [u8], TriggerFault); 10] {
+    [
+        (b"", TriggerFault::Syntax(0)),
+        (b"hist:keys=prio", TriggerFault::Syntax(0)),
+        (b" hist:keys=pid", TriggerFault::Syntax(0)),
+        (b"hist:keys=pid  if", TriggerFault::Syntax(15)),
+        (b"hist:keys=pid iff prio < 1", TriggerFault::Syntax(14)),
+        (b"hist:keys=pid\t\tunless prio", TriggerFault::Syntax(15)),
+        (
+            b"hist:keys=pid if prio \t",
+            TriggerFault::BadFilter(FilterFault::Syntax(4)),
+        ),
+        (
+            b"hist:keys=pid if next_pid == 1",
+            TriggerFault::BadFilter(FilterFault::NoField(0)),
+        ),
+        (
+            b"hist:keys=pid if prio == 'x'",
+            TriggerFault::BadFilter(FilterFault::WrongKind(8)),
+        ),
+        (
+            b"hist:keys=pid\tif \tcomm ~ \"[a\" ",
+            TriggerFault::BadFilter(FilterFault::BadGlob(7)),
+        ),
+    ]
+}
+
+/// Texts of triggers, each with what its canonical text has behind the head.
+fn filters() -> [(&'static [u8], &'static [u8]); 3] {
+    [
+        (b"hist:keys=pid \t", b""),
+        (b"hist:keys=pid if prio<100", b" if prio < 100"),
+        (
+            b"hist:keys=pid\tif  \tcomm~'cyc*'&&(pid==-1||pid==0x8)\t ",
+            b" if comm ~ \"cyc*\" && (pid == -1 || pid == 8)",
+        ),
+    ]
+}
+
+#[test]
+fn texts_of_triggers(rt: HostRuntime) -> Result<(), Fail> {
+    for (text, fault) in faults() {
+        let read = Trigger::parse(rt.alloc(), Name::Wakeup, text).err();
+        assert_eq!(rt; read, Some(fault), "{text:?}");
+    }
+    for (text, tail) in filters() {
+        let Ok(trigger) = Trigger::parse(rt.alloc(), Name::WakeupNew, text) else {
+            return Err(Fail::from("the text is a trigger's"));
+        };
+        let mut written = Vec::new(rt.alloc());
+        trigger.write(&mut written)?;
+        assert!(rt; written.ends_with(tail), "{text:?}");
+        assert!(rt; trigger.event() == Name::WakeupNew);
+    }
+    assert!(rt; Trigger::parse(rt.alloc(), Name::Switch, b"hist:keys=pid").is_err());
     Ok(())
 }

@@ -10,7 +10,9 @@ use Rattle.ft_event.specs.declared.fault.Line.{Line}
 use Rattle.ft_event.specs.declared.fault.Line.TheVariants as lines
 use Rattle.ft_event.specs.declared.fault.LineFault.{LineFault}
 use Rattle.ft_board.specs.declared.trigger.Trigger.{Trigger}
+use Rattle.ft_filter.specs.FilterFault.{number_of as filter_number, place_of as filter_place}
 use Rattle.ft_board.specs.declared.trigger.TriggerFault.{TriggerFault}
+use Rattle.ft_board.specs.declared.trigger.TriggerFault.TheVariants as faults
 use Rattle.ft_board.specs.declared.refused.Refused.{Refused}
 use Rattle.ft_board.specs.declared.refused.Refused.TheVariants.{Memory, NoFile, BadLine, LaneHeld, Full, BadTrigger, NoTrigger, TooManyTriggers, BadCommand}
 use Rattle.ft_board.specs.Refused.{number_of}
@@ -48,15 +50,23 @@ abbrev pub ◌>>=◌ : {A B : Type 0} → Result A Refused → (A → Result B R
 unfoldable pub after_load_text : Base → List ℕ → Result (Base × ℕ) Refused
 after_load_text base text = events_of text >>= after_load base
 
+-- a trigger's fault as a refusal; want of memory is a refusal of its own (our own choice)
+abbrev pub refused_for : TriggerFault → Refused
+refused_for faults.Memory = Memory
+refused_for fault = BadTrigger fault
+
 -- a trigger's text as read, or refused (our own choice)
 abbrev pub trigger_or_refused : Result Trigger TriggerFault → Result Trigger Refused
 trigger_or_refused (Ok trigger) = Ok trigger
-trigger_or_refused (Err fault) = Err (BadTrigger fault)
+trigger_or_refused (Err fault) = Err (refused_for fault)
 
--- a trigger's text on an event: `sched_waking` alone for now (our own choice)
+-- a trigger's text on an event: on the three wake events alone for now (our own choice)
 abbrev pub trigger_for : Name → List ℕ → Result Trigger Refused
 trigger_for names.Waking text = trigger_or_refused (trigger_of names.Waking text)
-trigger_for _ text = Err BadCommand
+trigger_for names.Wakeup text = trigger_or_refused (trigger_of names.Wakeup text)
+trigger_for names.WakeupNew text = trigger_or_refused (trigger_of names.WakeupNew text)
+trigger_for names.Switch text = Err BadCommand
+trigger_for names.Other text = Err BadCommand
 
 -- attaching a trigger's text to an event (our own choice)
 unfoldable pub after_attach_text : Base → Name → List ℕ → Result (Base × ℕ) Refused
@@ -75,11 +85,16 @@ abbrev pub place_text : Option ℕ → List ℕ
 place_text None = []
 place_text (Some place) = codes " at " ++ decimal place
 
+-- what a trigger's fault says beside its number: where it is, and of a filter's fault which one and where in the filter's text (our own choice)
+abbrev pub fault_detail : TriggerFault → List ℕ
+fault_detail (faults.BadFilter fault) = codes " filter " ++ decimal (filter_number fault) ++ place_text (filter_place fault)
+fault_detail fault = place_text (place_of fault)
+
 -- what a refusal says beside its number (our own choice)
 abbrev pub detail : Refused → List ℕ
 detail (BadLine line fault) = codes ": line " ++ decimal line ++ codes " fault " ++ decimal (fault_number fault)
 detail (LaneHeld cpu) = codes ": cpu " ++ decimal cpu
-detail (BadTrigger fault) = codes ": fault " ++ decimal (trigger_number fault) ++ place_text (place_of fault)
+detail (BadTrigger fault) = codes ": fault " ++ decimal (trigger_number fault) ++ fault_detail fault
 detail Memory = []
 detail NoFile = []
 detail Full = []

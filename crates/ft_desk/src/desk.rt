@@ -1,10 +1,12 @@
 //! The desk over a board.
 
 ghost use Rattle.std.specs.Prelude.{◌≡◌};
-ghost use Rattle.ft_desk.specs.Output.{trigger_for};
+ghost use Rattle.ft_board.specs.After.{AnswerIs};
+ghost use Rattle.ft_board.specs.Trigger.{trigger_of};
+ghost use Rattle.ft_desk.specs.Output.{trigger_for, trigger_or_refused, refused_for};
 
 use crate::events::events_in;
-use ft_board::{Board, Done, Refused, Trigger};
+use ft_board::{Board, Done, Refused, Trigger, TriggerFault};
 use ft_event::Name;
 use std::alloc::Global;
 use std::marker::Model;
@@ -52,13 +54,13 @@ impl<B: Board> Desk<B> {
     }
 
     /// Attaches a trigger's text to an event: the trigger's id. Refused for another event than
-    /// `sched_waking`, where the text cannot be read, where 64 triggers are attached, where the ids
-    /// are used up, or for memory.
+    /// the three wake events, where the text cannot be read, where 64 triggers are attached, where
+    /// the ids are used up, or for memory.
     pub fn attach(&mut self, event: Name, text: &[u8]) -> Result<Done<u32>, Refused>
         ensures { EditGives (after_attach_text self.old.base event text.now) self.old.base self.new.base
             self.old.deferred self.new.deferred result }
     {
-        let trigger = read_trigger(event, text)?;
+        let trigger = read_trigger(self.alloc, event, text)?;
         self.board.attach(trigger)
     }
 
@@ -78,15 +80,32 @@ impl<B: Board> Desk<B> {
     }
 }
 
-/// Reads the text of a trigger on an event: on `sched_waking` alone for now.
-fn read_trigger(event: Name, text: &[u8]) -> Result<Trigger, Refused>
-    ensures { result ≡ trigger_for event text.now }
+/// Reads the text of a trigger on an event: on the three wake events alone for now.
+fn read_trigger(alloc: Global, event: Name, text: &[u8]) -> Result<Trigger, Refused>
+    ensures { AnswerIs (λ trigger. trigger) (trigger_for event text.now) result }
 {
     match event {
-        Name::Waking => match Trigger::parse(event, text) {
-            Ok(trigger) => Ok(trigger),
-            Err(fault) => Err(Refused::BadTrigger(fault)),
-        },
-        _ => Err(Refused::BadCommand),
+        Name::Waking | Name::Wakeup | Name::WakeupNew => wake_trigger(alloc, event, text),
+        Name::Switch | Name::Other => Err(Refused::BadCommand),
+    }
+}
+
+/// Reads the text of a trigger on a wake event.
+fn wake_trigger(alloc: Global, event: Name, text: &[u8]) -> Result<Trigger, Refused>
+    ensures { AnswerIs (λ trigger. trigger) (trigger_or_refused (trigger_of event text.now)) result }
+{
+    match Trigger::parse(alloc, event, text) {
+        Ok(trigger) => Ok(trigger),
+        Err(fault) => Err(refused_for(fault)),
+    }
+}
+
+/// A trigger's fault as a refusal. Want of memory is a refusal of its own.
+fn refused_for(fault: TriggerFault) -> Refused
+    ensures { result ≡ refused_for fault }
+{
+    match fault {
+        TriggerFault::Memory => Refused::Memory,
+        _ => Refused::BadTrigger(fault),
     }
 }

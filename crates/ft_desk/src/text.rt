@@ -1,8 +1,7 @@
 //! The lines that commands print.
 
 ghost use Rattle.std.specs.Prelude.{◌≡◌, ◌++◌, codes, decimal, IfOk, OnOk};
-ghost use Rattle.ft_board.specs.TriggerFault.{number_of as trigger_number, place_of};
-ghost use Rattle.ft_desk.specs.Output.{detail, place_text, refused_text};
+ghost use Rattle.ft_desk.specs.Output.{detail, fault_detail, place_text, refused_text};
 
 use ft_board::{Refused, TriggerFault};
 use itoa::Buffer;
@@ -42,7 +41,7 @@ fn add_detail(line: &mut Vec<u8>, refused: Refused) -> Result<(), AllocError>
         Refused::LaneHeld(cpu) => add(line, b": cpu ", u64::from(cpu)),
         Refused::BadTrigger(fault) => {
             add(line, b": fault ", u64::from(fault.number()))?;
-            add_place(line, fault)
+            add_fault(line, fault)
         }
         Refused::Memory
         | Refused::NoFile
@@ -53,11 +52,25 @@ fn add_detail(line: &mut Vec<u8>, refused: Refused) -> Result<(), AllocError>
     }
 }
 
-/// Adds where a trigger's fault is, if it has a place.
-fn add_place(line: &mut Vec<u8>, fault: TriggerFault) -> Result<(), AllocError>
-    ensures { OnOk result (line.new.items ≡ line.old.items ++ place_text (place_of fault)) }
+/// Adds what a trigger's fault says beside its number: where it is, and of a filter's fault which
+/// one and where in the filter's text.
+fn add_fault(line: &mut Vec<u8>, fault: TriggerFault) -> Result<(), AllocError>
+    ensures { OnOk result (line.new.items ≡ line.old.items ++ fault_detail fault) }
 {
-    match fault.place() {
+    match fault {
+        TriggerFault::BadFilter(reason) => {
+            add(line, b" filter ", u64::from(reason.number()))?;
+            add_place(line, reason.place())
+        }
+        _ => add_place(line, fault.place()),
+    }
+}
+
+/// Adds where a fault is, if it has a place.
+fn add_place(line: &mut Vec<u8>, place: Option<usize>) -> Result<(), AllocError>
+    ensures { OnOk result (line.new.items ≡ line.old.items ++ place_text place) }
+{
+    match place {
         Some(place) => add(line, b" at ", place as u64),
         None => Ok(()),
     }

@@ -115,7 +115,7 @@ fn one_key_alone(alloc: Global, trigger: &Trigger) -> Result<Vec<u8>, AllocError
 
 #[test]
 fn known_key_counts_in_a_full_table(rt: HostRuntime) -> Result<(), Fail> {
-    match Trigger::parse(Name::Waking, b"hist:keys=pid") {
+    match Trigger::parse(rt.alloc(), Name::Waking, b"hist:keys=pid") {
         Ok(trigger) => assert_eq!(rt; one_key_alone(rt.alloc(), &trigger)?.as_slice(), FULL_TABLE),
         Err(_) => return Err(Fail::from("the text is a trigger's")),
     }
@@ -126,7 +126,7 @@ fn known_key_counts_in_a_full_table(rt: HostRuntime) -> Result<(), Fail> {
 fn attached_trigger_has_a_text(rt: HostRuntime) -> Result<(), Fail> {
     let lanes = BTreeMap::new(rt.alloc());
     let mut triggers = BTreeMap::new(rt.alloc());
-    match Trigger::parse(Name::Waking, b"hist:keys=pid") {
+    match Trigger::parse(rt.alloc(), Name::Waking, b"hist:keys=pid") {
         Ok(trigger) => triggers.insert(1, trigger)?,
         Err(_) => return Err(Fail::from("the text is a trigger's")),
     };

@@ -121,6 +121,69 @@ refused 16
     Ok(())
 }
 
+/// Two wakings on CPU 0.
+const TWO_TASKS: &[u8] =
+    b" sim-1 [000] d.h.. 1.000001: sched_waking: comm=cyclictest pid=8 prio=19 target_cpu=000
+ sim-1 [000] d.h.. 1.000002: sched_waking: comm=bash pid=9 prio=120 target_cpu=000
+";
+
+/// A script with a filter that the first of the two passes, and what it prints.
+const FILTERED: (&[u8], &[u8]) = (
+    b"load @1
+attach sched_waking hist:keys=pid if comm ~ \"cyc*\" && prio < 100
+hist 1
+",
+    b"loaded 2
+attached 1
+# event histogram
+#
+# trigger info: hist:keys=pid:vals=hitcount:sort=hitcount:size=2048 if comm ~ \"cyc*\" && prio < 100 [active]
+#
+
+{ pid:          8 } hitcount:          1
+
+Totals:
+    Hits: 1
+    Entries: 1
+    Dropped: 0
+",
+);
+
+/// A script with filters and tails that cannot be read, and with triggers on each event, and what
+/// it prints.
+const BAD_TAILS: (&[u8], &[u8]) = (
+    b"attach sched_waking hist:keys=pid if comm ~ \"[a\"
+attach sched_waking hist:keys=pid  if
+attach sched_waking hist:keys=pid if (((((((((((((((((((((((((((((((((
+attach sched_waking hist:keys=pid unless prio < 100
+attach sched_wakeup hist:keys=pid
+attach sched_wakeup_new hist:keys=pid if prio & 0x1
+attach sched_switch hist:keys=pid
+",
+    b"refused 8: fault 11 filter 5 at 7
+refused 8: fault 2 at 15
+refused 8: fault 11 filter 7
+refused 8: fault 2 at 14
+attached 1
+attached 2
+refused 16
+",
+);
+
+#[test]
+fn triggers_with_filters(rt: HostRuntime) -> Result<(), Fail> {
+    let files = vec![in rt.alloc(); Vec::from_slice(rt.alloc(), TWO_TASKS)?]?;
+    for (script, printed) in [FILTERED, BAD_TAILS] {
+        let mut out = Sink::new(rt.alloc(), 4096);
+        let mut source = Source::new(script, 4096);
+        let board = PlainBoard::new(rt.alloc());
+        let ended = run(rt.alloc(), board, files.as_slice(), &mut source, &mut out);
+        assert!(rt; ended.is_ok());
+        assert_eq!(rt; out.bytes.as_slice(), printed);
+    }
+    Ok(())
+}
+
 #[test]
 fn every_form_of_line(rt: HostRuntime) -> Result<(), Fail> {
     let trace = b"# tracer: nop
@@ -265,7 +328,7 @@ fn desk_over_the_plain_board(rt: HostRuntime) -> Result<(), Fail> {
     };
     assert_eq!(rt; desk.attach(Name::Waking, b"hist:keys=pid"), Ok(attached));
     assert_eq!(rt;
-        desk.attach(Name::Waking, b"hist:keys=pid "),
+        desk.attach(Name::Waking, b"hist:keys=prio"),
         Err(Refused::BadTrigger(TriggerFault::Syntax(0)))
     );
     assert_eq!(rt;

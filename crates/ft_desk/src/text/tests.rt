@@ -3,10 +3,11 @@
 use super::{done_line, refused_line};
 use ft_board::{Refused, TriggerFault};
 use ft_event::LineFault;
+use ft_filter::FilterFault;
 use std::test::Fail;
 
 /// Refusals, each with its line.
-fn refusals() -> [(Refused, &'static [u8]); 9] {
+fn refusals() -> [(Refused, &'static [u8]); 11] {
     [
         (Refused::Memory, b"refused 1\n"),
         (Refused::NoFile, b"refused 2\n"),
@@ -19,6 +20,14 @@ fn refusals() -> [(Refused, &'static [u8]); 9] {
         (
             Refused::BadTrigger(TriggerFault::Syntax(0)),
             b"refused 8: fault 2 at 0\n",
+        ),
+        (
+            Refused::BadTrigger(TriggerFault::BadFilter(FilterFault::WrongKind(9))),
+            b"refused 8: fault 11 filter 4 at 9\n",
+        ),
+        (
+            Refused::BadTrigger(TriggerFault::BadFilter(FilterFault::TooDeep)),
+            b"refused 8: fault 11 filter 7\n",
         ),
         (Refused::NoTrigger, b"refused 10\n"),
         (Refused::TooManyTriggers, b"refused 15\n"),

@@ -1,13 +1,19 @@
-use Rattle.std.proofs.Common.{refl, inr, sym, rules}
+use Rattle.std.proofs.Common.{refl, inl, inr, rules}
 use Rattle.std.proofs.lemmas.Result.{err_from_is_err_and}
 use Rattle.ft_desk.proofs.Edits.{attach-trigger, attach-refused}
 use Rattle.ft_desk.proofs.desk.Desk.attach.Goals as goal
 
 pub returns : goal.returns
-returns g c = rw (attach-trigger c.args.self.now.base c.args.event c.args.text.now _ (sym c.in_ok-trigger.ensures)) (search rules)
+returns g c = rw (attach-trigger c.args.self.now.base c.args.event c.args.text.now _ c.in_ok-trigger.ensures) (search rules)
 
 pub returns-in_err-trigger : goal.returns-in_err-trigger
 returns-in_err-trigger g c =
     let same = err_from_is_err_and c.from_residual.result c.from_residual.ensures.1 in
-    rw (same.1, same.2)
-    (refl, refl, inr (attach-refused c.args.self.now.base c.args.event c.args.text.now _ (sym c.in_err-trigger.ensures)))
+    rw (same.1, same.2) (
+      refl,
+      refl,
+      elim c.in_err-trigger.ensures [
+        | inl memory ↦ inl memory
+        | inr bad ↦ inr (attach-refused c.args.self.now.base c.args.event c.args.text.now _ bad)
+      ],
+    )
