@@ -44,6 +44,8 @@ gives two_wakings 0 "" "$histdesk" "$examples/two-wakings.script" "$examples/two
 prints two_wakings "$examples/two-wakings.expected"
 gives who_wakes 1 "" "$histdesk" "$examples/who-wakes.script" "$examples/who-wakes.trace" "$examples/torn.trace"
 prints who_wakes "$examples/who-wakes.expected"
+gives filters 1 "" "$histdesk" "$examples/filters.script" "$examples/who-wakes.trace"
+prints filters "$examples/filters.expected"
 gives no_words 0 "" "$histdesk"
 gives two_dashes 0 "" "$histdesk" --
 gives standard_input 0 "" "$histdesk" -
