@@ -1,8 +1,8 @@
 #!/usr/bin/env bash
 # each_allocation.sh: runs tests with each allocation refused in turn.
-# The worked example through `run`, until none is left to refuse: it then prints its whole output, or
-# answers want of memory with the whole output of the commands before. And a filter that is read and
-# written: it then has the wanted text, or the vector has its old bytes.
+# A filter, and a trigger with one, that are read and written: they then have the wanted text, or the
+# vector has its old bytes. And a worked example through `run`: it then prints its whole output, or
+# answers want of memory with the whole output of the commands before.
 set -euo pipefail
 
 crates=$(dirname -- "$(realpath -- "${BASH_SOURCE[0]}")")/../crates
@@ -24,18 +24,21 @@ judge() {
     fi
 }
 
-# The filter's test makes 16 allocations.
-for ((number = 1; number <= 17; number++)); do
-    judge "ft_filter, allocation $number refused" tests::writing::old_bytes_after_want_of_memory "$(refused ft_filter "$number")"
-done
+# Refuses each allocation in turn until the other test passes too: it makes no fewer allocations, and
+# fails where one of them is refused.
+each() {
+    for ((number = 1; ; number++)); do
+        local told
+        told=$(refused "$1" "$number")
+        judge "$1, allocation $number refused" "$2" "$told"
+        if [[ $told == *"test $3 ... ok"* ]]; then
+            echo "$1: fewer than $number allocations"
+            return
+        fi
+    done
+}
 
-# The worked example makes no more allocations than the plain run of it, which fails where one is
-# refused.
-for ((number = 1; ; number++)); do
-    told=$(refused ft_desk "$number")
-    judge "ft_desk, allocation $number refused" tests::examples::whole_output_or_that_of_the_commands_before "$told"
-    if [[ $told == *"test tests::examples::two_wakings ... ok"* ]]; then
-        echo "the example makes fewer than $number allocations"
-        exit "$failed"
-    fi
-done
+each ft_filter tests::writing::old_bytes_after_want_of_memory tests::passing::filters_join
+each ft_board tests::trigger_after_want_of_memory tests::texts_of_triggers
+each ft_desk tests::examples::whole_output_or_that_of_the_commands_before tests::examples::triggers_with_filters
+exit "$failed"

@@ -3,7 +3,8 @@
 //! A line that begins with `+` holds a trace line behind it, whose event is kept. Each other line is
 //! `NAME TEXT`: the event that the filter is for, and the filter. It is answered by `fault N`, with
 //! ` at P` where the fault has a place, or by the canonical text, ` : `, and `1` or `0` for each
-//! event of that name that was kept before.
+//! event of that name that was kept before. A name that is none is answered by `bad name`, a trace
+//! line that gives no event by `bad line`.
 #![tactic(auto)]
 
 use ft_event::{Event, Line, Name, read_line};

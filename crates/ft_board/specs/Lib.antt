@@ -17,3 +17,7 @@ pub mod Reachable
 pub use Rattle.ft_event.specs.Traced
 pub use Rattle.ft_event.specs.Line
 pub use Rattle.ft_event.specs.LineFault
+pub use Rattle.ft_filter.specs.FilterFault
+pub use Rattle.ft_filter.specs.Tree
+pub use Rattle.ft_filter.specs.Answers
+pub use Rattle.ft_filter.specs.Holds

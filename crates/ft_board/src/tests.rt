@@ -174,6 +174,9 @@ fn faults() -> [(&'static [u8], TriggerFault); 10] {
     ]
 }
 
+/// The canonical head.
+const HEAD: &[u8] = b"hist:keys=pid:vals=hitcount:sort=hitcount:size=2048";
+
 /// Texts of triggers, each with what its canonical text has behind the head.
 fn filters() -> [(&'static [u8], &'static [u8]); 3] {
     [
@@ -198,9 +201,28 @@ fn texts_of_triggers(rt: HostRuntime) -> Result<(), Fail> {
         };
         let mut written = Vec::new(rt.alloc());
         trigger.write(&mut written)?;
-        assert!(rt; written.ends_with(tail), "{text:?}");
+        assert_eq!(rt; written.strip_prefix(HEAD), Some(tail), "{text:?}");
         assert!(rt; trigger.event() == Name::WakeupNew);
     }
-    assert!(rt; Trigger::parse(rt.alloc(), Name::Switch, b"hist:keys=pid").is_err());
+    let read = Trigger::parse(rt.alloc(), Name::Switch, b"hist:keys=pid").err();
+    assert_eq!(rt; read, Some(TriggerFault::Syntax(0)));
+    Ok(())
+}
+
+/// Passes whichever allocation is refused: `rt try --test --fail-alloc N`.
+#[test]
+fn trigger_after_want_of_memory(rt: HostRuntime) -> Result<(), Fail> {
+    let text = b"hist:keys=pid if !(pid==1)&&comm~'a*'";
+    let trigger = match Trigger::parse(rt.alloc(), Name::Waking, text) {
+        Err(TriggerFault::Memory) => Trigger::parse(rt.alloc(), Name::Waking, text)?,
+        other => other?,
+    };
+    let mut written = Vec::new(rt.alloc());
+    if trigger.write(&mut written).is_err() {
+        assert!(rt; written.is_empty());
+        trigger.write(&mut written)?;
+    }
+    let tail: &[u8] = b" if !pid == 1 && comm ~ \"a*\"";
+    assert_eq!(rt; written.strip_prefix(HEAD), Some(tail));
     Ok(())
 }

@@ -4,7 +4,7 @@
 
 ghost use Rattle.std.specs.Prelude.{◌≡◌, ◌≢◌, OnOk, OnErr, IfErr, ◌++◌};
 ghost use Rattle.ft_filter.specs.Answers.{filter_of};
-ghost use Rattle.ft_filter.specs.Canonical.{IsFront};
+ghost use Rattle.ft_filter.specs.Given.{IsFront};
 ghost use Rattle.ft_board.specs.Trigger.{trigger_of, wake_trigger, tail_filter, filter_on, Gives, canonical, filter_text, hit, key_of, passes, size_of, key_cmp};
 ghost use Rattle.ft_board.specs.TriggerFault.{number_of, place_of, of_filter};
 

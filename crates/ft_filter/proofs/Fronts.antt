@@ -1,7 +1,7 @@
 -- A text that begins with an older one, through several steps.
 use Rattle.std.proofs.Common.{◌≡◌, List, ℕ, ◌++◌, take, length, sym, ap, ◌∙◌, ◌≤◌, arith, length-append}
 use Rattle.std.proofs.lemmas.List.{take_at, take-take}
-use Rattle.ft_filter.specs.Canonical.{IsFront}
+use Rattle.ft_filter.specs.Given.{IsFront}
 
 -- a text begins with what stood before something was added
 pub front_of_more : (old new end : List ℕ) → new ≡ old ++ end → IsFront old new

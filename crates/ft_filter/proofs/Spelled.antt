@@ -110,7 +110,7 @@ op_again ops.Lt rest = refl
 op_again ops.Le rest = refl
 op_again ops.Gt rest = refl
 op_again ops.Ge rest = refl
-op_again ops.And rest = refl
+op_again ops.Bits rest = refl
 op_again ops.Glob rest = refl
 
 -- no space and no tab begins an operator
@@ -121,7 +121,7 @@ op_first ops.Lt rest = refl
 op_first ops.Le rest = refl
 op_first ops.Gt rest = refl
 op_first ops.Ge rest = refl
-op_first ops.And rest = refl
+op_first ops.Bits rest = refl
 op_first ops.Glob rest = refl
 
 -- ---- quoted texts

@@ -1,14 +1,14 @@
 -- The answer to a filter's text, worked out from the left (our own choice).
-use Rattle.std.specs.Prelude.{ℕ, zero, suc, ◌==◌, List, length, drop, slice_index, Option, Some, None, Result, if◌then◌else◌}
+use Rattle.std.specs.Prelude.{ℕ, zero, suc, ◌==◌, List, length, drop, slice_index, Option, Some, None, Result, Ok, Err, ◌≡◌, ◌⊎◌, if◌then◌else◌}
 use Rattle.ft_event.specs.declared.event.Name.{Name}
 use Rattle.ft_filter.specs.declared.fault.FilterFault.{FilterFault}
-use Rattle.ft_filter.specs.declared.fault.FilterFault.TheVariants.{TooDeep}
+use Rattle.ft_filter.specs.declared.fault.FilterFault.TheVariants.{Memory, TooDeep}
 use Rattle.ft_filter.specs.declared.tree.Joint.{Joint}
 use Rattle.ft_filter.specs.declared.tree.Joint.TheVariants as joints
 use Rattle.ft_filter.specs.Tokens.{skip}
 use Rattle.ft_filter.specs.Predicate.{Read, Found, Stop, pred_at}
 use Rattle.ft_filter.specs.FilterIs.{behind_joint, joined, made, closed, most_open, whole_of}
-use Rattle.ft_filter.specs.Tree.{Tree, Trees, Not, Test, End, More}
+use Rattle.ft_filter.specs.Tree.{Tree, Trees, Not, Test, End, More, Condition}
 
 -- what follows where a tree is read, and else its fault (our own choice)
 abbrev pub and_then : {A : Type 0} → Read Tree → (Tree → List ℕ → Read A) → Read A
@@ -49,3 +49,8 @@ operand_at event whole (suc room) text =
 -- what a text on an event is: a filter with this tree, or the first fault (our own choice)
 unfoldable pub filter_of : Name → List ℕ → Result Tree FilterFault
 filter_of event text = whole_of (length text) (operands_at (operand_at event (length text) most_open) text)
+
+-- R holds for the answer, unless memory ran out (our own choice)
+abbrev pub GivesFilter : (Result Tree FilterFault → Type 0) → Result Condition FilterFault → Type 0
+GivesFilter R (Ok condition) = R (Ok condition.tree)
+GivesFilter R (Err fault) = (fault ≡ Memory) ⊎ R (Err fault)

@@ -71,7 +71,3 @@ abbrev mutual
   pub more_text : Joint → Trees → List ℕ
   more_text joint End = []
   more_text joint (More tree trees) = joint_text joint ++ enclosed_if (needs_enclosing joint tree) (canonical tree) ++ more_text joint trees
-
--- the text begins with the front (our own choice)
-abbrev pub IsFront : List ℕ → List ℕ → Type 0
-IsFront front text = take (length front) text ≡ front

@@ -3,6 +3,8 @@
 --     or      = and { "||" and }
 --     and     = operand { "&&" operand }
 --     operand = "!" operand | "(" or ")" | field operator value
+--
+-- The words of the text are in Tokens; a field, an operator and a value, with their faults, in Predicate.
 use Rattle.std.specs.Prelude.{◌≡◌, ◌≢◌, ◌⊎◌, ℕ, suc, ◌==◌, List, ◌∷◌, length, drop, slice_index, Option, Some, None, Result, Ok, Err, if◌then◌else◌, codes}
 use Rattle.std.specs.List.{starts_with}
 use Rattle.ft_event.specs.declared.event.Name.{Name}

@@ -1,5 +1,5 @@
 -- What the steps of reading give: an answer, or want of memory (our own choice).
-use Rattle.std.specs.Prelude.{◌≡◌, ◌⊎◌, List, ℕ, Result, Ok, Err}
+use Rattle.std.specs.Prelude.{◌≡◌, ◌⊎◌, List, ℕ, Result, Ok, Err, take, length}
 use Rattle.ft_event.specs.declared.event.Name.{Name}
 use Rattle.ft_filter.specs.declared.fault.FilterFault.{FilterFault}
 use Rattle.ft_filter.specs.declared.fault.FilterFault.TheVariants.{Memory}
@@ -11,7 +11,7 @@ use Rattle.ft_filter.specs.declared.predicate.Valued.{Valued}
 use Rattle.ft_filter.specs.declared.reading.Parsed.{Parsed}
 use Rattle.ft_filter.specs.Predicate.{Read, Found, Stop}
 use Rattle.ft_filter.specs.FilterIs.{Goes, made, joined}
-use Rattle.ft_filter.specs.Tree.{Tree, Trees, tree_of, Condition}
+use Rattle.ft_filter.specs.Tree.{Tree, Trees, tree_of}
 
 -- a predicate is read so, or memory ran out (our own choice)
 abbrev pub GivesPred : Read Pred → Result Compared FilterFault → Type 0
@@ -32,7 +32,6 @@ GivesTree R (Err fault) = (fault ≡ Memory) ⊎ R (Stop fault)
 abbrev pub GoesOn : Name → ℕ → Joint → ℕ → Tree → List ℕ → Read Tree → Type 0
 GoesOn event whole joint room tree rest read = (more : Read Trees) × Goes event whole joint room rest more × (read ≡ made (joined joint tree) more)
 
--- R holds for the answer, or memory ran out (our own choice)
-abbrev pub GivesFilter : (Result Tree FilterFault → Type 0) → Result Condition FilterFault → Type 0
-GivesFilter R (Ok condition) = R (Ok condition.tree)
-GivesFilter R (Err fault) = (fault ≡ Memory) ⊎ R (Err fault)
+-- the text begins with the front (our own choice)
+abbrev pub IsFront : List ℕ → List ℕ → Type 0
+IsFront front text = take (length front) text ≡ front

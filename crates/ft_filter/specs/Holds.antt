@@ -24,7 +24,7 @@ numbers_hold ops.Lt a b = int_lt a b
 numbers_hold ops.Le a b = int_le a b
 numbers_hold ops.Gt a b = int_lt b a
 numbers_hold ops.Ge a b = int_le b a
-numbers_hold ops.And a b = not (bit_and (cast_unsigned w64 a) (cast_unsigned w64 b) == 0)
+numbers_hold ops.Bits a b = not (bit_and (cast_unsigned w64 a) (cast_unsigned w64 b) == 0)
 numbers_hold ops.Glob a b = false
 
 -- a text before the operator and one behind it; `~`: it matches the glob (kernel: events.rst, event filtering)

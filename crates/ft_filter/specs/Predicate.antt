@@ -41,7 +41,7 @@ suits text ops.Lt = not text
 suits text ops.Le = not text
 suits text ops.Gt = not text
 suits text ops.Ge = not text
-suits text ops.And = not text
+suits text ops.Bits = not text
 suits text ops.Glob = text
 
 -- a signed number of 64 bits (our own choice)

@@ -38,12 +38,12 @@ text_of ops.Le = codes "<="
 text_of ops.Ge = codes ">="
 text_of ops.Lt = codes "<"
 text_of ops.Gt = codes ">"
-text_of ops.And = codes "&"
+text_of ops.Bits = codes "&"
 text_of ops.Glob = codes "~"
 
 -- the operators, the longer ones first (our own choice)
 abbrev pub all_ops : List Op
-all_ops = ops.Eq ∷ ops.Ne ∷ ops.Le ∷ ops.Ge ∷ ops.Lt ∷ ops.Gt ∷ ops.And ∷ ops.Glob ∷ []
+all_ops = ops.Eq ∷ ops.Ne ∷ ops.Le ∷ ops.Ge ∷ ops.Lt ∷ ops.Gt ∷ ops.Bits ∷ ops.Glob ∷ []
 
 -- the text begins with the operator (our own choice)
 abbrev pub begins : List ℕ → Op → Bool

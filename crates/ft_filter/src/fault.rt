@@ -8,7 +8,7 @@ ghost use Rattle.ft_filter.specs.FilterFault.{number_of, place_of};
 pub enum FilterFault {
     /// Memory ran out.
     Memory,
-    /// What stands here may not: at the end of the text, its length.
+    /// A token that may not stand here; at the end of the text, its length.
     Syntax(usize),
     /// The event has no such field.
     NoField(usize),

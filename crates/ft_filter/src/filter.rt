@@ -13,7 +13,7 @@ use std::marker::Model;
 #[derive(Drop)]
 pub struct Filter {
     event: Name,
-    pub(crate) expr: Expr,
+    expr: Expr,
 }
 
 impl Model for Filter {
@@ -34,6 +34,13 @@ impl Filter {
         ensures tree { result.tree ≡ tree_of expr }
     {
         Filter { event, expr }
+    }
+
+    /// What it asks.
+    pub fn expr(&self) -> &Expr
+        ensures { tree_of result.now ≡ self.now.tree }
+    {
+        &self.expr
     }
 
     /// The event that it was read for.

@@ -17,7 +17,7 @@ impl Filter {
     pub fn holds(&self, event: &Event) -> bool
         ensures { result ≡ holds event.now self.now.tree }
     {
-        expr_holds(&self.expr, event)
+        expr_holds(self.expr(), event)
     }
 }
 
@@ -98,7 +98,7 @@ fn number_holds(op: Op, value: i64, number: i64) -> bool
         Op::Le => value <= number,
         Op::Gt => value > number,
         Op::Ge => value >= number,
-        Op::And => value & number != 0,
+        Op::Bits => value & number != 0,
         Op::Glob => false,
     }
 }
@@ -111,6 +111,6 @@ fn text_holds(op: Op, value: &[u8], text: &[u8]) -> bool
         Op::Eq => value == text,
         Op::Ne => value != text,
         Op::Glob => is_glob(text) && glob(text, value),
-        Op::Lt | Op::Le | Op::Gt | Op::Ge | Op::And => false,
+        Op::Lt | Op::Le | Op::Gt | Op::Ge | Op::Bits => false,
     }
 }

@@ -7,9 +7,9 @@ ghost use Rattle.std.specs.Option.{option_copied};
 ghost use Rattle.ft_filter.specs.Tokens.{skip};
 ghost use Rattle.ft_filter.specs.Predicate.{pred_at, Found};
 ghost use Rattle.ft_filter.specs.FilterIs.{FilterIs, Reads, Joined, Operand, below, behind_joint, both, made, closed};
-ghost use Rattle.ft_filter.specs.Answers.{filter_of};
+ghost use Rattle.ft_filter.specs.Answers.{filter_of, GivesFilter};
 ghost use Rattle.ft_filter.specs.Canonical.{canonical};
-ghost use Rattle.ft_filter.specs.Given.{GivesTree, GoesOn, GivesFilter};
+ghost use Rattle.ft_filter.specs.Given.{GivesTree, GoesOn};
 ghost use Rattle.ft_filter.specs.Tree.{Tree, tree_of, trees_in, trees, Not, Test};
 
 use crate::fault::FilterFault;

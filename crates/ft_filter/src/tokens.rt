@@ -18,7 +18,7 @@ const OPS: [Op; 8] = [
     Op::Ge,
     Op::Lt,
     Op::Gt,
-    Op::And,
+    Op::Bits,
     Op::Glob,
 ];
 

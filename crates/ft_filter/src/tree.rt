@@ -23,7 +23,7 @@ pub enum Expr {
     Pred(Pred),
 }
 
-/// Operands, in order. Contracts see their list.
+/// Operands, in order.
 #[cycle(tree)]
 #[derive(Drop)]
 pub struct Exprs {
@@ -57,7 +57,7 @@ pub enum Op {
     /// `>=`, of numbers.
     Ge,
     /// `&`, of numbers: they have a bit in common.
-    And,
+    Bits,
     /// `~`, of texts: the field's text matches the glob.
     Glob,
 }
@@ -151,7 +151,7 @@ impl Op {
             Op::Le => b"<=",
             Op::Gt => b">",
             Op::Ge => b">=",
-            Op::And => b"&",
+            Op::Bits => b"&",
             Op::Glob => b"~",
         }
     }
@@ -162,7 +162,7 @@ impl Op {
     {
         match self {
             Op::Eq | Op::Ne => true,
-            Op::Lt | Op::Le | Op::Gt | Op::Ge | Op::And => !text,
+            Op::Lt | Op::Le | Op::Gt | Op::Ge | Op::Bits => !text,
             Op::Glob => text,
         }
     }

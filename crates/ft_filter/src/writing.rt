@@ -4,7 +4,8 @@
 
 ghost use Rattle.std.specs.Prelude.{◌≡◌, ◌++◌, ◌==◌, not, OnOk, OnErr, map};
 ghost use Rattle.std.specs.List.{list_all};
-ghost use Rattle.ft_filter.specs.Canonical.{canonical, pred_text, value_text, quoted, joint_text, enclosed_if, is_joined, needs_enclosing, joined_text, more_text, IsFront};
+ghost use Rattle.ft_filter.specs.Canonical.{canonical, pred_text, value_text, quoted, joint_text, enclosed_if, is_joined, needs_enclosing, joined_text, more_text};
+ghost use Rattle.ft_filter.specs.Given.{IsFront};
 ghost use Rattle.ft_filter.specs.Tree.{tree_of, trees};
 
 use crate::filter::Filter;
@@ -20,7 +21,7 @@ impl Filter {
         ensures err { OnErr result (text.new.items ≡ text.old.items) }
     {
         let len = text.len();
-        match write_expr(&self.expr, text) {
+        match write_expr(self.expr(), text) {
             Ok(()) => Ok(()),
             Err(refused) => {
                 text.truncate(len);

@@ -36,21 +36,25 @@ Totals:
 /// How many bytes each command of the script ends at, and how many are printed by then.
 const ENDS: [(usize, usize); 4] = [(0, 0), (8, 9), (42, 20), (49, 212)];
 
-/// The one trace file.
-fn files(alloc: Global) -> Result<Vec<Vec<u8>>, AllocError> {
+/// Runs a script over the plain board with one trace file.
+fn ran_over(
+    alloc: Global,
+    trace: &[u8],
+    script: &mut Source<'_>,
+    out: &mut Sink,
+) -> Result<Result<Status, RunFault>, AllocError> {
     let mut files = Vec::new(alloc);
-    files.push(Vec::from_slice(alloc, TRACE)?)?;
-    Ok(files)
+    files.push(Vec::from_slice(alloc, trace)?)?;
+    Ok(run(alloc, PlainBoard::new(alloc), files.as_slice(), script, out))
 }
 
-/// Runs a script over the plain board with the trace file.
+/// Runs a script over the plain board with the two wakings.
 fn ran(
     alloc: Global,
     script: &mut Source<'_>,
     out: &mut Sink,
 ) -> Result<Result<Status, RunFault>, AllocError> {
-    let files = files(alloc)?;
-    Ok(run(alloc, PlainBoard::new(alloc), files.as_slice(), script, out))
+    ran_over(alloc, TRACE, script, out)
 }
 
 /// How much is printed by the commands that end within the first bytes of the script.
@@ -172,15 +176,50 @@ refused 16
 
 #[test]
 fn triggers_with_filters(rt: HostRuntime) -> Result<(), Fail> {
-    let files = vec![in rt.alloc(); Vec::from_slice(rt.alloc(), TWO_TASKS)?]?;
-    for (script, printed) in [FILTERED, BAD_TAILS] {
+    let expected = [
+        (FILTERED, Status::AllAccepted),
+        (BAD_TAILS, Status::SomeRefused),
+    ];
+    for ((script, printed), status) in expected {
         let mut out = Sink::new(rt.alloc(), 4096);
         let mut source = Source::new(script, 4096);
-        let board = PlainBoard::new(rt.alloc());
-        let ended = run(rt.alloc(), board, files.as_slice(), &mut source, &mut out);
-        assert!(rt; ended.is_ok());
+        let ended = ran_over(rt.alloc(), TWO_TASKS, &mut source, &mut out)?;
+        assert!(rt; matches!(ended, Ok(given) if given == status));
         assert_eq!(rt; out.bytes.as_slice(), printed);
     }
+    Ok(())
+}
+
+#[test]
+fn three_wake_events(rt: HostRuntime) -> Result<(), Fail> {
+    let trace = b" a-1 [000] 1.000001: sched_waking: comm=x pid=3 prio=1 target_cpu=001
+ a-1 [000] 1.000002: sched_wakeup: comm=x pid=4 prio=1 target_cpu=001
+ a-1 [000] 1.000003: sched_wakeup_new: comm=x pid=5 prio=1 target_cpu=001
+";
+    let mut desk = Desk::new(rt.alloc(), PlainBoard::new(rt.alloc()));
+    desk.load(trace)?;
+    desk.attach(Name::Wakeup, b"hist:keys=pid")?;
+    desk.attach(Name::WakeupNew, b"hist:keys=pid if pid == 5")?;
+    let wakeup: &[u8] = b"#
+
+{ pid:          4 } hitcount:          1
+
+Totals:
+    Hits: 1
+    Entries: 1
+    Dropped: 0
+";
+    let wakeup_new: &[u8] = b"#
+
+{ pid:          5 } hitcount:          1
+
+Totals:
+    Hits: 1
+    Entries: 1
+    Dropped: 0
+";
+    assert!(rt; desk.hist(1)?.ends_with(wakeup));
+    assert!(rt; desk.hist(2)?.ends_with(wakeup_new));
     Ok(())
 }
 
@@ -283,19 +322,25 @@ fn fails_where_the_flush_does(rt: HostRuntime) -> Result<(), Fail> {
 /// Run by hand with each allocation refused in turn: `tests/each_allocation.sh`.
 #[test]
 fn whole_output_or_that_of_the_commands_before(rt: HostRuntime) -> Result<(), Fail> {
-    let Ok(bytes) = Vec::with_capacity(rt.alloc(), PRINTED.len()) else {
+    let (script, whole) = FILTERED;
+    let Ok(bytes) = Vec::with_capacity(rt.alloc(), whole.len()) else {
         return Ok(());
     };
     let mut out = Sink::new(rt.alloc(), 100);
     out.bytes = bytes;
-    let Ok(ended) = ran(rt.alloc(), &mut Source::new(SCRIPT, 100), &mut out) else {
+    let Ok(ended) = ran_over(
+        rt.alloc(),
+        TWO_TASKS,
+        &mut Source::new(script, 100),
+        &mut out,
+    ) else {
         return Ok(());
     };
     let printed = out.bytes.as_slice();
     match ended {
         Ok(status) => {
             assert_eq!(rt; status, Status::AllAccepted);
-            assert_eq!(rt; printed, PRINTED);
+            assert_eq!(rt; printed, whole);
         }
         Err(fault) => {
             assert!(rt; matches!(fault, RunFault::Memory));

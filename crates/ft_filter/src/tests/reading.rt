@@ -52,6 +52,8 @@ fn faults_and_their_places(rt: HostRuntime) {
         ("pid == 00", FilterFault::Syntax(7)),
         ("pid == 1a", FilterFault::Syntax(7)),
         ("pid == -", FilterFault::Syntax(7)),
+        ("comm == bash", FilterFault::Syntax(8)),
+        ("pid == 1 pid == 2", FilterFault::Syntax(9)),
         ("next_pid == 1", FilterFault::NoField(0)),
     ] {
         assert_eq!(rt;
