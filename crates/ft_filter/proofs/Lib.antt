@@ -1,6 +1,7 @@
 mod Again
 mod Cuts
 mod Deciding
+mod Examples
 mod Existence
 mod Firsts
 mod Fits

@@ -1,0 +1,149 @@
+-- Texts of triggers, and what they are: the definitions, worked out on examples.
+use Rattle.std.proofs.Common.{◌≡◌, refl, ℕ, List, [], ◌∷◌, true, false}
+use Rattle.std.specs.Prelude.{Result, Ok, Err, Option, Some, None, codes}
+use Rattle.ft_event.specs.declared.event.Name.TheVariants as names
+use Rattle.ft_event.specs.declared.field.Field.TheVariants as fields
+use Rattle.ft_trigger.specs.declared.fault.TriggerFault.{TriggerFault}
+use Rattle.ft_trigger.specs.declared.fault.TriggerFault.TheVariants.{Syntax, NoField, NotNumeric, TooMany, Duplicate, BadSize, BadSort, BadModifier, LeftOut, BadFilter}
+use Rattle.ft_trigger.specs.declared.item.Mode.TheVariants as modes
+use Rattle.ft_trigger.specs.declared.item.Item.TheVariants as items
+use Rattle.ft_trigger.specs.declared.item.SortBy.TheVariants as sorts
+use Rattle.ft_trigger.specs.declared.label.Var.TheVariants as vars
+use Rattle.ft_filter.specs.declared.fault.FilterFault.TheVariants.{BadGlob}
+use Rattle.ft_filter.specs.Tokens.{name_at as field_at, op_at, quoted_at, number_at, number_of}
+use Rattle.ft_filter.specs.Predicate.{text_value, number_value, value_at, comparison_at, pred_at}
+use Rattle.ft_filter.specs.Matching.{items_of, is_glob}
+use Rattle.ft_filter.specs.Answers.{going, joined_at, operand_at, filter_of}
+use Rattle.ft_trigger.specs.Powers.{log2_of}
+use Rattle.ft_trigger.specs.Hist.{Hist}
+use Rattle.ft_trigger.specs.Words.{name_at, word_with, word_of, number_in}
+use Rattle.ft_trigger.specs.Draft.{with_key, with_value, with_sort, stamp_of, with_kind, with_variable, with_part, parts_from}
+use Rattle.ft_trigger.specs.TriggerIs.{filter_in, sort_by, finished, trigger_of}
+
+computing : Unit {0}
+unfolding name_at word_with word_of number_in with_key with_value with_sort stamp_of with_kind with_variable with_part parts_from filter_in sort_by finished trigger_of log2_of field_at op_at quoted_at number_at number_of text_value number_value value_at comparison_at pred_at items_of is_glob going joined_at operand_at filter_of
+computing = tt
+
+-- a text on a waking
+abbrev waking : List ℕ → Result Hist TriggerFault
+waking text = trigger_of names.Waking text
+
+keys_twice : waking (codes "hist:keys=pid:keys=prio") ≡ Err Duplicate
+unfolding computing
+keys_twice = refl
+
+four_keys : waking (codes "hist:keys=pid,prio,target_cpu,comm") ≡ Err TooMany
+unfolding computing
+four_keys = refl
+
+text_in_hex : waking (codes "hist:keys=comm.hex") ≡ Err BadModifier
+unfolding computing
+text_in_hex = refl
+
+left_out_modifier : waking (codes "hist:keys=pid.execname") ≡ Err (LeftOut 10)
+unfolding computing
+left_out_modifier = refl
+
+text_as_value : waking (codes "hist:keys=pid:vals=comm") ≡ Err NotNumeric
+unfolding computing
+text_as_value = refl
+
+sorted_by_no_key : waking (codes "hist:keys=pid:sort=prio") ≡ Err BadSort
+unfolding computing
+sorted_by_no_key = refl
+
+field_of_another_event : waking (codes "hist:keys=next_pid") ≡ Err NoField
+unfolding computing
+field_of_another_event = refl
+
+no_keys : waking (codes "hist:vals=prio") ≡ Err (Syntax 14)
+unfolding computing
+no_keys = refl
+
+if_without_filter : waking (codes "hist:keys=pid  if") ≡ Err (Syntax 15)
+unfolding computing
+if_without_filter = refl
+
+no_size : waking (codes "hist:keys=pid:size=0") ≡ Err BadSize
+unfolding computing
+no_size = refl
+
+least_size : waking (codes "hist:keys=pid:size=64") ≡ Err BadSize
+unfolding computing
+least_size = refl
+
+greatest_size : waking (codes "hist:keys=pid:size=131073") ≡ Err BadSize
+unfolding computing
+greatest_size = refl
+
+left_out_part : waking (codes "hist:keys=pid:pause") ≡ Err (LeftOut 14)
+unfolding computing
+left_out_part = refl
+
+variable_called_pause : waking (codes "hist:keys=pid:pause=common_timestamp.usecs:ts=common_timestamp.usecs") ≡ Err (LeftOut 43)
+unfolding computing
+variable_called_pause = refl
+
+second_hitcount : waking (codes "hist:keys=pid:vals=hitcount,hitcount") ≡ Err Duplicate
+unfolding computing
+second_hitcount = refl
+
+fourth_value : waking (codes "hist:keys=pid:vals=prio,pid,target_cpu,hitcount.hex,common_pid") ≡ Err BadModifier
+unfolding computing
+fourth_value = refl
+
+empty_list : waking (codes "hist:keys=") ≡ Err (Syntax 10)
+unfolding computing
+empty_list = refl
+
+empty_part : waking (codes "hist:") ≡ Err (Syntax 5)
+unfolding computing
+empty_part = refl
+
+no_head : waking (codes "keys=pid") ≡ Err (Syntax 0)
+unfolding computing
+no_head = refl
+
+reads_own_name : waking (codes "hist:keys=pid:w=common_timestamp.usecs-$w") ≡ Err Duplicate
+unfolding computing
+reads_own_name = refl
+
+plain_trigger : waking (codes "hist:keys=pid") ≡ Ok (record {
+  event = names.Waking;
+  keys = record { field = fields.Pid; mode = modes.Plain } ∷ [];
+  values = [];
+  sort = record { what = sorts.Hits; descending = false } ∷ [];
+  variable = None;
+  size = 2048;
+  filter = None;
+})
+unfolding computing
+plain_trigger = refl
+
+switches_by_power : trigger_of names.Switch (codes "hist:key=next_pid.log2:val=next_prio:sort=next_prio.ascending:size=129") ≡ Ok (record {
+  event = names.Switch;
+  keys = record { field = fields.NextPid; mode = modes.Log2 } ∷ [];
+  values = items.Num fields.NextPrio ∷ [];
+  sort = record { what = sorts.Value 0; descending = false } ∷ [];
+  variable = None;
+  size = 256;
+  filter = None;
+})
+unfolding computing
+switches_by_power = refl
+
+latencies : trigger_of names.Switch (codes "hist:keys=next_pid:vals=$lat:lat=common_timestamp.usecs-$ts0") ≡ Ok (record {
+  event = names.Switch;
+  keys = record { field = fields.NextPid; mode = modes.Plain } ∷ [];
+  values = items.Own ∷ [];
+  sort = record { what = sorts.Hits; descending = false } ∷ [];
+  variable = Some (vars.Reads (codes "lat") (codes "ts0"));
+  size = 2048;
+  filter = None;
+})
+unfolding computing
+latencies = refl
+
+bad_filter : waking (codes "hist:keys=comm if comm ~ \"[a\"") ≡ Err (BadFilter (BadGlob 7))
+unfolding computing
+bad_filter = refl

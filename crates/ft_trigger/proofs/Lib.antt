@@ -1,0 +1,5 @@
+mod Examples
+mod KeyLemmas
+mod KindLemmas
+mod PartLemmas
+mod PowerLemmas

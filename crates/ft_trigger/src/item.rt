@@ -1,0 +1,54 @@
+//! The items of a trigger's parts: what it counts under, what it sums, how its rows are sorted.
+
+use ft_event::Field;
+
+/// A key item: a field, and what is made of its value.
+#[derive(Clone, Copy, Debug, PartialEq, Eq)]
+pub struct KeyItem {
+    /// The field.
+    pub field: Field,
+    /// What is made of its value.
+    pub mode: Mode,
+}
+
+/// What a key item makes of its field's value: the field's modifier.
+#[derive(Clone, Copy, Debug, PartialEq, Eq)]
+pub enum Mode {
+    /// No modifier: the value itself.
+    Plain,
+    /// `.hex`: the value itself, printed in hexadecimal.
+    Hex,
+    /// `.log2`: the least power of 2 that is not below the value.
+    Log2,
+    /// `.buckets=N`: the greatest multiple of N that is not above the value.
+    Buckets(u32),
+}
+
+/// A value item: what a trigger sums beside the count of hits.
+#[derive(Clone, Copy, Debug, PartialEq, Eq)]
+pub enum Item {
+    /// A numeric field.
+    Num(Field),
+    /// The trigger's own variable.
+    Own,
+}
+
+/// A sort item: what rows are sorted by, and which way.
+#[derive(Clone, Copy, Debug, PartialEq, Eq)]
+pub struct SortItem {
+    /// What rows are sorted by.
+    pub what: SortBy,
+    /// Whether the greatest comes first.
+    pub descending: bool,
+}
+
+/// What rows are sorted by.
+#[derive(Clone, Copy, Debug, PartialEq, Eq)]
+pub enum SortBy {
+    /// The count of hits.
+    Hits,
+    /// The key item of this number, from 0.
+    Key(u8),
+    /// The sum of the value item of this number, from 0.
+    Value(u8),
+}
