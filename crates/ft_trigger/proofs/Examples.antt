@@ -1,6 +1,6 @@
 -- Texts of triggers, and what they are: the definitions, worked out on examples.
-use Rattle.std.proofs.Common.{◌≡◌, refl, ℕ, List, [], ◌∷◌, true, false}
-use Rattle.std.specs.Prelude.{Result, Ok, Err, Option, Some, None, codes}
+use Rattle.std.proofs.Common.{◌≡◌, refl, ℕ, List, [], ◌∷◌, false}
+use Rattle.std.specs.Prelude.{Result, Ok, Err, Some, None, codes}
 use Rattle.ft_event.specs.declared.event.Name.TheVariants as names
 use Rattle.ft_event.specs.declared.field.Field.TheVariants as fields
 use Rattle.ft_trigger.specs.declared.fault.TriggerFault.{TriggerFault}
@@ -19,10 +19,18 @@ use Rattle.ft_trigger.specs.Hist.{Hist}
 use Rattle.ft_trigger.specs.Words.{name_at, word_with, word_of, number_in}
 use Rattle.ft_trigger.specs.Draft.{with_key, with_value, with_sort, stamp_of, with_kind, with_variable, with_part, parts_from}
 use Rattle.ft_trigger.specs.TriggerIs.{filter_in, sort_by, finished, trigger_of}
+use Rattle.ft_trigger.specs.Canonical.{canonical}
+use Rattle.std.specs.Fmt.{digits}
+use Rattle.ft_filter.specs.Canonical.{quoted, pred_text}
 
 computing : Unit {0}
-unfolding name_at word_with word_of number_in with_key with_value with_sort stamp_of with_kind with_variable with_part parts_from filter_in sort_by finished trigger_of log2_of field_at op_at quoted_at number_at number_of text_value number_value value_at comparison_at pred_at items_of is_glob going joined_at operand_at filter_of
+unfolding name_at word_with word_of number_in with_key with_value with_sort stamp_of with_kind with_variable with_part parts_from filter_in sort_by finished trigger_of log2_of field_at op_at quoted_at number_at number_of text_value number_value value_at comparison_at pred_at items_of is_glob going joined_at operand_at filter_of canonical quoted pred_text digits
 computing = tt
+
+-- the canonical text of a trigger that is read
+abbrev again : Result Hist TriggerFault → List ℕ
+again (Ok hist) = canonical hist
+again (Err fault) = []
 
 -- a text on a waking
 abbrev waking : List ℕ → Result Hist TriggerFault
@@ -147,3 +155,22 @@ latencies = refl
 bad_filter : waking (codes "hist:keys=comm if comm ~ \"[a\"") ≡ Err (BadFilter (BadGlob 7))
 unfolding computing
 bad_filter = refl
+
+canonical_power : again (trigger_of names.Switch (codes "hist:key=next_pid.log2:val=next_prio:sort=next_prio.ascending:size=129"))
+    ≡ codes "hist:keys=next_pid.log2:vals=hitcount,next_prio:sort=next_prio:size=256"
+unfolding computing
+canonical_power = refl
+
+canonical_saver : again (waking (codes "hist:keys=pid:ts0=common_timestamp.usecs"))
+    ≡ codes "hist:keys=pid:vals=hitcount:ts0=common_timestamp.usecs:sort=hitcount:size=2048"
+unfolding computing
+canonical_saver = refl
+
+canonical_reader : again (trigger_of names.Switch (codes "hist:keys=next_pid:vals=$lat:lat=common_timestamp.usecs-$ts0"))
+    ≡ codes "hist:keys=next_pid:vals=hitcount,$lat:lat=common_timestamp.usecs-$ts0:sort=hitcount:size=2048"
+unfolding computing
+canonical_reader = refl
+
+canonical_sizes : again (waking (codes "hist:keys=pid:size=65")) ≡ codes "hist:keys=pid:vals=hitcount:sort=hitcount:size=128"
+unfolding computing
+canonical_sizes = refl

@@ -11,6 +11,7 @@ pub mod TriggerFault
 pub mod Words
 pub mod Draft
 pub mod TriggerIs
+pub mod Canonical
 pub use Rattle.ft_event.specs.Traced
 pub use Rattle.ft_event.specs.Fields
 pub use Rattle.ft_filter.specs.Tree
