@@ -5,7 +5,7 @@ ghost use Rattle.std.specs.Option.{option_map};
 ghost use Rattle.std.specs.List.{prefix_len, find, list_all};
 ghost use Rattle.std.specs.Char.{is_ascii_digit, is_ascii_hexdigit, digit_value};
 ghost use Rattle.std.specs.Str.Parse.{digits_value};
-ghost use Rattle.ft_filter.specs.Tokens.{skip, name_at, op_at, quoted_at, cut_at, number_at, number_of, is_decimal, is_hexadecimal, is_quote, begins_name, word_len, begins, all_ops};
+ghost use Rattle.ft_filter.specs.Tokens.{is_gap, skip, name_at, op_at, quoted_at, cut_at, number_at, number_of, is_decimal, is_hexadecimal, is_quote, begins_name, word_len, begins, all_ops};
 ghost use Rattle.ft_filter.specs.Words.{test_of, ranged, ranged_at, within_reach};
 
 use crate::tree::Op;
@@ -51,11 +51,18 @@ impl Class {
         ensures { result ≡ test_of self byte }
     {
         match self {
-            Class::Gap => byte == b' ' || byte == b'\t',
+            Class::Gap => is_gap(byte),
             Class::Name => byte.is_ascii_alphanumeric() || byte == b'_',
             Class::Except(mark) => byte != mark,
         }
     }
+}
+
+/// Whether the byte is a space or a tab.
+pub fn is_gap(byte: u8) -> bool
+    ensures { result ≡ is_gap byte }
+{
+    byte == b' ' || byte == b'\t'
 }
 
 /// How many bytes of the class the text begins with.
@@ -72,8 +79,9 @@ fn front_len(text: &[u8], class: Class) -> usize
 }
 
 /// The text behind the spaces and tabs that it begins with.
-pub(crate) fn skip(text: &[u8]) -> &[u8]
-    ensures { result.now ≡ skip text.now }
+pub fn skip(text: &[u8]) -> &[u8]
+    ensures value { result.now ≡ skip text.now }
+    ensures within { length result.now ≤ length text.now }
 {
     &text[front_len(text, Class::Gap)..]
 }
@@ -87,7 +95,7 @@ fn begins_name(byte: u8) -> bool
 
 /// The name that the text begins with, and what is behind it.
 #[tactic(auto, unfolding(crate::specs::Tokens::name_at))]
-pub(crate) fn name_at(text: &[u8]) -> Option<(&[u8], &[u8])>
+pub fn name_at(text: &[u8]) -> Option<(&[u8], &[u8])>
     ensures { option_map (λ x. (x.0.now, x.1.now)) result ≡ name_at text.now }
 {
     match text.first() {

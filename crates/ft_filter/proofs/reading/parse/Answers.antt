@@ -11,9 +11,9 @@ returns-in_err-parsed-clause-exact c =
 pub returns-then-not-is_empty-clause-exact : goal.returns-then-not-is_empty-clause-exact
 returns-then-not-is_empty-clause-exact c =
     let some : eqb (length c.skip-rest.result.now) 0 ≡ false = search rules in
-    inr (answer_more c.args.event c.args.text.now _ _ c.skip-rest.result.now c.place.result c.in_ok-parsed.ensures.reads c.skip-rest.ensures some c.place.ensures)
+    inr (answer_more c.args.event c.args.text.now _ _ c.skip-rest.result.now c.place.result c.in_ok-parsed.ensures.reads c.skip-rest.ensures.value some c.place.ensures)
 
 pub returns-clause-exact : goal.returns-clause-exact
 returns-clause-exact c =
     let none : eqb (length c.skip-rest.result.now) 0 ≡ true = search rules in
-    answer_whole c.args.event c.args.text.now _ _ c.skip-rest.result.now c.new.result.tree c.in_ok-parsed.ensures.reads c.skip-rest.ensures none c.new.ensures.tree
+    answer_whole c.args.event c.args.text.now _ _ c.skip-rest.result.now c.new.result.tree c.in_ok-parsed.ensures.reads c.skip-rest.ensures.value none c.new.ensures.tree
