@@ -5,7 +5,7 @@ use Rattle.std.specs.Bool.{Decides, IsTrue}
 use Rattle.std.specs.Option.{option_and_then, is_some, option_map_or}
 use Rattle.std.specs.List.{list_any}
 use Rattle.std.proofs.lemmas.Option.{option_and_then_some, same_Some, cond_some, none-some}
-use Rattle.std.proofs.lemmas.Bool.{cases_eq, cases_Bool, eqb-true, ne_eqb, eq-eqb, leb-true, le-leb, cond-true, cond-false, false_from_ne_true, and_left, or_cases, or_left, or_right}
+use Rattle.std.proofs.lemmas.Bool.{cases_eq, cases_Bool, eqb-true, ne_eqb, eq-eqb, leb-true, le-leb, cond-true, cond-false, false_from_ne_true, or_cases, or_left, or_right}
 use Rattle.std.proofs.lemmas.Bool.Decides.{Decides-eqb, Decides-like, Decides-and, Decides-or, Decides-not, same_from_decides}
 use Rattle.std.proofs.lemmas.List.Elements.{Contains-append_right}
 use Rattle.ft_filter.specs.Glob.{Member, MemberIs, MembersAre, GoesOn, Item, ItemIs, ItemsAre, IsCut, ClassIs, Has, SomeHas, ClassHas, OneThen, SomeEnd, Glob, GlobIs, IsGlob}
@@ -368,10 +368,9 @@ matches-Decides pattern text =
 pub is_glob_exact : (pattern : List ℕ) (result : Bool) → (IsTrue result ↔ IsGlob pattern) → result ≡ is_glob pattern
 is_glob_exact pattern result meaning = same_from_decides result (is_glob pattern) meaning (is_glob-Decides pattern)
 
--- no glob matches no text
-pub matches_unread : (pattern text : List ℕ) → false ≡ is_glob pattern → false ≡ matches pattern text
-unfolding matches
-matches_unread pattern text e = sym (and_left (is_glob pattern) _ (sym e))
+-- bytes that are a glob's are one
+pub same_glob : (pattern bytes : List ℕ) → bytes ≡ pattern → IsTrue (is_glob pattern) → IsGlob bytes
+same_glob pattern bytes same is = subst IsGlob (sym same) ((is_glob-Decides pattern).0 is)
 
 -- a glob matches the texts that its items match
 pub matches_read : (pattern text : List ℕ) (result : Bool) → IsGlob pattern → ((items : List Item) → GlobIs pattern items → (IsTrue result ↔ Glob items text)) → result ≡ matches pattern text

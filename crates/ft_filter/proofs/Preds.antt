@@ -14,14 +14,15 @@ use Rattle.ft_filter.specs.declared.tree.Op.{Op}
 use Rattle.ft_filter.specs.declared.tree.Pred.{Pred}
 use Rattle.ft_filter.specs.Canonical.{quoted, value_text, pred_text}
 use Rattle.ft_filter.specs.Matching.{is_glob}
-use Rattle.ft_filter.specs.Predicate.{Read, Found, Stop, place, found_or, passed_or, fits, is_match, suits, text_value, number_value, value_at, with_value, comparison_at, pred_at}
+use Rattle.ft_filter.specs.Predicate.{Read, Found, Stop, place, found_or, passed_or, fits, is_match, literal_of, suits, text_value, number_value, value_at, with_value, comparison_at, pred_at}
 use Rattle.ft_filter.specs.Tokens.{is_gap, skip, name_at, text_of, op_at, is_quote, quoted_at, number_at}
 use Rattle.ft_filter.proofs.Spelled.{Apart, IsQuotable, skip_gap, skip_none, name_again, name_first, field_again, op_again, op_first, quotes, quoted_again, quoted_first, quotable, number_again, number_first}
 
 -- the value is one that can stand behind the operator, for a field that holds texts or numbers
 abbrev pub ValueFits : Bool → Op → Literal → Type 0
 ValueFits text op (literals.Number number) = (text ≡ false) × (fits number ≡ true)
-ValueFits text op (literals.Text bytes) = (text ≡ true) × ((not (is_match op) || is_glob bytes) ≡ true) × IsQuotable bytes
+ValueFits text op (literals.Text bytes) = (text ≡ true) × (is_match op ≡ false) × IsQuotable bytes
+ValueFits text op (literals.Glob bytes) = (text ≡ true) × (is_match op ≡ true) × (is_glob bytes ≡ true) × IsQuotable bytes
 
 -- the predicate is one that can be read
 pub record PredFits (event : Name) (pred : Pred) : Type 0 where
@@ -46,10 +47,16 @@ unfolding value_at number_value
 number_step whole op rest left number first is fit = rw (first, is, fit) refl
 
 -- a quoted text as the value
-text_step : (whole : ℕ) (op : Op) (rest left bytes : List ℕ) → is_quote (slice_index rest 0) ≡ true → quoted_at rest ≡ Some (bytes, left) → (not (is_match op) || is_glob bytes) ≡ true
+text_step : (whole : ℕ) (op : Op) (rest left bytes : List ℕ) → is_quote (slice_index rest 0) ≡ true → quoted_at rest ≡ Some (bytes, left) → is_match op ≡ false
     → value_at whole true op rest ≡ Found (literals.Text bytes) left
 unfolding value_at text_value
-text_step whole op rest left bytes first is glob = rw (first, is, glob) refl
+text_step whole op rest left bytes first is other = rw (first, is, other) refl
+
+-- a quoted glob as the value
+glob_step : (whole : ℕ) (op : Op) (rest left bytes : List ℕ) → is_quote (slice_index rest 0) ≡ true → quoted_at rest ≡ Some (bytes, left) → is_match op ≡ true → is_glob bytes ≡ true
+    → value_at whole true op rest ≡ Found (literals.Glob bytes) left
+unfolding value_at text_value
+glob_step whole op rest left bytes first is matched glob = rw (first, is, matched, glob) refl
 
 -- a value's text is read
 value_again : (whole : ℕ) (text : Bool) (op : Op) (value : Literal) (rest : List ℕ) → ValueFits text op value → Apart rest → value_at whole text op (value_text value ++ rest) ≡ Found value rest
@@ -61,11 +68,16 @@ value_again whole false op (literals.Text bytes) rest h apart = absurd (let e = 
 value_again whole true op (literals.Text bytes) rest h apart =
     let q = quotes bytes h.2 in
     text_step whole op (quoted bytes ++ rest) rest bytes (ap is_quote (quoted_first bytes rest q) ∙ q.quotes) (quoted_again bytes rest q) h.1
+value_again whole false op (literals.Glob bytes) rest h apart = absurd (let e = h.0 in cc)
+value_again whole true op (literals.Glob bytes) rest h apart =
+    let q = quotes bytes h.3 in
+    glob_step whole op (quoted bytes ++ rest) rest bytes (ap is_quote (quoted_first bytes rest q) ∙ q.quotes) (quoted_again bytes rest q) h.1 h.2
 
 -- no space and no tab begins a value
 value_first : (text : Bool) (op : Op) (value : Literal) (rest : List ℕ) → ValueFits text op value → is_gap (slice_index (value_text value ++ rest) 0) ≡ false
 value_first text op (literals.Number number) rest h = no_gap _ (number_first number rest h.1)
 value_first text op (literals.Text bytes) rest h = let q = quotes bytes h.2 in ap is_gap (quoted_first bytes rest q) ∙ q.seen
+value_first text op (literals.Glob bytes) rest h = let q = quotes bytes h.3 in ap is_gap (quoted_first bytes rest q) ∙ q.seen
 
 -- an operator and a value
 comparison_step : (whole : ℕ) (field : Field) (op : Op) (value : Literal) (rest behind left : List ℕ) → op_at rest ≡ Some (op, behind) → suits (is_text field) op ≡ true
@@ -132,14 +144,24 @@ find_passes test (y ∷ xs) x e = from (find_passes test xs x) (test y) refl e
 same_found : {A : Type 0} (a b : A) (x y : List ℕ) → Found a x ≡ Found b y → a ≡ b
 same_found a b x y e = cc
 
+-- a text that may stand behind the operator fits as its value
+literal_fits : (op : Op) (bytes : List ℕ) → (not (is_match op) || is_glob bytes) ≡ true → IsQuotable bytes → ValueFits true op (literal_of (is_match op) bytes)
+literal_fits op bytes glob quotable = from (is_match op) refl glob
+  where
+    from : (b : Bool) → is_match op ≡ b → (not b || is_glob bytes) ≡ true → ValueFits true op (literal_of b bytes)
+    from true matched glob = (refl, matched, glob, quotable)
+    from false other glob = (refl, other, quotable)
+
 -- a quoted text that was read can be read
 text_fits : (at : ℕ) (text : Bool) (op : Op) (rest left : List ℕ) (value : Literal) → text_value at text op rest ≡ Found value left → ValueFits text op value
 unfolding text_value
 text_fits at text op rest left value e =
-    let q = found_parts (Syntax at) (quoted_at rest) (λ quoted. passed_or (WrongKind at) text (passed_or (BadGlob at) (not (is_match op) || is_glob quoted.0) (Found (literals.Text quoted.0) quoted.1))) value left e in
-    let kind = passed_parts (WrongKind at) text (passed_or (BadGlob at) (not (is_match op) || is_glob q.0.0) (Found (literals.Text q.0.0) q.0.1)) value left q.2 in
-    let glob = passed_parts (BadGlob at) (not (is_match op) || is_glob q.0.0) (Found (literals.Text q.0.0) q.0.1) value left kind.1 in
-    subst (ValueFits text op) (same_found (literals.Text q.0.0) value q.0.1 left glob.1) (kind.0, glob.0, quotable rest q.0 q.1)
+    let q = found_parts (Syntax at) (quoted_at rest) (λ quoted. passed_or (WrongKind at) text (passed_or (BadGlob at) (not (is_match op) || is_glob quoted.0) (Found (literal_of (is_match op) quoted.0) quoted.1))) value left e in
+    let kind = passed_parts (WrongKind at) text (passed_or (BadGlob at) (not (is_match op) || is_glob q.0.0) (Found (literal_of (is_match op) q.0.0) q.0.1)) value left q.2 in
+    let glob = passed_parts (BadGlob at) (not (is_match op) || is_glob q.0.0) (Found (literal_of (is_match op) q.0.0) q.0.1) value left kind.1 in
+    let fit : ValueFits true op (literal_of (is_match op) q.0.0) = literal_fits op q.0.0 glob.0 (quotable rest q.0 q.1) in
+    subst (ValueFits text op) (same_found (literal_of (is_match op) q.0.0) value q.0.1 left glob.1)
+    (subst (λ b. ValueFits b op (literal_of (is_match op) q.0.0)) (sym kind.0) fit)
 
 -- a flag that is not set
 not_set : (b : Bool) → not b ≡ true → b ≡ false

@@ -15,7 +15,7 @@ use Rattle.ft_filter.specs.declared.tree.Literal.TheVariants as literals
 use Rattle.ft_filter.specs.declared.tree.Op.{Op}
 use Rattle.ft_filter.specs.Tokens.{skip, name_at, op_at, cut_at, quoted_at, number_at, number_of, word_len, run_at, begins_name, is_in_name, is_quote, begins, all_ops, text_of}
 use Rattle.ft_filter.specs.Matching.{is_glob}
-use Rattle.ft_filter.specs.Predicate.{Read, Found, Stop, place, fits, is_match, found_or, passed_or, text_value, number_value, value_at, with_value, comparison_at, pred_at}
+use Rattle.ft_filter.specs.Predicate.{Read, Found, Stop, place, fits, is_match, literal_of, found_or, passed_or, text_value, number_value, value_at, with_value, comparison_at, pred_at}
 use Rattle.ft_filter.specs.FilterIs.{Rule, behind_joint, made, closed, text_of as joint_text, Reads, first, first_fails, negated, enclosed, deep, compared, Goes, ended, another, another_fails}
 use Rattle.ft_filter.specs.Tree.{Tree, Trees}
 
@@ -129,7 +129,7 @@ text_value_le at text op rest =
     less_found _ _ _ _ (λ quoted is.
     let le = quoted_le rest quoted is in
     let lt : length quoted.1 < suc (length rest) = omega arith in
-    less_passed _ (WrongKind at) text _ (less_passed _ (BadGlob at) (not (is_match op) || is_glob quoted.0) (Found (literals.Text quoted.0) quoted.1) lt))
+    less_passed _ (WrongKind at) text _ (less_passed _ (BadGlob at) (not (is_match op) || is_glob quoted.0) (Found (literal_of (is_match op) quoted.0) quoted.1) lt))
 
 -- behind a number there is no more
 number_value_le : (at : ℕ) (text : Bool) (rest : List ℕ) → LeavesLess (suc (length rest)) (number_value at text rest)

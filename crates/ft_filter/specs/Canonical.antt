@@ -20,6 +20,7 @@ quoted text =
 abbrev pub value_text : Literal → List ℕ
 value_text (literals.Number number) = signed_decimal number
 value_text (literals.Text text) = quoted text
+value_text (literals.Glob text) = quoted text
 
 -- a field, an operator and a value, with spaces between (our own choice)
 unfoldable pub pred_text : Pred → List ℕ

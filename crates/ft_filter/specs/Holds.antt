@@ -14,6 +14,7 @@ use Rattle.ft_filter.specs.declared.tree.Literal.{Literal}
 use Rattle.ft_filter.specs.declared.tree.Literal.TheVariants as literals
 use Rattle.ft_filter.specs.declared.tree.Pred.{Pred}
 use Rattle.ft_filter.specs.Matching.{matches}
+use Rattle.ft_filter.specs.Predicate.{is_match}
 use Rattle.ft_filter.specs.Tree.{Tree, Trees, Any, All, Not, Test, End, More}
 
 -- a number before the operator and one behind it; `&`: they have a bit in common, as 64 bits of two's complement (kernel: events.rst, event filtering)
@@ -27,18 +28,19 @@ numbers_hold ops.Ge a b = int_le b a
 numbers_hold ops.Bits a b = not (bit_and (cast_unsigned w64 a) (cast_unsigned w64 b) == 0)
 numbers_hold ops.Glob a b = false
 
--- a text before the operator and one behind it; `~`: it matches the glob (kernel: events.rst, event filtering)
+-- a text before the operator and one behind it (kernel: events.rst, event filtering)
 abbrev pub texts_hold : Op → List ℕ → List ℕ → Bool
 texts_hold ops.Eq a b = bytes_eq a b
 texts_hold ops.Ne a b = not (bytes_eq a b)
-texts_hold ops.Glob a b = matches b a
 texts_hold op a b = false
 
--- what a field holds compares so with a value; unlike kinds never do (kernel: events.rst, event filtering)
+-- what a field holds compares so with a value; `~`: the text matches the glob; unlike kinds never do (kernel: events.rst, event filtering)
 abbrev pub values_hold : Op → Value → Literal → Bool
 values_hold op (values.Num a) (literals.Number b) = numbers_hold op a b
 values_hold op (values.Text a) (literals.Text b) = texts_hold op a b
+values_hold op (values.Text a) (literals.Glob b) = is_match op && matches b a
 values_hold op (values.Num a) (literals.Text b) = false
+values_hold op (values.Num a) (literals.Glob b) = false
 values_hold op (values.Text a) (literals.Number b) = false
 
 -- the event's field compares so; a field that it does not have never does (kernel: events.rst, event filtering)

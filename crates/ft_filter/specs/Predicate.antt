@@ -54,13 +54,18 @@ abbrev pub is_match : Op → Bool
 is_match ops.Glob = true
 is_match op = false
 
+-- a text as the value: a glob behind `~` (our own choice)
+abbrev pub literal_of : Bool → List ℕ → Literal
+literal_of true text = literals.Glob text
+literal_of false text = literals.Text text
+
 -- a quoted text as the value: for a field that holds texts, and a glob behind `~` (kernel: events.rst, event filtering)
 unfoldable pub text_value : ℕ → Bool → Op → List ℕ → Read Literal
 text_value at text op rest =
     found_or (Syntax at) (quoted_at rest) (λ quoted.
     passed_or (WrongKind at) text
     (passed_or (BadGlob at) (not (is_match op) || is_glob quoted.0)
-    (Found (literals.Text quoted.0) quoted.1)))
+    (Found (literal_of (is_match op) quoted.0) quoted.1)))
 
 -- a number as the value: for a field that holds numbers, and in range (kernel: events.rst, event filtering)
 unfoldable pub number_value : ℕ → Bool → List ℕ → Read Literal

@@ -17,7 +17,7 @@ pub use filter::Filter;
 pub use pattern::{glob, is_glob, one_reading, what_matches};
 pub use reading::{one_answer, parse, reads_again};
 pub use tokens::{is_gap, name_at, skip};
-pub use tree::{Expr, Exprs, Literal, Op, Pred, Text};
+pub use tree::{Expr, Exprs, Literal, Op, Pattern, Pred, Text};
 
 #[cfg(test)]
 mod tests;

@@ -7,7 +7,6 @@ ghost use Rattle.ft_filter.specs.Holds.{holds, passes, values_hold, numbers_hold
 ghost use Rattle.ft_filter.specs.Tree.{tree_of, trees_in, trees};
 
 use crate::filter::Filter;
-use crate::pattern::{glob, is_glob};
 use crate::tree::{Expr, Exprs, Literal, Op, Pred};
 use ft_event::{Event, Value};
 
@@ -84,6 +83,10 @@ fn value_holds(op: Op, value: Value, literal: &Literal) -> bool
             Value::Num(_) => false,
             Value::Text(value) => text_holds(op, value.bytes(), text.bytes()),
         },
+        Literal::Glob(pattern) => match value {
+            Value::Num(_) => false,
+            Value::Text(value) => op == Op::Glob && pattern.matches(value.bytes()),
+        },
     }
 }
 
@@ -110,7 +113,6 @@ fn text_holds(op: Op, value: &[u8], text: &[u8]) -> bool
     match op {
         Op::Eq => value == text,
         Op::Ne => value != text,
-        Op::Glob => is_glob(text) && glob(text, value),
-        Op::Lt | Op::Le | Op::Gt | Op::Ge | Op::Bits => false,
+        Op::Lt | Op::Le | Op::Gt | Op::Ge | Op::Bits | Op::Glob => false,
     }
 }

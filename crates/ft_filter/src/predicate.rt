@@ -1,17 +1,17 @@
 //! Reading a field, an operator and a value.
 
-ghost use Rattle.std.specs.Prelude.{◌≡◌, not, ◌||◌};
+ghost use Rattle.std.specs.Prelude.{◌≡◌, not, ◌||◌, IsTrue, IfOk};
 ghost use Rattle.ft_event.specs.Fields.{is_text};
 ghost use Rattle.ft_filter.specs.Matching.{is_glob};
-ghost use Rattle.ft_filter.specs.Predicate.{place, pred_at, comparison_at, value_at, text_value, number_value, is_match};
+ghost use Rattle.ft_filter.specs.Predicate.{place, pred_at, comparison_at, value_at, text_value, number_value, is_match, literal_of};
 ghost use Rattle.ft_filter.specs.Given.{GivesPred, GivesValue};
 
 use crate::fault::FilterFault;
 use crate::pattern::is_glob;
 use crate::tokens::{Number, is_quote, name_at, number_at, op_at, quoted_at, skip};
-use crate::tree::{Literal, Op, Pred, Text};
+use crate::tree::{Literal, Op, Pattern, Pred, Text};
 use ft_event::{Field, Name, field_named};
-use std::alloc::Global;
+use std::alloc::{AllocError, Global};
 
 /// What a text is read for.
 #[derive(Clone, Copy)]
@@ -109,11 +109,8 @@ fn text_value(source: Source, is_text: bool, op: Op, text: &[u8]) -> Result<Valu
             if !may_follow(op, inside) {
                 return Err(FilterFault::BadGlob(source.place(text)));
             }
-            match Text::of(source.alloc, inside) {
-                Ok(copy) => Ok(Valued {
-                    value: Literal::Text(copy),
-                    rest,
-                }),
+            match literal(source.alloc, op, inside) {
+                Ok(value) => Ok(Valued { value, rest }),
                 Err(_) => Err(FilterFault::Memory),
             }
         }
@@ -126,6 +123,18 @@ fn may_follow(op: Op, text: &[u8]) -> bool
     ensures { result ≡ (not (is_match op) || is_glob text.now) }
 {
     op != Op::Glob || is_glob(text)
+}
+
+/// The text as the value behind the operator: a glob behind `~`. Refused for memory.
+fn literal(alloc: Global, op: Op, text: &[u8]) -> Result<Literal, AllocError>
+    requires { IsTrue (not (is_match op) || is_glob text.now) }
+    ensures { IfOk result (λ value. value ≡ literal_of (is_match op) text.now) }
+{
+    if op == Op::Glob {
+        Ok(Literal::Glob(Pattern::of(alloc, text)?))
+    } else {
+        Ok(Literal::Text(Text::of(alloc, text)?))
+    }
 }
 
 /// Reads a number as the value.

@@ -1,10 +1,12 @@
 //! Filters as trees.
 
-ghost use Rattle.std.specs.Prelude.{◌≡◌, ◌++◌, ◌∷◌, [], OnOk, OnErr, IfOk};
+ghost use Rattle.std.specs.Prelude.{◌≡◌, ◌++◌, ◌∷◌, [], OnOk, OnErr, IfOk, IsTrue};
+ghost use Rattle.ft_filter.specs.Matching.{is_glob, matches};
 ghost use Rattle.ft_filter.specs.Tokens.{text_of};
 ghost use Rattle.ft_filter.specs.Predicate.{suits};
 ghost use Rattle.ft_filter.specs.FilterIs.{text_of as joint_text};
 
+use crate::pattern::glob;
 use ft_event::Field;
 use std::alloc::{AllocError, Global};
 use std::marker::Model;
@@ -69,11 +71,19 @@ pub enum Literal {
     Number(i64),
     /// A text.
     Text(Text),
+    /// A glob.
+    Glob(Pattern),
 }
 
 /// A text of any length. Contracts see the list of its bytes.
 #[derive(Drop)]
 pub struct Text {
+    bytes: Vec<u8>,
+}
+
+/// A glob. Contracts see the list of its bytes.
+#[derive(Drop)]
+pub struct Pattern {
     bytes: Vec<u8>,
 }
 
@@ -109,6 +119,44 @@ impl Text {
         ensures { result.now ≡ self.now }
     {
         &self.bytes
+    }
+}
+
+impl Model for Pattern {
+    ghost use Rattle.std.specs.Prelude.{ℕ, List, IsTrue};
+    ghost use Rattle.ft_filter.specs.Matching.{is_glob};
+
+    ghost Value = { List ℕ };
+
+    ghost view = { λ p. p.bytes.items };
+
+    ghost invariant = { λ p. IsTrue (is_glob p.bytes.items) };
+}
+
+impl Pattern {
+    /// The glob of these bytes. Refused for memory.
+    pub(crate) fn of(alloc: Global, bytes: &[u8]) -> Result<Pattern, AllocError>
+        requires { IsTrue (is_glob bytes.now) }
+        ensures { IfOk result (λ pattern. pattern ≡ bytes.now) }
+    {
+        let mut copy = Vec::new(alloc);
+        copy.extend_from_slice(bytes)?;
+        Ok(Pattern { bytes: copy })
+    }
+
+    /// Its bytes.
+    pub fn bytes(&self) -> &[u8]
+        ensures value { result.now ≡ self.now }
+        ensures glob { IsTrue (is_glob self.now) }
+    {
+        &self.bytes
+    }
+
+    /// Whether it matches the whole text.
+    pub fn matches(&self, text: &[u8]) -> bool
+        ensures { result ≡ matches self.now text.now }
+    {
+        glob(self.bytes(), text)
     }
 }
 

@@ -141,6 +141,7 @@ fn write_value(value: &Literal, text: &mut Vec<u8>) -> Result<(), AllocError>
             text.extend_from_slice(digits.format(*number).as_bytes())
         }
         Literal::Text(inside) => write_quoted(inside.bytes(), text),
+        Literal::Glob(pattern) => write_quoted(pattern.bytes(), text),
     }
 }
 

@@ -169,3 +169,26 @@ fn fields_of_events(rt: HostRuntime) -> Result<(), Fail> {
     }
     Ok(())
 }
+
+/// The glob of a filter that is one comparison by `~`.
+fn glob_of(filter: &Filter) -> Option<&Pattern> {
+    match filter.expr() {
+        Expr::Pred(pred) => match &pred.value {
+            Literal::Glob(pattern) => Some(pattern),
+            Literal::Number(_) | Literal::Text(_) => None,
+        },
+        Expr::Any(_) | Expr::All(_) | Expr::Not(_) => None,
+    }
+}
+
+#[test]
+fn globs_of_filters(rt: HostRuntime) -> Result<(), Fail> {
+    let filter = parse(rt.alloc(), b"comm ~ 'sim-[0-9]'", Name::Waking)?;
+    let pattern = glob_of(&filter).ok_or("the value is no glob")?;
+    assert_eq!(rt; pattern.bytes(), b"sim-[0-9]".as_slice());
+    assert!(rt; pattern.matches(b"sim-1"));
+    assert!(rt; !pattern.matches(b"sim-[0-9]"));
+    let filter = parse(rt.alloc(), b"comm == 'sim-[0-9]'", Name::Waking)?;
+    assert!(rt; glob_of(&filter).is_none());
+    Ok(())
+}

@@ -1,6 +1,6 @@
 //! Which texts are filters, and what is wrong with others.
 
-use crate::{FilterFault, parse};
+use crate::{FilterFault, is_gap, name_at, parse, skip};
 use ft_event::Name;
 use std::alloc::{AllocError, Global};
 use std::test::*;
@@ -80,6 +80,15 @@ fn filters_without_a_fault(rt: HostRuntime) {
             "{text}"
         );
     }
+}
+
+#[test]
+fn words(rt: HostRuntime) {
+    assert!(rt; is_gap(b' ') && is_gap(b'\t') && !is_gap(b'\n'));
+    assert_eq!(rt; skip(b" \t a "), b"a ".as_slice());
+    let found = Some((b"_a1".as_slice(), b"-b".as_slice()));
+    assert_eq!(rt; name_at(b"_a1-b"), found);
+    assert!(rt; name_at(b"1a").is_none());
 }
 
 #[test]
