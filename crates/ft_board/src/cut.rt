@@ -6,12 +6,7 @@ ghost use Rattle.std.specs.List.{position_or_len};
 ghost use Rattle.ft_filter.specs.Tokens.{is_gap, skip};
 ghost use Rattle.ft_board.specs.Cut.{head_of, behind_head, without_end, behind_if};
 
-/// Whether the byte is a space or a tab.
-fn is_gap(byte: u8) -> bool
-    ensures { result ≡ is_gap byte }
-{
-    byte == b' ' || byte == b'\t'
-}
+use ft_filter::{is_gap, skip};
 
 /// The place of the first space or tab.
 fn first_gap(text: &[u8]) -> Option<usize>
@@ -26,21 +21,6 @@ fn head_len(text: &[u8]) -> usize
     ensures within { result ≤ length text.now }
 {
     first_gap(text).unwrap_or(text.len())
-}
-
-/// The text behind the spaces and tabs that it begins with.
-fn skip(text: &[u8]) -> &[u8]
-    ensures value { result.now ≡ skip text.now }
-    ensures within { length result.now ≤ length text.now }
-{
-    let mut rest = text;
-    while let Some((first, behind)) = rest.split_first() {
-        if !is_gap(*first) {
-            return rest;
-        }
-        rest = behind;
-    }
-    rest
 }
 
 /// The text without the spaces and tabs that it ends with.
