@@ -1,8 +1,8 @@
 #!/usr/bin/env bash
 # each_allocation.sh: runs tests with each allocation refused in turn.
-# A filter, and a trigger with one, that are read and written: they then have the wanted text, or the
-# vector has its old bytes. And a worked example through `run`: it then prints its whole output, or
-# answers want of memory with the whole output of the commands before.
+# Filters and triggers that are read and written: they then have the wanted text or fault, or answer
+# want of memory, and the vector has its old bytes. And a worked example through `run`: it then prints
+# its whole output, or answers want of memory with the whole output of the commands before.
 set -euo pipefail
 
 crates=$(dirname -- "$(realpath -- "${BASH_SOURCE[0]}")")/../crates
@@ -17,28 +17,34 @@ refused() {
 # Whether the test stands as passed in what was told.
 judge() {
     if [[ $3 == *"test $2 ... ok"* ]]; then
-        echo "$1: ok"
+        echo "$1, $2: ok"
     else
-        echo "$1: FAILED"
+        echo "$1, $2: FAILED"
         failed=1
     fi
 }
 
-# Refuses each allocation in turn until the other test passes too: it makes no fewer allocations, and
-# fails where one of them is refused.
+# Refuses each allocation in turn until the last test passes too: it makes no fewer allocations than
+# the others, and fails where one of them is refused.
 each() {
-    for ((number = 1; ; number++)); do
-        local told
-        told=$(refused "$1" "$number")
-        judge "$1, allocation $number refused" "$2" "$told"
-        if [[ $told == *"test $3 ... ok"* ]]; then
-            echo "$1: fewer than $number allocations"
+    local crate=$1 last=${*: -1} number told test
+    for ((number = 1; number <= 200; number++)); do
+        told=$(refused "$crate" "$number")
+        for test in "${@:2:$#-2}"; do
+            judge "$crate, allocation $number refused" "$test" "$told"
+        done
+        if [[ $told == *"test $last ... ok"* ]]; then
+            echo "$crate: fewer than $number allocations"
             return
         fi
     done
+    echo "$crate: FAILED: 200 allocations, or $last never passes"
+    failed=1
 }
 
 each ft_filter tests::writing::old_bytes_after_want_of_memory tests::passing::filters_join
+each ft_trigger tests::reading::old_bytes_after_want_of_memory tests::reading::answers_after_want_of_memory \
+    tests::reading::answers
 each ft_board tests::trigger_after_want_of_memory tests::texts_of_triggers
 each ft_desk tests::examples::whole_output_or_that_of_the_commands_before tests::examples::triggers_with_filters
 exit "$failed"

@@ -1,30 +1,30 @@
 -- Texts of triggers, and what they are: the definitions, worked out on examples.
-use Rattle.std.proofs.Common.{◌≡◌, refl, ℕ, List, [], ◌∷◌, false}
+use Rattle.std.proofs.Common.{◌≡◌, refl, ℕ, List, [], ◌∷◌, false, true}
 use Rattle.std.specs.Prelude.{Result, Ok, Err, Some, None, codes}
 use Rattle.ft_event.specs.declared.event.Name.TheVariants as names
 use Rattle.ft_event.specs.declared.field.Field.TheVariants as fields
 use Rattle.ft_trigger.specs.declared.fault.TriggerFault.{TriggerFault}
 use Rattle.ft_trigger.specs.declared.fault.TriggerFault.TheVariants.{Syntax, NoField, NotNumeric, TooMany, Duplicate, BadSize, BadSort, BadModifier, LeftOut, BadFilter}
-use Rattle.ft_trigger.specs.declared.item.Mode.TheVariants as modes
-use Rattle.ft_trigger.specs.declared.item.Item.TheVariants as items
-use Rattle.ft_trigger.specs.declared.item.SortBy.TheVariants as sorts
-use Rattle.ft_trigger.specs.declared.label.Var.TheVariants as vars
+use Rattle.ft_hist.specs.declared.item.Mode.TheVariants as modes
+use Rattle.ft_hist.specs.declared.item.Item.TheVariants as items
+use Rattle.ft_hist.specs.declared.item.SortBy.TheVariants as sorts
+use Rattle.ft_hist.specs.declared.label.Var.TheVariants as vars
 use Rattle.ft_filter.specs.declared.fault.FilterFault.TheVariants.{BadGlob}
-use Rattle.ft_filter.specs.Tokens.{name_at as field_at, op_at, quoted_at, number_at, number_of}
+use Rattle.ft_filter.specs.Tokens.{name_at, op_at, quoted_at, number_at, number_of}
 use Rattle.ft_filter.specs.Predicate.{text_value, number_value, value_at, comparison_at, pred_at}
 use Rattle.ft_filter.specs.Matching.{items_of, is_glob}
 use Rattle.ft_filter.specs.Answers.{going, joined_at, operand_at, filter_of}
-use Rattle.ft_trigger.specs.Powers.{log2_of}
-use Rattle.ft_trigger.specs.Hist.{Hist}
-use Rattle.ft_trigger.specs.Words.{name_at, word_with, word_of, number_in}
+use Rattle.ft_hist.specs.Powers.{log2_of}
+use Rattle.ft_hist.specs.Hist.{Hist}
+use Rattle.ft_trigger.specs.Words.{word_with, word_of, number_in}
 use Rattle.ft_trigger.specs.Draft.{with_key, with_value, with_sort, stamp_of, with_kind, with_variable, with_part, parts_from}
 use Rattle.ft_trigger.specs.TriggerIs.{filter_in, sort_by, finished, trigger_of}
-use Rattle.ft_trigger.specs.Canonical.{canonical}
+use Rattle.ft_hist.specs.Canonical.{canonical}
 use Rattle.std.specs.Fmt.{digits}
 use Rattle.ft_filter.specs.Canonical.{quoted, pred_text}
 
 computing : Unit {0}
-unfolding name_at word_with word_of number_in with_key with_value with_sort stamp_of with_kind with_variable with_part parts_from filter_in sort_by finished trigger_of log2_of field_at op_at quoted_at number_at number_of text_value number_value value_at comparison_at pred_at items_of is_glob going joined_at operand_at filter_of canonical quoted pred_text digits
+unfolding name_at word_with word_of number_in with_key with_value with_sort stamp_of with_kind with_variable with_part parts_from filter_in sort_by finished trigger_of log2_of op_at quoted_at number_at number_of text_value number_value value_at comparison_at pred_at items_of is_glob going joined_at operand_at filter_of canonical quoted pred_text digits
 computing = tt
 
 -- the canonical text of a trigger that is read
@@ -174,3 +174,27 @@ canonical_reader = refl
 canonical_sizes : again (waking (codes "hist:keys=pid:size=65")) ≡ codes "hist:keys=pid:vals=hitcount:sort=hitcount:size=128"
 unfolding computing
 canonical_sizes = refl
+
+sums_and_sort : waking (codes "hist:keys=pid,prio:vals=hitcount,target_cpu,$v:v=common_timestamp.usecs:sort=$v.descending,prio") ≡ Ok (record {
+  event = names.Waking;
+  keys = record { field = fields.Pid; mode = modes.Plain } ∷ record { field = fields.Prio; mode = modes.Plain } ∷ [];
+  values = items.Num fields.TargetCpu ∷ items.Own ∷ [];
+  sort = record { what = sorts.Value 1; descending = true } ∷ record { what = sorts.Key 1; descending = false } ∷ [];
+  variable = Some (vars.Saves (codes "v"));
+  size = 2048;
+  filter = None;
+})
+unfolding computing
+sums_and_sort = refl
+
+key_before_value : waking (codes "hist:keys=pid:vals=pid:sort=pid") ≡ Ok (record {
+  event = names.Waking;
+  keys = record { field = fields.Pid; mode = modes.Plain } ∷ [];
+  values = items.Num fields.Pid ∷ [];
+  sort = record { what = sorts.Key 0; descending = false } ∷ [];
+  variable = None;
+  size = 2048;
+  filter = None;
+})
+unfolding computing
+key_before_value = refl

@@ -8,13 +8,16 @@ use Rattle.ft_event.specs.declared.field.Field.{Field}
 use Rattle.ft_event.specs.Fields.{is_named, all_fields, is_text, text_of}
 use Rattle.ft_trigger.specs.declared.fault.TriggerFault.{TriggerFault}
 use Rattle.ft_trigger.specs.declared.fault.TriggerFault.TheVariants.{Syntax, NoField, NotNumeric, TooMany, Duplicate, BadSize, BadSort, BadModifier, LeftOut}
-use Rattle.ft_trigger.specs.declared.item.KeyItem.{KeyItem}
-use Rattle.ft_trigger.specs.declared.item.Mode.{Mode}
-use Rattle.ft_trigger.specs.declared.item.Mode.TheVariants as modes
-use Rattle.ft_trigger.specs.declared.label.Var.{Var}
-use Rattle.ft_trigger.specs.declared.label.Var.TheVariants as vars
-use Rattle.ft_trigger.specs.Powers.{log2_of}
-use Rattle.ft_trigger.specs.Words.{Piece, pieces, Word, name_at, word_of, number_in}
+use Rattle.ft_hist.specs.declared.item.KeyItem.{KeyItem}
+use Rattle.ft_hist.specs.declared.item.Mode.{Mode}
+use Rattle.ft_hist.specs.declared.item.Mode.TheVariants as modes
+use Rattle.ft_trigger.specs.declared.draft.Kind.{Kind}
+use Rattle.ft_trigger.specs.declared.draft.Kind.TheVariants.{Keys, Values, Sort, Size}
+use Rattle.ft_hist.specs.declared.label.Var.{Var}
+use Rattle.ft_hist.specs.declared.label.Var.TheVariants as vars
+use Rattle.ft_hist.specs.Powers.{log2_of}
+use Rattle.ft_trigger.specs.Words.{Piece, pieces, Word, word_of, number_in}
+use Rattle.ft_filter.specs.Tokens.{name_at}
 
 -- what has been read so far; a list that has not stood yet is none, and names are not yet resolved (our own choice)
 pub record Draft : Type 0 where
@@ -85,17 +88,25 @@ mode_of text (Some suffix) =
 abbrev pub is_key : List KeyItem → Field → Bool
 is_key keys field = list_any (λ key. bytes_eq (text_of key.field) (text_of field)) keys
 
+-- a word that is no key, though the kernel has it: a variable, a stamp, a stack trace (kernel: histogram.rst, `keys`)
+abbrev pub is_no_key : Word → Bool
+is_no_key word = word.dollar || list_any (bytes_eq word.name) (codes "common_timestamp" ∷ codes "stacktrace" ∷ codes "common_stacktrace" ∷ [])
+
+-- one more key item of a field, with what is behind its `.` (kernel: histogram.rst, modifiers)
+abbrev pub with_field : List KeyItem → ℕ → Field → Option (List ℕ) → Result (List KeyItem) TriggerFault
+with_field keys place field suffix =
+    unless ((is_left_out suffix, LeftOut place) ∷ [])
+    (given_or BadModifier (mode_of (is_text field) suffix) (λ mode.
+    unless ((is_key keys field, Duplicate) ∷ []) (Ok (keys ++ record { field = field; mode = mode } ∷ []))))
+
 -- one more key item (kernel: histogram.rst, `keys`)
 unfoldable pub with_key : Name → List KeyItem → ℕ → Word → Result (List KeyItem) TriggerFault
 with_key event keys place word =
     unless (
     (nat_le 3 (length keys), TooMany)
-    ∷ (word.dollar || list_any (bytes_eq word.name) (codes "common_timestamp" ∷ codes "stacktrace" ∷ codes "common_stacktrace" ∷ []), LeftOut place)
+    ∷ (is_no_key word, LeftOut place)
     ∷ []
-    ) (given_or NoField (find (is_named event word.name) all_fields) (λ field.
-    unless ((is_left_out word.suffix, LeftOut place) ∷ [])
-    (given_or BadModifier (mode_of (is_text field) word.suffix) (λ mode.
-    unless ((is_key keys field, Duplicate) ∷ []) (Ok (keys ++ record { field = field; mode = mode } ∷ []))))))
+    ) (given_or NoField (find (is_named event word.name) all_fields) (λ field. with_field keys place field word.suffix))
 
 -- ---- values
 
@@ -140,7 +151,7 @@ with_sort words place word =
 
 -- ---- size
 
--- a size, rounded up to a power of 2; then it is from 128 to 131,072 (kernel: histogram.rst, `size`; the range is our own choice)
+-- a size, rounded up to a power of 2; then it is from 128 to 131,072 (kernel: histogram.rst, `size`; that it is tested after rounding is our own choice)
 abbrev pub size_of : List ℕ → Option ℕ
 size_of text = option_map (λ size. 2 ^ log2_of size) (number_in 65 131072 text)
 
@@ -177,13 +188,6 @@ is_taken event name stamp = is_some (find (is_named event name) all_fields) || (
 
 -- ---- parts
 
--- the kinds of parts; a list has the number of bytes of its label (kernel: histogram.rst, hist triggers)
-pub data Kind : Type 0 where
-  Keys : Kind
-  Values : Kind
-  Sort : Kind
-  Size : Kind
-
 -- how a part of a kind begins (kernel: histogram.rst, hist triggers)
 abbrev pub labels : List (List ℕ × Kind)
 labels =
@@ -206,13 +210,18 @@ with_kind event draft Sort place text =
 with_kind event draft Size place text =
     unless ((is_some draft.size, Duplicate) ∷ []) (given_or BadSize (size_of text) (λ size. Ok (record draft { size = Some size })))
 
+-- a variable's name and value, whose part begins at a place: at most one stands (kernel: histogram.rst, inter-event hist triggers)
+abbrev pub with_named : Name → Draft → ℕ → List ℕ → List ℕ → Result Draft TriggerFault
+with_named event draft place name value =
+    unless ((is_some draft.variable, LeftOut place) ∷ [])
+    (given_or (LeftOut place) (stamp_of value) (λ stamp.
+    unless ((is_taken event name stamp, Duplicate) ∷ []) (Ok (record draft { variable = Some (var_of name stamp) }))))
+
 -- a part that is a name, `=` and a value; any other is none that there is (kernel: histogram.rst, inter-event hist triggers)
 unfoldable pub with_variable : Name → Draft → Piece → Result Draft TriggerFault
 with_variable event draft part =
     given_or (Syntax part.place) (name_at part.bytes) (λ cut.
-    unless ((not (starts_with ◌==◌ cut.1 (codes "=")), Syntax part.place) ∷ (is_some draft.variable, LeftOut part.place) ∷ [])
-    (given_or (LeftOut part.place) (stamp_of (drop 1 cut.1)) (λ stamp.
-    unless ((is_taken event cut.0 stamp, Duplicate) ∷ []) (Ok (record draft { variable = Some (var_of cut.0 stamp) })))))
+    unless ((not (starts_with ◌==◌ cut.1 (codes "=")), Syntax part.place) ∷ []) (with_named event draft part.place cut.0 (drop 1 cut.1)))
 
 -- one more part of a head (kernel: histogram.rst, hist triggers)
 unfoldable pub with_part : Name → Draft → Piece → Result Draft TriggerFault

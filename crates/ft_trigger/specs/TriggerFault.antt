@@ -1,7 +1,14 @@
 -- The numbers and places of what may be wrong with a trigger's text (our own choice).
 use Rattle.std.specs.Prelude.{ℕ, Option, Some, None}
+use Rattle.ft_filter.specs.declared.fault.FilterFault.{FilterFault}
+use Rattle.ft_filter.specs.declared.fault.FilterFault.TheVariants as filters
 use Rattle.ft_trigger.specs.declared.fault.TriggerFault.{TriggerFault}
 use Rattle.ft_trigger.specs.declared.fault.TriggerFault.TheVariants.{Memory, Syntax, NoField, NotNumeric, TooMany, Duplicate, BadSize, BadSort, BadModifier, LeftOut, BadFilter}
+
+-- the fault of a trigger whose filter has this fault; want of memory is its own (our own choice)
+abbrev pub of_filter : FilterFault → TriggerFault
+of_filter filters.Memory = Memory
+of_filter fault = BadFilter fault
 
 -- the number that a refusal prints (our own choice)
 abbrev pub number_of : TriggerFault → ℕ

@@ -11,18 +11,18 @@ use Rattle.ft_filter.specs.Tokens.{is_gap, skip}
 use Rattle.ft_filter.specs.Answers.{filter_of}
 use Rattle.ft_trigger.specs.declared.fault.TriggerFault.{TriggerFault}
 use Rattle.ft_trigger.specs.declared.fault.TriggerFault.TheVariants.{Syntax, NoField, BadSort, BadFilter}
-use Rattle.ft_trigger.specs.declared.item.KeyItem.{KeyItem}
-use Rattle.ft_trigger.specs.declared.item.Item.{Item}
-use Rattle.ft_trigger.specs.declared.item.Item.TheVariants as items
-use Rattle.ft_trigger.specs.declared.item.SortBy.{SortBy}
-use Rattle.ft_trigger.specs.declared.item.SortBy.TheVariants as sorts
-use Rattle.ft_trigger.specs.declared.item.SortItem.{SortItem}
-use Rattle.ft_trigger.specs.declared.label.Var.{Var}
-use Rattle.ft_trigger.specs.declared.label.Var.TheVariants as vars
+use Rattle.ft_hist.specs.declared.item.KeyItem.{KeyItem}
+use Rattle.ft_hist.specs.declared.item.Item.{Item}
+use Rattle.ft_hist.specs.declared.item.Item.TheVariants as items
+use Rattle.ft_hist.specs.declared.item.SortBy.{SortBy}
+use Rattle.ft_hist.specs.declared.item.SortBy.TheVariants as sorts
+use Rattle.ft_hist.specs.declared.item.SortItem.{SortItem}
+use Rattle.ft_hist.specs.declared.label.Var.{Var}
+use Rattle.ft_hist.specs.declared.label.Var.TheVariants as vars
 use Rattle.std.specs.List.{find}
 use Rattle.ft_trigger.specs.Words.{pieces, Word}
 use Rattle.ft_trigger.specs.Draft.{Draft, blank, ◌>>=◌, unless, given_or, is_word, besides_hitcount, parts_from}
-use Rattle.ft_trigger.specs.Hist.{Hist}
+use Rattle.ft_hist.specs.Hist.{Hist}
 
 -- ---- head and tail
 
@@ -34,9 +34,13 @@ head_len text = prefix_len (λ byte. not (is_gap byte)) text
 abbrev pub behind_head : List ℕ → List ℕ
 behind_head text = skip (drop (head_len text) text)
 
+-- the text without the spaces and tabs that it ends with (our own choice)
+abbrev pub without_end : List ℕ → List ℕ
+without_end text = reverse (skip (reverse text))
+
 -- the tail: what is behind the head, without spaces and tabs at both ends (our own choice)
 abbrev pub tail_of : List ℕ → List ℕ
-tail_of text = reverse (skip (reverse (behind_head text)))
+tail_of text = without_end (behind_head text)
 
 -- what a tail has behind `if` and one or more spaces or tabs, where it begins so (kernel: events.rst, `if` before a filter)
 abbrev pub behind_if : List ℕ → Option (List ℕ)

@@ -1,10 +1,10 @@
 -- The words of a trigger's text: pieces between separators, items, numbers (kernel: histogram.rst, hist triggers).
-use Rattle.std.specs.Prelude.{ℕ, ◌+◌, Bool, true, false, not, ◌&&◌, ◌==◌, nat_le, List, [], ◌∷◌, length, drop, slice_index, Option, Some, None, option_map, if◌then◌else◌, codes}
+use Rattle.std.specs.Prelude.{ℕ, ◌+◌, Bool, true, false, not, ◌&&◌, ◌==◌, nat_le, List, [], ◌∷◌, length, drop, Option, Some, None, option_map, if◌then◌else◌, codes}
 use Rattle.std.specs.Char.{is_ascii_digit}
 use Rattle.std.specs.List.{list_all, starts_with}
 use Rattle.std.specs.Option.{option_and_then}
 use Rattle.std.specs.Str.Parse.{digits_value}
-use Rattle.ft_filter.specs.Tokens.{begins_name, is_in_name, run_at}
+use Rattle.ft_filter.specs.Tokens.{name_at}
 
 -- ---- pieces
 
@@ -33,10 +33,6 @@ pub record Word : Type 0 where
   pub name : List ℕ
   pub suffix : Option (List ℕ)
 
--- the name that a text begins with, and what is behind it: names are spelled like fields (our own choice)
-unfoldable pub name_at : List ℕ → Option (List ℕ × List ℕ)
-name_at text = if begins_name (slice_index text 0) then Some (run_at is_in_name text) else None
-
 -- what is behind a name: nothing, or a `.` and one or more bytes (our own choice)
 abbrev pub suffix_of : List ℕ → Option (Option (List ℕ))
 suffix_of [] = Some None
@@ -47,7 +43,7 @@ suffix_of (dot ∷ byte ∷ rest) = if dot == 46 then Some (Some (byte ∷ rest)
 abbrev pub word_from : Bool → List ℕ × List ℕ → Option Word
 word_from dollar cut = option_map (λ suffix. record { dollar = dollar; name = cut.0; suffix = suffix }) (suffix_of cut.1)
 
--- the word of a text behind its `$`, or without one (our own choice)
+-- the word of a text behind its `$`, or without one; names are spelled like fields (our own choice)
 unfoldable pub word_with : Bool → List ℕ → Option Word
 word_with dollar text = option_and_then (word_from dollar) (name_at text)
 

@@ -1,7 +1,7 @@
 //! What may be wrong with a trigger's text.
 
 ghost use Rattle.std.specs.Prelude.{◌≡◌};
-ghost use Rattle.ft_trigger.specs.TriggerFault.{number_of, place_of};
+ghost use Rattle.ft_trigger.specs.TriggerFault.{number_of, place_of, of_filter};
 
 use ft_filter::FilterFault;
 
@@ -10,7 +10,7 @@ use ft_filter::FilterFault;
 pub enum TriggerFault {
     /// Memory ran out.
     Memory,
-    /// What stands here may not.
+    /// No such thing may stand here.
     Syntax(usize),
     /// The event has no such field, or the trigger no such variable.
     NoField,
@@ -33,6 +33,21 @@ pub enum TriggerFault {
 }
 
 impl TriggerFault {
+    /// The fault of a trigger whose filter has this fault. Want of memory is its own.
+    pub(crate) fn of_filter(fault: FilterFault) -> TriggerFault
+        ensures { result ≡ of_filter fault }
+    {
+        match fault {
+            FilterFault::Memory => TriggerFault::Memory,
+            FilterFault::Syntax(_)
+            | FilterFault::NoField(_)
+            | FilterFault::WrongKind(_)
+            | FilterFault::BadGlob(_)
+            | FilterFault::NumberRange(_)
+            | FilterFault::TooDeep => TriggerFault::BadFilter(fault),
+        }
+    }
+
     /// Its number in the desk's texts.
     pub fn number(self) -> u8
         ensures { result ≡ number_of self }

@@ -1,24 +1,22 @@
-//! Triggers: their parts, and what they count events under. Reading and writing their texts is to
-//! come; the definitions of texts stand in `specs/`.
+//! The trigger language: reading the texts of hist triggers. What a trigger is, and what it counts
+//! events under, stands in `ft_hist`, whose items are passed on.
 #![tactic(auto)]
 
+mod draft;
 mod fault;
-mod hitting;
-mod item;
-mod key;
-mod label;
-mod matching;
-mod trigger;
-mod work;
+mod lists;
+mod pieces;
+mod reading;
+mod resolving;
+mod tail;
+mod words;
 
 pub use fault::TriggerFault;
-pub use hitting::{as_many_parts, multiples, powers};
-pub use item::{Item, KeyItem, Mode, SortBy, SortItem};
-pub use key::{Key, Part, equal_keys, one_key_order};
-pub use label::{Label, Var};
-pub use matching::keys_match;
-pub use trigger::Trigger;
-pub use work::Work;
+pub use ft_hist::{
+    Item, Key, KeyItem, Label, Mode, Part, SortBy, SortItem, Trigger, Var, Work, as_many_parts,
+    asked_events, equal_keys, keys_match, multiples, one_key_order, powers,
+};
+pub use reading::{one_answer, parse, reads_again};
 
 #[cfg(test)]
 mod tests;

@@ -1,0 +1,6 @@
+mod Asked
+mod Fronts
+mod KeyLemmas
+mod KindLemmas
+mod PartLemmas
+mod PowerLemmas

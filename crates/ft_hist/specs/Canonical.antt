@@ -1,0 +1,80 @@
+-- The one text of a trigger that is printed (our own choice).
+use Rattle.std.specs.Prelude.{ℕ, List, [], ◌∷◌, ◌++◌, slice_get, map, if◌then◌else◌, Option, Some, None, codes, decimal}
+use Rattle.std.specs.Option.{option_map_or}
+use Rattle.ft_event.specs.Fields.{text_of}
+use Rattle.ft_filter.specs.Tree.{Tree}
+use Rattle.ft_filter.specs.Canonical.{canonical as filter_text}
+use Rattle.ft_hist.specs.declared.item.KeyItem.{KeyItem}
+use Rattle.ft_hist.specs.declared.item.Mode.{Mode}
+use Rattle.ft_hist.specs.declared.item.Mode.TheVariants as modes
+use Rattle.ft_hist.specs.declared.item.Item.{Item}
+use Rattle.ft_hist.specs.declared.item.Item.TheVariants as items
+use Rattle.ft_hist.specs.declared.item.SortBy.{SortBy}
+use Rattle.ft_hist.specs.declared.item.SortBy.TheVariants as sorts
+use Rattle.ft_hist.specs.declared.item.SortItem.{SortItem}
+use Rattle.ft_hist.specs.declared.label.Var.{Var}
+use Rattle.ft_hist.specs.declared.label.Var.TheVariants as vars
+use Rattle.ft_hist.specs.Hist.{Hist}
+
+-- texts, each behind a `,` (our own choice)
+abbrev pub more_items : List (List ℕ) → List ℕ
+more_items [] = []
+more_items (text ∷ texts) = codes "," ++ text ++ more_items texts
+
+-- texts with a `,` between each two (our own choice)
+abbrev pub listed : List (List ℕ) → List ℕ
+listed [] = []
+listed (text ∷ texts) = text ++ more_items texts
+
+-- what is made of a field's value, as a modifier behind the field (kernel: histogram.rst, modifiers)
+abbrev pub mode_text : Mode → List ℕ
+mode_text modes.Plain = []
+mode_text modes.Hex = codes ".hex"
+mode_text modes.Log2 = codes ".log2"
+mode_text (modes.Buckets size) = codes ".buckets=" ++ decimal size
+
+-- a key item: a field and its modifier (kernel: histogram.rst, `keys`)
+abbrev pub key_text : KeyItem → List ℕ
+key_text key = text_of key.field ++ mode_text key.mode
+
+-- the own name of a trigger's variable (kernel: histogram.rst, inter-event hist triggers)
+abbrev pub name_of : Option Var → List ℕ
+name_of None = []
+name_of (Some (vars.Saves name)) = name
+name_of (Some (vars.Reads own source)) = own
+
+-- a value item: a field, or the own variable behind a `$` (kernel: histogram.rst, `values`)
+abbrev pub value_text : Option Var → Item → List ℕ
+value_text variable (items.Num field) = text_of field
+value_text variable items.Own = codes "$" ++ name_of variable
+
+-- what rows are sorted by: `hitcount`, a key's field, or a value (kernel: histogram.rst, `sort`)
+abbrev pub by_text : Hist → SortBy → List ℕ
+by_text hist sorts.Hits = codes "hitcount"
+by_text hist (sorts.Key n) = option_map_or (λ key. text_of key.field) (slice_get hist.keys n) []
+by_text hist (sorts.Value n) = option_map_or (value_text hist.variable) (slice_get hist.values n) []
+
+-- a sort item; only the greatest first has a suffix (kernel: histogram.rst, `sort`)
+abbrev pub sort_text : Hist → SortItem → List ℕ
+sort_text hist item = by_text hist item.what ++ (if item.descending then codes ".descending" else [])
+
+-- a variable's part, behind a `:` (kernel: histogram.rst, inter-event hist triggers)
+abbrev pub variable_text : Option Var → List ℕ
+variable_text None = []
+variable_text (Some (vars.Saves name)) = codes ":" ++ name ++ codes "=common_timestamp.usecs"
+variable_text (Some (vars.Reads own source)) = codes ":" ++ own ++ codes "=common_timestamp.usecs-$" ++ source
+
+-- a filter, behind `if` (kernel: events.rst, `if` before a filter)
+abbrev pub if_text : Option Tree → List ℕ
+if_text None = []
+if_text (Some tree) = codes " if " ++ filter_text tree
+
+-- a trigger's canonical text: keys, values with `hitcount` in front, variable, sort items, size, filter (our own choice)
+unfoldable pub canonical : Hist → List ℕ
+canonical hist =
+    codes "hist:keys=" ++ listed (map key_text hist.keys)
+    ++ codes ":vals=hitcount" ++ more_items (map (value_text hist.variable) hist.values)
+    ++ variable_text hist.variable
+    ++ codes ":sort=" ++ listed (map (sort_text hist) hist.sort)
+    ++ codes ":size=" ++ decimal hist.size
+    ++ if_text hist.filter

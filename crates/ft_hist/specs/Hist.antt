@@ -1,0 +1,28 @@
+-- Hist triggers (kernel: histogram.rst, hist triggers).
+use Rattle.std.specs.Prelude.{ℕ, ◌≤◌, ◌<◌, List, length, Option}
+use Rattle.ft_event.specs.declared.event.Name.{Name}
+use Rattle.ft_filter.specs.Tree.{Tree}
+use Rattle.ft_hist.specs.declared.item.KeyItem.{KeyItem}
+use Rattle.ft_hist.specs.declared.item.Item.{Item}
+use Rattle.ft_hist.specs.declared.item.SortItem.{SortItem}
+use Rattle.ft_hist.specs.declared.label.Var.{Var}
+
+-- a trigger: its event, what it counts under, what it sums, how its rows are sorted, its variable, the most keys of its table, and its filter (kernel: histogram.rst, hist triggers)
+pub record Hist : Type 0 where
+  pub event : Name
+  pub keys : List KeyItem
+  pub values : List Item
+  pub sort : List SortItem
+  pub variable : Option Var
+  pub size : ℕ
+  pub filter : Option Tree
+
+-- a trigger is within its limits: 1 to 3 keys, at most 3 values, 1 or 2 sort items, a size of 128 to 131,072 (kernel: histogram.rst, hist triggers; 3 values besides `hitcount` is our own choice)
+pub record IsWithin (hist : Hist) : Type 0 where
+  pub some_keys : 0 < length hist.keys
+  pub few_keys : length hist.keys ≤ 3
+  pub few_values : length hist.values ≤ 3
+  pub some_sort : 0 < length hist.sort
+  pub few_sort : length hist.sort ≤ 2
+  pub least_size : 128 ≤ hist.size
+  pub most_size : hist.size ≤ 131072

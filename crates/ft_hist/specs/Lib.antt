@@ -1,0 +1,15 @@
+pub mod Canonical
+pub mod Codes
+pub mod Hist
+pub mod Hit
+pub mod Matching
+pub mod Orders
+pub mod Parts
+pub mod Powers
+pub mod Sound
+pub mod Steps
+pub mod Triggers
+pub use Rattle.ft_event.specs.Traced
+pub use Rattle.ft_event.specs.Fields
+pub use Rattle.ft_filter.specs.Tree
+pub use Rattle.ft_filter.specs.Holds

@@ -1,0 +1,161 @@
+//! What a trigger counts an event under.
+
+ghost use Rattle.std.specs.Prelude.{◌≡◌, ◌+◌, ◌<◌, ◌≤◌, ◌*◌, ◌^◌, ℕ, List, length, Some, option_map, IsTrue};
+ghost use Rattle.std.specs.List.{list_all};
+ghost use Rattle.std.specs.Option.{option_copied, is_some};
+ghost use Rattle.ft_event.specs.Traced.{Traced};
+ghost use Rattle.ft_hist.specs.Hist.{Hist};
+ghost use Rattle.ft_hist.specs.declared.key.Part.{Part};
+ghost use Rattle.ft_hist.specs.Powers.{log2_of, bucket_of};
+ghost use Rattle.ft_hist.specs.Sound.{key_suits};
+ghost use Rattle.ft_hist.specs.Hit.{number_part, text_part, value_part, part_of, key_of, same_name, passes_filter, is_asked, hit};
+
+use crate::item::{KeyItem, Mode};
+use crate::key::{Key, Part};
+use crate::trigger::Trigger;
+use crate::work::Work;
+use ft_event::{Comm, Event, Name, Value};
+use ft_filter::Filter;
+
+impl Trigger {
+    /// The key that it counts the event under, or `None` where the event is no hit: it is not the
+    /// trigger's, or does not pass its filter. Counts one test in `work`.
+    pub fn hit_of(&self, event: &Event, work: &mut Work) -> Option<Key>
+        ensures value { result ≡ hit self.now event.now }
+        ensures evals { work.new.evals ≡ work.old.evals + 1 }
+        ensures puts { work.new.puts ≡ work.old.puts }
+    {
+        work.tick_eval();
+        if is_same(self.event(), event.name()) && passes(self.filter(), event) {
+            key_of(self.keys(), event)
+        } else {
+            None
+        }
+    }
+}
+
+/// Whether two names are the same.
+fn is_same(a: Name, b: Name) -> bool
+    ensures { result ≡ same_name a b }
+{
+    a == b
+}
+
+/// Whether the event passes the filter, where there is one.
+fn passes(filter: Option<&Filter>, event: &Event) -> bool
+    ensures { result ≡ passes_filter (option_map (λ f. f.tree) (option_copied filter.entry)) event.now }
+{
+    match filter {
+        Some(filter) => filter.holds(event),
+        None => true,
+    }
+}
+
+/// The key that key items make of an event, where each makes a part.
+fn key_of(items: &[KeyItem], event: &Event) -> Option<Key>
+    requires some { 0 < length items.now }
+    requires few { length items.now ≤ 3 }
+    ensures { result ≡ key_of items.now event.now }
+{
+    let first = part_of(items[0], event)?;
+    if items.len() == 1 {
+        return Some(Key::of_one(first));
+    }
+    let second = part_of(items[1], event)?;
+    if items.len() == 2 {
+        return Some(Key::of_two(first, second));
+    }
+    let third = part_of(items[2], event)?;
+    Some(Key::of_three(first, second, third))
+}
+
+/// The part of a key that a key item makes of an event, where the event has the item's field.
+pub(crate) fn part_of(item: KeyItem, event: &Event) -> Option<Part>
+    ensures { result ≡ part_of item event.now }
+{
+    match event.field(item.field) {
+        Some(value) => value_part(item.mode, value),
+        None => None,
+    }
+}
+
+/// What a modifier makes of a field's value.
+fn value_part(mode: Mode, value: Value) -> Option<Part>
+    ensures { result ≡ value_part mode value }
+{
+    match value {
+        Value::Num(number) => Some(number_part(mode, number)),
+        Value::Text(text) => text_part(mode, text),
+    }
+}
+
+/// What a modifier makes of a number.
+fn number_part(mode: Mode, number: i64) -> Part
+    ensures { result ≡ number_part mode number }
+{
+    match mode {
+        Mode::Plain | Mode::Hex => Part::Num(number),
+        Mode::Log2 => Part::Log2(log2_of(number.cast_unsigned())),
+        Mode::Buckets(size) => Part::Bucket(bucket_of(size, number.cast_unsigned())),
+    }
+}
+
+/// What a modifier makes of a text: only no modifier at all makes something.
+fn text_part(mode: Mode, text: Comm) -> Option<Part>
+    ensures { result ≡ text_part mode text }
+{
+    match mode {
+        Mode::Plain => Some(Part::Text(text)),
+        Mode::Hex | Mode::Log2 | Mode::Buckets(_) => None,
+    }
+}
+
+/// The least n for which the value is at most 2 to the n.
+fn log2_of(value: u64) -> u8
+    ensures { result ≡ log2_of value }
+{
+    if value == 0 {
+        0
+    } else {
+        (64 - (value - 1).leading_zeros()) as u8
+    }
+}
+
+/// The greatest multiple of the size that is not above the value; of the size 0 it is 0.
+fn bucket_of(size: u32, value: u64) -> u64
+    ensures { result ≡ bucket_of size value }
+{
+    if size == 0 {
+        0
+    } else {
+        value / u64::from(size) * u64::from(size)
+    }
+}
+
+/// A law: the number that `.log2` gives a value of 64 bits is the least whose power of 2 is not
+/// below the value.
+pub fn powers()
+    ensures reached { (value : ℕ) → value < 2 ^ 64 → value ≤ 2 ^ log2_of value }
+    ensures least { (value n : ℕ) → value ≤ 2 ^ n → log2_of value ≤ n }
+{}
+
+/// A law: the multiple that `.buckets` gives a value is the greatest that is not above it.
+pub fn multiples()
+    ensures below { (size value : ℕ) → bucket_of size value ≤ value }
+    ensures greatest { (size value n : ℕ) → n * size ≤ value → n * size ≤ bucket_of size value }
+{}
+
+/// A law: an event is a hit of a trigger whose keys suit its event, as every trigger's do, just where
+/// it has the trigger's name and passes its filter.
+pub fn asked_events()
+    ensures { (hist : Hist) (event : Traced) → IsTrue (list_all (key_suits hist.event) hist.keys)
+        → is_some (hit hist event) ≡ is_asked hist event }
+{
+    ft_event::values_of_fields();
+}
+
+/// A law: the key of a hit has as many parts as the trigger has key items.
+pub fn as_many_parts()
+    ensures { (hist : Hist) (event : Traced) (parts : List Part) → hit hist event ≡ Some parts
+        → length parts ≡ length hist.keys }
+{}

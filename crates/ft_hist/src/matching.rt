@@ -1,0 +1,54 @@
+//! Whether the keys of two triggers can be the same.
+
+ghost use Rattle.std.specs.Prelude.{◌≡◌, ◌↔◌, IsTrue, map};
+ghost use Rattle.ft_hist.specs.Matching.{same_kind, number_kind, item_kind, keys_match};
+
+use crate::item::{KeyItem, Mode};
+use crate::trigger::Trigger;
+
+/// Whether the keys of a trigger that reads a variable match those of the one that saves it: they
+/// are as many, and two by two both plain or hexadecimal numbers, both powers, both multiples of
+/// one size, or both texts.
+pub fn keys_match(reader: &Trigger, saver: &Trigger) -> bool
+    // The answer, as a function of both lists of keys.
+    ensures exact { result ≡ keys_match reader.now.keys saver.now.keys }
+    // What the answer says: one by one, the keys make parts of the same kinds.
+    ensures meaning { IsTrue result
+        ↔ (map item_kind reader.now.keys ≡ map item_kind saver.now.keys) }
+{
+    items_match(reader.keys(), saver.keys())
+}
+
+/// Whether key items are as many, and two by two of the same kind.
+fn items_match(a: &[KeyItem], b: &[KeyItem]) -> bool
+    ensures { result ≡ keys_match a.now b.now }
+{
+    match (a.split_first(), b.split_first()) {
+        (None, None) => true,
+        (Some((x, xs)), Some((y, ys))) => is_same_kind(*x, *y) && items_match(xs, ys),
+        _ => false,
+    }
+}
+
+/// Whether two key items make parts of the same kind.
+fn is_same_kind(a: KeyItem, b: KeyItem) -> bool
+    ensures { result ≡ same_kind (item_kind a) (item_kind b) }
+{
+    match (a.field.is_text(), b.field.is_text()) {
+        (true, true) => true,
+        (false, false) => is_same_mode(a.mode, b.mode),
+        _ => false,
+    }
+}
+
+/// Whether two modifiers make parts of the same kind of numbers.
+fn is_same_mode(a: Mode, b: Mode) -> bool
+    ensures { result ≡ same_kind (number_kind a) (number_kind b) }
+{
+    match (a, b) {
+        (Mode::Plain | Mode::Hex, Mode::Plain | Mode::Hex) => true,
+        (Mode::Log2, Mode::Log2) => true,
+        (Mode::Buckets(a), Mode::Buckets(b)) => a == b,
+        _ => false,
+    }
+}

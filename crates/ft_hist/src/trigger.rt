@@ -1,0 +1,156 @@
+//! Triggers.
+
+ghost use Rattle.std.specs.Prelude.{◌≡◌, ◌<◌, ◌≤◌, length, option_map, IsTrue};
+ghost use Rattle.std.specs.List.{list_all};
+ghost use Rattle.std.specs.Option.{option_copied, ForSome};
+ghost use Rattle.ft_hist.specs.Hist.{IsWithin};
+ghost use Rattle.ft_hist.specs.Sound.{key_suits, value_suits, by_suits, IsSound};
+
+use crate::item::{Item, KeyItem, SortItem};
+use crate::label::Var;
+use ft_event::Name;
+use ft_filter::Filter;
+use std::marker::Model;
+
+/// A hist trigger: what it counts events under, and what it sums.
+///
+/// Contracts see a record of its parts, with its filter as a tree. It has 1 to 3 keys, at most 3
+/// values, 1 or 2 sort items, and a size of 128 to 131,072.
+#[derive(Drop)]
+pub struct Trigger {
+    event: Name,
+    keys: Vec<KeyItem>,
+    values: Vec<Item>,
+    sort: Vec<SortItem>,
+    variable: Option<Var>,
+    size: u32,
+    filter: Option<Filter>,
+}
+
+impl Model for Trigger {
+    ghost use Rattle.ft_hist.specs.Hist.{Hist};
+    ghost use Rattle.ft_hist.specs.Codes.{hist_code};
+
+    ghost Value = { Hist };
+
+    ghost coded = { hist_code };
+
+    ghost use Rattle.ft_hist.specs.Triggers.{hist_of, IsWhole};
+
+    ghost view = { hist_of };
+
+    ghost invariant = { IsWhole };
+}
+
+impl Trigger {
+    /// A trigger of these parts.
+    pub fn of(
+        event: Name,
+        keys: Vec<KeyItem>,
+        values: Vec<Item>,
+        sort: Vec<SortItem>,
+        variable: Option<Var>,
+        size: u32,
+        filter: Option<Filter>,
+    ) -> Trigger
+        requires within { IsWithin (record {
+          event = event;
+          keys = keys.items;
+          values = values.items;
+          sort = sort.items;
+          variable = variable;
+          size = size;
+          filter = option_map (λ f. f.tree) filter;
+        }) }
+        requires sound { IsSound (record {
+          event = event;
+          keys = keys.items;
+          values = values.items;
+          sort = sort.items;
+          variable = variable;
+          size = size;
+          filter = option_map (λ f. f.tree) filter;
+        }) }
+        requires filter { ForSome filter (λ f. f.event ≡ event) }
+        ensures { result ≡ record {
+          event = event;
+          keys = keys.items;
+          values = values.items;
+          sort = sort.items;
+          variable = variable;
+          size = size;
+          filter = option_map (λ f. f.tree) filter;
+        } }
+    {
+        Trigger {
+            event,
+            keys,
+            values,
+            sort,
+            variable,
+            size,
+            filter,
+        }
+    }
+
+    /// The event that it is on.
+    pub fn event(&self) -> Name
+        ensures { result ≡ self.now.event }
+    {
+        self.event
+    }
+
+    /// What it counts events under, 1 to 3 items: fields of its event, with modifiers that suit them.
+    pub fn keys(&self) -> &[KeyItem]
+        ensures value { result.now ≡ self.now.keys }
+        ensures some { 0 < length self.now.keys }
+        ensures few { length self.now.keys ≤ 3 }
+        ensures sound { IsTrue (list_all (key_suits self.now.event) self.now.keys) }
+    {
+        &self.keys
+    }
+
+    /// What it sums, at most 3 items: fields of numbers of its event, and its own variable, if it has
+    /// one.
+    pub fn values(&self) -> &[Item]
+        ensures value { result.now ≡ self.now.values }
+        ensures few { length self.now.values ≤ 3 }
+        ensures sound { IsTrue (list_all (value_suits self.now.event self.now.variable) self.now.values) }
+    {
+        &self.values
+    }
+
+    /// How its rows are sorted, 1 or 2 items: by hits, or by keys and values that are there.
+    pub fn sort(&self) -> &[SortItem]
+        ensures value { result.now ≡ self.now.sort }
+        ensures some { 0 < length self.now.sort }
+        ensures few { length self.now.sort ≤ 2 }
+        ensures sound { IsTrue (list_all (λ item. by_suits (length self.now.keys) (length self.now.values) item.what) self.now.sort) }
+    {
+        &self.sort
+    }
+
+    /// Its variable, where it has one.
+    pub fn variable(&self) -> Option<&Var>
+        ensures { option_copied result ≡ self.now.variable }
+    {
+        self.variable.as_ref()
+    }
+
+    /// The most keys that its table holds, 128 to 131,072.
+    pub fn size(&self) -> u32
+        ensures value { result ≡ self.now.size }
+        ensures least { 128 ≤ result }
+        ensures most { result ≤ 131072 }
+    {
+        self.size
+    }
+
+    /// Its filter, where it has one. It is for the trigger's event.
+    pub fn filter(&self) -> Option<&Filter>
+        ensures { option_copied result
+            ≡ option_map (λ tree. record { event = self.now.event; tree = tree }) self.now.filter }
+    {
+        self.filter.as_ref()
+    }
+}

@@ -1,0 +1,215 @@
+-- A trigger that some text gives has items that are its event's.
+use Rattle.std.proofs.Common.{◌≡◌, ◌||◌, ℕ, Bool, true, false, not, List, [], ◌∷◌, ◌++◌, length, drop, take, Option, Some, None, option_map, Result, Ok, refl, sym, ap, subst, arith, codes, decimal, find, cond, ◌==◌, ◌-◌}
+use Rattle.std.proofs.lemmas.Bool.{and_parts, and_from, lt-ltb}
+use Rattle.std.proofs.lemmas.Option.{same_Some, slice_get_within, cond_some}
+use Rattle.std.specs.Prelude.{nat_le, unwrap_or, if◌then◌else◌}
+use Rattle.std.specs.List.{list_all, starts_with}
+use Rattle.std.specs.Option.{option_map_or}
+use Rattle.std.specs.Str.{bytes_eq}
+use Rattle.ft_event.specs.declared.event.Name.{Name}
+use Rattle.ft_event.specs.declared.field.Field.{Field}
+use Rattle.ft_event.specs.Fields.{is_named, all_fields, is_text, text_of, has_field}
+use Rattle.ft_trigger.specs.declared.fault.TriggerFault.{TriggerFault}
+use Rattle.ft_trigger.specs.declared.fault.TriggerFault.TheVariants.{NoField, NotNumeric, BadSort, Syntax}
+use Rattle.ft_hist.specs.declared.item.KeyItem.{KeyItem}
+use Rattle.ft_hist.specs.declared.item.Mode.{Mode}
+use Rattle.ft_hist.specs.declared.item.Mode.TheVariants as modes
+use Rattle.ft_hist.specs.declared.item.Item.{Item}
+use Rattle.ft_hist.specs.declared.item.Item.TheVariants as items
+use Rattle.ft_hist.specs.declared.item.SortBy.{SortBy}
+use Rattle.ft_hist.specs.declared.item.SortBy.TheVariants as sorts
+use Rattle.ft_hist.specs.declared.item.SortItem.{SortItem}
+use Rattle.ft_hist.specs.declared.label.Var.{Var}
+use Rattle.ft_hist.specs.declared.label.Var.TheVariants as vars
+use Rattle.ft_trigger.specs.Draft.{Draft, blank, ◌>>=◌, is_word, besides_hitcount, value_fault, mode_of, parts_from}
+use Rattle.ft_hist.specs.Hist.{Hist}
+use Rattle.ft_filter.specs.Tree.{Tree}
+use Rattle.ft_hist.specs.Sound.{mode_suits, key_suits, value_suits, by_suits, IsSound}
+use Rattle.ft_trigger.specs.TriggerIs.{own_name, value_of, values_of, index_where, names_value, sort_by, is_descending, sorts_of, by_hits, sort_of, head_len, behind_head, tail_of, filter_in, finished, trigger_of}
+use Rattle.ft_trigger.specs.Words.{Word, number_in, pieces}
+use Rattle.ft_trigger.proofs.Chains.{Chain}
+use Rattle.ft_trigger.proofs.Inversions.{then_parts, given_parts, unless_parts}
+use Rattle.ft_trigger.proofs.Drafts.{DraftFits, draft_fits}
+use Rattle.ft_trigger.proofs.ReadAgain.{Made, made_so, keys_of, words_of}
+use Rattle.ft_trigger.proofs.Keyed.{KeyFits, mode_suffix, find_passes}
+use Rattle.ft_trigger.proofs.Numerals.{number_parts}
+use Rattle.ft_trigger.proofs.Sorted.{index_parts}
+use Rattle.ft_trigger.proofs.Spellings.{bytes_same}
+use Rattle.ft_trigger.proofs.Valued.{ValueFits, hits, others_fit}
+
+-- ---- keys
+
+-- buckets that are read have a size
+bucket_sound : (size : ℕ) (o : Option ℕ) → number_in 1 4294967295 (decimal size) ≡ o → option_map modes.Buckets o ≡ Some (modes.Buckets size) → nat_le 1 size ≡ true
+bucket_sound size None is e = absurd cc
+bucket_sound size (Some n) is e = let same : n ≡ size = cc in subst (λ (m : ℕ). nat_le 1 m ≡ true) same (number_parts 1 4294967295 n (decimal size) is).0
+
+-- a mode that is read for a field suits it
+mode_sound : (text : Bool) (mode : Mode) → mode_of text (mode_suffix mode) ≡ Some mode → mode_suits text mode ≡ true
+mode_sound text modes.Plain e = refl
+mode_sound false modes.Hex e = refl
+mode_sound true modes.Hex e = absurd cc
+mode_sound false modes.Log2 e = refl
+mode_sound true modes.Log2 e = absurd cc
+mode_sound false (modes.Buckets size) e = bucket_sound size (number_in 1 4294967295 (decimal size)) refl e
+mode_sound true (modes.Buckets size) e = absurd cc
+
+-- a key that is read suits its event
+key_sound : (event : Name) (keys : List KeyItem) (key : KeyItem) → KeyFits event keys key → key_suits event key ≡ true
+key_sound event keys key h =
+    let found = find_passes (is_named event (text_of key.field)) all_fields key.field h.owned in
+    and_from _ _ (and_parts (bytes_eq (text_of key.field) (text_of key.field)) (has_field event key.field) found).1 (mode_sound (is_text key.field) key.mode h.suited.reads)
+
+-- so do keys
+pub keys_sound : (event : Name) (more keys : List KeyItem) → Chain (KeyFits event) keys more → list_all (key_suits event) more ≡ true
+keys_sound event [] keys chain = refl
+keys_sound event (key ∷ more) keys chain = and_from _ _ (key_sound event keys key chain.0) (keys_sound event more (keys ++ key ∷ []) chain.1)
+
+-- ---- sort items
+
+-- what is found by a sort item's word is there
+by_sound : (keys : List KeyItem) (values : List Item) (own : Option (List ℕ)) (word : Word) (what : SortBy) → sort_by keys values own word ≡ Some what → by_suits (length keys) (length values) what ≡ true
+unfolding sort_by
+by_sound keys values own word what e = hit (is_word word (codes "hitcount")) e
+  where
+    value_from : (o : Option ℕ) → index_where (names_value own word) 0 values ≡ o → option_map sorts.Value o ≡ Some what → by_suits (length keys) (length values) what ≡ true
+    value_from None is e = absurd cc
+    value_from (Some i) is e =
+        let found = index_parts (names_value own word) 0 values i is in
+        let within = slice_get_within values found.0 found.1 found.3 in
+        let same = found.2 in
+        subst (λ (w : SortBy). by_suits (length keys) (length values) w ≡ true) (same_Some (sorts.Value i) what e) (lt-ltb i (length values) (omega arith))
+
+    key_from : (o : Option ℕ) → index_where (λ key. is_word word (text_of key.field)) 0 keys ≡ o
+        → option_map_or (λ n. Some (sorts.Key n)) o (option_map sorts.Value (index_where (names_value own word) 0 values)) ≡ Some what → by_suits (length keys) (length values) what ≡ true
+    key_from None is e = value_from (index_where (names_value own word) 0 values) refl e
+    key_from (Some i) is e =
+        let found = index_parts (λ key. is_word word (text_of key.field)) 0 keys i is in
+        let within = slice_get_within keys found.0 found.1 found.3 in
+        let same = found.2 in
+        subst (λ (w : SortBy). by_suits (length keys) (length values) w ≡ true) (same_Some (sorts.Key i) what e) (lt-ltb i (length keys) (omega arith))
+
+    hit : (b : Bool) → cond b (Some sorts.Hits) (option_map_or (λ n. Some (sorts.Key n)) (index_where (λ key. is_word word (text_of key.field)) 0 keys) (option_map sorts.Value (index_where (names_value own word) 0 values))) ≡ Some what → by_suits (length keys) (length values) what ≡ true
+    hit true e = subst (λ (w : SortBy). by_suits (length keys) (length values) w ≡ true) (same_Some sorts.Hits what e) refl
+    hit false e = key_from (index_where (λ key. is_word word (text_of key.field)) 0 keys) refl e
+
+-- sort items that are found are there
+pub sorts_sound : (keys : List KeyItem) (values : List Item) (own : Option (List ℕ)) (words : List Word) (sort : List SortItem) → sorts_of keys values own words ≡ Ok sort
+    → list_all (λ item. by_suits (length keys) (length values) item.what) sort ≡ true
+sorts_sound keys values own [] sort e = let same : [] ≡ sort = cc in subst (λ (l : List SortItem). list_all (λ item. by_suits (length keys) (length values) item.what) l ≡ true) same refl
+sorts_sound keys values own (word ∷ words) sort e =
+    let what = given_parts BadSort (sort_by keys values own word) (λ what. sorts_of keys values own words >>= (λ sorts. Ok (record { what = what; descending = is_descending word } ∷ sorts))) sort e in
+    let rest = then_parts (sorts_of keys values own words) (λ sorts. Ok (record { what = what.0; descending = is_descending word } ∷ sorts)) sort what.2 in
+    joined (record { what = what.0; descending = is_descending word }) rest.0 (sorts_sound keys values own words rest.0 rest.1) (by_sound keys values own word what.0 what.1) rest.2
+  where
+    joined : (item : SortItem) (rest : List SortItem) → list_all (λ item. by_suits (length keys) (length values) item.what) rest ≡ true → by_suits (length keys) (length values) item.what ≡ true
+        → ◌≡◌ {A = Result (List SortItem) TriggerFault} (Ok (item ∷ rest)) (Ok sort) → list_all (λ item. by_suits (length keys) (length values) item.what) sort ≡ true
+    joined item rest later here e = let same : item ∷ rest ≡ sort = cc in subst (λ (l : List SortItem). list_all (λ item. by_suits (length keys) (length values) item.what) l ≡ true) same (and_from _ _ here later)
+
+-- ---- values
+
+-- no field is called `hitcount`
+no_hitcount : (event : Name) (name : List ℕ) (field : Field) → name ≡ codes "hitcount" → find (is_named event name) all_fields ≡ Some field → is_text field ≡ false
+no_hitcount event name field same e = absurd (let none : find (is_named event (codes "hitcount")) all_fields ≡ Some field = subst (λ (n : List ℕ). find (is_named event n) all_fields ≡ Some field) same e in cc)
+
+-- what is wrong with a word as a value's field, by its parts
+abbrev fault_by : Bool → Bool → Option Field → Option TriggerFault
+fault_by dollar hits found = if dollar || hits then None else option_map_or (λ field. if is_text field then Some NotNumeric else None) found (Some NoField)
+
+-- a field with which nothing is wrong holds numbers
+numeric : (field : Field) (b : Bool) → is_text field ≡ b → (if b then Some NotNumeric else None) ≡ None → is_text field ≡ false
+numeric field true is e = absurd cc
+numeric field false is e = is
+
+-- a word without a `$` with which nothing is wrong names a field of numbers
+names_number : (event : Name) (word : Word) (field : Field) (b : Bool) → is_word word (codes "hitcount") ≡ b → find (is_named event word.name) all_fields ≡ Some field → fault_by false b (Some field) ≡ None → is_text field ≡ false
+names_number event word field true is found e = no_hitcount event word.name field (bytes_same word.name (codes "hitcount") (and_parts (not word.dollar) (bytes_eq word.name (codes "hitcount")) is).1) found
+names_number event word field false is found e = numeric field (is_text field) refl e
+
+-- what a word names as a value suits the event, where nothing is wrong with the word
+value_sound : (event : Name) (variable : Option Var) (word : Word) (value : Item) → value_fault event word ≡ None → value_of event (own_name variable) word ≡ Some value → value_suits event variable value ≡ true
+value_sound event variable word value sound e = from word.dollar refl e
+  where
+    own_from : (v : Option Var) → option_map_or (λ name. if bytes_eq word.name name then Some items.Own else None) (own_name v) None ≡ Some value → value_suits event v value ≡ true
+    own_from None e = absurd cc
+    own_from (Some (vars.Saves name)) e = subst (λ (i : Item). value_suits event (Some (vars.Saves name)) i ≡ true) (cond_some (bytes_eq word.name name) items.Own value e).1 refl
+    own_from (Some (vars.Reads name source)) e = subst (λ (i : Item). value_suits event (Some (vars.Reads name source)) i ≡ true) (cond_some (bytes_eq word.name name) items.Own value e).1 refl
+
+    plain : (field : Field) → find (is_named event word.name) all_fields ≡ Some field → is_text field ≡ false → value_suits event variable (items.Num field) ≡ true
+    plain field is number = and_from _ _ (and_parts (bytes_eq (text_of field) word.name) (has_field event field) (find_passes (is_named event word.name) all_fields field is)).1 (ap not number)
+
+    field_from : word.dollar ≡ false → (o : Option Field) → find (is_named event word.name) all_fields ≡ o → option_map items.Num o ≡ Some value → value_suits event variable value ≡ true
+    field_from bare None is e = absurd cc
+    field_from bare (Some field) is e =
+        let here : fault_by false (is_word word (codes "hitcount")) (find (is_named event word.name) all_fields) ≡ None = subst (λ (d : Bool). fault_by d (is_word word (codes "hitcount")) (find (is_named event word.name) all_fields) ≡ None) bare sound in
+        let there : fault_by false (is_word word (codes "hitcount")) (Some field) ≡ None = subst (λ (o : Option Field). fault_by false (is_word word (codes "hitcount")) o ≡ None) is here in
+        subst (λ (i : Item). value_suits event variable i ≡ true) (same_Some (items.Num field) value e) (plain field is (names_number event word field (is_word word (codes "hitcount")) refl is there))
+
+    from : (b : Bool) → word.dollar ≡ b → cond b (option_map_or (λ name. if bytes_eq word.name name then Some items.Own else None) (own_name variable) None) (option_map items.Num (find (is_named event word.name) all_fields)) ≡ Some value → value_suits event variable value ≡ true
+    from true is e = own_from variable e
+    from false is e = field_from is (find (is_named event word.name) all_fields) refl e
+
+-- so do values
+pub values_sound : (event : Name) (variable : Option Var) (words list : List Word) (values : List Item) → Chain (ValueFits event) list words → values_of event (own_name variable) words ≡ Ok values → list_all (value_suits event variable) values ≡ true
+values_sound event variable [] list values chain e = let same : [] ≡ values = cc in subst (λ (l : List Item). list_all (value_suits event variable) l ≡ true) same refl
+values_sound event variable (word ∷ words) list values chain e =
+    let value = given_parts NoField (value_of event (own_name variable) word) (λ value. values_of event (own_name variable) words >>= (λ values. Ok (value ∷ values))) values e in
+    let rest = then_parts (values_of event (own_name variable) words) (λ values. Ok (value.0 ∷ values)) values value.2 in
+    joined value.0 rest.0 (values_sound event variable words (list ++ word ∷ []) rest.0 chain.1 rest.1) (value_sound event variable word value.0 chain.0.sound value.1) rest.2
+  where
+    joined : (value : Item) (rest : List Item) → list_all (value_suits event variable) rest ≡ true → value_suits event variable value ≡ true → ◌≡◌ {A = Result (List Item) TriggerFault} (Ok (value ∷ rest)) (Ok values) → list_all (value_suits event variable) values ≡ true
+    joined value rest later here e = let same : value ∷ rest ≡ values = cc in subst (λ (l : List Item). list_all (value_suits event variable) l ≡ true) same (and_from _ _ here later)
+
+-- ---- triggers
+
+-- sort items of what was read, or the one where none was
+order_sound : (keys : List KeyItem) (values : List Item) (own : Option (List ℕ)) (words : Option (List Word)) (sort : List SortItem) → sort_of keys values own words ≡ Ok sort → list_all (λ item. by_suits (length keys) (length values) item.what) sort ≡ true
+order_sound keys values own None sort e = let same : by_hits ≡ sort = cc in subst (λ (l : List SortItem). list_all (λ item. by_suits (length keys) (length values) item.what) l ≡ true) same refl
+order_sound keys values own (Some words) sort e = sorts_sound keys values own words sort e
+
+-- a trigger that was made of what can be read again
+made_sound : (event : Name) (draft : Draft) (hist : Hist) → DraftFits event draft → Made event draft hist → IsSound hist
+made_sound event draft hist h m =
+    let keys = keys_of event draft.keys m.keys h.keys m.keys_are in
+    subst IsSound m.is (record {
+      keys = subst (λ (l : List KeyItem). list_all (key_suits event) l ≡ true) (sym keys.is) (keys_sound event (keys.first ∷ keys.more) [] keys.chain);
+      values = values_sound event draft.variable (besides_hitcount (unwrap_or draft.values [])) (hits ∷ []) m.values (others_fit event (unwrap_or draft.values []) [] (words_of event draft.values h.values)) m.values_are;
+      sort = order_sound m.keys m.values (own_name draft.variable) draft.sort m.sort m.sort_is;
+    })
+
+-- a trigger that some text gives is sound
+pub sound : (event : Name) (text : List ℕ) (hist : Hist) → trigger_of event text ≡ Ok hist → IsSound hist
+unfolding trigger_of
+sound event text hist e = made_sound event draft.0 hist (draft_fits event (pieces 58 5 (drop 5 head)) draft.0 draft.1) (made_so event (head_len text) place (tail_of text) draft.0 hist draft.2)
+  where
+    head : List ℕ
+    head = take (head_len text) text
+
+    place : ℕ
+    place = length text - length (behind_head text)
+
+    begins : (not (starts_with ◌==◌ head (codes "hist:")) ≡ false) × ((parts_from event blank (pieces 58 5 (drop 5 head)) >>= finished event (head_len text) place (tail_of text)) ≡ Ok hist)
+    begins = unless_parts (not (starts_with ◌==◌ head (codes "hist:"))) (Syntax 0) [] (parts_from event blank (pieces 58 5 (drop 5 head)) >>= finished event (head_len text) place (tail_of text)) hist e
+
+    draft : (d : Draft) × (parts_from event blank (pieces 58 5 (drop 5 head)) ≡ Ok d) × (finished event (head_len text) place (tail_of text) d ≡ Ok hist)
+    draft = then_parts (parts_from event blank (pieces 58 5 (drop 5 head))) (finished event (head_len text) place (tail_of text)) hist begins.1
+
+-- a draft whose steps are known is a trigger
+pub finished_is : (event : Name) (head place : ℕ) (tail : List ℕ) (draft : Draft) (keys : List KeyItem) (values : List Item) (sort : List SortItem) (size : ℕ) (filter : Option Tree)
+    → draft.keys ≡ Some keys → values_of event (own_name draft.variable) (besides_hitcount (unwrap_or draft.values [])) ≡ Ok values → sort_of keys values (own_name draft.variable) draft.sort ≡ Ok sort → filter_in event place tail ≡ Ok filter → unwrap_or draft.size 2048 ≡ size
+    → finished event head place tail draft ≡ Ok (record { event = event; keys = keys; values = values; sort = sort; variable = draft.variable; size = size; filter = filter })
+unfolding finished
+finished_is event head place tail draft keys values sort size filter k v s f z = rw (k, v, s, f, z) refl
+
+-- what a text's parts and tail are made of is sound
+pub finished_sound : (event : Name) (text front behind tail : List ℕ) (place : ℕ) (draft : Draft) (hist : Hist) → front ≡ take (head_len text) text → bytes_eq (take 5 front) (codes "hist:") ≡ true → behind ≡ drop 5 front
+    → parts_from event blank (pieces 58 5 behind) ≡ Ok draft → length front ≡ head_len text → place ≡ length text - length (behind_head text) → tail ≡ tail_of text → finished event (length front) place tail draft ≡ Ok hist → IsSound hist
+unfolding trigger_of
+finished_sound event text front behind tail place draft hist cut begins rest parts len from end e =
+    let whole : starts_with ◌==◌ front (codes "hist:") ≡ true = subst (λ (t : List ℕ). bytes_eq (codes "hist:") t ≡ true) (sym (bytes_same (take 5 front) (codes "hist:") begins)) refl in
+    let seen : starts_with ◌==◌ (take (head_len text) text) (codes "hist:") ≡ true = subst (λ (f : List ℕ). starts_with ◌==◌ f (codes "hist:") ≡ true) cut whole in
+    let read : parts_from event blank (pieces 58 5 (drop 5 (take (head_len text) text))) ≡ Ok draft = subst (λ (f : List ℕ). parts_from event blank (pieces 58 5 (drop 5 f)) ≡ Ok draft) cut (subst (λ (b : List ℕ). parts_from event blank (pieces 58 5 b) ≡ Ok draft) rest parts) in
+    sound event text hist (rw (seen, read)
+    (subst (λ (t : List ℕ). finished event (head_len text) (length text - length (behind_head text)) t draft ≡ Ok hist) end
+    (subst (λ (p : ℕ). finished event (head_len text) p tail draft ≡ Ok hist) from
+    (subst (λ (h : ℕ). finished event h place tail draft ≡ Ok hist) len e))))

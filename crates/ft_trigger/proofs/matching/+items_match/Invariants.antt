@@ -1,5 +1,0 @@
-use Rattle.std.proofs.Common.{length}
-use Rattle.ft_trigger.proofs.matching.+items_match.Given as goal
-
-abbrev pub decreases-items_match : goal.decreases-items_match
-decreases-items_match l = length l.a.now

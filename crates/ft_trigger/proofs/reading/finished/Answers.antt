@@ -1,0 +1,25 @@
+use Rattle.std.proofs.lemmas.Result.{err_from_is_err_and}
+use Rattle.std.specs.Prelude.{option_map}
+use Rattle.std.specs.Option.{option_copied}
+use Rattle.ft_trigger.specs.Draft.{besides_hitcount}
+use Rattle.ft_trigger.proofs.Plain.{values_no_filter, sort_no_filter}
+use Rattle.std.proofs.Common.{subst, Ok, ◌≡◌, rules}
+use Rattle.ft_trigger.specs.Draft.{Draft}
+use Rattle.ft_trigger.specs.Drafts.{draft_of}
+use Rattle.ft_trigger.specs.TriggerIs.{finished}
+use Rattle.ft_trigger.proofs.SoundLemmas.{finished_is}
+use Rattle.ft_trigger.proofs.reading.finished.Goals as goal
+
+pub of-requires-clause-sound : goal.of-requires-clause-sound
+of-requires-clause-sound c = c.requires.sound _ (subst (λ (d : Draft). finished c.args.event c.args.head c.args.place c.args.tail.now d ≡ Ok (record { event = c.args.event; keys = c.in-Some.keys.items; values = c.in_ok-values-in-Some.values.items; sort = c.in_ok-sort-in-Some.sort.items; variable = c.draft.inside.variable; size = c.unwrap_or-size.result; filter = option_map (λ f. f.tree) c.in_ok-filter-in-Some.filter })) c.draft.view_is
+    (finished_is c.args.event c.args.head c.args.place c.args.tail.now (draft_of c.draft.inside) c.in-Some.keys.items c.in_ok-values-in-Some.values.items c.in_ok-sort-in-Some.sort.items c.unwrap_or-size.result (option_map (λ f. f.tree) c.in_ok-filter-in-Some.filter) (search rules) (search rules) (search rules) (search rules) (search rules)))
+
+pub returns-in_err-values-in-Some-clause-memory : goal.returns-in_err-values-in-Some-clause-memory
+returns-in_err-values-in-Some-clause-memory c =
+    let p = err_from_is_err_and c.from_residual.result c.from_residual.ensures.1 in
+    rw (p.1, p.2) (values_no_filter c.args.event (option_copied c.own_name-own.result) (besides_hitcount c.words_in.result.now) _ c.in_err-values-in-Some.ensures.gives)
+
+pub returns-in_err-sort-in-Some-clause-memory : goal.returns-in_err-sort-in-Some-clause-memory
+returns-in_err-sort-in-Some-clause-memory c =
+    let p = err_from_is_err_and c.from_residual-in_err-sort-in-Some.result c.from_residual-in_err-sort-in-Some.ensures.1 in
+    rw (p.1, p.2) (sort_no_filter c.deref.result.now c.deref-in-Some.result.now (option_copied c.own_name-own.result) (option_map (λ words. words.items) c.draft.inside.sort) _ c.in_err-sort-in-Some.ensures.gives)

@@ -1,0 +1,12 @@
+use Rattle.std.proofs.Common.{◌≡◌, drop}
+use Rattle.ft_event.specs.Fields.{text_of}
+use Rattle.ft_trigger.specs.Draft.{is_word}
+use Rattle.ft_trigger.specs.TriggerIs.{index_where}
+use Rattle.ft_trigger.proofs.resolving.key_named.Given as goal
+
+-- the first of those that are left is the first of all
+abbrev pub invariant-loop-key : goal.invariant-loop-key
+invariant-loop-key l = record {
+  same : index_where (λ key. is_word l.word (text_of key.field)) l.number (drop l.key-index l.keys) ≡ index_where (λ key. is_word l.word (text_of key.field)) 0 l.keys;
+  count : l.number ≡ l.key-index;
+}

@@ -1,0 +1,118 @@
+//! Reading triggers.
+
+ghost use Rattle.std.specs.Prelude.{◌≡◌, ◌≢◌, IfOk, IfErr, option_map, unwrap_or, [], ℕ, List, Result, Ok};
+ghost use Rattle.ft_filter.specs.declared.fault.FilterFault.{FilterFault};
+ghost use Rattle.ft_hist.specs.Canonical.{canonical};
+ghost use Rattle.ft_hist.specs.Hist.{Hist};
+ghost use Rattle.ft_hist.specs.Sound.{IsSound};
+ghost use Rattle.ft_trigger.specs.TriggerIs.{TriggerIs, trigger_of, finished};
+ghost use Rattle.ft_trigger.specs.Given.{Gives, GivesTrigger};
+
+use crate::draft::{Draft, parts_of};
+use crate::fault::TriggerFault;
+use crate::pieces::{Piece, Pieces};
+use crate::resolving::{own_name, sort_of, values_of};
+use crate::tail::{filter_in, head_len, without_end};
+use crate::words::Word;
+use ft_event::Name;
+use ft_filter::skip;
+use ft_hist::Trigger;
+use std::alloc::Global;
+
+/// How a trigger's text begins.
+const HIST: &[u8] = b"hist:";
+
+/// The size of a trigger that names none.
+const DEFAULT_SIZE: u32 = 2048;
+
+/// Reads a trigger's text, for an event. The first fault decides: those of the head from the left,
+/// then those of what its parts name, then those of the tail. Memory may run out.
+#[tactic(auto, unfolding(crate::specs::TriggerIs::trigger_of))]
+pub fn parse(alloc: Global, event: Name, text: &[u8]) -> Result<Trigger, TriggerFault>
+    // What the text says.
+    ensures meaning { GivesTrigger (TriggerIs event text.now) result }
+    // Whose fields it names.
+    ensures event { IfOk result (λ trigger. trigger.event ≡ event) }
+    // Want of memory is never the filter's fault.
+    ensures memory { IfErr result (λ fault. fault ≢ TriggerFault.BadFilter FilterFault.Memory) }
+{
+    let (head, behind) = text.split_at(head_len(text));
+    match head.strip_prefix(HIST) {
+        Some(parts) => {
+            let tail = skip(behind);
+            let parts = Pieces::of(&Piece::of(HIST.len(), parts), b':');
+            let draft = parts_of(alloc, event, parts)?;
+            finished(
+                alloc,
+                event,
+                head.len(),
+                text.len() - tail.len(),
+                without_end(tail),
+                draft,
+            )
+        }
+        None => Err(TriggerFault::Syntax(0)),
+    }
+}
+
+/// A law: every text is an answer on every event, and one alone.
+pub fn one_answer()
+    ensures some { (event : Name) (text : List ℕ) → TriggerIs event text (trigger_of event text) }
+    ensures one { (event : Name) (text : List ℕ) (answer : Result Hist TriggerFault)
+        → TriggerIs event text answer → answer ≡ trigger_of event text }
+{}
+
+/// A law: the canonical text of a trigger that some text gives, gives that trigger again.
+pub fn reads_again()
+    ensures { (event : Name) (text : List ℕ) (hist : Hist) → TriggerIs event text (Ok hist)
+        → TriggerIs event (canonical hist) (Ok hist) }
+{
+    ft_filter::one_answer();
+    ft_filter::reads_again();
+}
+
+/// Makes a trigger of what has been read of a head of so many bytes, and of a tail that begins at
+/// a place.
+#[tactic(auto, unfolding(crate::specs::TriggerIs::finished))]
+fn finished(
+    alloc: Global,
+    event: Name,
+    head: usize,
+    place: usize,
+    tail: &[u8],
+    draft: Draft<'_>,
+) -> Result<Trigger, TriggerFault>
+    requires sound { (hist : Hist) → finished event head place tail.now draft ≡ Ok hist → IsSound hist }
+    ensures gives { Gives (λ trigger. trigger) (finished event head place tail.now draft.entry) result }
+    ensures event { IfOk result (λ trigger. trigger.event ≡ event) }
+    ensures memory { IfErr result (λ fault. fault ≢ TriggerFault.BadFilter FilterFault.Memory) }
+{
+    let Draft {
+        keys,
+        values,
+        sort,
+        size,
+        variable,
+    } = draft;
+    match keys {
+        Some(keys) => {
+            let own = own_name(&variable);
+            let values = values_of(alloc, event, own, words_in(&values))?;
+            let sort = sort_of(alloc, &keys, &values, own, &sort)?;
+            let filter = filter_in(alloc, event, place, tail)?;
+            let size = size.unwrap_or(DEFAULT_SIZE);
+            Ok(Trigger::of(event, keys, values, sort, variable, size, filter))
+        }
+        None => Err(TriggerFault::Syntax(head)),
+    }
+}
+
+/// The words of a list, or none where it has not stood.
+fn words_in<'w, 'a>(words: &'w Option<Vec<Word<'a>>>) -> &'w [Word<'a>]
+    ensures { result.now ≡ unwrap_or (option_map (λ words. words.items) words.now) [] }
+{
+    match words {
+        Some(words) => words,
+        None => &[],
+    }
+}
