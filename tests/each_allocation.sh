@@ -44,7 +44,7 @@ each() {
 
 each ft_filter tests::writing::old_bytes_after_want_of_memory tests::passing::filters_join
 each ft_trigger tests::reading::old_bytes_after_want_of_memory tests::reading::answers_after_want_of_memory \
-    tests::reading::answers
+    tests::reading::hits_of_a_rich_text
 each ft_board tests::trigger_after_want_of_memory tests::texts_of_triggers
 each ft_desk tests::examples::whole_output_or_that_of_the_commands_before tests::examples::triggers_with_filters
 exit "$failed"
