@@ -16,6 +16,7 @@ python3 "$here/make_trace.py" "$events" >"$trace"
 : >"$folder/nothing"
 printf 'load @1\n' >"$folder/load"
 printf 'load @1\nattach sched_waking hist:keys=pid\nhist 1\n' >"$folder/hist"
+printf 'load @1\nattach sched_waking hist:keys=pid if comm ~ "*r*k*" && prio < 130\nhist 1\n' >"$folder/filter"
 
 # The least time of some runs of a command, in milliseconds.
 least() {
@@ -44,3 +45,4 @@ row "wc -l" "$wc_ms" "$wc_ms"
 row "read the file alone" "$(least "$histdesk" "$folder/nothing" "$trace")" "$wc_ms"
 row "load" "$(least "$histdesk" "$folder/load" "$trace")" "$wc_ms"
 row "load, attach, hist" "$(least "$histdesk" "$folder/hist" "$trace")" "$wc_ms"
+row "the same with a filter" "$(least "$histdesk" "$folder/filter" "$trace")" "$wc_ms"
