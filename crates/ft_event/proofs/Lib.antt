@@ -9,6 +9,7 @@ mod Firsts
 mod HeadLoop
 mod Heads
 mod Lines
+mod NameTable
 mod Numbers
 mod PartLemmas
 mod Runs

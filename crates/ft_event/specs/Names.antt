@@ -1,0 +1,27 @@
+-- The names of events (kernel: events.rst, the events of `sched`).
+use Rattle.std.specs.Prelude.{ℕ, Bool, false, List, [], ◌∷◌, Option, Some, None, codes}
+use Rattle.std.specs.List.{find}
+use Rattle.std.specs.Option.{option_map_or}
+use Rattle.std.specs.Str.{bytes_eq}
+use Rattle.ft_event.specs.declared.event.Name.{Name}
+use Rattle.ft_event.specs.declared.event.Name.TheVariants as names
+
+-- how the kernel names the event, where it is one of the four (kernel: events.rst, the events of `sched`)
+abbrev pub name_text : Name → Option (List ℕ)
+name_text names.Waking = Some (codes "sched_waking")
+name_text names.Wakeup = Some (codes "sched_wakeup")
+name_text names.WakeupNew = Some (codes "sched_wakeup_new")
+name_text names.Switch = Some (codes "sched_switch")
+name_text names.Other = None
+
+-- the events that have a name (kernel: events.rst, the events of `sched`)
+abbrev pub all_names : List Name
+all_names = names.Waking ∷ names.Wakeup ∷ names.WakeupNew ∷ names.Switch ∷ []
+
+-- whether the text is the event's name (our own choice)
+abbrev pub is_called : List ℕ → Name → Bool
+is_called text name = option_map_or (λ own. bytes_eq own text) (name_text name) false
+
+-- the event that has the text as its name (our own choice)
+abbrev pub name_called : List ℕ → Option Name
+name_called text = find (is_called text) all_names
