@@ -1,6 +1,5 @@
 mod Asked
 mod Fronts
-mod KeyLemmas
 mod KindLemmas
 mod PartLemmas
 mod PowerLemmas

@@ -1,37 +1,75 @@
--- Keys of hits have as many parts as there are key items.
-use Rattle.std.specs.Prelude.{◌≡◌, ℕ, ◌+◌, Bool, true, false, List, [], ◌∷◌, length, Option, Some, None, option_map, if◌then◌else◌}
+-- Keys of hits fit the trigger's key items.
+use Rattle.std.specs.Prelude.{◌≡◌, ℕ, ◌/◌, ℤ, Bool, true, false, List, [], ◌∷◌, length, Option, Some, None, option_map, IfSome, if◌then◌else◌}
+use Rattle.std.specs.Int.{w64, cast_unsigned}
 use Rattle.std.specs.Option.{option_and_then}
-use Rattle.std.proofs.Common.{refl, sym, ap, ◌∙◌, arith}
+use Rattle.std.proofs.Common.{refl, subst, arith}
+use Rattle.std.proofs.lemmas.Option.{same_Some}
+use Rattle.ft_event.specs.declared.field.Field.{Field}
+use Rattle.ft_event.specs.declared.field.Value.{Value}
+use Rattle.ft_event.specs.declared.field.Value.TheVariants as values
+use Rattle.ft_event.specs.Fields.{field_of, is_text, is_text_value}
 use Rattle.ft_event.specs.Traced.{Traced}
 use Rattle.ft_hist.specs.declared.item.KeyItem.{KeyItem}
+use Rattle.ft_hist.specs.declared.item.Mode.{Mode}
+use Rattle.ft_hist.specs.declared.item.Mode.TheVariants as modes
 use Rattle.ft_hist.specs.declared.key.Part.{Part}
+use Rattle.ft_hist.specs.Matching.{Texts, number_kind}
+use Rattle.ft_hist.specs.Fitting.{IsOfKind, PartFits, KeyFits}
 use Rattle.ft_hist.specs.Hist.{Hist}
-use Rattle.ft_hist.specs.Hit.{part_of, key_of, is_asked, hit}
+use Rattle.ft_hist.specs.Hit.{number_part, text_part, value_part, part_of, key_of, is_asked, hit}
+use Rattle.ft_hist.proofs.PowerLemmas.{log2_of_few}
 
--- a part before others, where there are some, makes one part more
-one_more : (part : Part) (others : Option (List Part)) (n : ℕ) (parts : List Part) → ((rest : List Part) → others ≡ Some rest → length rest ≡ n) → option_map (λ rest. part ∷ rest) others ≡ Some parts → length parts ≡ n + 1
-one_more part None n parts long e = cc
-one_more part (Some rest) n parts long e =
-    let whole : part ∷ rest ≡ parts = cc in
-    let same : length rest ≡ n = long rest refl in
-    sym (ap length whole) ∙ omega arith
+-- what a modifier makes of a number is of its kind
+number_fits : (mode : Mode) (z : ℤ) → IsOfKind (number_kind mode) (number_part mode z)
+number_fits modes.Plain z = tt
+number_fits modes.Hex z = tt
+number_fits modes.Log2 z = log2_of_few (cast_unsigned w64 z)
+number_fits (modes.Buckets size) z = (cast_unsigned w64 z / size, refl)
 
--- a part where there is one, before others, makes one part more
-one_more_found : (found : Option Part) (others : Option (List Part)) (n : ℕ) (parts : List Part) → ((rest : List Part) → others ≡ Some rest → length rest ≡ n) → option_and_then (λ part. option_map (λ rest. part ∷ rest) others) found ≡ Some parts → length parts ≡ n + 1
-one_more_found None others n parts long e = cc
-one_more_found (Some part) others n parts long e = one_more part others n parts long e
+-- what a modifier makes of a text is a text
+text_fits : (mode : Mode) (text : List ℕ) (part : Part) → text_part mode text ≡ Some part → IsOfKind Texts part
+text_fits modes.Plain text part e = subst (IsOfKind Texts) (same_Some _ _ e) tt
+text_fits modes.Hex text part e = absurd cc
+text_fits modes.Log2 text part e = absurd cc
+text_fits (modes.Buckets size) text part e = absurd cc
 
--- key items make as many parts as they are
-key_of_long : (items : List KeyItem) (event : Traced) (parts : List Part) → key_of items event ≡ Some parts → length parts ≡ length items
-key_of_long [] event parts e = let whole : [] ≡ parts = cc in sym (ap length whole)
-key_of_long (item ∷ items) event parts e =
-    one_more_found (part_of item event) (key_of items event) (length items) parts (λ rest h. key_of_long items event rest h) e ∙ omega arith
+-- what a modifier makes of a field's value is of the field's kind
+value_fits : (text : Bool) (mode : Mode) (value : Value) (part : Part) → is_text_value value ≡ text → value_part mode value ≡ Some part → IsOfKind (if text then Texts else number_kind mode) part
+value_fits true mode (values.Num z) part kind e = absurd cc
+value_fits true mode (values.Text text) part kind e = text_fits mode text part e
+value_fits false mode (values.Num z) part kind e = subst (IsOfKind (number_kind mode)) (same_Some _ _ e) (number_fits mode z)
+value_fits false mode (values.Text text) part kind e = absurd cc
 
--- a key where it is asked for
-asked_long : (asked : Bool) (items : List KeyItem) (event : Traced) (parts : List Part) → (if asked then key_of items event else None) ≡ Some parts → length parts ≡ length items
-asked_long true items event parts e = key_of_long items event parts e
-asked_long false items event parts e = cc
+module _ (kind : (event : Traced) (field : Field) → IfSome (field_of event field) (λ value. is_text_value value ≡ is_text field)) where
+  -- what a key item makes of an event fits it
+  part_fits : (item : KeyItem) (event : Traced) (part : Part) → part_of item event ≡ Some part → PartFits item part
+  part_fits item event part e = from (field_of event item.field) (kind event item.field) e
+    where
+      from : (o : Option Value) → IfSome o (λ value. is_text_value value ≡ is_text item.field) → option_and_then (value_part item.mode) o ≡ Some part → PartFits item part
+      from None is e = absurd cc
+      from (Some value) is e = value_fits (is_text item.field) item.mode value part is e
 
--- the key of a hit has as many parts as the trigger has key items
-pub hit_long : (hist : Hist) (event : Traced) (parts : List Part) → hit hist event ≡ Some parts → length parts ≡ length hist.keys
-hit_long hist event parts e = asked_long (is_asked hist event) hist.keys event parts e
+  -- what key items make of an event fits them
+  key_fits : (items : List KeyItem) (event : Traced) (parts : List Part) → key_of items event ≡ Some parts → KeyFits items parts
+  key_fits [] event parts e = subst (KeyFits []) (same_Some _ _ e) tt
+  key_fits (item ∷ items) event parts e = from (part_of item event) (key_of items event) (λ part is. part_fits item event part is) (λ rest is. key_fits items event rest is) e
+    where
+      from : (o : Option Part) (others : Option (List Part)) → ((part : Part) → o ≡ Some part → PartFits item part) → ((rest : List Part) → others ≡ Some rest → KeyFits items rest) → option_and_then (λ part. option_map (λ rest. part ∷ rest) others) o ≡ Some parts → KeyFits (item ∷ items) parts
+      from None others one more e = absurd cc
+      from (Some part) None one more e = absurd cc
+      from (Some part) (Some rest) one more e = subst (KeyFits (item ∷ items)) (same_Some _ _ e) (one part refl, more rest refl)
+
+  -- a hit's key fits the trigger's key items
+  pub hit_fits : (hist : Hist) (event : Traced) (parts : List Part) → hit hist event ≡ Some parts → KeyFits hist.keys parts
+  hit_fits hist event parts e = from (is_asked hist event) e
+    where
+      from : (asked : Bool) → (if asked then key_of hist.keys event else None) ≡ Some parts → KeyFits hist.keys parts
+      from true e = key_fits hist.keys event parts e
+      from false e = absurd cc
+
+-- a key that fits has as many parts as there are key items
+pub fit_long : (items : List KeyItem) (parts : List Part) → KeyFits items parts → length parts ≡ length items
+fit_long [] [] fits = refl
+fit_long [] (part ∷ parts) fits = absurd fits
+fit_long (item ∷ items) [] fits = absurd fits
+fit_long (item ∷ items) (part ∷ parts) fits = let rest = fit_long items parts fits.1 in omega arith

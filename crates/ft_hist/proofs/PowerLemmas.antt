@@ -1,5 +1,5 @@
 -- The least power of 2 that is not below a value.
-use Rattle.std.specs.Prelude.{◌≡◌, ℕ, zero, suc, ◌+◌, ◌-◌, ◌^◌, ◌<◌, ◌≤◌, nat_le, if◌then◌else◌}
+use Rattle.std.specs.Prelude.{◌≡◌, ℕ, zero, suc, ◌+◌, ◌-◌, ◌^◌, ◌<◌, ◌≤◌, Bool, true, false, nat_le, if◌then◌else◌}
 use Rattle.std.proofs.Common.{arith, ◌∙◌}
 use Rattle.std.proofs.lemmas.Bool.Decides.{nat_tests}
 use Rattle.std.proofs.Math.Pow.{pow_mono}
@@ -56,3 +56,18 @@ log2_of_leading value some fits =
     let high : value ≤ 2 ^ found.0 = (let e = found.2 in omega arith) in
     let half : (k : ℕ) → 2 ^ (k + 1) ≤ 2 ^ found.0 → 2 ^ k < value = λ k h. (let e = found.3 in omega (arith, pow_more 2 k)) in
     length_is ∙ log2_of_is value found.0 fits high half
+
+-- one step of the search stays below its last number
+few_step : (b : Bool) (k left other : ℕ) → other ≤ k + 1 + left → (if b then k else other) ≤ k + suc left
+few_step true k left other most = omega arith
+few_step false k left other most = omega arith
+
+-- the search stops at its last number at the latest
+first_power_few : (value left k : ℕ) → first_power value left k ≤ k + left
+first_power_few value zero k = omega arith
+first_power_few value (suc left) k = few_step (nat_le value (2 ^ k)) k left (first_power value left (k + 1)) (first_power_few value left (k + 1))
+
+-- the power of a value is at most 64
+pub log2_of_few : (value : ℕ) → log2_of value ≤ 64
+unfolding log2_of
+log2_of_few value = let few = first_power_few value 64 0 in omega arith

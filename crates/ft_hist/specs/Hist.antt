@@ -1,7 +1,7 @@
 -- Hist triggers (kernel: histogram.rst, hist triggers).
-use Rattle.std.specs.Prelude.{ℕ, ◌≤◌, ◌<◌, List, length, Option}
+use Rattle.std.specs.Prelude.{ℕ, ◌≤◌, ◌<◌, List, length, Option, option_map}
 use Rattle.ft_event.specs.declared.event.Name.{Name}
-use Rattle.ft_filter.specs.Tree.{Tree}
+use Rattle.ft_filter.specs.Tree.{Tree, Condition}
 use Rattle.ft_hist.specs.declared.item.KeyItem.{KeyItem}
 use Rattle.ft_hist.specs.declared.item.Item.{Item}
 use Rattle.ft_hist.specs.declared.item.SortItem.{SortItem}
@@ -16,6 +16,11 @@ pub record Hist : Type 0 where
   pub variable : Option Var
   pub size : ℕ
   pub filter : Option Tree
+
+-- the trigger of these parts, with its filter as a tree (our own choice)
+abbrev pub hist_with : Name → List KeyItem → List Item → List SortItem → Option Var → ℕ → Option Condition → Hist
+hist_with event keys values sort variable size filter =
+    record { event = event; keys = keys; values = values; sort = sort; variable = variable; size = size; filter = option_map (λ f. f.tree) filter }
 
 -- a trigger is within its limits: 1 to 3 keys, at most 3 values, 1 or 2 sort items, a size of 128 to 131,072 (kernel: histogram.rst, hist triggers; 3 values besides `hitcount` is our own choice)
 pub record IsWithin (hist : Hist) : Type 0 where

@@ -1,5 +1,6 @@
 pub mod Canonical
 pub mod Codes
+pub mod Fitting
 pub mod Hist
 pub mod Hit
 pub mod Matching
@@ -8,6 +9,7 @@ pub mod Parts
 pub mod Powers
 pub mod Sound
 pub mod Steps
+pub mod Ties
 pub mod Triggers
 pub use Rattle.ft_event.specs.Traced
 pub use Rattle.ft_event.specs.Fields

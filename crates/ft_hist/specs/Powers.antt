@@ -1,5 +1,5 @@
 -- What a modifier makes of a number (kernel: histogram.rst, `.log2` and `.buckets`).
-use Rattle.std.specs.Prelude.{ℕ, zero, suc, ◌+◌, ◌*◌, ◌/◌, ◌^◌, nat_le, if◌then◌else◌}
+use Rattle.std.specs.Prelude.{◌≡◌, ℕ, zero, suc, ◌+◌, ◌*◌, ◌/◌, ◌^◌, nat_le, if◌then◌else◌}
 
 -- the first of so many numbers, from n on, whose power of 2 is not below the value; where none is, the number behind them (our own choice)
 abbrev pub first_power : ℕ → ℕ → ℕ → ℕ
@@ -13,3 +13,7 @@ log2_of value = first_power value 64 0
 -- the greatest multiple of the bucket's size that is not above the value (kernel: histogram.rst, `.buckets`)
 abbrev pub bucket_of : ℕ → ℕ → ℕ
 bucket_of size value = value / size * size
+
+-- the number is so many times the size, however many (our own choice)
+abbrev pub IsMultiple : ℕ → ℕ → Type 0
+IsMultiple size number = (n : ℕ) × (number ≡ n * size)

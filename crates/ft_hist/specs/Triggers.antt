@@ -1,13 +1,13 @@
 -- What contracts see of a trigger.
-use Rattle.std.specs.Prelude.{◌≡◌, option_map}
+use Rattle.std.specs.Prelude.{◌≡◌}
 use Rattle.std.specs.Option.{ForSome}
 use Rattle.ft_hist.specs.declared.trigger.Trigger.TheInside.{Inside}
-use Rattle.ft_hist.specs.Hist.{Hist, IsWithin}
+use Rattle.ft_hist.specs.Hist.{Hist, IsWithin, hist_with}
 use Rattle.ft_hist.specs.Sound.{IsSound}
 
 -- a trigger's parts, wherever they are in memory (our own choice)
 abbrev pub hist_of : Inside → Hist
-hist_of t = record { event = t.event; keys = t.keys.items; values = t.values.items; sort = t.sort.items; variable = t.variable; size = t.size; filter = option_map (λ f. f.tree) t.filter }
+hist_of t = hist_with t.event t.keys.items t.values.items t.sort.items t.variable t.size t.filter
 
 -- a trigger is within its limits, its items are its event's and its own, and its filter is for its event (our own choice)
 pub record IsWhole (t : Inside) : Type 0 where

@@ -1,14 +1,18 @@
 //! What a trigger counts an event under.
 
-ghost use Rattle.std.specs.Prelude.{◌≡◌, ◌+◌, ◌<◌, ◌≤◌, ◌*◌, ◌^◌, ℕ, List, length, Some, option_map, IsTrue};
+ghost use Rattle.std.specs.Prelude.{◌≡◌, ◌+◌, ◌<◌, ◌≤◌, ◌*◌, ◌^◌, ℕ, List, length, Some};
+ghost use Rattle.std.specs.Prelude.{option_map, IsTrue};
 ghost use Rattle.std.specs.List.{list_all};
 ghost use Rattle.std.specs.Option.{option_copied, is_some};
 ghost use Rattle.ft_event.specs.Traced.{Traced};
 ghost use Rattle.ft_hist.specs.Hist.{Hist};
+ghost use Rattle.ft_hist.specs.declared.item.KeyItem.{KeyItem};
 ghost use Rattle.ft_hist.specs.declared.key.Part.{Part};
-ghost use Rattle.ft_hist.specs.Powers.{log2_of, bucket_of};
+ghost use Rattle.ft_hist.specs.Powers.{log2_of, bucket_of, IsMultiple};
+ghost use Rattle.ft_hist.specs.Fitting.{KeyFits};
 ghost use Rattle.ft_hist.specs.Sound.{key_suits};
-ghost use Rattle.ft_hist.specs.Hit.{number_part, text_part, value_part, part_of, key_of, same_name, passes_filter, is_asked, hit};
+ghost use Rattle.ft_hist.specs.Hit.{number_part, text_part, value_part, part_of, key_of};
+ghost use Rattle.ft_hist.specs.Hit.{same_name, passes_filter, is_asked, hit};
 
 use crate::item::{KeyItem, Mode};
 use crate::key::{Key, Part};
@@ -43,7 +47,8 @@ fn is_same(a: Name, b: Name) -> bool
 
 /// Whether the event passes the filter, where there is one.
 fn passes(filter: Option<&Filter>, event: &Event) -> bool
-    ensures { result ≡ passes_filter (option_map (λ f. f.tree) (option_copied filter.entry)) event.now }
+    ensures { result
+        ≡ passes_filter (option_map (λ f. f.tree) (option_copied filter.entry)) event.now }
 {
     match filter {
         Some(filter) => filter.holds(event),
@@ -139,23 +144,30 @@ pub fn powers()
     ensures least { (value n : ℕ) → value ≤ 2 ^ n → log2_of value ≤ n }
 {}
 
-/// A law: the multiple that `.buckets` gives a value is the greatest that is not above it.
+/// A law: what `.buckets` gives a value is the greatest multiple of the size that is not above it.
 pub fn multiples()
+    ensures multiple { (size value : ℕ) → IsMultiple size (bucket_of size value) }
     ensures below { (size value : ℕ) → bucket_of size value ≤ value }
     ensures greatest { (size value n : ℕ) → n * size ≤ value → n * size ≤ bucket_of size value }
 {}
 
-/// A law: an event is a hit of a trigger whose keys suit its event, as every trigger's do, just where
-/// it has the trigger's name and passes its filter.
+/// A law: an event is a hit of a trigger whose keys suit its event, as every trigger's do, just
+/// where it has the trigger's name and passes its filter.
 pub fn asked_events()
-    ensures { (hist : Hist) (event : Traced) → IsTrue (list_all (key_suits hist.event) hist.keys)
+    ensures { (hist : Hist) (event : Traced)
+        → IsTrue (list_all (key_suits hist.event) hist.keys)
         → is_some (hit hist event) ≡ is_asked hist event }
 {
     ft_event::values_of_fields();
 }
 
-/// A law: the key of a hit has as many parts as the trigger has key items.
-pub fn as_many_parts()
-    ensures { (hist : Hist) (event : Traced) (parts : List Part) → hit hist event ≡ Some parts
-        → length parts ≡ length hist.keys }
-{}
+/// A law: the key of a hit fits the trigger's key items: it has as many parts, each of its item's
+/// kind.
+pub fn fitting_parts()
+    ensures fits { (hist : Hist) (event : Traced) (parts : List Part)
+        → hit hist event ≡ Some parts → KeyFits hist.keys parts }
+    ensures as_many { (items : List KeyItem) (parts : List Part)
+        → KeyFits items parts → length parts ≡ length items }
+{
+    ft_event::values_of_fields();
+}

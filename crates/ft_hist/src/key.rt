@@ -1,6 +1,6 @@
 //! Keys: what a trigger counts events under.
 
-ghost use Rattle.std.specs.Prelude.{◌≡◌, ◌∷◌, [], slice_get};
+ghost use Rattle.std.specs.Prelude.{◌≡◌, ◌<◌, ◌≤◌, ◌∷◌, [], length, slice_get};
 ghost use Rattle.std.specs.declared.cmp.Ordering.TheVariants.{Equal};
 ghost use Rattle.std.proofs.Common.{rules};
 ghost use Rattle.std.specs.Cmp.{partial_equiv_from_equiv, partial_order_from_total};
@@ -94,9 +94,11 @@ impl Key {
         }
     }
 
-    /// Its part of this number, from 0, or `None` behind its last.
+    /// Its part of this number, from 0, or `None` behind its last. There are one to three.
     pub fn part(&self, number: usize) -> Option<Part>
-        ensures { result ≡ slice_get self.now number }
+        ensures value { result ≡ slice_get self.now number }
+        ensures some { 0 < length self.now }
+        ensures few { length self.now ≤ 3 }
     {
         match (number, self.rest) {
             (0, _) => Some(self.first),

@@ -11,11 +11,10 @@ mod trigger;
 mod work;
 mod writing;
 
-pub use hitting::{as_many_parts, asked_events, multiples, powers};
+pub use hitting::{asked_events, fitting_parts, multiples, powers};
 pub use item::{Item, KeyItem, Mode, SortBy, SortItem};
 pub use key::{Key, Part, equal_keys, one_key_order};
 pub use label::{Label, Var};
-pub use matching::keys_match;
 pub use trigger::Trigger;
 pub use work::Work;
 

@@ -6,17 +6,19 @@ ghost use Rattle.ft_hist.specs.Matching.{same_kind, number_kind, item_kind, keys
 use crate::item::{KeyItem, Mode};
 use crate::trigger::Trigger;
 
-/// Whether the keys of a trigger that reads a variable match those of the one that saves it: they
-/// are as many, and two by two both plain or hexadecimal numbers, both powers, both multiples of
-/// one size, or both texts.
-pub fn keys_match(reader: &Trigger, saver: &Trigger) -> bool
-    // The answer, as a function of both lists of keys.
-    ensures exact { result ≡ keys_match reader.now.keys saver.now.keys }
-    // What the answer says: one by one, the keys make parts of the same kinds.
-    ensures meaning { IsTrue result
-        ↔ (map item_kind reader.now.keys ≡ map item_kind saver.now.keys) }
-{
-    items_match(reader.keys(), saver.keys())
+impl Trigger {
+    /// Whether its keys match those of the trigger that saves the variable that it reads: they are
+    /// as many, and two by two both plain or hexadecimal numbers, both powers, both multiples of
+    /// one size, or both texts.
+    pub fn keys_match(&self, saver: &Trigger) -> bool
+        // The answer, as a function of both lists of keys.
+        ensures exact { result ≡ keys_match self.now.keys saver.now.keys }
+        // What the answer says: one by one, the keys make parts of the same kinds.
+        ensures meaning { IsTrue result
+            ↔ (map item_kind self.now.keys ≡ map item_kind saver.now.keys) }
+    {
+        items_match(self.keys(), saver.keys())
+    }
 }
 
 /// Whether key items are as many, and two by two of the same kind.

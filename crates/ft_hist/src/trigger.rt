@@ -3,7 +3,7 @@
 ghost use Rattle.std.specs.Prelude.{◌≡◌, ◌<◌, ◌≤◌, length, option_map, IsTrue};
 ghost use Rattle.std.specs.List.{list_all};
 ghost use Rattle.std.specs.Option.{option_copied, ForSome};
-ghost use Rattle.ft_hist.specs.Hist.{IsWithin};
+ghost use Rattle.ft_hist.specs.Hist.{IsWithin, hist_with};
 ghost use Rattle.ft_hist.specs.Sound.{key_suits, value_suits, by_suits, IsSound};
 
 use crate::item::{Item, KeyItem, SortItem};
@@ -53,34 +53,13 @@ impl Trigger {
         size: u32,
         filter: Option<Filter>,
     ) -> Trigger
-        requires within { IsWithin (record {
-          event = event;
-          keys = keys.items;
-          values = values.items;
-          sort = sort.items;
-          variable = variable;
-          size = size;
-          filter = option_map (λ f. f.tree) filter;
-        }) }
-        requires sound { IsSound (record {
-          event = event;
-          keys = keys.items;
-          values = values.items;
-          sort = sort.items;
-          variable = variable;
-          size = size;
-          filter = option_map (λ f. f.tree) filter;
-        }) }
+        requires within { IsWithin
+            (hist_with event keys.items values.items sort.items variable size filter) }
+        requires sound { IsSound
+            (hist_with event keys.items values.items sort.items variable size filter) }
         requires filter { ForSome filter (λ f. f.event ≡ event) }
-        ensures { result ≡ record {
-          event = event;
-          keys = keys.items;
-          values = values.items;
-          sort = sort.items;
-          variable = variable;
-          size = size;
-          filter = option_map (λ f. f.tree) filter;
-        } }
+        ensures { result
+            ≡ hist_with event keys.items values.items sort.items variable size filter }
     {
         Trigger {
             event,
@@ -100,7 +79,8 @@ impl Trigger {
         self.event
     }
 
-    /// What it counts events under, 1 to 3 items: fields of its event, with modifiers that suit them.
+    /// What it counts events under, 1 to 3 items: fields of its event, with modifiers that suit
+    /// them.
     pub fn keys(&self) -> &[KeyItem]
         ensures value { result.now ≡ self.now.keys }
         ensures some { 0 < length self.now.keys }
@@ -110,12 +90,13 @@ impl Trigger {
         &self.keys
     }
 
-    /// What it sums, at most 3 items: fields of numbers of its event, and its own variable, if it has
-    /// one.
+    /// What it sums, at most 3 items: fields of numbers of its event, and its own variable, if it
+    /// has one.
     pub fn values(&self) -> &[Item]
         ensures value { result.now ≡ self.now.values }
         ensures few { length self.now.values ≤ 3 }
-        ensures sound { IsTrue (list_all (value_suits self.now.event self.now.variable) self.now.values) }
+        ensures sound { IsTrue
+            (list_all (value_suits self.now.event self.now.variable) self.now.values) }
     {
         &self.values
     }
@@ -125,7 +106,9 @@ impl Trigger {
         ensures value { result.now ≡ self.now.sort }
         ensures some { 0 < length self.now.sort }
         ensures few { length self.now.sort ≤ 2 }
-        ensures sound { IsTrue (list_all (λ item. by_suits (length self.now.keys) (length self.now.values) item.what) self.now.sort) }
+        ensures sound { IsTrue (list_all
+            (λ item. by_suits (length self.now.keys) (length self.now.values) item.what)
+            self.now.sort) }
     {
         &self.sort
     }
@@ -149,7 +132,8 @@ impl Trigger {
     /// Its filter, where it has one. It is for the trigger's event.
     pub fn filter(&self) -> Option<&Filter>
         ensures { option_copied result
-            ≡ option_map (λ tree. record { event = self.now.event; tree = tree }) self.now.filter }
+            ≡ option_map (λ tree. record { event = self.now.event; tree = tree })
+            self.now.filter }
     {
         self.filter.as_ref()
     }

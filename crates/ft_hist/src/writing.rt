@@ -5,7 +5,9 @@
 ghost use Rattle.std.specs.Prelude.{◌≡◌, ◌++◌, OnOk, OnErr, map, option_map, codes, decimal};
 ghost use Rattle.std.specs.Option.{option_copied};
 ghost use Rattle.ft_filter.specs.Given.{IsFront};
-ghost use Rattle.ft_hist.specs.Canonical.{canonical, listed, more_items, key_text, mode_text, name_of, value_text, by_text, sort_text, variable_text, if_text};
+ghost use Rattle.ft_hist.specs.Canonical.{canonical, listed, more_items, key_text, mode_text};
+ghost use Rattle.ft_hist.specs.Canonical.{name_of, value_text, by_text, sort_text};
+ghost use Rattle.ft_hist.specs.Canonical.{variable_text, if_text};
 
 use crate::item::{Item, KeyItem, Mode, SortBy, SortItem};
 use crate::label::{Label, Var};

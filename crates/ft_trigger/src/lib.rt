@@ -13,8 +13,8 @@ mod words;
 
 pub use fault::TriggerFault;
 pub use ft_hist::{
-    Item, Key, KeyItem, Label, Mode, Part, SortBy, SortItem, Trigger, Var, Work, as_many_parts,
-    asked_events, equal_keys, keys_match, multiples, one_key_order, powers,
+    Item, Key, KeyItem, Label, Mode, Part, SortBy, SortItem, Trigger, Var, Work, asked_events,
+    equal_keys, fitting_parts, multiples, one_key_order, powers,
 };
 pub use reading::{one_answer, parse, reads_again};
 

@@ -92,7 +92,7 @@ fn keys_in_order(rt: HostRuntime) -> Result<(), Fail> {
 
 #[test]
 fn parts_of_keys(rt: HostRuntime) -> Result<(), Fail> {
-    as_many_parts();
+    fitting_parts();
     let alloc = rt.alloc();
     let first = Part::Num(-1);
     let second = Part::Log2(3);

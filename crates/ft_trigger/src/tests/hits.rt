@@ -12,7 +12,7 @@ fn key_of_event(alloc: Global, text: &str, event: &Event) -> Result<Option<Key>,
 fn match_of(alloc: Global, event: Name, reader: &str, saver: &str) -> Result<bool, TriggerFault> {
     let reader = parse(alloc, event, reader.as_bytes())?;
     let saver = parse(alloc, Name::Waking, saver.as_bytes())?;
-    Ok(keys_match(&reader, &saver))
+    Ok(reader.keys_match(&saver))
 }
 
 #[test]

@@ -1,8 +1,8 @@
-use Rattle.ft_hist.proofs.KeyLemmas.{parts_tie, keys_tie}
+use Rattle.ft_hist.specs.Ties.{part_same, key_same}
 use Rattle.ft_hist.proofs.key.equal_keys.Goals as goal
 
 pub returns-clause-keys : goal.returns-clause-keys
-returns-clause-keys c = keys_tie
+returns-clause-keys c = key_same
 
 pub returns-clause-parts : goal.returns-clause-parts
-returns-clause-parts c = parts_tie
+returns-clause-parts c = part_same
