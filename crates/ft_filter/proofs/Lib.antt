@@ -7,11 +7,14 @@ mod Firsts
 mod Fits
 mod Fronts
 mod Members
+mod NumberForms
 mod Numbers
 mod Operands
+mod PredLaw
 mod Preds
 mod Quotes
 mod Readings
+mod Runs
 mod Same
 mod Shorter
 mod Spelled
@@ -20,3 +23,4 @@ mod Steps
 mod Trees
 mod Tries
 mod Unique
+mod WordCuts

@@ -6,9 +6,12 @@ pub mod Codes
 pub mod Holds
 pub mod FilterFault
 pub mod Tokens
+pub mod Numbers
 pub mod Predicate
+pub mod PredIs
 pub mod FilterIs
 pub mod Answers
 pub mod Canonical
+pub mod Shape
 pub mod Given
 pub mod Words

@@ -2,7 +2,7 @@
 
 #![tactic(auto, using(crate::proofs::Trees::shapes))]
 
-ghost use Rattle.std.specs.Prelude.{◌≡◌, ◌<◌, ◌++◌, ◌∷◌, [], ℕ, List, length, Some, Result, Ok, IfOk, IfErr, OnOk, IfSome};
+ghost use Rattle.std.specs.Prelude.{◌≡◌, ◌<◌, ◌≤◌, ◌++◌, ◌∷◌, [], ℕ, List, length, Some, Result, Ok, IfOk, IfErr, OnOk, IfSome};
 ghost use Rattle.std.specs.Option.{option_copied};
 ghost use Rattle.ft_filter.specs.Tokens.{skip};
 ghost use Rattle.ft_filter.specs.Predicate.{pred_at, Found};
@@ -10,6 +10,7 @@ ghost use Rattle.ft_filter.specs.FilterIs.{FilterIs, Reads, Joined, Operand, bel
 ghost use Rattle.ft_filter.specs.Answers.{filter_of, GivesFilter};
 ghost use Rattle.ft_filter.specs.Canonical.{canonical};
 ghost use Rattle.ft_filter.specs.Given.{GivesTree, GoesOn};
+ghost use Rattle.ft_filter.specs.Shape.{IsJoined, levels};
 ghost use Rattle.ft_filter.specs.Tree.{Tree, tree_of, trees_in, trees, Not, Test};
 
 use crate::fault::FilterFault;
@@ -63,6 +64,13 @@ pub fn one_answer()
 pub fn reads_again()
     ensures { (event : Name) (text : List ℕ) (tree : Tree) → FilterIs event text (Ok tree)
         → FilterIs event (canonical tree) (Ok tree) }
+{}
+
+/// A law: a filter that some text gives has at least two operands in each any and all, and at
+/// most 32 levels, which are the `(` and `!` that are open at once in its canonical text.
+pub fn shape_of_filters()
+    ensures operands { (event : Name) (text : List ℕ) (tree : Tree) → FilterIs event text (Ok tree) → IsJoined tree }
+    ensures levels { (event : Name) (text : List ℕ) (tree : Tree) → FilterIs event text (Ok tree) → levels tree ≤ 32 }
 {}
 
 /// What is behind the joint, where it stands next.
