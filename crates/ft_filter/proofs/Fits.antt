@@ -8,7 +8,7 @@ use Rattle.ft_filter.specs.declared.tree.Joint.TheVariants as joints
 use Rattle.ft_filter.specs.declared.tree.Pred.{Pred}
 use Rattle.ft_filter.specs.Canonical.{is_any, is_joined}
 use Rattle.ft_filter.specs.FilterIs.{Rule, Joined, Operand, below, made, closed, joined, most_open, whole_of, Reads, first, first_fails, negated, enclosed, deep, compared, Goes, ended, another, another_fails, FilterIs}
-use Rattle.ft_filter.specs.Shape.{HasTwo, IsJoined, AreJoined, level_if, levels, most_levels}
+use Rattle.ft_filter.specs.Shape.{HasTwo, level_if, levels, most_levels}
 use Rattle.ft_filter.specs.Predicate.{Read, Found, Stop, place, pred_at}
 use Rattle.ft_filter.specs.Tokens.{skip}
 use Rattle.ft_filter.specs.Tree.{Tree, Trees, Any, All, Not, Test, End, More}
@@ -134,20 +134,3 @@ module _ (event : Name) where
 -- a tree that is read can be read
 pub filter_fits : (event : Name) (text : List ℕ) (tree : Tree) → FilterIs event text (Ok tree) → Fits event (Joined joints.Or) most_open tree
 filter_fits event text tree h = whole_fits event (length text) tree h.read (reads_fit event (length text) _ _ _ _ h.reads) h.ends
-
-mutual
-  -- a tree whose parts are such as are read has the operands that it needs
-  joined_shape : (event : Name) (tree : Tree) → IsReadable event tree → IsJoined tree
-  joined_shape event (Any trees) h = (h.0, joined_shapes event trees h.1)
-  joined_shape event (All trees) h = (h.0, joined_shapes event trees h.1)
-  joined_shape event (Not tree) h = joined_shape event tree h
-  joined_shape event (Test pred) h = tt
-
-  -- so do operands
-  joined_shapes : (event : Name) (trees : Trees) → AreReadable event trees → AreJoined trees
-  joined_shapes event End h = tt
-  joined_shapes event (More tree trees) h = (joined_shape event tree h.0, joined_shapes event trees h.1)
-
--- the shape of a tree that is read
-pub filter_shape : (event : Name) (text : List ℕ) (tree : Tree) → FilterIs event text (Ok tree) → IsJoined tree × (levels tree ≤ 32)
-filter_shape event text tree h = let fits = filter_fits event text tree h in (joined_shape event tree fits.readable, fits.within)

@@ -16,6 +16,7 @@ mod Quotes
 mod Readings
 mod Runs
 mod Same
+mod Shapes
 mod Shorter
 mod Spelled
 mod Stars

@@ -1,5 +1,5 @@
 -- Which words write numbers, and what `number_of` and `number_at` find is what `Writes` and `IsNumber` say.
-use Rattle.std.proofs.Common.{◌≡◌, ◌≢◌, ◌≤◌, ◌↔◌, ◌⊎◌, ◌&&◌, ℕ, suc, Bool, true, false, inl, inr, not, subst, cond, List, [], ◌∷◌, ◌++◌, take, drop, length, Option, Some, None, refl, sym, ap, ◌∙◌, arith, slice_index, ℤ, pos, neg_ℤ, ◌==◌, ne_eqb, eq-eqb, eqb-true, le-leb, leb-true, codes}
+use Rattle.std.proofs.Common.{◌||◌, ◌≡◌, ◌≢◌, ◌≤◌, ◌↔◌, ◌⊎◌, ◌&&◌, ℕ, suc, Bool, true, false, inl, inr, not, subst, cond, List, [], ◌∷◌, ◌++◌, take, drop, length, Option, Some, None, refl, sym, ap, ◌∙◌, arith, slice_index, ℤ, pos, neg_ℤ, ◌==◌, ne_eqb, eq-eqb, eqb-true, le-leb, leb-true, leb, codes}
 use Rattle.std.proofs.Math.Dec.{eqb-suc-zero}
 use Rattle.std.proofs.Math.Numerals.{one-add}
 use Rattle.std.proofs.lemmas.Bool.{cases_eq, and_parts, and_from, or_cases}
@@ -32,15 +32,20 @@ zero_alone first others zero (inl other) = let e = eq-eqb first 48 zero in absur
 zero_alone first [] zero (inr one) = inl (ap (λ (b : ℕ). b ∷ []) zero)
 zero_alone first (b ∷ others) zero (inr one) = let e = eqb-true (length (first ∷ b ∷ others)) 1 one in absurd (omega arith)
 
+-- a digit's range
+digit_low : (byte : ℕ) → is_ascii_digit byte ≡ true → 48 ≤ byte
+digit_low byte h = leb-true 48 byte (and_parts (leb 48 byte) (leb byte 57) h).0
+
+digit_high : (byte : ℕ) → is_ascii_digit byte ≡ true → byte ≤ 57
+digit_high byte h = leb-true byte 57 (and_parts (leb 48 byte) (leb byte 57) h).1
+
 pub decimal_from : (word : List ℕ) → is_decimal word ≡ true → IsDecimal word
 decimal_from [] h = absurd cc
 decimal_from (first ∷ others) h =
-    let parts = and_parts _ _ h in
-    let inner = and_parts _ _ parts.0 in
-    let digits = and_parts (is_ascii_digit first) (list_all is_ascii_digit others) inner.1 in
-    let range = and_parts _ _ digits.0 in
-    let low : 48 ≤ first = leb-true 48 first range.0 in
-    let high : first ≤ 57 = leb-true first 57 range.1 in
+    let parts = and_parts (not (length (first ∷ others) == 0) && list_all is_ascii_digit (first ∷ others)) (not (first == 48) || length (first ∷ others) == 1) h in
+    let digits = and_parts (is_ascii_digit first) (list_all is_ascii_digit others) (and_parts (not (length (first ∷ others) == 0)) (list_all is_ascii_digit (first ∷ others)) parts.0).1 in
+    let low : 48 ≤ first = digit_low first digits.0 in
+    let high : first ≤ 57 = digit_high first digits.0 in
     elim (cases_eq first 48) [
       | inl zero ↦ zero_alone first others zero (or_cases (not (first == 48)) (length (first ∷ others) == 1) parts.1)
       | inr other ↦ inr (first, others, refl, omega arith, high, digits.1)

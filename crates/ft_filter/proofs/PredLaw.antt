@@ -19,7 +19,7 @@ use Rattle.ft_filter.specs.Glob.{IsGlob}
 use Rattle.ft_filter.specs.Matching.{is_glob}
 use Rattle.ft_filter.specs.Numbers.{IsDecimal, Writes, plain, negative, hexadecimal}
 use Rattle.ft_filter.specs.Predicate.{Read, Found, Stop, place, found_or, passed_or, suits, fits, is_match, literal_of, text_value, number_value, value_at, with_value, comparison_at, pred_at}
-use Rattle.ft_filter.specs.PredIs.{IsBehindGap, IsName, IsFieldOf, IsOperator, Token, IsToken, ops_of, SuitsField, compared, TextGives, TokenGives, ValueGives, OperatorGives, PredIs}
+use Rattle.ft_filter.specs.PredIs.{IsBehindGap, IsName, IsFieldOf, IsOperator, Token, IsToken, ops_of, SuitsField, pred_of, TextGives, TokenGives, ValueGives, OperatorGives, PredIs}
 use Rattle.ft_filter.specs.Tokens.{skip, name_at, op_at, is_quote, quoted_at, number_at}
 use Rattle.ft_filter.proofs.Deciding.{is_glob-Decides}
 use Rattle.ft_filter.proofs.NumberForms.{number_to, number_from}
@@ -110,11 +110,11 @@ suits_one false ops.Ge e = (5, omega arith, refl)
 suits_one false ops.Bits e = (6, omega arith, refl)
 suits_one false ops.Glob e = absurd cc
 
-suits-Decides : (text : Bool) (op : Op) → Decides (suits text op) (Contains (ops_of text) op)
+pub suits-Decides : (text : Bool) (op : Op) → Decides (suits text op) (Contains (ops_of text) op)
 suits-Decides text op = (suits_one text op, λ h. subst (λ (o : Op). suits text o ≡ true) h.2 (each_suits text op h.0 h.1))
 
 -- a number that fits 64 bits with a sign
-fits-Decides : (z : ℤ) → Decides (fits z) (FitsSigned w64 z)
+pub fits-Decides : (z : ℤ) → Decides (fits z) (FitsSigned w64 z)
 fits-Decides (pos n) = (λ e. let le = leb-true n 9223372036854775807 e in record { sfits = omega arith }, λ h. le-leb n 9223372036854775807 (omega (arith, h.sfits)))
 fits-Decides (negsuc n) = (λ e. let le = leb-true n 9223372036854775807 e in record { sfits = omega arith }, λ h. le-leb n 9223372036854775807 (omega (arith, h.sfits)))
 
@@ -167,9 +167,9 @@ token_from text cut e = from (is_quote (slice_index text 0)) e
 -- the predicate of a token, where it may be the value
 abbrev token_read : ℕ → Field → Op → Token → List ℕ → Read Pred
 token_read at field op (Token.Number z) rest =
-    passed_or (WrongKind at) (not (is_text field)) (passed_or (NumberRange at) (fits z) (Found (compared field op (literals.Number z)) rest))
+    passed_or (WrongKind at) (not (is_text field)) (passed_or (NumberRange at) (fits z) (Found (pred_of field op (literals.Number z)) rest))
 token_read at field op (Token.Text text) rest =
-    passed_or (WrongKind at) (is_text field) (passed_or (BadGlob at) (not (is_match op) || is_glob text) (Found (compared field op (literal_of (is_match op) text)) rest))
+    passed_or (WrongKind at) (is_text field) (passed_or (BadGlob at) (not (is_match op) || is_glob text) (Found (pred_of field op (literal_of (is_match op) text)) rest))
 
 -- a test before the value of a predicate
 with_passed : (field : Field) (op : Op) (fault : FilterFault) (b : Bool) (next : Read Literal) → with_value field op (passed_or fault b next) ≡ passed_or fault b (with_value field op next)
@@ -178,7 +178,7 @@ with_passed field op fault false next = refl
 
 -- two tests before it
 with_both : (field : Field) (op : Op) (one other : FilterFault) (b c : Bool) (value : Literal) (rest : List ℕ)
-    → with_value field op (passed_or one b (passed_or other c (Found value rest))) ≡ passed_or one b (passed_or other c (Found (compared field op value) rest))
+    → with_value field op (passed_or one b (passed_or other c (Found value rest))) ≡ passed_or one b (passed_or other c (Found (pred_of field op value) rest))
 with_both field op one other true true value rest = refl
 with_both field op one other true false value rest = refl
 with_both field op one other false true value rest = refl
@@ -213,23 +213,23 @@ value_read whole field op text = from (is_quote (slice_index text 0))
 
 -- a text behind `~`
 glob_gives : (at : ℕ) (field : Field) (text rest : List ℕ) (read : Read Pred)
-    → TextGives at field ops.Glob text rest read ↔ (read ≡ passed_or (BadGlob at) (is_glob text) (Found (compared field ops.Glob (literals.Glob text)) rest))
+    → TextGives at field ops.Glob text rest read ↔ (read ≡ passed_or (BadGlob at) (is_glob text) (Found (pred_of field ops.Glob (literals.Glob text)) rest))
 glob_gives at field text rest read =
-    let inner = where_lacks (IsGlob text) (read ≡ Found (compared field ops.Glob (literals.Glob text)) rest) (BadGlob at) (is_glob text) (Found (compared field ops.Glob (literals.Glob text)) rest) read (is_glob-Decides text) (λ e. e, λ e. e) in (
+    let inner = where_lacks (IsGlob text) (read ≡ Found (pred_of field ops.Glob (literals.Glob text)) rest) (BadGlob at) (is_glob text) (Found (pred_of field ops.Glob (literals.Glob text)) rest) read (is_glob-Decides text) (λ e. e, λ e. e) in (
       λ h. elim h [ inl x ↦ inner.0 x.1 | inr y ↦ absurd (y.0 refl) ],
       λ e. inl (refl, inner.1 e),
     )
 
 -- a text behind another operator
 plain_gives : (at : ℕ) (field : Field) (op : Op) (text rest : List ℕ) (read : Read Pred) → (op ≡ ops.Glob → ⊥)
-    → TextGives at field op text rest read ↔ (read ≡ Found (compared field op (literals.Text text)) rest)
+    → TextGives at field op text rest read ↔ (read ≡ Found (pred_of field op (literals.Text text)) rest)
 plain_gives at field op text rest read other = (
   λ h. elim h [ inl x ↦ absurd (other x.0) | inr y ↦ y.1 ],
   λ e. inr (other, e),
 )
 
 text_gives : (at : ℕ) (field : Field) (op : Op) (text rest : List ℕ) (read : Read Pred)
-    → TextGives at field op text rest read ↔ (read ≡ passed_or (BadGlob at) (not (is_match op) || is_glob text) (Found (compared field op (literal_of (is_match op) text)) rest))
+    → TextGives at field op text rest read ↔ (read ≡ passed_or (BadGlob at) (not (is_match op) || is_glob text) (Found (pred_of field op (literal_of (is_match op) text)) rest))
 text_gives at field ops.Glob text rest read = glob_gives at field text rest read
 text_gives at field ops.Eq text rest read = plain_gives at field ops.Eq text rest read (λ e. cc)
 text_gives at field ops.Ne text rest read = plain_gives at field ops.Ne text rest read (λ e. cc)
@@ -242,7 +242,7 @@ text_gives at field ops.Bits text rest read = plain_gives at field ops.Bits text
 -- a token
 token_gives : (at : ℕ) (field : Field) (op : Op) (token : Token) (rest : List ℕ) (read : Read Pred) → TokenGives at field op token rest read ↔ (read ≡ token_read at field op token rest)
 token_gives at field op (Token.Number z) rest read =
-    let found : Read Pred = Found (compared field op (literals.Number z)) rest in
+    let found : Read Pred = Found (pred_of field op (literals.Number z)) rest in
     where_passes _ (WrongKind at) (is_text field) (passed_or (NumberRange at) (fits z) found) read
     (where_lacks (FitsSigned w64 z) (read ≡ found) (NumberRange at) (fits z) found read (fits-Decides z) (λ e. e, λ e. e))
 token_gives at field op (Token.Text text) rest read =

@@ -1,5 +1,5 @@
 -- The words of a predicate: what is found is the cut that the relations say.
-use Rattle.std.proofs.Common.{◌≡◌, ◌≢◌, ◌<◌, ◌≤◌, ◌⊎◌, ℕ, zero, suc, Bool, true, false, inl, inr, not, subst, cond, List, [], ◌∷◌, ◌++◌, take, drop, length, get_or, Option, Some, None, refl, sym, ap, ◌∙◌, arith, slice_index, ◌==◌, find, ne_eqb, eq-eqb, codes}
+use Rattle.std.proofs.Common.{◌↔◌, ◌≡◌, ◌≢◌, ◌<◌, ◌≤◌, ◌⊎◌, ℕ, zero, suc, Bool, true, false, inl, inr, not, subst, cond, List, [], ◌∷◌, ◌++◌, take, drop, length, get_or, Option, Some, None, refl, sym, ap, ◌∙◌, arith, slice_index, ◌==◌, find, ne_eqb, eq-eqb, codes}
 use Rattle.std.proofs.Math.Dec.{eqb-suc-zero}
 use Rattle.std.proofs.lemmas.Bool.{cases_eq, and_parts}
 use Rattle.std.proofs.lemmas.List.Elements.{Contains-append_right}
@@ -184,7 +184,7 @@ op_from text cut e =
 -- ---- quoted texts
 
 -- a text in which no byte is the mark does not hold it
-free_of : (mark : ℕ) (text : List ℕ) → list_all (λ byte. not (byte == mark)) text ≡ true → Contains text mark → ⊥
+pub free_of : (mark : ℕ) (text : List ℕ) → list_all (λ byte. not (byte == mark)) text ≡ true → Contains text mark → ⊥
 free_of mark text all has = from text all has.0 has.1 has.2
   where
     from : (text : List ℕ) → list_all (λ byte. not (byte == mark)) text ≡ true → (k : ℕ) → k < length text → get_or text k mark ≡ mark → ⊥
@@ -197,7 +197,7 @@ free_of mark text all has = from text all has.0 has.1 has.2
     from (byte ∷ text) all (suc k) lt at = from text (and_parts (not (byte == mark)) _ all).1 k (omega arith) at
 
 -- and one that does not hold it has no such byte
-all_free : (mark : ℕ) (text : List ℕ) → (Contains text mark → ⊥) → list_all (λ byte. not (byte == mark)) text ≡ true
+pub all_free : (mark : ℕ) (text : List ℕ) → (Contains text mark → ⊥) → list_all (λ byte. not (byte == mark)) text ≡ true
 all_free mark [] free = refl
 all_free mark (byte ∷ text) free =
     let other : (byte == mark) ≡ false = ne_eqb byte mark (λ e. free (0, omega arith, e)) in
@@ -235,3 +235,17 @@ quoted_from (mark ∷ text) cut e = from (is_quote mark) refl e
         let p : ℕ → Bool = λ byte. not (byte == mark) in
         let stands = cut_stands mark text (take (prefix_len p text) text) (drop (prefix_len p text) text) cut (run_splits p text) e in
         record { quote = mark; either = quote_cases mark is; joined = ap (λ (t : List ℕ). mark ∷ t) stands.0; free = stands.1 }
+
+-- ---- the words, both ways
+
+pub gaps : (text rest : List ℕ) → (skip text ≡ rest) ↔ IsBehindGap text rest
+gaps text rest = (λ e. subst (IsBehindGap text) e (gap_from text), gap_to text rest)
+
+pub names : (text name rest : List ℕ) → (name_at text ≡ Some (name, rest)) ↔ IsName text name rest
+names text name rest = (name_from text (name, rest), name_to text (name, rest))
+
+pub operators : (text : List ℕ) (op : Op) (rest : List ℕ) → (op_at text ≡ Some (op, rest)) ↔ IsOperator text op rest
+operators text op rest = (op_from text (op, rest), op_to text (op, rest))
+
+pub quoted_texts : (text inside rest : List ℕ) → (quoted_at text ≡ Some (inside, rest)) ↔ IsQuoted text inside rest
+quoted_texts text inside rest = (quoted_from text (inside, rest), quoted_to text (inside, rest))

@@ -15,3 +15,6 @@ pub mod Canonical
 pub mod Shape
 pub mod Given
 pub mod Words
+pub use Rattle.ft_event.specs.Fields
+pub use Rattle.ft_event.specs.LineIs
+pub use Rattle.ft_event.specs.Traced

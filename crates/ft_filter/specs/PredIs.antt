@@ -72,21 +72,21 @@ abbrev pub SuitsField : Field → Op → Type 0
 SuitsField field op = Contains (ops_of (is_text field)) op
 
 -- the predicate of its three parts (our own choice)
-abbrev pub compared : Field → Op → Literal → Pred
-compared field op value = record { field = field; op = op; value = value }
+abbrev pub pred_of : Field → Op → Literal → Pred
+pred_of field op value = record { field = field; op = op; value = value }
 
 -- a text as the value: behind `~` it must be a glob (kernel: events.rst, event filtering)
 abbrev pub TextGives : ℕ → Field → Op → List ℕ → List ℕ → Read Pred → Type 0
 TextGives at field op text rest read =
     Where (op ≡ ops.Glob)
-    (Where (IsGlob text → ⊥) (read ≡ Stop (BadGlob at)) (read ≡ Found (compared field op (literals.Glob text)) rest))
-    (read ≡ Found (compared field op (literals.Text text)) rest)
+    (Where (IsGlob text → ⊥) (read ≡ Stop (BadGlob at)) (read ≡ Found (pred_of field op (literals.Glob text)) rest))
+    (read ≡ Found (pred_of field op (literals.Text text)) rest)
 
 -- a token as the value: it must be of the field's kind, and then a number one of 64 bits with a sign (kernel: events.rst, event filtering)
 abbrev pub TokenGives : ℕ → Field → Op → Token → List ℕ → Read Pred → Type 0
 TokenGives at field op (Token.Number z) rest read =
     Where (IsTrue (is_text field)) (read ≡ Stop (WrongKind at))
-    (Where (FitsSigned w64 z → ⊥) (read ≡ Stop (NumberRange at)) (read ≡ Found (compared field op (literals.Number z)) rest))
+    (Where (FitsSigned w64 z → ⊥) (read ≡ Stop (NumberRange at)) (read ≡ Found (pred_of field op (literals.Number z)) rest))
 TokenGives at field op (Token.Text text) rest read =
     Where (IsTrue (is_text field) → ⊥) (read ≡ Stop (WrongKind at)) (TextGives at field op text rest read)
 

@@ -16,8 +16,8 @@ pub use fault::FilterFault;
 pub use filter::Filter;
 pub use pattern::{glob, is_glob, one_reading, what_matches};
 pub use predicate::predicates_of_texts;
-pub use reading::{one_answer, parse, reads_again, shape_of_filters};
-pub use tokens::{is_gap, name_at, numbers_of_words, skip};
+pub use reading::{one_answer, parse, reads_again, trees_of_texts};
+pub use tokens::{is_gap, name_at, numbers_of_words, skip, words_of_texts};
 pub use tree::{Expr, Exprs, Literal, Op, Pattern, Pred, Text};
 
 #[cfg(test)]

@@ -65,7 +65,8 @@ pub(crate) fn predicate(source: Source, text: &[u8]) -> Result<Compared<'_>, Fil
 /// A law: what a text's head is read as is the predicate, or the first fault with its place, that
 /// the conditions on its words say, in their order.
 pub fn predicates_of_texts()
-    ensures { (event : Name) (whole : ℕ) (text : List ℕ) (read : Read Pred) → PredIs event whole text read ↔ (read ≡ pred_at event whole text) }
+    ensures { (event : Name) (whole : ℕ) (text : List ℕ) (read : Read Pred)
+        → PredIs event whole text read ↔ (read ≡ pred_at event whole text) }
 {}
 
 /// Reads the operator and the value behind a field.
