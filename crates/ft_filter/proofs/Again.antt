@@ -7,11 +7,12 @@ use Rattle.ft_filter.specs.declared.tree.Pred.{Pred}
 use Rattle.ft_filter.specs.Canonical.{pred_text, joint_text, enclosed_if, is_joined, needs_enclosing, canonical, more_text}
 use Rattle.ft_filter.specs.FilterIs.{Rule, Joined, Operand, below, behind_joint, both, made, most_open, Reads, first, negated, enclosed, compared, Goes, ended, another, FilterIs}
 use Rattle.ft_filter.specs.Predicate.{Found, pred_at}
+use Rattle.ft_filter.specs.Shape.{HasTwo, level_if, levels, most_levels}
 use Rattle.ft_filter.specs.Tokens.{skip}
 use Rattle.ft_filter.specs.Tree.{Tree, Trees, Any, All, Not, Test, End, More}
 use Rattle.ft_filter.proofs.Spelled.{Apart, skip_gap}
 use Rattle.ft_filter.proofs.Preds.{PredFits, pred_again, pred_begins, pred_first}
-use Rattle.ft_filter.proofs.Fits.{inside, needs, depth, depths, HasTwo, IsReadable, AreReadable, Fits, filter_fits}
+use Rattle.ft_filter.proofs.Fits.{needs, IsReadable, AreReadable, Fits, filter_fits}
 
 -- what may stand behind what a rule reads
 abbrev Follows : Rule → List ℕ → Type 0
@@ -102,27 +103,27 @@ module _ (event : Name) where
 
   -- the canonical text of a tree is read, wherever there is room
   abbrev IsOwn : Tree → Type 0
-  IsOwn tree = (room : ℕ) → depth tree ≤ room → Gives (rule_of tree) room (canonical tree) tree
+  IsOwn tree = (room : ℕ) → levels tree ≤ room → Gives (rule_of tree) room (canonical tree) tree
 
   -- any rule reads it, in parentheses where it needs them
-  any_rule : (rule : Rule) (tree : Tree) → IsOwn tree → (room : ℕ) → inside (needs rule tree) (depth tree) ≤ room → Gives rule room (enclosed_if (needs rule tree) (canonical tree)) tree
+  any_rule : (rule : Rule) (tree : Tree) → IsOwn tree → (room : ℕ) → level_if (needs rule tree) (levels tree) ≤ room → Gives rule room (enclosed_if (needs rule tree) (canonical tree)) tree
   any_rule (Joined joints.Or) (Any trees) own room le = own room le
   any_rule (Joined joints.Or) (All trees) own room le = alone joints.Or room (canonical (All trees)) (All trees) (own room le)
   any_rule (Joined joints.Or) (Not tree) own room le = alone_twice room (canonical (Not tree)) (Not tree) (own room le)
   any_rule (Joined joints.Or) (Test pred) own room le = alone_twice room (canonical (Test pred)) (Test pred) (own room le)
   any_rule (Joined joints.And) (Any trees) own room le =
-      alone joints.And room (enclosed_if true (canonical (Any trees))) (Any trees) (in_parens room (depth (Any trees)) (canonical (Any trees)) (Any trees) le own)
+      alone joints.And room (enclosed_if true (canonical (Any trees))) (Any trees) (in_parens room (levels (Any trees)) (canonical (Any trees)) (Any trees) le own)
   any_rule (Joined joints.And) (All trees) own room le = own room le
   any_rule (Joined joints.And) (Not tree) own room le = alone joints.And room (canonical (Not tree)) (Not tree) (own room le)
   any_rule (Joined joints.And) (Test pred) own room le = alone joints.And room (canonical (Test pred)) (Test pred) (own room le)
-  any_rule Operand (Any trees) own room le = in_parens room (depth (Any trees)) (canonical (Any trees)) (Any trees) le own
+  any_rule Operand (Any trees) own room le = in_parens room (levels (Any trees)) (canonical (Any trees)) (Any trees) le own
   any_rule Operand (All trees) own room le =
-      in_parens room (depth (All trees)) (canonical (All trees)) (All trees) le (λ less enough. alone joints.Or less (canonical (All trees)) (All trees) (own less enough))
+      in_parens room (levels (All trees)) (canonical (All trees)) (All trees) le (λ less enough. alone joints.Or less (canonical (All trees)) (All trees) (own less enough))
   any_rule Operand (Not tree) own room le = own room le
   any_rule Operand (Test pred) own room le = own room le
 
   -- an operand of a joint
-  operand : (joint : Joint) (tree : Tree) → IsOwn tree → (room : ℕ) → inside (needs_enclosing joint tree) (depth tree) ≤ room
+  operand : (joint : Joint) (tree : Tree) → IsOwn tree → (room : ℕ) → level_if (needs_enclosing joint tree) (levels tree) ≤ room
       → Gives (below joint) room (enclosed_if (needs_enclosing joint tree) (canonical tree)) tree
   operand joints.Or tree own = any_rule (Joined joints.And) tree own
   operand joints.And tree own = any_rule Operand tree own
@@ -136,11 +137,11 @@ module _ (event : Name) where
     own_read (All End) ok room le = absurd ok.0
     own_read (All (More tree trees)) ok room le =
         several joints.And room (enclosed_if (needs_enclosing joints.And tree) (canonical tree)) tree trees ok.0 (operand joints.And tree (own_read tree ok.1.0) room (omega arith)) (more_read joints.And trees ok.1.1 room (omega arith))
-    own_read (Not tree) ok room le = behind_not room (inside (is_joined tree) (depth tree)) (enclosed_if (is_joined tree) (canonical tree)) tree le (any_rule Operand tree (own_read tree ok))
+    own_read (Not tree) ok room le = behind_not room (level_if (is_joined tree) (levels tree)) (enclosed_if (is_joined tree) (canonical tree)) tree le (any_rule Operand tree (own_read tree ok))
     own_read (Test pred) ok room le = tested room pred ok
 
     -- so are the texts of operands
-    more_read : (joint : Joint) (trees : Trees) → AreReadable event trees → (room : ℕ) → depths joint trees ≤ room → MoreGive joint room trees
+    more_read : (joint : Joint) (trees : Trees) → AreReadable event trees → (room : ℕ) → most_levels joint trees ≤ room → MoreGive joint room trees
     more_read joint End ok room le = λ whole rest h. ended joint room rest (none_behind joint rest h)
     more_read joint (More tree trees) ok room le =
         goes_next joint room tree trees (operand joint tree (own_read tree ok.0) room (omega arith)) (more_read joint trees ok.1 room (omega arith))

@@ -11,8 +11,16 @@ use Rattle.ft_filter.specs.Tokens.{name_at, op_at, quoted_at, number_at, number_
 use Rattle.ft_filter.specs.Predicate.{text_value, number_value, value_at, comparison_at, pred_at}
 use Rattle.ft_filter.specs.Matching.{items_of, is_glob, fits, matches}
 use Rattle.ft_filter.specs.Answers.{going, joined_at, operand_at, filter_of}
+use Rattle.ft_filter.specs.Numbers.{Writes, negative, hexadecimal}
+use Rattle.ft_filter.specs.PredIs.{PredIs}
+use Rattle.ft_filter.specs.Shape.{levels}
 use Rattle.ft_filter.specs.Tree.{Tree, Any, All, Not, Test, End, More}
-use Rattle.std.specs.Prelude.{true, false}
+use Rattle.std.specs.Prelude.{true, false, [], ℤ, negsuc}
+use Rattle.std.proofs.Common.{inr, arith}
+use Rattle.std.proofs.lemmas.Option.{none-some}
+use Rattle.ft_filter.specs.Predicate.{Stop}
+use Rattle.ft_filter.proofs.NumberForms.{writes_to}
+use Rattle.ft_filter.proofs.PredLaw.{pred_is}
 
 computing : Unit {0}
 unfolding name_at op_at quoted_at number_at number_of text_value number_value value_at comparison_at pred_at items_of is_glob fits matches going joined_at operand_at filter_of
@@ -93,3 +101,22 @@ last_byte = refl
 no_glob : is_glob (codes "[b-a]") ≡ false
 unfolding computing
 no_glob = refl
+
+-- ---- the relations
+
+hexadecimal_word : Writes (codes "0x1F") (pos 31)
+hexadecimal_word = hexadecimal (codes "1F") (omega arith, refl)
+
+negative_word : Writes (codes "-7") (negsuc 6)
+negative_word = negative (codes "7") (inr (55, [], refl, omega arith, omega arith, refl))
+
+no_zero_in_front : (z : ℤ) → Writes (codes "07") z → ⊥
+unfolding computing
+no_zero_in_front z h = none-some z (writes_to (codes "07") z h)
+
+two_levels : levels (Not (Any (More (pid_is 1) (More prio_below End)))) ≡ 2
+two_levels = refl
+
+operator_decides : PredIs names.Waking 7 (codes "comm < ") (Stop (WrongKind 5))
+unfolding computing
+operator_decides = (pred_is names.Waking 7 (codes "comm < ") (Stop (WrongKind 5))).1 refl

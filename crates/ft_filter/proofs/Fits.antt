@@ -1,47 +1,24 @@
 -- Trees that can be read: what a tree that was read keeps.
-use Rattle.std.proofs.Common.{◌≡◌, ◌≤◌, ℕ, suc, max, Bool, true, false, List, length, drop, Ok, Err, refl, subst, arith, codes, ◌==◌, cond}
+use Rattle.std.proofs.Common.{◌≡◌, ◌≤◌, ℕ, suc, Bool, true, false, List, length, drop, Ok, Err, refl, subst, arith, codes, ◌==◌, cond}
 use Rattle.std.specs.List.{starts_with}
 use Rattle.ft_event.specs.declared.event.Name.{Name}
 use Rattle.ft_filter.specs.declared.fault.FilterFault.TheVariants.{Syntax}
 use Rattle.ft_filter.specs.declared.tree.Joint.{Joint}
 use Rattle.ft_filter.specs.declared.tree.Joint.TheVariants as joints
 use Rattle.ft_filter.specs.declared.tree.Pred.{Pred}
-use Rattle.ft_filter.specs.Canonical.{is_any, is_joined, needs_enclosing}
+use Rattle.ft_filter.specs.Canonical.{is_any, is_joined}
 use Rattle.ft_filter.specs.FilterIs.{Rule, Joined, Operand, below, made, closed, joined, most_open, whole_of, Reads, first, first_fails, negated, enclosed, deep, compared, Goes, ended, another, another_fails, FilterIs}
+use Rattle.ft_filter.specs.Shape.{HasTwo, level_if, levels, most_levels}
 use Rattle.ft_filter.specs.Predicate.{Read, Found, Stop, place, pred_at}
 use Rattle.ft_filter.specs.Tokens.{skip}
 use Rattle.ft_filter.specs.Tree.{Tree, Trees, Any, All, Not, Test, End, More}
 use Rattle.ft_filter.proofs.Preds.{PredFits, pred_fits}
-
--- one more where parentheses stand
-abbrev pub inside : Bool → ℕ → ℕ
-inside true n = suc n
-inside false n = n
 
 -- whether a tree stands in parentheses where the rule reads
 abbrev pub needs : Rule → Tree → Bool
 needs (Joined joints.Or) tree = false
 needs (Joined joints.And) tree = is_any tree
 needs Operand tree = is_joined tree
-
-abbrev mutual
-  -- how many `(` and `!` are open at once in a tree's canonical text
-  pub depth : Tree → ℕ
-  depth (Any trees) = depths joints.Or trees
-  depth (All trees) = depths joints.And trees
-  depth (Not tree) = suc (inside (is_joined tree) (depth tree))
-  depth (Test pred) = 0
-
-  -- how many are in the texts of operands
-  pub depths : Joint → Trees → ℕ
-  depths joint End = 0
-  depths joint (More tree trees) = max (inside (needs_enclosing joint tree) (depth tree)) (depths joint trees)
-
--- at least two operands
-abbrev pub HasTwo : Trees → Type 0
-HasTwo End = ⊥
-HasTwo (More tree End) = ⊥
-HasTwo (More tree (More next trees)) = Unit {0}
 
 abbrev mutual
   -- the tree's parts are such as are read
@@ -59,7 +36,7 @@ abbrev mutual
 -- the tree is one that the rule can read
 pub record Fits (event : Name) (rule : Rule) (room : ℕ) (tree : Tree) : Type 0 where
   pub readable : IsReadable event tree
-  pub within : inside (needs rule tree) (depth tree) ≤ room
+  pub within : level_if (needs rule tree) (levels tree) ≤ room
 
 -- what is read is such a tree
 abbrev ReadFits : Name → Rule → ℕ → Read Tree → Type 0
@@ -68,21 +45,21 @@ ReadFits event rule room (Stop fault) = Unit {0}
 
 -- what goes on is such trees
 abbrev MoreFit : Name → Joint → ℕ → Read Trees → Type 0
-MoreFit event joint room (Found trees rest) = AreReadable event trees × (depths joint trees ≤ room)
+MoreFit event joint room (Found trees rest) = AreReadable event trees × (most_levels joint trees ≤ room)
 MoreFit event joint room (Stop fault) = Unit {0}
 
 -- parentheses take no room or more
-inside_le : (b : Bool) (n : ℕ) → n ≤ inside b n
-inside_le true n = omega arith
-inside_le false n = omega arith
+level_if_le : (b : Bool) (n : ℕ) → n ≤ level_if b n
+level_if_le true n = omega arith
+level_if_le false n = omega arith
 
 -- and at most one more
-inside_more : (b : Bool) (n : ℕ) → inside b n ≤ suc n
-inside_more true n = omega arith
-inside_more false n = omega arith
+level_if_more : (b : Bool) (n : ℕ) → level_if b n ≤ suc n
+level_if_more true n = omega arith
+level_if_more false n = omega arith
 
 -- an operand of `&&` needs parentheses where one of `||` does
-any_joined : (tree : Tree) (n : ℕ) → inside (is_any tree) n ≤ inside (is_joined tree) n
+any_joined : (tree : Tree) (n : ℕ) → level_if (is_any tree) n ≤ level_if (is_joined tree) n
 any_joined (Any trees) n = omega arith
 any_joined (All trees) n = omega arith
 any_joined (Not tree) n = omega arith
@@ -91,8 +68,8 @@ any_joined (Test pred) n = omega arith
 module _ (event : Name) where
   -- an operand alone
   alone_fits : (joint : Joint) (room : ℕ) (tree : Tree) → Fits event (below joint) room tree → Fits event (Joined joint) room tree
-  alone_fits joints.Or room tree h = record { readable = h.readable; within = let le = h.within in omega (arith, inside_le (is_any tree) (depth tree)) }
-  alone_fits joints.And room tree h = record { readable = h.readable; within = let le = h.within in omega (arith, any_joined tree (depth tree)) }
+  alone_fits joints.Or room tree h = record { readable = h.readable; within = let le = h.within in omega (arith, level_if_le (is_any tree) (levels tree)) }
+  alone_fits joints.And room tree h = record { readable = h.readable; within = let le = h.within in omega (arith, any_joined tree (levels tree)) }
 
   -- several operands
   joined_fits : (joint : Joint) (room : ℕ) (tree : Tree) (read : Read Trees) → Fits event (below joint) room tree → MoreFit event joint room read → ReadFits event (Joined joint) room (made (joined joint tree) read)
@@ -121,7 +98,7 @@ module _ (event : Name) where
     where
       from : (b : Bool) → ReadFits event Operand (suc room) (cond b (Found tree (drop 1 (skip rest))) (Stop (Syntax (place whole (skip rest)))))
       from false = tt
-      from true = record { readable = h.readable; within = let le = h.within in omega (arith, inside_more (is_joined tree) (depth tree)) }
+      from true = record { readable = h.readable; within = let le = h.within in omega (arith, level_if_more (is_joined tree) (levels tree)) }
 
   -- a predicate
   test_fits : (whole room : ℕ) (text : List ℕ) (read : Read Pred) → pred_at event whole text ≡ read → ReadFits event Operand room (made Test read)

@@ -7,12 +7,16 @@ mod Firsts
 mod Fits
 mod Fronts
 mod Members
+mod NumberForms
 mod Numbers
 mod Operands
+mod PredLaw
 mod Preds
 mod Quotes
 mod Readings
+mod Runs
 mod Same
+mod Shapes
 mod Shorter
 mod Spelled
 mod Stars
@@ -20,3 +24,4 @@ mod Steps
 mod Trees
 mod Tries
 mod Unique
+mod WordCuts

@@ -132,7 +132,7 @@ passed_parts fault true next read rest e = (refl, e)
 passed_parts fault false next read rest e = absurd cc
 
 -- what is found passes
-find_passes : {A : Type 0} (test : A → Bool) (xs : List A) (x : A) → find test xs ≡ Some x → test x ≡ true
+pub find_passes : {A : Type 0} (test : A → Bool) (xs : List A) (x : A) → find test xs ≡ Some x → test x ≡ true
 find_passes test [] x e = absurd cc
 find_passes test (y ∷ xs) x e = from (find_passes test xs x) (test y) refl e
   where

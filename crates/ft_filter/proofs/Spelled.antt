@@ -165,7 +165,7 @@ cut_again mark text rest free =
     rw (front, take-append_seam text (mark ∷ rest), drop-append_seam text (mark ∷ rest), eqb-suc-zero (length rest)) refl
 
 -- so a text in quotes is read
-quotes_found : (mark : ℕ) (text rest : List ℕ) → is_quote mark ≡ true → list_all (λ byte. not (byte == mark)) text ≡ true → quoted_at (mark ∷ (text ++ mark ∷ rest)) ≡ Some (text, rest)
+pub quotes_found : (mark : ℕ) (text rest : List ℕ) → is_quote mark ≡ true → list_all (λ byte. not (byte == mark)) text ≡ true → quoted_at (mark ∷ (text ++ mark ∷ rest)) ≡ Some (text, rest)
 unfolding quoted_at
 quotes_found mark text rest quotes free = let e = cut_again mark text rest free in rw quotes e
 
@@ -190,7 +190,7 @@ run_passes test (byte ∷ text) = from (run_passes test text) (test byte) refl
     from rest true is = rw (one-add, is) rest
 
 -- a quote is one of two
-quote_cases : (mark : ℕ) → is_quote mark ≡ true → (mark ≡ 34) ⊎ (mark ≡ 39)
+pub quote_cases : (mark : ℕ) → is_quote mark ≡ true → (mark ≡ 34) ⊎ (mark ≡ 39)
 quote_cases mark h = from (mark == 34) refl h
   where
     from : (b : Bool) → (mark == 34) ≡ b → (b || mark == 39) ≡ true → (mark ≡ 34) ⊎ (mark ≡ 39)

@@ -6,9 +6,15 @@ pub mod Codes
 pub mod Holds
 pub mod FilterFault
 pub mod Tokens
+pub mod Numbers
 pub mod Predicate
+pub mod PredIs
 pub mod FilterIs
 pub mod Answers
 pub mod Canonical
+pub mod Shape
 pub mod Given
 pub mod Words
+pub use Rattle.ft_event.specs.Fields
+pub use Rattle.ft_event.specs.LineIs
+pub use Rattle.ft_event.specs.Traced

@@ -15,8 +15,9 @@ mod writing;
 pub use fault::FilterFault;
 pub use filter::Filter;
 pub use pattern::{glob, is_glob, one_reading, what_matches};
-pub use reading::{one_answer, parse, reads_again};
-pub use tokens::{is_gap, name_at, skip};
+pub use predicate::predicates_of_texts;
+pub use reading::{one_answer, parse, reads_again, trees_of_texts};
+pub use tokens::{is_gap, name_at, numbers_of_words, skip, words_of_texts};
 pub use tree::{Expr, Exprs, Literal, Op, Pattern, Pred, Text};
 
 #[cfg(test)]

@@ -9,11 +9,10 @@ ghost use Rattle.ft_filter.specs.Walk.{ReadsAsMembers, ReadsAsItems, Bounds, Ste
 
 /// Whether the pattern is a glob. It is none where a class is not closed, has no member or has a
 /// range from a higher byte to a lower one, where a backslash stands anywhere, and where a `!`
-/// stands first.
+/// stands first. By `exact` the answer is worked out from the pattern, by `meaning` it says that
+/// the pattern reads as items.
 pub fn is_glob(pattern: &[u8]) -> bool
-    // The answer, worked out from the pattern.
     ensures exact { result ≡ is_glob pattern.now }
-    // What the answer says.
     ensures meaning { IsTrue result ↔ IsGlob pattern.now }
 {
     if pattern.starts_with(b"!") || pattern.contains(&b'\\') {
@@ -137,7 +136,8 @@ fn step_before(pattern: &[u8], byte: u8) -> Step<'_>
 
 /// How the pattern goes on before the byte, where a class stands first; the text is behind its `[`.
 fn class_step(text: &[u8], byte: u8) -> Step<'_>
-    ensures meaning { (items : List Item) → ItemsAre (91 ∷ text.now) items → StepIs items byte result }
+    ensures meaning { (items : List Item) → ItemsAre (91 ∷ text.now) items
+        → StepIs items byte result }
     ensures shorter { Shortens text.now result }
 {
     match class_of(text) {
@@ -162,7 +162,8 @@ fn are_stars(pattern: &[u8]) -> bool
 /// What is behind the item that begins with the byte, where one does.
 fn behind_item(first: u8, behind: &[u8]) -> Option<&[u8]>
     ensures shorter { IfSome result (λ rest. length rest.now ≤ length behind.now) }
-    ensures found { IfSome result (λ rest. ReadsAsItems (first ∷ behind.now) ↔ ReadsAsItems rest.now) }
+    ensures found { IfSome result (λ rest. ReadsAsItems (first ∷ behind.now)
+        ↔ ReadsAsItems rest.now) }
     ensures none { IfNone result (ReadsAsItems (first ∷ behind.now) → ⊥) }
 {
     if first != b'[' {
@@ -183,7 +184,8 @@ fn behind_item(first: u8, behind: &[u8]) -> Option<&[u8]>
 /// The class whose `[` stands before the text, where it is closed.
 fn class_of(text: &[u8]) -> Option<Class<'_>>
     ensures shorter { IfSome result (λ class. length class.rest.now < length text.now) }
-    ensures found { IfSome result (λ class. IsCut text.now class.negated class.inside.now class.rest.now) }
+    ensures found { IfSome result (λ class. IsCut text.now class.negated class.inside.now
+        class.rest.now) }
     ensures none { IfNone result ((negated : Bool) (inside rest : List ℕ)
         → IsCut text.now negated inside rest → ⊥) }
 {
@@ -240,7 +242,8 @@ fn has(inside: &[u8], byte: u8) -> bool
 /// The first member of the class.
 fn first_member(inside: &[u8]) -> Option<Bounded<'_>>
     ensures shorter { IfSome result (λ member. length member.rest.now < length inside.now) }
-    ensures found { IfSome result (λ member. Bounds inside.now member.low member.high member.rest.now) }
+    ensures found { IfSome result (λ member. Bounds inside.now member.low member.high
+        member.rest.now) }
     ensures none { IfNone result (inside.now ≡ []) }
 {
     let (low, rest) = inside.split_first()?;

@@ -2,7 +2,7 @@
 
 #![tactic(auto, using(crate::proofs::Trees::shapes))]
 
-ghost use Rattle.std.specs.Prelude.{◌≡◌, ◌<◌, ◌++◌, ◌∷◌, [], ℕ, List, length, Some, Result, Ok, IfOk, IfErr, OnOk, IfSome};
+ghost use Rattle.std.specs.Prelude.{◌≡◌, ◌<◌, ◌↔◌, ◌++◌, ◌∷◌, [], ℕ, List, length, Some, Result, Ok, IfOk, IfErr, OnOk, IfSome};
 ghost use Rattle.std.specs.Option.{option_copied};
 ghost use Rattle.ft_filter.specs.Tokens.{skip};
 ghost use Rattle.ft_filter.specs.Predicate.{pred_at, Found};
@@ -10,6 +10,7 @@ ghost use Rattle.ft_filter.specs.FilterIs.{FilterIs, Reads, Joined, Operand, bel
 ghost use Rattle.ft_filter.specs.Answers.{filter_of, GivesFilter};
 ghost use Rattle.ft_filter.specs.Canonical.{canonical};
 ghost use Rattle.ft_filter.specs.Given.{GivesTree, GoesOn};
+ghost use Rattle.ft_filter.specs.Shape.{IsFilterOf};
 ghost use Rattle.ft_filter.specs.Tree.{Tree, tree_of, trees_in, trees, Not, Test};
 
 use crate::fault::FilterFault;
@@ -31,13 +32,11 @@ struct Parsed<'a> {
 }
 
 /// Reads a filter's text, for an event. The first fault from the left decides, and memory may run
-/// out.
+/// out. By `exact` the answer is a function of the text, by `meaning` it is what the rules of the
+/// grammar say.
 pub fn parse(alloc: Global, text: &[u8], event: Name) -> Result<Filter, FilterFault>
-    // The answer, as a function of the text.
     ensures exact { GivesFilter (λ answer. answer ≡ filter_of event text.now) result }
-    // What the answer says, by the rules of the grammar.
     ensures meaning { GivesFilter (FilterIs event text.now) result }
-    // Whose fields it names.
     ensures event { IfOk result (λ filter. filter.event ≡ event) }
 {
     let source = Source {
@@ -56,13 +55,22 @@ pub fn parse(alloc: Global, text: &[u8], event: Name) -> Result<Filter, FilterFa
 /// A law: the grammar relates one answer to a text, and one alone.
 pub fn one_answer()
     ensures some { (event : Name) (text : List ℕ) → FilterIs event text (filter_of event text) }
-    ensures one { (event : Name) (text : List ℕ) (answer : Result Tree FilterFault) → FilterIs event text answer → answer ≡ filter_of event text }
+    ensures one { (event : Name) (text : List ℕ) (answer : Result Tree FilterFault)
+        → FilterIs event text answer → answer ≡ filter_of event text }
 {}
 
 /// A law: the canonical text of a tree that some text gives, gives that tree again.
 pub fn reads_again()
     ensures { (event : Name) (text : List ℕ) (tree : Tree) → FilterIs event text (Ok tree)
         → FilterIs event (canonical tree) (Ok tree) }
+{}
+
+/// A law: the trees that some text on an event gives are those of the event's own predicates, with
+/// at least two operands in each any and all, and with at most 32 levels, which are the `(` and `!`
+/// that are open at once in their canonical text.
+pub fn trees_of_texts()
+    ensures { (event : Name) (tree : Tree)
+        → ((text : List ℕ) × FilterIs event text (Ok tree)) ↔ IsFilterOf event tree }
 {}
 
 /// What is behind the joint, where it stands next.
@@ -183,7 +191,8 @@ fn read_enclosed<'a>(source: Source, room: u32, behind: &'a [u8]) -> Result<Pars
 
 /// Reads a field, an operator and a value.
 fn compared(source: Source, text: &[u8]) -> Result<Parsed<'_>, FilterFault>
-    ensures reads { GivesTree (λ read. read ≡ made Test (pred_at source.event source.len text.now)) result }
+    ensures reads { GivesTree (λ read. read ≡ made Test (pred_at source.event source.len text.now))
+        result }
     ensures shorter { IfOk result (λ parsed. length parsed.rest.now < length text.now) }
 {
     let compared = predicate(source, text)?;
@@ -209,7 +218,8 @@ fn negated(alloc: Global, operand: Expr, rest: &[u8]) -> Result<Parsed<'_>, Filt
 
 /// What is in parentheses, where the closing one stands in the text behind it.
 fn closed(source: Source, inside: Expr, rest: &[u8]) -> Result<Parsed<'_>, FilterFault>
-    ensures reads { GivesTree (λ read. read ≡ closed source.len (Found (tree_of inside) rest.now)) result }
+    ensures reads { GivesTree (λ read. read ≡ closed source.len (Found (tree_of inside) rest.now))
+        result }
     ensures shorter { IfOk result (λ parsed. length parsed.rest.now < length rest.now) }
 {
     let rest = skip(rest);
