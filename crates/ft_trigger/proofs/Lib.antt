@@ -8,10 +8,12 @@ mod Examples
 mod Heads
 mod Inversions
 mod Keyed
+mod Limits
 mod Numerals
 mod PieceLemmas
 mod Plain
 mod ReadAgain
+mod ReadSo
 mod ResolveLemmas
 mod Rounding
 mod Separators

@@ -26,8 +26,8 @@ const SAVED: &[u8] = b"common_timestamp.usecs";
 /// What stands in front of the name that is read.
 const SINCE: &[u8] = b"common_timestamp.usecs-$";
 
-/// The least number that is a size: it is rounded up to 128.
-const LEAST_SIZE: u32 = 65;
+/// The least size.
+const LEAST_SIZE: u32 = 128;
 
 /// The greatest size.
 const MOST_SIZE: u32 = 131_072;
@@ -301,14 +301,18 @@ fn kind_of(part: &[u8]) -> Option<(usize, Kind)>
     None
 }
 
-/// A size, rounded up to a power of 2.
+/// The size that a text writes: its number, rounded up to a power of 2. The greatest size is one, so
+/// no number above it is rounded.
 fn size_of(text: &[u8]) -> Option<u32>
     ensures value { result ≡ size_of text.now }
     ensures least { IfSome result (λ size. 128 ≤ size) }
     ensures most { IfSome result (λ size. size ≤ 131072) }
 {
-    let size = number_in(text, LEAST_SIZE, MOST_SIZE)?;
-    Some(size.next_power_of_two())
+    let size = number_in(text, 0, MOST_SIZE)?.next_power_of_two();
+    if size < LEAST_SIZE {
+        return None;
+    }
+    Some(size)
 }
 
 /// The value of a variable's part, where it is one.
