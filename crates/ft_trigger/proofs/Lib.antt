@@ -5,6 +5,7 @@ mod DraftLemmas
 mod Drafts
 mod Edges
 mod Examples
+mod Halves
 mod Heads
 mod Inversions
 mod Keyed
@@ -17,6 +18,7 @@ mod ReadSo
 mod ResolveLemmas
 mod Rounding
 mod Separators
+mod Shaped
 mod Sorted
 mod SoundLemmas
 mod Spellings

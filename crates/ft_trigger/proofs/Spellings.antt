@@ -55,7 +55,7 @@ begins_inside byte h = elim (or_cases (is_ascii_alphabetic byte) (byte == 95) h)
     ]
 
 -- a run holds bytes that pass
-run_passes : (test : ℕ → Bool) (text : List ℕ) → list_all test (take (prefix_len test text) text) ≡ true
+pub run_passes : (test : ℕ → Bool) (text : List ℕ) → list_all test (take (prefix_len test text) text) ≡ true
 run_passes test [] = refl
 run_passes test (byte ∷ text) = from (run_passes test text) (test byte) refl
   where

@@ -1,11 +1,14 @@
 //! Laws on what triggers' texts are read as, apart from the steps that read them.
 
-ghost use Rattle.std.specs.Prelude.{◌≡◌, ◌↔◌, ℕ, List, Some, Ok};
+ghost use Rattle.std.specs.Prelude.{◌≡◌, ◌↔◌, ◌+◌, ℕ, List, length, Option, Some, Result, Ok, Err};
 ghost use Rattle.ft_event.specs.declared.event.Name.{Name};
+ghost use Rattle.ft_filter.specs.Tree.{Tree};
 ghost use Rattle.ft_hist.specs.Hist.{Hist, IsWithin};
 ghost use Rattle.ft_hist.specs.Sound.{IsSound};
+ghost use Rattle.ft_trigger.specs.declared.fault.TriggerFault.{TriggerFault};
 ghost use Rattle.ft_trigger.specs.Draft.{size_of};
-ghost use Rattle.ft_trigger.specs.TriggerIs.{TriggerIs};
+ghost use Rattle.ft_trigger.specs.TriggerIs.{TriggerIs, filter_in};
+ghost use Rattle.ft_trigger.specs.Shape.{Cut, IsCut, TailIs, with_tail, IsShaped};
 ghost use Rattle.ft_trigger.specs.Sizes.{IsSize};
 
 /// A law: the size that a text writes is the least power of 2 that is not below its number, of any
@@ -24,3 +27,40 @@ pub fn sound_triggers()
     ensures sound { (event : Name) (text : List ℕ) (hist : Hist) → TriggerIs event text (Ok hist)
         → IsSound hist }
 {}
+
+/// A law: every text is a head, and then nothing, or a gap and a tail.
+pub fn cuts()
+    ensures { (text : List ℕ) → Cut text }
+{}
+
+/// A law: a tail says one thing, and that alone.
+pub fn one_tail()
+    ensures { (event : Name) (place : ℕ) (tail : List ℕ) (answer : Result (Option Tree) TriggerFault)
+        → TailIs event place tail answer ↔ (filter_in event place tail ≡ answer) }
+{
+    ft_filter::one_answer();
+}
+
+/// A law: what a text is, its head tells first. It has each fault of its head, whatever its tail is;
+/// where the head alone is a trigger, it is that trigger with what the tail says.
+pub fn heads_first()
+    ensures fault { (event : Name) (text head gap tail end : List ℕ) (fault : TriggerFault)
+        → IsCut text head gap tail end → TriggerIs event head (Err fault)
+        → TriggerIs event text (Err fault) }
+    ensures tail { (event : Name) (text head gap tail end : List ℕ) (hist : Hist)
+        (answer : Result (Option Tree) TriggerFault)
+        → IsCut text head gap tail end → TriggerIs event head (Ok hist)
+        → TailIs event (length head + length gap) tail answer
+        → TriggerIs event text (with_tail hist answer) }
+{
+    ft_filter::one_answer();
+}
+
+/// A law: the text of a trigger is a head that begins with `hist:` and is the trigger without its
+/// filter, and then nothing and no filter, or a gap, `if`, a gap and the filter's text.
+pub fn shapes()
+    ensures { (event : Name) (text : List ℕ) (hist : Hist) → TriggerIs event text (Ok hist)
+        → IsShaped event text hist }
+{
+    ft_filter::one_answer();
+}
