@@ -22,6 +22,7 @@ mod Shaped
 mod Sorted
 mod SoundLemmas
 mod Spellings
+mod Standing
 mod Tails
 mod Valued
 mod Variables

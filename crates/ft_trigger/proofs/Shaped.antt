@@ -5,7 +5,7 @@ use Rattle.std.proofs.lemmas.Bool.{and_parts, not-false, cond-true}
 use Rattle.std.proofs.lemmas.List.{take-append-drop, nil_from_length}
 use Rattle.std.proofs.lemmas.Option.{cond_some}
 use Rattle.std.specs.Prelude.{◌↔◌, slice_index, unwrap_or, if◌then◌else◌}
-use Rattle.std.specs.List.{prefix_len, list_all, starts_with}
+use Rattle.std.specs.List.{prefix_len, list_all, list_any, starts_with}
 use Rattle.ft_event.specs.declared.event.Name.{Name}
 use Rattle.ft_filter.specs.declared.fault.FilterFault.{FilterFault}
 use Rattle.ft_filter.specs.Answers.{filter_of}
@@ -31,7 +31,7 @@ use Rattle.ft_trigger.proofs.Tails.{OneFilter, filter_none}
 -- ---- a head, and then a filter
 
 -- a draft of a head of so many bytes, without a filter
-abbrev make_of : Name → ℕ → Draft → Result Hist TriggerFault
+abbrev pub make_of : Name → ℕ → Draft → Result Hist TriggerFault
 make_of event head draft =
     given_or (Syntax head) draft.keys (λ keys.
     values_of event (own_name draft.variable) (besides_hitcount (unwrap_or draft.values [])) >>= (λ values.
@@ -39,7 +39,7 @@ make_of event head draft =
     Ok (made event draft keys values sort None))))
 
 -- a trigger with a filter, or the filter's fault
-abbrev with_made : Result (Option Tree) TriggerFault → Hist → Result Hist TriggerFault
+abbrev pub with_made : Result (Option Tree) TriggerFault → Hist → Result Hist TriggerFault
 with_made filter hist = filter >>= (λ filter. Ok (record hist { filter = filter }))
 
 module _ (event : Name) (draft : Draft) (filter : Result (Option Tree) TriggerFault) where
@@ -69,7 +69,7 @@ unfolding finished
 finished_by event head place tail draft = made_keys event draft (filter_in event place tail) head draft.keys
 
 -- a head without a filter: it begins with `hist:`, and then come parts
-abbrev bare_of : Name → List ℕ → Result Hist TriggerFault
+abbrev pub bare_of : Name → List ℕ → Result Hist TriggerFault
 bare_of event head = unless ((not (starts_with ◌==◌ head (codes "hist:")), Syntax 0) ∷ []) (parts_from event blank (pieces 58 5 (drop 5 head)) >>= make_of event (length head))
 
 -- so are parts and a tail
@@ -101,31 +101,32 @@ filter_placed event text head gap tail h = elim h.place [
 ]
 
 -- a text that is cut
-cut_by : (event : Name) (text head gap tail end : List ℕ) (filter : Result (Option Tree) TriggerFault) → IsCut text head gap tail end → filter_in event (length head + length gap) tail ≡ filter
+pub cut_by : (event : Name) (text head gap tail end : List ℕ) (filter : Result (Option Tree) TriggerFault) → IsCut text head gap tail end → filter_in event (length head + length gap) tail ≡ filter
     → trigger_of event text ≡ (bare_of event head >>= with_made filter)
 cut_by event text head gap tail end filter cut is =
     let h = known text head gap tail end cut in
     text_by event text head gap tail filter h (filter_placed event text head gap tail h ∙ is)
 
+-- nothing has a last byte
+nil_push : (front : List ℕ) (byte : ℕ) → [] ≡ front ++ byte ∷ [] → ⊥
+nil_push [] byte e = cc
+nil_push (first ∷ front) byte e = cc
+
 -- a head alone is cut so
-head_cut : (text head gap tail end : List ℕ) → IsCut text head gap tail end → IsCut head head [] [] []
-head_cut text head gap tail end cut = record {
+pub alone_cut : (head : List ℕ) → list_any is_gap head ≡ false → IsCut head head [] [] []
+alone_cut head bare = record {
   is = sym (append-nil (head ++ [] ++ []) ∙ append-nil (head ++ []) ∙ append-nil head);
-  head_bare = cut.head_bare;
+  head_bare = bare;
   gap_blank = refl;
   end_blank = refl;
   tail_opens = λ byte rest e. absurd cc;
   tail_closes = λ front byte e. absurd (nil_push front byte e);
   tail_apart = λ e. refl;
 }
-  where
-    nil_push : (front : List ℕ) (byte : ℕ) → [] ≡ front ++ byte ∷ [] → ⊥
-    nil_push [] byte e = cc
-    nil_push (first ∷ front) byte e = cc
 
 -- it has no filter
 head_by : (event : Name) (text head gap tail end : List ℕ) → IsCut text head gap tail end → trigger_of event head ≡ (bare_of event head >>= with_made (Ok None))
-head_by event text head gap tail end cut = cut_by event head head [] [] [] (Ok None) (head_cut text head gap tail end cut) (filter_none event (length head + 0))
+head_by event text head gap tail end cut = cut_by event head head [] [] [] (Ok None) (alone_cut head cut.head_bare) (filter_none event (length head + 0))
 
 -- ---- heads and tails
 

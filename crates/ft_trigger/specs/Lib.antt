@@ -1,6 +1,7 @@
 pub mod Draft
 pub mod Drafts
 pub mod Given
+pub mod PartFaults
 pub mod Shape
 pub mod Sizes
 pub mod TriggerFault

@@ -1,13 +1,16 @@
 //! Laws on what triggers' texts are read as, apart from the steps that read them.
 
-ghost use Rattle.std.specs.Prelude.{◌≡◌, ◌↔◌, ◌+◌, ℕ, List, length, Option, Some, Result, Ok, Err};
+ghost use Rattle.std.specs.Prelude.{◌≡◌, ◌↔◌, ◌+◌, ◌++◌, ℕ, false, codes, List, length, Option, Some, Result, Ok, Err};
 ghost use Rattle.ft_event.specs.declared.event.Name.{Name};
+ghost use Rattle.std.specs.List.{list_any};
+ghost use Rattle.ft_filter.specs.Tokens.{is_gap};
 ghost use Rattle.ft_filter.specs.Tree.{Tree};
 ghost use Rattle.ft_hist.specs.Hist.{Hist, IsWithin};
 ghost use Rattle.ft_hist.specs.Sound.{IsSound};
 ghost use Rattle.ft_trigger.specs.declared.fault.TriggerFault.{TriggerFault};
 ghost use Rattle.ft_trigger.specs.Draft.{size_of};
 ghost use Rattle.ft_trigger.specs.TriggerIs.{TriggerIs, filter_in};
+ghost use Rattle.ft_trigger.specs.PartFaults.{PartsFail, is_late};
 ghost use Rattle.ft_trigger.specs.Shape.{Cut, IsCut, TailIs, with_tail, IsShaped};
 ghost use Rattle.ft_trigger.specs.Sizes.{IsSize};
 
@@ -64,3 +67,20 @@ pub fn shapes()
 {
     ft_filter::one_answer();
 }
+
+/// A law: a fault of parts stays, whatever is behind them; a text has it with every tail, and has
+/// it whatever is behind the parts just where they have it. Any other fault of the text is one that
+/// is found behind its parts.
+pub fn faults_stay()
+    ensures stays { (event : Name) (parts more : List ℕ) (fault : TriggerFault)
+        → PartsFail event parts fault → PartsFail event (parts ++ codes ":" ++ more) fault }
+    ensures first { (event : Name) (text parts gap tail end : List ℕ) (fault : TriggerFault)
+        → IsCut text (codes "hist:" ++ parts) gap tail end → PartsFail event parts fault
+        → TriggerIs event text (Err fault) }
+    ensures just { (event : Name) (parts : List ℕ) (fault : TriggerFault)
+        → list_any is_gap parts ≡ false → PartsFail event parts fault
+        ↔ ((more : List ℕ) → TriggerIs event (codes "hist:" ++ parts ++ codes ":" ++ more) (Err fault)) }
+    ensures early { (event : Name) (text parts gap tail end : List ℕ) (fault : TriggerFault)
+        → IsCut text (codes "hist:" ++ parts) gap tail end → TriggerIs event text (Err fault)
+        → is_late (length (codes "hist:" ++ parts)) fault ≡ false → PartsFail event parts fault }
+{}
