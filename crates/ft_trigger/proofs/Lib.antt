@@ -21,6 +21,7 @@ mod Separators
 mod Shaped
 mod Sorted
 mod SoundLemmas
+mod Spelled
 mod Spellings
 mod Standing
 mod Tails

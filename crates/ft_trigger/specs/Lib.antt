@@ -4,6 +4,7 @@ pub mod Given
 pub mod PartFaults
 pub mod Shape
 pub mod Sizes
+pub mod Spelling
 pub mod TriggerFault
 pub mod TriggerIs
 pub mod Words

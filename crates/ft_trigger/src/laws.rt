@@ -9,7 +9,9 @@ ghost use Rattle.ft_hist.specs.Hist.{Hist, IsWithin};
 ghost use Rattle.ft_hist.specs.Sound.{IsSound};
 ghost use Rattle.ft_trigger.specs.declared.fault.TriggerFault.{TriggerFault};
 ghost use Rattle.ft_trigger.specs.Draft.{size_of};
+ghost use Rattle.ft_trigger.specs.Spelling.{ArePieces, IsItem};
 ghost use Rattle.ft_trigger.specs.TriggerIs.{TriggerIs, filter_in};
+ghost use Rattle.ft_trigger.specs.Words.{Piece, pieces, Word, word_of};
 ghost use Rattle.ft_trigger.specs.PartFaults.{PartsFail, is_late};
 ghost use Rattle.ft_trigger.specs.Shape.{Cut, IsCut, TailIs, with_tail, IsShaped};
 ghost use Rattle.ft_trigger.specs.Sizes.{IsSize};
@@ -20,8 +22,8 @@ pub fn sizes()
     ensures { (text : List ℕ) (size : ℕ) → (size_of text ≡ Some size) ↔ IsSize text size }
 {}
 
-/// A law: a trigger that some text gives is of the event that the text is read on, within the limits
-/// of triggers, and sound.
+/// A law: a trigger that some text gives is of the event that the text is read on, within the
+/// limits of triggers, and sound.
 pub fn sound_triggers()
     ensures event { (event : Name) (text : List ℕ) (hist : Hist) → TriggerIs event text (Ok hist)
         → hist.event ≡ event }
@@ -38,14 +40,15 @@ pub fn cuts()
 
 /// A law: a tail says one thing, and that alone.
 pub fn one_tail()
-    ensures { (event : Name) (place : ℕ) (tail : List ℕ) (answer : Result (Option Tree) TriggerFault)
+    ensures { (event : Name) (place : ℕ) (tail : List ℕ)
+        (answer : Result (Option Tree) TriggerFault)
         → TailIs event place tail answer ↔ (filter_in event place tail ≡ answer) }
 {
     ft_filter::one_answer();
 }
 
-/// A law: what a text is, its head tells first. It has each fault of its head, whatever its tail is;
-/// where the head alone is a trigger, it is that trigger with what the tail says.
+/// A law: what a text is, its head tells first. It has each fault of its head, whatever its tail
+/// is; where the head alone is a trigger, it is that trigger with what the tail says.
 pub fn heads_first()
     ensures fault { (event : Name) (text head gap tail end : List ℕ) (fault : TriggerFault)
         → IsCut text head gap tail end → TriggerIs event head (Err fault)
@@ -79,8 +82,22 @@ pub fn faults_stay()
         → TriggerIs event text (Err fault) }
     ensures just { (event : Name) (parts : List ℕ) (fault : TriggerFault)
         → list_any is_gap parts ≡ false → PartsFail event parts fault
-        ↔ ((more : List ℕ) → TriggerIs event (codes "hist:" ++ parts ++ codes ":" ++ more) (Err fault)) }
+        ↔ ((more : List ℕ)
+        → TriggerIs event (codes "hist:" ++ parts ++ codes ":" ++ more) (Err fault)) }
     ensures early { (event : Name) (text parts gap tail end : List ℕ) (fault : TriggerFault)
         → IsCut text (codes "hist:" ++ parts) gap tail end → TriggerIs event text (Err fault)
         → is_late (length (codes "hist:" ++ parts)) fault ≡ false → PartsFail event parts fault }
+{}
+
+/// A law: a text is cut into pieces just where they make it: with a separator between each two and
+/// none in them, each at its place.
+pub fn one_list()
+    ensures { (separator place : ℕ) (text : List ℕ) (list : List Piece)
+        → (pieces separator place text ≡ list) ↔ ArePieces separator place text list }
+{}
+
+/// A law: an item is read as a word just where it is the word as it stands: a `$` or none, a name,
+/// and nothing or a `.` and one or more bytes.
+pub fn one_word()
+    ensures { (item : List ℕ) (word : Word) → (word_of item ≡ Some word) ↔ IsItem item word }
 {}

@@ -17,7 +17,9 @@ pub use ft_hist::{
     Item, Key, KeyItem, Label, Mode, Part, SortBy, SortItem, Trigger, Var, Work, as_many_parts,
     asked_events, equal_keys, keys_match, multiples, one_key_order, powers,
 };
-pub use laws::{cuts, faults_stay, heads_first, one_tail, shapes, sizes, sound_triggers};
+pub use laws::{
+    cuts, faults_stay, heads_first, one_list, one_tail, one_word, shapes, sizes, sound_triggers,
+};
 pub use reading::{one_answer, parse, reads_again};
 
 #[cfg(test)]
