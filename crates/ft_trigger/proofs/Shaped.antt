@@ -250,6 +250,10 @@ module _ (laws : OneFilter) where
       let same : record first { filter = filter } ≡ hist = cc in
       (ap (λ (h : Hist). Ok h.filter) same, ap (λ (h : Hist). record h { filter = None }) same)
 
+  -- a head without a filter
+  bare_made : (bare : Result Hist TriggerFault) (first hist : Hist) → bare ≡ Ok first → record first { filter = None } ≡ record hist { filter = None } → (bare >>= with_made (Ok None)) ≡ Ok (record hist { filter = None })
+  bare_made bare first hist is same = ap (λ (m : Result Hist TriggerFault). m >>= with_made (Ok None)) is ∙ ap Ok same
+
   -- a trigger's text has its shape
   cut_shaped : (event : Name) (text head gap tail end : List ℕ) (hist : Hist) → IsCut text head gap tail end → trigger_of event text ≡ Ok hist → IsShaped event text hist
   cut_shaped event text head gap tail end hist cut e =
@@ -259,7 +263,7 @@ module _ (laws : OneFilter) where
       let begins = unless_parts (not (starts_with ◌==◌ head (codes "hist:"))) (Syntax 0) [] (parts_from event blank (pieces 58 5 (drop 5 head)) >>= make_of event (length head)) first.0 first.1 in
       let is : head ≡ codes "hist:" ++ drop 5 head = front_same head (codes "hist:") (not-false (starts_with ◌==◌ head (codes "hist:")) begins.0) in
       let parts = tail_parts filter first.0 hist first.2 in
-      let alone : trigger_of event head ≡ Ok (record hist { filter = None }) = head_by event text head gap tail end cut ∙ ap (λ (m : Result Hist TriggerFault). m >>= with_made (Ok None)) first.1 ∙ ap Ok parts.1 in
+      let alone : trigger_of event head ≡ Ok (record hist { filter = None }) = head_by event text head gap tail end cut ∙ bare_made (bare_of event head) first.0 hist first.1 parts.1 in
       let said : TailIs event (length head + length gap) tail (Ok hist.filter) = subst (TailIs event (length head + length gap) tail) parts.0 (read_tail event (length head + length gap) tail) in
       record {
         parts = drop 5 head;
