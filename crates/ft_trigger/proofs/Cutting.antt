@@ -16,7 +16,7 @@ pub position-unwrap_or : (p : ℕ → Bool) (xs : List ℕ) → unwrap_or (posit
 position-unwrap_or p xs = let within = position_or_len-le p xs in grind (arith, common_steps)
 
 -- spaces and tabs in front do not count
-skip-front : (first : ℕ) (rest : List ℕ) → is_gap first ≡ true → skip (first ∷ rest) ≡ skip rest
+pub skip-front : (first : ℕ) (rest : List ℕ) → is_gap first ≡ true → skip (first ∷ rest) ≡ skip rest
 skip-front first rest gap =
     let more : 1 + prefix_len is_gap rest ≡ suc (prefix_len is_gap rest) = omega arith in
     rw gap (ap (λ (n : ℕ). drop n (first ∷ rest)) more)

@@ -25,6 +25,7 @@ use Rattle.ft_trigger.proofs.Heads.{Told, behind_values, body, whole, told, head
 use Rattle.ft_trigger.proofs.Inversions.{then_parts, unless_parts, given_parts}
 use Rattle.ft_trigger.proofs.Keyed.{KeyFits}
 use Rattle.ft_trigger.proofs.Numerals.{SizeFits, default_fits}
+use Rattle.ft_trigger.proofs.ReadSo.{read_so}
 use Rattle.ft_trigger.proofs.Separators.{is_seen}
 use Rattle.ft_trigger.proofs.Sorted.{SortFits, directed, sorts_spelled, sorts_directed}
 use Rattle.ft_trigger.proofs.Spellings.{run_front, word_text}
@@ -193,7 +194,7 @@ order_of keys values own None sort h e = hits_order keys values own sort e
 order_of keys values own (Some words) sort h e = record { word = h.first; words = h.more; chain = h.chain; is = ap (sorts_of keys values own) (sym h.is) ∙ e }
 
 -- a size that was read, or the one where none was, can be read again
-size_of_draft : (size : Option ℕ) → If SizeFits size → SizeFits (unwrap_or size 2048)
+pub size_of_draft : (size : Option ℕ) → If SizeFits size → SizeFits (unwrap_or size 2048)
 size_of_draft None h = default_fits
 size_of_draft (Some size) h = h
 
@@ -228,17 +229,7 @@ made_again laws event draft hist h m =
 
 -- the canonical text of a trigger that some text gives, gives that trigger again
 pub reads_again : (laws : FilterLaws) (event : Name) (text : List ℕ) (hist : Hist) → trigger_of event text ≡ Ok hist → trigger_of event (canonical hist) ≡ Ok hist
-unfolding trigger_of
-reads_again laws event text hist e = made_again laws event draft.0 hist (draft_fits event (pieces 58 5 (drop 5 head)) draft.0 draft.1) (made_so event (head_len text) place (tail_of text) draft.0 hist draft.2)
-  where
-    head : List ℕ
-    head = take (head_len text) text
-
-    place : ℕ
-    place = length text - length (behind_head text)
-
-    begins : (not (starts_with ◌==◌ head (codes "hist:")) ≡ false) × ((parts_from event blank (pieces 58 5 (drop 5 head)) >>= finished event (head_len text) place (tail_of text)) ≡ Ok hist)
-    begins = unless_parts (not (starts_with ◌==◌ head (codes "hist:"))) (Syntax 0) [] (parts_from event blank (pieces 58 5 (drop 5 head)) >>= finished event (head_len text) place (tail_of text)) hist e
-
-    draft : (d : Draft) × (parts_from event blank (pieces 58 5 (drop 5 head)) ≡ Ok d) × (finished event (head_len text) place (tail_of text) d ≡ Ok hist)
-    draft = then_parts (parts_from event blank (pieces 58 5 (drop 5 head))) (finished event (head_len text) place (tail_of text)) hist begins.1
+reads_again laws event text hist e =
+    let read = read_so event text hist e in
+    made_again laws event read.draft hist (draft_fits event (pieces 58 5 (drop 5 (take (head_len text) text))) read.draft read.parts)
+    (made_so event (head_len text) (length text - length (behind_head text)) (tail_of text) read.draft hist read.ends)

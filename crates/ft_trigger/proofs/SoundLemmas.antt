@@ -33,6 +33,7 @@ use Rattle.ft_trigger.proofs.Drafts.{DraftFits, draft_fits}
 use Rattle.ft_trigger.proofs.ReadAgain.{Made, made_so, keys_of, words_of}
 use Rattle.ft_trigger.proofs.Keyed.{KeyFits, mode_suffix, find_passes}
 use Rattle.ft_trigger.proofs.Numerals.{number_parts}
+use Rattle.ft_trigger.proofs.ReadSo.{read_so}
 use Rattle.ft_trigger.proofs.Sorted.{index_parts}
 use Rattle.ft_trigger.proofs.Spellings.{bytes_same}
 use Rattle.ft_trigger.proofs.Valued.{ValueFits, hits, others_fit}
@@ -179,20 +180,10 @@ made_sound event draft hist h m =
 
 -- a trigger that some text gives is sound
 pub sound : (event : Name) (text : List ℕ) (hist : Hist) → trigger_of event text ≡ Ok hist → IsSound hist
-unfolding trigger_of
-sound event text hist e = made_sound event draft.0 hist (draft_fits event (pieces 58 5 (drop 5 head)) draft.0 draft.1) (made_so event (head_len text) place (tail_of text) draft.0 hist draft.2)
-  where
-    head : List ℕ
-    head = take (head_len text) text
-
-    place : ℕ
-    place = length text - length (behind_head text)
-
-    begins : (not (starts_with ◌==◌ head (codes "hist:")) ≡ false) × ((parts_from event blank (pieces 58 5 (drop 5 head)) >>= finished event (head_len text) place (tail_of text)) ≡ Ok hist)
-    begins = unless_parts (not (starts_with ◌==◌ head (codes "hist:"))) (Syntax 0) [] (parts_from event blank (pieces 58 5 (drop 5 head)) >>= finished event (head_len text) place (tail_of text)) hist e
-
-    draft : (d : Draft) × (parts_from event blank (pieces 58 5 (drop 5 head)) ≡ Ok d) × (finished event (head_len text) place (tail_of text) d ≡ Ok hist)
-    draft = then_parts (parts_from event blank (pieces 58 5 (drop 5 head))) (finished event (head_len text) place (tail_of text)) hist begins.1
+sound event text hist e =
+    let read = read_so event text hist e in
+    made_sound event read.draft hist (draft_fits event (pieces 58 5 (drop 5 (take (head_len text) text))) read.draft read.parts)
+    (made_so event (head_len text) (length text - length (behind_head text)) (tail_of text) read.draft hist read.ends)
 
 -- a draft whose steps are known is a trigger
 pub finished_is : (event : Name) (head place : ℕ) (tail : List ℕ) (draft : Draft) (keys : List KeyItem) (values : List Item) (sort : List SortItem) (size : ℕ) (filter : Option Tree)

@@ -42,7 +42,7 @@ abbrev pub Apart : List ℕ → Type 0
 Apart rest = is_in_name (slice_index rest 0) ≡ false
 
 -- what a name begins with stands in names
-begins_inside : (byte : ℕ) → begins_name byte ≡ true → is_in_name byte ≡ true
+pub begins_inside : (byte : ℕ) → begins_name byte ≡ true → is_in_name byte ≡ true
 begins_inside byte h = elim (or_cases (is_ascii_alphabetic byte) (byte == 95) h) [
   | inl letter ↦ or_left (is_ascii_alphanumeric byte) (byte == 95) (letter_inside letter)
   | inr line ↦ or_right (is_ascii_alphanumeric byte) (byte == 95) line
@@ -55,7 +55,7 @@ begins_inside byte h = elim (or_cases (is_ascii_alphabetic byte) (byte == 95) h)
     ]
 
 -- a run holds bytes that pass
-run_passes : (test : ℕ → Bool) (text : List ℕ) → list_all test (take (prefix_len test text) text) ≡ true
+pub run_passes : (test : ℕ → Bool) (text : List ℕ) → list_all test (take (prefix_len test text) text) ≡ true
 run_passes test [] = refl
 run_passes test (byte ∷ text) = from (run_passes test text) (test byte) refl
   where

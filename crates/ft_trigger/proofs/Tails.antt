@@ -20,10 +20,14 @@ use Rattle.ft_trigger.proofs.Edges.{Opens, Closes, Edged, filter_edged}
 use Rattle.ft_trigger.proofs.Inversions.{given_parts}
 use Rattle.ft_trigger.proofs.Separators.{is_seen}
 
--- the answers that the grammar of filters relates to texts
-pub record FilterLaws : Type 0 where
+-- the grammar of filters relates one answer to a text
+pub record OneFilter : Type 0 where
   pub some : (event : Name) (text : List ℕ) → FilterIs event text (filter_of event text)
   pub one : (event : Name) (text : List ℕ) (answer : Result Tree FilterFault) → FilterIs event text answer → answer ≡ filter_of event text
+
+-- and relates a tree's text to it
+pub record FilterLaws : Type 0 where
+  pub answers : OneFilter
   pub again : (event : Name) (text : List ℕ) (tree : Tree) → FilterIs event text (Ok tree) → FilterIs event (filter_text tree) (Ok tree)
 
 -- some text gives the tree
@@ -42,7 +46,7 @@ skip_gap : (text : List ℕ) → skip (32 ∷ text) ≡ skip text
 skip_gap text = rw one-add refl
 
 -- a text that no space and no tab begins
-skip_none : (byte : ℕ) (text : List ℕ) → is_gap byte ≡ false → skip (byte ∷ text) ≡ byte ∷ text
+pub skip_none : (byte : ℕ) (text : List ℕ) → is_gap byte ≡ false → skip (byte ∷ text) ≡ byte ∷ text
 skip_none byte text h = rw h refl
 
 -- a text that no space and no tab ends
@@ -73,12 +77,12 @@ behind_again text h =
     ap Some (skip_gap text ∙ kept)
 
 -- a filter behind `if` is read
-filter_step : (event : Name) (place : ℕ) (tail text : List ℕ) (tree : Tree) → (length tail == 0) ≡ false → behind_if tail ≡ Some text → filter_of event text ≡ Ok tree → filter_in event place tail ≡ Ok (Some tree)
+pub filter_step : (event : Name) (place : ℕ) (tail text : List ℕ) (tree : Tree) → (length tail == 0) ≡ false → behind_if tail ≡ Some text → filter_of event text ≡ Ok tree → filter_in event place tail ≡ Ok (Some tree)
 unfolding filter_in
 filter_step event place tail text tree some is gives = rw (some, is, gives) refl
 
 -- no filter is read of nothing
-filter_none : (event : Name) (place : ℕ) → filter_in event place [] ≡ Ok None
+pub filter_none : (event : Name) (place : ℕ) → filter_in event place [] ≡ Ok None
 unfolding filter_in
 filter_none event place = refl
 
@@ -86,8 +90,8 @@ module _ (laws : FilterLaws) where
   -- the tree's text gives it
   tree_again : (event : Name) (tree : Tree) → TreeFits event tree → (filter_of event (filter_text tree) ≡ Ok tree) × Edged (filter_text tree)
   tree_again event tree h =
-      let reads : FilterIs event h.text (Ok tree) = subst (FilterIs event h.text) h.gives (laws.some event h.text) in
-      (sym (laws.one event (filter_text tree) (Ok tree) (laws.again event h.text tree reads)), filter_edged event h.text tree reads)
+      let reads : FilterIs event h.text (Ok tree) = subst (FilterIs event h.text) h.gives (laws.answers.some event h.text) in
+      (sym (laws.answers.one event (filter_text tree) (Ok tree) (laws.again event h.text tree reads)), filter_edged event h.text tree reads)
 
   -- a filter's part is read
   pub filter_again : (event : Name) (place : ℕ) (filter : Option Tree) → If (TreeFits event) filter → filter_in event place (trimmed (if_text filter)) ≡ Ok filter

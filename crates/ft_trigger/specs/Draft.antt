@@ -3,6 +3,7 @@ use Rattle.std.specs.Prelude.{filter, option_map, ℕ, ◌+◌, ◌^◌, Bool, t
 use Rattle.std.specs.List.{list_any, starts_with, find}
 use Rattle.std.specs.Option.{option_map_or, is_some}
 use Rattle.std.specs.Str.{bytes_eq}
+use Rattle.std.specs.Str.Parse.{digits_value}
 use Rattle.ft_event.specs.declared.event.Name.{Name}
 use Rattle.ft_event.specs.declared.field.Field.{Field}
 use Rattle.ft_event.specs.Fields.{is_named, all_fields, is_text, text_of}
@@ -15,8 +16,8 @@ use Rattle.ft_trigger.specs.declared.draft.Kind.{Kind}
 use Rattle.ft_trigger.specs.declared.draft.Kind.TheVariants.{Keys, Values, Sort, Size}
 use Rattle.ft_hist.specs.declared.label.Var.{Var}
 use Rattle.ft_hist.specs.declared.label.Var.TheVariants as vars
-use Rattle.ft_hist.specs.Powers.{log2_of}
-use Rattle.ft_trigger.specs.Words.{Piece, pieces, Word, word_of, number_in}
+use Rattle.ft_hist.specs.Powers.{first_power}
+use Rattle.ft_trigger.specs.Words.{Piece, pieces, Word, word_of, is_number, number_in}
 use Rattle.ft_filter.specs.Tokens.{name_at}
 
 -- what has been read so far; a list that has not stood yet is none, and names are not yet resolved (our own choice)
@@ -151,9 +152,17 @@ with_sort words place word =
 
 -- ---- size
 
--- a size, rounded up to a power of 2; then it is from 128 to 131,072 (kernel: histogram.rst, `size`; that it is tested after rounding is our own choice)
+-- the least power of 2 that is not below a number (kernel: histogram.rst, `size`)
+unfoldable pub rounded : ℕ → ℕ
+rounded number = 2 ^ first_power number number 0
+
+-- a table may have this size (kernel: histogram.rst, `size`; the range is our own choice)
+abbrev pub is_size : ℕ → Bool
+is_size size = nat_le 128 size && nat_le size 131072
+
+-- the size that a text writes: its number, rounded up to a power of 2, where a table may have that (kernel: histogram.rst, `size`; that it is tested after rounding is our own choice)
 abbrev pub size_of : List ℕ → Option ℕ
-size_of text = option_map (λ size. 2 ^ log2_of size) (number_in 65 131072 text)
+size_of text = if is_number text && is_size (rounded (digits_value 10 text)) then Some (rounded (digits_value 10 text)) else None
 
 -- ---- variables
 

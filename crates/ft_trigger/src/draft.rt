@@ -26,8 +26,8 @@ const SAVED: &[u8] = b"common_timestamp.usecs";
 /// What stands in front of the name that is read.
 const SINCE: &[u8] = b"common_timestamp.usecs-$";
 
-/// The least number that is a size: it is rounded up to 128.
-const LEAST_SIZE: u32 = 65;
+/// The least size.
+const LEAST_SIZE: u32 = 128;
 
 /// The greatest size.
 const MOST_SIZE: u32 = 131_072;
@@ -118,7 +118,8 @@ impl<'a> Draft<'a> {
         kind: Kind,
         text: &Piece<'a>,
     ) -> Result<(), TriggerFault>
-        ensures { Leaves (with_kind event self.old kind text.now.place text.now.bytes) self.new result }
+        ensures { Leaves (with_kind event self.old kind text.now.place text.now.bytes)
+            self.new result }
     {
         match kind {
             Kind::Keys => self.add_keys(alloc, event, text),
@@ -131,7 +132,8 @@ impl<'a> Draft<'a> {
     /// Adds the list of keys.
     #[tactic(auto, unfolding(crate::specs::Draft::with_kind))]
     fn add_keys(&mut self, alloc: Global, event: Name, list: &Piece<'_>) -> Result<(), TriggerFault>
-        ensures { Leaves (with_kind event self.old Kind.Keys list.now.place list.now.bytes) self.new result }
+        ensures { Leaves (with_kind event self.old Kind.Keys list.now.place list.now.bytes)
+            self.new result }
     {
         if self.keys.is_some() {
             return Err(TriggerFault::Duplicate);
@@ -148,7 +150,8 @@ impl<'a> Draft<'a> {
         event: Name,
         list: &Piece<'a>,
     ) -> Result<(), TriggerFault>
-        ensures { Leaves (with_kind event self.old Kind.Values list.now.place list.now.bytes) self.new result }
+        ensures { Leaves (with_kind event self.old Kind.Values list.now.place list.now.bytes)
+            self.new result }
     {
         if self.values.is_some() {
             return Err(TriggerFault::Duplicate);
@@ -161,7 +164,8 @@ impl<'a> Draft<'a> {
     #[tactic(auto, unfolding(crate::specs::Draft::with_kind))]
     fn add_sort(&mut self, alloc: Global, list: &Piece<'a>) -> Result<(), TriggerFault>
         ensures { (event : Name) →
-            Leaves (with_kind event self.old Kind.Sort list.now.place list.now.bytes) self.new result }
+            Leaves (with_kind event self.old Kind.Sort list.now.place list.now.bytes)
+            self.new result }
     {
         if self.sort.is_some() {
             return Err(TriggerFault::Duplicate);
@@ -174,7 +178,8 @@ impl<'a> Draft<'a> {
     #[tactic(auto, unfolding(crate::specs::Draft::with_kind))]
     fn add_size(&mut self, text: &Piece<'_>) -> Result<(), TriggerFault>
         ensures { (event : Name) →
-            Leaves (with_kind event self.old Kind.Size text.now.place text.now.bytes) self.new result }
+            Leaves (with_kind event self.old Kind.Size text.now.place text.now.bytes)
+            self.new result }
     {
         if self.size.is_some() {
             return Err(TriggerFault::Duplicate);
@@ -301,14 +306,18 @@ fn kind_of(part: &[u8]) -> Option<(usize, Kind)>
     None
 }
 
-/// A size, rounded up to a power of 2.
+/// The size that a text writes: its number, rounded up to a power of 2. The greatest size is one,
+/// so no number above it is rounded.
 fn size_of(text: &[u8]) -> Option<u32>
     ensures value { result ≡ size_of text.now }
     ensures least { IfSome result (λ size. 128 ≤ size) }
     ensures most { IfSome result (λ size. size ≤ 131072) }
 {
-    let size = number_in(text, LEAST_SIZE, MOST_SIZE)?;
-    Some(size.next_power_of_two())
+    let size = number_in(text, 0, MOST_SIZE)?.next_power_of_two();
+    if size < LEAST_SIZE {
+        return None;
+    }
+    Some(size)
 }
 
 /// The value of a variable's part, where it is one.
@@ -327,7 +336,8 @@ fn stamp_of(value: &[u8]) -> Option<Stamp<'_>>
 
 /// The time since the stamp that a name saves, where it is a name.
 fn since(source: &[u8]) -> Option<Stamp<'_>>
-    ensures { option_map stamp_seen result ≡ (if is_name source.now then Some (Since source.now) else None) }
+    ensures { option_map stamp_seen result
+        ≡ (if is_name source.now then Some (Since source.now) else None) }
 {
     if is_name(source) {
         Some(Stamp::Since(source))

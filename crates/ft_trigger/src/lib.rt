@@ -4,6 +4,7 @@
 
 mod draft;
 mod fault;
+mod laws;
 mod lists;
 mod pieces;
 mod reading;
@@ -15,6 +16,9 @@ pub use fault::TriggerFault;
 pub use ft_hist::{
     Item, Key, KeyItem, Label, Mode, Part, SortBy, SortItem, Trigger, Var, Work, asked_events,
     equal_keys, fitting_parts, multiples, one_key_order, powers,
+};
+pub use laws::{
+    cuts, faults_stay, heads_first, one_list, one_tail, one_word, shapes, sizes, sound_triggers,
 };
 pub use reading::{one_answer, parse, reads_again};
 

@@ -48,7 +48,8 @@ pub(crate) fn keys_of(
 /// Adds one more key item.
 fn add_key(keys: &mut Vec<KeyItem>, event: Name, item: &Piece<'_>) -> Result<(), TriggerFault>
     ensures leaves { Leaves
-        (given_or (Syntax item.now.place) (word_of item.now.bytes) (with_key event keys.old.items item.now.place))
+        (given_or (Syntax item.now.place) (word_of item.now.bytes)
+        (with_key event keys.old.items item.now.place))
         keys.new.items result }
     ensures some { OnOk result (0 < length keys.new.items) }
     ensures few { OnOk result (length keys.new.items ≤ 3) }
@@ -102,7 +103,8 @@ fn with_field(
     suffix: Option<&[u8]>,
 ) -> Result<(), TriggerFault>
     requires { length keys.old.items < 3 }
-    ensures leaves { Leaves (with_field keys.old.items place field (option_copied suffix.entry)) keys.new.items result }
+    ensures leaves { Leaves (with_field keys.old.items place field (option_copied suffix.entry))
+        keys.new.items result }
     ensures some { OnOk result (0 < length keys.new.items) }
     ensures few { OnOk result (length keys.new.items ≤ 3) }
 {
@@ -214,7 +216,8 @@ fn add_value<'a>(
 ) -> Result<(), TriggerFault>
     requires { length (besides_hitcount words.old.items) ≤ 3 }
     ensures leaves { Leaves
-        (given_or (Syntax item.now.place) (word_of item.now.bytes) (with_value event words.old.items item.now.place))
+        (given_or (Syntax item.now.place) (word_of item.now.bytes)
+        (with_value event words.old.items item.now.place))
         words.new.items result }
     ensures few { OnOk result (length (besides_hitcount words.new.items) ≤ 3) }
 {
@@ -233,7 +236,8 @@ fn with_value<'a>(
     word: Word<'a>,
 ) -> Result<(), TriggerFault>
     requires { length (besides_hitcount words.old.items) ≤ 3 }
-    ensures leaves { Leaves (with_value event words.old.items place word.entry) words.new.items result }
+    ensures leaves { Leaves (with_value event words.old.items place word.entry)
+        words.new.items result }
     ensures few { OnOk result (length (besides_hitcount words.new.items) ≤ 3) }
 {
     if is_one_too_many(words, &word) {
@@ -250,7 +254,8 @@ fn with_value<'a>(
 
 /// Whether the word is no `hitcount`, and as many others stand already as a trigger may have.
 fn is_one_too_many(words: &[Word<'_>], word: &Word<'_>) -> bool
-    ensures { result ≡ (not (is_word word.now (codes "hitcount")) && nat_le 3 (length (besides_hitcount words.now))) }
+    ensures { result ≡ (not (is_word word.now (codes "hitcount"))
+        && nat_le 3 (length (besides_hitcount words.now))) }
 {
     !word.is(b"hitcount") && value_count(words) >= MOST_VALUES
 }
@@ -329,7 +334,8 @@ pub(crate) fn sort_of<'a>(alloc: Global, list: &Piece<'a>) -> Result<Vec<Word<'a
 /// Adds one more sort item.
 fn add_sort<'a>(words: &mut Vec<Word<'a>>, item: &Piece<'a>) -> Result<(), TriggerFault>
     ensures leaves { Leaves
-        (given_or (Syntax item.now.place) (word_of item.now.bytes) (with_sort words.old.items item.now.place))
+        (given_or (Syntax item.now.place) (word_of item.now.bytes)
+        (with_sort words.old.items item.now.place))
         words.new.items result }
     ensures some { OnOk result (0 < length words.new.items) }
     ensures few { OnOk result (length words.new.items ≤ 2) }
@@ -343,7 +349,8 @@ fn add_sort<'a>(words: &mut Vec<Word<'a>>, item: &Piece<'a>) -> Result<(), Trigg
 /// Adds a word as a sort item.
 #[tactic(auto, unfolding(crate::specs::Draft::with_sort))]
 fn with_sort<'a>(words: &mut Vec<Word<'a>>, word: Word<'a>) -> Result<(), TriggerFault>
-    ensures leaves { (place : ℕ) → Leaves (with_sort words.old.items place word.entry) words.new.items result }
+    ensures leaves { (place : ℕ) → Leaves (with_sort words.old.items place word.entry)
+        words.new.items result }
     ensures some { OnOk result (0 < length words.new.items) }
     ensures few { OnOk result (length words.new.items ≤ 2) }
 {

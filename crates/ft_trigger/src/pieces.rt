@@ -101,7 +101,8 @@ impl<'a> Pieces<'a> {
 
     /// The next piece, or `None` behind the last.
     pub(crate) fn next_piece(&mut self) -> Option<Piece<'a>>
-        ensures { MatchOption result ((self.old ≡ []) × (self.new ≡ [])) (λ piece. self.old ≡ piece ∷ self.new) }
+        ensures { MatchOption result ((self.old ≡ []) × (self.new ≡ []))
+            (λ piece. self.old ≡ piece ∷ self.new) }
     {
         let bytes = self.rest?;
         let place = self.place;

@@ -82,8 +82,10 @@ fn finished(
     tail: &[u8],
     draft: Draft<'_>,
 ) -> Result<Trigger, TriggerFault>
-    requires sound { (hist : Hist) → finished event head place tail.now draft ≡ Ok hist → IsSound hist }
-    ensures gives { Gives (λ trigger. trigger) (finished event head place tail.now draft.entry) result }
+    requires sound { (hist : Hist) → finished event head place tail.now draft ≡ Ok hist
+        → IsSound hist }
+    ensures gives { Gives (λ trigger. trigger)
+        (finished event head place tail.now draft.entry) result }
     ensures event { IfOk result (λ trigger. trigger.event ≡ event) }
     ensures memory { IfErr result (λ fault. fault ≢ TriggerFault.BadFilter FilterFault.Memory) }
 {

@@ -39,7 +39,8 @@ pub(crate) fn values_of(
 ) -> Result<Vec<Item>, TriggerFault>
     ensures gives { Gives (λ values. values.items)
         (values_of event (option_copied own.entry) (besides_hitcount words.now)) result }
-    ensures few { IfOk result (λ values. length values.items ≤ length (besides_hitcount words.now)) }
+    ensures few { IfOk result (λ values.
+        length values.items ≤ length (besides_hitcount words.now)) }
 {
     let mut values = Vec::new(alloc);
     for word in words {
@@ -101,9 +102,11 @@ pub(crate) fn sort_of(
 ) -> Result<Vec<SortItem>, TriggerFault>
     requires keys { length keys.now ≤ 3 }
     requires values { length values.now ≤ 3 }
-    requires words { IfSome words.now (λ words. (0 < length words.items) × (length words.items ≤ 2)) }
+    requires words { IfSome words.now (λ words.
+        (0 < length words.items) × (length words.items ≤ 2)) }
     ensures gives { Gives (λ sort. sort.items)
-        (sort_of keys.now values.now (option_copied own.entry) (option_map (λ words. words.items) words.now)) result }
+        (sort_of keys.now values.now (option_copied own.entry)
+        (option_map (λ words. words.items) words.now)) result }
     ensures some { IfOk result (λ sort. 0 < length sort.items) }
     ensures few { IfOk result (λ sort. length sort.items ≤ 2) }
 {
@@ -158,7 +161,8 @@ fn add_sort(
     descending: bool,
 ) -> Result<(), TriggerFault>
     ensures { Leaves (given_or BadSort what
-        (λ what. Ok (sort.old.items ++ record { what = what; descending = descending } ∷ []))) sort.new.items result }
+        (λ what. Ok (sort.old.items ++ record { what = what; descending = descending } ∷ [])))
+        sort.new.items result }
 {
     match what {
         Some(what) => keep(sort, SortItem { what, descending }),

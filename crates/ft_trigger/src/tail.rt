@@ -62,7 +62,8 @@ pub(crate) fn filter_in(
     place: usize,
     tail: &[u8],
 ) -> Result<Option<Filter>, TriggerFault>
-    ensures gives { Gives (option_map (λ filter. filter.tree)) (filter_in event place tail.now) result }
+    ensures gives { Gives (option_map (λ filter. filter.tree))
+        (filter_in event place tail.now) result }
     ensures event { IfOk result (λ found. IfSome found (λ filter. filter.event ≡ event)) }
     ensures memory { IfErr result (λ fault. fault ≢ TriggerFault.BadFilter FilterFault.Memory) }
 {

@@ -154,7 +154,8 @@ pub(crate) fn number_in(text: &[u8], least: u32, most: u32) -> Option<u32>
 /// The number that digits write, where it is not above the greatest.
 fn number_up_to(digits: &[u8], most: u32) -> Option<u32>
     requires digits { IsTrue (list_all is_ascii_digit digits.now) }
-    ensures { result ≡ if nat_le (digits_value 10 digits.now) most then Some (digits_value 10 digits.now) else None }
+    ensures { result ≡ if nat_le (digits_value 10 digits.now) most
+        then Some (digits_value 10 digits.now) else None }
 {
     let mut number: u64 = 0;
     for byte in digits {

@@ -8,7 +8,7 @@ fn key_of_event(alloc: Global, text: &str, event: &Event) -> Result<Option<Key>,
     Ok(trigger.hit_of(event, &mut Work::new()))
 }
 
-/// Whether the triggers of texts match, of which the first is on an event and the second on wakings.
+/// Whether the triggers of two texts match: the first is on an event, the second on wakings.
 fn match_of(alloc: Global, event: Name, reader: &str, saver: &str) -> Result<bool, TriggerFault> {
     let reader = parse(alloc, event, reader.as_bytes())?;
     let saver = parse(alloc, Name::Waking, saver.as_bytes())?;

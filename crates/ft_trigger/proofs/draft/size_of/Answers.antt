@@ -1,36 +1,33 @@
-use Rattle.std.proofs.Common.{◌≤◌, ◌<◌, ◌/◌, ◌^◌, arith, sym, ap, ◌∙◌, Some, subst, max}
-use Rattle.std.specs.Prelude.{option_map}
-use Rattle.ft_hist.specs.Powers.{log2_of}
-use Rattle.ft_trigger.proofs.Rounding.{next_power, next_power_least, next_power_most}
+use Rattle.std.proofs.Common.{◌≡◌, ℕ, Some, sym, ◌∙◌, arith}
+use Rattle.ft_trigger.specs.Draft.{rounded}
+use Rattle.ft_trigger.specs.Words.{number_in}
+use Rattle.ft_trigger.proofs.Numerals.{size_none, size_found, size_small, rounded_most}
+use Rattle.ft_trigger.proofs.Rounding.{rounded_of}
 use Rattle.ft_trigger.proofs.draft.size_of.Goals as goal
 
-pub next_power_of_two-requires : goal.next_power_of_two-requires
-next_power_of_two-requires c = let within = c.in_ok-size.ensures.within in omega arith
+pub returns-in_err-number_in-clause-value : goal.returns-in_err-number_in-clause-value
+returns-in_err-number_in-clause-value c =
+    c.from_residual.ensures ∙ sym (size_none c.args.text.now (sym c.number_in.ensures.value ∙ c.in_err-number_in.was))
+
+pub returns-then-size-lt-LEAST_SIZE-clause-value : goal.returns-then-size-lt-LEAST_SIZE-clause-value
+returns-then-size-lt-LEAST_SIZE-clause-value c =
+    let n = c.in_ok-number_in.field-0 in
+    let size = c.next_power_of_two-size in
+    let same = rounded_of n size.result size.ensures.power size.ensures.lower_bound size.ensures.upper_bound in
+    sym (size_small c.args.text.now n size.result (sym c.number_in.ensures.value ∙ c.in_ok-number_in.was) same (omega arith))
 
 pub returns-clause-value : goal.returns-clause-value
 returns-clause-value c =
-    let within = c.in_ok-size.ensures.within in
-    let k = c.next_power_of_two.ensures.power.0 in
-    let is = c.next_power_of_two.ensures.power.1 in
-    let high : c.in_ok-size.size ≤ 2 ^ k = subst (λ p. c.in_ok-size.size ≤ p) is c.next_power_of_two.ensures.lower_bound in
-    let half : 2 ^ k / 2 < c.in_ok-size.size = (let upper = subst (λ p. p / 2 < max 1 c.in_ok-size.size) is c.next_power_of_two.ensures.upper_bound in omega arith) in
-    let next = next_power c.in_ok-size.size k (omega arith) high half in
-    ap Some (is ∙ next) ∙ ap (option_map (λ size. 2 ^ log2_of size)) (sym c.in_ok-size.was ∙ c.number_in.ensures.value)
-
-pub returns-clause-least : goal.returns-clause-least
-returns-clause-least c =
-    let within = c.in_ok-size.ensures.within in
-    let k = c.next_power_of_two.ensures.power.0 in
-    let is = c.next_power_of_two.ensures.power.1 in
-    let high : c.in_ok-size.size ≤ 2 ^ k = subst (λ p. c.in_ok-size.size ≤ p) is c.next_power_of_two.ensures.lower_bound in
-    let least = next_power_least c.in_ok-size.size k (omega arith) high in
-    omega arith
+    let n = c.in_ok-number_in.field-0 in
+    let size = c.next_power_of_two-size in
+    let same = rounded_of n size.result size.ensures.power size.ensures.lower_bound size.ensures.upper_bound in
+    sym (size_found c.args.text.now n size.result (sym c.number_in.ensures.value ∙ c.in_ok-number_in.was) same (omega arith))
 
 pub returns-clause-most : goal.returns-clause-most
 returns-clause-most c =
-    let within = c.in_ok-size.ensures.within in
-    let k = c.next_power_of_two.ensures.power.0 in
-    let is = c.next_power_of_two.ensures.power.1 in
-    let half : 2 ^ k / 2 < c.in_ok-size.size = (let upper = subst (λ p. p / 2 < max 1 c.in_ok-size.size) is c.next_power_of_two.ensures.upper_bound in omega arith) in
-    let most = next_power_most c.in_ok-size.size k (omega arith) half in
+    let n = c.in_ok-number_in.field-0 in
+    let size = c.next_power_of_two-size in
+    let same = rounded_of n size.result size.ensures.power size.ensures.lower_bound size.ensures.upper_bound in
+    let within = c.in_ok-number_in.ensures.within in
+    let most = rounded_most n within.1 in
     omega arith

@@ -1,0 +1,19 @@
+-- Faults of a head's parts, and those that are found behind them (kernel: histogram.rst, hist triggers).
+use Rattle.std.specs.Prelude.{◌≡◌, ℕ, Bool, true, false, nat_le, List, Err}
+use Rattle.ft_event.specs.declared.event.Name.{Name}
+use Rattle.ft_trigger.specs.declared.fault.TriggerFault.{TriggerFault}
+use Rattle.ft_trigger.specs.declared.fault.TriggerFault.TheVariants.{Syntax, NoField, BadSort, BadFilter}
+use Rattle.ft_trigger.specs.Draft.{blank, parts_from}
+use Rattle.ft_trigger.specs.Words.{pieces}
+
+-- parts that stand behind `hist:` have this fault, read from the left (kernel: histogram.rst, hist triggers)
+abbrev pub PartsFail : Name → List ℕ → TriggerFault → Type 0
+PartsFail event parts fault = parts_from event blank (pieces 58 5 parts) ≡ Err fault
+
+-- a fault that may be found behind the parts of a head of so many bytes: no keys, a value or a sort item that names nothing, or the tail's (our own choice)
+abbrev pub is_late : ℕ → TriggerFault → Bool
+is_late head (Syntax place) = nat_le head place
+is_late head NoField = true
+is_late head BadSort = true
+is_late head (BadFilter fault) = true
+is_late head fault = false

@@ -1,0 +1,103 @@
+//! Laws on what triggers' texts are read as, apart from the steps that read them.
+
+ghost use Rattle.std.specs.Prelude.{◌≡◌, ◌↔◌, ◌+◌, ◌++◌, ℕ, false, codes, List, length, Option, Some, Result, Ok, Err};
+ghost use Rattle.ft_event.specs.declared.event.Name.{Name};
+ghost use Rattle.std.specs.List.{list_any};
+ghost use Rattle.ft_filter.specs.Tokens.{is_gap};
+ghost use Rattle.ft_filter.specs.Tree.{Tree};
+ghost use Rattle.ft_hist.specs.Hist.{Hist, IsWithin};
+ghost use Rattle.ft_hist.specs.Sound.{IsSound};
+ghost use Rattle.ft_trigger.specs.declared.fault.TriggerFault.{TriggerFault};
+ghost use Rattle.ft_trigger.specs.Draft.{size_of};
+ghost use Rattle.ft_trigger.specs.Spelling.{ArePieces, IsItem};
+ghost use Rattle.ft_trigger.specs.TriggerIs.{TriggerIs, filter_in};
+ghost use Rattle.ft_trigger.specs.Words.{Piece, pieces, Word, word_of};
+ghost use Rattle.ft_trigger.specs.PartFaults.{PartsFail, is_late};
+ghost use Rattle.ft_trigger.specs.Shape.{Cut, IsCut, TailIs, with_tail, IsShaped};
+ghost use Rattle.ft_trigger.specs.Sizes.{IsSize};
+
+/// A law: the size that a text writes is the least power of 2 that is not below its number, of any
+/// number of decimal digits, where that is from 128 to 131,072; any other text writes none.
+pub fn sizes()
+    ensures { (text : List ℕ) (size : ℕ) → (size_of text ≡ Some size) ↔ IsSize text size }
+{}
+
+/// A law: a trigger that some text gives is of the event that the text is read on, within the
+/// limits of triggers, and sound.
+pub fn sound_triggers()
+    ensures event { (event : Name) (text : List ℕ) (hist : Hist) → TriggerIs event text (Ok hist)
+        → hist.event ≡ event }
+    ensures within { (event : Name) (text : List ℕ) (hist : Hist) → TriggerIs event text (Ok hist)
+        → IsWithin hist }
+    ensures sound { (event : Name) (text : List ℕ) (hist : Hist) → TriggerIs event text (Ok hist)
+        → IsSound hist }
+{}
+
+/// A law: every text is a head, and then nothing, or a gap and a tail.
+pub fn cuts()
+    ensures { (text : List ℕ) → Cut text }
+{}
+
+/// A law: a tail says one thing, and that alone.
+pub fn one_tail()
+    ensures { (event : Name) (place : ℕ) (tail : List ℕ)
+        (answer : Result (Option Tree) TriggerFault)
+        → TailIs event place tail answer ↔ (filter_in event place tail ≡ answer) }
+{
+    ft_filter::one_answer();
+}
+
+/// A law: what a text is, its head tells first. It has each fault of its head, whatever its tail
+/// is; where the head alone is a trigger, it is that trigger with what the tail says.
+pub fn heads_first()
+    ensures fault { (event : Name) (text head gap tail end : List ℕ) (fault : TriggerFault)
+        → IsCut text head gap tail end → TriggerIs event head (Err fault)
+        → TriggerIs event text (Err fault) }
+    ensures tail { (event : Name) (text head gap tail end : List ℕ) (hist : Hist)
+        (answer : Result (Option Tree) TriggerFault)
+        → IsCut text head gap tail end → TriggerIs event head (Ok hist)
+        → TailIs event (length head + length gap) tail answer
+        → TriggerIs event text (with_tail hist answer) }
+{
+    ft_filter::one_answer();
+}
+
+/// A law: the text of a trigger is a head that begins with `hist:` and is the trigger without its
+/// filter, and then nothing and no filter, or a gap, `if`, a gap and the filter's text.
+pub fn shapes()
+    ensures { (event : Name) (text : List ℕ) (hist : Hist) → TriggerIs event text (Ok hist)
+        → IsShaped event text hist }
+{
+    ft_filter::one_answer();
+}
+
+/// A law: a fault of parts stays, whatever is behind them; a text has it with every tail, and has
+/// it whatever is behind the parts just where they have it. Any other fault of the text is one that
+/// is found behind its parts.
+pub fn faults_stay()
+    ensures stays { (event : Name) (parts more : List ℕ) (fault : TriggerFault)
+        → PartsFail event parts fault → PartsFail event (parts ++ codes ":" ++ more) fault }
+    ensures first { (event : Name) (text parts gap tail end : List ℕ) (fault : TriggerFault)
+        → IsCut text (codes "hist:" ++ parts) gap tail end → PartsFail event parts fault
+        → TriggerIs event text (Err fault) }
+    ensures just { (event : Name) (parts : List ℕ) (fault : TriggerFault)
+        → list_any is_gap parts ≡ false → PartsFail event parts fault
+        ↔ ((more : List ℕ)
+        → TriggerIs event (codes "hist:" ++ parts ++ codes ":" ++ more) (Err fault)) }
+    ensures early { (event : Name) (text parts gap tail end : List ℕ) (fault : TriggerFault)
+        → IsCut text (codes "hist:" ++ parts) gap tail end → TriggerIs event text (Err fault)
+        → is_late (length (codes "hist:" ++ parts)) fault ≡ false → PartsFail event parts fault }
+{}
+
+/// A law: a text is cut into pieces just where they make it: with a separator between each two and
+/// none in them, each at its place.
+pub fn one_list()
+    ensures { (separator place : ℕ) (text : List ℕ) (list : List Piece)
+        → (pieces separator place text ≡ list) ↔ ArePieces separator place text list }
+{}
+
+/// A law: an item is read as a word just where it is the word as it stands: a `$` or none, a name,
+/// and nothing or a `.` and one or more bytes.
+pub fn one_word()
+    ensures { (item : List ℕ) (word : Word) → (word_of item ≡ Some word) ↔ IsItem item word }
+{}
