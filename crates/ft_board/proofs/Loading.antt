@@ -3,7 +3,7 @@ use Rattle.std.proofs.Common.{◌≡◌, ℕ, ◌+◌, ◌<◌, ◌≤◌, zero,
 use Rattle.std.specs.List.{enumerate_from, AllByRecursion}
 use Rattle.std.specs.List as list
 use Rattle.std.specs.Ordering.{nat_cmp}
-use Rattle.std.specs.Cmp.{nat_cmp_total}
+use Rattle.std.specs.Cmp.{nat_cmp_total, unsigned_tied}
 use Rattle.std.specs.FinMap as map
 use Rattle.std.specs.FinMap.{FinMap, find, same_map, from_entries_push, nat_cmp-IsAntisymmetric}
 use Rattle.std.proofs.lemmas.Bool.{cases_eq, eq-eqb, ne_eqb, eqb-true, eqb-false, or_cases, or_parts, or_left, or_right}
@@ -14,7 +14,7 @@ use Rattle.ft_event.specs.Traced.{Traced}
 use Rattle.ft_board.specs.Base.{Lane, number_limit, event_limit}
 use Rattle.ft_board.specs.After.{lane_of, with_lanes, first_held}
 use Rattle.ft_board.specs.Filling.{new_lane, with_line, with_event, has_cpu, AgreeBeside, HasRoom}
-use Rattle.ft_board.proofs.Filling.{get-here, get-apart, gone-here, gone-apart, tie-eqb}
+use Rattle.ft_maps.specs.Entries.{get-insert_same, get-insert_other, get-remove_same, get-remove_other}
 
 abbrev Lanes : Type 0
 Lanes = FinMap nat_cmp Lane
@@ -32,9 +32,9 @@ room-next m e es h q is =
     let P : Option Lane → Type 0 = λ o. (unwrap_or o new_lane).next + length es ≤ number_limit + 1 in
     ⊎_elim
     (λ s.
-    let here : map.get (with_event m e) q ≡ Some (with_line (unwrap_or (map.get m q) new_lane) e) = ap (map.get (with_event m e)) s ∙ get-here m e.cpu _ ∙ ap (λ k. Some (with_line (unwrap_or (map.get m k) new_lane) e)) (sym s) in
+    let here : map.get (with_event m e) q ≡ Some (with_line (unwrap_or (map.get m q) new_lane) e) = ap (map.get (with_event m e)) s ∙ get-insert_same nat_cmp_total m e.cpu _ ∙ ap (λ k. Some (with_line (unwrap_or (map.get m k) new_lane) e)) (sym s) in
     subst P (sym here) (omega arith))
-    (λ ne. subst P (sym (get-apart m e.cpu _ q ne)) (omega arith))
+    (λ ne. subst P (sym (get-insert_other nat_cmp_total nat_cmp-IsAntisymmetric m e.cpu _ q ne)) (omega arith))
     (cases_eq q e.cpu)
 
 pub room-at : (m : Lanes) (es : List Traced) (i : ℕ) (d : Traced) → HasRoom m es → i < length es → (unwrap_or (map.get (fold with_event m (take i es)) (get_or es i d).cpu) new_lane).next ≤ number_limit
@@ -55,7 +55,7 @@ beside-at m [] (suc i) q away = refl
 beside-at m (e ∷ es) zero q away = refl
 beside-at m (e ∷ es) (suc i) q away =
     let apart = apart-from e es q away in
-    beside-at (with_event m e) es i q apart.1 ∙ get-apart m e.cpu _ q apart.0
+    beside-at (with_event m e) es i q apart.1 ∙ get-insert_other nat_cmp_total nat_cmp-IsAntisymmetric m e.cpu _ q apart.0
 
 -- ---- the lane that a list of events gives a CPU
 
@@ -87,7 +87,7 @@ enumerate_from-push n (x ∷ es) e =
 find-past : (n : ℕ) (es : List Traced) (k : ℕ) → n + length es ≤ k → find nat_cmp k (enumerate_from n es) ≡ None
 find-past n [] k past = refl
 find-past n (x ∷ es) k past =
-    ap (λ b. cond b (Some x) (find nat_cmp k (enumerate_from (n + 1) es))) (tie-eqb k n ∙ ne_eqb k n (λ s. omega arith))
+    ap (λ b. cond b (Some x) (find nat_cmp k (enumerate_from (n + 1) es))) (unsigned_tied k n ∙ ne_eqb k n (λ s. omega arith))
     ∙ find-past (n + 1) es k (omega arith)
 
 lane_from-push : (es : List Traced) (e : Traced) → lane_from (es ++ e ∷ []) ≡ with_line (lane_from es) e
@@ -137,7 +137,7 @@ lane_before lanes es cpu free false is = ap (λ o. unwrap_or o new_lane) free �
 lane_at-push : (lanes m : Lanes) (es : List Traced) (e : Traced) → map.get lanes e.cpu ≡ None → ((q : ℕ) → map.get m q ≡ lane_at lanes es q) → (q : ℕ) → map.get (with_event m e) q ≡ lane_at lanes (es ++ e ∷ []) q
 lane_at-push lanes m es e free now q =
     let here : map.get (with_event m e) e.cpu ≡ lane_at lanes (es ++ e ∷ []) e.cpu =
-    get-here m e.cpu (with_line (unwrap_or (map.get m e.cpu) new_lane) e)
+    get-insert_same nat_cmp_total m e.cpu (with_line (unwrap_or (map.get m e.cpu) new_lane) e)
     ∙ ap (λ l. Some (with_line l e)) (ap (λ o. unwrap_or o new_lane) (now e.cpu) ∙ lane_before lanes es e.cpu free _ refl)
     ∙ ap Some (sym (lane_of-here e.cpu es e refl))
     ∙ ap (λ b. cond b (Some (lane_of e.cpu (es ++ e ∷ []))) (map.get lanes e.cpu)) (sym (has_cpu-here es e)) in
@@ -145,7 +145,7 @@ lane_at-push lanes m es e free now q =
     (λ s. subst (λ k. map.get (with_event m e) k ≡ lane_at lanes (es ++ e ∷ []) k) (sym s) here)
     (λ ne.
     let other : e.cpu ≡ q → ⊥ = λ s. ne (sym s) in
-    get-apart m e.cpu _ q ne ∙ now q
+    get-insert_other nat_cmp_total nat_cmp-IsAntisymmetric m e.cpu _ q ne ∙ now q
     ∙ ap (λ l. cond (has_cpu es q) (Some l) (map.get lanes q)) (sym (lane_of-apart q es e other))
     ∙ ap (λ b. cond b (Some (lane_of q (es ++ e ∷ []))) (map.get lanes q)) (sym (has_cpu-apart es e q other)))
     (cases_eq q e.cpu)
@@ -170,11 +170,11 @@ each_lane all m (e ∷ es) q =
     each_lane all (map.insert m e.cpu (lane_of e.cpu all)) es q
     ∙ ⊎_elim
     (λ s.
-    ap (λ o. cond (has_cpu es q) (Some (lane_of q all)) o) (ap (map.get (map.insert m e.cpu (lane_of e.cpu all))) s ∙ get-here m e.cpu _ ∙ ap (λ k. Some (lane_of k all)) (sym s))
+    ap (λ o. cond (has_cpu es q) (Some (lane_of q all)) o) (ap (map.get (map.insert m e.cpu (lane_of e.cpu all))) s ∙ get-insert_same nat_cmp_total m e.cpu _ ∙ ap (λ k. Some (lane_of k all)) (sym s))
     ∙ cond-same (has_cpu es q) _
     ∙ ap (λ b. cond (b || has_cpu es q) (Some (lane_of q all)) (map.get m q)) (sym (eq-eqb e.cpu q (sym s))))
     (λ ne.
-    ap (λ o. cond (has_cpu es q) (Some (lane_of q all)) o) (get-apart m e.cpu _ q ne)
+    ap (λ o. cond (has_cpu es q) (Some (lane_of q all)) o) (get-insert_other nat_cmp_total nat_cmp-IsAntisymmetric m e.cpu _ q ne)
     ∙ ap (λ b. cond (b || has_cpu es q) (Some (lane_of q all)) (map.get m q)) (sym (ne_eqb e.cpu q (λ s. ne (sym s)))))
     (cases_eq q e.cpu)
 
@@ -234,11 +234,11 @@ remove-at m (e ∷ es) q =
     remove-at (map.remove m e.cpu) es q
     ∙ ⊎_elim
     (λ s.
-    ap (λ o. cond (has_cpu es q) None o) (ap (map.get (map.remove m e.cpu)) s ∙ gone-here m e.cpu)
+    ap (λ o. cond (has_cpu es q) None o) (ap (map.get (map.remove m e.cpu)) s ∙ get-remove_same nat_cmp_total m e.cpu)
     ∙ cond-same (has_cpu es q) None
     ∙ ap (λ b. cond (b || has_cpu es q) None (map.get m q)) (sym (eq-eqb e.cpu q (sym s))))
     (λ ne.
-    ap (λ o. cond (has_cpu es q) None o) (gone-apart m e.cpu q ne)
+    ap (λ o. cond (has_cpu es q) None o) (get-remove_other nat_cmp_total nat_cmp-IsAntisymmetric m e.cpu q ne)
     ∙ ap (λ b. cond (b || has_cpu es q) None (map.get m q)) (sym (ne_eqb e.cpu q (λ s. ne (sym s)))))
     (cases_eq q e.cpu)
 

@@ -5,7 +5,7 @@ use Rattle.std.specs.Option.{option_map_or}
 use Rattle.std.specs.Ordering.{nat_cmp}
 use Rattle.std.specs.Cmp.{nat_cmp_total}
 use Rattle.std.specs.FinMap as map
-use Rattle.std.specs.FinMap.{FinMap, get-empty, len-empty, len-insert}
+use Rattle.std.specs.FinMap.{FinMap, get-empty, len-empty, len-insert, nat_cmp-IsAntisymmetric}
 use Rattle.std.proofs.lemmas.Bool.{cases_eq}
 use Rattle.ft_event.specs.Traced.{Traced}
 use Rattle.ft_board.specs.declared.trigger.Trigger.{Trigger}
@@ -13,8 +13,7 @@ use Rattle.ft_board.specs.Base.{Lane, Base, empty_base, number_limit, event_limi
 use Rattle.ft_board.specs.After.{with_lanes, first_held}
 use Rattle.ft_board.specs.Reachable.{HasCpu, IsReachable}
 use Rattle.ft_board.specs.Filling.{new_lane, with_line, with_event, HasRoom}
-use Rattle.ft_board.proofs.SeenEntries.{entries-empty}
-use Rattle.ft_board.proofs.Filling.{get-here, get-apart}
+use Rattle.ft_maps.specs.Entries.{entries-empty, get-insert_same, get-insert_other}
 use Rattle.ft_board.proofs.Loading.{room-here, room-next, room-from, free-from, with_lanes-fold}
 use Rattle.ft_board.proofs.Held.{sum-insert}
 
@@ -47,10 +46,10 @@ with_line-IsLane cpu lane e is at room = record {
   lines = λ line event found.
       ⊎_elim
       (λ s.
-      let same : e ≡ event = same-Some e event (sym (ap (map.get (map.insert lane.events lane.next e)) s ∙ get-here lane.events lane.next e) ∙ found) in
+      let same : e ≡ event = same-Some e event (sym (ap (map.get (map.insert lane.events lane.next e)) s ∙ get-insert_same nat_cmp_total lane.events lane.next e) ∙ found) in
       (omega (arith, is.numbers.0), omega arith, ap (λ t. t.cpu) (sym same) ∙ at))
       (λ ne.
-      let old = is.lines line event (sym (get-apart lane.events lane.next e line ne) ∙ found) in
+      let old = is.lines line event (sym (get-insert_other nat_cmp_total nat_cmp-IsAntisymmetric lane.events lane.next e line ne) ∙ found) in
       (old.0, omega (arith, old.1), old.2))
       (cases_eq line lane.next);
 }
@@ -68,9 +67,9 @@ with_event-AreLanes lanes e are at room cpu lane is =
     let old = unwrap_or (map.get lanes e.cpu) new_lane in
     ⊎_elim
     (λ s.
-    let same : with_line old e ≡ lane = same-Some (with_line old e) lane (sym (ap (map.get (with_event lanes e)) s ∙ get-here lanes e.cpu (with_line old e)) ∙ is) in
+    let same : with_line old e ≡ lane = same-Some (with_line old e) lane (sym (ap (map.get (with_event lanes e)) s ∙ get-insert_same nat_cmp_total lanes e.cpu (with_line old e)) ∙ is) in
     subst (λ k. IsLane k lane) (sym s) (subst (IsLane e.cpu) same (with_line-IsLane e.cpu old e (lane-or_new lanes e.cpu are at) refl room)))
-    (λ ne. are cpu lane (sym (get-apart lanes e.cpu (with_line old e) cpu ne) ∙ is))
+    (λ ne. are cpu lane (sym (get-insert_other nat_cmp_total nat_cmp-IsAntisymmetric lanes e.cpu (with_line old e) cpu ne) ∙ is))
     (cases_eq cpu e.cpu)
 
 -- the next line of a lane is free, so an event more makes it one longer
@@ -144,7 +143,7 @@ attach-IsReachable base trigger is few ids = record {
   ids = λ id other found.
       ⊎_elim
       (λ s. (omega (arith, is.next_id.0), omega arith))
-      (λ ne. let old = is.ids id other (sym (get-apart base.triggers base.next_id trigger id ne) ∙ found) in (old.0, omega (arith, old.1)))
+      (λ ne. let old = is.ids id other (sym (get-insert_other nat_cmp_total nat_cmp-IsAntisymmetric base.triggers base.next_id trigger id ne) ∙ found) in (old.0, omega (arith, old.1)))
       (cases_eq id base.next_id);
   next_id = (omega arith, omega arith);
   few_events = is.few_events;

@@ -3,28 +3,24 @@ use Rattle.std.proofs.Common.{◌≡◌, ℕ, ◌+◌, ◌<◌, ◌≤◌, true,
 use Rattle.std.specs.Prelude.{IfSome, fold}
 use Rattle.std.specs.List.{AllByRecursion}
 use Rattle.std.specs.List.Sorted.{IsStrictlySortedBy}
-use Rattle.std.specs.declared.cmp.Ordering.{Ordering}
-use Rattle.std.specs.declared.cmp.Ordering.TheVariants.{Less, Equal, Greater}
+use Rattle.std.specs.declared.cmp.Ordering.TheVariants.{Less}
 use Rattle.std.specs.Ordering.{nat_cmp, is_eq, eq_by_cmp}
 use Rattle.std.specs.Cmp.{nat_cmp_total, eq_by_cmp_equiv}
 use Rattle.std.specs.Map.{keys_of}
-use Rattle.std.specs.BTreeMap.{BTreeMap, IsOrdered}
 use Rattle.std.specs.FinMap as map
 use Rattle.std.specs.FinMap.{FinMap, get-insert, get-empty, entries_sorted, nat_cmp-IsAntisymmetric}
 use Rattle.std.proofs.lemmas.Map.Keys.{sorted_head, sorted_tail}
 use Rattle.ft_event.specs.Traced.{Traced}
+use Rattle.ft_event.specs.Places.{pos_cmp}
 use Rattle.ft_event.specs.declared.pos.Pos.{Pos}
 use Rattle.ft_board.specs.declared.trigger.Trigger.{Trigger}
 use Rattle.ft_board.specs.declared.trigger.Key.{Key}
 use Rattle.ft_board.specs.Trigger.{size_of, hit, key_cmp}
 use Rattle.ft_board.specs.Base.{Base}
-use Rattle.ft_board.specs.Seen.{seen}
-use Rattle.ft_board.specs.Replay.{Tally, empty_tally, count, pos_cmp, merged, act, step, started, replay}
+use Rattle.ft_maps.specs.Entries.{entries-empty, strictly_sorted, same_from_tie}
+use Rattle.ft_board.specs.Replay.{Tally, empty_tally, count, merged, act, step, started, replay}
 use Rattle.ft_board.specs.Turns.{turns_of, turn_limit, IsBelow, AreBelow}
-use Rattle.ft_board.proofs.Orders.{pos_total}
-use Rattle.ft_board.proofs.SeenEntries.{entries-empty, entries-seen}
 pub use Rattle.ft_board.proofs.Counting.{turns-count}
-use Rattle.ft_board.proofs.Counting.{strictly_sorted}
 
 -- ---- the three outcomes of an event at a trigger
 
@@ -41,11 +37,6 @@ unfolding act
 act-hit event state id trigger key tally is has = rw (is, has) refl
 
 -- ---- bounds
-
-is_equal : (o : Ordering) → is_eq o ≡ true → o ≡ Equal
-is_equal Less e = cc
-is_equal Equal e = refl
-is_equal Greater e = cc
 
 pub below_more : (n : ℕ) (state : FinMap nat_cmp Tally) (id : ℕ) → IsBelow n state id → (m : ℕ) → n ≤ m → IsBelow m state id
 below_more n state id h m le = elim (map.get state id) as (λ o. IfSome o (λ tally. turns_of tally < n) → IfSome o (λ tally. turns_of tally < m)) [ None ↦ λ _. tt | Some tally ↦ λ h. omega arith ] h
@@ -105,7 +96,7 @@ module _ (event : Traced) where
   below_act : (n : ℕ) (state : FinMap nat_cmp Tally) (e : ℕ × Trigger) → IsBelow n state e.0 → AreBelow (n + 1) state → AreBelow (n + 1) (act event state e)
   below_act n state e own all q =
       elim (eq_by_cmp nat_cmp q e.0) as (λ b. eq_by_cmp nat_cmp q e.0 ≡ b → IsBelow (n + 1) (act event state e) q) [
-        | true ↦ λ at. subst (λ id. IsBelow (n + 1) (act event state e) id) (sym (nat_cmp-IsAntisymmetric q e.0 (is_equal _ at))) (act-own n state e own)
+        | true ↦ λ at. subst (λ id. IsBelow (n + 1) (act event state e) id) (sym (same_from_tie nat_cmp-IsAntisymmetric q e.0 at)) (act-own n state e own)
         | false ↦ λ apart. subst (λ (o : Option Tally). IfSome o (λ t. turns_of t < n + 1)) (sym (act-other state e q apart)) (all q)
       ] refl
 
@@ -143,20 +134,19 @@ pub started_below : (triggers : FinMap nat_cmp Trigger) → AreBelow 1 (started 
 unfolding started
 started_below triggers = below_started map.empty (map.entries triggers) (λ id. subst (λ (o : Option Tally). IfSome o (λ t. turns_of t < 1)) (sym (get-empty {X = Tally} nat_cmp id)) tt)
 
--- ---- over the entries of trees
+-- ---- the folds that are walked
 
-pub started_tree : (triggers : BTreeMap ℕ Trigger) → IsOrdered nat_cmp triggers → fold with_empty map.empty triggers.entries ≡ started (seen nat_cmp triggers)
+pub started-fold : (triggers : FinMap nat_cmp Trigger) → fold with_empty map.empty (map.entries triggers) ≡ started triggers
 unfolding started
-started_tree triggers sorted = ap (fold with_empty map.empty) (sym (entries-seen nat_cmp_total triggers sorted))
+started-fold triggers = refl
 
-pub step_tree : (triggers : BTreeMap ℕ Trigger) → IsOrdered nat_cmp triggers → (state : FinMap nat_cmp Tally) (entry : Pos × Traced) → fold (act entry.1) state triggers.entries ≡ step (seen nat_cmp triggers) state entry
+pub step-fold : (triggers : FinMap nat_cmp Trigger) (state : FinMap nat_cmp Tally) (entry : Pos × Traced) → fold (act entry.1) state (map.entries triggers) ≡ step triggers state entry
 unfolding step
-step_tree triggers sorted state entry = ap (fold (act entry.1) state) (sym (entries-seen nat_cmp_total triggers sorted))
+step-fold triggers state entry = refl
 
--- from a merged tree
-pub replay_tree : (base : Base) (tree : BTreeMap Pos Traced) → IsOrdered pos_cmp tree → seen pos_cmp tree ≡ merged base → fold (step base.triggers) (started base.triggers) tree.entries ≡ replay base
+pub replay-fold : (base : Base) (m : FinMap pos_cmp Traced) → m ≡ merged base → fold (step base.triggers) (started base.triggers) (map.entries m) ≡ replay base
 unfolding replay
-replay_tree base tree sorted is = ap (fold (step base.triggers) (started base.triggers)) (sym (entries-seen pos_total tree sorted) ∙ ap map.entries is)
+replay-fold base m is = ap (λ (n : FinMap pos_cmp Traced). fold (step base.triggers) (started base.triggers) (map.entries n)) is
 
 -- how the turns of a table grow
 pub ruleset turning = (turns-count, empty_turns)

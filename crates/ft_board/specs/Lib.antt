@@ -4,7 +4,6 @@ pub mod Cut
 pub mod Trigger
 pub mod Base
 pub mod Codes
-pub mod Seen
 pub mod Filling
 pub mod After
 pub mod Replay
@@ -15,9 +14,11 @@ pub mod CountCode
 pub mod Turns
 pub mod Reachable
 pub use Rattle.ft_event.specs.Traced
+pub use Rattle.ft_event.specs.Places
 pub use Rattle.ft_event.specs.Line
 pub use Rattle.ft_event.specs.LineFault
 pub use Rattle.ft_filter.specs.FilterFault
 pub use Rattle.ft_filter.specs.Tree
 pub use Rattle.ft_filter.specs.Answers
 pub use Rattle.ft_filter.specs.Holds
+pub use Rattle.ft_maps.specs.Seen

@@ -3,9 +3,10 @@ use Rattle.std.specs.Prelude.{ℕ, fold}
 use Rattle.std.specs.FinMap as map
 use Rattle.std.specs.FinMap.{FinMap}
 use Rattle.ft_event.specs.Traced.{Traced}
+use Rattle.ft_event.specs.Places.{pos_cmp}
 use Rattle.ft_event.specs.declared.pos.Pos.{Pos}
 use Rattle.ft_board.specs.Base.{Lane}
-use Rattle.ft_board.specs.Replay.{pos_cmp, placed}
+use Rattle.ft_board.specs.Replay.{placed}
 
 -- the merged events with one more at its place (our own choice)
 abbrev pub with_event : FinMap pos_cmp Traced → Pos × Traced → FinMap pos_cmp Traced

@@ -5,7 +5,7 @@ ghost use Rattle.std.specs.List.{flat_map};
 ghost use Rattle.std.specs.Ordering.{nat_cmp};
 ghost use Rattle.std.specs.FinMap as map;
 ghost use Rattle.ft_board.specs.Base.{Base};
-ghost use Rattle.ft_board.specs.Seen.{seen};
+ghost use Rattle.ft_maps.specs.Seen.{seen};
 ghost use Rattle.ft_board.specs.After.{AnswerIs};
 ghost use Rattle.ft_board.specs.Replay.{replay, empty_tally};
 ghost use Rattle.ft_board.specs.Turns.{turns_of, turn_limit};
@@ -17,6 +17,7 @@ use crate::replay::replayed;
 use crate::rows::{Count, rows};
 use crate::tally::Tally;
 use crate::trigger::Trigger;
+use ft_maps::get;
 use itoa::Buffer;
 use std::alloc::{AllocError, Global};
 use std::collections::{BTreeMap, BTreeSet};
@@ -122,7 +123,7 @@ fn replayed_text(
         text.items ≡ table_text trigger.now (unwrap_or (map.get state id) empty_tally)) }
 {
     let state = replayed(alloc, lanes, triggers)?;
-    match state.get(&id) {
+    match get(&state, &id) {
         Some(tally) => table_text(alloc, trigger, tally),
         None => table_text(alloc, trigger, &Tally::new(alloc)),
     }
@@ -143,7 +144,7 @@ pub(crate) fn hist_of(
         let base : Base = record { lanes = seen nat_cmp lanes.now; triggers = seen nat_cmp triggers.now; next_id = next_id } in
         AnswerIs (λ text. text.items) (hist_text base id) result }
 {
-    let Some(trigger) = triggers.get(&id) else {
+    let Some(trigger) = get(triggers, &id) else {
         return Err(Refused::NoTrigger);
     };
     match replayed_text(alloc, lanes, triggers, id, trigger) {

@@ -4,7 +4,7 @@ ghost use Rattle.std.specs.Prelude.{◌≡◌, ◌≤◌, length, unwrap_or, fol
 ghost use Rattle.std.specs.List.{AllByRecursion};
 ghost use Rattle.std.specs.Ordering.{nat_cmp};
 ghost use Rattle.std.specs.FinMap as map;
-ghost use Rattle.ft_board.specs.Seen.{seen};
+ghost use Rattle.ft_maps.specs.Seen.{seen};
 ghost use Rattle.ft_board.specs.Base.{number_limit, event_limit};
 ghost use Rattle.ft_board.specs.After.{first_held, with_lanes};
 ghost use Rattle.ft_board.specs.Reachable.{HasCpu};
@@ -12,17 +12,9 @@ ghost use Rattle.ft_board.specs.Filling.{new_lane, with_line, with_event, AgreeB
 
 use crate::lane::Lane;
 use ft_event::Event;
+use ft_maps::{put, take};
 use std::alloc::{AllocError, Global};
 use std::collections::BTreeMap;
-
-/// Puts a lane at a CPU. Refused for memory.
-fn put_lane(lanes: &mut BTreeMap<u16, Lane>, cpu: u16, lane: Lane) -> Result<(), AllocError>
-    ensures ok { OnOk result (seen nat_cmp lanes.new ≡ map.insert (seen nat_cmp lanes.old) cpu lane) }
-    ensures err { OnErr result (seen nat_cmp lanes.new ≡ seen nat_cmp lanes.old) }
-{
-    lanes.insert(cpu, lane)?;
-    Ok(())
-}
 
 /// Adds an event to the lane of a CPU, which is made where there is none. Refused for memory.
 fn push_in(
@@ -41,7 +33,7 @@ fn push_in(
         None => {
             let mut lane = Lane::new(alloc);
             lane.push(event)?;
-            put_lane(lanes, cpu, lane)
+            put(lanes, cpu, lane)
         }
     }
 }
@@ -67,7 +59,7 @@ fn remove_all(lanes: &mut BTreeMap<u16, Lane>, events: &[Event])
     ensures { seen nat_cmp lanes.new ≡ fold (λ m e. map.remove m e.cpu) (seen nat_cmp lanes.old) events.now }
 {
     for event in events {
-        lanes.remove(&event.cpu);
+        take(lanes, &event.cpu);
     }
 }
 

@@ -3,7 +3,7 @@
 ghost use Rattle.std.specs.Prelude.{◌≡◌, ℕ, IfOk, OnOk};
 ghost use Rattle.std.specs.Ordering.{nat_cmp};
 ghost use Rattle.ft_event.specs.declared.pos.Pos.{Pos};
-ghost use Rattle.ft_board.specs.Seen.{seen};
+ghost use Rattle.ft_maps.specs.Seen.{seen};
 ghost use Rattle.ft_board.specs.Replay.{replay, started, step, act};
 ghost use Rattle.ft_board.specs.Turns.{IsBelow, AreBelow, turn_limit};
 
@@ -12,6 +12,7 @@ use crate::merge::merged_events;
 use crate::tally::Tally;
 use crate::trigger::Trigger;
 use ft_event::Event;
+use ft_maps::{entries, put};
 use std::alloc::{AllocError, Global};
 use std::collections::BTreeMap;
 
@@ -27,7 +28,7 @@ pub(crate) fn replayed(
 {
     let merged = merged_events(alloc, lanes)?;
     let mut state = started(alloc, triggers)?;
-    for (_, event) in merged.iter() {
+    for (_, event) in entries(&merged) {
         step(triggers, &mut state, event)?;
     }
     Ok(state)
@@ -41,8 +42,8 @@ fn started(
     ensures { IfOk result (λ state. seen nat_cmp state ≡ started (seen nat_cmp triggers.now)) }
 {
     let mut state = BTreeMap::new(alloc);
-    for (id, _) in triggers.iter() {
-        state.insert(*id, Tally::new(alloc))?;
+    for (id, _) in entries(triggers) {
+        put(&mut state, *id, Tally::new(alloc))?;
     }
     Ok(state)
 }
@@ -57,7 +58,7 @@ fn step(
     ensures { OnOk result ((pos : Pos) →
         seen nat_cmp state.new ≡ step (seen nat_cmp triggers.now) (seen nat_cmp state.old) (pos, event.now)) }
 {
-    for (id, trigger) in triggers.iter() {
+    for (id, trigger) in entries(triggers) {
         act(event, state, *id, trigger)?;
     }
     Ok(())

@@ -3,12 +3,13 @@
 ghost use Rattle.std.specs.Prelude.{◌≡◌, ℕ, ◌+◌, ◌<◌, if◌then◌else◌, sum, IfOk, OnOk};
 ghost use Rattle.std.specs.FinMap as map;
 ghost use Rattle.ft_board.specs.Trigger.{key_cmp};
-ghost use Rattle.ft_board.specs.Seen.{seen};
+ghost use Rattle.ft_maps.specs.Seen.{seen};
 ghost use Rattle.ft_board.specs.Replay.{empty_tally, count};
 ghost use Rattle.ft_board.specs.Hist.{hits_of};
 ghost use Rattle.ft_board.specs.Turns.{turns_of, turn_limit};
 
 use crate::trigger::Key;
+use ft_maps::{len, put};
 use std::alloc::{AllocError, Global};
 use std::collections::BTreeMap;
 use std::marker::Model;
@@ -22,7 +23,7 @@ pub(crate) struct Tally {
 
 impl Model for Tally {
     ghost use Rattle.ft_board.specs.Trigger.{key_cmp};
-    ghost use Rattle.ft_board.specs.Seen.{seen};
+    ghost use Rattle.ft_maps.specs.Seen.{seen};
     ghost use Rattle.ft_board.specs.Replay.{Tally as Counted};
     ghost use Rattle.ft_board.specs.TallyCode.{tally_code};
 
@@ -74,7 +75,7 @@ impl Tally {
     pub(crate) fn entries(&self) -> usize
         ensures { result ≡ map.len self.now.table }
     {
-        self.table.len()
+        len(&self.table)
     }
 
     /// How many hits found no room.
@@ -96,9 +97,9 @@ fn count_in(table: &mut BTreeMap<Key, u64>, size: u32, key: Key) -> Result<bool,
         *hits += 1;
         return Ok(true);
     }
-    if table.len() >= size as usize {
+    if len(table) >= size as usize {
         return Ok(false);
     }
-    table.insert(key, 1)?;
+    put(table, key, 1)?;
     Ok(true)
 }

@@ -4,13 +4,16 @@
 //! apart than the tree does.
 #![tactic(auto)]
 
-ghost use Rattle.std.specs.Prelude.{◌≡◌, OnOk, OnErr};
+ghost use Rattle.std.specs.Prelude.{◌≡◌, ◌<◌, ◌^◌, length, OnOk, OnErr};
+ghost use Rattle.std.specs.Option.{option_copied};
+ghost use Rattle.std.specs.Map.Iter.{ShowsInOrder, deref_pair};
 ghost use Rattle.std.specs.FinMap as finite;
 ghost use Rattle.std.specs.FinMap.{IsAntisymmetric};
 ghost use Rattle.ft_maps.specs.Seen.{seen};
 
 use std::alloc::AllocError;
 use std::collections::BTreeMap;
+use std::collections::btree_map::Iter;
 
 /// Puts a value at a key, in place of what the key had. Refused for memory, and then the map is as
 /// it was.
@@ -40,6 +43,23 @@ pub fn len<K: Ord, V>(map: &BTreeMap<K, V>) -> usize
     ensures { result ≡ finite.len (seen K.cmp map.now) }
 {
     map.len()
+}
+
+/// The value of a key.
+pub fn get<'a, K: Ord, V>(map: &'a BTreeMap<K, V>, key: &K) -> Option<&'a V>
+    ensures { option_copied result ≡ finite.get (seen K.cmp map.now) key.now }
+{
+    map.get(key)
+}
+
+/// The keys with their values, in order.
+pub fn entries<K: Ord, V>(map: &BTreeMap<K, V>) -> Iter<'_, K, V>
+    ensures rest { result ≡ finite.entries (seen K.cmp map.now) }
+    ensures fits { length result < 2 ^ 63 }
+    // A loop takes them from the front.
+    ensures runs { ShowsInOrder (deref_pair {K = K} {X = V}) }
+{
+    map.iter()
 }
 
 #[cfg(test)]

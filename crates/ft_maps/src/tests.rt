@@ -15,12 +15,20 @@ fn numbers_as_keys(rt: HostRuntime) -> Result<(), Fail> {
     put(&mut map, 3, 30)?;
     put(&mut map, 7, 71)?;
     assert_eq!(rt;
-        (len(&map), map.get(&3), map.get(&7)),
+        (len(&map), get(&map, &3), get(&map, &7)),
         (2, Some(&30), Some(&71))
     );
+    let mut keys = Vec::new(rt.alloc());
+    for (key, _) in entries(&map) {
+        keys.push(*key)?;
+    }
+    assert_eq!(rt; keys.as_slice(), [3, 7].as_slice());
     take(&mut map, &3);
     take(&mut map, &5);
-    assert_eq!(rt; (len(&map), map.get(&3), map.get(&7)), (1, None, Some(&71)));
+    assert_eq!(rt;
+        (len(&map), get(&map, &3), get(&map, &7)),
+        (1, None, Some(&71))
+    );
     Ok(())
 }
 
@@ -32,12 +40,12 @@ fn structs_as_keys(rt: HostRuntime) -> Result<(), Fail> {
     put(&mut map, right, 20)?;
     put(&mut map, left, 10)?;
     assert_eq!(rt;
-        (len(&map), map.get(&left), map.get(&right)),
+        (len(&map), get(&map, &left), get(&map, &right)),
         (2, Some(&10), Some(&20))
     );
     take(&mut map, &left);
     assert_eq!(rt;
-        (len(&map), map.get(&left), map.get(&right)),
+        (len(&map), get(&map, &left), get(&map, &right)),
         (1, None, Some(&20))
     );
     Ok(())

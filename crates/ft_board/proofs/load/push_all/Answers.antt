@@ -4,7 +4,7 @@ use Rattle.std.specs.Ordering.{nat_cmp}
 use Rattle.std.specs.FinMap as map
 use Rattle.std.specs.FinMap.{FinMap}
 use Rattle.std.proofs.lemmas.Result.{err_from_is_err_and}
-use Rattle.ft_board.specs.Seen.{seen}
+use Rattle.ft_maps.specs.Seen.{seen}
 use Rattle.ft_board.specs.Base.{Lane, number_limit}
 use Rattle.ft_board.specs.Filling.{new_lane, with_event, AgreeBeside}
 use Rattle.ft_board.proofs.Loading.{room-at, beside-at}

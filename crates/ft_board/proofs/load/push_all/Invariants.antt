@@ -1,6 +1,6 @@
 use Rattle.std.proofs.Common.{◌≡◌, take, fold}
 use Rattle.std.specs.Ordering.{nat_cmp}
-use Rattle.ft_board.specs.Seen.{seen}
+use Rattle.ft_maps.specs.Seen.{seen}
 use Rattle.ft_board.specs.Filling.{with_event}
 use Rattle.ft_board.proofs.load.push_all.Given as goal
 

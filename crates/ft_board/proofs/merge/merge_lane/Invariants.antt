@@ -1,6 +1,6 @@
 use Rattle.std.proofs.Common.{◌≡◌}
-use Rattle.ft_board.specs.Seen.{seen}
-use Rattle.ft_board.specs.Replay.{pos_cmp}
+use Rattle.ft_maps.specs.Seen.{seen}
+use Rattle.ft_event.specs.Places.{pos_cmp}
 use Rattle.ft_board.specs.Merge.{with_lane}
 use Rattle.ft_board.proofs.Merging.{with_lines}
 use Rattle.ft_board.proofs.merge.merge_lane.Given as goal

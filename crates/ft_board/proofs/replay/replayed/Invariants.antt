@@ -1,7 +1,7 @@
 use Rattle.std.proofs.Common.{◌≡◌, ◌+◌, length}
 use Rattle.std.specs.Prelude.{fold}
 use Rattle.std.specs.Ordering.{nat_cmp}
-use Rattle.ft_board.specs.Seen.{seen}
+use Rattle.ft_maps.specs.Seen.{seen}
 use Rattle.ft_board.specs.Replay.{started, step}
 use Rattle.ft_board.specs.Turns.{AreBelow}
 use Rattle.ft_board.proofs.replay.replayed.Given as goal
