@@ -1,18 +1,26 @@
 -- Counting a hit, and how many hits a table has seen.
-use Rattle.std.proofs.Common.{◌≡◌, ℕ, ◌+◌, ◌<◌, ◌≤◌, ◌^◌, true, false, List, refl, subst, arith, Some, None, Option, sum, nat_lt, unwrap_or}
-use Rattle.std.specs.Prelude.{◌||◌, if◌then◌else◌}
-use Rattle.std.specs.Option.{option_map_or}
-use Rattle.std.specs.Map.{values_of}
+use Rattle.std.proofs.Common.{◌≡◌, ℕ, ◌+◌, ◌<◌, ◌≤◌, ◌^◌, Bool, true, false, cond, T, List, [], ◌∷◌, map as list_map, refl, sym, ap, subst, ◌∙◌, arith, Some, None, Option, sum, nat_lt, unwrap_or, IsSome}
+use Rattle.std.specs.Prelude.{◌&&◌, ◌||◌, if◌then◌else◌}
+use Rattle.std.specs.Option.{option_map_or, is_some}
+use Rattle.std.specs.List.{AllByRecursion, sum_by}
+use Rattle.std.specs.List.Sorted.{IsStrictlySortedBy}
+use Rattle.std.specs.declared.cmp.Ordering.{Ordering}
+use Rattle.std.specs.declared.cmp.Ordering.TheVariants.{Less, Equal, Greater}
+use Rattle.std.specs.Ordering.{is_lt}
+use Rattle.std.specs.Cmp.{IsTotalOrder}
+use Rattle.std.specs.Map.{lookup, keys_of, values_of}
 use Rattle.std.specs.BTreeMap as tree
-use Rattle.std.specs.BTreeMap.{BTreeMap, is_at}
+use Rattle.std.specs.BTreeMap.{BTreeMap, is_at, insert_entry}
 use Rattle.std.specs.FinMap as map
-use Rattle.std.specs.FinMap.{FinMap}
+use Rattle.std.specs.FinMap.{FinMap, find, put, is_sorted, entries-insert, entries_sorted, get-entries}
+use Rattle.std.proofs.lemmas.Map.Entries.{sum_by-insert_entry}
 use Rattle.std.proofs.lemmas.Map.Steps.{lookup-le-sum}
+use Rattle.std.proofs.lemmas.Iterator.Adapters.{option_map_id}
 use Rattle.ft_board.specs.declared.trigger.Key.{Key}
 use Rattle.ft_board.specs.Trigger.{key_cmp}
 use Rattle.ft_maps.specs.Seen.{seen, values-seen}
 use Rattle.ft_board.specs.Replay.{Tally, count}
-use Rattle.ft_board.specs.Turns.{turns_of, turn_limit}
+use Rattle.ft_board.specs.Counters.{counted_of, counter_limit}
 use Rattle.ft_board.proofs.Orders.{key_total}
 use Rattle.ft_board.proofs.Held.{sum-insert}
 
@@ -33,10 +41,10 @@ count-full size key table dropped new full = rw (new, full) refl
 -- ---- a table that is a tree
 
 -- one more hit of a key fits its counter
-pub value-fits : (m : BTreeMap Key ℕ) → tree.IsOrdered key_cmp m → (key : Key) (n : ℕ) → tree.get key_cmp m key ≡ Some n → sum (map.values (seen key_cmp m)) < turn_limit → n + 1 < 2 ^ 64
+pub value-fits : (m : BTreeMap Key ℕ) → tree.IsOrdered key_cmp m → (key : Key) (n : ℕ) → tree.get key_cmp m key ≡ Some n → sum (map.values (seen key_cmp m)) < counter_limit → n + 1 < 2 ^ 64
 value-fits m sorted key n is few =
     let at : n ≤ sum (values_of m.entries) = subst (λ (o : Option ℕ). unwrap_or o 0 ≤ sum (values_of m.entries)) is (lookup-le-sum (is_at (key_cmp key)) m.entries) in
-    let few_values : sum (values_of m.entries) < turn_limit = subst (λ (ns : List ℕ). sum ns < turn_limit) (values-seen key_total m sorted) few in
+    let few_values : sum (values_of m.entries) < counter_limit = subst (λ (ns : List ℕ). sum ns < counter_limit) (values-seen key_total m sorted) few in
     omega arith
 
 -- ---- how many hits a table has seen
@@ -52,11 +60,11 @@ sum-hit m key =
     let was = had (map.get m key) in
     omega (arith, both, was)
 
--- a hit is one more turn, counted or dropped
-pub turns-count : (size : ℕ) (key : Key) (tally : Tally) → turns_of (count size key tally) ≡ turns_of tally + 1
+-- a hit counts once more, in the table or as dropped
+pub counted-count : (size : ℕ) (key : Key) (tally : Tally) → counted_of (count size key tally) ≡ counted_of tally + 1
 unfolding count
-turns-count size key tally =
-    elim (map.contains_key tally.table key || nat_lt (map.len tally.table) size) as (λ b. turns_of (if b then record tally { table = map.insert tally.table key (unwrap_or (map.get tally.table key) 0 + 1) } else record tally { dropped = tally.dropped + 1 }) ≡ turns_of tally + 1) [
+counted-count size key tally =
+    elim (map.contains_key tally.table key || nat_lt (map.len tally.table) size) as (λ b. counted_of (if b then record tally { table = map.insert tally.table key (unwrap_or (map.get tally.table key) 0 + 1) } else record tally { dropped = tally.dropped + 1 }) ≡ counted_of tally + 1) [
       | true ↦ omega (arith, sum-hit tally.table key)
       | false ↦ omega arith
     ]

@@ -13,7 +13,7 @@ use Rattle.std.proofs.lemmas.Cmp.{on_total, then_total}
 use Rattle.std.proofs.lemmas.Map.Lookups.{exact_pairs, exact_unsigned}
 use Rattle.ft_board.specs.declared.trigger.Key.{Key}
 use Rattle.ft_board.specs.Trigger.{key_cmp}
-use Rattle.ft_board.specs.Hist.{Count, count_cmp, row_of, rows}
+use Rattle.ft_board.specs.HistText.{Count, count_cmp, row_of, rows}
 use Rattle.ft_board.proofs.Orders.{key_total, key_same}
 use Rattle.ft_maps.specs.Entries.{entries-from_entries}
 

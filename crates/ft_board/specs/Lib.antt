@@ -9,9 +9,9 @@ pub mod After
 pub mod Replay
 pub mod Merge
 pub mod TallyCode
-pub mod Hist
+pub mod HistText
 pub mod CountCode
-pub mod Turns
+pub mod Counters
 pub mod Reachable
 pub use Rattle.ft_event.specs.Traced
 pub use Rattle.ft_event.specs.Places

@@ -33,10 +33,10 @@ impl Model for Lane {
 
 impl Lane {
     ghost use Rattle.ft_board.specs.Base.{number_limit};
-    ghost use Rattle.ft_board.specs.Filling.{new_lane, with_line};
+    ghost use Rattle.ft_board.specs.Filling.{new_lane, lane_with};
 
     /// A lane without events, whose first line is 1.
-    pub fn new(alloc: Global) -> Lane
+    pub(crate) fn new(alloc: Global) -> Lane
         ensures { result ≡ new_lane }
     {
         Lane {
@@ -47,9 +47,9 @@ impl Lane {
 
     /// Adds an event at the next line number, which is at most 4,294,967,295. Refused for memory,
     /// and then the lane is as it was.
-    pub fn push(&mut self, event: Event) -> Result<(), AllocError>
+    pub(crate) fn push(&mut self, event: Event) -> Result<(), AllocError>
         requires { self.old.next ≤ number_limit }
-        ensures ok { OnOk result (self.new ≡ with_line self.old event) }
+        ensures ok { OnOk result (self.new ≡ lane_with self.old event) }
         ensures err { OnErr result (self.new ≡ self.old) }
     {
         put(&mut self.events, self.next as u32, event)?;
@@ -58,7 +58,7 @@ impl Lane {
     }
 
     /// How many events it holds.
-    pub fn len(&self) -> usize
+    pub(crate) fn len(&self) -> usize
         ensures { result ≡ map.len self.now.events }
     {
         len(&self.events)

@@ -3,7 +3,7 @@
 ghost use Rattle.std.specs.Prelude.{◌≡◌};
 
 use crate::board::Board;
-use crate::hist::hist_of;
+use crate::hist_text::hist_of;
 use crate::lane::Lane;
 use crate::load::{held_cpu, load_lanes};
 use crate::refused::{Done, Kept, Refused};

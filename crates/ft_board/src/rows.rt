@@ -3,7 +3,7 @@
 ghost use Rattle.std.specs.Prelude.{◌≡◌, IfOk};
 ghost use Rattle.ft_board.specs.Trigger.{key_cmp};
 ghost use Rattle.ft_maps.specs.Seen.{seen};
-ghost use Rattle.ft_board.specs.Hist.{rows};
+ghost use Rattle.ft_board.specs.HistText.{rows};
 
 use crate::trigger::Key;
 use ft_maps::entries;
@@ -21,7 +21,7 @@ pub(crate) struct Count {
 }
 
 impl Model for Count {
-    ghost use Rattle.ft_board.specs.Hist.{Count as Row};
+    ghost use Rattle.ft_board.specs.HistText.{Count as Row};
     ghost use Rattle.ft_board.specs.CountCode.{count_code};
 
     ghost Value = { Row };

@@ -5,8 +5,8 @@ ghost use Rattle.std.specs.FinMap as map;
 ghost use Rattle.ft_board.specs.Trigger.{key_cmp};
 ghost use Rattle.ft_maps.specs.Seen.{seen};
 ghost use Rattle.ft_board.specs.Replay.{empty_tally, count};
-ghost use Rattle.ft_board.specs.Hist.{hits_of};
-ghost use Rattle.ft_board.specs.Turns.{turns_of, turn_limit};
+ghost use Rattle.ft_board.specs.HistText.{hits_of};
+ghost use Rattle.ft_board.specs.Counters.{counted_of, counter_limit};
 
 use crate::trigger::Key;
 use ft_maps::{len, put};
@@ -47,7 +47,7 @@ impl Tally {
 
     /// Counts one hit of a key, or drops it where the table has `size` keys and not this one.
     pub(crate) fn count(&mut self, size: u32, key: Key) -> Result<(), AllocError>
-        requires { turns_of self.old < turn_limit }
+        requires { counted_of self.old < counter_limit }
         ensures { OnOk result (self.new ≡ count size key self.old) }
     {
         if !count_in(&mut self.table, size, key)? {
@@ -65,7 +65,7 @@ impl Tally {
 
     /// How many hits were counted.
     pub(crate) fn hits(&self) -> u64
-        requires { turns_of self.now < turn_limit }
+        requires { counted_of self.now < counter_limit }
         ensures { result ≡ hits_of self.now }
     {
         self.table.values().sum()
@@ -86,9 +86,9 @@ impl Tally {
     }
 }
 
-// Counts one hit of a key in a table for `size` keys: whether it found room.
+/// Counts one hit of a key in a table for `size` keys: whether it found room.
 fn count_in(table: &mut BTreeMap<Key, u64>, size: u32, key: Key) -> Result<bool, AllocError>
-    requires { sum (map.values (seen key_cmp table.old)) < turn_limit }
+    requires { sum (map.values (seen key_cmp table.old)) < counter_limit }
     ensures { IfOk result (λ found. (dropped : ℕ) →
         count size key (record { table = seen key_cmp table.old; dropped = dropped })
         ≡ record { table = seen key_cmp table.new; dropped = (if found then dropped else dropped + 1) }) }

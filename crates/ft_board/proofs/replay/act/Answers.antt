@@ -6,13 +6,13 @@ use Rattle.std.specs.FinMap as map
 use Rattle.std.specs.FinMap.{FinMap, nat_cmp-IsAntisymmetric}
 use Rattle.ft_maps.specs.Seen.{seen, get-seen, seen-found}
 use Rattle.ft_board.specs.Replay.{Tally, count}
-use Rattle.ft_board.specs.Turns.{turns_of, turn_limit}
+use Rattle.ft_board.specs.Counters.{counted_of, counter_limit}
 use Rattle.ft_board.proofs.Replaying.{act-no_hit, act-no_table, act-hit}
 use Rattle.ft_board.proofs.replay.act.Goals as goal
 
 pub count-requires : goal.count-requires
 count-requires c =
-    subst (λ (o : Option Tally). IfSome o (λ tally. turns_of tally < turn_limit)) (get-seen nat_cmp_total c.args.state.now c.args.id ∙ sym c.in-Some-get_mut.ensures.value) c.requires
+    subst (λ (o : Option Tally). IfSome o (λ tally. counted_of tally < counter_limit)) (get-seen nat_cmp_total c.args.state.now c.args.id ∙ sym c.in-Some-get_mut.ensures.value) c.requires
 
 pub returns-in_ok-count : goal.returns-in_ok-count
 returns-in_ok-count c =

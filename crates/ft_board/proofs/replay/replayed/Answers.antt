@@ -11,7 +11,7 @@ use Rattle.ft_board.specs.declared.trigger.Trigger.{Trigger}
 use Rattle.ft_board.specs.Base.{Base}
 use Rattle.ft_maps.specs.Seen.{seen}
 use Rattle.ft_board.specs.Replay.{Tally, started, step}
-use Rattle.ft_board.specs.Turns.{AreBelow}
+use Rattle.ft_board.specs.Counters.{AreBelow}
 use Rattle.ft_board.proofs.Replaying.{started_below, below_step, replay-fold}
 use Rattle.ft_board.proofs.replay.replayed.Goals as goal
 

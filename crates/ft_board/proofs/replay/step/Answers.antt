@@ -13,7 +13,7 @@ use Rattle.ft_board.specs.declared.trigger.Trigger.{Trigger}
 use Rattle.ft_maps.specs.Entries.{strictly_sorted}
 use Rattle.ft_maps.specs.Seen.{seen}
 use Rattle.ft_board.specs.Replay.{Tally, act}
-use Rattle.ft_board.specs.Turns.{turn_limit}
+use Rattle.ft_board.specs.Counters.{counter_limit}
 use Rattle.ft_board.proofs.Replaying.{AreReady, all_ready, ready_next, step-fold}
 use Rattle.ft_board.proofs.replay.step.Goals as goal
 
@@ -24,7 +24,7 @@ loop-id-init c =
     record {
       rest = ap (fold (act c.args.event.now) (seen nat_cmp c.args.state.now)) all;
       sorted = subst (λ (es : List (ℕ × Trigger)). IsStrictlySortedBy nat_cmp (keys_of es)) (sym all) (strictly_sorted nat_cmp (map.entries triggers) (entries_sorted triggers));
-      ready = all_ready c.args.event.now turn_limit (seen nat_cmp c.args.state.now) c.into_iter-id-iterator.result c.requires;
+      ready = all_ready c.args.event.now counter_limit (seen nat_cmp c.args.state.now) c.into_iter-id-iterator.result c.requires;
     }
 
 pub loop-id-preserved : goal.loop-id-preserved
@@ -37,8 +37,8 @@ loop-id-preserved c =
     record {
       rest = ap (λ (s : FinMap nat_cmp Tally). fold (act event) s c.next.new.self) c.in_ok-act.ensures ∙ sym (ap (fold (act event) state) more) ∙ c.loop-id.invariant.rest;
       sorted = sorted_tail nat_cmp e.0 (keys_of c.next.new.self) sorted;
-      ready = subst (λ (s : FinMap nat_cmp Tally). AreReady event turn_limit s c.next.new.self) (sym c.in_ok-act.ensures)
-          (ready_next event turn_limit state e c.next.new.self sorted (subst (AreReady event turn_limit state) more c.loop-id.invariant.ready));
+      ready = subst (λ (s : FinMap nat_cmp Tally). AreReady event counter_limit s c.next.new.self) (sym c.in_ok-act.ensures)
+          (ready_next event counter_limit state e c.next.new.self sorted (subst (AreReady event counter_limit state) more c.loop-id.invariant.ready));
     }
 
 pub returns : goal.returns

@@ -9,7 +9,7 @@ use Rattle.std.proofs.lemmas.Map.Iter.{rest_more, rest_all}
 use Rattle.ft_board.specs.declared.trigger.Key.{Key}
 use Rattle.ft_maps.specs.Seen.{seen}
 use Rattle.ft_board.specs.Trigger.{key_cmp}
-use Rattle.ft_board.specs.Hist.{Count, count_cmp, row_of}
+use Rattle.ft_board.specs.HistText.{Count, count_cmp, row_of}
 use Rattle.ft_board.proofs.Sorting.{rows_listed, count_total, one_moves, none_left}
 use Rattle.ft_board.proofs.rows.rows.Goals as goal
 

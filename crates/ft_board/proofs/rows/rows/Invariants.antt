@@ -6,7 +6,7 @@ use Rattle.std.specs.BTreeSet.{contains, IsOrdered}
 use Rattle.std.specs.FinMap as map
 use Rattle.ft_maps.specs.Seen.{seen}
 use Rattle.ft_board.specs.Trigger.{key_cmp}
-use Rattle.ft_board.specs.Hist.{Count, count_cmp, row_of}
+use Rattle.ft_board.specs.HistText.{Count, count_cmp, row_of}
 use Rattle.ft_board.proofs.rows.rows.Given as goal
 
 -- a row is in order or still to come just where it is one of the table's

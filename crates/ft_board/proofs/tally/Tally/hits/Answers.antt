@@ -1,6 +1,6 @@
 use Rattle.std.proofs.Common.{◌≡◌, ◌<◌, ◌^◌, rules, sum, sym, ap, ◌∙◌, arith}
 use Rattle.std.specs.Map.{values_of}
-use Rattle.ft_board.specs.Hist.{hits_of}
+use Rattle.ft_board.specs.HistText.{hits_of}
 use Rattle.ft_board.proofs.Orders.{key_total}
 use Rattle.ft_maps.specs.Seen.{values-seen}
 use Rattle.ft_board.proofs.tally.Tally.hits.Goals as goal

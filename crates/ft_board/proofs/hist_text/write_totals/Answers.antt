@@ -1,9 +1,9 @@
 use Rattle.std.proofs.Common.{◌≡◌, ℕ, List, ◌++◌, ap, ◌∙◌}
 use Rattle.std.specs.Prelude.{decimal, codes}
 use Rattle.std.specs.FinMap as map
-use Rattle.ft_board.specs.Hist.{hits_of, totals_text}
+use Rattle.ft_board.specs.HistText.{hits_of, totals_text}
 use Rattle.ft_board.proofs.Texts.{added, last_added}
-use Rattle.ft_board.proofs.hist.write_totals.Goals as goal
+use Rattle.ft_board.proofs.hist_text.write_totals.Goals as goal
 
 pub returns : goal.returns
 unfolding totals_text

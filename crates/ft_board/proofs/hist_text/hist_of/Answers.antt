@@ -4,7 +4,7 @@ use Rattle.ft_board.specs.declared.refused.Refused.{Refused}
 use Rattle.ft_board.specs.Base.{Base}
 use Rattle.ft_maps.specs.Seen.{seen}
 use Rattle.ft_board.proofs.HistText.{hist_text-attached, hist_text-none}
-use Rattle.ft_board.proofs.hist.hist_of.Goals as goal
+use Rattle.ft_board.proofs.hist_text.hist_of.Goals as goal
 
 pub returns-in_default : goal.returns-in_default
 returns-in_default c = λ next_id.

@@ -6,14 +6,14 @@ use Rattle.std.specs.FinMap.{FinMap}
 use Rattle.std.proofs.lemmas.Result.{IfOk-weaker}
 use Rattle.ft_maps.specs.Seen.{seen}
 use Rattle.ft_board.specs.Replay.{Tally, empty_tally}
-use Rattle.ft_board.specs.Hist.{table_text}
-use Rattle.ft_board.specs.Turns.{turns_of, turn_limit}
+use Rattle.ft_board.specs.HistText.{table_text}
+use Rattle.ft_board.specs.Counters.{counted_of, counter_limit}
 use Rattle.ft_board.proofs.Replaying.{empty_below}
-use Rattle.ft_board.proofs.hist.replayed_text.Goals as goal
+use Rattle.ft_board.proofs.hist_text.replayed_text.Goals as goal
 
 pub table_text-requires : goal.table_text-requires
 table_text-requires c =
-    subst (λ (o : Option Tally). IfSome o (λ tally. turns_of tally < turn_limit)) (sym c.in-Some.ensures) (c.in_ok-state.ensures.small c.args.id)
+    subst (λ (o : Option Tally). IfSome o (λ tally. counted_of tally < counter_limit)) (sym c.in-Some.ensures) (c.in_ok-state.ensures.small c.args.id)
 
 pub returns-in-Some : goal.returns-in-Some
 returns-in-Some c =
@@ -23,7 +23,7 @@ returns-in-Some c =
     c.table_text.ensures
 
 pub table_text-requires-in-None : goal.table_text-requires-in-None
-table_text-requires-in-None c = subst (λ (tally : Tally). turns_of tally < turn_limit) (sym c.new.ensures) empty_below
+table_text-requires-in-None c = subst (λ (tally : Tally). counted_of tally < counter_limit) (sym c.new.ensures) empty_below
 
 pub returns : goal.returns
 returns c =

@@ -104,7 +104,7 @@ fn rows_stand_by_hitcount_then_signed_pid(rt: HostRuntime) -> Result<(), Fail> {
 }
 
 /// The text of a trigger with room for one key that pids 42, 42 and 43 hit.
-#[tactic(auto, using(crate::proofs::Replaying::turning))]
+#[tactic(auto, using(crate::proofs::Replaying::counters))]
 fn one_key_alone(alloc: Global, trigger: &Trigger) -> Result<Vec<u8>, AllocError> {
     let mut tally = Tally::new(alloc);
     tally.count(1, Key { pid: 42 })?;

@@ -1,7 +1,7 @@
 use Rattle.std.proofs.Common.{◌≡◌, ◌++◌}
 use Rattle.std.specs.List.{flat_map}
-use Rattle.ft_board.specs.Hist.{row_text}
-use Rattle.ft_board.proofs.hist.write_rows.Given as goal
+use Rattle.ft_board.specs.HistText.{row_text}
+use Rattle.ft_board.proofs.hist_text.write_rows.Given as goal
 
 -- the text and the rows that are left make the whole
 abbrev pub invariant-loop-row : goal.invariant-loop-row

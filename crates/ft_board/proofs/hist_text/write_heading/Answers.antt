@@ -1,9 +1,9 @@
 use Rattle.std.proofs.Common.{ℕ, List, ◌++◌}
 use Rattle.std.specs.Prelude.{codes}
 use Rattle.ft_board.specs.Trigger.{canonical}
-use Rattle.ft_board.specs.Hist.{heading}
+use Rattle.ft_board.specs.HistText.{heading}
 use Rattle.ft_board.proofs.Texts.{added, last_added}
-use Rattle.ft_board.proofs.hist.write_heading.Goals as goal
+use Rattle.ft_board.proofs.hist_text.write_heading.Goals as goal
 
 pub returns : goal.returns
 unfolding heading

@@ -8,8 +8,8 @@ ghost use Rattle.ft_board.specs.Base.{Base};
 ghost use Rattle.ft_maps.specs.Seen.{seen};
 ghost use Rattle.ft_board.specs.After.{AnswerIs};
 ghost use Rattle.ft_board.specs.Replay.{replay, empty_tally};
-ghost use Rattle.ft_board.specs.Turns.{turns_of, turn_limit};
-ghost use Rattle.ft_board.specs.Hist.{right_in_10, row_text, totals_text, heading, table_text, hist_text};
+ghost use Rattle.ft_board.specs.Counters.{counted_of, counter_limit};
+ghost use Rattle.ft_board.specs.HistText.{right_in_10, row_text, totals_text, heading, table_text, hist_text};
 
 use crate::lane::Lane;
 use crate::refused::Refused;
@@ -25,8 +25,8 @@ use std::collections::{BTreeMap, BTreeSet};
 /// How many bytes a number takes at least.
 const WIDTH: usize = 10;
 
-// Adds a number, with spaces in front up to ten bytes.
-#[tactic(auto, unfolding(crate::specs::Hist::right_in_10))]
+/// Adds a number, with spaces in front up to ten bytes.
+#[tactic(auto, unfolding(crate::specs::HistText::right_in_10))]
 fn write_right(text: &mut Vec<u8>, number: u64) -> Result<(), AllocError>
     ensures { OnOk result (text.new.items ≡ text.old.items ++ right_in_10 number) }
 {
@@ -37,7 +37,7 @@ fn write_right(text: &mut Vec<u8>, number: u64) -> Result<(), AllocError>
     text.extend_from_slice(digits)
 }
 
-// Adds a number.
+/// Adds a number.
 fn write_number(text: &mut Vec<u8>, number: u64) -> Result<(), AllocError>
     ensures { OnOk result (text.new.items ≡ text.old.items ++ decimal number) }
 {
@@ -45,8 +45,8 @@ fn write_number(text: &mut Vec<u8>, number: u64) -> Result<(), AllocError>
     text.extend_from_slice(buffer.format(number).as_bytes())
 }
 
-// Adds a row's line.
-#[tactic(auto, unfolding(crate::specs::Hist::row_text))]
+/// Adds a row's line.
+#[tactic(auto, unfolding(crate::specs::HistText::row_text))]
 fn write_row(text: &mut Vec<u8>, row: &Count) -> Result<(), AllocError>
     ensures { OnOk result (text.new.items ≡ text.old.items ++ row_text row.now) }
 {
@@ -57,7 +57,7 @@ fn write_row(text: &mut Vec<u8>, row: &Count) -> Result<(), AllocError>
     text.extend_from_slice(b"\n")
 }
 
-// Adds the lines of all rows.
+/// Adds the lines of all rows.
 fn write_rows(text: &mut Vec<u8>, sorted: &BTreeSet<Count>) -> Result<(), AllocError>
     ensures { OnOk result (text.new.items ≡ text.old.items ++ flat_map row_text sorted.now.keys) }
 {
@@ -67,10 +67,10 @@ fn write_rows(text: &mut Vec<u8>, sorted: &BTreeSet<Count>) -> Result<(), AllocE
     Ok(())
 }
 
-// Adds the totals.
-#[tactic(auto, unfolding(crate::specs::Hist::totals_text))]
+/// Adds the totals.
+#[tactic(auto, unfolding(crate::specs::HistText::totals_text))]
 fn write_totals(text: &mut Vec<u8>, tally: &Tally) -> Result<(), AllocError>
-    requires { turns_of tally.now < turn_limit }
+    requires { counted_of tally.now < counter_limit }
     ensures { OnOk result (text.new.items ≡ text.old.items ++ totals_text tally.now) }
 {
     text.extend_from_slice(b"\nTotals:\n    Hits: ")?;
@@ -82,8 +82,8 @@ fn write_totals(text: &mut Vec<u8>, tally: &Tally) -> Result<(), AllocError>
     text.extend_from_slice(b"\n")
 }
 
-// Adds the lines above the rows.
-#[tactic(auto, unfolding(crate::specs::Hist::heading))]
+/// Adds the lines above the rows.
+#[tactic(auto, unfolding(crate::specs::HistText::heading))]
 fn write_heading(text: &mut Vec<u8>, trigger: &Trigger) -> Result<(), AllocError>
     ensures { OnOk result (text.new.items ≡ text.old.items ++ heading trigger.now) }
 {
@@ -93,13 +93,13 @@ fn write_heading(text: &mut Vec<u8>, trigger: &Trigger) -> Result<(), AllocError
 }
 
 /// The text of a trigger with this table.
-#[tactic(auto, unfolding(crate::specs::Hist::table_text))]
+#[tactic(auto, unfolding(crate::specs::HistText::table_text))]
 pub(crate) fn table_text(
     alloc: Global,
     trigger: &Trigger,
     tally: &Tally,
 ) -> Result<Vec<u8>, AllocError>
-    requires { turns_of tally.now < turn_limit }
+    requires { counted_of tally.now < counter_limit }
     ensures { IfOk result (λ text. text.items ≡ table_text trigger.now tally.now) }
 {
     let sorted = rows(alloc, tally.table())?;
@@ -110,7 +110,7 @@ pub(crate) fn table_text(
     Ok(text)
 }
 
-// The text of an attached trigger, from replaying what is held.
+/// The text of an attached trigger, from replaying what is held.
 fn replayed_text(
     alloc: Global,
     lanes: &BTreeMap<u16, Lane>,
@@ -119,7 +119,12 @@ fn replayed_text(
     trigger: &Trigger,
 ) -> Result<Vec<u8>, AllocError>
     ensures { IfOk result (λ text. (next_id : ℕ) →
-        let state = replay (record { lanes = seen nat_cmp lanes.now; triggers = seen nat_cmp triggers.now; next_id = next_id }) in
+        let base : Base = record {
+          lanes = seen nat_cmp lanes.now;
+          triggers = seen nat_cmp triggers.now;
+          next_id = next_id;
+        } in
+        let state = replay base in
         text.items ≡ table_text trigger.now (unwrap_or (map.get state id) empty_tally)) }
 {
     let state = replayed(alloc, lanes, triggers)?;
@@ -141,7 +146,11 @@ pub(crate) fn hist_of(
     id: u32,
 ) -> Result<Vec<u8>, Refused>
     ensures { (next_id : ℕ) →
-        let base : Base = record { lanes = seen nat_cmp lanes.now; triggers = seen nat_cmp triggers.now; next_id = next_id } in
+        let base : Base = record {
+          lanes = seen nat_cmp lanes.now;
+          triggers = seen nat_cmp triggers.now;
+          next_id = next_id;
+        } in
         AnswerIs (λ text. text.items) (hist_text base id) result }
 {
     let Some(trigger) = get(triggers, &id) else {

@@ -1,8 +1,8 @@
 use Rattle.std.proofs.Common.{◌≡◌, ◌-◌, ◌++◌, List, ℕ, decimal, length, replicate, ap, ◌∙◌, if◌then◌else◌}
 use Rattle.std.specs.Result.{is_ok}
-use Rattle.ft_board.specs.Hist.{right_in_10}
+use Rattle.ft_board.specs.HistText.{right_in_10}
 use Rattle.ft_board.proofs.Texts.{last_added, spaces_left}
-use Rattle.ft_board.proofs.hist.write_right.Goals as goal
+use Rattle.ft_board.proofs.hist_text.write_right.Goals as goal
 
 pub returns : goal.returns
 unfolding right_in_10
