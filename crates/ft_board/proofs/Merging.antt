@@ -1,17 +1,14 @@
 -- Merging lane by lane and event by event gives the merged events.
-use Rattle.std.proofs.Common.{◌≡◌, ℕ, List, [], ◌∷◌, ◌++◌, map as list_map, refl, sym, ap, ◌∙◌}
+use Rattle.std.proofs.Common.{◌≡◌, ℕ, List, [], ◌∷◌, ◌++◌, map as list_map, refl, sym, ◌∙◌}
 use Rattle.std.specs.Prelude.{fold}
 use Rattle.std.specs.List.{flat_map}
 use Rattle.std.specs.Ordering.{nat_cmp}
-use Rattle.std.specs.BTreeMap.{BTreeMap, IsOrdered}
-use Rattle.std.specs.Cmp.{nat_cmp_total}
 use Rattle.std.specs.FinMap as map
 use Rattle.std.specs.FinMap.{FinMap}
 use Rattle.ft_event.specs.Traced.{Traced}
 use Rattle.ft_event.specs.Places.{pos_cmp}
 use Rattle.ft_board.specs.declared.trigger.Trigger.{Trigger}
 use Rattle.ft_board.specs.Base.{Lane}
-use Rattle.ft_maps.specs.Seen.{seen}
 use Rattle.ft_board.specs.Replay.{place_of, placed, merged}
 use Rattle.ft_board.specs.Merge.{merged_with, merged_with_lane}
 

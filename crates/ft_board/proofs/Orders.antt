@@ -1,11 +1,10 @@
 -- The order of keys is total, and keys that tie are equal.
-use Rattle.std.proofs.Common.{ℕ, ap}
+use Rattle.std.proofs.Common.{ap}
 use Rattle.std.specs.Prelude.{ℤ}
-use Rattle.std.specs.Ordering.{nat_cmp}
-use Rattle.std.specs.Cmp.{IsTotalOrder, nat_cmp_total, int_cmp_total}
+use Rattle.std.specs.Cmp.{IsTotalOrder, int_cmp_total}
 use Rattle.std.specs.FinMap.{IsAntisymmetric}
-use Rattle.std.proofs.lemmas.Cmp.{on_total, then_total}
-use Rattle.std.proofs.lemmas.Map.Lookups.{exact_pairs, exact_unsigned, exact_signed}
+use Rattle.std.proofs.lemmas.Cmp.{on_total}
+use Rattle.std.proofs.lemmas.Map.Lookups.{exact_signed}
 use Rattle.ft_board.specs.Trigger.{key_cmp}
 
 pub key_total : IsTotalOrder key_cmp
