@@ -18,10 +18,10 @@ pub at_ok : {T E P : Type 0} (r : Result T E) → false ≡ is_err r → OnOk r 
 at_ok (Ok x) e h = h
 at_ok (Err y) e h = cc
 
--- an answer of a board whose tables are never behind
-pub never-behind : {S : Type 0} (answer : Result S Refused) → AnswerKeeps false false answer
-never-behind (Ok answer) = refl
-never-behind (Err refused) = λ e. e
+-- an answer of a board whose tables are never deferred
+pub never-deferred : {S : Type 0} (answer : Result S Refused) → AnswerKeeps false false answer
+never-deferred (Ok answer) = refl
+never-deferred (Err refused) = λ e. e
 
 -- the cases of a load, by the CPU that is held and by the test of the total
 abbrev loaded : Base → List Traced → Option ℕ → Bool → Result (Base × ℕ) Refused

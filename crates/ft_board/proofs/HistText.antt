@@ -6,7 +6,7 @@ use Rattle.ft_board.specs.declared.trigger.Trigger.{Trigger}
 use Rattle.ft_board.specs.declared.refused.Refused.TheVariants.{NoTrigger}
 use Rattle.ft_board.specs.Base.{Base}
 use Rattle.ft_board.specs.Replay.{replay, empty_tally}
-use Rattle.ft_board.specs.Hist.{table_text, hist_text}
+use Rattle.ft_board.specs.HistText.{table_text, hist_text}
 
 pub hist_text-attached : (base : Base) (id : ℕ) (trigger : Trigger) → map.get base.triggers id ≡ Some trigger → hist_text base id ≡ Ok (table_text trigger (unwrap_or (map.get (replay base) id) empty_tally))
 unfolding hist_text

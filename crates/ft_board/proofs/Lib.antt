@@ -1,6 +1,3 @@
-pub mod Seen
-pub mod SeenEntries
-pub mod Filling
 pub mod Loading
 pub mod Held
 pub mod Reachable

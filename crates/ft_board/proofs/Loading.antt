@@ -3,7 +3,7 @@ use Rattle.std.proofs.Common.{◌≡◌, ℕ, ◌+◌, ◌<◌, ◌≤◌, zero,
 use Rattle.std.specs.List.{enumerate_from, AllByRecursion}
 use Rattle.std.specs.List as list
 use Rattle.std.specs.Ordering.{nat_cmp}
-use Rattle.std.specs.Cmp.{nat_cmp_total}
+use Rattle.std.specs.Cmp.{nat_cmp_total, unsigned_tied}
 use Rattle.std.specs.FinMap as map
 use Rattle.std.specs.FinMap.{FinMap, find, same_map, from_entries_push, nat_cmp-IsAntisymmetric}
 use Rattle.std.proofs.lemmas.Bool.{cases_eq, eq-eqb, ne_eqb, eqb-true, eqb-false, or_cases, or_parts, or_left, or_right}
@@ -13,8 +13,8 @@ use Rattle.std.proofs.lemmas.List.Folds.{list_any-append}
 use Rattle.ft_event.specs.Traced.{Traced}
 use Rattle.ft_board.specs.Base.{Lane, number_limit, event_limit}
 use Rattle.ft_board.specs.After.{lane_of, with_lanes, first_held}
-use Rattle.ft_board.specs.Filling.{new_lane, with_line, with_event, has_cpu, AgreeBeside, HasRoom}
-use Rattle.ft_board.proofs.Filling.{get-here, get-apart, gone-here, gone-apart, tie-eqb}
+use Rattle.ft_board.specs.Filling.{new_lane, lane_with, lanes_with, has_cpu, AgreeBeside, HasRoom}
+use Rattle.ft_maps.specs.Entries.{get-insert_same, get-insert_other, get-remove_same, get-remove_other}
 
 abbrev Lanes : Type 0
 Lanes = FinMap nat_cmp Lane
@@ -26,21 +26,21 @@ room-here m e es h =
     let fits : (unwrap_or (map.get m e.cpu) new_lane).next + suc (length es) ≤ number_limit + 1 = h e.cpu (or_left _ _ (eq-eqb e.cpu e.cpu refl)) in
     omega arith
 
-pub room-next : (m : Lanes) (e : Traced) (es : List Traced) → HasRoom m (e ∷ es) → HasRoom (with_event m e) es
+pub room-next : (m : Lanes) (e : Traced) (es : List Traced) → HasRoom m (e ∷ es) → HasRoom (lanes_with m e) es
 room-next m e es h q is =
     let old : (unwrap_or (map.get m q) new_lane).next + suc (length es) ≤ number_limit + 1 = h q (or_right _ _ is) in
     let P : Option Lane → Type 0 = λ o. (unwrap_or o new_lane).next + length es ≤ number_limit + 1 in
     ⊎_elim
     (λ s.
-    let here : map.get (with_event m e) q ≡ Some (with_line (unwrap_or (map.get m q) new_lane) e) = ap (map.get (with_event m e)) s ∙ get-here m e.cpu _ ∙ ap (λ k. Some (with_line (unwrap_or (map.get m k) new_lane) e)) (sym s) in
+    let here : map.get (lanes_with m e) q ≡ Some (lane_with (unwrap_or (map.get m q) new_lane) e) = ap (map.get (lanes_with m e)) s ∙ get-insert_same nat_cmp_total m e.cpu _ ∙ ap (λ k. Some (lane_with (unwrap_or (map.get m k) new_lane) e)) (sym s) in
     subst P (sym here) (omega arith))
-    (λ ne. subst P (sym (get-apart m e.cpu _ q ne)) (omega arith))
+    (λ ne. subst P (sym (get-insert_other nat_cmp_total nat_cmp-IsAntisymmetric m e.cpu _ q ne)) (omega arith))
     (cases_eq q e.cpu)
 
-pub room-at : (m : Lanes) (es : List Traced) (i : ℕ) (d : Traced) → HasRoom m es → i < length es → (unwrap_or (map.get (fold with_event m (take i es)) (get_or es i d).cpu) new_lane).next ≤ number_limit
+pub room-at : (m : Lanes) (es : List Traced) (i : ℕ) (d : Traced) → HasRoom m es → i < length es → (unwrap_or (map.get (fold lanes_with m (take i es)) (get_or es i d).cpu) new_lane).next ≤ number_limit
 room-at m [] i d h lt = absurd (omega arith)
 room-at m (e ∷ es) zero d h lt = room-here m e es h
-room-at m (e ∷ es) (suc i) d h lt = room-at (with_event m e) es i d (room-next m e es h) (omega arith)
+room-at m (e ∷ es) (suc i) d h lt = room-at (lanes_with m e) es i d (room-next m e es h) (omega arith)
 
 -- ---- lanes beside the events' CPUs stay
 
@@ -49,13 +49,13 @@ apart-from e es q away =
     let parts = or_parts _ _ away in
     ((λ s. eqb-false e.cpu q parts.0 (sym s)), parts.1)
 
-pub beside-at : (m : Lanes) (es : List Traced) (i : ℕ) → AgreeBeside es m (fold with_event m (take i es))
+pub beside-at : (m : Lanes) (es : List Traced) (i : ℕ) → AgreeBeside es m (fold lanes_with m (take i es))
 beside-at m [] zero q away = refl
 beside-at m [] (suc i) q away = refl
 beside-at m (e ∷ es) zero q away = refl
 beside-at m (e ∷ es) (suc i) q away =
     let apart = apart-from e es q away in
-    beside-at (with_event m e) es i q apart.1 ∙ get-apart m e.cpu _ q apart.0
+    beside-at (lanes_with m e) es i q apart.1 ∙ get-insert_other nat_cmp_total nat_cmp-IsAntisymmetric m e.cpu _ q apart.0
 
 -- ---- the lane that a list of events gives a CPU
 
@@ -87,10 +87,10 @@ enumerate_from-push n (x ∷ es) e =
 find-past : (n : ℕ) (es : List Traced) (k : ℕ) → n + length es ≤ k → find nat_cmp k (enumerate_from n es) ≡ None
 find-past n [] k past = refl
 find-past n (x ∷ es) k past =
-    ap (λ b. cond b (Some x) (find nat_cmp k (enumerate_from (n + 1) es))) (tie-eqb k n ∙ ne_eqb k n (λ s. omega arith))
+    ap (λ b. cond b (Some x) (find nat_cmp k (enumerate_from (n + 1) es))) (unsigned_tied k n ∙ ne_eqb k n (λ s. omega arith))
     ∙ find-past (n + 1) es k (omega arith)
 
-lane_from-push : (es : List Traced) (e : Traced) → lane_from (es ++ e ∷ []) ≡ with_line (lane_from es) e
+lane_from-push : (es : List Traced) (e : Traced) → lane_from (es ++ e ∷ []) ≡ lane_with (lane_from es) e
 lane_from-push es e =
     let at : 1 + length es ≡ length es + 1 = omega arith in
     let events : map.from_entries {R = nat_cmp} (enumerate_from 1 (es ++ e ∷ [])) ≡ map.insert (map.from_entries (enumerate_from 1 es)) (length es + 1) e =
@@ -99,11 +99,11 @@ lane_from-push es e =
     let next : length (es ++ e ∷ []) + 1 ≡ length es + 1 + 1 = ap (λ n. n + 1) (length_push es e) in
     λ i. record { events = events i; next = next i }
 
-lane_of-here : (cpu : ℕ) (es : List Traced) (e : Traced) → e.cpu ≡ cpu → lane_of cpu (es ++ e ∷ []) ≡ with_line (lane_of cpu es) e
+lane_of-here : (cpu : ℕ) (es : List Traced) (e : Traced) → e.cpu ≡ cpu → lane_of cpu (es ++ e ∷ []) ≡ lane_with (lane_of cpu es) e
 lane_of-here cpu es e is =
     lane_of-own cpu (es ++ e ∷ [])
     ∙ ap lane_from (filter-append (λ e. e.cpu == cpu) es (e ∷ []) ∙ ap (λ b. own cpu es ++ cond b (e ∷ []) []) (eq-eqb e.cpu cpu is))
-    ∙ lane_from-push (own cpu es) e ∙ ap (λ l. with_line l e) (sym (lane_of-own cpu es))
+    ∙ lane_from-push (own cpu es) e ∙ ap (λ l. lane_with l e) (sym (lane_of-own cpu es))
 
 lane_of-apart : (cpu : ℕ) (es : List Traced) (e : Traced) → (e.cpu ≡ cpu → ⊥) → lane_of cpu (es ++ e ∷ []) ≡ lane_of cpu es
 lane_of-apart cpu es e ne =
@@ -134,18 +134,18 @@ lane_before : (lanes : Lanes) (es : List Traced) (cpu : ℕ) → map.get lanes c
 lane_before lanes es cpu free true is = refl
 lane_before lanes es cpu free false is = ap (λ o. unwrap_or o new_lane) free ∙ sym (lane_of-none cpu es is)
 
-lane_at-push : (lanes m : Lanes) (es : List Traced) (e : Traced) → map.get lanes e.cpu ≡ None → ((q : ℕ) → map.get m q ≡ lane_at lanes es q) → (q : ℕ) → map.get (with_event m e) q ≡ lane_at lanes (es ++ e ∷ []) q
+lane_at-push : (lanes m : Lanes) (es : List Traced) (e : Traced) → map.get lanes e.cpu ≡ None → ((q : ℕ) → map.get m q ≡ lane_at lanes es q) → (q : ℕ) → map.get (lanes_with m e) q ≡ lane_at lanes (es ++ e ∷ []) q
 lane_at-push lanes m es e free now q =
-    let here : map.get (with_event m e) e.cpu ≡ lane_at lanes (es ++ e ∷ []) e.cpu =
-    get-here m e.cpu (with_line (unwrap_or (map.get m e.cpu) new_lane) e)
-    ∙ ap (λ l. Some (with_line l e)) (ap (λ o. unwrap_or o new_lane) (now e.cpu) ∙ lane_before lanes es e.cpu free _ refl)
+    let here : map.get (lanes_with m e) e.cpu ≡ lane_at lanes (es ++ e ∷ []) e.cpu =
+    get-insert_same nat_cmp_total m e.cpu (lane_with (unwrap_or (map.get m e.cpu) new_lane) e)
+    ∙ ap (λ l. Some (lane_with l e)) (ap (λ o. unwrap_or o new_lane) (now e.cpu) ∙ lane_before lanes es e.cpu free _ refl)
     ∙ ap Some (sym (lane_of-here e.cpu es e refl))
     ∙ ap (λ b. cond b (Some (lane_of e.cpu (es ++ e ∷ []))) (map.get lanes e.cpu)) (sym (has_cpu-here es e)) in
     ⊎_elim
-    (λ s. subst (λ k. map.get (with_event m e) k ≡ lane_at lanes (es ++ e ∷ []) k) (sym s) here)
+    (λ s. subst (λ k. map.get (lanes_with m e) k ≡ lane_at lanes (es ++ e ∷ []) k) (sym s) here)
     (λ ne.
     let other : e.cpu ≡ q → ⊥ = λ s. ne (sym s) in
-    get-apart m e.cpu _ q ne ∙ now q
+    get-insert_other nat_cmp_total nat_cmp-IsAntisymmetric m e.cpu _ q ne ∙ now q
     ∙ ap (λ l. cond (has_cpu es q) (Some l) (map.get lanes q)) (sym (lane_of-apart q es e other))
     ∙ ap (λ b. cond b (Some (lane_of q (es ++ e ∷ []))) (map.get lanes q)) (sym (has_cpu-apart es e q other)))
     (cases_eq q e.cpu)
@@ -154,10 +154,10 @@ lane_at-push lanes m es e free now q =
 abbrev IsFree : Lanes → List Traced → Type 0
 IsFree lanes es = (q : ℕ) → has_cpu es q ≡ true → map.get lanes q ≡ None
 
-lane_at-all : (lanes m : Lanes) (done rest all : List Traced) → IsFree lanes rest → done ++ rest ≡ all → ((q : ℕ) → map.get m q ≡ lane_at lanes done q) → (q : ℕ) → map.get (fold with_event m rest) q ≡ lane_at lanes all q
+lane_at-all : (lanes m : Lanes) (done rest all : List Traced) → IsFree lanes rest → done ++ rest ≡ all → ((q : ℕ) → map.get m q ≡ lane_at lanes done q) → (q : ℕ) → map.get (fold lanes_with m rest) q ≡ lane_at lanes all q
 lane_at-all lanes m done [] all free is now q = now q ∙ ap (λ es. lane_at lanes es q) (sym (append-nil done) ∙ is)
 lane_at-all lanes m done (e ∷ es) all free is now q =
-    lane_at-all lanes (with_event m e) (done ++ e ∷ []) es all (λ k h. free k (or_right _ _ h)) (append_assoc done (e ∷ []) es ∙ is) (lane_at-push lanes m done e (free e.cpu (or_left _ _ (eq-eqb e.cpu e.cpu refl))) now) q
+    lane_at-all lanes (lanes_with m e) (done ++ e ∷ []) es all (λ k h. free k (or_right _ _ h)) (append_assoc done (e ∷ []) es ∙ is) (lane_at-push lanes m done e (free e.cpu (or_left _ _ (eq-eqb e.cpu e.cpu refl))) now) q
 
 cond-same : {X : Type 0} (b : Bool) (x : X) → cond b x x ≡ x
 cond-same true x = refl
@@ -170,11 +170,11 @@ each_lane all m (e ∷ es) q =
     each_lane all (map.insert m e.cpu (lane_of e.cpu all)) es q
     ∙ ⊎_elim
     (λ s.
-    ap (λ o. cond (has_cpu es q) (Some (lane_of q all)) o) (ap (map.get (map.insert m e.cpu (lane_of e.cpu all))) s ∙ get-here m e.cpu _ ∙ ap (λ k. Some (lane_of k all)) (sym s))
+    ap (λ o. cond (has_cpu es q) (Some (lane_of q all)) o) (ap (map.get (map.insert m e.cpu (lane_of e.cpu all))) s ∙ get-insert_same nat_cmp_total m e.cpu _ ∙ ap (λ k. Some (lane_of k all)) (sym s))
     ∙ cond-same (has_cpu es q) _
     ∙ ap (λ b. cond (b || has_cpu es q) (Some (lane_of q all)) (map.get m q)) (sym (eq-eqb e.cpu q (sym s))))
     (λ ne.
-    ap (λ o. cond (has_cpu es q) (Some (lane_of q all)) o) (get-apart m e.cpu _ q ne)
+    ap (λ o. cond (has_cpu es q) (Some (lane_of q all)) o) (get-insert_other nat_cmp_total nat_cmp-IsAntisymmetric m e.cpu _ q ne)
     ∙ ap (λ b. cond (b || has_cpu es q) (Some (lane_of q all)) (map.get m q)) (sym (ne_eqb e.cpu q (λ s. ne (sym s)))))
     (cases_eq q e.cpu)
 
@@ -183,7 +183,7 @@ unfolding with_lanes
 with_lanes-at lanes es q = each_lane es lanes es q
 
 -- where the CPUs are free, event by event and lane by lane is one
-pub with_lanes-fold : (lanes : Lanes) (es : List Traced) → IsFree lanes es → fold with_event lanes es ≡ with_lanes lanes es
+pub with_lanes-fold : (lanes : Lanes) (es : List Traced) → IsFree lanes es → fold lanes_with lanes es ≡ with_lanes lanes es
 with_lanes-fold lanes es free = same_map nat_cmp_total nat_cmp-IsAntisymmetric _ _ (λ q. lane_at-all lanes lanes [] es es free refl (λ k. refl) q ∙ sym (with_lanes-at lanes es q))
 
 -- ---- the first event whose lane is held
@@ -234,11 +234,11 @@ remove-at m (e ∷ es) q =
     remove-at (map.remove m e.cpu) es q
     ∙ ⊎_elim
     (λ s.
-    ap (λ o. cond (has_cpu es q) None o) (ap (map.get (map.remove m e.cpu)) s ∙ gone-here m e.cpu)
+    ap (λ o. cond (has_cpu es q) None o) (ap (map.get (map.remove m e.cpu)) s ∙ get-remove_same nat_cmp_total m e.cpu)
     ∙ cond-same (has_cpu es q) None
     ∙ ap (λ b. cond (b || has_cpu es q) None (map.get m q)) (sym (eq-eqb e.cpu q (sym s))))
     (λ ne.
-    ap (λ o. cond (has_cpu es q) None o) (gone-apart m e.cpu q ne)
+    ap (λ o. cond (has_cpu es q) None o) (get-remove_other nat_cmp_total nat_cmp-IsAntisymmetric m e.cpu q ne)
     ∙ ap (λ b. cond (b || has_cpu es q) None (map.get m q)) (sym (ne_eqb e.cpu q (λ s. ne (sym s)))))
     (cases_eq q e.cpu)
 

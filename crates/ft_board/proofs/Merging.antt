@@ -1,36 +1,30 @@
 -- Merging lane by lane and event by event gives the merged events.
-use Rattle.std.proofs.Common.{◌≡◌, ℕ, List, [], ◌∷◌, ◌++◌, map as list_map, refl, sym, ap, ◌∙◌}
+use Rattle.std.proofs.Common.{◌≡◌, ℕ, List, [], ◌∷◌, ◌++◌, map as list_map, refl, sym, ◌∙◌}
 use Rattle.std.specs.Prelude.{fold}
 use Rattle.std.specs.List.{flat_map}
 use Rattle.std.specs.Ordering.{nat_cmp}
-use Rattle.std.specs.BTreeMap.{BTreeMap, IsOrdered}
-use Rattle.std.specs.Cmp.{nat_cmp_total}
 use Rattle.std.specs.FinMap as map
 use Rattle.std.specs.FinMap.{FinMap}
 use Rattle.ft_event.specs.Traced.{Traced}
+use Rattle.ft_event.specs.Places.{pos_cmp}
 use Rattle.ft_board.specs.declared.trigger.Trigger.{Trigger}
 use Rattle.ft_board.specs.Base.{Lane}
-use Rattle.ft_board.specs.Seen.{seen}
-use Rattle.ft_board.specs.Replay.{pos_cmp, place_of, placed, merged}
-use Rattle.ft_board.specs.Merge.{with_event, with_lane}
-use Rattle.ft_board.proofs.SeenEntries.{entries-seen}
+use Rattle.ft_board.specs.Replay.{place_of, placed, merged}
+use Rattle.ft_board.specs.Merge.{merged_with, merged_with_lane}
 
 -- the merged events with those of some lines of a lane
-abbrev pub with_lines : ℕ → FinMap pos_cmp Traced → List (ℕ × Traced) → FinMap pos_cmp Traced
-with_lines cpu m lines = fold with_event m (list_map (λ entry. (place_of cpu entry, entry.1)) lines)
-
-pub all_lines : (cpu : ℕ) (m : FinMap pos_cmp Traced) (lane : Lane) (tree : BTreeMap ℕ Traced) → IsOrdered nat_cmp tree → seen nat_cmp tree ≡ lane.events → with_lines cpu m tree.entries ≡ with_lane m (cpu, lane)
-all_lines cpu m lane tree sorted is = ap (with_lines cpu m) (sym (entries-seen nat_cmp_total tree sorted) ∙ ap map.entries is)
+abbrev pub merged_with_lines : ℕ → FinMap pos_cmp Traced → List (ℕ × Traced) → FinMap pos_cmp Traced
+merged_with_lines cpu m lines = fold merged_with m (list_map (λ entry. (place_of cpu entry, entry.1)) lines)
 
 fold-append : {A B : Type 0} (f : B → A → B) (b : B) (xs ys : List A) → fold f b (xs ++ ys) ≡ fold f (fold f b xs) ys
 fold-append f b [] ys = refl
 fold-append f b (x ∷ xs) ys = fold-append f (f b x) xs ys
 
 -- lane by lane is event by event
-pub by_lane : (m : FinMap pos_cmp Traced) (lanes : List (ℕ × Lane)) → fold with_lane m lanes ≡ fold with_event m (flat_map placed lanes)
+pub by_lane : (m : FinMap pos_cmp Traced) (lanes : List (ℕ × Lane)) → fold merged_with_lane m lanes ≡ fold merged_with m (flat_map placed lanes)
 by_lane m [] = refl
-by_lane m (lane ∷ lanes) = by_lane (with_lane m lane) lanes ∙ sym (fold-append with_event m (placed lane) (flat_map placed lanes))
+by_lane m (lane ∷ lanes) = by_lane (merged_with_lane m lane) lanes ∙ sym (fold-append merged_with m (placed lane) (flat_map placed lanes))
 
-pub all_lanes : (lanes : BTreeMap ℕ Lane) → IsOrdered nat_cmp lanes → (triggers : FinMap nat_cmp Trigger) (next_id : ℕ) → fold with_lane map.empty lanes.entries ≡ merged (record { lanes = seen nat_cmp lanes; triggers = triggers; next_id = next_id })
+pub all_lanes : (lanes : FinMap nat_cmp Lane) (triggers : FinMap nat_cmp Trigger) (next_id : ℕ) → fold merged_with_lane map.empty (map.entries lanes) ≡ merged (record { lanes = lanes; triggers = triggers; next_id = next_id })
 unfolding merged
-all_lanes lanes sorted triggers next_id = by_lane map.empty lanes.entries ∙ ap (λ (es : List (ℕ × Lane)). fold with_event map.empty (flat_map placed es)) (sym (entries-seen nat_cmp_total lanes sorted))
+all_lanes lanes triggers next_id = by_lane map.empty (map.entries lanes)

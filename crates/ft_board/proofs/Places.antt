@@ -12,13 +12,13 @@ use Rattle.std.specs.FinMap as map
 use Rattle.std.specs.FinMap.{FinMap, find, get-insert, get-empty, get-entries, entries_sorted, nat_cmp-IsAntisymmetric}
 use Rattle.std.proofs.lemmas.Map.Keys.{sorted_head, sorted_tail}
 use Rattle.ft_event.specs.Traced.{Traced}
+use Rattle.ft_event.specs.Places.{pos_cmp, pos_cmp_total}
+use Rattle.ft_maps.specs.Entries.{strictly_sorted, same_from_tie}
 use Rattle.ft_event.specs.declared.pos.Pos.{Pos}
 use Rattle.ft_board.specs.Base.{Lane, Base}
-use Rattle.ft_board.specs.Replay.{pos_cmp, place_of, merged, held_at}
-use Rattle.ft_board.specs.Merge.{with_lane}
-use Rattle.ft_board.proofs.Orders.{pos_total}
-use Rattle.ft_board.proofs.Counting.{strictly_sorted}
-use Rattle.ft_board.proofs.Merging.{with_lines, by_lane}
+use Rattle.ft_board.specs.Replay.{place_of, merged, held_at}
+use Rattle.ft_board.specs.Merge.{merged_with_lane}
+use Rattle.ft_board.proofs.Merging.{merged_with_lines, by_lane}
 
 -- the first of two that is there
 abbrev or_else : {X : Type 0} → Option X → Option X → Option X
@@ -34,11 +34,6 @@ tied_then Less b = refl
 tied_then Equal b = refl
 tied_then Greater b = refl
 
-is_equal : (o : Ordering) → is_eq o ≡ true → o ≡ Equal
-is_equal Less e = cc
-is_equal Equal e = refl
-is_equal Greater e = cc
-
 -- no number above k ties with k
 none_above : {X : Type 0} (k : ℕ) (es : List (ℕ × X)) → AllByRecursion (λ y. nat_cmp k y ≡ Less) (keys_of es) → find nat_cmp k es ≡ None
 none_above k [] above = refl
@@ -46,7 +41,7 @@ none_above k (e ∷ es) above = ap (λ o. cond (is_eq o) (Some e.1) (find nat_cm
 
 none_later : {X : Type 0} (q : ℕ) (e : ℕ × X) (es : List (ℕ × X)) → IsStrictlySortedBy nat_cmp (keys_of (e ∷ es)) → eq_by_cmp nat_cmp q e.0 ≡ true → find nat_cmp q es ≡ None
 none_later q e es sorted at =
-    subst (λ k. find nat_cmp k es ≡ None) (sym (nat_cmp-IsAntisymmetric q e.0 (is_equal _ at))) (none_above e.0 es (sorted_head nat_cmp e.0 (keys_of es) sorted))
+    subst (λ k. find nat_cmp k es ≡ None) (sym (same_from_tie nat_cmp-IsAntisymmetric q e.0 at)) (none_above e.0 es (sorted_head nat_cmp e.0 (keys_of es) sorted))
 
 module _ (pos : Pos) where
   -- an event, where its stamp is the place's
@@ -72,19 +67,19 @@ module _ (pos : Pos) where
   one_line true true false e found old is none = refl
   one_line false true false e found old is none = refl
 
-  lines_at : (cpu : ℕ) (m : FinMap pos_cmp Traced) (lines : List (ℕ × Traced)) → IsStrictlySortedBy nat_cmp (keys_of lines) → map.get (with_lines cpu m lines) pos ≡ or_else (line_at cpu lines) (map.get m pos)
+  lines_at : (cpu : ℕ) (m : FinMap pos_cmp Traced) (lines : List (ℕ × Traced)) → IsStrictlySortedBy nat_cmp (keys_of lines) → map.get (merged_with_lines cpu m lines) pos ≡ or_else (line_at cpu lines) (map.get m pos)
   lines_at cpu m [] sorted = elim (eq_by_cmp nat_cmp pos.cpu cpu) as (λ b. map.get m pos ≡ or_else (cond b None None) (map.get m pos)) [ true ↦ refl | false ↦ refl ]
   lines_at cpu m (e ∷ lines) sorted =
       lines_at cpu (map.insert m (place_of cpu e) e.1) lines (sorted_tail nat_cmp e.0 (keys_of lines) sorted)
-      ∙ ap (or_else (line_at cpu lines)) (get-insert pos_total m (place_of cpu e) e.1 pos ∙ ap (λ b. cond b (Some e.1) (map.get m pos)) (at_place cpu e))
+      ∙ ap (or_else (line_at cpu lines)) (get-insert pos_cmp_total m (place_of cpu e) e.1 pos ∙ ap (λ b. cond b (Some e.1) (map.get m pos)) (at_place cpu e))
       ∙ one_line (is_eq (nat_cmp pos.stamp e.1.stamp)) (eq_by_cmp nat_cmp pos.cpu cpu) (eq_by_cmp nat_cmp pos.line e.0) e.1 (find nat_cmp pos.line lines) (map.get m pos) (stamp-is e.1) (none_later pos.line e lines sorted)
 
   -- what some lanes hold at the place
   abbrev lane_at : List (ℕ × Lane) → Option Traced
   lane_at lanes = option_and_then on_stamp (option_and_then (λ lane. map.get lane.events pos.line) (find nat_cmp pos.cpu lanes))
 
-  with_lane_at : (m : FinMap pos_cmp Traced) (e : ℕ × Lane) → map.get (with_lane m e) pos ≡ or_else (cond (eq_by_cmp nat_cmp pos.cpu e.0) (option_and_then on_stamp (map.get e.1.events pos.line)) None) (map.get m pos)
-  with_lane_at m e =
+  merged_with_lane_at : (m : FinMap pos_cmp Traced) (e : ℕ × Lane) → map.get (merged_with_lane m e) pos ≡ or_else (cond (eq_by_cmp nat_cmp pos.cpu e.0) (option_and_then on_stamp (map.get e.1.events pos.line)) None) (map.get m pos)
+  merged_with_lane_at m e =
       lines_at e.0 m (map.entries e.1.events) (strictly_sorted nat_cmp (map.entries e.1.events) (entries_sorted e.1.events))
       ∙ ap (λ o. or_else (cond (eq_by_cmp nat_cmp pos.cpu e.0) (option_and_then on_stamp o) None) (map.get m pos)) (sym (get-entries e.1.events pos.line))
 
@@ -94,11 +89,11 @@ module _ (pos : Pos) where
   one_lane true e found old none = ap (λ o. or_else (option_and_then on_stamp (option_and_then (λ lane. map.get lane.events pos.line) o)) (or_else (option_and_then on_stamp (map.get e.1.events pos.line)) old)) (none refl)
   one_lane false e found old none = refl
 
-  lanes_at : (m : FinMap pos_cmp Traced) (lanes : List (ℕ × Lane)) → IsStrictlySortedBy nat_cmp (keys_of lanes) → map.get (fold with_lane m lanes) pos ≡ or_else (lane_at lanes) (map.get m pos)
+  lanes_at : (m : FinMap pos_cmp Traced) (lanes : List (ℕ × Lane)) → IsStrictlySortedBy nat_cmp (keys_of lanes) → map.get (fold merged_with_lane m lanes) pos ≡ or_else (lane_at lanes) (map.get m pos)
   lanes_at m [] sorted = refl
   lanes_at m (e ∷ lanes) sorted =
-      lanes_at (with_lane m e) lanes (sorted_tail nat_cmp e.0 (keys_of lanes) sorted)
-      ∙ ap (or_else (lane_at lanes)) (with_lane_at m e)
+      lanes_at (merged_with_lane m e) lanes (sorted_tail nat_cmp e.0 (keys_of lanes) sorted)
+      ∙ ap (or_else (lane_at lanes)) (merged_with_lane_at m e)
       ∙ one_lane (eq_by_cmp nat_cmp pos.cpu e.0) e (find nat_cmp pos.cpu lanes) (map.get m pos) (none_later pos.cpu e lanes sorted)
 
   pub merged_at : (base : Base) → map.get (merged base) pos ≡ held_at base pos

@@ -5,16 +5,15 @@ use Rattle.std.specs.Option.{option_map_or}
 use Rattle.std.specs.Ordering.{nat_cmp}
 use Rattle.std.specs.Cmp.{nat_cmp_total}
 use Rattle.std.specs.FinMap as map
-use Rattle.std.specs.FinMap.{FinMap, get-empty, len-empty, len-insert}
+use Rattle.std.specs.FinMap.{FinMap, get-empty, len-empty, len-insert, nat_cmp-IsAntisymmetric}
 use Rattle.std.proofs.lemmas.Bool.{cases_eq}
 use Rattle.ft_event.specs.Traced.{Traced}
 use Rattle.ft_board.specs.declared.trigger.Trigger.{Trigger}
 use Rattle.ft_board.specs.Base.{Lane, Base, empty_base, number_limit, event_limit, trigger_limit, held_in}
 use Rattle.ft_board.specs.After.{with_lanes, first_held}
 use Rattle.ft_board.specs.Reachable.{HasCpu, IsReachable}
-use Rattle.ft_board.specs.Filling.{new_lane, with_line, with_event, HasRoom}
-use Rattle.ft_board.proofs.SeenEntries.{entries-empty}
-use Rattle.ft_board.proofs.Filling.{get-here, get-apart}
+use Rattle.ft_board.specs.Filling.{new_lane, lane_with, lanes_with, HasRoom}
+use Rattle.ft_maps.specs.Entries.{entries-empty, get-insert_same, get-insert_other}
 use Rattle.ft_board.proofs.Loading.{room-here, room-next, room-from, free-from, with_lanes-fold}
 use Rattle.ft_board.proofs.Held.{sum-insert}
 
@@ -40,17 +39,17 @@ new-IsLane cpu le = record {
   lines = λ line event is. let none : None ≡ Some event = sym (get-empty nat_cmp line) ∙ is in cc;
 }
 
-with_line-IsLane : (cpu : ℕ) (lane : Lane) (e : Traced) → IsLane cpu lane → e.cpu ≡ cpu → lane.next ≤ number_limit → IsLane cpu (with_line lane e)
-with_line-IsLane cpu lane e is at room = record {
+lane_with-IsLane : (cpu : ℕ) (lane : Lane) (e : Traced) → IsLane cpu lane → e.cpu ≡ cpu → lane.next ≤ number_limit → IsLane cpu (lane_with lane e)
+lane_with-IsLane cpu lane e is at room = record {
   at_cpu = is.at_cpu;
   numbers = (omega arith, omega arith);
   lines = λ line event found.
       ⊎_elim
       (λ s.
-      let same : e ≡ event = same-Some e event (sym (ap (map.get (map.insert lane.events lane.next e)) s ∙ get-here lane.events lane.next e) ∙ found) in
+      let same : e ≡ event = same-Some e event (sym (ap (map.get (map.insert lane.events lane.next e)) s ∙ get-insert_same nat_cmp_total lane.events lane.next e) ∙ found) in
       (omega (arith, is.numbers.0), omega arith, ap (λ t. t.cpu) (sym same) ∙ at))
       (λ ne.
-      let old = is.lines line event (sym (get-apart lane.events lane.next e line ne) ∙ found) in
+      let old = is.lines line event (sym (get-insert_other nat_cmp_total nat_cmp-IsAntisymmetric lane.events lane.next e line ne) ∙ found) in
       (old.0, omega (arith, old.1), old.2))
       (cases_eq line lane.next);
 }
@@ -63,14 +62,14 @@ lane-or_new lanes cpu are le =
       | Some lane ↦ λ is. are cpu lane is
     ] refl
 
-with_event-AreLanes : (lanes : Lanes) (e : Traced) → AreLanes lanes → HasCpu e → (unwrap_or (map.get lanes e.cpu) new_lane).next ≤ number_limit → AreLanes (with_event lanes e)
-with_event-AreLanes lanes e are at room cpu lane is =
+lanes_with-AreLanes : (lanes : Lanes) (e : Traced) → AreLanes lanes → HasCpu e → (unwrap_or (map.get lanes e.cpu) new_lane).next ≤ number_limit → AreLanes (lanes_with lanes e)
+lanes_with-AreLanes lanes e are at room cpu lane is =
     let old = unwrap_or (map.get lanes e.cpu) new_lane in
     ⊎_elim
     (λ s.
-    let same : with_line old e ≡ lane = same-Some (with_line old e) lane (sym (ap (map.get (with_event lanes e)) s ∙ get-here lanes e.cpu (with_line old e)) ∙ is) in
-    subst (λ k. IsLane k lane) (sym s) (subst (IsLane e.cpu) same (with_line-IsLane e.cpu old e (lane-or_new lanes e.cpu are at) refl room)))
-    (λ ne. are cpu lane (sym (get-apart lanes e.cpu (with_line old e) cpu ne) ∙ is))
+    let same : lane_with old e ≡ lane = same-Some (lane_with old e) lane (sym (ap (map.get (lanes_with lanes e)) s ∙ get-insert_same nat_cmp_total lanes e.cpu (lane_with old e)) ∙ is) in
+    subst (λ k. IsLane k lane) (sym s) (subst (IsLane e.cpu) same (lane_with-IsLane e.cpu old e (lane-or_new lanes e.cpu are at) refl room)))
+    (λ ne. are cpu lane (sym (get-insert_other nat_cmp_total nat_cmp-IsAntisymmetric lanes e.cpu (lane_with old e) cpu ne) ∙ is))
     (cases_eq cpu e.cpu)
 
 -- the next line of a lane is free, so an event more makes it one longer
@@ -81,27 +80,27 @@ next_free cpu lane is =
       | Some event ↦ λ found. absurd (omega (arith, (is.lines lane.next event found).1))
     ] refl
 
-len-with_line : (cpu : ℕ) (lane : Lane) (e : Traced) → IsLane cpu lane → map.len (with_line lane e).events ≡ map.len lane.events + 1
-len-with_line cpu lane e is = len-insert nat_cmp_total lane.events lane.next e ∙ ap (λ o. cond (is_some o) (map.len lane.events) (map.len lane.events + 1)) (next_free cpu lane is)
+len-lane_with : (cpu : ℕ) (lane : Lane) (e : Traced) → IsLane cpu lane → map.len (lane_with lane e).events ≡ map.len lane.events + 1
+len-lane_with cpu lane e is = len-insert nat_cmp_total lane.events lane.next e ∙ ap (λ o. cond (is_some o) (map.len lane.events) (map.len lane.events + 1)) (next_free cpu lane is)
 
 len-or_new : (o : Option Lane) → option_map_or (λ l. map.len l.events) o 0 ≡ map.len (unwrap_or o new_lane).events
 len-or_new None = sym (len-empty nat_cmp Traced)
 len-or_new (Some lane) = refl
 
-held-with_event : (lanes : Lanes) (e : Traced) → AreLanes lanes → HasCpu e → held_in (with_event lanes e) ≡ held_in lanes + 1
-held-with_event lanes e are at =
+held-lanes_with : (lanes : Lanes) (e : Traced) → AreLanes lanes → HasCpu e → held_in (lanes_with lanes e) ≡ held_in lanes + 1
+held-lanes_with lanes e are at =
     let old = unwrap_or (map.get lanes e.cpu) new_lane in
-    let sums = sum-insert nat_cmp_total (λ l. map.len l.events) lanes e.cpu (with_line old e) in
-    let more = len-with_line e.cpu old e (lane-or_new lanes e.cpu are at) in
+    let sums = sum-insert nat_cmp_total (λ l. map.len l.events) lanes e.cpu (lane_with old e) in
+    let more = len-lane_with e.cpu old e (lane-or_new lanes e.cpu are at) in
     let was = len-or_new (map.get lanes e.cpu) in
     omega (arith, sums, more, was)
 
 -- events one by one keep the lanes and are counted
-fold-AreLanes : (lanes : Lanes) (es : List Traced) → AreLanes lanes → AllByRecursion HasCpu es → HasRoom lanes es → AreLanes (fold with_event lanes es) × (held_in (fold with_event lanes es) ≡ held_in lanes + length es)
+fold-AreLanes : (lanes : Lanes) (es : List Traced) → AreLanes lanes → AllByRecursion HasCpu es → HasRoom lanes es → AreLanes (fold lanes_with lanes es) × (held_in (fold lanes_with lanes es) ≡ held_in lanes + length es)
 fold-AreLanes lanes [] are at room = (are, omega arith)
 fold-AreLanes lanes (e ∷ es) are at room =
-    let rest = fold-AreLanes (with_event lanes e) es (with_event-AreLanes lanes e are at.0 (room-here lanes e es room)) at.1 (room-next lanes e es room) in
-    (rest.0, omega (arith, rest.1, held-with_event lanes e are at.0))
+    let rest = fold-AreLanes (lanes_with lanes e) es (lanes_with-AreLanes lanes e are at.0 (room-here lanes e es room)) at.1 (room-next lanes e es room) in
+    (rest.0, omega (arith, rest.1, held-lanes_with lanes e are at.0))
 
 lanes-from : (base : Base) → IsReachable base → AreLanes base.lanes
 lanes-from base is cpu lane found = record {
@@ -144,7 +143,7 @@ attach-IsReachable base trigger is few ids = record {
   ids = λ id other found.
       ⊎_elim
       (λ s. (omega (arith, is.next_id.0), omega arith))
-      (λ ne. let old = is.ids id other (sym (get-apart base.triggers base.next_id trigger id ne) ∙ found) in (old.0, omega (arith, old.1)))
+      (λ ne. let old = is.ids id other (sym (get-insert_other nat_cmp_total nat_cmp-IsAntisymmetric base.triggers base.next_id trigger id ne) ∙ found) in (old.0, omega (arith, old.1)))
       (cases_eq id base.next_id);
   next_id = (omega arith, omega arith);
   few_events = is.few_events;

@@ -7,17 +7,15 @@ use Rattle.std.specs.declared.cmp.Ordering.{Ordering}
 use Rattle.std.specs.Ordering.{nat_cmp, eq_by_cmp}
 use Rattle.std.specs.Cmp.{IsTotalOrder, nat_cmp_total}
 use Rattle.std.specs.Map.{keys_of}
-use Rattle.std.specs.BTreeMap.{BTreeMap, IsOrdered}
 use Rattle.std.specs.FinMap as map
-use Rattle.std.specs.FinMap.{find, IsAntisymmetric, get-from_entries, same_map}
+use Rattle.std.specs.FinMap.{FinMap, find, IsAntisymmetric, get-from_entries, same_map}
 use Rattle.std.proofs.lemmas.Cmp.{on_total, then_total}
 use Rattle.std.proofs.lemmas.Map.Lookups.{exact_pairs, exact_unsigned}
 use Rattle.ft_board.specs.declared.trigger.Key.{Key}
 use Rattle.ft_board.specs.Trigger.{key_cmp}
-use Rattle.ft_board.specs.Seen.{seen}
-use Rattle.ft_board.specs.Hist.{Count, count_cmp, row_of, rows}
+use Rattle.ft_board.specs.HistText.{Count, count_cmp, row_of, rows}
 use Rattle.ft_board.proofs.Orders.{key_total, key_same}
-use Rattle.ft_board.proofs.SeenEntries.{entries-from_entries, entries-seen}
+use Rattle.ft_maps.specs.Entries.{entries-from_entries}
 
 pub count_total : IsTotalOrder count_cmp
 count_total = then_total (on_total (λ row. row.hitcount) nat_cmp_total) (on_total (λ row. row.key) key_total)
@@ -64,10 +62,9 @@ marked_rows : (es : List (Key × ℕ)) → marked (list_map row_of es) ≡ list_
 marked_rows [] = refl
 marked_rows (e ∷ es) = ap (λ (rest : List (Count × Unit {0})). (row_of e, tt {0}) ∷ rest) (marked_rows es)
 
-pub rows_tree : (table : BTreeMap Key ℕ) → IsOrdered key_cmp table → (sorted : List Count) → IsStrictlySortedBy count_cmp sorted
-    → ((row : Count) → list_any (eq_by_cmp count_cmp row) sorted ≡ list_any (eq_by_cmp count_cmp row) (list_map row_of table.entries)) → sorted ≡ rows (seen key_cmp table)
+pub rows_listed : (table : FinMap key_cmp ℕ) (sorted : List Count) → IsStrictlySortedBy count_cmp sorted
+    → ((row : Count) → list_any (eq_by_cmp count_cmp row) sorted ≡ list_any (eq_by_cmp count_cmp row) (list_map row_of (map.entries table))) → sorted ≡ rows table
 unfolding rows
-rows_tree table ordered sorted ascend is =
-    in_order count_total count_same sorted (list_map row_of table.entries) ascend is
-    ∙ ap (λ (es : List (Count × Unit {0})). map.keys (map.from_entries {R = count_cmp} es)) (marked_rows table.entries)
-    ∙ ap (λ (es : List (Key × ℕ)). map.keys (map.from_entries {R = count_cmp} (list_map (λ entry. (row_of entry, tt {0})) es))) (sym (entries-seen key_total table ordered))
+rows_listed table sorted ascend is =
+    in_order count_total count_same sorted (list_map row_of (map.entries table)) ascend is
+    ∙ ap (λ (es : List (Count × Unit {0})). map.keys (map.from_entries {R = count_cmp} es)) (marked_rows (map.entries table))

@@ -40,26 +40,26 @@ after_attach base trigger =
     if nat_le trigger_limit (map.len base.triggers) || nat_lt number_limit base.next_id then Err TooManyTriggers
     else Ok (record base { triggers = map.insert base.triggers base.next_id trigger; next_id = base.next_id + 1 }, base.next_id)
 
--- `Later` just where the tables are behind (our own choice)
+-- `Later` just where the tables are deferred (our own choice)
 abbrev pub kept_of : Bool → Kept
 kept_of true = Later
 kept_of false = Now
 
--- An edit did what after says: the new content and the value, or its refusal and nothing changed. Want of memory may stand in place of any answer, and changes nothing either. No edit brings tables that are behind up to date (our own choice).
+-- An edit did what after says: the new content and the value, or its refusal and nothing changed. Want of memory may stand in place of any answer, and changes nothing either. No edit brings deferred tables up to date (our own choice).
 abbrev pub EditGives : {T : Type 0} → Result (Base × T) Refused → Base → Base → Bool → Bool → Result (Done T) Refused → Type 0
-EditGives after old new behind_old behind_new (Ok done) = (after ≡ Ok (new, done.value)) × (done.kept ≡ kept_of behind_new) × (behind_old ≡ true → behind_new ≡ true)
-EditGives after old new behind_old behind_new (Err refused) = (new ≡ old) × (behind_new ≡ behind_old) × ((refused ≡ Memory) ⊎ (after ≡ Err refused))
+EditGives after old new deferred_old deferred_new (Ok done) = (after ≡ Ok (new, done.value)) × (done.kept ≡ kept_of deferred_new) × (deferred_old ≡ true → deferred_new ≡ true)
+EditGives after old new deferred_old deferred_new (Err refused) = (new ≡ old) × (deferred_new ≡ deferred_old) × ((refused ≡ Memory) ⊎ (after ≡ Err refused))
 
 -- An answer is the one expected, as view sees it, unless memory ran out (our own choice).
 abbrev pub AnswerIs : {S T : Type 0} → (S → T) → Result T Refused → Result S Refused → Type 0
 AnswerIs view expected (Ok answer) = expected ≡ Ok (view answer)
 AnswerIs view expected (Err refused) = (refused ≡ Memory) ⊎ (expected ≡ Err refused)
 
--- After an accepted answer the tables are not behind, and none makes them so (our own choice).
+-- After an accepted answer the tables are not deferred, and no answer makes them so (our own choice).
 abbrev pub AnswerKeeps : {S : Type 0} → Bool → Bool → Result S Refused → Type 0
-AnswerKeeps behind_old behind_new (Ok answer) = behind_new ≡ false
-AnswerKeeps behind_old behind_new (Err refused) = behind_new ≡ true → behind_old ≡ true
+AnswerKeeps deferred_old deferred_new (Ok answer) = deferred_new ≡ false
+AnswerKeeps deferred_old deferred_new (Err refused) = deferred_new ≡ true → deferred_old ≡ true
 
--- An answer is the one expected, the content stays, and the tables are not further behind (our own choice).
+-- An answer is the one expected, the content stays, and the tables are not deferred by it (our own choice).
 abbrev pub AnswersFrom : {S T : Type 0} → (S → T) → Result T Refused → Base → Base → Bool → Bool → Result S Refused → Type 0
-AnswersFrom view expected old new behind_old behind_new answer = (new ≡ old) × AnswerIs view expected answer × AnswerKeeps behind_old behind_new answer
+AnswersFrom view expected old new deferred_old deferred_new answer = (new ≡ old) × AnswerIs view expected answer × AnswerKeeps deferred_old deferred_new answer

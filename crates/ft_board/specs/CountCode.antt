@@ -3,7 +3,7 @@ use Rattle.std.specs.Prelude.{ℕ, refl}
 use Rattle.std.specs.Coded.{Coded, code_by, coded×, coded_ℕ}
 use Rattle.ft_board.specs.declared.trigger.Key.{Key}
 use Rattle.ft_board.specs.contracts.trigger.Key as key
-use Rattle.ft_board.specs.Hist.{Count}
+use Rattle.ft_board.specs.HistText.{Count}
 
 -- a row, stored as its hitcount and its key (our own choice)
 abbrev pub count_code : Coded Count

@@ -12,12 +12,12 @@ abbrev pub new_lane : Lane
 new_lane = record { events = map.empty; next = 1 }
 
 -- a lane with one more event, at its next number (our own choice)
-abbrev pub with_line : Lane → Traced → Lane
-with_line lane event = record { events = map.insert lane.events lane.next event; next = lane.next + 1 }
+abbrev pub lane_with : Lane → Traced → Lane
+lane_with lane event = record { events = map.insert lane.events lane.next event; next = lane.next + 1 }
 
 -- the lanes with one more event, in the lane of its CPU (our own choice)
-abbrev pub with_event : FinMap nat_cmp Lane → Traced → FinMap nat_cmp Lane
-with_event lanes event = map.insert lanes event.cpu (with_line (unwrap_or (map.get lanes event.cpu) new_lane) event)
+abbrev pub lanes_with : FinMap nat_cmp Lane → Traced → FinMap nat_cmp Lane
+lanes_with lanes event = map.insert lanes event.cpu (lane_with (unwrap_or (map.get lanes event.cpu) new_lane) event)
 
 -- an event of the list has the CPU (our own choice)
 abbrev pub has_cpu : List Traced → ℕ → Bool

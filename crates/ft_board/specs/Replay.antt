@@ -2,20 +2,16 @@
 use Rattle.std.specs.Prelude.{ℕ, ◌+◌, List, Option, Some, None, nat_lt, ◌==◌, ◌||◌, if◌then◌else◌, unwrap_or, option_and_then, map as list_map, fold}
 use Rattle.std.specs.List.{flat_map}
 use Rattle.std.specs.Option.{option_map_or}
-use Rattle.std.specs.declared.cmp.Ordering.{Ordering}
-use Rattle.std.specs.Ordering.{nat_cmp, on, then_cmp}
+use Rattle.std.specs.Ordering.{nat_cmp}
 use Rattle.std.specs.FinMap as map
 use Rattle.std.specs.FinMap.{FinMap}
 use Rattle.ft_event.specs.Traced.{Traced}
+use Rattle.ft_event.specs.Places.{pos_cmp}
 use Rattle.ft_event.specs.declared.pos.Pos.{Pos}
 use Rattle.ft_board.specs.declared.trigger.Trigger.{Trigger}
 use Rattle.ft_board.specs.declared.trigger.Key.{Key}
 use Rattle.ft_board.specs.Trigger.{size_of, key_cmp, hit}
 use Rattle.ft_board.specs.Base.{Lane, Base, event_at}
-
--- places in order: by stamp, then CPU, then line (our own choice)
-abbrev pub pos_cmp : Pos → Pos → Ordering
-pos_cmp = then_cmp (on (λ p. p.stamp) nat_cmp) (then_cmp (on (λ p. p.cpu) nat_cmp) (on (λ p. p.line) nat_cmp))
 
 -- the place of a CPU's line with this event (our own choice)
 abbrev pub place_of : ℕ → ℕ × Traced → Pos

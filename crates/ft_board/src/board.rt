@@ -11,12 +11,12 @@ pub trait Board: Drop {
     ghost use Rattle.std.specs.Prelude.{◌≡◌, Bool};
     ghost use Rattle.ft_board.specs.Base.{Base};
     ghost use Rattle.ft_board.specs.After.{after_load, after_attach, EditGives, AnswersFrom};
-    ghost use Rattle.ft_board.specs.Hist.{hist_text};
+    ghost use Rattle.ft_board.specs.HistText.{hist_text};
 
     /// What is held and attached.
     ghost content: { Self → Base };
 
-    /// Whether its tables are behind its content.
+    /// Whether its tables are deferred: the next answer brings them up to its content.
     ghost deferred: { Self → Bool };
 
     /// Loads events in file order, a lane for each of their CPUs: how many were loaded. Refused
@@ -36,7 +36,7 @@ pub trait Board: Drop {
         ensures { AnswersFrom (λ text. text.items) (hist_text (content self.old) id)
             (content self.old) (content self.new) (deferred self.old) (deferred self.new) result };
 
-    /// Whether the kept tables are behind: then the next answer rebuilds them.
+    /// Whether the kept tables are deferred: then the next answer rebuilds them.
     fn is_deferred(&self) -> bool
         ensures { result ≡ deferred self.now };
 }

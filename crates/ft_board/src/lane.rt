@@ -3,9 +3,10 @@
 ghost use Rattle.std.specs.Prelude.{◌≡◌, ◌≤◌, OnOk, OnErr};
 ghost use Rattle.std.specs.Ordering.{nat_cmp};
 ghost use Rattle.std.specs.FinMap as map;
-ghost use Rattle.ft_board.specs.Seen.{seen};
+ghost use Rattle.ft_maps.specs.Seen.{seen};
 
 use ft_event::Event;
+use ft_maps::{len, put};
 use std::alloc::{AllocError, Global};
 use std::collections::BTreeMap;
 use std::marker::Model;
@@ -20,7 +21,7 @@ pub(crate) struct Lane {
 impl Model for Lane {
     ghost use Rattle.std.specs.Ordering.{nat_cmp};
     ghost use Rattle.ft_board.specs.Base.{Lane as Held};
-    ghost use Rattle.ft_board.specs.Seen.{seen};
+    ghost use Rattle.ft_maps.specs.Seen.{seen};
     ghost use Rattle.ft_board.specs.Codes.{lane_code};
 
     ghost Value = { Held };
@@ -30,21 +31,12 @@ impl Model for Lane {
     ghost view = { λ l. record { events = seen nat_cmp l.events; next = l.next } };
 }
 
-/// Puts an event at a line. Refused for memory.
-fn put_line(events: &mut BTreeMap<u32, Event>, line: u32, event: Event) -> Result<(), AllocError>
-    ensures ok { OnOk result (seen nat_cmp events.new ≡ map.insert (seen nat_cmp events.old) line event) }
-    ensures err { OnErr result (seen nat_cmp events.new ≡ seen nat_cmp events.old) }
-{
-    events.insert(line, event)?;
-    Ok(())
-}
-
 impl Lane {
     ghost use Rattle.ft_board.specs.Base.{number_limit};
-    ghost use Rattle.ft_board.specs.Filling.{new_lane, with_line};
+    ghost use Rattle.ft_board.specs.Filling.{new_lane, lane_with};
 
     /// A lane without events, whose first line is 1.
-    pub fn new(alloc: Global) -> Lane
+    pub(crate) fn new(alloc: Global) -> Lane
         ensures { result ≡ new_lane }
     {
         Lane {
@@ -55,21 +47,21 @@ impl Lane {
 
     /// Adds an event at the next line number, which is at most 4,294,967,295. Refused for memory,
     /// and then the lane is as it was.
-    pub fn push(&mut self, event: Event) -> Result<(), AllocError>
+    pub(crate) fn push(&mut self, event: Event) -> Result<(), AllocError>
         requires { self.old.next ≤ number_limit }
-        ensures ok { OnOk result (self.new ≡ with_line self.old event) }
+        ensures ok { OnOk result (self.new ≡ lane_with self.old event) }
         ensures err { OnErr result (self.new ≡ self.old) }
     {
-        put_line(&mut self.events, self.next as u32, event)?;
+        put(&mut self.events, self.next as u32, event)?;
         self.next += 1;
         Ok(())
     }
 
     /// How many events it holds.
-    pub fn len(&self) -> usize
+    pub(crate) fn len(&self) -> usize
         ensures { result ≡ map.len self.now.events }
     {
-        self.events.len()
+        len(&self.events)
     }
 
     /// Its events, by line number.

@@ -12,7 +12,8 @@ ghost use Rattle.ft_board.specs.Reachable.{HasCpu, IsReachable};
 /// reachable one.
 pub fn reachable_bases()
     ensures empty { IsReachable empty_base }
-    ensures load { (base : Base) (events : List Traced) (new : Base) (count : ℕ) → IsReachable base → AllByRecursion HasCpu events
+    ensures load { (base : Base) (events : List Traced) (new : Base) (count : ℕ)
+        → IsReachable base → AllByRecursion HasCpu events
         → after_load base events ≡ Ok (new, count) → IsReachable new }
     ensures attach { (base : Base) (trigger : Trigger) (new : Base) (id : ℕ) → IsReachable base
         → after_attach base trigger ≡ Ok (new, id) → IsReachable new }

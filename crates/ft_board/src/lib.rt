@@ -4,7 +4,7 @@
 
 mod board;
 mod cut;
-mod hist;
+mod hist_text;
 mod lane;
 mod laws;
 mod load;

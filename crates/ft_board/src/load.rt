@@ -4,25 +4,17 @@ ghost use Rattle.std.specs.Prelude.{◌≡◌, ◌≤◌, length, unwrap_or, fol
 ghost use Rattle.std.specs.List.{AllByRecursion};
 ghost use Rattle.std.specs.Ordering.{nat_cmp};
 ghost use Rattle.std.specs.FinMap as map;
-ghost use Rattle.ft_board.specs.Seen.{seen};
+ghost use Rattle.ft_maps.specs.Seen.{seen};
 ghost use Rattle.ft_board.specs.Base.{number_limit, event_limit};
 ghost use Rattle.ft_board.specs.After.{first_held, with_lanes};
 ghost use Rattle.ft_board.specs.Reachable.{HasCpu};
-ghost use Rattle.ft_board.specs.Filling.{new_lane, with_line, with_event, AgreeBeside, HasRoom};
+ghost use Rattle.ft_board.specs.Filling.{new_lane, lane_with, lanes_with, AgreeBeside, HasRoom};
 
 use crate::lane::Lane;
 use ft_event::Event;
+use ft_maps::{put, take};
 use std::alloc::{AllocError, Global};
 use std::collections::BTreeMap;
-
-/// Puts a lane at a CPU. Refused for memory.
-fn put_lane(lanes: &mut BTreeMap<u16, Lane>, cpu: u16, lane: Lane) -> Result<(), AllocError>
-    ensures ok { OnOk result (seen nat_cmp lanes.new ≡ map.insert (seen nat_cmp lanes.old) cpu lane) }
-    ensures err { OnErr result (seen nat_cmp lanes.new ≡ seen nat_cmp lanes.old) }
-{
-    lanes.insert(cpu, lane)?;
-    Ok(())
-}
 
 /// Adds an event to the lane of a CPU, which is made where there is none. Refused for memory.
 fn push_in(
@@ -33,7 +25,7 @@ fn push_in(
 ) -> Result<(), AllocError>
     requires { (unwrap_or (map.get (seen nat_cmp lanes.old) cpu) new_lane).next ≤ number_limit }
     ensures ok { OnOk result (seen nat_cmp lanes.new ≡ map.insert (seen nat_cmp lanes.old) cpu
-        (with_line (unwrap_or (map.get (seen nat_cmp lanes.old) cpu) new_lane) event)) }
+        (lane_with (unwrap_or (map.get (seen nat_cmp lanes.old) cpu) new_lane) event)) }
     ensures err { OnErr result (seen nat_cmp lanes.new ≡ seen nat_cmp lanes.old) }
 {
     match lanes.get_mut(&cpu) {
@@ -41,7 +33,7 @@ fn push_in(
         None => {
             let mut lane = Lane::new(alloc);
             lane.push(event)?;
-            put_lane(lanes, cpu, lane)
+            put(lanes, cpu, lane)
         }
     }
 }
@@ -53,8 +45,10 @@ fn push_all(
     events: &[Event],
 ) -> Result<(), AllocError>
     requires { HasRoom (seen nat_cmp lanes.old) events.now }
-    ensures ok { OnOk result (seen nat_cmp lanes.new ≡ fold with_event (seen nat_cmp lanes.old) events.now) }
-    ensures err { OnErr result (AgreeBeside events.now (seen nat_cmp lanes.old) (seen nat_cmp lanes.new)) }
+    ensures ok { OnOk result
+        (seen nat_cmp lanes.new ≡ fold lanes_with (seen nat_cmp lanes.old) events.now) }
+    ensures err { OnErr result
+        (AgreeBeside events.now (seen nat_cmp lanes.old) (seen nat_cmp lanes.new)) }
 {
     for event in events {
         push_in(alloc, lanes, event.cpu, *event)?;
@@ -64,10 +58,11 @@ fn push_all(
 
 /// Removes the lanes of the events' CPUs.
 fn remove_all(lanes: &mut BTreeMap<u16, Lane>, events: &[Event])
-    ensures { seen nat_cmp lanes.new ≡ fold (λ m e. map.remove m e.cpu) (seen nat_cmp lanes.old) events.now }
+    ensures { seen nat_cmp lanes.new
+        ≡ fold (λ m e. map.remove m e.cpu) (seen nat_cmp lanes.old) events.now }
 {
     for event in events {
-        lanes.remove(&event.cpu);
+        take(lanes, &event.cpu);
     }
 }
 
@@ -93,7 +88,8 @@ pub(crate) fn load_lanes(
 ) -> Result<(), AllocError>
     requires apart { first_held (seen nat_cmp lanes.old) events.now ≡ None }
     requires few { length events.now ≤ event_limit }
-    ensures ok { OnOk result (seen nat_cmp lanes.new ≡ with_lanes (seen nat_cmp lanes.old) events.now) }
+    ensures ok { OnOk result
+        (seen nat_cmp lanes.new ≡ with_lanes (seen nat_cmp lanes.old) events.now) }
     ensures err { OnErr result (seen nat_cmp lanes.new ≡ seen nat_cmp lanes.old) }
 {
     let pushed = push_all(alloc, lanes, events);

@@ -1,17 +1,15 @@
 //! A board that keeps no tables: each answer replays what is held.
 
-ghost use Rattle.std.specs.Prelude.{◌≡◌, ℕ, OnOk, OnErr};
-ghost use Rattle.std.specs.Ordering.{nat_cmp};
-ghost use Rattle.std.specs.FinMap as map;
-ghost use Rattle.ft_board.specs.Seen.{seen};
+ghost use Rattle.std.specs.Prelude.{◌≡◌};
 
 use crate::board::Board;
-use crate::hist::hist_of;
+use crate::hist_text::hist_of;
 use crate::lane::Lane;
 use crate::load::{held_cpu, load_lanes};
 use crate::refused::{Done, Kept, Refused};
 use crate::trigger::Trigger;
 use ft_event::Event;
+use ft_maps::{len, put};
 use std::alloc::{AllocError, Global};
 use std::collections::BTreeMap;
 use std::marker::Model;
@@ -41,7 +39,7 @@ impl Model for PlainBoard {
     ghost use Rattle.ft_board.specs.Base.{Base, held_in};
     ghost use Rattle.ft_board.specs.Codes.{base_code};
     ghost use Rattle.ft_board.specs.Reachable.{IsReachable};
-    ghost use Rattle.ft_board.specs.Seen.{seen};
+    ghost use Rattle.ft_maps.specs.Seen.{seen};
 
     ghost Value = { Base };
 
@@ -79,26 +77,6 @@ impl PlainBoard {
     }
 }
 
-/// How many triggers are attached.
-fn attached(triggers: &BTreeMap<u32, Trigger>) -> usize
-    ensures { result ≡ map.len (seen nat_cmp triggers.now) }
-{
-    triggers.len()
-}
-
-/// Puts a trigger at an id. Refused for memory.
-fn put_trigger(
-    triggers: &mut BTreeMap<u32, Trigger>,
-    id: u32,
-    trigger: Trigger,
-) -> Result<(), AllocError>
-    ensures ok { OnOk result (seen nat_cmp triggers.new ≡ map.insert (seen nat_cmp triggers.old) id trigger) }
-    ensures err { OnErr result (seen nat_cmp triggers.new ≡ seen nat_cmp triggers.old) }
-{
-    triggers.insert(id, trigger)?;
-    Ok(())
-}
-
 impl Board for PlainBoard {
     ghost use Rattle.std.specs.Prelude.{false};
 
@@ -125,11 +103,11 @@ impl Board for PlainBoard {
     }
 
     fn attach(&mut self, trigger: Trigger) -> Result<Done<u32>, Refused> {
-        if attached(&self.triggers) >= TRIGGER_LIMIT || self.next_id > NUMBER_LIMIT {
+        if len(&self.triggers) >= TRIGGER_LIMIT || self.next_id > NUMBER_LIMIT {
             return Err(Refused::TooManyTriggers);
         }
         let id = self.next_id as u32;
-        if put_trigger(&mut self.triggers, id, trigger).is_err() {
+        if put(&mut self.triggers, id, trigger).is_err() {
             return Err(Refused::Memory);
         }
         self.next_id += 1;

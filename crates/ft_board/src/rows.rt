@@ -2,10 +2,11 @@
 
 ghost use Rattle.std.specs.Prelude.{◌≡◌, IfOk};
 ghost use Rattle.ft_board.specs.Trigger.{key_cmp};
-ghost use Rattle.ft_board.specs.Seen.{seen};
-ghost use Rattle.ft_board.specs.Hist.{rows};
+ghost use Rattle.ft_maps.specs.Seen.{seen};
+ghost use Rattle.ft_board.specs.HistText.{rows};
 
 use crate::trigger::Key;
+use ft_maps::entries;
 use std::alloc::{AllocError, Global};
 use std::collections::{BTreeMap, BTreeSet};
 use std::marker::Model;
@@ -20,7 +21,7 @@ pub(crate) struct Count {
 }
 
 impl Model for Count {
-    ghost use Rattle.ft_board.specs.Hist.{Count as Row};
+    ghost use Rattle.ft_board.specs.HistText.{Count as Row};
     ghost use Rattle.ft_board.specs.CountCode.{count_code};
 
     ghost Value = { Row };
@@ -37,7 +38,7 @@ pub(crate) fn rows(alloc: Global, table: &BTreeMap<Key, u64>) -> Result<BTreeSet
     ensures { IfOk result (λ sorted. sorted.keys ≡ rows (seen key_cmp table.now)) }
 {
     let mut sorted = BTreeSet::new(alloc);
-    for (key, hitcount) in table.iter() {
+    for (key, hitcount) in entries(table) {
         sorted.insert(Count {
             hitcount: *hitcount,
             key: *key,

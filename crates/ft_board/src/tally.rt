@@ -3,12 +3,13 @@
 ghost use Rattle.std.specs.Prelude.{◌≡◌, ℕ, ◌+◌, ◌<◌, if◌then◌else◌, sum, IfOk, OnOk};
 ghost use Rattle.std.specs.FinMap as map;
 ghost use Rattle.ft_board.specs.Trigger.{key_cmp};
-ghost use Rattle.ft_board.specs.Seen.{seen};
+ghost use Rattle.ft_maps.specs.Seen.{seen};
 ghost use Rattle.ft_board.specs.Replay.{empty_tally, count};
-ghost use Rattle.ft_board.specs.Hist.{hits_of};
-ghost use Rattle.ft_board.specs.Turns.{turns_of, turn_limit};
+ghost use Rattle.ft_board.specs.HistText.{hits_of};
+ghost use Rattle.ft_board.specs.Counters.{counted_of, counter_limit};
 
 use crate::trigger::Key;
+use ft_maps::{len, put};
 use std::alloc::{AllocError, Global};
 use std::collections::BTreeMap;
 use std::marker::Model;
@@ -22,7 +23,7 @@ pub(crate) struct Tally {
 
 impl Model for Tally {
     ghost use Rattle.ft_board.specs.Trigger.{key_cmp};
-    ghost use Rattle.ft_board.specs.Seen.{seen};
+    ghost use Rattle.ft_maps.specs.Seen.{seen};
     ghost use Rattle.ft_board.specs.Replay.{Tally as Counted};
     ghost use Rattle.ft_board.specs.TallyCode.{tally_code};
 
@@ -46,7 +47,7 @@ impl Tally {
 
     /// Counts one hit of a key, or drops it where the table has `size` keys and not this one.
     pub(crate) fn count(&mut self, size: u32, key: Key) -> Result<(), AllocError>
-        requires { turns_of self.old < turn_limit }
+        requires { counted_of self.old < counter_limit }
         ensures { OnOk result (self.new ≡ count size key self.old) }
     {
         if !count_in(&mut self.table, size, key)? {
@@ -64,7 +65,7 @@ impl Tally {
 
     /// How many hits were counted.
     pub(crate) fn hits(&self) -> u64
-        requires { turns_of self.now < turn_limit }
+        requires { counted_of self.now < counter_limit }
         ensures { result ≡ hits_of self.now }
     {
         self.table.values().sum()
@@ -74,7 +75,7 @@ impl Tally {
     pub(crate) fn entries(&self) -> usize
         ensures { result ≡ map.len self.now.table }
     {
-        self.table.len()
+        len(&self.table)
     }
 
     /// How many hits found no room.
@@ -85,9 +86,9 @@ impl Tally {
     }
 }
 
-// Counts one hit of a key in a table for `size` keys: whether it found room.
+/// Counts one hit of a key in a table for `size` keys: whether it found room.
 fn count_in(table: &mut BTreeMap<Key, u64>, size: u32, key: Key) -> Result<bool, AllocError>
-    requires { sum (map.values (seen key_cmp table.old)) < turn_limit }
+    requires { sum (map.values (seen key_cmp table.old)) < counter_limit }
     ensures { IfOk result (λ found. (dropped : ℕ) →
         count size key (record { table = seen key_cmp table.old; dropped = dropped })
         ≡ record { table = seen key_cmp table.new; dropped = (if found then dropped else dropped + 1) }) }
@@ -96,9 +97,9 @@ fn count_in(table: &mut BTreeMap<Key, u64>, size: u32, key: Key) -> Result<bool,
         *hits += 1;
         return Ok(true);
     }
-    if table.len() >= size as usize {
+    if len(table) >= size as usize {
         return Ok(false);
     }
-    table.insert(key, 1)?;
+    put(table, key, 1)?;
     Ok(true)
 }

@@ -8,7 +8,7 @@ use Rattle.ft_board.specs.declared.refused.Refused.{Refused}
 use Rattle.ft_board.specs.declared.refused.Refused.TheVariants.{Memory, BadCommand}
 use Rattle.ft_board.specs.Base.{Base}
 use Rattle.ft_board.specs.After.{EditGives, AnswersFrom, AnswerIs}
-use Rattle.ft_board.specs.Hist.{hist_text}
+use Rattle.ft_board.specs.HistText.{hist_text}
 use Rattle.ft_desk.specs.declared.perform.Performed.{Performed}
 use Rattle.ft_desk.specs.Printed.{printed}
 use Rattle.ft_desk.specs.Script.{Asked, Nothing, Load, Attach, Hist, NoForm}

@@ -18,4 +18,4 @@ pub use Rattle.ft_board.specs.Trigger
 pub use Rattle.ft_board.specs.TriggerFault
 pub use Rattle.ft_board.specs.Base
 pub use Rattle.ft_board.specs.After
-pub use Rattle.ft_board.specs.Hist
+pub use Rattle.ft_board.specs.HistText

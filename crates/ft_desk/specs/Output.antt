@@ -20,7 +20,7 @@ use Rattle.ft_board.specs.TriggerFault.{number_of as trigger_number, place_of}
 use Rattle.ft_board.specs.Trigger.{trigger_of}
 use Rattle.ft_board.specs.Base.{Base, empty_base}
 use Rattle.ft_board.specs.After.{after_load, after_attach}
-use Rattle.ft_board.specs.Hist.{hist_text}
+use Rattle.ft_board.specs.HistText.{hist_text}
 use Rattle.ft_desk.specs.Lines.{lines_of}
 use Rattle.ft_desk.specs.Script.{Asked, Nothing, Load, Attach, Hist, NoForm, asked_by}
 

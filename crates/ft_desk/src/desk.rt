@@ -31,7 +31,7 @@ impl<B: Board> Model for Desk<B> {
 impl<B: Board> Desk<B> {
     ghost use Rattle.std.specs.Prelude.{◌≡◌};
     ghost use Rattle.ft_board.specs.After.{EditGives, AnswersFrom};
-    ghost use Rattle.ft_board.specs.Hist.{hist_text};
+    ghost use Rattle.ft_board.specs.HistText.{hist_text};
     ghost use Rattle.ft_desk.specs.Output.{after_load_text, after_attach_text};
 
     /// A desk over a board, as the board is.

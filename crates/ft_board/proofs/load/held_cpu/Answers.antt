@@ -6,11 +6,10 @@ use Rattle.std.specs.BTreeMap as tree
 use Rattle.std.specs.BTreeMap.{BTreeMap}
 use Rattle.std.specs.FinMap as map
 use Rattle.ft_event.specs.Traced.{Traced}
-use Rattle.ft_board.specs.Seen.{seen}
+use Rattle.ft_maps.specs.Seen.{seen, get-seen}
 use Rattle.ft_board.specs.Base.{Lane}
 use Rattle.ft_board.specs.After.{first_held}
 use Rattle.ft_board.specs.Reachable.{HasCpu}
-use Rattle.ft_board.proofs.Seen.{get-seen}
 use Rattle.ft_board.proofs.Loading.{first_held-at, first_held-end, all-from_each, each-more}
 use Rattle.ft_board.proofs.load.held_cpu.Goals as goal
 

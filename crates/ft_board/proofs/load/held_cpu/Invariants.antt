@@ -1,7 +1,7 @@
 use Rattle.std.proofs.Common.{◌≡◌, ℕ, ◌<◌, get_or, drop}
 use Rattle.std.specs.Ordering.{nat_cmp}
 use Rattle.ft_event.specs.Traced.{Traced}
-use Rattle.ft_board.specs.Seen.{seen}
+use Rattle.ft_maps.specs.Seen.{seen}
 use Rattle.ft_board.specs.After.{first_held}
 use Rattle.ft_board.specs.Reachable.{HasCpu}
 use Rattle.ft_board.proofs.load.held_cpu.Given as goal

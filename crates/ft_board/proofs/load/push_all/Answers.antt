@@ -4,9 +4,9 @@ use Rattle.std.specs.Ordering.{nat_cmp}
 use Rattle.std.specs.FinMap as map
 use Rattle.std.specs.FinMap.{FinMap}
 use Rattle.std.proofs.lemmas.Result.{err_from_is_err_and}
-use Rattle.ft_board.specs.Seen.{seen}
+use Rattle.ft_maps.specs.Seen.{seen}
 use Rattle.ft_board.specs.Base.{Lane, number_limit}
-use Rattle.ft_board.specs.Filling.{new_lane, with_event, AgreeBeside}
+use Rattle.ft_board.specs.Filling.{new_lane, lanes_with, AgreeBeside}
 use Rattle.ft_board.proofs.Loading.{room-at, beside-at}
 use Rattle.ft_board.proofs.load.push_all.Goals as goal
 
@@ -20,8 +20,8 @@ push_in-requires c =
     let item = c.event-item.result in
     let cpu : c.event.inside.cpu ≡ (get_or es i item).cpu = ap (λ t. t.cpu) (c.event.view_is ∙ c.event-item.is) in
     let old = seen nat_cmp c.args.lanes.now in
-    let room : HasNumber (fold with_event old (take i es)) (get_or es i item).cpu = room-at old es i item c.requires c.loop-event-test.true in
-    subst (λ m. HasNumber m c.event.inside.cpu) (sym c.loop-event.invariant) (subst (HasNumber (fold with_event old (take i es))) (sym cpu) room)
+    let room : HasNumber (fold lanes_with old (take i es)) (get_or es i item).cpu = room-at old es i item c.requires c.loop-event-test.true in
+    subst (λ m. HasNumber m c.event.inside.cpu) (sym c.loop-event.invariant) (subst (HasNumber (fold lanes_with old (take i es))) (sym cpu) room)
 
 pub returns-in_err-push_in-clause-err : goal.returns-in_err-push_in-clause-err
 returns-in_err-push_in-clause-err c =

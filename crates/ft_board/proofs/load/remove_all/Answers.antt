@@ -1,14 +1,12 @@
 -- One more removal is one more step of the fold.
 use Rattle.std.proofs.Common.{◌≡◌, get_or, sym, ap, ◌∙◌}
 use Rattle.std.specs.Ordering.{nat_cmp}
-use Rattle.std.specs.Cmp.{nat_cmp_total}
 use Rattle.std.specs.FinMap as map
-use Rattle.std.specs.FinMap.{FinMap, nat_cmp-IsAntisymmetric}
+use Rattle.std.specs.FinMap.{FinMap}
 use Rattle.std.proofs.lemmas.List.Sums.{fold_more}
 use Rattle.ft_event.specs.Traced.{Traced}
-use Rattle.ft_board.specs.Seen.{seen}
+use Rattle.ft_maps.specs.Seen.{seen}
 use Rattle.ft_board.specs.Base.{Lane}
-use Rattle.ft_board.proofs.Seen.{seen-take}
 use Rattle.ft_board.proofs.load.remove_all.Goals as goal
 
 pub loop-event-preserved : goal.loop-event-preserved
@@ -18,6 +16,6 @@ loop-event-preserved c =
     let item = c.event-item.result in
     let cpu : c.event.inside.cpu ≡ (get_or es i item).cpu = ap (λ t. t.cpu) (c.event.view_is ∙ c.event-item.is) in
     let f : FinMap nat_cmp Lane → Traced → FinMap nat_cmp Lane = λ m e. map.remove m e.cpu in
-    seen-take nat_cmp_total nat_cmp-IsAntisymmetric c.loop-event.lanes c.remove.new.self c.event.inside.cpu c.remove.ensures.updates.0
+    c.take.ensures
     ∙ (λ j. map.remove (c.loop-event.invariant j) (cpu j))
     ∙ sym (fold_more f (seen nat_cmp c.args.lanes.now) es i item c.loop-event-test.true)

@@ -1,7 +1,7 @@
 use Rattle.std.proofs.Common.{◌≡◌, take, fold}
 use Rattle.std.specs.Ordering.{nat_cmp}
 use Rattle.std.specs.FinMap as map
-use Rattle.ft_board.specs.Seen.{seen}
+use Rattle.ft_maps.specs.Seen.{seen}
 use Rattle.ft_board.proofs.load.remove_all.Given as goal
 
 abbrev pub invariant-loop-event : goal.invariant-loop-event

@@ -1,10 +1,10 @@
 use Rattle.std.proofs.Common.{◌≡◌}
-use Rattle.ft_board.specs.Seen.{seen}
-use Rattle.ft_board.specs.Replay.{pos_cmp}
-use Rattle.ft_board.specs.Merge.{with_lane}
-use Rattle.ft_board.proofs.Merging.{with_lines}
+use Rattle.ft_maps.specs.Seen.{seen}
+use Rattle.ft_event.specs.Places.{pos_cmp}
+use Rattle.ft_board.specs.Merge.{merged_with_lane}
+use Rattle.ft_board.proofs.Merging.{merged_with_lines}
 use Rattle.ft_board.proofs.merge.merge_lane.Given as goal
 
 -- the lines that are left lead where all of the lane's lead
 abbrev pub invariant-loop-line : goal.invariant-loop-line
-invariant-loop-line l = with_lines l.cpu (seen pos_cmp l.all) l.line-iterator ≡ with_lane (seen pos_cmp l.fn.all) (l.cpu, l.lane)
+invariant-loop-line l = merged_with_lines l.cpu (seen pos_cmp l.all) l.line-iterator ≡ merged_with_lane (seen pos_cmp l.fn.all) (l.cpu, l.lane)

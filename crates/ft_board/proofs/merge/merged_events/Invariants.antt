@@ -1,11 +1,12 @@
 use Rattle.std.proofs.Common.{◌≡◌}
 use Rattle.std.specs.Prelude.{fold}
+use Rattle.std.specs.Ordering.{nat_cmp}
 use Rattle.std.specs.FinMap as map
-use Rattle.ft_board.specs.Seen.{seen}
-use Rattle.ft_board.specs.Replay.{pos_cmp}
-use Rattle.ft_board.specs.Merge.{with_lane}
+use Rattle.ft_maps.specs.Seen.{seen}
+use Rattle.ft_event.specs.Places.{pos_cmp}
+use Rattle.ft_board.specs.Merge.{merged_with_lane}
 use Rattle.ft_board.proofs.merge.merged_events.Given as goal
 
 -- the lanes that are left lead where all lanes lead
 abbrev pub invariant-loop-cpu : goal.invariant-loop-cpu
-invariant-loop-cpu l = fold with_lane (seen pos_cmp l.all) l.cpu-iterator ≡ fold with_lane map.empty l.lanes.entries
+invariant-loop-cpu l = fold merged_with_lane (seen pos_cmp l.all) l.cpu-iterator ≡ fold merged_with_lane map.empty (map.entries (seen nat_cmp l.lanes))

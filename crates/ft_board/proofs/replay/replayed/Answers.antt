@@ -5,13 +5,14 @@ use Rattle.std.specs.FinMap.{FinMap}
 use Rattle.std.specs.Map.Iter.{deref_pair}
 use Rattle.std.proofs.lemmas.Map.Iter.{rest_more, rest_all}
 use Rattle.ft_event.specs.Traced.{Traced}
+use Rattle.ft_event.specs.Places.{pos_cmp}
 use Rattle.ft_event.specs.declared.pos.Pos.{Pos}
 use Rattle.ft_board.specs.declared.trigger.Trigger.{Trigger}
 use Rattle.ft_board.specs.Base.{Base}
-use Rattle.ft_board.specs.Seen.{seen}
+use Rattle.ft_maps.specs.Seen.{seen}
 use Rattle.ft_board.specs.Replay.{Tally, started, step}
-use Rattle.ft_board.specs.Turns.{AreBelow}
-use Rattle.ft_board.proofs.Replaying.{started_below, below_step, replay_tree}
+use Rattle.ft_board.specs.Counters.{AreBelow}
+use Rattle.ft_board.proofs.Replaying.{started_below, below_step, replay-fold}
 use Rattle.ft_board.proofs.replay.replayed.Goals as goal
 
 pub loop-event-init : goal.loop-event-init
@@ -39,5 +40,5 @@ returns-clause-value c = λ next_id.
     let base : Base = record { lanes = seen nat_cmp c.args.lanes.now; triggers = seen nat_cmp c.args.triggers.now; next_id = next_id } in
     sym (ap (fold (step base.triggers) (seen nat_cmp c.loop-event.state)) (rest_all (deref_pair {K = Pos} {X = Traced}) _ _ _ c.in-None.is c.next.ensures.steps))
     ∙ c.loop-event.invariant.rest
-    ∙ ap (fold (step base.triggers) (started base.triggers)) (c.into_iter-event-iterator.ensures.into_iter_gives ∙ c.iter-event-items.ensures.rest)
-    ∙ replay_tree base c.in_ok-merged.merged c.iter-event-items.ensures.ordered (c.in_ok-merged.ensures base.triggers next_id)
+    ∙ ap (fold (step base.triggers) (started base.triggers)) (c.into_iter-event-iterator.ensures.into_iter_gives ∙ c.entries-event-items.ensures.rest)
+    ∙ replay-fold base (seen pos_cmp c.in_ok-merged.merged) (c.in_ok-merged.ensures base.triggers next_id)

@@ -1,12 +1,12 @@
 use Rattle.std.proofs.Common.{◌≡◌, ◌+◌, length}
 use Rattle.std.specs.Prelude.{fold}
 use Rattle.std.specs.Ordering.{nat_cmp}
-use Rattle.ft_board.specs.Seen.{seen}
+use Rattle.ft_maps.specs.Seen.{seen}
 use Rattle.ft_board.specs.Replay.{started, step}
-use Rattle.ft_board.specs.Turns.{AreBelow}
+use Rattle.ft_board.specs.Counters.{AreBelow}
 use Rattle.ft_board.proofs.replay.replayed.Given as goal
 
--- the events that are left lead where all events lead, and no table has had more turns than there were events
+-- the events that are left lead where all events lead, and no table has counted more often than there were events
 abbrev pub invariant-loop-event : goal.invariant-loop-event
 invariant-loop-event l = record {
   rest : fold (step (seen nat_cmp l.triggers)) (seen nat_cmp l.state) l.event-iterator ≡ fold (step (seen nat_cmp l.triggers)) (started (seen nat_cmp l.triggers)) l.initial.event-iterator;

@@ -7,8 +7,10 @@ use Rattle.std.specs.BTreeSet.{contains}
 use Rattle.std.specs.Map.Iter.{deref_pair}
 use Rattle.std.proofs.lemmas.Map.Iter.{rest_more, rest_all}
 use Rattle.ft_board.specs.declared.trigger.Key.{Key}
-use Rattle.ft_board.specs.Hist.{Count, count_cmp, row_of}
-use Rattle.ft_board.proofs.Sorting.{rows_tree, count_total, one_moves, none_left}
+use Rattle.ft_maps.specs.Seen.{seen}
+use Rattle.ft_board.specs.Trigger.{key_cmp}
+use Rattle.ft_board.specs.HistText.{Count, count_cmp, row_of}
+use Rattle.ft_board.proofs.Sorting.{rows_listed, count_total, one_moves, none_left}
 use Rattle.ft_board.proofs.rows.rows.Goals as goal
 
 pub loop-key-preserved : goal.loop-key-preserved
@@ -28,7 +30,7 @@ loop-key-preserved c =
 
 pub returns : goal.returns
 returns c =
-    rows_tree c.args.table.now c.iter-key-items.ensures.ordered c.loop-key.sorted.keys c.loop-key.invariant.ordered (λ row.
+    rows_listed (seen key_cmp c.args.table.now) c.loop-key.sorted.keys c.loop-key.invariant.ordered (λ row.
     sym (ap (λ (rest : List (Key × ℕ)). contains count_cmp c.loop-key.sorted row || list_any (eq_by_cmp count_cmp row) (list_map row_of rest)) (rest_all (deref_pair {K = Key} {X = ℕ}) _ _ _ c.in-None.is c.next.ensures.steps)
     ∙ none_left (contains count_cmp c.loop-key.sorted row))
     ∙ c.loop-key.invariant.members row)

@@ -1,6 +1,6 @@
 use Rattle.std.proofs.Common.{map, codes, ap, sym, ◌∙◌}
 use Rattle.ft_board.specs.After.{EditGives}
-use Rattle.ft_board.specs.Hist.{hist_text}
+use Rattle.ft_board.specs.HistText.{hist_text}
 use Rattle.ft_desk.specs.Script.{asked_by}
 use Rattle.ft_desk.specs.Output.{outcome, after_load_file, after_attach_text}
 use Rattle.ft_desk.proofs.Outcomes.{edit_shows, answer_shows, bad_shows, load_outcome, attach_outcome, hist_outcome, nothing_outcome, bad_outcome}

@@ -1,7 +1,7 @@
 -- The empty board is seen as the empty base.
 use Rattle.std.proofs.Common.{sym}
 use Rattle.std.specs.Ordering.{nat_cmp}
-use Rattle.ft_board.proofs.Seen.{seen-empty}
+use Rattle.ft_maps.specs.Seen.{seen-empty}
 use Rattle.ft_board.proofs.Reachable.{empty-IsReachable, held-empty}
 use Rattle.ft_board.proofs.plain.PlainBoard.new.Goals as goal
 

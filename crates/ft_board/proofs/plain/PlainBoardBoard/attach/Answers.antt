@@ -5,34 +5,34 @@ use Rattle.std.specs.FinMap as map
 use Rattle.ft_board.specs.contracts.plain.PlainBoard.{the_view}
 use Rattle.ft_board.specs.Base.{trigger_limit}
 use Rattle.ft_board.specs.After.{after_attach}
-use Rattle.ft_board.specs.Seen.{seen}
+use Rattle.ft_maps.specs.Seen.{seen}
 use Rattle.ft_board.proofs.After.{at_ok, attach-many, attach-high, attach-ok}
 use Rattle.ft_board.proofs.Reachable.{attach-IsReachable}
 use Rattle.ft_board.proofs.plain.PlainBoardBoard.attach.Goals as goal
-use Rattle.ft_board.proofs.plain.PlainBoardBoard.attach.Goals.{then-attached-ge-TRIGGER_LIMIT-via-then-attached-ge-TRIGGER_LIMIT, then-attached-ge-TRIGGER_LIMIT-via-else-attached-ge-TRIGGER_LIMIT+then-self-gt-NUMBER_LIMIT}
+use Rattle.ft_board.proofs.plain.PlainBoardBoard.attach.Goals.{then-len-ge-TRIGGER_LIMIT-via-then-len-ge-TRIGGER_LIMIT, then-len-ge-TRIGGER_LIMIT-via-else-len-ge-TRIGGER_LIMIT+then-self-gt-NUMBER_LIMIT}
 
-pub returns-then-attached-ge-TRIGGER_LIMIT : goal.returns-then-attached-ge-TRIGGER_LIMIT
-returns-then-attached-ge-TRIGGER_LIMIT c = (
+pub returns-then-len-ge-TRIGGER_LIMIT : goal.returns-then-len-ge-TRIGGER_LIMIT
+returns-then-len-ge-TRIGGER_LIMIT c = (
   refl,
   refl,
   inr (
       ap (λ b. after_attach b c.args.trigger) (sym c.self.view_is)
-      ∙ elim c.then-attached-ge-TRIGGER_LIMIT.branch [
-        | then-attached-ge-TRIGGER_LIMIT-via-then-attached-ge-TRIGGER_LIMIT w ↦ attach-many (the_view c.self.inside) c.args.trigger (omega (arith, c.attached.ensures))
-        | then-attached-ge-TRIGGER_LIMIT-via-else-attached-ge-TRIGGER_LIMIT+then-self-gt-NUMBER_LIMIT w ↦ attach-high (the_view c.self.inside) c.args.trigger (omega arith)
+      ∙ elim c.then-len-ge-TRIGGER_LIMIT.branch [
+        | then-len-ge-TRIGGER_LIMIT-via-then-len-ge-TRIGGER_LIMIT w ↦ attach-many (the_view c.self.inside) c.args.trigger (omega (arith, c.len.ensures))
+        | then-len-ge-TRIGGER_LIMIT-via-else-len-ge-TRIGGER_LIMIT+then-self-gt-NUMBER_LIMIT w ↦ attach-high (the_view c.self.inside) c.args.trigger (omega arith)
       ]),
 )
 
 pub invariant_of-self-2 : goal.invariant_of-self-2
 invariant_of-self-2 c =
     let base = the_view c.self.inside in
-    let triggers : seen nat_cmp c.put_trigger.new.triggers ≡ map.insert base.triggers base.next_id c.args.trigger = at_ok c.put_trigger.result c.if-is_err.ensures.value c.put_trigger.ensures.ok in
-    let few : map.len base.triggers < trigger_limit = omega (arith, c.attached.ensures) in
+    let triggers : seen nat_cmp c.put.new.map ≡ map.insert base.triggers base.next_id c.args.trigger = at_ok c.put.result c.if-is_err.ensures.value c.put.ensures.ok in
+    let few : map.len base.triggers < trigger_limit = omega (arith, c.len.ensures) in
     rw triggers (attach-IsReachable base c.args.trigger c.self.invariant.0 few (omega arith), c.self.invariant.1)
 
 pub returns : goal.returns
 returns c =
     let base = the_view c.self.inside in
-    let triggers : seen nat_cmp c.put_trigger.new.triggers ≡ map.insert base.triggers base.next_id c.args.trigger = at_ok c.put_trigger.result c.if-is_err.ensures.value c.put_trigger.ensures.ok in
-    let few : map.len base.triggers < trigger_limit = omega (arith, c.attached.ensures) in
+    let triggers : seen nat_cmp c.put.new.map ≡ map.insert base.triggers base.next_id c.args.trigger = at_ok c.put.result c.if-is_err.ensures.value c.put.ensures.ok in
+    let few : map.len base.triggers < trigger_limit = omega (arith, c.len.ensures) in
     (ap (λ b. after_attach b c.args.trigger) (sym c.self.view_is) ∙ attach-ok base c.args.trigger few (omega arith) ∙ (λ i. Ok (record base { triggers = sym triggers i; next_id = base.next_id + 1 }, base.next_id)), refl, λ e. e)

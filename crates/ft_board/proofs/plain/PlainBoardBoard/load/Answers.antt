@@ -7,7 +7,7 @@ use Rattle.ft_board.specs.declared.refused.Refused.TheVariants.{LaneHeld}
 use Rattle.ft_board.specs.Base.{event_limit, held_in}
 use Rattle.ft_board.specs.After.{after_load, first_held, with_lanes}
 use Rattle.ft_board.specs.Reachable.{HasCpu}
-use Rattle.ft_board.specs.Seen.{seen}
+use Rattle.ft_maps.specs.Seen.{seen}
 use Rattle.ft_board.proofs.After.{at_ok, load-held, load-full, load-ok}
 use Rattle.ft_board.proofs.Reachable.{load-IsReachable, held-with_lanes}
 use Rattle.ft_board.proofs.plain.PlainBoardBoard.load.Goals as goal

@@ -1,8 +1,8 @@
 use Rattle.std.proofs.Common.{◌≡◌, ◌<◌, ◌^◌, rules, sum, sym, ap, ◌∙◌, arith}
 use Rattle.std.specs.Map.{values_of}
-use Rattle.ft_board.specs.Hist.{hits_of}
+use Rattle.ft_board.specs.HistText.{hits_of}
 use Rattle.ft_board.proofs.Orders.{key_total}
-use Rattle.ft_board.proofs.Counting.{values-seen}
+use Rattle.ft_maps.specs.Seen.{values-seen}
 use Rattle.ft_board.proofs.tally.Tally.hits.Goals as goal
 
 pub sum-requires-clause-fits : goal.sum-requires-clause-fits

@@ -1,0 +1,66 @@
+//! Finite maps: what contracts see of a `BTreeMap`, and its edits in those words.
+//!
+//! Each function needs that keys which tie are equal, so that a finite map tells no more keys
+//! apart than the tree does.
+#![tactic(auto)]
+
+ghost use Rattle.std.specs.Prelude.{◌≡◌, ◌<◌, ◌^◌, length, OnOk, OnErr};
+ghost use Rattle.std.specs.Option.{option_copied};
+ghost use Rattle.std.specs.Map.Iter.{ShowsInOrder, deref_pair};
+ghost use Rattle.std.specs.FinMap as finite;
+ghost use Rattle.std.specs.FinMap.{IsAntisymmetric};
+ghost use Rattle.ft_maps.specs.Seen.{seen};
+
+use std::alloc::AllocError;
+use std::collections::BTreeMap;
+use std::collections::btree_map::Iter;
+
+/// Puts a value at a key, in place of what the key had. Refused for memory, and then the map is as
+/// it was.
+pub fn put<K: Ord + Drop, V: Drop>(
+    map: &mut BTreeMap<K, V>,
+    key: K,
+    value: V,
+) -> Result<(), AllocError>
+    requires { IsAntisymmetric K.cmp }
+    ensures ok { OnOk result (seen K.cmp map.new ≡ finite.insert (seen K.cmp map.old) key value) }
+    ensures err { OnErr result (seen K.cmp map.new ≡ seen K.cmp map.old) }
+{
+    map.insert(key, value)?;
+    Ok(())
+}
+
+/// Takes out what a key has, if it has anything.
+pub fn take<K: Ord + Drop, V: Drop>(map: &mut BTreeMap<K, V>, key: &K)
+    requires { IsAntisymmetric K.cmp }
+    ensures { seen K.cmp map.new ≡ finite.remove (seen K.cmp map.old) key.now }
+{
+    map.remove(key);
+}
+
+/// How many keys have something.
+pub fn len<K: Ord, V>(map: &BTreeMap<K, V>) -> usize
+    ensures { result ≡ finite.len (seen K.cmp map.now) }
+{
+    map.len()
+}
+
+/// The value of a key.
+pub fn get<'a, K: Ord, V>(map: &'a BTreeMap<K, V>, key: &K) -> Option<&'a V>
+    ensures { option_copied result ≡ finite.get (seen K.cmp map.now) key.now }
+{
+    map.get(key)
+}
+
+/// The keys with their values, in order.
+pub fn entries<K: Ord, V>(map: &BTreeMap<K, V>) -> Iter<'_, K, V>
+    ensures rest { result ≡ finite.entries (seen K.cmp map.now) }
+    ensures fits { length result < 2 ^ 63 }
+    // A loop takes them from the front.
+    ensures runs { ShowsInOrder (deref_pair {K = K} {X = V}) }
+{
+    map.iter()
+}
+
+#[cfg(test)]
+mod tests;
