@@ -12,10 +12,10 @@
 # when they are asked again. And a script through `run` prints its whole output, or answers want of
 # memory with the whole output of the commands before.
 #
-# `rt try`, which proves nothing, compiles a crate's tests anew for each allocation: that took 33 s for
-# ft_filter on four processors with little else to do, and a minute or two for each crate on a busy day.
-# ft_filter has fewer than 24 allocations to refuse, ft_trigger fewer than 30, ft_board fewer than 16 and
-# ft_desk between 41 and 80, so all four crates should take one to three hours.
+# `rt try`, which proves nothing, compiles a crate's tests anew for each allocation. That took half a
+# minute to three minutes on four processors that other work kept busy. The plain tests below make fewer
+# than 24 allocations in ft_filter, 30 in ft_trigger, 16 in ft_board, and between 40 and 80 in ft_desk, so
+# that all four crates should take one to three hours. Nobody has timed the whole.
 set -euo pipefail
 
 crates=$(dirname -- "$(realpath -- "${BASH_SOURCE[0]}")")/../crates
