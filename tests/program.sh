@@ -1,41 +1,98 @@
 #!/usr/bin/env bash
-# program.sh: runs the built program as a user would: the examples, words, folders, full disks, limits
-# of files, and a script that is typed. It prints what went wrong, and a last line with the counts.
+# program.sh [PROGRAM]: runs a program, or else the launcher, as a user would: the examples, words,
+# folders, full disks, limits of files, and a script that is typed. It prints what went wrong, and a
+# last line with the counts.
 set -uo pipefail
 
 here=$(dirname -- "$(realpath -- "${BASH_SOURCE[0]}")")
-histdesk=$here/../histdesk
+histdesk=$(realpath -- "${1:-$here/../histdesk}")
 examples=$here/../examples
-folder=$(mktemp -d)
-trap 'rm -rf -- "$folder"' EXIT
+# A run that takes more seconds is ended, and fails.
+limit=120
 passed=0
 failed=0
 
-# gives WHAT STATUS FIRST_ERROR_LINE COMMAND..: the command's status and what it says on standard error.
+folder=$(mktemp -d)
+trap 'rm -rf -- "$folder"' EXIT
+
+pass() {
+    passed=$((passed + 1))
+}
+
+fail() {
+    failed=$((failed + 1))
+    printf '%s\n' "$1"
+}
+
+# gives WHAT STATUS ERROR COMMAND..: the command's status, and all that it says on standard error.
 gives() {
-    local what=$1 want=$2 error=$3 status
+    local what=$1 want=$2 error=$3 status told
     shift 3
-    "$@" >"$folder/out" 2>"$folder/err" </dev/null
+    timeout "$limit" "$@" >"$folder/out" 2>"$folder/err" </dev/null
     status=$?
-    if [[ $status == "$want" && $(head -n 1 "$folder/err") == "$error" ]]; then
-        ((passed++))
+    told=$(<"$folder/err")
+    if [[ $status == "$want" && $told == "$error" ]]; then
+        pass
     else
-        ((failed++))
-        echo "$what: status $status, $(head -n 1 "$folder/err")"
+        fail "$what: status $status, $told"
     fi
 }
 
 # prints WHAT FILE: the last command's output is that file.
 prints() {
     if cmp -s -- "$folder/out" "$2"; then
-        ((passed++))
+        pass
     else
-        ((failed++))
-        echo "$1: other output"
+        fail "$1: other output"
     fi
 }
 
-"$histdesk" - </dev/null >/dev/null
+# says WHAT LINE: the last command's output is that line.
+says() {
+    printf '%s\n' "$2" >"$folder/line"
+    prints "$1" "$folder/line"
+}
+
+# comes FILE LINE: whether the file holds that line alone, now or some seconds later.
+comes() {
+    local end=$((SECONDS + 10))
+    until [[ $(<"$1") == "$2" ]]; do
+        ((SECONDS < end)) || return 1
+        sleep 0.02
+    done
+}
+
+# Who types a script sees a command's output before the next one, and its end ends the program.
+types() {
+    local run status
+    mkfifo "$folder/typed"
+    : >"$folder/seen"
+    timeout "$limit" "$histdesk" - <"$folder/typed" >"$folder/seen" &
+    run=$!
+    # Open for reading too, so that no writing ends this script where the program has ended.
+    exec 3<>"$folder/typed"
+    echo 'hist 1' >&3
+    if comes "$folder/seen" "refused 10"; then
+        pass
+    else
+        fail "typed: not seen"
+    fi
+    exec 3>&-
+    wait "$run"
+    status=$?
+    if [[ $status == 1 ]]; then
+        pass
+    else
+        fail "typed: status $status"
+    fi
+}
+
+# The launcher builds the program where it is stale, which no limit holds for.
+if ! "$histdesk" - </dev/null >/dev/null; then
+    echo "not run: $histdesk"
+    echo "0 passed, 1 failed"
+    exit 1
+fi
 : >"$folder/empty"
 printf 'load @1\n' >"$folder/load"
 mkdir "$folder/folder"
@@ -49,7 +106,9 @@ prints filters "$examples/filters.expected"
 gives no_words 0 "" "$histdesk"
 gives two_dashes 0 "" "$histdesk" --
 gives standard_input 0 "" "$histdesk" -
+prints standard_input "$folder/empty"
 gives help 2 "histdesk: bad words" "$histdesk" --help
+prints help "$folder/empty"
 gives option_after_script 2 "histdesk: bad words" "$histdesk" "$folder/empty" -x
 gives no_text 2 "histdesk: read failed" "$histdesk" $'\xff'
 gives no_script 2 "histdesk: cannot read $folder/none" "$histdesk" "$folder/none"
@@ -60,21 +119,14 @@ gives folder_as_script 2 "histdesk: read failed" "$histdesk" "$folder/folder"
 gives endless_trace 2 "histdesk: cannot read /dev/zero" "$histdesk" "$folder/empty" /dev/zero
 truncate -s 1073741825 "$folder/large"
 gives large_trace 2 "histdesk: cannot read $folder/large" "$histdesk" "$folder/empty" "$folder/large"
-gives full_disk 2 "histdesk: write failed" bash -c "exec '$histdesk' '$folder/load' >/dev/full"
-python3 -c 'print("a-1 [000] 1.000000:\n" * 1048576, end="")' >"$folder/million"
+gives full_disk 2 "histdesk: write failed" bash -c 'exec "$@" >/dev/full' - "$histdesk" "$folder/load"
+yes 'a-1 [000] 1.000000:' | head -n 1048576 >"$folder/million"
 gives million_lines 0 "" "$histdesk" "$folder/load" "$folder/million"
+says million_lines "loaded 1048576"
 echo 'a-1 [000] 1.000000:' >>"$folder/million"
 gives one_line_more 1 "" "$histdesk" "$folder/load" "$folder/million"
-
-# Who types a script sees a command's output before the next one.
-mkfifo "$folder/typed"
-"$histdesk" - <"$folder/typed" >"$folder/seen" &
-exec 3>"$folder/typed"
-echo 'hist 1' >&3
-sleep 1
-if [[ $(<"$folder/seen") == "refused 10" ]]; then ((passed++)); else ((failed++)); echo "typed: not seen"; fi
-exec 3>&-
-wait
+says one_line_more "refused 7"
+types
 
 echo "$passed passed, $failed failed"
 ((failed == 0))

@@ -7,7 +7,7 @@ use Rattle.std.proofs.KnownBytes.{Consumes-kept, Appends-trans, Appends-kept, st
 use Rattle.std.proofs.Transfers.{starts_with_of_append, starts_with_of_eq}
 use Rattle.std.proofs.Math.Seq.{take-append_seam}
 use Rattle.ft_board.specs.Base.{Base, empty_base}
-use Rattle.ft_desk.specs.declared.pieces.Turn.TheVariants as turns
+use Rattle.ft_desk.specs.declared.pieces.Taken.TheVariants as takes
 use Rattle.ft_desk.specs.declared.running.Status.{Status}
 use Rattle.ft_desk.specs.declared.running.RunFault.{RunFault}
 use Rattle.ft_desk.specs.declared.running.RunFault.TheVariants as faults
@@ -15,7 +15,7 @@ use Rattle.ft_desk.specs.Lines.{lines_of, ended_lines}
 use Rattle.ft_desk.specs.Script.{asked_by}
 use Rattle.ft_desk.specs.Output.{outcome, output, output_from, output_of_lines}
 use Rattle.ft_desk.specs.Run.{status_of, RunEnds}
-use Rattle.ft_desk.specs.Turns.{TurnGives, LineGives, WritesFront}
+use Rattle.ft_desk.specs.Steps.{TakingGives, LineGives, WritesFront}
 use Rattle.ft_desk.proofs.LineLemmas.{last_piece, lines_of-split, lines_of-some}
 use Rattle.ft_desk.proofs.OutputLemmas.{output_from-push, output_from-line, asked_by-kept}
 use Rattle.ft_desk.proofs.Progress.{Progress, Next, line_next, last_lines, whole_lines, append-some, kept-some, kept-none, line_kept}
@@ -76,27 +76,27 @@ module _ (files : List (List ℕ)) where
       ((output files script).text, Appends-kept before after later (output files script).text ends.2 kept, starts_with_of_eq _ _ refl)
 
   module _ (base : Base) (refused : Bool) (piece next : List ℕ) where
-    -- the line that a turn ended is the next one
+    -- the line whose end was taken is the next one
     pub line_begins : (reader left rest before after : Option (List ℕ)) (p : Progress files reader left before after base refused piece)
-        → TurnGives (Ok turns.Line) left rest piece next → IfSome reader (λ script. Next script p.read next)
-    line_begins None left rest before after p turn = tt
-    line_begins (Some script) None rest before after p turn = absurd p.consumed
-    line_begins (Some script) (Some bytes) None before after p turn = absurd turn.1
-    line_begins (Some script) (Some bytes) (Some further) before after p turn =
-        line_next script p.read turn.0 further next (p.consumed ∙ ap (λ l. p.read ++ l) turn.1) turn.2.0
-        (line_kept files (Some script) (Some bytes) (Some further) before after base refused piece next p turn.0 turn.2)
+        → TakingGives (Ok takes.Line) left rest piece next → IfSome reader (λ script. Next script p.read next)
+    line_begins None left rest before after p took = tt
+    line_begins (Some script) None rest before after p took = absurd p.consumed
+    line_begins (Some script) (Some bytes) None before after p took = absurd took.1
+    line_begins (Some script) (Some bytes) (Some further) before after p took =
+        line_next script p.read took.0 further next (p.consumed ∙ ap (λ l. p.read ++ l) took.1) took.2.0
+        (line_kept files (Some script) (Some bytes) (Some further) before after base refused piece next p took.0 took.2)
 
     -- so is a last line without an end
     pub last_begins : (reader left rest before after : Option (List ℕ)) (p : Progress files reader left before after base refused piece)
-        → TurnGives (Ok turns.End) left rest piece next → next ≢ [] → IfSome reader (λ script. Next script p.read next)
-    last_begins None left rest before after p turn some = tt
-    last_begins (Some script) None rest before after p turn some = absurd p.consumed
-    last_begins (Some script) (Some bytes) rest before after p turn some =
-        let kept = turn.2 ∙ p.kept in
+        → TakingGives (Ok takes.End) left rest piece next → next ≢ [] → IfSome reader (λ script. Next script p.read next)
+    last_begins None left rest before after p took some = tt
+    last_begins (Some script) None rest before after p took some = absurd p.consumed
+    last_begins (Some script) (Some bytes) rest before after p took some =
+        let kept = took.2 ∙ p.kept in
         record {
           line = last_piece p.read;
           more = [];
-          lines = last_lines script p.read (p.consumed ∙ ap (λ l. p.read ++ l) turn.1) (kept-some (last_piece p.read) next kept some);
+          lines = last_lines script p.read (p.consumed ∙ ap (λ l. p.read ++ l) took.1) (kept-some (last_piece p.read) next kept some);
           asked = ap asked_by kept ∙ asked_by-kept (last_piece p.read);
         }
 
@@ -126,45 +126,45 @@ module _ (files : List (List ℕ)) where
 
     -- the script's end behind a line's end
     pub ends : (reader left rest before after : Option (List ℕ)) → Progress files reader left before after base refused piece
-        → TurnGives (Ok turns.End) left rest piece next → next ≡ [] → RunEnds files (Ok (status_of refused)) reader rest before after
-    ends None left rest before after p turn none = tt
-    ends (Some script) None rest before after p turn none = absurd p.consumed
-    ends (Some script) (Some bytes) None before after p turn none = absurd turn.0
-    ends (Some script) (Some bytes) (Some further) before after p turn none =
-        let lines = whole_lines script p.read (p.consumed ∙ ap (λ l. p.read ++ l) turn.1) (kept-none (last_piece p.read) next (turn.2 ∙ p.kept) none) in (
-          all_read script further (turn.0 ∙ turn.1),
-          turn.0 ∙ turn.1,
+        → TakingGives (Ok takes.End) left rest piece next → next ≡ [] → RunEnds files (Ok (status_of refused)) reader rest before after
+    ends None left rest before after p took none = tt
+    ends (Some script) None rest before after p took none = absurd p.consumed
+    ends (Some script) (Some bytes) None before after p took none = absurd took.0
+    ends (Some script) (Some bytes) (Some further) before after p took none =
+        let lines = whole_lines script p.read (p.consumed ∙ ap (λ l. p.read ++ l) took.1) (kept-none (last_piece p.read) next (took.2 ∙ p.kept) none) in (
+          all_read script further (took.0 ∙ took.1),
+          took.0 ∙ took.1,
           rw lines p.written,
           rw lines (ap status_of p.told),
         )
 
     -- the script's end behind a last line without an end, which is done
     pub ends_with : (reader left rest before after : Option (List ℕ)) → Progress files reader left before after base refused piece
-        → TurnGives (Ok turns.End) left rest piece next → next ≢ [] → (later : Option (List ℕ)) (held : Base) (told : Bool)
+        → TakingGives (Ok takes.End) left rest piece next → next ≢ [] → (later : Option (List ℕ)) (held : Base) (told : Bool)
         → LineGives (outcome files base (asked_by next)) held after later (Ok told) → RunEnds files (Ok (status_of (refused || told))) reader rest before later
-    ends_with None left rest before after p turn some later held told gives = tt
-    ends_with (Some script) None rest before after p turn some later held told gives = absurd p.consumed
-    ends_with (Some script) (Some bytes) None before after p turn some later held told gives = absurd turn.0
-    ends_with (Some script) (Some bytes) (Some further) before after p turn some later held told gives =
+    ends_with None left rest before after p took some later held told gives = tt
+    ends_with (Some script) None rest before after p took some later held told gives = absurd p.consumed
+    ends_with (Some script) (Some bytes) None before after p took some later held told gives = absurd took.0
+    ends_with (Some script) (Some bytes) (Some further) before after p took some later held told gives =
         let line = last_piece p.read in
-        let kept = turn.2 ∙ p.kept in
-        let lines = last_lines script p.read (p.consumed ∙ ap (λ l. p.read ++ l) turn.1) (kept-some line next kept some) in
+        let kept = took.2 ∙ p.kept in
+        let lines = last_lines script p.read (p.consumed ∙ ap (λ l. p.read ++ l) took.1) (kept-some line next kept some) in
         let pushed = output_from-push files empty_base (ended_lines p.read) line in
         let done = output_of_lines files (ended_lines p.read) in
         let does = outcome files done.base (asked_by line) in
         let same = ap (λ b. outcome files b (asked_by next)) p.held ∙ ap (outcome files done.base) (ap asked_by kept ∙ asked_by-kept line) in (
-          all_read script further (turn.0 ∙ turn.1),
-          turn.0 ∙ turn.1,
+          all_read script further (took.0 ∙ took.1),
+          took.0 ∙ took.1,
           rw (lines, pushed.0) (Appends-trans before after later _ does.text p.written (subst (λ o. Appends after later o.text) same gives.2)),
           ap status_of (ap (λ t. refused || t) gives.0 ∙ ap (λ o. refused || o.refused) same ∙ ap (λ r. r || does.refused) p.told ∙ sym pushed.2 ∙ ap (λ l. (output_of_lines files l).refused) (sym lines)),
         )
 
-    -- a turn that failed
-    pub turn_fails : (fault : RunFault) (reader left rest before after : Option (List ℕ)) → Progress files reader left before after base refused piece
-        → TurnGives (Err fault) left rest piece next → RunEnds files (Err fault) reader rest before after
-    turn_fails faults.Memory reader left rest before after p turn = no_room reader left rest before after base refused piece p turn
-    turn_fails faults.Read reader left rest before after p turn = read_fails reader left rest before after base refused piece p turn
-    turn_fails faults.Write reader left rest before after p turn = absurd turn
+    -- a taking that failed
+    pub taking_fails : (fault : RunFault) (reader left rest before after : Option (List ℕ)) → Progress files reader left before after base refused piece
+        → TakingGives (Err fault) left rest piece next → RunEnds files (Err fault) reader rest before after
+    taking_fails faults.Memory reader left rest before after p took = no_room reader left rest before after base refused piece p took
+    taking_fails faults.Read reader left rest before after p took = read_fails reader left rest before after base refused piece p took
+    taking_fails faults.Write reader left rest before after p took = absurd took
 
     -- a line that failed
     pub line_fails : (fault : RunFault) (reader left rest before after later : Option (List ℕ)) (held : Base) (p : Progress files reader left before after base refused piece)

@@ -6,12 +6,12 @@ use Rattle.std.proofs.KnownBytes.{Consumes-nil, Consumes-trans, Appends-nil, App
 use Rattle.std.proofs.lemmas.List.{take_all, take-append-le, take-take, length-take, length-take-le}
 use Rattle.std.proofs.lemmas.Bool.{cases_lt}
 use Rattle.ft_board.specs.Base.{Base, empty_base}
-use Rattle.ft_desk.specs.declared.pieces.Turn.TheVariants as turns
+use Rattle.ft_desk.specs.declared.pieces.Taken.TheVariants as takes
 use Rattle.ft_desk.specs.declared.running.RunFault.{RunFault}
 use Rattle.ft_desk.specs.Lines.{lines_of, ended_lines}
 use Rattle.ft_desk.specs.Script.{asked_by}
 use Rattle.ft_desk.specs.Output.{outcome, output_from, output_of_lines}
-use Rattle.ft_desk.specs.Turns.{AddsPart, TurnGives, LineGives}
+use Rattle.ft_desk.specs.Steps.{AddsPart, TakingGives, LineGives}
 use Rattle.ft_desk.proofs.LineLemmas.{last_piece, lines_of-split, lines_of-plain, last_piece-plain, ended_lines-part, ended_lines-line}
 use Rattle.ft_desk.proofs.OutputLemmas.{output_from-push, asked_by-kept}
 
@@ -102,14 +102,14 @@ module _ (files : List (List ℕ)) where
 
   module _ (reader left rest before after : Option (List ℕ)) (base : Base) (refused : Bool) (piece next : List ℕ) (p : Progress files reader left before after base refused piece) where
     -- a part of a line was read
-    pub reads_part : TurnGives (Ok turns.Part) left rest piece next → Progress files reader rest before after base refused next
-    reads_part turn =
-        let part = turn.0 in
-        let same = ended_lines-part p.read part turn.2.0 in
+    pub reads_part : TakingGives (Ok takes.Part) left rest piece next → Progress files reader rest before after base refused next
+    reads_part took =
+        let part = took.0 in
+        let same = ended_lines-part p.read part took.2.0 in
         record {
           read = p.read ++ part;
-          consumed = Consumes-trans _ _ _ _ _ p.consumed turn.1;
-          kept = turn.2.1 ∙ ap (λ l. take 8193 (l ++ part)) p.kept ∙ take-take-append 8193 (last_piece p.read) part ∙ ap (take 8193) (sym same.1);
+          consumed = Consumes-trans _ _ _ _ _ p.consumed took.1;
+          kept = took.2.1 ∙ ap (λ l. take 8193 (l ++ part)) p.kept ∙ take-take-append 8193 (last_piece p.read) part ∙ ap (take 8193) (sym same.1);
           written = rw same.0 p.written;
           held = rw same.0 p.held;
           told = rw same.0 p.told;
@@ -120,20 +120,20 @@ module _ (files : List (List ℕ)) where
     line_kept part adds = adds.1 ∙ ap (λ l. take 8193 (l ++ part)) p.kept ∙ take-take-append 8193 (last_piece p.read) part
 
     -- a line was read to its end and done
-    pub reads_line : TurnGives (Ok turns.Line) left rest piece next → (later : Option (List ℕ)) (held : Base) (told : Bool)
+    pub reads_line : TakingGives (Ok takes.Line) left rest piece next → (later : Option (List ℕ)) (held : Base) (told : Bool)
         → LineGives (outcome files base (asked_by next)) held after later (Ok told) → Progress files reader rest before later held (refused || told) []
-    reads_line turn later held told gives =
-        let part = turn.0 in
+    reads_line took later held told gives =
+        let part = took.0 in
         let line = last_piece p.read ++ part in
-        let ended = ended_lines-line p.read part turn.2.0 in
-        let asked = ap asked_by (line_kept part turn.2) ∙ asked_by-kept line in
+        let ended = ended_lines-line p.read part took.2.0 in
+        let asked = ap asked_by (line_kept part took.2) ∙ asked_by-kept line in
         let pushed = output_from-push files empty_base (ended_lines p.read) line in
         let done = output_of_lines files (ended_lines p.read) in
         let does = outcome files done.base (asked_by line) in
         let same = ap (λ b. outcome files b (asked_by next)) p.held ∙ ap (outcome files done.base) asked in
         record {
           read = p.read ++ (part ++ 10 ∷ []);
-          consumed = Consumes-trans _ _ _ _ _ p.consumed turn.1;
+          consumed = Consumes-trans _ _ _ _ _ p.consumed took.1;
           kept = sym (ap (take 8193) ended.1 ∙ take_all 8193 [] (omega arith));
           written = rw (ended.0, pushed.0) (Appends-trans _ _ _ _ _ p.written (subst (λ o. Appends after later o.text) same gives.2));
           held = gives.1 ∙ ap (λ o. o.base) same ∙ sym pushed.1 ∙ ap (λ l. (output_of_lines files l).base) (sym ended.0);

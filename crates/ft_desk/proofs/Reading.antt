@@ -4,11 +4,11 @@ use Rattle.ft_event.specs.Traced.{Traced}
 use Rattle.ft_event.specs.Line.{line_of}
 use Rattle.ft_board.specs.declared.refused.Refused.{Refused}
 use Rattle.ft_desk.specs.Lines.{lines_of}
-use Rattle.ft_desk.specs.Output.{events_of, events_from, with_line}
+use Rattle.ft_desk.specs.Output.{events_of, events_from, line_in_front}
 use Rattle.ft_desk.specs.Reading.{in_front}
 
 -- one line more was read
-pub read_more : (text rest line behind : List ℕ) (number : ℕ) (held more : List Traced) → in_front held (events_from number (lines_of rest)) ≡ events_of text → lines_of rest ≡ line ∷ lines_of behind → in_front held (with_line number (line_of line) (events_from (number + 1) (lines_of behind))) ≡ in_front more (events_from (number + 1) (lines_of behind)) → in_front more (events_from (number + 1) (lines_of behind)) ≡ events_of text
+pub read_more : (text rest line behind : List ℕ) (number : ℕ) (held more : List Traced) → in_front held (events_from number (lines_of rest)) ≡ events_of text → lines_of rest ≡ line ∷ lines_of behind → in_front held (line_in_front number (line_of line) (events_from (number + 1) (lines_of behind))) ≡ in_front more (events_from (number + 1) (lines_of behind)) → in_front more (events_from (number + 1) (lines_of behind)) ≡ events_of text
 unfolding events_from
 read_more text rest line behind number held more so cut step = sym step ∙ ap (λ lines. in_front held (events_from number lines)) (sym cut) ∙ so
 
@@ -18,6 +18,6 @@ unfolding events_from
 read_whole text rest number held so end = sym so ∙ ap (λ left. in_front held (events_from number (lines_of left))) end ∙ ap Ok (append-nil held)
 
 -- a line was refused
-pub read_refused : (text rest line behind : List ℕ) (number : ℕ) (held : List Traced) (refused : Refused) → in_front held (events_from number (lines_of rest)) ≡ events_of text → lines_of rest ≡ line ∷ lines_of behind → with_line number (line_of line) (events_from (number + 1) (lines_of behind)) ≡ Err refused → events_of text ≡ Err refused
+pub read_refused : (text rest line behind : List ℕ) (number : ℕ) (held : List Traced) (refused : Refused) → in_front held (events_from number (lines_of rest)) ≡ events_of text → lines_of rest ≡ line ∷ lines_of behind → line_in_front number (line_of line) (events_from (number + 1) (lines_of behind)) ≡ Err refused → events_of text ≡ Err refused
 unfolding events_from
 read_refused text rest line behind number held refused so cut step = sym so ∙ ap (λ lines. in_front held (events_from number lines)) cut ∙ ap (in_front held) step

@@ -1,9 +1,9 @@
--- What a command that was read asks for (our own choice).
+-- What a command that was read asks for. All of it is our own choice.
 use Rattle.ft_desk.specs.declared.script.Command.{Command}
 use Rattle.ft_desk.specs.declared.script.Command.TheVariants as commands
 use Rattle.ft_desk.specs.Script.{Asked, Nothing, Load, Attach, Hist, NoForm}
 
--- a command as what it asks for, a text by its bytes (our own choice)
+-- a command as what it asks for, a text by its bytes
 abbrev pub asked : Command → Asked
 asked commands.Nothing = Nothing
 asked (commands.Load number) = Load number

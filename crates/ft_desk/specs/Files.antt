@@ -1,15 +1,15 @@
--- Files that are read whole (our own choice).
+-- Files that are read whole. All of it is our own choice.
 use Rattle.std.specs.Prelude.{◌≡◌, ◌≤◌, ℕ, List, ◌++◌, length, Option}
 use Rattle.std.specs.Io.KnownBytes.{Consumes, IsAtEnd}
 
--- the most bytes of a trace file (our own choice)
+-- the most bytes of a trace file
 abbrev pub file_limit : ℕ
 file_limit = 1073741824
 
--- bytes that the reader gives are added (our own choice)
+-- bytes that the reader gives are added
 abbrev pub GivesTo : Option (List ℕ) → Option (List ℕ) → List ℕ → List ℕ → Type 0
 GivesTo reader rest before after = (given : List ℕ) × Consumes reader rest given × (after ≡ before ++ given)
 
--- all that the reader had, within the limit (our own choice)
+-- all that the reader had, within the limit
 abbrev pub ReadsWhole : Option (List ℕ) → Option (List ℕ) → List ℕ → Type 0
 ReadsWhole reader rest bytes = Consumes reader rest bytes × IsAtEnd rest × (length bytes ≤ file_limit)

@@ -4,7 +4,7 @@ pub mod Script
 pub mod Command
 pub mod Output
 pub mod Printed
-pub mod Turns
+pub mod Steps
 pub mod Run
 pub mod Shown
 pub mod Files
@@ -13,9 +13,12 @@ pub mod Program
 pub use Rattle.ft_event.specs.Traced
 pub use Rattle.ft_event.specs.Line
 pub use Rattle.ft_event.specs.LineFault
+pub use Rattle.ft_event.specs.Names
+pub use Rattle.ft_filter.specs.FilterFault
 pub use Rattle.ft_board.specs.Refused
 pub use Rattle.ft_board.specs.Trigger
 pub use Rattle.ft_board.specs.TriggerFault
+pub use Rattle.ft_board.specs.Codes
 pub use Rattle.ft_board.specs.Base
 pub use Rattle.ft_board.specs.After
 pub use Rattle.ft_board.specs.HistText

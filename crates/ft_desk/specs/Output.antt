@@ -1,4 +1,4 @@
--- What a script prints (our own choice).
+-- What a script prints. All of it is our own choice.
 use Rattle.std.specs.Prelude.{ℕ, ◌+◌, ◌-◌, Bool, true, false, ◌||◌, List, [], ◌∷◌, ◌++◌, Option, Some, None, Result, Ok, Err, ◌==◌, if◌then◌else◌, codes, decimal, slice_get}
 use Rattle.std.specs.Option.{option_map_or}
 use Rattle.ft_event.specs.Traced.{Traced}
@@ -24,43 +24,43 @@ use Rattle.ft_board.specs.HistText.{hist_text}
 use Rattle.ft_desk.specs.Lines.{lines_of}
 use Rattle.ft_desk.specs.Script.{Asked, Nothing, Load, Attach, Hist, NoForm, asked_by}
 
--- a line's event in front of those of the lines behind it; a line that cannot be read is the fault of all (our own choice)
-abbrev pub with_line : ℕ → Result Line LineFault → Result (List Traced) Refused → Result (List Traced) Refused
-with_line number (Err fault) rest = Err (BadLine number fault)
-with_line number (Ok lines.Skip) rest = rest
-with_line number (Ok (lines.Event event)) (Ok events) = Ok (event ∷ events)
-with_line number (Ok (lines.Event event)) (Err refused) = Err refused
+-- a line's event in front of those of the lines behind it; a line that cannot be read is the fault of all
+abbrev pub line_in_front : ℕ → Result Line LineFault → Result (List Traced) Refused → Result (List Traced) Refused
+line_in_front number (Err fault) rest = Err (BadLine number fault)
+line_in_front number (Ok lines.Skip) rest = rest
+line_in_front number (Ok (lines.Event event)) (Ok events) = Ok (event ∷ events)
+line_in_front number (Ok (lines.Event event)) (Err refused) = Err refused
 
--- the events of lines, the first of which has this number; or the first line that cannot be read (our own choice)
+-- the events of lines, the first of which has this number; or the first line that cannot be read
 unfoldable pub events_from : ℕ → List (List ℕ) → Result (List Traced) Refused
 events_from number [] = Ok []
-events_from number (line ∷ lines) = with_line number (line_of line) (events_from (number + 1) lines)
+events_from number (line ∷ lines) = line_in_front number (line_of line) (events_from (number + 1) lines)
 
--- the events of a trace text, in file order (our own choice)
+-- the events of a trace text, in file order
 abbrev pub events_of : List ℕ → Result (List Traced) Refused
 events_of text = events_from 1 (lines_of text)
 
 infixl 10 ◌>>=◌
--- what follows a step that was not refused (our own choice)
+-- what follows a step that was not refused
 abbrev pub ◌>>=◌ : {A B : Type 0} → Result A Refused → (A → Result B Refused) → Result B Refused
 (Ok x) >>= f = f x
 (Err refused) >>= f = Err refused
 
--- loading a trace text (our own choice)
+-- loading a trace text
 unfoldable pub after_load_text : Base → List ℕ → Result (Base × ℕ) Refused
 after_load_text base text = events_of text >>= after_load base
 
--- a trigger's fault as a refusal; want of memory is a refusal of its own (our own choice)
+-- a trigger's fault as a refusal; want of memory is a refusal of its own
 abbrev pub refused_for : TriggerFault → Refused
 refused_for faults.Memory = Memory
 refused_for fault = BadTrigger fault
 
--- a trigger's text as read, or refused (our own choice)
+-- a trigger's text as read, or refused
 abbrev pub trigger_or_refused : Result Trigger TriggerFault → Result Trigger Refused
 trigger_or_refused (Ok trigger) = Ok trigger
 trigger_or_refused (Err fault) = Err (refused_for fault)
 
--- a trigger's text on an event: on the three wake events alone for now (our own choice)
+-- a trigger's text on an event: on the three wake events alone for now
 abbrev pub trigger_for : Name → List ℕ → Result Trigger Refused
 trigger_for names.Waking text = trigger_or_refused (trigger_of names.Waking text)
 trigger_for names.Wakeup text = trigger_or_refused (trigger_of names.Wakeup text)
@@ -68,29 +68,29 @@ trigger_for names.WakeupNew text = trigger_or_refused (trigger_of names.WakeupNe
 trigger_for names.Switch text = Err BadCommand
 trigger_for names.Other text = Err BadCommand
 
--- attaching a trigger's text to an event (our own choice)
+-- attaching a trigger's text to an event
 unfoldable pub after_attach_text : Base → Name → List ℕ → Result (Base × ℕ) Refused
 after_attach_text base name text = trigger_for name text >>= after_attach base
 
--- the Nth file, from 1 (our own choice)
+-- the Nth file, from 1
 abbrev pub file_at : List (List ℕ) → ℕ → Option (List ℕ)
 file_at files n = if n == 0 then None else slice_get files (n - 1)
 
--- loading the Nth file (our own choice)
+-- loading the Nth file
 unfoldable pub after_load_file : List (List ℕ) → Base → ℕ → Result (Base × ℕ) Refused
 after_load_file files base n = option_map_or (after_load_text base) (file_at files n) (Err NoFile)
 
--- where a fault is, in a refusal's line (our own choice)
+-- where a fault is, in a refusal's line
 abbrev pub place_text : Option ℕ → List ℕ
 place_text None = []
 place_text (Some place) = codes " at " ++ decimal place
 
--- what a trigger's fault says beside its number: where it is, and of a filter's fault which one and where in the filter's text (our own choice)
+-- what a trigger's fault says beside its number: where it is, and of a filter's fault which one and where in the filter's text
 abbrev pub fault_detail : TriggerFault → List ℕ
 fault_detail (faults.BadFilter fault) = codes " filter " ++ decimal (filter_number fault) ++ place_text (filter_place fault)
 fault_detail fault = place_text (place_of fault)
 
--- what a refusal says beside its number (our own choice)
+-- what a refusal says beside its number
 abbrev pub detail : Refused → List ℕ
 detail (BadLine line fault) = codes ": line " ++ decimal line ++ codes " fault " ++ decimal (fault_number fault)
 detail (LaneHeld cpu) = codes ": cpu " ++ decimal cpu
@@ -102,27 +102,27 @@ detail NoTrigger = []
 detail TooManyTriggers = []
 detail BadCommand = []
 
--- the line of a refused command (our own choice)
+-- the line of a refused command
 unfoldable pub refused_text : Refused → List ℕ
 refused_text refused = codes "refused " ++ decimal (number_of refused) ++ detail refused ++ codes "\n"
 
--- what lines of a script print and make of the base, and whether one was refused (our own choice)
+-- what lines of a script print and make of the base, and whether one was refused
 pub record Outcome : Type 0 where
   pub text : List ℕ
   pub base : Base
   pub refused : Bool
 
--- an edit prints its word and its value, or its refusal, which keeps the base (our own choice)
+-- an edit prints its word and its value, or its refusal, which keeps the base
 abbrev pub edit_outcome : Base → List ℕ → Result (Base × ℕ) Refused → Outcome
 edit_outcome base word (Ok done) = record { text = word ++ decimal done.1 ++ codes "\n"; base = done.0; refused = false }
 edit_outcome base word (Err refused) = record { text = refused_text refused; base = base; refused = true }
 
--- an answer prints its text, or its refusal (our own choice)
+-- an answer prints its text, or its refusal
 abbrev pub answer_outcome : Base → Result (List ℕ) Refused → Outcome
 answer_outcome base (Ok text) = record { text = text; base = base; refused = false }
 answer_outcome base (Err refused) = record { text = refused_text refused; base = base; refused = true }
 
--- what a command does (our own choice)
+-- what a command does
 unfoldable pub outcome : List (List ℕ) → Base → Asked → Outcome
 outcome files base Nothing = record { text = []; base = base; refused = false }
 outcome files base (Load n) = edit_outcome base (codes "loaded ") (after_load_file files base n)
@@ -130,7 +130,7 @@ outcome files base (Attach name text) = edit_outcome base (codes "attached ") (a
 outcome files base (Hist id) = answer_outcome base (hist_text base id)
 outcome files base NoForm = record { text = refused_text BadCommand; base = base; refused = true }
 
--- what lines of a script do, one after the other, from a base on (our own choice)
+-- what lines of a script do, one after the other, from a base on
 unfoldable pub output_from : List (List ℕ) → Base → List (List ℕ) → Outcome
 output_from files base [] = record { text = []; base = base; refused = false }
 output_from files base (line ∷ lines) =
@@ -138,10 +138,10 @@ output_from files base (line ∷ lines) =
     let rest = output_from files first.base lines in
     record { text = first.text ++ rest.text; base = rest.base; refused = first.refused || rest.refused }
 
--- what the first lines of a script do (our own choice)
+-- what the first lines of a script do
 abbrev pub output_of_lines : List (List ℕ) → List (List ℕ) → Outcome
 output_of_lines files lines = output_from files empty_base lines
 
--- what a script does, with the trace files that it may load (our own choice)
+-- what a script does, with the trace files that it may load
 abbrev pub output : List (List ℕ) → List ℕ → Outcome
 output files script = output_of_lines files (lines_of script)

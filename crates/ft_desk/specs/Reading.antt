@@ -1,9 +1,9 @@
--- Reading a trace text line by line, and a trigger's text (our own choice).
+-- Reading a trace text line by line. All of it is our own choice.
 use Rattle.std.specs.Prelude.{List, ◌++◌, Result, Ok, Err}
 use Rattle.ft_event.specs.Traced.{Traced}
 use Rattle.ft_board.specs.declared.refused.Refused.{Refused}
 
--- events that were read already, in front of those of the lines behind (our own choice)
+-- events that were read already, in front of those of the lines behind
 abbrev pub in_front : List Traced → Result (List Traced) Refused → Result (List Traced) Refused
 in_front read (Ok events) = Ok (read ++ events)
 in_front read (Err refused) = Err refused

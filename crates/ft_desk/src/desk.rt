@@ -46,8 +46,8 @@ impl<B: Board> Desk<B> {
     /// first line that cannot be read, where a lane is held, where too many events would be, or for
     /// memory.
     pub fn load(&mut self, text: &[u8]) -> Result<Done<u64>, Refused>
-        ensures { EditGives (after_load_text self.old.base text.now) self.old.base self.new.base
-            self.old.deferred self.new.deferred result }
+        ensures { EditGives (after_load_text self.old.base text.now)
+            self.old.base self.new.base self.old.deferred self.new.deferred result }
     {
         let events = events_in(self.alloc, text)?;
         self.board.load(events)
@@ -57,8 +57,8 @@ impl<B: Board> Desk<B> {
     /// the three wake events, where the text cannot be read, where 64 triggers are attached, where
     /// the ids are used up, or for memory.
     pub fn attach(&mut self, event: Name, text: &[u8]) -> Result<Done<u32>, Refused>
-        ensures { EditGives (after_attach_text self.old.base event text.now) self.old.base self.new.base
-            self.old.deferred self.new.deferred result }
+        ensures { EditGives (after_attach_text self.old.base event text.now)
+            self.old.base self.new.base self.old.deferred self.new.deferred result }
     {
         let trigger = read_trigger(self.alloc, event, text)?;
         self.board.attach(trigger)
@@ -66,13 +66,14 @@ impl<B: Board> Desk<B> {
 
     /// The text of a trigger's table. Refused where no trigger has the id, or for memory.
     pub fn hist(&mut self, id: u32) -> Result<Vec<u8>, Refused>
-        ensures { AnswersFrom (λ text. text.items) (hist_text self.old.base id) self.old.base self.new.base
-            self.old.deferred self.new.deferred result }
+        ensures { AnswersFrom (λ text. text.items) (hist_text self.old.base id)
+            self.old.base self.new.base self.old.deferred self.new.deferred result }
     {
         self.board.hist(id)
     }
 
-    /// Whether the board's kept tables are behind what it holds.
+    /// Whether the board is deferred: its kept tables lack an edit, and the next answer rebuilds
+    /// them.
     pub fn is_deferred(&self) -> bool
         ensures { result ≡ self.now.deferred }
     {
@@ -92,7 +93,8 @@ fn read_trigger(alloc: Global, event: Name, text: &[u8]) -> Result<Trigger, Refu
 
 /// Reads the text of a trigger on a wake event.
 fn wake_trigger(alloc: Global, event: Name, text: &[u8]) -> Result<Trigger, Refused>
-    ensures { AnswerIs (λ trigger. trigger) (trigger_or_refused (trigger_of event text.now)) result }
+    ensures { AnswerIs (λ trigger. trigger)
+        (trigger_or_refused (trigger_of event text.now)) result }
 {
     match Trigger::parse(alloc, event, text) {
         Ok(trigger) => Ok(trigger),

@@ -4,7 +4,7 @@ ghost use Rattle.std.specs.Prelude.{◌≡◌, ◌⊎◌, List, ◌++◌, ◌∷
 ghost use Rattle.ft_event.specs.Line.{line_of};
 ghost use Rattle.ft_event.specs.Traced.{Traced};
 ghost use Rattle.ft_board.specs.After.{AnswerIs};
-ghost use Rattle.ft_desk.specs.Output.{events_of, with_line};
+ghost use Rattle.ft_desk.specs.Output.{events_of, line_in_front};
 ghost use Rattle.ft_desk.specs.Reading.{in_front};
 
 use crate::lines::next_line;
@@ -31,12 +31,14 @@ pub(crate) fn events_in(alloc: Global, text: &[u8]) -> Result<Vec<Event>, Refuse
 /// Adds the event of the line of this number, if the line is not skipped.
 fn add_line(events: &mut Vec<Event>, number: u64, line: &[u8]) -> Result<(), Refused>
     ensures ok { OnOk result ((behind : Result (List Traced) Refused) →
-        in_front events.old.items (with_line number (line_of line.now) behind) ≡ in_front events.new.items behind) }
-    ensures err { IfErr result (λ refused. (refused ≡ Refused.Memory) ⊎ ((behind : Result (List Traced) Refused) →
-        with_line number (line_of line.now) behind ≡ Err refused)) }
+        in_front events.old.items (line_in_front number (line_of line.now) behind)
+        ≡ in_front events.new.items behind) }
+    ensures err { IfErr result (λ refused. (refused ≡ Refused.Memory)
+        ⊎ ((behind : Result (List Traced) Refused) →
+        line_in_front number (line_of line.now) behind ≡ Err refused)) }
 {
     match read_line(line) {
-        // One pattern `Ok(Line::Event(event))` gets no generated proof outside the crate of `Event`.
+        // One pattern `Ok(Line::Event(event))` gets no generated proof outside `Event`'s crate.
         Ok(given) => match given {
             Line::Skip => Ok(()),
             Line::Event(event) => keep(events, event),

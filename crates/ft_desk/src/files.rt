@@ -68,10 +68,11 @@ pub fn read_file<F: Files>(alloc: Global, files: &F, path: &str) -> Result<Vec<u
     read_whole(alloc, size, &mut file)
 }
 
-/// Reads to the reader's end. Room is made first for `size` bytes, which is a guess; but a size past
-/// the limit is refused before anything is read.
+/// Reads to the reader's end. Room is made first for `size` bytes, which is a guess; but a size
+/// past the limit is refused before anything is read.
 pub fn read_whole<R: Read>(alloc: Global, size: u64, file: &mut R) -> Result<Vec<u8>, FileFault>
-    ensures whole { IfOk result (λ bytes. ReadsWhole (R.remaining file.old) (R.remaining file.new) bytes.items) }
+    ensures whole { IfOk result (λ bytes.
+        ReadsWhole (R.remaining file.old) (R.remaining file.new) bytes.items) }
     ensures past { file_limit < size → result ≡ Err Unreadable }
 {
     let mut bytes = Vec::with_capacity(alloc, room_for(size)?)?;
@@ -112,7 +113,8 @@ fn read_piece<R: Read>(
     requires piece { 0 < length piece.old }
     requires room { length bytes.old.items ≤ file_limit }
     ensures same_piece { length piece.new ≡ length piece.old }
-    ensures gives { IfOk result (λ n. GivesTo (R.remaining file.old) (R.remaining file.new) bytes.old.items bytes.new.items) }
+    ensures gives { IfOk result (λ n. GivesTo (R.remaining file.old) (R.remaining file.new)
+        bytes.old.items bytes.new.items) }
     ensures end { IfOk result (λ n. n ≡ 0 → IsAtEnd (R.remaining file.new)) }
     ensures count { IfOk result (λ n. length bytes.new.items ≡ length bytes.old.items + n) }
     ensures limit { IfOk result (λ n. length bytes.new.items ≤ file_limit) }

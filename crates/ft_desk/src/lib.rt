@@ -1,4 +1,5 @@
-//! The desk: texts to edits and answers, scripts, and the program.
+//! The desk: texts to edits and answers, scripts, and the program. What a caller names of the crates
+//! below is passed on.
 #![tactic(auto)]
 
 mod desk;
@@ -16,6 +17,9 @@ mod words;
 
 pub use desk::Desk;
 pub use files::{FileFault, read_file, read_whole};
+pub use ft_board::{Board, Done, Kept, Place, PlainBoard, Refused, TriggerFault};
+pub use ft_event::{LineFault, Name};
+pub use ft_filter::FilterFault;
 pub use program::histdesk;
 pub use running::{RunFault, Status, run};
 pub use words::{Words, WordsFault, read_words};

@@ -28,12 +28,12 @@ pub(crate) fn perform<B: Board>(
     files: &[Vec<u8>],
     line: &[u8],
 ) -> Result<Performed, AllocError>
-    ensures text { IfOk result (λ done.
-        done.text.items ≡ (outcome (map (λ f. f.items) files.now) desk.old.base (asked_by line.now)).text) }
-    ensures refused { IfOk result (λ done.
-        done.refused ≡ (outcome (map (λ f. f.items) files.now) desk.old.base (asked_by line.now)).refused) }
-    ensures base { IfOk result (λ _.
-        desk.new.base ≡ (outcome (map (λ f. f.items) files.now) desk.old.base (asked_by line.now)).base) }
+    ensures text { IfOk result (λ done. done.text.items
+        ≡ (outcome (map (λ f. f.items) files.now) desk.old.base (asked_by line.now)).text) }
+    ensures refused { IfOk result (λ done. done.refused
+        ≡ (outcome (map (λ f. f.items) files.now) desk.old.base (asked_by line.now)).refused) }
+    ensures base { IfOk result (λ _. desk.new.base
+        ≡ (outcome (map (λ f. f.items) files.now) desk.old.base (asked_by line.now)).base) }
 {
     match read_command(line) {
         Command::Nothing => Ok(Performed {

@@ -2,7 +2,7 @@
 
 ghost use Rattle.std.specs.Prelude.{◌≡◌, ◌≢◌, ◌++◌, ◌+◌, ◌≤◌, take, length, All, OnOk, OnErr, vec_len};
 ghost use Rattle.ft_desk.specs.Script.{line_limit};
-ghost use Rattle.ft_desk.specs.Turns.{CutsAt, TurnGives};
+ghost use Rattle.ft_desk.specs.Steps.{CutsAt, TakingGives};
 
 use crate::running::RunFault;
 use memchr::memchr;
@@ -13,9 +13,9 @@ use std::io::BufRead;
 /// seen to be one.
 const KEPT: usize = 8193;
 
-/// What a turn of reading took from a script.
+/// What one filling of the reader's buffer gave of a script.
 #[derive(Clone, Copy, Debug, PartialEq, Eq)]
-pub(crate) enum Turn {
+pub(crate) enum Taken {
     /// A part of a line.
     Part,
     /// The rest of a line, and its end.
@@ -26,9 +26,9 @@ pub(crate) enum Turn {
 
 /// Reads what the reader shows, up to and with a line's end, and adds the line's part to its piece.
 /// Memory and the reader can fail; an interrupted read is an error too.
-pub(crate) fn read_turn<R: BufRead>(script: &mut R, piece: &mut Vec<u8>) -> Result<Turn, RunFault>
+pub(crate) fn take_part<R: BufRead>(script: &mut R, piece: &mut Vec<u8>) -> Result<Taken, RunFault>
     requires { vec_len piece.old ≤ line_limit + 1 }
-    ensures { TurnGives result (R.remaining script.old) (R.remaining script.new)
+    ensures { TakingGives result (R.remaining script.old) (R.remaining script.new)
         piece.old.items piece.new.items }
 {
     let shown = match script.fill_buf() {
@@ -36,28 +36,28 @@ pub(crate) fn read_turn<R: BufRead>(script: &mut R, piece: &mut Vec<u8>) -> Resu
         Err(_) => return Err(RunFault::Read),
     };
     if shown.is_empty() {
-        return Ok(Turn::End);
+        return Ok(Taken::End);
     }
-    let (part, turn) = cut(shown);
+    let (part, taken) = cut(shown);
     if add_part(piece, &shown[..part]).is_err() {
         return Err(RunFault::Memory);
     }
-    let taken = match turn {
-        Turn::Line => part + 1,
-        Turn::Part | Turn::End => part,
+    let amount = match taken {
+        Taken::Line => part + 1,
+        Taken::Part | Taken::End => part,
     };
-    script.consume(taken);
-    Ok(turn)
+    script.consume(amount);
+    Ok(taken)
 }
 
 /// Where the line's part ends, and whether its end was met there.
-fn cut(shown: &[u8]) -> (usize, Turn)
+fn cut(shown: &[u8]) -> (usize, Taken)
     ensures plain { All (λ byte. byte ≢ 10) (take result.0 shown.now) }
     ensures end { CutsAt result.1 shown.now result.0 }
 {
     match memchr(b'\n', shown) {
-        Some(end) => (end, Turn::Line),
-        None => (shown.len(), Turn::Part),
+        Some(end) => (end, Taken::Line),
+        None => (shown.len(), Taken::Part),
     }
 }
 

@@ -20,7 +20,7 @@ const BUFFER: usize = 65_536;
 
 /// Why the program ended before its script did.
 #[derive(Debug, Drop, Error)]
-pub enum Fault<'a> {
+pub(crate) enum Fault<'a> {
     /// A word looks like an option.
     #[error("bad words")]
     Words,
@@ -98,7 +98,8 @@ impl<'a> Fault<'a> {
 }
 
 /// The whole program, over a board that holds nothing: its exit status, 0 where each command of the
-/// script was accepted, 1 where some was refused, and 2 after a fault, which goes to standard error.
+/// script was accepted, 1 where some was refused, and 2 after a fault, which goes to standard
+/// error.
 pub fn histdesk<P, B>(rt: &P, board: B) -> u8
 where
     P: Env + Files + Input + Print + Eprint + AllocGlobal,

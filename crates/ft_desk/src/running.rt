@@ -6,19 +6,19 @@ ghost use Rattle.ft_board.specs.Base.{empty_base};
 ghost use Rattle.ft_desk.specs.Script.{asked_by};
 ghost use Rattle.ft_desk.specs.Output.{outcome};
 ghost use Rattle.ft_desk.specs.Run.{status_of, RunEnds};
-ghost use Rattle.ft_desk.specs.Turns.{LineGives, FlushGives};
+ghost use Rattle.ft_desk.specs.Steps.{LineGives, FlushGives};
 
 use crate::desk::Desk;
 use crate::perform::perform;
-use crate::pieces::{Turn, read_turn};
+use crate::pieces::{Taken, take_part};
 use crate::sending::send;
 use ft_board::Board;
 use std::alloc::{AllocError, Global};
 use std::io::{BufRead, Write};
 use thiserror::Error;
 
-/// The most turns of reading, so that a script without an end is given up.
-const TURN_LIMIT: u32 = 1_073_741_824;
+/// The most fillings of the reader's buffer, so that a script without an end is given up.
+const FILLING_LIMIT: u32 = 1_073_741_824;
 
 /// Whether each command of a script was accepted.
 #[derive(Clone, Copy, Debug, PartialEq, Eq)]
@@ -47,9 +47,9 @@ pub enum RunFault {
 /// Runs a script over a board on which nothing is held or attached, and writes what its commands
 /// print, each command's text when the command is done. The Nth file is what `load @N` loads.
 ///
-/// Fails for memory, where the reader fails or gives no end within 1,073,741,824 turns of reading,
-/// and where the writer or the flush at the end fails; an interrupted read or write is a failure.
-/// The writer is flushed once, but not after a failed write.
+/// Fails for memory, where the reader fails or gives no end within 1,073,741,824 fillings of its
+/// buffer, and where the writer or the flush at the end fails; an interrupted read or write is a
+/// failure. The writer is flushed once, but not after a failed write.
 pub fn run<B: Board, R: BufRead, W: Write>(
     alloc: Global,
     board: B,
@@ -82,14 +82,14 @@ fn answer_script<B: Board, R: BufRead, W: Write>(
     let mut desk = Desk::new(alloc, board);
     let mut piece = Vec::new(alloc);
     let mut refused = false;
-    for _ in 0..TURN_LIMIT {
-        match read_turn(script, &mut piece)? {
-            Turn::Part => {}
-            Turn::Line => {
+    for _ in 0..FILLING_LIMIT {
+        match take_part(script, &mut piece)? {
+            Taken::Part => {}
+            Taken::Line => {
                 refused |= answer_line(&mut desk, alloc, files, &piece, out)?;
                 piece.clear();
             }
-            Turn::End => {
+            Taken::End => {
                 if !piece.is_empty() {
                     refused |= answer_line(&mut desk, alloc, files, &piece, out)?;
                 }

@@ -3,7 +3,7 @@
 ghost use Rattle.std.specs.Prelude.{◌≡◌, ◌==◌, ◌||◌, reverse, slice_index};
 ghost use Rattle.std.specs.List.{list_all, prefix_len};
 ghost use Rattle.ft_desk.specs.Command.{asked};
-ghost use Rattle.ft_desk.specs.Script.{asked_by, is_space, is_in_word, drop_while, trimmed, first_word, after_word, number_in, name_in, load_in, attach_in, hist_in};
+ghost use Rattle.ft_desk.specs.Script.{asked_by, is_space, is_in_word, drop_while, trimmed, first_word, after_word, number_in, load_in, attach_in, hist_in};
 
 use ft_event::Name;
 use memchr::memchr;
@@ -14,21 +14,14 @@ const LINE_LIMIT: usize = 8192;
 /// The most digits of a number.
 const MOST_DIGITS: usize = 10;
 
-// The first words of the commands.
+/// The first word of a command that loads a trace file.
 const LOAD: &[u8] = b"load";
 
+/// The first word of a command that attaches a trigger.
 const ATTACH: &[u8] = b"attach";
 
+/// The first word of a command that prints a trigger's table.
 const HIST: &[u8] = b"hist";
-
-// The names of the four events.
-const WAKING: &[u8] = b"sched_waking";
-
-const WAKEUP: &[u8] = b"sched_wakeup";
-
-const WAKEUP_NEW: &[u8] = b"sched_wakeup_new";
-
-const SWITCH: &[u8] = b"sched_switch";
 
 /// What a line of the script asks for.
 #[derive(Clone, Copy, Debug, PartialEq, Eq)]
@@ -149,7 +142,7 @@ fn attach(text: &[u8]) -> Command<'_>
     ensures { asked result ≡ attach_in text.now }
 {
     let (word, trigger) = split_word(text);
-    match event_name(word) {
+    match Name::called(word) {
         Some(name) => Command::Attach(name, trigger),
         None => Command::NoForm,
     }
@@ -163,24 +156,6 @@ fn hist(text: &[u8]) -> Command<'_>
     match number(text) {
         Some(id) => Command::Hist(id),
         None => Command::NoForm,
-    }
-}
-
-/// The event of a name, if it is one of the four.
-#[tactic(auto, unfolding(crate::specs::Script::name_in))]
-fn event_name(word: &[u8]) -> Option<Name>
-    ensures { result ≡ name_in word.now }
-{
-    if word == WAKING {
-        Some(Name::Waking)
-    } else if word == WAKEUP {
-        Some(Name::Wakeup)
-    } else if word == WAKEUP_NEW {
-        Some(Name::WakeupNew)
-    } else if word == SWITCH {
-        Some(Name::Switch)
-    } else {
-        None
     }
 }
 

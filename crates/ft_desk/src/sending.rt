@@ -3,7 +3,7 @@
 ghost use Rattle.std.specs.Prelude.{◌≡◌, List, ℕ, OnOk, OnErr};
 ghost use Rattle.std.specs.Io.{StartsWith};
 ghost use Rattle.std.specs.Io.KnownBytes.{Appends};
-ghost use Rattle.ft_desk.specs.Turns.{WritesFront};
+ghost use Rattle.ft_desk.specs.Steps.{WritesFront};
 
 use std::io::{self, ErrorKind, Write};
 

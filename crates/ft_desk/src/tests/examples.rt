@@ -1,9 +1,9 @@
 //! The worked examples, over the plain board.
 
 use super::streams::{Sink, Source};
-use crate::{Desk, RunFault, Status, run};
-use ft_board::{Done, Kept, PlainBoard, Refused, TriggerFault};
-use ft_event::{LineFault, Name};
+use crate::{
+    Desk, Done, Kept, LineFault, Name, PlainBoard, Refused, RunFault, Status, TriggerFault, run,
+};
 use std::alloc::{AllocError, Global};
 use std::io::ErrorKind;
 use std::test::*;
@@ -141,7 +141,8 @@ hist 1
 attached 1
 # event histogram
 #
-# trigger info: hist:keys=pid:vals=hitcount:sort=hitcount:size=2048 if comm ~ \"cyc*\" && prio < 100 [active]
+# trigger info: hist:keys=pid:vals=hitcount:sort=hitcount:size=2048 \
+        if comm ~ \"cyc*\" && prio < 100 [active]
 #
 
 { pid:          8 } hitcount:          1
@@ -229,9 +230,11 @@ fn every_form_of_line(rt: HostRuntime) -> Result<(), Fail> {
 CPU:1 [LOST 7 EVENTS]
 
  bash-1994 [000] d... 152.583900: update_curr <-task_tick_fair
-          my-app 2-9       (      9) [003]  100.000001: sched_waking: comm=x pid=3 prio=-1 target_cpu=003
+          my-app 2-9       (      9) [003]  100.000001: sched_waking: \
+        comm=x pid=3 prio=-1 target_cpu=003
  a-1 [000] 1.000000: sched_wakeup: comm=x pid=3 prio=1 success=1 target_cpu=001
- a-1 [002] 1.000000: sched_switch: prev_comm=p prev_pid=1 prev_prio=2 prev_state=R+ ==> next_comm=c next_pid=3 next_prio=4
+ a-1 [002] 1.000000: sched_switch: prev_comm=p prev_pid=1 prev_prio=2 prev_state=R+ \
+        ==> next_comm=c next_pid=3 next_prio=4
 ";
     let mut desk = Desk::new(rt.alloc(), PlainBoard::new(rt.alloc()));
     let loaded = Done {
@@ -264,7 +267,8 @@ fn first_bad_line(rt: HostRuntime) -> Result<(), Fail> {
             LineFault::BadPayload,
         ),
         (
-            b"# x\n\na-1 (2) [000] 1.000000: sched_switch: prev_comm=p prev_pid=1 prev_prio=2 prev_state=R ==> next_comm=c next_pid=2147483648 next_prio=4",
+            b"# x\n\na-1 (2) [000] 1.000000: sched_switch: prev_comm=p prev_pid=1 prev_prio=2 \
+                prev_state=R ==> next_comm=c next_pid=2147483648 next_prio=4",
             LineFault::NumberRange,
         ),
     ];

@@ -3,7 +3,7 @@
 use std::alloc::Global;
 use std::io::{self, BufRead, ErrorKind, Read, Write};
 
-/// Shows at most `step` bytes a turn, and then its end or an error.
+/// Shows at most `step` bytes at a time, and then its end or an error.
 #[derive(Drop)]
 pub(super) struct Source<'a> {
     pub(super) text: &'a [u8],
