@@ -13,7 +13,7 @@ use std::io::BufRead;
 /// seen to be one.
 const KEPT: usize = 8193;
 
-/// What one filling of the reader's buffer gave of a script.
+/// What was taken of a script, as its reader was asked once.
 #[derive(Clone, Copy, Debug, PartialEq, Eq)]
 pub(crate) enum Taken {
     /// A part of a line.

@@ -17,8 +17,8 @@ use std::alloc::{AllocError, Global};
 use std::io::{BufRead, Write};
 use thiserror::Error;
 
-/// The most fillings of the reader's buffer, so that a script without an end is given up.
-const FILLING_LIMIT: u32 = 1_073_741_824;
+/// How often a script's reader is asked at most, so that a script without an end is given up.
+const ASKING_LIMIT: u32 = 1_073_741_824;
 
 /// Whether each command of a script was accepted.
 #[derive(Clone, Copy, Debug, PartialEq, Eq)]
@@ -47,8 +47,8 @@ pub enum RunFault {
 /// Runs a script over a board on which nothing is held or attached, and writes what its commands
 /// print, each command's text when the command is done. The Nth file is what `load @N` loads.
 ///
-/// Fails for memory, where the reader fails or gives no end within 1,073,741,824 fillings of its
-/// buffer, and where the writer or the flush at the end fails; an interrupted read or write is a
+/// Fails for memory, where the reader fails or shows no end though it was asked 1,073,741,824
+/// times, and where the writer or the flush at the end fails; an interrupted read or write is a
 /// failure. The writer is flushed once, but not after a failed write.
 pub fn run<B: Board, R: BufRead, W: Write>(
     alloc: Global,
@@ -82,7 +82,7 @@ fn answer_script<B: Board, R: BufRead, W: Write>(
     let mut desk = Desk::new(alloc, board);
     let mut piece = Vec::new(alloc);
     let mut refused = false;
-    for _ in 0..FILLING_LIMIT {
+    for _ in 0..ASKING_LIMIT {
         match take_part(script, &mut piece)? {
             Taken::Part => {}
             Taken::Line => {
