@@ -1,9 +1,11 @@
-//! The merged order: all held events by their places.
+//! The merged order: all held events by their places, as references into the lanes.
 
 ghost use Rattle.std.specs.Prelude.{◌≡◌, ℕ, IfOk, OnOk};
 ghost use Rattle.std.specs.Ordering.{nat_cmp};
 ghost use Rattle.std.specs.FinMap.{FinMap};
+ghost use Rattle.std.specs.Map.Iter.{deref};
 ghost use Rattle.ft_maps.specs.Seen.{seen};
+ghost use Rattle.ft_maps.specs.Mapped.{map_by};
 ghost use Rattle.ft_event.specs.Places.{pos_cmp};
 ghost use Rattle.ft_board.specs.Replay.{merged};
 ghost use Rattle.ft_board.specs.Merge.{merged_with_lane};
@@ -16,12 +18,12 @@ use std::alloc::{AllocError, Global};
 use std::collections::BTreeMap;
 
 /// All events of the lanes, by their places.
-pub(crate) fn merged_events(
+pub(crate) fn merged_events<'a>(
     alloc: Global,
-    lanes: &BTreeMap<u16, Lane>,
-) -> Result<BTreeMap<Pos, Event>, AllocError>
+    lanes: &'a BTreeMap<u16, Lane>,
+) -> Result<BTreeMap<Pos, &'a Event>, AllocError>
     ensures { IfOk result (λ m. (triggers : FinMap nat_cmp Trigger) (next_id : ℕ) →
-        seen pos_cmp m ≡ merged (record {
+        map_by deref (seen pos_cmp m) ≡ merged (record {
           lanes = seen nat_cmp lanes.now;
           triggers = triggers;
           next_id = next_id;
@@ -35,9 +37,14 @@ pub(crate) fn merged_events(
 }
 
 /// Adds the events of one lane.
-fn merge_lane(all: &mut BTreeMap<Pos, Event>, cpu: u16, lane: &Lane) -> Result<(), AllocError>
+fn merge_lane<'a>(
+    all: &mut BTreeMap<Pos, &'a Event>,
+    cpu: u16,
+    lane: &'a Lane,
+) -> Result<(), AllocError>
     ensures { OnOk result
-        (seen pos_cmp all.new ≡ merged_with_lane (seen pos_cmp all.old) (cpu, lane.now)) }
+        (map_by deref (seen pos_cmp all.new)
+        ≡ merged_with_lane (map_by deref (seen pos_cmp all.old)) (cpu, lane.now)) }
 {
     for (line, event) in entries(lane.events()) {
         let pos = Pos {
@@ -45,7 +52,7 @@ fn merge_lane(all: &mut BTreeMap<Pos, Event>, cpu: u16, lane: &Lane) -> Result<(
             cpu,
             line: *line,
         };
-        put(all, pos, *event)?;
+        put(all, pos, event)?;
     }
     Ok(())
 }

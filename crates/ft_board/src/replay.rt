@@ -33,7 +33,7 @@ pub(crate) fn replayed(
     let merged = merged_events(alloc, lanes)?;
     let mut state = started(alloc, triggers)?;
     for (_, event) in entries(&merged) {
-        step(triggers, &mut state, event)?;
+        step(triggers, &mut state, *event)?;
     }
     Ok(state)
 }

@@ -1,7 +1,7 @@
 //! Finite maps: what contracts see of a `BTreeMap`, and its edits in those words.
 //!
-//! Each function needs that keys which tie are equal, so that a finite map tells no more keys
-//! apart than the tree does.
+//! An edit needs that keys which tie are equal, so that look-ups tell maps apart. Of numbers, and of
+//! structs of numbers with a derived order, a caller's check finds that by itself.
 #![tactic(auto)]
 
 ghost use Rattle.std.specs.Prelude.{◌≡◌, ◌<◌, ◌^◌, length, OnOk, OnErr};
