@@ -1,6 +1,7 @@
 -- Texts of filters, and what they are: the definitions, worked out on examples.
-use Rattle.std.proofs.Common.{◌≡◌, refl, ℕ, List}
-use Rattle.std.specs.Prelude.{Result, Ok, Err, codes, pos}
+use Rattle.std.proofs.Common.{◌≡◌, refl, ℕ, List, inr, arith}
+use Rattle.std.proofs.lemmas.Option.{none-some}
+use Rattle.std.specs.Prelude.{true, false, [], Result, Ok, Err, codes, ℤ, pos, negsuc}
 use Rattle.ft_event.specs.declared.event.Name.TheVariants as names
 use Rattle.ft_event.specs.declared.field.Field.TheVariants as fields
 use Rattle.ft_filter.specs.declared.fault.FilterFault.{FilterFault}
@@ -8,17 +9,13 @@ use Rattle.ft_filter.specs.declared.fault.FilterFault.TheVariants.{Syntax, NoFie
 use Rattle.ft_filter.specs.declared.tree.Op.TheVariants as ops
 use Rattle.ft_filter.specs.declared.tree.Literal.TheVariants as literals
 use Rattle.ft_filter.specs.Tokens.{name_at, op_at, quoted_at, number_at, number_of}
-use Rattle.ft_filter.specs.Predicate.{text_value, number_value, value_at, comparison_at, pred_at}
+use Rattle.ft_filter.specs.Predicate.{text_value, number_value, value_at, comparison_at, pred_at, Stop}
 use Rattle.ft_filter.specs.Matching.{items_of, is_glob, fits, matches}
 use Rattle.ft_filter.specs.Answers.{going, joined_at, operand_at, filter_of}
 use Rattle.ft_filter.specs.Numbers.{Writes, negative, hexadecimal}
 use Rattle.ft_filter.specs.PredIs.{PredIs}
 use Rattle.ft_filter.specs.Shape.{levels}
 use Rattle.ft_filter.specs.Tree.{Tree, Any, All, Not, Test, End, More}
-use Rattle.std.specs.Prelude.{true, false, [], ℤ, negsuc}
-use Rattle.std.proofs.Common.{inr, arith}
-use Rattle.std.proofs.lemmas.Option.{none-some}
-use Rattle.ft_filter.specs.Predicate.{Stop}
 use Rattle.ft_filter.proofs.NumberForms.{writes_to}
 use Rattle.ft_filter.proofs.PredLaw.{pred_is}
 

@@ -1,4 +1,4 @@
--- How a proof tells filters apart: by their events and trees.
+-- How a proof tells filters apart: by their events and trees (our own choice).
 use Rattle.std.specs.Prelude.{◌≡◌, ◌⊎◌, ℕ, zero, suc, List, [], ◌∷◌, refl}
 use mathlib.Core.Logic.{inl, inr}
 use Rattle.std.specs.Coded.{Coded, code_by, coded×, coded⊎, coded_list, coded_ℕ}
@@ -33,7 +33,7 @@ sign_of (inl (suc (suc zero))) = NotSign
 sign_of (inl (suc (suc (suc n)))) = EndSign
 sign_of (inr pred) = TestSign pred
 
--- a sign has the number that it is given
+-- a sign has the number that it is given (our own choice)
 pub sign_of-number_of : (sign : Sign) → sign_of (number_of sign) ≡ sign
 sign_of-number_of AnySign = refl
 sign_of-number_of AllSign = refl
@@ -85,20 +85,20 @@ first [] = Any End
 first (End ∷ lists) = Any End
 first (More tree trees ∷ lists) = tree
 
--- an operand that is put first, negated
+-- an operand that is put first, negated (our own choice)
 pub deny-put : (tree : Tree) (lists : List Trees) → deny (put tree lists) ≡ put (Not tree) lists
 deny-put tree [] = refl
 deny-put tree (trees ∷ lists) = refl
 
 mutual
-  -- a tree's signs say the tree
+  -- a tree's signs say the tree (our own choice)
   pub said-signs : (tree : Tree) (others : List Sign) → said (signs tree others) ≡ put tree (said others)
   said-signs (Any trees) others = ap (close Any) (said-all_signs trees others)
   said-signs (All trees) others = ap (close All) (said-all_signs trees others)
   said-signs (Not tree) others = ap deny (said-signs tree others) ∙ deny-put tree (said others)
   said-signs (Test pred) others = refl
 
-  -- the signs of operands say them
+  -- the signs of operands say them (our own choice)
   pub said-all_signs : (trees : Trees) (others : List Sign) → said (all_signs trees others) ≡ trees ∷ said others
   said-all_signs End others = refl
   said-all_signs (More tree trees) others = said-signs tree (all_signs trees others) ∙ ap (put tree) (said-all_signs trees others)
