@@ -1,6 +1,6 @@
 //! Reading a script by pieces of its lines.
 
-ghost use Rattle.std.specs.Prelude.{◌≡◌, ◌≢◌, ◌++◌, ◌+◌, ◌≤◌, take, length, All, OnOk, OnErr, vec_len};
+ghost use Rattle.std.specs.Prelude.{◌≡◌, ◌≢◌, ◌++◌, ◌+◌, ◌≤◌, take, All, OnOk, vec_len};
 ghost use Rattle.ft_desk.specs.Script.{line_limit};
 ghost use Rattle.ft_desk.specs.Steps.{CutsAt, TakingGives};
 

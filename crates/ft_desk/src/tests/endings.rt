@@ -1,7 +1,7 @@
 //! How runs end, over a board that has no memory.
 
-ghost use Rattle.std.specs.Prelude.{◌≡◌, false};
-ghost use Rattle.ft_board.specs.Base.{Base, empty_base};
+ghost use Rattle.std.specs.Prelude.{false};
+ghost use Rattle.ft_board.specs.Base.{empty_base};
 
 use super::streams::{Sink, Source};
 use crate::{RunFault, Status, run};
