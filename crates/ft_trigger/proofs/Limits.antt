@@ -1,25 +1,24 @@
 -- A trigger that some text gives is within its limits.
-use Rattle.std.proofs.Common.{◌≡◌, ◌≤◌, ◌<◌, ◌+◌, ◌-◌, ◌&&◌, ℕ, suc, Bool, true, false, not, List, [], ◌∷◌, ◌++◌, length, drop, take, Option, Some, None, Result, Ok, refl, sym, ap, ◌∙◌, subst, arith, codes, decimal, append_assoc, append-nil, length-append, leb-true, ◌==◌}
-use Rattle.std.proofs.lemmas.Bool.{and_parts, not-false, leb-false}
+use Rattle.std.proofs.Common.{◌≡◌, ◌≤◌, ◌<◌, ◌+◌, ◌-◌, ◌&&◌, ℕ, suc, Bool, true, false, not, List, [], ◌∷◌, ◌++◌, length, drop, take, Option, Some, None, Result, Ok, refl, sym, ap, ◌∙◌, subst, arith, codes, decimal, append_assoc, append-nil, length-append, leb-true}
+use Rattle.std.proofs.lemmas.Bool.{and_parts, leb-false}
 use Rattle.std.specs.Prelude.{nat_le, unwrap_or, if◌then◌else◌}
-use Rattle.std.specs.List.{starts_with}
 use Rattle.ft_event.specs.declared.event.Name.{Name}
 use Rattle.ft_hist.specs.declared.item.KeyItem.{KeyItem}
 use Rattle.ft_hist.specs.declared.item.Item.{Item}
 use Rattle.ft_hist.specs.declared.item.SortItem.{SortItem}
 use Rattle.ft_hist.specs.Hist.{Hist, IsWithin}
 use Rattle.ft_trigger.specs.declared.fault.TriggerFault.{TriggerFault}
-use Rattle.ft_trigger.specs.declared.fault.TriggerFault.TheVariants.{Syntax, NoField, BadSort}
-use Rattle.ft_trigger.specs.Draft.{Draft, blank, ◌>>=◌, is_word, is_size, size_of, besides_hitcount, parts_from}
-use Rattle.ft_trigger.specs.TriggerIs.{head_len, behind_head, tail_of, own_name, value_of, values_of, sort_by, sorts_of, is_descending, by_hits, sort_of, finished, trigger_of}
+use Rattle.ft_trigger.specs.declared.fault.TriggerFault.TheVariants.{NoField, BadSort}
+use Rattle.ft_trigger.specs.Draft.{Draft, ◌>>=◌, is_word, besides_hitcount}
+use Rattle.ft_trigger.specs.TriggerIs.{head_len, behind_head, tail_of, own_name, value_of, values_of, sort_by, sorts_of, is_descending, by_hits, sort_of, trigger_of}
 use Rattle.ft_trigger.specs.Words.{Word, pieces}
 use Rattle.ft_trigger.proofs.Chains.{Chain}
 use Rattle.ft_trigger.proofs.Drafts.{Listed, If, DraftFits, draft_fits}
-use Rattle.ft_trigger.proofs.Inversions.{then_parts, unless_parts, given_parts}
+use Rattle.ft_trigger.proofs.Inversions.{then_parts, given_parts}
 use Rattle.ft_trigger.proofs.Keyed.{KeyFits}
 use Rattle.ft_trigger.proofs.Numerals.{SizeFits, size_parts}
-use Rattle.ft_trigger.proofs.ReadSo.{Read, read_so}
-use Rattle.ft_trigger.proofs.ReadAgain.{made, Made, made_so, keys_of, words_of, size_of_draft}
+use Rattle.ft_trigger.proofs.ReadSo.{read_so}
+use Rattle.ft_trigger.proofs.ReadAgain.{Made, made_so, keys_of, words_of, size_of_draft}
 use Rattle.ft_trigger.proofs.Sorted.{SortFits}
 use Rattle.ft_trigger.proofs.Valued.{ValueFits}
 use Rattle.ft_trigger.proofs.WordLemmas.{besides_more}

@@ -1,5 +1,5 @@
 -- The canonical text of a trigger that is read is read as that trigger.
-use Rattle.std.proofs.Common.{◌≡◌, ◌-◌, ℕ, true, false, not, List, [], ◌∷◌, ◌++◌, map, length, take, drop, Option, Some, None, Result, Ok, refl, sym, ap, ◌∙◌, subst, codes, decimal, append_assoc, ◌==◌}
+use Rattle.std.proofs.Common.{◌≡◌, ◌-◌, ℕ, true, not, List, [], ◌∷◌, ◌++◌, map, length, take, drop, Option, Some, None, Result, Ok, refl, sym, ap, ◌∙◌, subst, codes, decimal, append_assoc, ◌==◌}
 use Rattle.std.proofs.Math.Seq.{take-append_seam, drop-append_seam}
 use Rattle.std.proofs.lemmas.Option.{same_Some}
 use Rattle.std.specs.Prelude.{reverse, unwrap_or}
@@ -22,7 +22,7 @@ use Rattle.ft_trigger.specs.Words.{pieces, Word}
 use Rattle.ft_trigger.proofs.Chains.{Chain}
 use Rattle.ft_trigger.proofs.Drafts.{Listed, If, DraftFits, draft_fits}
 use Rattle.ft_trigger.proofs.Heads.{Told, behind_values, body, whole, told, head_again, body_seen}
-use Rattle.ft_trigger.proofs.Inversions.{then_parts, unless_parts, given_parts}
+use Rattle.ft_trigger.proofs.Inversions.{then_parts, given_parts}
 use Rattle.ft_trigger.proofs.Keyed.{KeyFits}
 use Rattle.ft_trigger.proofs.Numerals.{SizeFits, default_fits}
 use Rattle.ft_trigger.proofs.ReadSo.{read_so}

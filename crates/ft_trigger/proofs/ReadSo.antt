@@ -1,5 +1,5 @@
 -- What stands behind a trigger that some text gives.
-use Rattle.std.proofs.Common.{◌≡◌, ◌-◌, ℕ, true, not, List, [], ◌∷◌, length, drop, take, Result, Ok, codes, ◌==◌}
+use Rattle.std.proofs.Common.{◌≡◌, ◌-◌, ℕ, true, not, List, [], length, drop, take, Ok, codes, ◌==◌}
 use Rattle.std.proofs.lemmas.Bool.{not-false}
 use Rattle.std.specs.List.{starts_with}
 use Rattle.ft_event.specs.declared.event.Name.{Name}

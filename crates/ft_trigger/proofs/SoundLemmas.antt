@@ -10,7 +10,7 @@ use Rattle.ft_event.specs.declared.event.Name.{Name}
 use Rattle.ft_event.specs.declared.field.Field.{Field}
 use Rattle.ft_event.specs.Fields.{is_named, all_fields, is_text, text_of, has_field}
 use Rattle.ft_trigger.specs.declared.fault.TriggerFault.{TriggerFault}
-use Rattle.ft_trigger.specs.declared.fault.TriggerFault.TheVariants.{NoField, NotNumeric, BadSort, Syntax}
+use Rattle.ft_trigger.specs.declared.fault.TriggerFault.TheVariants.{NoField, NotNumeric, BadSort}
 use Rattle.ft_hist.specs.declared.item.KeyItem.{KeyItem}
 use Rattle.ft_hist.specs.declared.item.Mode.{Mode}
 use Rattle.ft_hist.specs.declared.item.Mode.TheVariants as modes
@@ -28,7 +28,7 @@ use Rattle.ft_hist.specs.Sound.{mode_suits, key_suits, value_suits, by_suits, Is
 use Rattle.ft_trigger.specs.TriggerIs.{own_name, value_of, values_of, index_where, names_value, sort_by, is_descending, sorts_of, by_hits, sort_of, head_len, behind_head, tail_of, filter_in, finished, trigger_of}
 use Rattle.ft_trigger.specs.Words.{Word, number_in, pieces}
 use Rattle.ft_trigger.proofs.Chains.{Chain}
-use Rattle.ft_trigger.proofs.Inversions.{then_parts, given_parts, unless_parts}
+use Rattle.ft_trigger.proofs.Inversions.{then_parts, given_parts}
 use Rattle.ft_trigger.proofs.Drafts.{DraftFits, draft_fits}
 use Rattle.ft_trigger.proofs.ReadAgain.{Made, made_so, keys_of, words_of}
 use Rattle.ft_trigger.proofs.Keyed.{KeyFits, mode_suffix, find_passes}

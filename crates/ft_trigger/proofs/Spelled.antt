@@ -1,15 +1,15 @@
 -- Pieces and words are what their texts tell.
-use Rattle.std.proofs.Common.{◌≡◌, ◌≢◌, ◌||◌, ◌+◌, ◌<◌, ◌==◌, ℕ, Bool, true, false, not, List, [], ◌∷◌, ◌++◌, length, drop, Option, Some, None, option_map, refl, sym, ap, ◌∙◌, subst, arith, codes, cond, append-nil, eqb-true, eq-eqb, ne_eqb, slice_index, if◌then◌else◌}
+use Rattle.std.proofs.Common.{◌≡◌, ◌≢◌, ◌+◌, ◌==◌, ℕ, Bool, true, false, List, [], ◌∷◌, ◌++◌, length, drop, Option, Some, None, option_map, refl, sym, ap, ◌∙◌, subst, arith, codes, cond, append-nil, eqb-true, if◌then◌else◌}
 use Rattle.std.proofs.lemmas.Bool.{and_parts, and_from, or_parts, or_from, not_from_false}
 use Rattle.std.proofs.lemmas.Option.{same_Some}
 use Rattle.std.specs.Prelude.{◌↔◌}
 use Rattle.std.specs.List.{list_all, list_any, starts_with}
 use Rattle.std.specs.Option.{option_and_then}
-use Rattle.ft_filter.specs.Tokens.{begins_name, is_in_name, name_at}
+use Rattle.ft_filter.specs.Tokens.{is_in_name, name_at}
 use Rattle.ft_trigger.specs.Spelling.{more_pieces, ArePlaced, ArePieces, IsNamed, suffix_bytes, IsItem}
 use Rattle.ft_trigger.specs.Words.{Piece, grown, pieces, Word, suffix_of, word_from, word_with, word_of}
 use Rattle.ft_trigger.proofs.Separators.{Free, pieces_last}
-use Rattle.ft_trigger.proofs.Spellings.{IsName, begins_inside, name_parts, front_same, suffix_text, word_text, IsSuffix, word_name, word_again}
+use Rattle.ft_trigger.proofs.Spellings.{IsName, begins_inside, name_parts, front_same, suffix_text, IsSuffix, word_name, word_again}
 use Rattle.ft_trigger.proofs.Standing.{pieces_append}
 
 -- ---- pieces
@@ -44,8 +44,11 @@ module _ (separator : ℕ) where
     more = h.more;
     list_is = ap (grown place byte) h.list_is;
     text_is = ap (λ (t : List ℕ). byte ∷ t) h.text_is;
-    placed = (refl, or_from (byte == separator) (bare h.first.bytes) apart h.placed.1,
-        (let next : place + 1 + length h.first.bytes + 1 ≡ place + length (byte ∷ h.first.bytes) + 1 = omega arith in subst (λ (n : ℕ). ArePlaced separator n h.more) next h.placed.2));
+    placed = (
+      refl,
+      or_from (byte == separator) (bare h.first.bytes) apart h.placed.1,
+      (let next : place + 1 + length h.first.bytes + 1 ≡ place + length (byte ∷ h.first.bytes) + 1 = omega arith in subst (λ (n : ℕ). ArePlaced separator n h.more) next h.placed.2),
+    );
   }
 
   -- a text's pieces make it

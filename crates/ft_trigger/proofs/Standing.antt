@@ -1,5 +1,5 @@
 -- Faults of parts stay, whatever is behind the parts.
-use Rattle.std.proofs.Common.{◌≡◌, ◌||◌, ◌+◌, ◌<◌, ◌≤◌, ℕ, Bool, true, false, not, List, [], ◌∷◌, ◌++◌, length, drop, Option, Some, None, Result, Ok, Err, refl, sym, ap, ◌∙◌, subst, codes, cond, arith, append_assoc, append-nil, le-leb, eq-eqb, ◌==◌, if◌then◌else◌}
+use Rattle.std.proofs.Common.{◌≡◌, ◌+◌, ◌<◌, ◌≤◌, ℕ, Bool, true, false, List, [], ◌∷◌, ◌++◌, length, Option, Some, None, Result, Ok, Err, refl, sym, ap, ◌∙◌, codes, cond, arith, append_assoc, le-leb, eq-eqb, ◌==◌, if◌then◌else◌}
 use Rattle.std.proofs.lemmas.Bool.{or_from}
 use Rattle.std.proofs.lemmas.List.Folds.{list_any-append}
 use Rattle.std.specs.Prelude.{◌↔◌, unwrap_or}
@@ -24,7 +24,7 @@ use Rattle.ft_trigger.specs.Words.{Piece, Word, grown, pieces}
 use Rattle.ft_trigger.proofs.Halves.{cut_of}
 use Rattle.ft_trigger.proofs.ReadAgain.{made}
 use Rattle.ft_trigger.proofs.Separators.{pieces_some}
-use Rattle.ft_trigger.proofs.Shaped.{make_of, with_made, bare_of, alone_cut, cut_by}
+use Rattle.ft_trigger.proofs.Shaped.{make_of, with_made, alone_cut, cut_by}
 
 -- ---- parts behind parts
 

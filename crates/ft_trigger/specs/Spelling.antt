@@ -1,5 +1,5 @@
 -- What pieces and words are, told by the texts that they make (kernel: histogram.rst, hist triggers).
-use Rattle.std.specs.Prelude.{◌≡◌, ◌≢◌, ◌+◌, ◌<◌, ◌==◌, ℕ, true, false, List, [], ◌∷◌, ◌++◌, length, Option, Some, None, if◌then◌else◌, codes}
+use Rattle.std.specs.Prelude.{◌≡◌, ◌≢◌, ◌+◌, ◌==◌, ℕ, true, false, List, [], ◌∷◌, ◌++◌, length, Option, Some, None, if◌then◌else◌, codes}
 use Rattle.std.specs.List.{list_all, list_any}
 use Rattle.ft_filter.specs.Tokens.{begins_name, is_in_name}
 use Rattle.ft_trigger.specs.Words.{Piece, Word}

@@ -1,6 +1,4 @@
-use Rattle.std.proofs.Common.{◌≡◌, ℕ, Some, sym, ◌∙◌, arith}
-use Rattle.ft_trigger.specs.Draft.{rounded}
-use Rattle.ft_trigger.specs.Words.{number_in}
+use Rattle.std.proofs.Common.{sym, ◌∙◌, arith}
 use Rattle.ft_trigger.proofs.Numerals.{size_none, size_found, size_small, rounded_most}
 use Rattle.ft_trigger.proofs.Rounding.{rounded_of}
 use Rattle.ft_trigger.proofs.draft.size_of.Goals as goal
