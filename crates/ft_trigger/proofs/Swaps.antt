@@ -1,6 +1,6 @@
 -- The parts of a head may stand in any order.
-use Rattle.std.proofs.Common.{◌≡◌, ◌||◌, ◌+◌, ◌<◌, ℕ, Bool, true, false, not, List, [], ◌∷◌, ◌++◌, map, length, drop, Option, Some, None, Result, Ok, Err, refl, sym, ap, ◌∙◌, subst, arith, ◌&&◌, codes, cond, append-nil, find, ◌==◌, if◌then◌else◌}
-use Rattle.std.proofs.lemmas.Bool.{and_parts, and_from, not-true, not_from_false, or_from}
+use Rattle.std.proofs.Common.{◌≡◌, ◌+◌, ◌<◌, ℕ, Bool, true, false, not, List, [], ◌∷◌, ◌++◌, map, length, drop, Option, Some, None, Result, Ok, Err, refl, sym, ap, ◌∙◌, subst, arith, ◌&&◌, codes, append-nil, find, ◌==◌, if◌then◌else◌}
+use Rattle.std.proofs.lemmas.Bool.{and_parts, and_from, not-true, or_from}
 use Rattle.std.proofs.lemmas.List.Folds.{list_any-append}
 use Rattle.std.specs.Prelude.{unwrap_or}
 use Rattle.std.specs.List.{list_all, list_any, starts_with}
@@ -14,7 +14,7 @@ use Rattle.ft_trigger.specs.declared.draft.Kind.{Kind}
 use Rattle.ft_trigger.specs.declared.draft.Kind.TheVariants.{Keys, Values, Sort, Size}
 use Rattle.ft_trigger.specs.declared.fault.TriggerFault.{TriggerFault}
 use Rattle.ft_trigger.specs.declared.fault.TriggerFault.TheVariants.{Syntax, Duplicate, BadSize, LeftOut}
-use Rattle.ft_trigger.specs.Draft.{Draft, blank, ◌>>=◌, unless, given_or, items_from, items_of, with_key, with_value, with_sort, size_of, var_of, labels, is_part_left_out, with_kind, with_variable, with_part, parts_from, besides_hitcount}
+use Rattle.ft_trigger.specs.Draft.{Draft, blank, ◌>>=◌, given_or, items_from, items_of, with_key, with_value, with_sort, size_of, var_of, labels, is_part_left_out, with_kind, with_variable, with_part, parts_from, besides_hitcount}
 use Rattle.ft_trigger.specs.Words.{Piece, grown, pieces, Word, word_of}
 use Rattle.ft_trigger.proofs.Inversions.{then_parts, unless_parts, given_parts}
 use Rattle.ft_trigger.specs.Spelling.{is_part, more_parts, joined}

@@ -18,7 +18,8 @@ pub use ft_hist::{
     asked_events, equal_keys, keys_match, multiples, one_key_order, powers,
 };
 pub use laws::{
-    any_order, cuts, faults_stay, heads_first, one_list, one_tail, one_word, shapes, sizes, sound_triggers,
+    any_order, cuts, faults_stay, heads_first, one_list, one_tail, one_word, shapes, sizes,
+    sound_triggers,
 };
 pub use reading::{one_answer, parse, reads_again};
 
