@@ -151,6 +151,22 @@ key_steps event keys more place bytes word is e =
     let apart = unless_parts (is_key keys field.0) Duplicate [] (Ok (with_key_at_end keys field.0 mode.0)) more mode.2 in
     key_made event keys more word field.0 mode.0 (word_name bytes word is) few.0 (or_parts word.dollar (list_any (bytes_eq word.name) unkept) kept.0).1 field.1 mode.1 apart.0 apart.1
 
+-- a key whose steps are known
+key_placed : (event : Name) (keys more : List KeyItem) (place : ℕ) (word : Word) (field : Field) → nat_le 3 (length keys) ≡ false → (word.dollar || list_any (bytes_eq word.name) unkept) ≡ false
+    → find (is_named event word.name) all_fields ≡ Some field → is_left_out word.suffix ≡ false → key_modified keys word.suffix field ≡ Ok more → with_key event keys place word ≡ Ok more
+unfolding with_key
+key_placed event keys more place word field few kept found plain e = rw (few, kept, found, plain) e
+
+-- it is read so at any place
+pub key_shift : (event : Name) (keys more : List KeyItem) (place other : ℕ) (word : Word) → with_key event keys place word ≡ Ok more → with_key event keys other word ≡ Ok more
+unfolding with_key
+key_shift event keys more place other word e =
+    let few = unless_parts (nat_le 3 (length keys)) TooMany ((word.dollar || list_any (bytes_eq word.name) unkept, LeftOut place) ∷ []) (key_found event keys place word) more e in
+    let kept = unless_parts (word.dollar || list_any (bytes_eq word.name) unkept) (LeftOut place) [] (key_found event keys place word) more few.1 in
+    let field = given_parts NoField (find (is_named event word.name) all_fields) (λ field. unless ((is_left_out word.suffix, LeftOut place) ∷ []) (key_modified keys word.suffix field)) more kept.1 in
+    let plain = unless_parts (is_left_out word.suffix) (LeftOut place) [] (key_modified keys word.suffix field.0) more field.2 in
+    key_placed event keys more other word field.0 few.0 kept.0 field.1 plain.0 plain.1
+
 -- ---- what can be read is read again
 
 -- a key's suffix is none that is left out

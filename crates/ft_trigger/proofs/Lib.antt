@@ -24,6 +24,7 @@ mod SoundLemmas
 mod Spelled
 mod Spellings
 mod Standing
+mod Swaps
 mod Tails
 mod Valued
 mod Variables

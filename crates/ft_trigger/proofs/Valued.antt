@@ -76,6 +76,15 @@ value_steps event words more place bytes word is e =
       },
     )
 
+-- it is read so at any place
+pub value_shift : (event : Name) (words more : List Word) (place other : ℕ) (word : Word) → with_value event words place word ≡ Ok more → with_value event words other word ≡ Ok more
+unfolding with_value
+value_shift event words more place other word e =
+    let few = unless_parts (not (is_word word hitcount) && nat_le 3 (length (besides_hitcount words))) TooMany ((is_word word (codes "common_timestamp"), LeftOut place) ∷ (is_left_out word.suffix, LeftOut place) ∷ (is_some word.suffix, BadModifier) ∷ []) (value_sound event words word) more e in
+    let kept = unless_parts (is_word word (codes "common_timestamp")) (LeftOut place) ((is_left_out word.suffix, LeftOut place) ∷ (is_some word.suffix, BadModifier) ∷ []) (value_sound event words word) more few.1 in
+    let there = unless_parts (is_left_out word.suffix) (LeftOut place) ((is_some word.suffix, BadModifier) ∷ []) (value_sound event words word) more kept.1 in
+    rw (few.0, kept.0, there.0) there.1
+
 -- ---- what can be read is read again
 
 -- the text of a word without a suffix can stand in a list

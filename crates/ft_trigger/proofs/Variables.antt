@@ -99,24 +99,25 @@ abbrev var_valued : Name → Draft → ℕ → List ℕ × List ℕ → Result D
 var_valued event draft place cut = given_or (LeftOut place) (stamp_of (drop 1 cut.1)) (var_added event draft cut.0)
 
 -- a part whose steps are known adds its variable
-var_adds : (event : Name) (draft : Draft) (place : ℕ) (bytes : List ℕ) (cut : List ℕ × List ℕ) (stamp : Stamp) → name_at bytes ≡ Some cut → starts_with ◌==◌ cut.1 (codes "=") ≡ true
+pub var_adds : (event : Name) (draft : Draft) (place : ℕ) (bytes : List ℕ) (cut : List ℕ × List ℕ) (stamp : Stamp) → name_at bytes ≡ Some cut → starts_with ◌==◌ cut.1 (codes "=") ≡ true
     → stamp_of (drop 1 cut.1) ≡ Some stamp → is_taken event cut.0 stamp ≡ false → draft.variable ≡ None
     → with_variable event draft (record { place = place; bytes = bytes }) ≡ Ok (record draft { variable = Some (var_of cut.0 stamp) })
 unfolding with_variable
 var_adds event draft place bytes cut stamp name equals stamped free none = rw (name, equals, none, stamped, free) refl
 
 -- what a variable's part says
-record VarParts (event : Name) (draft more : Draft) (bytes : List ℕ) : Type 0 where
-  cut : List ℕ × List ℕ
-  stamp : Stamp
-  name : name_at bytes ≡ Some cut
-  equals : starts_with ◌==◌ cut.1 (codes "=") ≡ true
-  stamped : stamp_of (drop 1 cut.1) ≡ Some stamp
-  free : is_taken event cut.0 stamp ≡ false
-  is : record draft { variable = Some (var_of cut.0 stamp) } ≡ more
+pub record VarParts (event : Name) (draft more : Draft) (bytes : List ℕ) : Type 0 where
+  pub cut : List ℕ × List ℕ
+  pub stamp : Stamp
+  pub name : name_at bytes ≡ Some cut
+  pub equals : starts_with ◌==◌ cut.1 (codes "=") ≡ true
+  pub none : is_some draft.variable ≡ false
+  pub stamped : stamp_of (drop 1 cut.1) ≡ Some stamp
+  pub free : is_taken event cut.0 stamp ≡ false
+  pub is : record draft { variable = Some (var_of cut.0 stamp) } ≡ more
 
 -- a variable's part that is read says so
-var_parts : (event : Name) (draft more : Draft) (part : Piece) → with_variable event draft part ≡ Ok more → VarParts event draft more part.bytes
+pub var_parts : (event : Name) (draft more : Draft) (part : Piece) → with_variable event draft part ≡ Ok more → VarParts event draft more part.bytes
 unfolding with_variable
 var_parts event draft more part e =
     let name = given_parts (Syntax part.place) (name_at part.bytes)
@@ -130,6 +131,7 @@ var_parts event draft more part e =
       stamp = stamp.0;
       name = name.1;
       equals = not-false (starts_with ◌==◌ name.0.1 (codes "=")) equals.0;
+      none = none.0;
       stamped = stamp.1;
       free = free.0;
       is = (let done = free.1 in cc);

@@ -1,7 +1,7 @@
 -- What pieces and words are, told by the texts that they make (kernel: histogram.rst, hist triggers).
-use Rattle.std.specs.Prelude.{◌≡◌, ◌≢◌, ◌+◌, ◌==◌, ℕ, true, false, List, [], ◌∷◌, ◌++◌, length, Option, Some, None, if◌then◌else◌, codes}
+use Rattle.std.specs.Prelude.{◌≡◌, ◌≢◌, ◌+◌, ◌==◌, ◌&&◌, ℕ, Bool, not, true, false, List, [], ◌∷◌, ◌++◌, length, Option, Some, None, if◌then◌else◌, codes}
 use Rattle.std.specs.List.{list_all, list_any}
-use Rattle.ft_filter.specs.Tokens.{begins_name, is_in_name}
+use Rattle.ft_filter.specs.Tokens.{is_gap, begins_name, is_in_name}
 use Rattle.ft_trigger.specs.Words.{Piece, Word}
 
 -- ---- pieces
@@ -45,3 +45,19 @@ pub record IsItem (item : List ℕ) (word : Word) : Type 0 where
   pub named : IsNamed word.name
   pub ended : word.suffix ≢ Some []
   pub is : item ≡ (if word.dollar then codes "$" else []) ++ (word.name ++ suffix_bytes word.suffix)
+
+-- ---- parts
+
+-- a text that a part may be: no space, no tab and no `:` is in it (kernel: histogram.rst, hist triggers)
+abbrev pub is_part : List ℕ → Bool
+is_part text = list_all (λ byte. not (is_gap byte) && not (byte == 58)) text
+
+-- parts behind others, each behind a `:` (kernel: histogram.rst, hist triggers)
+abbrev pub more_parts : List (List ℕ) → List ℕ
+more_parts [] = []
+more_parts (part ∷ parts) = 58 ∷ (part ++ more_parts parts)
+
+-- parts joined by `:` (kernel: histogram.rst, hist triggers)
+abbrev pub joined : List (List ℕ) → List ℕ
+joined [] = []
+joined (part ∷ parts) = part ++ more_parts parts

@@ -1,15 +1,15 @@
 //! Laws on what triggers' texts are read as, apart from the steps that read them.
 
-ghost use Rattle.std.specs.Prelude.{◌≡◌, ◌↔◌, ◌+◌, ◌++◌, ℕ, false, codes, List, length, Option, Some, Result, Ok, Err};
+ghost use Rattle.std.specs.Prelude.{◌≡◌, ◌↔◌, ◌+◌, ◌++◌, ◌∷◌, ℕ, true, false, codes, List, length, Option, Some, Result, Ok, Err};
 ghost use Rattle.ft_event.specs.declared.event.Name.{Name};
-ghost use Rattle.std.specs.List.{list_any};
+ghost use Rattle.std.specs.List.{list_all, list_any};
 ghost use Rattle.ft_filter.specs.Tokens.{is_gap};
 ghost use Rattle.ft_filter.specs.Tree.{Tree};
 ghost use Rattle.ft_hist.specs.Hist.{Hist, IsWithin};
 ghost use Rattle.ft_hist.specs.Sound.{IsSound};
 ghost use Rattle.ft_trigger.specs.declared.fault.TriggerFault.{TriggerFault};
 ghost use Rattle.ft_trigger.specs.Draft.{size_of};
-ghost use Rattle.ft_trigger.specs.Spelling.{ArePieces, IsItem};
+ghost use Rattle.ft_trigger.specs.Spelling.{ArePieces, IsItem, is_part, joined};
 ghost use Rattle.ft_trigger.specs.TriggerIs.{TriggerIs, filter_in};
 ghost use Rattle.ft_trigger.specs.Words.{Piece, pieces, Word, word_of};
 ghost use Rattle.ft_trigger.specs.PartFaults.{PartsFail, is_late};
@@ -100,4 +100,13 @@ pub fn one_list()
 /// and nothing or a `.` and one or more bytes.
 pub fn one_word()
     ensures { (item : List ℕ) (word : Word) → (word_of item ≡ Some word) ↔ IsItem item word }
+{}
+
+/// A law: the parts of a head may stand in any order: any two beside each other, in the other order,
+/// make the same trigger.
+pub fn any_order()
+    ensures { (event : Name) (front behind : List (List ℕ)) (a b : List ℕ) (hist : Hist)
+        → list_all is_part (front ++ a ∷ b ∷ behind) ≡ true
+        → TriggerIs event (codes "hist:" ++ joined (front ++ a ∷ b ∷ behind)) (Ok hist)
+        → TriggerIs event (codes "hist:" ++ joined (front ++ b ∷ a ∷ behind)) (Ok hist) }
 {}
