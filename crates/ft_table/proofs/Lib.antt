@@ -1,0 +1,13 @@
+mod Appends
+mod Changes
+mod Columns
+mod Counts
+mod Edges
+mod Empty
+mod Firsts
+mod Flat
+mod Members
+mod OneKeys
+mod Sorted
+mod Splits
+mod Windows

@@ -1,0 +1,11 @@
+pub mod Codes
+pub mod Growth
+pub mod Hits
+pub mod Inside
+pub mod Kept
+pub mod Marks
+pub mod OneKey
+pub mod Places
+pub mod Rows
+pub mod Split
+pub mod Tabled

@@ -1,0 +1,177 @@
+//! The hits of one trigger.
+
+ghost use Rattle.std.specs.Prelude.{◌≡◌, ◌+◌, ◌<◌, OnOk, OnErr};
+ghost use Rattle.std.specs.FinMap as map;
+
+use crate::entry::{Entry, count_of, first_at, hit_behind, sums_at};
+use crate::hit::Hit;
+use crate::mark::Mark;
+use crate::order::place_of;
+use crate::row::{Row, Totals};
+use crate::split::{Split, add_hit, drop_hit};
+use ft_event::Pos;
+use ft_hist::{Key, Work};
+use std::alloc::{AllocError, Global};
+use std::collections::BTreeMap;
+use std::marker::Model;
+
+/// The keys at a table's edge.
+#[derive(Clone, Copy, Debug)]
+pub struct Edge {
+    /// The key in the table whose first hit is last.
+    pub last_in: Option<Key>,
+    /// The key outside whose first hit is first.
+    pub first_out: Option<Key>,
+}
+
+/// The hits of one trigger, and for how many keys it has room.
+#[derive(Drop)]
+pub struct Table {
+    alloc: Global,
+    size: u32,
+    by_key: BTreeMap<Key, Entry>,
+    order: Vec<Mark>,
+    split: Split,
+}
+
+impl Model for Table {
+    ghost use Rattle.ft_table.specs.Tabled.{Tabled};
+    ghost use Rattle.ft_table.specs.Codes.{tabled_code};
+
+    ghost Value = { Tabled };
+
+    ghost coded = { tabled_code };
+
+    ghost use Rattle.ft_table.specs.Kept.{table_of, IsKept};
+
+    ghost view = { table_of };
+
+    ghost invariant = { IsKept };
+}
+
+impl Table {
+    ghost use Rattle.std.specs.Prelude.{None, Some, length, if◌then◌else◌};
+    ghost use Rattle.ft_table.specs.Rows.{row_of, hit_after};
+    ghost use Rattle.std.specs.List.{sum_by};
+    ghost use Rattle.ft_table.specs.Tabled.{is_in, keys_in, keys_out, hitcount, last_in, first_out};
+
+    /// A table with room for some keys.
+    pub fn new(alloc: Global, size: u32) -> Table
+        requires { 0 < size }
+        ensures { result ≡ record { hits = map.empty; size = size } }
+    {
+        Table {
+            alloc,
+            size,
+            by_key: BTreeMap::new(alloc),
+            order: Vec::new(alloc),
+            split: Split {
+                hits: 0,
+                dropped: 0,
+            },
+        }
+    }
+
+    /// Puts a hit in, where none stands. Counts one put in `work`.
+    pub fn insert(&mut self, hit: Hit, work: &mut Work) -> Result<(), AllocError>
+        requires { map.get self.old.hits (record { pos = hit.pos; key = hit.key }) ≡ None }
+        ensures ok { OnOk result (self.new ≡ record self.old { hits = map.insert self.old.hits (record { pos = hit.pos; key = hit.key }) hit.values }) }
+        ensures err { OnErr result (self.new ≡ self.old) }
+        ensures puts { work.new.puts ≡ work.old.puts + 1 }
+        ensures evals { work.new.evals ≡ work.old.evals }
+    {
+        work.tick_put();
+        let mark = Mark {
+            pos: hit.pos,
+            key: hit.key,
+        };
+        add_hit(
+            self.alloc,
+            &mut self.by_key,
+            &mut self.order,
+            &mut self.split,
+            self.size as usize,
+            mark,
+            hit.values,
+        )
+    }
+
+    /// Takes a hit away, if one stands there.
+    pub fn remove(&mut self, pos: Pos, key: Key)
+        ensures { self.new ≡ record self.old { hits = map.remove self.old.hits (record { pos = pos; key = key }) } }
+    {
+        drop_hit(
+            &mut self.by_key,
+            &mut self.order,
+            &mut self.split,
+            self.size as usize,
+            Mark { pos, key },
+        );
+    }
+
+    /// Whether a key is in the table.
+    pub fn is_in(&self, key: &Key) -> bool
+        ensures { result ≡ is_in self.now key.now }
+    {
+        match first_at(&self.by_key, key) {
+            Some(pos) => place_of(&self.order, &Mark { pos, key: *key }) < self.size as usize,
+            None => false,
+        }
+    }
+
+    /// The row of a key, if it is in the table.
+    pub fn row(&self, key: &Key) -> Option<Row>
+        ensures { result ≡ (if is_in self.now key.now then Some (row_of self.now.hits key.now) else None) }
+    {
+        if self.is_in(key) {
+            Some(Row {
+                key: *key,
+                hitcount: count_of(&self.by_key, key),
+                sums: sums_at(&self.by_key, key),
+            })
+        } else {
+            None
+        }
+    }
+
+    /// How many hits were counted, and how many were not.
+    pub fn totals(&self) -> Totals
+        ensures hits { result.hits ≡ sum_by (hitcount self.now.hits) (keys_in self.now) }
+        ensures entries { result.entries ≡ length (keys_in self.now) }
+        ensures dropped { result.dropped ≡ sum_by (hitcount self.now.hits) (keys_out self.now) }
+    {
+        let keys = self.order.len().min(self.size as usize);
+        Totals {
+            hits: self.split.hits,
+            entries: keys as u64,
+            dropped: self.split.dropped,
+        }
+    }
+
+    /// The keys at the table's edge: the last inside, and the first outside.
+    pub fn edge(&self) -> Edge
+        ensures last { result.last_in ≡ last_in self.now }
+        ensures first { result.first_out ≡ first_out self.now }
+    {
+        let size = self.size as usize;
+        let inside = self.order.len().min(size);
+        let last_in = if inside == 0 {
+            None
+        } else {
+            Some(self.order[inside - 1].key)
+        };
+        let first_out = if self.order.len() > size {
+            Some(self.order[size].key)
+        } else {
+            None
+        };
+        Edge { last_in, first_out }
+    }
+
+    /// The first hit of a key behind a place, or its first.
+    pub fn hit_after(&self, key: &Key, after: Option<Pos>) -> Option<Hit>
+        ensures { result ≡ hit_after self.now.hits key.now after }
+    {
+        hit_behind(&self.by_key, key, after)
+    }
+}
