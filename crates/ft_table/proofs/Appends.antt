@@ -18,8 +18,10 @@ use Rattle.ft_table.specs.declared.mark.Mark.{Mark}
 use Rattle.ft_event.specs.Places.{pos_cmp, pos_cmp_total}
 use Rattle.ft_table.specs.Marks.{mark_cmp, mark_cmp_total}
 use Rattle.ft_table.specs.Places.{IsPlace}
-use Rattle.ft_table.specs.Tabled.{Hits, Tabled, hits_of, first_key, first_place, is_first, first_hits, order_of, order_without, order_with, others, keys_in, is_in, same_key}
-use Rattle.ft_table.specs.Growth.{AreBefore, with_hit, KeysGrow}
+use Rattle.ft_table.specs.Hits.{Hits, hits_of, least_key, first_place, same_key}
+use Rattle.ft_table.specs.Tabled.{Tabled, is_first, first_hits, order_of, keys_in, is_in}
+use Rattle.ft_table.specs.Moves.{order_without, order_with, others}
+use Rattle.ft_table.specs.Growth.{AreBefore, ComesLast, with_hit, KeysGrow}
 use Rattle.ft_hist.specs.Orders.{key_cmp_total}
 use Rattle.ft_table.proofs.Flat.{mark}
 use Rattle.ft_table.proofs.Firsts.{first_is_hit, get-first_hits, order-none, order-some, order-enter, order-found}
@@ -39,18 +41,18 @@ later a b key less =
       only Greater s tie h = cc
 
 -- the first place of a entry, as one is put in
-pub first-empty : (p : Pos) (v : List ℤ) (es : List (Pos × List ℤ)) → first_key es ≡ None → first_key (put pos_cmp p v es) ≡ Some p
+pub first-empty : (p : Pos) (v : List ℤ) (es : List (Pos × List ℤ)) → least_key es ≡ None → least_key (put pos_cmp p v es) ≡ Some p
 first-empty p v [] none = refl
 first-empty p v (e ∷ es) none = cc
 
-first-later : (p f : Pos) (v : List ℤ) (es : List (Pos × List ℤ)) → first_key es ≡ Some f → pos_cmp p f ≡ Greater → first_key (put pos_cmp p v es) ≡ Some f
+first-later : (p f : Pos) (v : List ℤ) (es : List (Pos × List ℤ)) → least_key es ≡ Some f → pos_cmp p f ≡ Greater → least_key (put pos_cmp p v es) ≡ Some f
 first-later p f v [] is after = cc
 first-later p f v (e ∷ es) is after =
     let same : e.0 ≡ f = cc in
-    ap (λ o. first_key (map.Entries.by_order o ((p, v) ∷ e ∷ es) ((e.0, v) ∷ es) (e ∷ put pos_cmp p v es))) (ap (pos_cmp p) same ∙ after) ∙ is
+    ap (λ o. least_key (map.Entries.by_order o ((p, v) ∷ e ∷ es) ((e.0, v) ∷ es) (e ∷ put pos_cmp p v es))) (ap (pos_cmp p) same ∙ after) ∙ is
 
-pub first_place-insert : (hits : Hits) (m : Mark) (v : List ℤ) → first_place (map.insert hits m v) m.key ≡ first_key (put pos_cmp m.pos v (map.entries (hits_of hits m.key)))
-first_place-insert hits m v = ap (λ (l : FinMap pos_cmp (List ℤ)). first_key (map.entries l)) (hits_of-insert hits m v) ∙ ap first_key (entries-insert pos_cmp_total (hits_of hits m.key) m.pos v)
+pub first_place-insert : (hits : Hits) (m : Mark) (v : List ℤ) → first_place (map.insert hits m v) m.key ≡ least_key (put pos_cmp m.pos v (map.entries (hits_of hits m.key)))
+first_place-insert hits m v = ap (λ (l : FinMap pos_cmp (List ℤ)). least_key (map.entries l)) (hits_of-insert hits m v) ∙ ap least_key (entries-insert pos_cmp_total (hits_of hits m.key) m.pos v)
 
 some_has : {X : Type 0} (o : Option X) (x : X) → o ≡ Some x → IsSome o
 some_has o x is = ap is_some is
@@ -63,7 +65,7 @@ order-known hits m v f is before =
     order-some (map.insert hits m v) m.key f first ∙ order_before-beside hits (map.insert hits m v) m.key (Some f) (insert-beside hits m v) ∙ sym (order-some hits m.key f is)
 
 -- whatever is first is a hit
-first_hits-hit : (hits : Hits) (q : Mark) → is_some (map.get (first_hits hits) q) ≡ true → is_some (map.get hits q) ≡ true
+pub first_hits-hit : (hits : Hits) (q : Mark) → is_some (map.get (first_hits hits) q) ≡ true → is_some (map.get hits q) ≡ true
 first_hits-hit hits q some = of (is_first hits q) (ap is_some (sym (get-first_hits hits q)) ∙ some) where
   of : (b : Bool) → is_some (cond b (map.get hits q) None) ≡ true → is_some (map.get hits q) ≡ true
   of true h = h
@@ -123,7 +125,8 @@ module _ {X Y : Type 0} (f : X → Y) where
       ap (list_map f) (take-few (xs ++ x ∷ []) s (omega (arith, length-append xs (x ∷ [])))) ∙ map-push xs x ∙ ap (λ (ys : List X). list_map f ys ++ f x ∷ []) (sym (take-few xs s (omega arith)))
   take-push xs x s false is = ap (list_map f) (take-front xs x s (ltb-false (length xs) s is))
 
-known : (tabled : Tabled) (m : Mark) (f : Pos) → first_place tabled.hits m.key ≡ Some f → is_in tabled m.key ≡ false → nat_lt (length (keys_in tabled)) tabled.size ≡ true → ⊥
+-- a key with hits is in where there is room
+pub known : (tabled : Tabled) (m : Mark) (f : Pos) → first_place tabled.hits m.key ≡ Some f → is_in tabled m.key ≡ false → nat_lt (length (keys_in tabled)) tabled.size ≡ true → ⊥
 known tabled m f is out few =
     let at : Mark = mark f m.key in
     let place = place-keys mark_cmp_total (map.insert (others tabled.hits m.key) at []) at in
@@ -137,19 +140,19 @@ known tabled m f is out few =
     cc
 
 pub keys_grow : KeysGrow
-keys_grow tabled m v absent before = by (first_place tabled.hits m.key) refl where
+keys_grow tabled m v last = by (first_place tabled.hits m.key) refl where
   key : Mark → List Part
   key m = m.key
 
   by : (o : Option Pos) → first_place tabled.hits m.key ≡ o → keys_in (with_hit tabled m v) ≡ (if is_in tabled m.key then keys_in tabled else if nat_lt (length (keys_in tabled)) tabled.size then keys_in tabled ++ m.key ∷ [] else keys_in tabled)
   by None none =
       let out : is_in tabled m.key ≡ false = ap (λ (ms : List Mark). list_any (same_key m.key) (list_map (λ m. m.key) (take tabled.size ms))) (order-none tabled.hits m.key none) ∙ in-without tabled.hits tabled.size m.key in
-      ap (λ (ms : List Mark). list_map (λ m. m.key) (take tabled.size ms)) (order-new tabled.hits m v none before)
+      ap (λ (ms : List Mark). list_map (λ m. m.key) (take tabled.size ms)) (order-new tabled.hits m v none last.last)
       ∙ take-push (λ (m : Mark). m.key) (order_of tabled.hits) m tabled.size (nat_lt (length (order_of tabled.hits)) tabled.size) refl
       ∙ ap (λ b. if b then keys_in tabled ++ m.key ∷ [] else keys_in tabled) (sym (room (λ (m : Mark). m.key) (order_of tabled.hits) tabled.size))
       ∙ ap (λ b. if b then keys_in tabled else if nat_lt (length (keys_in tabled)) tabled.size then keys_in tabled ++ m.key ∷ [] else keys_in tabled) (sym out)
   by (Some f) is =
-      ap (λ (ms : List Mark). list_map (λ m. m.key) (take tabled.size ms)) (order-known tabled.hits m v f is before)
+      ap (λ (ms : List Mark). list_map (λ m. m.key) (take tabled.size ms)) (order-known tabled.hits m v f is last.last)
       ∙ same (is_in tabled m.key) (nat_lt (length (keys_in tabled)) tabled.size) refl refl where
         same : (a b : Bool) → is_in tabled m.key ≡ a → nat_lt (length (keys_in tabled)) tabled.size ≡ b → keys_in tabled ≡ (if a then keys_in tabled else if b then keys_in tabled ++ m.key ∷ [] else keys_in tabled)
         same true b isin few = refl

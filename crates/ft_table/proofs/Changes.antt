@@ -10,7 +10,9 @@ use Rattle.ft_hist.specs.declared.key.Part.{Part}
 use Rattle.ft_table.specs.declared.mark.Mark.{Mark}
 use Rattle.ft_event.specs.Places.{pos_cmp, pos_cmp_total, pos_same}
 use Rattle.ft_table.specs.Marks.{mark_cmp, mark_cmp_total, mark_same}
-use Rattle.ft_table.specs.Tabled.{Hits, same_key, hits_of, first_key, first_place, hitcount, order_of, order_before, with_less, with_more}
+use Rattle.ft_table.specs.Hits.{Hits, same_key, hits_of, least_key, first_place, hitcount}
+use Rattle.ft_table.specs.Tabled.{order_of}
+use Rattle.ft_table.specs.Moves.{order_before, with_less, with_more}
 use Rattle.ft_table.proofs.Flat.{mark, is_equal, marks_tie, same_itself, same_is, true_and, false_and, get-hits_of}
 use Rattle.ft_table.proofs.Firsts.{SameBeside, hits_of-beside, others-beside, order-none, order-some}
 
@@ -106,7 +108,7 @@ pub order_before-beside : (hits after : Hits) (key : List Part) (o : Option Pos)
 order_before-beside hits after key None same = ap map.keys (others-beside hits after key same)
 order_before-beside hits after key (Some pos) same = ap (λ (h : Hits). map.keys (map.insert h (mark pos key) [])) (others-beside hits after key same)
 
-no_list : {X : Type 0} (es : List (Pos × X)) → first_key es ≡ None → length es ≡ 0
+no_list : {X : Type 0} (es : List (Pos × X)) → least_key es ≡ None → length es ≡ 0
 no_list [] is = refl
 no_list (e ∷ es) is = cc
 

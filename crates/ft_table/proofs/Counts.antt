@@ -12,7 +12,9 @@ use Rattle.ft_table.specs.declared.mark.Mark.{Mark}
 use Rattle.ft_table.specs.Marks.{mark_cmp, mark_cmp_total, mark_same}
 use Rattle.ft_table.specs.Places.{IsPlace}
 use Rattle.ft_table.specs.Split.{IsSplit}
-use Rattle.ft_table.specs.Tabled.{Hits, same_key, first_hits, others, order_without, order_with}
+use Rattle.ft_table.specs.Hits.{Hits, same_key}
+use Rattle.ft_table.specs.Tabled.{first_hits}
+use Rattle.ft_table.specs.Moves.{others, order_without, order_with}
 use Rattle.ft_table.proofs.Flat.{is_equal}
 use Rattle.ft_table.proofs.Firsts.{get-others, order-found}
 use Rattle.ft_table.proofs.Sorted.{rises-keys, not_before_itself}

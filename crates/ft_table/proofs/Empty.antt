@@ -11,7 +11,8 @@ use Rattle.ft_table.specs.declared.mark.Mark.{Mark}
 use Rattle.ft_table.specs.Marks.{mark_cmp, mark_cmp_total, mark_same}
 use Rattle.ft_table.specs.Split.{IsSplit}
 use Rattle.ft_table.specs.Hits.{EntryHits}
-use Rattle.ft_table.specs.Tabled.{flat, is_first, first_hits, order_of}
+use Rattle.ft_table.specs.Tabled.{is_first, first_hits, order_of}
+use Rattle.ft_table.specs.ByKey.{flat}
 use Rattle.ft_maps.specs.Entries.{entries-empty}
 use Rattle.ft_table.proofs.Flat.{mark}
 use Rattle.ft_table.proofs.Firsts.{get-first_hits}

@@ -13,7 +13,9 @@ use Rattle.ft_table.specs.declared.mark.Mark.{Mark}
 use Rattle.ft_event.specs.Places.{pos_cmp, pos_cmp_total, pos_same}
 use Rattle.ft_table.specs.Marks.{mark_cmp, mark_cmp_total, mark_same}
 use Rattle.ft_table.specs.Places.{IsPlace}
-use Rattle.ft_table.specs.Tabled.{Hits, same_key, hits_of, first_key, first_place, is_first, first_hits, order_of, others, order_without, order_with}
+use Rattle.ft_table.specs.Hits.{Hits, same_key, hits_of, least_key, first_place}
+use Rattle.ft_table.specs.Tabled.{is_first, first_hits, order_of}
+use Rattle.ft_table.specs.Moves.{others, order_without, order_with}
 use Rattle.ft_table.proofs.Flat.{mark, is_equal, marks_tie, same_itself, same_is, get-hits_of}
 use Rattle.ft_table.proofs.Sorted.{keys-insert, keys-without, keys-found, keys-insert-any}
 
@@ -25,11 +27,11 @@ pub get-others : (hits : Hits) (key : List Part) (q : Mark) → map.get (others 
 unfolding others
 get-others hits key q = get-retain_keys (first_hits hits) (λ m. not (same_key m.key key)) q (λ x tie. ap (λ (m : Mark). not (same_key m.key key)) (sym (mark_same q x tie)))
 
-no_entries : {X : Type 0} (pos : Pos) (es : List (Pos × X)) → first_key es ≡ None → find pos_cmp pos es ≡ None
+no_entries : {X : Type 0} (pos : Pos) (es : List (Pos × X)) → least_key es ≡ None → find pos_cmp pos es ≡ None
 no_entries pos [] none = refl
 no_entries pos (e ∷ es) none = cc
 
-first_entry : {X : Type 0} (pos : Pos) (es : List (Pos × X)) → first_key es ≡ Some pos → (v : X) × (find pos_cmp pos es ≡ Some v)
+first_entry : {X : Type 0} (pos : Pos) (es : List (Pos × X)) → least_key es ≡ Some pos → (v : X) × (find pos_cmp pos es ≡ Some v)
 first_entry pos [] is = cc
 first_entry pos (e ∷ es) is = let same : e.0 ≡ pos = cc in (e.1, ap (λ (p : Pos). cond (eq_by_cmp pos_cmp p e.0) (Some e.1) (find pos_cmp p es)) (sym same) ∙ ap (λ o. cond (is_eq o) (Some e.1) (find pos_cmp e.0 es)) (tied_itself pos_cmp_total e.0))
 
@@ -106,7 +108,7 @@ hits_of-beside hits after key q same apart = same_map pos_cmp_total pos_same _ _
 others_at : (hits after : Hits) (key : List Part) → SameBeside hits after key → (q : Mark) (b : Bool) → same_key q.key key ≡ b → cond (not b) (cond (is_first after q) (map.get after q) None) None ≡ cond (not b) (cond (is_first hits q) (map.get hits q) None) None
 others_at hits after key same q true e = refl
 others_at hits after key same q false e =
-    let first : is_first after q ≡ is_first hits q = ap (λ (entry : FinMap pos_cmp (List ℤ)). option_map_or (eq_by_cmp pos_cmp q.pos) (first_key (map.entries entry)) false) (hits_of-beside hits after key q.key same e) in
+    let first : is_first after q ≡ is_first hits q = ap (λ (entry : FinMap pos_cmp (List ℤ)). option_map_or (eq_by_cmp pos_cmp q.pos) (least_key (map.entries entry)) false) (hits_of-beside hits after key q.key same e) in
     λ i. cond (first i) (same q e i) None
 
 pub others-beside : (hits after : Hits) (key : List Part) → SameBeside hits after key → others after key ≡ others hits key

@@ -14,8 +14,8 @@ use Rattle.ft_hist.specs.Parts.{key_cmp}
 use Rattle.ft_table.specs.declared.mark.Mark.{Mark}
 use Rattle.ft_event.specs.Places.{pos_cmp, pos_cmp_total, pos_same}
 use Rattle.ft_table.specs.Marks.{mark_cmp, mark_cmp_total, mark_same}
-use Rattle.ft_table.specs.Hits.{EntryHits, ByKey}
-use Rattle.ft_table.specs.Tabled.{Hits, same_key, hits_of, flat}
+use Rattle.ft_table.specs.Hits.{EntryHits, Hits, same_key, hits_of}
+use Rattle.ft_table.specs.ByKey.{ByKey, flat}
 use Rattle.ft_hist.specs.Orders.{key_cmp_total}
 use Rattle.ft_hist.specs.Ties.{key_same}
 
@@ -186,3 +186,18 @@ nowhere by_key m q none false tie = refl
 
 pub flat-absent : (by_key : ByKey) (m : Mark) → map.get by_key m.key ≡ None → flat by_key ≡ map.remove (flat by_key) m
 flat-absent by_key m none = same_map mark_cmp_total mark_same _ _ (λ q. nowhere by_key m q none (eq_by_cmp mark_cmp q m) refl ∙ sym (get-remove mark_cmp_total (flat by_key) m q))
+
+-- ---- a key without hits
+
+no_hits_at : (by_key : ByKey) (key : List Part) (q : Mark) → map.get by_key key ≡ Some map.empty → (b : Bool) → same_key q.key key ≡ b
+    → option_and_then (λ entry. map.get entry q.pos) (cond b None (map.get by_key q.key)) ≡ option_and_then (λ entry. map.get entry q.pos) (map.get by_key q.key)
+no_hits_at by_key key q is true same =
+    sym (ap (λ k. option_and_then (λ entry. map.get entry q.pos) (map.get by_key k)) (same_is q.key key same)
+    ∙ ap (option_and_then (λ entry. map.get entry q.pos)) is ∙ get-empty pos_cmp q.pos)
+no_hits_at by_key key q is false same = refl
+
+-- can go
+pub flat-clear : (by_key : ByKey) (key : List Part) → map.get by_key key ≡ Some map.empty → flat (map.remove by_key key) ≡ flat by_key
+flat-clear by_key key is = same_map mark_cmp_total mark_same _ _ (λ q.
+    get-flat (map.remove by_key key) q ∙ ap (option_and_then (λ entry. map.get entry q.pos)) (get-remove key_cmp_total by_key key q.key)
+    ∙ no_hits_at by_key key q is (same_key q.key key) refl ∙ sym (get-flat by_key q))

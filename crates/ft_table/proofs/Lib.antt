@@ -4,10 +4,15 @@ mod Columns
 mod Counts
 mod Edges
 mod Empty
+mod FirstPlaces
 mod Firsts
 mod Flat
+mod Growths
+mod Kept
 mod Members
 mod OneKeys
+mod Ranks
 mod Sorted
 mod Splits
+mod Tallies
 mod Windows

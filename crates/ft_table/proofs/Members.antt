@@ -8,13 +8,14 @@ use Rattle.ft_hist.specs.declared.key.Part.{Part}
 use Rattle.ft_table.specs.declared.mark.Mark.{Mark}
 use Rattle.ft_table.specs.Marks.{mark_cmp}
 use Rattle.ft_table.specs.Places.{IsPlace}
-use Rattle.ft_table.specs.Tabled.{Hits, same_key, order_without, order_with}
+use Rattle.ft_table.specs.Hits.{Hits, same_key}
+use Rattle.ft_table.specs.Moves.{order_without, order_with}
 use Rattle.ft_table.proofs.Flat.{same_itself, same_back}
 use Rattle.ft_table.proofs.Firsts.{order-found}
 use Rattle.ft_table.proofs.Counts.{without-apart, with-apart}
 
 module _ {X Y : Type 0} (f : X → Y) (p : Y → Bool) where
-  none-in : (xs : List X) (s : ℕ) → ((j : ℕ) (d : X) → j < length xs → p (f (get_or xs j d)) ≡ false) → list_any p (list_map f (take s xs)) ≡ false
+  pub none-in : (xs : List X) (s : ℕ) → ((j : ℕ) (d : X) → j < length xs → p (f (get_or xs j d)) ≡ false) → list_any p (list_map f (take s xs)) ≡ false
   none-in [] zero h = refl
   none-in [] (suc s) h = refl
   none-in (x ∷ xs) zero h = refl

@@ -7,6 +7,7 @@ use Rattle.std.specs.declared.cmp.Ordering.TheVariants.{Less, Equal, Greater}
 use Rattle.std.specs.Ordering.{is_lt, is_eq, ordering_then, ordering_reverse, eq_by_cmp}
 use Rattle.std.specs.FinMap as map
 use Rattle.std.specs.FinMap.{find, put, is_sorted, entries_sorted, get-entries, get-remove}
+use Rattle.std.proofs.lemmas.List.{get_or_default}
 use Rattle.std.proofs.lemmas.List.Edits.{get_or-insert_below, get_or-insert_above, length-insert}
 use Rattle.ft_event.specs.declared.pos.Pos.{Pos}
 use Rattle.ft_hist.specs.declared.key.Part.{Part}
@@ -14,11 +15,13 @@ use Rattle.ft_hist.specs.Parts.{key_cmp}
 use Rattle.ft_table.specs.declared.mark.Mark.{Mark}
 use Rattle.ft_event.specs.Places.{pos_cmp, pos_cmp_total}
 use Rattle.ft_table.specs.Marks.{mark_cmp, mark_cmp_total}
-use Rattle.ft_table.specs.Tabled.{Hits, same_key, hits_of, first_key, first_place, order_of, order_without}
-use Rattle.ft_table.specs.OneKey.{LastGoesOut, FirstComesIn}
+use Rattle.ft_table.specs.Hits.{Hits, same_key, hits_of, least_key, first_place}
+use Rattle.ft_table.specs.Tabled.{order_of}
+use Rattle.ft_table.specs.Moves.{order_without}
+use Rattle.ft_table.specs.OneKey.{AreSameBut, LastGoesOut, FirstComesIn, OneOtherMoves}
 use Rattle.std.proofs.lemmas.Cmp.{tied_itself}
 use Rattle.ft_hist.specs.Orders.{key_cmp_total}
-use Rattle.ft_table.proofs.Flat.{mark, same_is, get-hits_of}
+use Rattle.ft_table.proofs.Flat.{mark, same_itself, same_is, get-hits_of}
 use Rattle.ft_table.proofs.Firsts.{SameBeside, first_is_hit, no_first}
 use Rattle.ft_table.proofs.Changes.{insert-beside, remove-beside, order-before, order_before-beside}
 use Rattle.ft_table.proofs.Appends.{first_place-insert, first-empty}
@@ -56,7 +59,7 @@ none_below g x (e ∷ es) less h =
     ap (λ o. cond (is_eq o) (Some e.1) (find pos_cmp g es)) (pos_cmp_total.trans g x e.0 less (is_less _ (and_left _ _ h))) ∙ none_below g x es less (and_right _ _ h)
 
 -- no hit of a key stands before its first
-least : (g f : Pos) (es : List (Pos × List ℤ)) (v : List ℤ) → T (is_sorted pos_cmp es) → first_key es ≡ Some f → find pos_cmp g es ≡ Some v → pos_cmp g f ≡ Less → ⊥
+least : (g f : Pos) (es : List (Pos × List ℤ)) (v : List ℤ) → T (is_sorted pos_cmp es) → least_key es ≡ Some f → find pos_cmp g es ≡ Some v → pos_cmp g f ≡ Less → ⊥
 least g f [] v h is at less = cc
 least g f (e ∷ es) v h is at less =
     let same : e.0 ≡ f = cc in
@@ -65,7 +68,7 @@ least g f (e ∷ es) v h is at less =
     let both : Some v ≡ None = sym at ∙ none in
     cc
 
-first_least : (hits : Hits) (key : List Part) (f g : Pos) (v : List ℤ) → first_place hits key ≡ Some f → map.get hits (mark g key) ≡ Some v → pos_cmp g f ≡ Less → ⊥
+pub first_least : (hits : Hits) (key : List Part) (f g : Pos) (v : List ℤ) → first_place hits key ≡ Some f → map.get hits (mark g key) ≡ Some v → pos_cmp g f ≡ Less → ⊥
 first_least hits key f g v is at = least g f (map.entries (hits_of hits key)) v (entries_sorted (hits_of hits key)) is (sym (get-entries (hits_of hits key) g) ∙ get-hits_of hits g key ∙ at)
 
 -- a mark isn't before another of its key, whose place isn't after it
@@ -116,12 +119,12 @@ module _ (hits after : Hits) (key q : List Part) (apart : same_key q key ≡ fal
       ∙ ap (λ (n : ℕ). Some (get_or (insert (order_without hits key) at.0 (mark a key)) n d).key) e
       ∙ ap (λ (m : Mark). Some m.key) (get_or-insert_above (order_without hits key) at.0 (mark a key) d t le w)) _ refl
 
-first_put : (p f : Pos) (v : List ℤ) (es : List (Pos × List ℤ)) → first_key es ≡ Some f → (o : Ordering) → pos_cmp p f ≡ o → first_key (put pos_cmp p v es) ≡ map.Entries.by_order o (Some p) (Some f) (Some f)
+first_put : (p f : Pos) (v : List ℤ) (es : List (Pos × List ℤ)) → least_key es ≡ Some f → (o : Ordering) → pos_cmp p f ≡ o → least_key (put pos_cmp p v es) ≡ map.Entries.by_order o (Some p) (Some f) (Some f)
 first_put p f v [] is o at = cc
 first_put p f v (e ∷ es) is o at =
     let same : e.0 ≡ f = cc in
-    ap (λ o. first_key (map.Entries.by_order o ((p, v) ∷ e ∷ es) ((e.0, v) ∷ es) (e ∷ put pos_cmp p v es))) (ap (pos_cmp p) same ∙ at) ∙
-    elim o as (λ o. first_key (map.Entries.by_order o ((p, v) ∷ e ∷ es) ((e.0, v) ∷ es) (e ∷ put pos_cmp p v es)) ≡ map.Entries.by_order o (Some p) (Some f) (Some f)) [ Less ↦ refl | Equal ↦ is | Greater ↦ is ]
+    ap (λ o. least_key (map.Entries.by_order o ((p, v) ∷ e ∷ es) ((e.0, v) ∷ es) (e ∷ put pos_cmp p v es))) (ap (pos_cmp p) same ∙ at) ∙
+    elim o as (λ o. least_key (map.Entries.by_order o ((p, v) ∷ e ∷ es) ((e.0, v) ∷ es) (e ∷ put pos_cmp p v es)) ≡ map.Entries.by_order o (Some p) (Some f) (Some f)) [ Less ↦ refl | Equal ↦ is | Greater ↦ is ]
 
 module _ (hits : Hits) (m : Mark) (v : List ℤ) (q : List Part) (apart : same_key q m.key ≡ false) (t : ℕ) where
   abbrev after : Hits
@@ -179,14 +182,51 @@ module _ (hits : Hits) (m : Mark) (q : List Part) (apart : same_key q m.key ≡ 
       (place-le (order_without hits m.key) (mark f m.key) (mark g m.key) _ _ (order-at hits m.key q apart t f).1.0 (order-at hits m.key q apart t g).1.0 (λ h. marks_not_before g f m.key after_it (pos_cmp g f) refl h (tied_itself key_cmp_total m.key)))
       ∙ sym (before-is hits less_one m.key q apart t beside_less (Some f) a)
 
+-- keys that aren't equal don't tie
+apart_of : (q k : List Part) → (q ≡ k → ⊥) → same_key q k ≡ false
+apart_of q k ne = by (same_key q k) refl where
+  by : (b : Bool) → same_key q k ≡ b → b ≡ false
+  by true same = absurd (ne (same_is q k same))
+  by false same = refl
+
 pub last_goes_out : LastGoesOut
-last_goes_out tabled m v q some apart ne = sized tabled.size refl some ne where
-  sized : (s : ℕ) → tabled.size ≡ s → 0 < s → (slice_get (list_map key_of (take s (order_of tabled.hits))) (length (list_map key_of (take s (order_of tabled.hits))) - 1) ≡ Some q → ⊥) → list_any (same_key q) (list_map key_of (take s (order_of (map.insert tabled.hits m v)))) ≡ list_any (same_key q) (list_map key_of (take s (order_of tabled.hits)))
-  sized zero e lt h = absurd (omega arith)
-  sized (suc t) e lt h = came tabled.hits m v q apart t h (first_place tabled.hits m.key) refl
+last_goes_out table m v q other ne = sized table.size ne where
+  sized : (s : ℕ) → (slice_get (list_map key_of (take s (order_of table.hits))) (length (list_map key_of (take s (order_of table.hits))) - 1) ≡ Some q → ⊥) → list_any (same_key q) (list_map key_of (take s (order_of (map.insert table.hits m v)))) ≡ list_any (same_key q) (list_map key_of (take s (order_of table.hits)))
+  sized zero h = refl
+  sized (suc t) h = came table.hits m v q (apart_of q m.key other) t h (first_place table.hits m.key) refl
 
 pub first_comes_in : FirstComesIn
-first_comes_in tabled m q some apart ne = sized tabled.size refl some ne where
-  sized : (s : ℕ) → tabled.size ≡ s → 0 < s → (slice_get (list_map key_of (drop s (order_of tabled.hits))) 0 ≡ Some q → ⊥) → list_any (same_key q) (list_map key_of (take s (order_of (map.remove tabled.hits m)))) ≡ list_any (same_key q) (list_map key_of (take s (order_of tabled.hits)))
-  sized zero e lt h = absurd (omega arith)
-  sized (suc t) e lt h = went tabled.hits m q apart t h (first_place tabled.hits m.key) (first_place (map.remove tabled.hits m) m.key) refl refl
+first_comes_in table m q other ne = sized table.size ne where
+  sized : (s : ℕ) → (slice_get (list_map key_of (drop s (order_of table.hits))) 0 ≡ Some q → ⊥) → list_any (same_key q) (list_map key_of (take s (order_of (map.remove table.hits m)))) ≡ list_any (same_key q) (list_map key_of (take s (order_of table.hits)))
+  sized zero h = refl
+  sized (suc t) h = went table.hits m q (apart_of q m.key other) t h (first_place table.hits m.key) (first_place (map.remove table.hits m) m.key) refl refl
+
+-- ---- whatever happens to the hits of one key
+
+beside_of : (hits after : Hits) (key : List Part) → AreSameBut key hits after → SameBeside hits after key
+beside_of hits after key same q apart = same q (λ e. let both : true ≡ false = sym (same_itself key) ∙ ap (λ (k : List Part). same_key k key) (sym e) ∙ apart in cc)
+
+-- the key that stands in the way: at the table's edge among the others
+edge_mark : List Part → Mark
+edge_mark key = mark (record { stamp = 0; cpu = 0; line = 0 }) key
+
+pub one_other_moves : OneOtherMoves
+one_other_moves table after key same = sized table.size where
+  beside : SameBeside table.hits after key
+  beside = beside_of table.hits after key same
+
+  sized : (s : ℕ) → (other : List Part) × ((q : List Part) → (q ≡ key → ⊥) → (q ≡ other → ⊥) → list_any (same_key q) (list_map key_of (take s (order_of after))) ≡ list_any (same_key q) (list_map key_of (take s (order_of table.hits))))
+  sized zero = (key, λ q ne other. refl)
+  sized (suc t) = (
+    (get_or (order_without table.hits key) t (edge_mark key)).key,
+    λ q ne other.
+        let apart : same_key q key ≡ false = apart_of q key ne in
+        let not_at : NotAt table.hits key q apart t = λ d lt. ap (λ (m : Mark). same_key q m.key) (get_or_default (order_without table.hits key) t d (edge_mark key) lt) ∙ apart_of q _ other in
+        let alike : (o : Option Pos) → stands table.hits key q apart t o ≡ stands table.hits key q apart t None = alike_of q apart t not_at in
+        after-is table.hits after key q apart t beside (first_place after key) refl
+        ∙ alike (first_place after key) ∙ sym (alike (first_place table.hits key))
+        ∙ sym (before-is table.hits after key q apart t beside (first_place table.hits key) refl),
+  ) where
+    alike_of : (q : List Part) (apart : same_key q key ≡ false) (t : ℕ) → NotAt table.hits key q apart t → (o : Option Pos) → stands table.hits key q apart t o ≡ stands table.hits key q apart t None
+    alike_of q apart t not_at None = refl
+    alike_of q apart t not_at (Some b) = stands-came table.hits key q apart t not_at b

@@ -48,7 +48,7 @@ module _ {K : Type 0} {R : K → K → Ordering} (total : IsTotalOrder R) where
   turned a b h = total.antisymm b a ∙ ap ordering_reverse h
 
   -- the place among the keys behind the first
-  next_place : (x : K) (ks : List K) (k : K) (i : ℕ) → IsPlace R (x ∷ ks) k (suc i) → IsPlace R ks k i
+  pub next_place : (x : K) (ks : List K) (k : K) (i : ℕ) → IsPlace R (x ∷ ks) k (suc i) → IsPlace R ks k i
   next_place x ks k i h = record {
     within = let w = h.within in omega arith;
     below = λ j d lt. h.below (suc j) d (omega arith);

@@ -1,11 +1,11 @@
--- How a proof tells by_key apart.
-use Rattle.std.specs.Prelude.{ℕ, refl}
+-- How the logic stores what contracts see.
+use Rattle.std.specs.Prelude.{ℕ, ℤ, List, refl}
 use Rattle.std.specs.Coded.{Coded, code_by, coded×, coded_list, coded_ℤ, coded_ℕ}
 use Rattle.std.specs.FinMap as map
 use Rattle.ft_event.specs.contracts.pos.Pos as pos
 use Rattle.ft_table.specs.contracts.mark.Mark as mark
-use Rattle.ft_table.specs.Hits.{EntryHits}
-use Rattle.ft_table.specs.Tabled.{Hits, Tabled}
+use Rattle.ft_table.specs.Hits.{EntryHits, Hits}
+use Rattle.ft_table.specs.Tabled.{Tabled}
 
 -- the hits of one key, stored as their list (our own choice)
 abbrev pub entry_code : Coded EntryHits

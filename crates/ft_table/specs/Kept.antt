@@ -1,15 +1,16 @@
 -- What a table keeps of its hits.
-use Rattle.std.specs.Prelude.{◌≡◌, ◌<◌}
+use Rattle.std.specs.Prelude.{◌≡◌, ℕ, ◌<◌}
 use Rattle.ft_table.specs.declared.table.Table.TheInside.{Inside}
+use Rattle.ft_table.specs.Hits.{hitcount}
+use Rattle.ft_table.specs.Tabled.{Tabled, order_of}
+use Rattle.ft_table.specs.ByKey.{hits_in}
 use Rattle.ft_table.specs.Split.{IsSplit}
-use Rattle.ft_table.specs.Tabled.{Tabled, hitcount, order_of}
-use Rattle.ft_table.specs.Inside.{hits_in}
 
--- a table's hits and its size (our own choice)
+-- what contracts see of a table's fields (our own choice)
 abbrev pub table_of : Inside → Tabled
 table_of t = record { hits = hits_in t.by_key; size = t.size }
 
--- it has room, its order is that of the first hits, and its counts are those of the keys in it and outside (our own choice)
+-- there is room for a key, the order is that of the first hits, and the counts are those of the keys in the table and outside (our own choice)
 pub record IsKept (t : Inside) : Type 0 where
   pub room : 0 < t.size
   pub order : t.order.items ≡ order_of (hits_in t.by_key)

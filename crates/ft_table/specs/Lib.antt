@@ -1,9 +1,11 @@
+pub mod Admission
+pub mod ByKey
 pub mod Codes
 pub mod Growth
 pub mod Hits
-pub mod Inside
 pub mod Kept
 pub mod Marks
+pub mod Moves
 pub mod OneKey
 pub mod Places
 pub mod Rows

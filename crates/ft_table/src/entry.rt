@@ -1,17 +1,19 @@
 //! The hits of one key, and of all keys.
 
-ghost use Rattle.std.specs.Prelude.{◌≡◌, ℕ, ◌+◌, ◌%◌, ◌<◌, ◌^◌, OnOk, OnErr, None};
+ghost use Rattle.std.specs.Prelude.{◌≡◌, ℕ, ◌+◌, ◌%◌, ◌<◌, ◌^◌, OnOk, OnErr, None, Some, IsTrue};
 ghost use Rattle.std.specs.Int.{w64, cast_unsigned};
 ghost use Rattle.std.specs.FinMap as map;
-ghost use Rattle.ft_table.specs.Hits.{sums_of};
-ghost use Rattle.ft_table.specs.Tabled.{first_key, first_place, hitcount, hits_of, first_entry, hits_after};
-ghost use Rattle.ft_table.specs.Inside.{hits_in};
+ghost use Rattle.ft_table.specs.Hits.{sums_of, least_key, first_place, hitcount, hits_of, first_entry, hits_after};
+ghost use Rattle.ft_table.specs.ByKey.{hits_in};
+ghost use Rattle.ft_hist.specs.Parts.{key_cmp};
+ghost use Rattle.ft_maps.specs.Seen.{seen};
 ghost use Rattle.ft_table.specs.Rows.{hit_after};
 
 use crate::hit::Hit;
 use crate::mark::Mark;
 use ft_event::Pos;
 use ft_hist::Key;
+use ft_maps::take;
 use std::alloc::{AllocError, Global};
 use std::collections::BTreeMap;
 use std::marker::Model;
@@ -77,7 +79,7 @@ impl Entry {
 
     /// The place of its first hit.
     fn first(&self) -> Option<Pos>
-        ensures { result ≡ first_key (map.entries self.now) }
+        ensures { result ≡ least_key (map.entries self.now) }
     {
         if self.hits.len() == 0 {
             return None;
@@ -88,7 +90,7 @@ impl Entry {
         }
     }
 
-    /// Its first hit behind a place, or its first.
+    /// Its first hit after a place, or its first.
     fn after(&self, place: Option<Pos>) -> Option<(Pos, [i64; 3])>
         ensures { result ≡ first_entry (hits_after place self.now) }
     {
@@ -122,6 +124,13 @@ impl Entry {
         ensures { result ≡ sums_of self.now }
     {
         self.sums
+    }
+
+    /// Whether a hit stands at a place.
+    fn contains(&self, pos: Pos) -> bool
+        ensures { result ≡ map.contains_key self.now pos }
+    {
+        self.hits.contains_key(&pos)
     }
 
     /// Takes the hit at a place.
@@ -163,7 +172,7 @@ pub(crate) fn sums_at(by_key: &BTreeMap<Key, Entry>, key: &Key) -> [u64; 3]
     }
 }
 
-/// The first hit of a key behind a place, or its first.
+/// The first hit of a key after a place, or its first.
 pub(crate) fn hit_behind(
     by_key: &BTreeMap<Key, Entry>,
     key: &Key,
@@ -190,6 +199,16 @@ pub(crate) fn first_at(by_key: &BTreeMap<Key, Entry>, key: &Key) -> Option<Pos>
     }
 }
 
+/// Whether a hit stands at a mark.
+pub(crate) fn holds(by_key: &BTreeMap<Key, Entry>, mark: Mark) -> bool
+    ensures { result ≡ map.contains_key (hits_in by_key.now) mark }
+{
+    match by_key.get(&mark.key) {
+        Some(entry) => entry.contains(mark.pos),
+        None => false,
+    }
+}
+
 /// Puts a hit at a mark. Refused for memory, and then all is as it was.
 pub(crate) fn put_hit(
     alloc: Global,
@@ -210,13 +229,42 @@ pub(crate) fn put_hit(
     Ok(())
 }
 
-/// Takes the hit at a mark: whether there was one.
+/// Takes the hit at a mark: whether there was one. A key without hits goes too.
 pub(crate) fn take_hit(by_key: &mut BTreeMap<Key, Entry>, mark: Mark) -> bool
+    ensures left { hits_in by_key.new ≡ map.remove (hits_in by_key.old) mark }
+    ensures found { result ≡ map.contains_key (hits_in by_key.old) mark }
+{
+    let found = take_from(by_key, mark);
+    clear_out(by_key, &mark.key);
+    found
+}
+
+/// Takes the hit at a mark from its key's: whether there was one.
+fn take_from(by_key: &mut BTreeMap<Key, Entry>, mark: Mark) -> bool
     ensures left { hits_in by_key.new ≡ map.remove (hits_in by_key.old) mark }
     ensures found { result ≡ map.contains_key (hits_in by_key.old) mark }
 {
     match by_key.get_mut(&mark.key) {
         Some(entry) => entry.remove(mark.pos),
+        None => false,
+    }
+}
+
+/// Takes a key out that has no hits, so that it takes no memory.
+fn clear_out(by_key: &mut BTreeMap<Key, Entry>, key: &Key)
+    ensures { hits_in by_key.new ≡ hits_in by_key.old }
+{
+    if is_clear(by_key, key) {
+        take(by_key, key);
+    }
+}
+
+/// Whether a key stands there without hits.
+fn is_clear(by_key: &BTreeMap<Key, Entry>, key: &Key) -> bool
+    ensures { IsTrue result → map.get (seen key_cmp by_key.now) key.now ≡ Some map.empty }
+{
+    match by_key.get(key) {
+        Some(entry) => entry.len() == 0,
         None => false,
     }
 }

@@ -11,7 +11,10 @@ mod split;
 mod table;
 
 pub use hit::Hit;
-pub use laws::{keys_grow, one_key};
+pub use laws::{all_hits, first_keys, one_key, one_more_hit};
 pub use mark::Mark;
 pub use row::{Row, Totals};
 pub use table::{Edge, Table};
+
+#[cfg(test)]
+mod tests;

@@ -4,8 +4,10 @@ ghost use Rattle.std.specs.Prelude.{◌≡◌, ◌+◌, ◌<◌, ◌≤◌, ◌^
 ghost use Rattle.std.specs.FinMap as map;
 ghost use Rattle.std.specs.List.{insert, remove};
 ghost use Rattle.ft_table.specs.Split.{IsSplit};
-ghost use Rattle.ft_table.specs.Tabled.{hitcount, order_of, order_with, order_without, order_before, with_more, with_less};
-ghost use Rattle.ft_table.specs.Inside.{hits_in};
+ghost use Rattle.ft_table.specs.Hits.{hitcount};
+ghost use Rattle.ft_table.specs.Tabled.{order_of};
+ghost use Rattle.ft_table.specs.Moves.{order_with, order_without, order_before, with_more, with_less};
+ghost use Rattle.ft_table.specs.ByKey.{hits_in};
 
 use crate::entry::{Entry, count_of, first_at, put_hit, take_hit};
 use crate::mark::Mark;

@@ -3,7 +3,7 @@
 ghost use Rattle.std.specs.Prelude.{◌≡◌, ◌+◌, ◌<◌, OnOk, OnErr};
 ghost use Rattle.std.specs.FinMap as map;
 
-use crate::entry::{Entry, count_of, first_at, hit_behind, sums_at};
+use crate::entry::{Entry, count_of, first_at, hit_behind, holds, sums_at};
 use crate::hit::Hit;
 use crate::mark::Mark;
 use crate::order::place_of;
@@ -50,10 +50,9 @@ impl Model for Table {
 }
 
 impl Table {
-    ghost use Rattle.std.specs.Prelude.{None, Some, length, if◌then◌else◌};
-    ghost use Rattle.ft_table.specs.Rows.{row_of, hit_after};
-    ghost use Rattle.std.specs.List.{sum_by};
-    ghost use Rattle.ft_table.specs.Tabled.{is_in, keys_in, keys_out, hitcount, last_in, first_out};
+    ghost use Rattle.std.specs.Prelude.{None};
+    ghost use Rattle.ft_table.specs.Rows.{row_at, totals_of, hit_after};
+    ghost use Rattle.ft_table.specs.Tabled.{is_in, last_in, first_out};
 
     /// A table with room for some keys.
     pub fn new(alloc: Global, size: u32) -> Table
@@ -109,6 +108,13 @@ impl Table {
         );
     }
 
+    /// Whether a hit stands at a place under a key.
+    pub fn holds(&self, pos: Pos, key: Key) -> bool
+        ensures { result ≡ map.contains_key self.now.hits (record { pos = pos; key = key }) }
+    {
+        holds(&self.by_key, Mark { pos, key })
+    }
+
     /// Whether a key is in the table.
     pub fn is_in(&self, key: &Key) -> bool
         ensures { result ≡ is_in self.now key.now }
@@ -121,7 +127,7 @@ impl Table {
 
     /// The row of a key, if it is in the table.
     pub fn row(&self, key: &Key) -> Option<Row>
-        ensures { result ≡ (if is_in self.now key.now then Some (row_of self.now.hits key.now) else None) }
+        ensures { result ≡ row_at self.now key.now }
     {
         if self.is_in(key) {
             Some(Row {
@@ -136,9 +142,7 @@ impl Table {
 
     /// How many hits were counted, and how many were not.
     pub fn totals(&self) -> Totals
-        ensures hits { result.hits ≡ sum_by (hitcount self.now.hits) (keys_in self.now) }
-        ensures entries { result.entries ≡ length (keys_in self.now) }
-        ensures dropped { result.dropped ≡ sum_by (hitcount self.now.hits) (keys_out self.now) }
+        ensures { result ≡ totals_of self.now }
     {
         let keys = self.order.len().min(self.size as usize);
         Totals {

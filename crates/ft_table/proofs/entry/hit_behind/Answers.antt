@@ -8,9 +8,8 @@ use Rattle.ft_hist.specs.declared.key.Part.{Part}
 use Rattle.ft_hist.specs.Parts.{key_cmp}
 use Rattle.ft_table.specs.declared.hit.Hit.{Hit}
 use Rattle.ft_event.specs.Places.{pos_cmp}
-use Rattle.ft_table.specs.Hits.{EntryHits}
+use Rattle.ft_table.specs.Hits.{EntryHits, first_entry, hits_after, is_after}
 use Rattle.ft_maps.specs.Seen.{seen, get-seen}
-use Rattle.ft_table.specs.Tabled.{first_entry, hits_after, is_behind}
 use Rattle.std.specs.List.{filter}
 use Rattle.ft_hist.specs.Orders.{key_cmp_total}
 use Rattle.ft_maps.specs.Entries.{entries-empty}
@@ -26,7 +25,7 @@ returns-in_err-entry c =
     let at : map.get (seen key_cmp c.args.by_key.now) key ≡ None = get-seen key_cmp_total c.args.by_key.now key ∙ sym c.get.ensures.value ∙ ap option_copied c.in_err-entry.was in
     let none : c.from_residual.result ≡ None = search rules in
     none ∙ sym (ap (λ (l : EntryHits). hit_at key (first_entry (hits_after c.args.after l))) (hits_of-flat (seen key_cmp c.args.by_key.now) key ∙ ap (λ o. unwrap_or o map.empty) at)
-    ∙ ap (λ (es : List (Pos × List ℤ)). hit_at key (first_entry (filter (λ e. is_behind c.args.after e.0) es))) (entries-empty {X = List ℤ} pos_cmp))
+    ∙ ap (λ (es : List (Pos × List ℤ)). hit_at key (first_entry (filter (λ e. is_after c.args.after e.0) es))) (entries-empty {X = List ℤ} pos_cmp))
 
 pub returns-in_err-pos : goal.returns-in_err-pos
 returns-in_err-pos c =

@@ -4,8 +4,9 @@ use Rattle.ft_hist.specs.declared.key.Part.{Part}
 use Rattle.ft_table.specs.Marks.{mark_cmp}
 use Rattle.ft_table.specs.Places.{Rises, IsPlace}
 use Rattle.ft_table.specs.Split.{IsSplit}
-use Rattle.ft_table.specs.Inside.{hits_in}
-use Rattle.ft_table.specs.Tabled.{Hits, others, hitcount, same_key, with_more}
+use Rattle.ft_table.specs.ByKey.{hits_in}
+use Rattle.ft_table.specs.Hits.{Hits, hitcount, same_key}
+use Rattle.ft_table.specs.Moves.{others, with_more}
 use Rattle.ft_table.proofs.Sorted.{rises-keys}
 use Rattle.ft_table.proofs.Flat.{same_itself}
 use Rattle.ft_table.proofs.Counts.{split-down-in, split-down-out}

@@ -3,8 +3,8 @@ use Rattle.std.specs.List.{insert}
 use Rattle.ft_table.specs.declared.mark.Mark.{Mark}
 use Rattle.ft_table.specs.Marks.{mark_cmp}
 use Rattle.ft_table.specs.Places.{Rises, IsPlace}
-use Rattle.ft_table.specs.Inside.{hits_in}
-use Rattle.ft_table.specs.Tabled.{others}
+use Rattle.ft_table.specs.ByKey.{hits_in}
+use Rattle.ft_table.specs.Moves.{others}
 use Rattle.ft_table.proofs.Sorted.{rises-keys}
 use Rattle.ft_table.proofs.Firsts.{order-enter}
 use Rattle.ft_table.proofs.split.enter.Goals as goal

@@ -5,8 +5,9 @@ use Rattle.std.proofs.lemmas.List.Sums.{sum_by-remove}
 use Rattle.ft_table.specs.declared.mark.Mark.{Mark}
 use Rattle.ft_table.specs.Marks.{mark_cmp}
 use Rattle.ft_table.specs.Places.{Rises, IsPlace}
-use Rattle.ft_table.specs.Inside.{hits_in}
-use Rattle.ft_table.specs.Tabled.{others, hitcount}
+use Rattle.ft_table.specs.ByKey.{hits_in}
+use Rattle.ft_table.specs.Hits.{hitcount}
+use Rattle.ft_table.specs.Moves.{others}
 use Rattle.ft_table.proofs.Sorted.{rises-keys}
 use Rattle.ft_table.proofs.Firsts.{order-leave, order-found}
 use Rattle.ft_table.proofs.split.leave.Goals as goal

@@ -3,8 +3,9 @@ use Rattle.std.specs.List.{list_any}
 use Rattle.ft_table.specs.declared.mark.Mark.{Mark}
 use Rattle.ft_table.specs.Marks.{mark_cmp}
 use Rattle.ft_table.specs.Places.{Rises, IsPlace}
-use Rattle.ft_table.specs.Inside.{hits_in}
-use Rattle.ft_table.specs.Tabled.{Tabled, is_in, same_key, first_hits}
+use Rattle.ft_table.specs.ByKey.{hits_in}
+use Rattle.ft_table.specs.Hits.{same_key}
+use Rattle.ft_table.specs.Tabled.{Tabled, is_in, first_hits}
 use Rattle.ft_table.proofs.Flat.{mark}
 use Rattle.ft_table.proofs.Sorted.{rises-keys}
 use Rattle.ft_table.proofs.Firsts.{order-none, order-some}
