@@ -52,11 +52,11 @@ fn is_edge(table: &Table, last_in: Option<Key>, first_out: Option<Key>) -> bool 
 
 /// Whether the row of a key, if it has any, has these numbers.
 fn is_row(table: &Table, key: Key, numbers: Option<(u64, [u64; 3])>) -> bool {
-    match (table.row(&key), numbers) {
-        (None, None) => true,
-        (Some(row), Some((hitcount, sums))) => {
-            row.key == key && row.hitcount == hitcount && row.sums == sums
+    match table.row(&key) {
+        None => numbers.is_none(),
+        Some(row) => {
+            let sums = row.sums;
+            row.key == key && numbers == Some((row.hitcount, sums))
         }
-        _ => false,
     }
 }

@@ -1,11 +1,14 @@
 //! Every answer against a plain recount of the hits, after each of many calls.
 
+ghost use Rattle.std.specs.Prelude.{◌<◌};
+
 use super::*;
 
 /// How many PIDs the hits have.
-const PIDS: i64 = 7;
+const PIDS: usize = 7;
 
 /// A row of numbers that looks like chance.
+#[derive(Drop)]
 struct Numbers {
     state: u64,
 }
@@ -21,35 +24,70 @@ impl Numbers {
     }
 }
 
-/// The least hit of a key after a place, by a walk of all hits.
-fn next_of(hits: &[Hit], key: Key, after: Option<Pos>) -> Option<Hit> {
-    let mut next: Option<Hit> = None;
+/// A hit of a PID, in plain numbers.
+#[derive(Clone, Copy)]
+struct Plain {
+    stamp: u64,
+    number: u64,
+    values: [i64; 3],
+}
+
+/// What a walk of all hits finds of a PID.
+#[derive(Clone, Copy)]
+struct Found {
+    first: Option<u64>,
+    next: Option<(u64, [i64; 3])>,
+    count: u64,
+    sums: [u64; 3],
+}
+
+/// Nothing yet.
+const NOTHING: Found = Found {
+    first: None,
+    next: None,
+    count: 0,
+    sums: [0, 0, 0],
+};
+
+/// What was found, and one more hit.
+fn with(found: Found, hit: &Plain, after: u64) -> Found {
+    let first = found.first.map_or(hit.stamp, |first| first.min(hit.stamp));
+    let sooner = found.next.is_none_or(|(stamp, _)| hit.stamp < stamp);
+    Found {
+        first: Some(first),
+        next: if after < hit.stamp && sooner {
+            Some((hit.stamp, hit.values))
+        } else {
+            found.next
+        },
+        count: found.count.wrapping_add(1),
+        sums: [
+            found.sums[0].wrapping_add(hit.values[0].cast_unsigned()),
+            found.sums[1].wrapping_add(hit.values[1].cast_unsigned()),
+            found.sums[2].wrapping_add(hit.values[2].cast_unsigned()),
+        ],
+    }
+}
+
+/// What a walk of all hits finds of each PID.
+fn walk(hits: &[Plain], after: u64) -> [Found; PIDS] {
+    let mut all = [NOTHING; PIDS];
     for hit in hits {
-        let behind = after.is_none_or(|place| place < hit.pos);
-        let sooner = next.is_none_or(|other| hit.pos < other.pos);
-        if hit.key == key && behind && sooner {
-            next = Some(*hit);
+        let number = hit.number as usize;
+        if number < PIDS {
+            all[number] = with(all[number], hit, after);
         }
     }
-    next
+    all
 }
 
-/// Where a key's first hit stands.
-fn mark_of(hits: &[Hit], key: Key) -> Option<Mark> {
-    let first = next_of(hits, key, None)?;
-    Some(Mark {
-        pos: first.pos,
-        key,
-    })
-}
-
-/// How many keys have an earlier first hit than a key with hits.
-fn rank_of(hits: &[Hit], key: Key) -> Option<u64> {
-    let own = mark_of(hits, key)?;
+/// How many PIDs have an earlier first hit than a PID with hits.
+fn rank_of(all: &[Found; PIDS], number: usize) -> Option<u64> {
+    let own = all.get(number)?.first?;
     let mut rank: u64 = 0;
-    for number in 0..PIDS {
-        if let Some(other) = mark_of(hits, pid(number)) {
-            if other < own {
+    for (other, found) in all.iter().enumerate() {
+        if let Some(first) = found.first {
+            if first < own || (first == own && other < number) {
                 rank = rank.wrapping_add(1);
             }
         }
@@ -57,84 +95,79 @@ fn rank_of(hits: &[Hit], key: Key) -> Option<u64> {
     Some(rank)
 }
 
-/// How many hits a key has, and their sums.
-fn numbers_of(hits: &[Hit], key: Key) -> (u64, [u64; 3]) {
-    let mut count: u64 = 0;
-    let mut sums: [u64; 3] = [0, 0, 0];
-    for hit in hits {
-        if hit.key == key {
-            count = count.wrapping_add(1);
-            sums = [
-                sums[0].wrapping_add(hit.values[0].cast_unsigned()),
-                sums[1].wrapping_add(hit.values[1].cast_unsigned()),
-                sums[2].wrapping_add(hit.values[2].cast_unsigned()),
-            ];
-        }
-    }
-    (count, sums)
-}
-
-/// Whether a table answers as a recount of the hits does, for one key.
-fn answers_for(table: &Table, hits: &[Hit], size: u64, key: Key, after: Pos) -> bool {
-    let inside = rank_of(hits, key).is_some_and(|rank| rank < size);
-    let row = if inside {
-        Some(numbers_of(hits, key))
-    } else {
-        None
-    };
-    let next = next_of(hits, key, Some(after)).map(|hit| (hit.pos, hit.values));
-    table.is_in(&key) == inside
-        && is_row(table, key, row)
-        && table
-            .hit_after(&key, Some(after))
-            .map(|hit| (hit.pos, hit.values))
-            == next
+/// The key of a PID by its place in an array.
+fn key_of(number: usize) -> Key {
+    pid((number as u64).cast_signed())
 }
 
 /// The key of a rank.
-fn key_at(hits: &[Hit], rank: Option<u64>) -> Option<Key> {
+fn key_at(all: &[Found; PIDS], rank: Option<u64>) -> Option<Key> {
     let wanted = rank?;
     for number in 0..PIDS {
-        if rank_of(hits, pid(number)) == Some(wanted) {
-            return Some(pid(number));
+        if rank_of(all, number) == Some(wanted) {
+            return Some(key_of(number));
         }
     }
     None
 }
 
-/// Whether a table's totals and edge are those of a recount of the hits.
-fn answers_for_all(table: &Table, hits: &[Hit], size: u64) -> bool {
+/// A hit's parts.
+fn parts_of(hit: Hit) -> (Pos, Key, [i64; 3]) {
+    let values = hit.values;
+    (hit.pos, hit.key, values)
+}
+
+/// Whether a table answers for one key as was found.
+fn answers_for(table: &Table, all: &[Found; PIDS], size: u64, number: usize, after: u64) -> bool {
+    let key = key_of(number);
+    let found = all.get(number).copied().unwrap_or(NOTHING);
+    let inside = rank_of(all, number).is_some_and(|rank| rank < size);
+    let sums = found.sums;
+    let row = if inside {
+        Some((found.count, sums))
+    } else {
+        None
+    };
+    let next = table.hit_after(&key, Some(at(after)));
+    table.is_in(&key) == inside
+        && is_row(table, key, row)
+        && next.map(parts_of) == found.next.map(|(stamp, values)| (at(stamp), key, values))
+}
+
+/// Whether a table's totals and edge are as was found.
+fn answers_for_all(table: &Table, all: &[Found; PIDS], size: u64) -> bool {
     let mut counted: u64 = 0;
     let mut entries: u64 = 0;
     let mut dropped: u64 = 0;
-    for number in 0..PIDS {
-        let (count, _) = numbers_of(hits, pid(number));
-        match rank_of(hits, pid(number)) {
-            Some(rank) if rank < size => {
-                counted = counted.wrapping_add(count);
-                entries = entries.wrapping_add(1);
-            }
-            _ => dropped = dropped.wrapping_add(count),
+    for (number, found) in all.iter().enumerate() {
+        if rank_of(all, number).is_some_and(|rank| rank < size) {
+            counted = counted.wrapping_add(found.count);
+            entries = entries.wrapping_add(1);
+        } else {
+            dropped = dropped.wrapping_add(found.count);
         }
     }
-    let last_in = key_at(hits, entries.checked_sub(1));
-    let first_out = key_at(hits, Some(size));
+    let last_in = key_at(all, entries.checked_sub(1));
+    let first_out = key_at(all, Some(size));
     are_totals(table, counted, entries, dropped) && is_edge(table, last_in, first_out)
 }
 
-/// Whether a table answers as a recount of the hits does.
-fn answers(table: &Table, hits: &[Hit], size: u64, after: Pos) -> bool {
+/// Whether a table answers as a walk of the hits does.
+fn answers(table: &Table, hits: &[Plain], size: u64, after: u64) -> bool {
+    let all = walk(hits, after);
     for number in 0..PIDS {
-        if !answers_for(table, hits, size, pid(number), after) {
+        if !answers_for(table, &all, size, number, after) {
             return false;
         }
     }
-    answers_for_all(table, hits, size)
+    answers_for_all(table, &all, size)
 }
 
 /// Takes a hit out of a list, if it is there: whether it was.
-fn take_from(hits: &mut Vec<Hit>, pos: Pos, key: Key) -> bool {
-    let found = hits.iter().position(|hit| hit.pos == pos && hit.key == key);
+fn take_from(hits: &mut Vec<Plain>, stamp: u64, number: u64) -> bool {
+    let found = hits
+        .iter()
+        .position(|hit| hit.stamp == stamp && hit.number == number);
     match found {
         Some(i) => {
             let _taken = hits.swap_remove(i);
@@ -145,34 +178,36 @@ fn take_from(hits: &mut Vec<Hit>, pos: Pos, key: Key) -> bool {
 }
 
 /// One call: a hit comes where none stands, or goes.
-fn call(table: &mut Table, hits: &mut Vec<Hit>, numbers: &mut Numbers) -> Result<(), AllocError> {
+fn call(table: &mut Table, hits: &mut Vec<Plain>, numbers: &mut Numbers) -> Result<(), AllocError> {
     let stamp = numbers.below(9);
-    let number = numbers.below(7).cast_signed();
+    let number = numbers.below(7);
     let value = numbers.below(1 << 31).cast_signed();
-    let one = hit(
-        stamp,
-        number,
-        [value, value.wrapping_neg(), value.wrapping_mul(value)],
-    );
-    if take_from(hits, one.pos, one.key) || numbers.below(8) == 0 {
-        table.remove(one.pos, one.key);
+    let values = [value, value.wrapping_neg(), value.wrapping_mul(value)];
+    if take_from(hits, stamp, number) || numbers.below(8) == 0 {
+        table.remove(at(stamp), pid(number.cast_signed()));
         return Ok(());
     }
-    put(table, one)?;
-    hits.push(one)?;
+    put(table, hit(stamp, number.cast_signed(), values))?;
+    hits.push(Plain {
+        stamp,
+        number,
+        values,
+    })?;
     Ok(())
 }
 
 /// Whether a table of a size answers as a recount does after each of 2,000 calls.
-fn answers_throughout(alloc: Global, size: u32) -> Result<bool, AllocError> {
+fn answers_throughout(alloc: Global, size: u32) -> Result<bool, AllocError>
+    requires { 0 < size }
+{
     let mut table = Table::new(alloc, size);
-    let mut hits: Vec<Hit> = Vec::new(alloc);
+    let mut hits: Vec<Plain> = Vec::new(alloc);
     let mut numbers = Numbers {
         state: u64::from(size),
     };
     for _ in 0..2000 {
         call(&mut table, &mut hits, &mut numbers)?;
-        let after = at(numbers.below(9));
+        let after = numbers.below(9);
         if !answers(&table, &hits, u64::from(size), after) {
             return Ok(false);
         }
