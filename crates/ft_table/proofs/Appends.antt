@@ -17,11 +17,11 @@ use Rattle.ft_hist.specs.Parts.{key_cmp}
 use Rattle.ft_table.specs.declared.mark.Mark.{Mark}
 use Rattle.ft_event.specs.Places.{pos_cmp, pos_cmp_total}
 use Rattle.ft_table.specs.Marks.{mark_cmp, mark_cmp_total}
-use Rattle.ft_table.specs.Places.{IsPlace}
+use Rattle.ft_table.specs.Ascending.{IsPlace}
 use Rattle.ft_table.specs.Hits.{Hits, hits_of, least_key, first_place, same_key}
 use Rattle.ft_table.specs.Tabled.{Tabled, is_first, first_hits, order_of, keys_in, is_in}
 use Rattle.ft_table.specs.Moves.{order_without, order_with, others}
-use Rattle.ft_table.specs.Growth.{AreBefore, ComesLast, with_hit, KeysGrow}
+use Rattle.ft_table.specs.Growth.{AreBefore, with_hit, KeysGrow}
 use Rattle.ft_hist.specs.Orders.{key_cmp_total}
 use Rattle.ft_table.proofs.Flat.{mark}
 use Rattle.ft_table.proofs.Firsts.{first_is_hit, get-first_hits, order-none, order-some, order-enter, order-found}
@@ -40,7 +40,7 @@ later a b key less =
       only Equal s tie h = cc
       only Greater s tie h = cc
 
--- the first place of a entry, as one is put in
+-- the first place of an entry, as one is put in
 pub first-empty : (p : Pos) (v : List ℤ) (es : List (Pos × List ℤ)) → least_key es ≡ None → least_key (put pos_cmp p v es) ≡ Some p
 first-empty p v [] none = refl
 first-empty p v (e ∷ es) none = cc

@@ -51,7 +51,7 @@ module _ {K X : Type 0} {R : K → K → Ordering} (total : IsTotalOrder R) (sam
       ap (λ (n : FinMap R X). sum_by h (map.values n)) (sym (put_back m k v is))
       ∙ sum-insert (map.remove m k) k v (get-remove total m k k ∙ ap (λ b. cond b None (map.get m k)) ((eq_by_cmp_equiv total).refl k))
 
--- ---- the three sums of a entry
+-- ---- the three sums of an entry
 
 -- a sum and a value, and the sum with it
 pub column-more : (j : ℕ) (entry : EntryHits) (p : Pos) (v : List ℤ) (old new : ℕ) → map.get entry p ≡ None → old ≡ column j entry → new ≡ (old + unsigned_at j v) % 2 ^ 64 → new ≡ column j (map.insert entry p v)

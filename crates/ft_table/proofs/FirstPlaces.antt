@@ -1,5 +1,5 @@
 -- The first hit of a key among all hits in order.
-use Rattle.std.proofs.Common.{◌≡◌, Bool, true, false, cond, T, List, [], ◌∷◌, map as list_map, refl, sym, ap, subst, ◌∙◌, Some, None, Option}
+use Rattle.std.proofs.Common.{◌≡◌, Bool, true, false, cond, T, List, [], ◌∷◌, map as list_map, refl, sym, ap, ◌∙◌}
 use Rattle.std.specs.Prelude.{ℤ, ◌&&◌}
 use Rattle.std.specs.List.{filter, AllByRecursion}
 use Rattle.std.specs.List.Sorted.{IsStrictlySortedBy}

@@ -12,7 +12,7 @@ use Rattle.ft_hist.specs.declared.key.Part.{Part}
 use Rattle.ft_table.specs.declared.mark.Mark.{Mark}
 use Rattle.ft_event.specs.Places.{pos_cmp, pos_cmp_total, pos_same}
 use Rattle.ft_table.specs.Marks.{mark_cmp, mark_cmp_total, mark_same}
-use Rattle.ft_table.specs.Places.{IsPlace}
+use Rattle.ft_table.specs.Ascending.{IsPlace}
 use Rattle.ft_table.specs.Hits.{Hits, same_key, hits_of, least_key, first_place}
 use Rattle.ft_table.specs.Tabled.{is_first, first_hits, order_of}
 use Rattle.ft_table.specs.Moves.{others, order_without, order_with}

@@ -1,4 +1,4 @@
--- Looking up one hit: among all, among those of its key, and in by_key.
+-- Looking up one hit: among all, among those of its key, and in the map of entries by key.
 use Rattle.std.proofs.Common.{◌≡◌, Bool, true, false, cond, T, List, [], ◌∷◌, ◌++◌, map as list_map, refl, sym, ap, ◌∙◌, Some, None, Option, unwrap_or}
 use Rattle.std.specs.Prelude.{ℤ, ◌&&◌, option_and_then}
 use Rattle.std.specs.List.{filter, flat_map}
@@ -85,7 +85,7 @@ pub get-hits_of : (hits : Hits) (pos : Pos) (key : List Part) → map.get (hits_
 unfolding hits_of
 get-hits_of hits pos key = get-from_entries pos_cmp_total _ pos ∙ find-hits_of pos key (map.entries hits) ∙ sym (get-entries hits (mark pos key))
 
--- ---- in by_key
+-- ---- in the map of entries
 
 abbrev with_key : List Part × EntryHits → List Pair
 with_key entry = list_map (λ e. (mark e.0 entry.0, e.1)) (map.entries entry.1)
@@ -132,7 +132,7 @@ find-flat q (entry ∷ by_key) h =
       | false ↦ λ same is. ap (λ o. either o (find mark_cmp q (flat_map with_key by_key))) is ∙ find-flat q by_key (and_right _ _ h)
     ] refl here
 
--- a hit of by_key stands in its key's entry
+-- a hit stands in the entry of its key
 pub get-flat : (by_key : ByKey) (q : Mark) → map.get (flat by_key) q ≡ option_and_then (λ entry. map.get entry q.pos) (map.get by_key q.key)
 unfolding flat
 get-flat by_key q = get-from_entries mark_cmp_total _ q ∙ find-flat q (map.entries by_key) (entries_sorted by_key) ∙ ap (option_and_then (λ entry. map.get entry q.pos)) (sym (get-entries by_key q.key))

@@ -7,7 +7,7 @@ use Rattle.std.proofs.lemmas.Bool.Decides.{nat_tests}
 use Rattle.ft_hist.specs.declared.key.Part.{Part}
 use Rattle.ft_table.specs.declared.mark.Mark.{Mark}
 use Rattle.ft_table.specs.Marks.{mark_cmp}
-use Rattle.ft_table.specs.Places.{IsPlace}
+use Rattle.ft_table.specs.Ascending.{IsPlace}
 use Rattle.ft_table.specs.Hits.{Hits, same_key}
 use Rattle.ft_table.specs.Moves.{order_without, order_with}
 use Rattle.ft_table.proofs.Flat.{same_itself, same_back}

@@ -1,6 +1,6 @@
 -- Which keys are in a table, by the rank of their first hits.
-use Rattle.std.proofs.Common.{◌≡◌, ℕ, zero, suc, ◌<◌, ◌≤◌, Bool, true, false, cond, List, [], ◌∷◌, length, get_or, take, map as list_map, refl, sym, ap, subst, ◌∙◌, arith, nat_lt, Some, None, Option}
-use Rattle.std.specs.Prelude.{ℤ, is_some}
+use Rattle.std.proofs.Common.{◌≡◌, ℕ, zero, suc, ◌<◌, true, false, cond, List, [], ◌∷◌, length, get_or, take, map as list_map, refl, sym, ap, subst, ◌∙◌, arith, nat_lt, Some, None, Option}
+use Rattle.std.specs.Prelude.{is_some}
 use Rattle.std.specs.List.{filter, list_any}
 use Rattle.std.specs.Option.{option_map_or}
 use Rattle.std.specs.declared.cmp.Ordering.{Ordering}
@@ -8,7 +8,6 @@ use Rattle.std.specs.declared.cmp.Ordering.TheVariants.{Less, Equal, Greater}
 use Rattle.std.specs.Ordering.{is_lt, eq_by_cmp, ordering_reverse}
 use Rattle.std.specs.Cmp.{IsTotalOrder, eq_by_cmp_equiv}
 use Rattle.std.specs.FinMap as map
-use Rattle.std.specs.FinMap.{FinMap}
 use Rattle.std.proofs.lemmas.Bool.{ltb-true}
 use Rattle.std.proofs.lemmas.Bool.Decides.{nat_tests}
 use Rattle.ft_event.specs.declared.pos.Pos.{Pos}
@@ -16,14 +15,13 @@ use Rattle.ft_event.specs.Places.{pos_cmp, pos_cmp_total, pos_same}
 use Rattle.ft_hist.specs.declared.key.Part.{Part}
 use Rattle.ft_table.specs.declared.mark.Mark.{Mark}
 use Rattle.ft_table.specs.Marks.{mark_cmp, mark_cmp_total}
-use Rattle.ft_table.specs.Places.{IsPlace}
+use Rattle.ft_table.specs.Ascending.{IsPlace}
 use Rattle.ft_table.specs.Hits.{Hits, same_key, first_place}
 use Rattle.ft_table.specs.Tabled.{Tabled, is_first, first_hits, order_of, is_in}
 use Rattle.ft_table.specs.Moves.{others, order_with}
 use Rattle.ft_table.specs.Admission.{IsFirstHit, FirstsAreFirst, earlier_firsts, IsAmongFirst, InByRank}
 use Rattle.ft_table.proofs.Flat.{mark}
 use Rattle.ft_table.proofs.Firsts.{get-first_hits, no_first, first_is_hit, order-none, order-some}
-use Rattle.ft_table.proofs.Appends.{first_hits-hit}
 use Rattle.ft_table.proofs.Members.{in-without, in-with}
 use Rattle.ft_table.proofs.OneKeys.{first_least}
 use Rattle.ft_table.proofs.Sorted.{next_place, place-keys}

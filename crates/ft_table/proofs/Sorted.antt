@@ -11,7 +11,7 @@ use Rattle.std.specs.Map.{keys_of}
 use Rattle.std.specs.FinMap as map
 use Rattle.std.specs.FinMap.{FinMap, find, put, is_sorted, entries-insert, entries_sorted, get-entries}
 use Rattle.std.proofs.lemmas.Cmp.{tied_itself, alike_right}
-use Rattle.ft_table.specs.Places.{Rises, IsPlace}
+use Rattle.ft_table.specs.Ascending.{Rises, IsPlace}
 
 and_left : (a b : Bool) → T (a && b) → T a
 and_left true b h = tt

@@ -1,14 +1,13 @@
 -- Counting hits key by key, and all at once.
-use Rattle.std.proofs.Common.{◌≡◌, ℕ, zero, suc, ◌+◌, ◌<◌, ◌≤◌, Bool, true, false, cond, List, [], ◌∷◌, length, get_or, take, drop, map as list_map, refl, sym, ap, subst, ◌∙◌, arith, nat_lt, Some, None, Option}
+use Rattle.std.proofs.Common.{◌≡◌, ℕ, zero, suc, ◌+◌, ◌<◌, Bool, true, false, cond, List, [], ◌∷◌, length, get_or, take, drop, map as list_map, refl, sym, ap, subst, ◌∙◌, arith, nat_lt, Some, None, Option}
 use Rattle.std.specs.Prelude.{ℤ, ◌||◌, not, is_some}
 use Rattle.std.specs.List.{filter, list_any, sum_by}
 use Rattle.std.specs.Option.{option_map_or}
-use Rattle.std.specs.declared.cmp.Ordering.{Ordering}
 use Rattle.std.specs.declared.cmp.Ordering.TheVariants.{Equal}
 use Rattle.std.specs.Ordering.{eq_by_cmp}
 use Rattle.std.specs.Map.{keys_of}
 use Rattle.std.specs.FinMap as map
-use Rattle.std.specs.FinMap.{FinMap, len-entries}
+use Rattle.std.specs.FinMap.{len-entries}
 use Rattle.std.proofs.lemmas.Bool.Decides.{nat_tests}
 use Rattle.std.proofs.lemmas.Cmp.{tied_itself}
 use Rattle.std.proofs.lemmas.List.{get_or_default, length-map}
@@ -19,9 +18,9 @@ use Rattle.ft_event.specs.Places.{pos_cmp, pos_same}
 use Rattle.ft_hist.specs.declared.key.Part.{Part}
 use Rattle.ft_table.specs.declared.mark.Mark.{Mark}
 use Rattle.ft_table.specs.Marks.{mark_cmp, mark_cmp_total, mark_same}
-use Rattle.ft_table.specs.Places.{IsPlace}
+use Rattle.ft_table.specs.Ascending.{IsPlace}
 use Rattle.ft_table.specs.Hits.{Hits, same_key, hits_of, hitcount, first_place}
-use Rattle.ft_table.specs.Tabled.{Tabled, is_first, first_hits, order_of, keys_in, keys_out, is_in}
+use Rattle.ft_table.specs.Tabled.{is_first, first_hits, order_of, keys_in, keys_out, is_in}
 use Rattle.ft_table.specs.Moves.{others, order_with}
 use Rattle.ft_table.specs.Admission.{AllCount, InsideCount, OutsideDrop, WholeCount}
 use Rattle.ft_table.proofs.Flat.{mark, is_equal, same_is, same_back}

@@ -9,7 +9,7 @@ use Rattle.ft_event.specs.declared.pos.Pos.{Pos}
 use Rattle.ft_hist.specs.declared.key.Part.{Part}
 use Rattle.ft_table.specs.declared.mark.Mark.{Mark}
 use Rattle.ft_table.specs.Marks.{mark_cmp, mark_cmp_total}
-use Rattle.ft_table.specs.Places.{IsPlace}
+use Rattle.ft_table.specs.Ascending.{IsPlace}
 use Rattle.ft_table.specs.Hits.{Hits, same_key}
 use Rattle.ft_table.specs.Moves.{order_without, order_with, order_before, others}
 use Rattle.ft_table.proofs.Flat.{mark}

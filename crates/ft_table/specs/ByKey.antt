@@ -7,7 +7,6 @@ use Rattle.std.specs.FinMap.{FinMap}
 use Rattle.ft_hist.specs.declared.key.Part.{Part}
 use Rattle.ft_hist.specs.Parts.{key_cmp}
 use Rattle.ft_maps.specs.Seen.{seen}
-use Rattle.ft_table.specs.declared.mark.Mark.{Mark}
 use Rattle.ft_table.specs.Hits.{Hits, EntryHits}
 
 -- the hits of each key (our own choice)

@@ -1,5 +1,5 @@
 -- How the logic stores what contracts see.
-use Rattle.std.specs.Prelude.{ℕ, ℤ, List, refl}
+use Rattle.std.specs.Prelude.{ℕ, refl}
 use Rattle.std.specs.Coded.{Coded, code_by, coded×, coded_list, coded_ℤ, coded_ℕ}
 use Rattle.std.specs.FinMap as map
 use Rattle.ft_event.specs.contracts.pos.Pos as pos

@@ -1,5 +1,5 @@
 -- A hit behind all others: what replaying events in order does, hit by hit.
-use Rattle.std.specs.Prelude.{◌≡◌, ℕ, ◌+◌, ◌%◌, ◌^◌, ℤ, pos, List, [], ◌∷◌, ◌++◌, Option, Some, None, length, Bool, ◌||◌, ◌&&◌, nat_lt, if◌then◌else◌, IsSome, unwrap_or, slice_index_or}
+use Rattle.std.specs.Prelude.{◌≡◌, ℕ, ◌+◌, ◌%◌, ◌^◌, ℤ, List, [], ◌∷◌, ◌++◌, Some, None, length, Bool, ◌||◌, ◌&&◌, nat_lt, if◌then◌else◌, IsSome, unwrap_or, slice_index_or}
 use Rattle.std.specs.declared.cmp.Ordering.TheVariants.{Less}
 use Rattle.std.specs.FinMap as map
 use Rattle.ft_hist.specs.declared.key.Part.{Part}

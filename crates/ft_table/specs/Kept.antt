@@ -1,5 +1,5 @@
 -- What a table keeps of its hits.
-use Rattle.std.specs.Prelude.{◌≡◌, ℕ, ◌<◌}
+use Rattle.std.specs.Prelude.{◌≡◌, ◌<◌}
 use Rattle.ft_table.specs.declared.table.Table.TheInside.{Inside}
 use Rattle.ft_table.specs.Hits.{hitcount}
 use Rattle.ft_table.specs.Tabled.{Tabled, order_of}

@@ -1,4 +1,4 @@
-//! The hits of one key, and of all keys.
+//! Entries: the hits of one key with their sums, and all keys with theirs.
 
 ghost use Rattle.std.specs.Prelude.{◌≡◌, ℕ, ◌+◌, ◌%◌, ◌<◌, ◌^◌, OnOk, OnErr, None, Some, IsTrue};
 ghost use Rattle.std.specs.Int.{w64, cast_unsigned};
@@ -19,7 +19,9 @@ use std::collections::BTreeMap;
 use std::marker::Model;
 use std::ops::Bound;
 
-/// The hits of one key, by place.
+/// The hits of one key, by place, with the sums of their values modulo 2^64.
+///
+/// Contracts see the hits alone.
 #[derive(Drop)]
 pub(crate) struct Entry {
     hits: BTreeMap<Pos, [i64; 3]>,
@@ -36,12 +38,12 @@ impl Model for Entry {
 
     ghost coded = { entry_code };
 
-    ghost view = { λ l. seen pos_cmp l.hits };
+    ghost view = { λ e. seen pos_cmp e.hits };
 
     ghost use Rattle.std.specs.Prelude.{◌≡◌};
     ghost use Rattle.ft_table.specs.Hits.{sums_of};
 
-    ghost invariant = { λ l. l.sums ≡ sums_of (seen pos_cmp l.hits) };
+    ghost invariant = { λ e. e.sums ≡ sums_of (seen pos_cmp e.hits) };
 }
 
 /// A sum and a value, modulo 2^64.
@@ -173,7 +175,7 @@ pub(crate) fn sums_at(by_key: &BTreeMap<Key, Entry>, key: &Key) -> [u64; 3]
 }
 
 /// The first hit of a key after a place, or its first.
-pub(crate) fn hit_behind(
+pub(crate) fn next_hit(
     by_key: &BTreeMap<Key, Entry>,
     key: &Key,
     after: Option<Pos>,

@@ -1,4 +1,7 @@
-//! The hits of one trigger: which keys are in its table, and what they count.
+//! Tables: the hits of one hist trigger, which keys are in, and what they count.
+//!
+//! A table holds every hit, so that one may come before all others, or go again. The keys in it
+//! are the first `size` keys in order of their first hits; the hits of the others are dropped.
 #![tactic(auto)]
 
 mod entry;
@@ -12,7 +15,7 @@ mod table;
 
 pub use hit::Hit;
 pub use laws::{all_hits, first_keys, one_key, one_more_hit};
-pub use mark::Mark;
+pub use mark::{Mark, one_mark_order};
 pub use row::{Row, Totals};
 pub use table::{Edge, Table};
 

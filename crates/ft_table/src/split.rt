@@ -1,4 +1,5 @@
-//! Moving keys over the edge of a table.
+//! The edge of a table: keys in the order of their first hits, cut at the size, and how many hits
+//! the keys on both sides have.
 
 ghost use Rattle.std.specs.Prelude.{◌≡◌, ◌+◌, ◌<◌, ◌≤◌, ◌^◌, OnOk, OnErr, vec_len, vec_capacity};
 ghost use Rattle.std.specs.FinMap as map;
@@ -17,14 +18,14 @@ use ft_hist::Key;
 use std::alloc::{AllocError, Global};
 use std::collections::BTreeMap;
 
-/// The hits of keys in the table, and of keys outside.
+/// How many hits the keys in the table have, and the keys outside.
 #[derive(Clone, Copy, Debug)]
 pub(crate) struct Split {
     pub(crate) hits: u64,
     pub(crate) dropped: u64,
 }
 
-/// Puts a mark into the order, where there is room for it; the last key in the table may go out.
+/// Puts a mark into the order at its place. The last key in the table may go out.
 pub(crate) fn put_in(
     order: &mut Vec<Mark>,
     split: &mut Split,
@@ -55,7 +56,7 @@ pub(crate) fn put_in(
     let _placed = order.insert(place, mark);
 }
 
-/// Takes a mark out of the order; the first key outside the table may come in.
+/// Takes the mark at a place out of the order. The first key outside may come in.
 pub(crate) fn take_out(
     order: &mut Vec<Mark>,
     split: &mut Split,
@@ -122,7 +123,7 @@ fn leave(
     take_out(order, split, by_key, size, place);
 }
 
-/// Mends the order for a key whose first hit stood at a place, if it had any.
+/// Moves a key to where its first hit stands, from where that stood before, if it had any.
 pub(crate) fn settle(
     order: &mut Vec<Mark>,
     split: &mut Split,

@@ -1,9 +1,9 @@
-//! The hits of one trigger.
+//! Tables: the hits of one trigger, by key, and the order of the keys.
 
 ghost use Rattle.std.specs.Prelude.{◌≡◌, ◌+◌, ◌<◌, OnOk, OnErr};
 ghost use Rattle.std.specs.FinMap as map;
 
-use crate::entry::{Entry, count_of, first_at, hit_behind, holds, sums_at};
+use crate::entry::{Entry, count_of, first_at, next_hit, holds, sums_at};
 use crate::hit::Hit;
 use crate::mark::Mark;
 use crate::order::place_of;
@@ -24,7 +24,10 @@ pub struct Edge {
     pub first_out: Option<Key>,
 }
 
-/// The hits of one trigger, and for how many keys it has room.
+/// The hits of one trigger, and for how many keys there is room.
+///
+/// Contracts see the hits by place and key, and the size. Kept beside the hits are each key's sums,
+/// the order of first hits and the totals, so that no question walks the hits.
 #[derive(Drop)]
 pub struct Table {
     alloc: Global,
@@ -54,7 +57,7 @@ impl Table {
     ghost use Rattle.ft_table.specs.Rows.{row_at, totals_of, hit_after};
     ghost use Rattle.ft_table.specs.Tabled.{is_in, last_in, first_out};
 
-    /// A table with room for some keys.
+    /// A table without hits, with room for at least one key. It takes no memory.
     pub fn new(alloc: Global, size: u32) -> Table
         requires { 0 < size }
         ensures { result ≡ record { hits = map.empty; size = size } }
@@ -71,7 +74,10 @@ impl Table {
         }
     }
 
-    /// Puts a hit in, where none stands. Counts one put in `work`.
+    /// Puts a hit in, where none stands. Counts one put in `work`, refused or not.
+    ///
+    /// Refused for memory, or where the hits would be too many for 64 bits, and then the table is
+    /// as it was.
     pub fn insert(&mut self, hit: Hit, work: &mut Work) -> Result<(), AllocError>
         requires { map.get self.old.hits (record { pos = hit.pos; key = hit.key }) ≡ None }
         ensures ok { OnOk result (self.new ≡ record self.old { hits = map.insert self.old.hits (record { pos = hit.pos; key = hit.key }) hit.values }) }
@@ -95,7 +101,7 @@ impl Table {
         )
     }
 
-    /// Takes a hit away, if one stands there.
+    /// Takes a hit away, if one stands there. It needs no memory.
     pub fn remove(&mut self, pos: Pos, key: Key)
         ensures { self.new ≡ record self.old { hits = map.remove self.old.hits (record { pos = pos; key = key }) } }
     {
@@ -140,7 +146,7 @@ impl Table {
         }
     }
 
-    /// How many hits were counted, and how many were not.
+    /// How many hits are counted, under how many keys, and how many are dropped.
     pub fn totals(&self) -> Totals
         ensures { result ≡ totals_of self.now }
     {
@@ -152,7 +158,7 @@ impl Table {
         }
     }
 
-    /// The keys at the table's edge: the last inside, and the first outside.
+    /// The keys at the table's edge: the last one in by first hit, and the first one outside.
     pub fn edge(&self) -> Edge
         ensures last { result.last_in ≡ last_in self.now }
         ensures first { result.first_out ≡ first_out self.now }
@@ -172,10 +178,10 @@ impl Table {
         Edge { last_in, first_out }
     }
 
-    /// The first hit of a key behind a place, or its first.
+    /// The first hit of a key after a place, or its first of all.
     pub fn hit_after(&self, key: &Key, after: Option<Pos>) -> Option<Hit>
         ensures { result ≡ hit_after self.now.hits key.now after }
     {
-        hit_behind(&self.by_key, key, after)
+        next_hit(&self.by_key, key, after)
     }
 }

@@ -1,5 +1,5 @@
 -- A key's entry without hits is the empty map.
-use Rattle.std.proofs.Common.{◌≡◌, ℕ, sym, ap, ◌∙◌, arith, Some}
+use Rattle.std.proofs.Common.{◌≡◌, sym, ap, ◌∙◌, arith, Some}
 use Rattle.std.specs.FinMap as map
 use Rattle.std.specs.FinMap.{empty_of_len}
 use Rattle.std.proofs.lemmas.Bool.Decides.{nat_tests}

@@ -2,7 +2,7 @@ use Rattle.std.proofs.Common.{◌≡◌, ℕ, ◌+◌, ◌-◌, ◌<◌, List, [
 use Rattle.std.specs.FinMap as map
 use Rattle.ft_hist.specs.declared.key.Part.{Part}
 use Rattle.ft_table.specs.Marks.{mark_cmp}
-use Rattle.ft_table.specs.Places.{Rises, IsPlace}
+use Rattle.ft_table.specs.Ascending.{Rises, IsPlace}
 use Rattle.ft_table.specs.Split.{IsSplit}
 use Rattle.ft_table.specs.ByKey.{hits_in}
 use Rattle.ft_table.specs.Hits.{Hits, hitcount, same_key}

@@ -2,7 +2,7 @@ use Rattle.std.proofs.Common.{List, sym, ap, subst, ◌∙◌}
 use Rattle.std.specs.List.{insert}
 use Rattle.ft_table.specs.declared.mark.Mark.{Mark}
 use Rattle.ft_table.specs.Marks.{mark_cmp}
-use Rattle.ft_table.specs.Places.{Rises, IsPlace}
+use Rattle.ft_table.specs.Ascending.{Rises, IsPlace}
 use Rattle.ft_table.specs.ByKey.{hits_in}
 use Rattle.ft_table.specs.Moves.{others}
 use Rattle.ft_table.proofs.Sorted.{rises-keys}

@@ -4,7 +4,7 @@ use Rattle.std.specs.FinMap as map
 use Rattle.std.proofs.lemmas.List.Sums.{sum_by-remove}
 use Rattle.ft_table.specs.declared.mark.Mark.{Mark}
 use Rattle.ft_table.specs.Marks.{mark_cmp}
-use Rattle.ft_table.specs.Places.{Rises, IsPlace}
+use Rattle.ft_table.specs.Ascending.{Rises, IsPlace}
 use Rattle.ft_table.specs.ByKey.{hits_in}
 use Rattle.ft_table.specs.Hits.{hitcount}
 use Rattle.ft_table.specs.Moves.{others}

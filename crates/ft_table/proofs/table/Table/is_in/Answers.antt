@@ -2,7 +2,7 @@ use Rattle.std.proofs.Common.{List, take, map as list_map, sym, ap, subst, â—Œâˆ
 use Rattle.std.specs.List.{list_any}
 use Rattle.ft_table.specs.declared.mark.Mark.{Mark}
 use Rattle.ft_table.specs.Marks.{mark_cmp}
-use Rattle.ft_table.specs.Places.{Rises, IsPlace}
+use Rattle.ft_table.specs.Ascending.{Rises, IsPlace}
 use Rattle.ft_table.specs.ByKey.{hits_in}
 use Rattle.ft_table.specs.Hits.{same_key}
 use Rattle.ft_table.specs.Tabled.{Tabled, is_in, first_hits}

@@ -1,4 +1,4 @@
--- No by_key hold no hits, and no order.
+-- No entries hold no hits, and no order.
 use Rattle.std.proofs.Common.{◌≡◌, sym, ap, subst, ◌∙◌}
 use Rattle.std.specs.FinMap as map
 use Rattle.ft_hist.specs.Parts.{key_cmp}

@@ -1,5 +1,5 @@
 -- What is not behind the size is before it.
-use Rattle.std.proofs.Common.{◌≡◌, ℕ, ◌+◌, List, [], ◌∷◌, length, take, drop, map as list_map, refl, sym, ap, ◌∙◌, arith}
+use Rattle.std.proofs.Common.{◌≡◌, ℕ, ◌+◌, List, length, take, drop, map as list_map, sym, ap, ◌∙◌, arith}
 use Rattle.std.specs.List.{sum_by}
 use Rattle.std.proofs.lemmas.List.{length-map, length-take}
 use Rattle.std.proofs.lemmas.List.Sums.{sum_by-take-drop}

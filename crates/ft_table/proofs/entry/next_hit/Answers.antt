@@ -14,7 +14,7 @@ use Rattle.std.specs.List.{filter}
 use Rattle.ft_hist.specs.Orders.{key_cmp_total}
 use Rattle.ft_maps.specs.Entries.{entries-empty}
 use Rattle.ft_table.proofs.Flat.{hits_of-flat}
-use Rattle.ft_table.proofs.entry.hit_behind.Goals as goal
+use Rattle.ft_table.proofs.entry.next_hit.Goals as goal
 
 abbrev hit_at : List Part → Option (Pos × List ℤ) → Option Hit
 hit_at key o = option_map (λ e. record { pos = e.0; key = key; values = e.1 }) o
