@@ -1,0 +1,36 @@
+-- A table without hits.
+use Rattle.std.proofs.Common.{◌≡◌, ℕ, zero, suc, List, [], cond, Bool, true, false, refl, sym, ap, ◌∙◌, arith, None, Option}
+use Rattle.std.specs.Prelude.{ℤ}
+use Rattle.std.specs.List.{flat_map}
+use Rattle.std.specs.Map.{keys_of}
+use Rattle.std.specs.FinMap as map
+use Rattle.std.specs.FinMap.{get-empty, same_map}
+use Rattle.ft_hist.specs.declared.key.Part.{Part}
+use Rattle.ft_hist.specs.Parts.{key_cmp}
+use Rattle.ft_table.specs.declared.mark.Mark.{Mark}
+use Rattle.ft_table.specs.Marks.{mark_cmp, mark_cmp_total, mark_same}
+use Rattle.ft_table.specs.Split.{IsSplit}
+use Rattle.ft_table.specs.Hits.{EntryHits}
+use Rattle.ft_table.specs.Tabled.{is_first, first_hits, order_of}
+use Rattle.ft_table.specs.ByKey.{flat}
+use Rattle.ft_maps.specs.Entries.{entries-empty}
+use Rattle.ft_table.proofs.Flat.{mark}
+use Rattle.ft_table.proofs.Firsts.{get-first_hits}
+
+pub flat-empty : flat map.empty ≡ map.empty
+unfolding flat
+flat-empty = ap (λ (es : List (List Part × EntryHits)). map.from_entries (flat_map (λ entry. Rattle.std.proofs.Common.map (λ e. (mark e.0 entry.0, e.1)) (map.entries entry.1)) es)) (entries-empty {X = EntryHits} key_cmp)
+
+none_either : (b : Bool) → ◌≡◌ {A = Option (List ℤ)} (cond b None None) None
+none_either true = refl
+none_either false = refl
+
+no_first_hits : first_hits map.empty ≡ map.empty
+no_first_hits = same_map mark_cmp_total mark_same _ _ (λ q. get-first_hits map.empty q ∙ ap (λ o. cond (is_first map.empty q) o None) (get-empty mark_cmp q) ∙ none_either (is_first map.empty q) ∙ sym (get-empty mark_cmp q))
+
+pub order-empty : order_of map.empty ≡ []
+order-empty = ap map.keys no_first_hits ∙ ap (λ (es : List (Mark × List ℤ)). keys_of es) (entries-empty {X = List ℤ} mark_cmp)
+
+pub split-empty : (count : List Part → ℕ) (size : ℕ) → IsSplit count size [] 0 0
+split-empty count zero = record { behind = refl; whole = refl; fits = omega arith }
+split-empty count (suc t) = record { behind = refl; whole = refl; fits = omega arith }

@@ -1,0 +1,51 @@
+-- The order and the counts, without the hit but before its key was moved.
+use Rattle.std.proofs.Common.{◌≡◌, ℕ, false, List, sym, ap, subst, ◌∙◌, Some, Option}
+use Rattle.std.specs.Prelude.{is_some}
+use Rattle.std.specs.FinMap as map
+use Rattle.ft_event.specs.declared.pos.Pos.{Pos}
+use Rattle.ft_hist.specs.declared.key.Part.{Part}
+use Rattle.ft_table.specs.declared.mark.Mark.{Mark}
+use Rattle.ft_table.specs.Split.{IsSplit}
+use Rattle.ft_table.specs.ByKey.{hits_in}
+use Rattle.ft_table.specs.Hits.{Hits, hitcount, first_place}
+use Rattle.ft_table.specs.Tabled.{order_of}
+use Rattle.ft_table.specs.Moves.{order_before, with_more}
+use Rattle.ft_table.proofs.Firsts.{no_first}
+use Rattle.ft_table.proofs.Changes.{remove-beside, remove-none, counts-more, order-before, order_before-beside}
+use Rattle.ft_table.proofs.split.drop_hit.Goals as goal
+
+before : (hits : Hits) (m : Mark) (order : List Mark) (o : Option Pos) → order ≡ order_of hits → first_place hits m.key ≡ o → (after : Hits) → after ≡ map.remove hits m → order ≡ order_before after m.key o
+before hits m order o is first after e =
+    is ∙ order-before hits m.key o first ∙ sym (order_before-beside hits (map.remove hits m) m.key o (remove-beside hits m)) ∙ ap (λ (h : Hits). order_before h m.key o) (sym e)
+
+pub returns-in-None-clause-hits : goal.returns-in-None-clause-hits
+returns-in-None-clause-hits c =
+    let hits : Hits = hits_in c.args.by_key.now in
+    sym (remove-none hits c.args.mark (ap is_some (no_first hits c.args.mark.key (sym c.first_at.ensures ∙ c.in-None.is) c.args.mark.pos)))
+
+pub count_down-requires-clause-order : goal.count_down-requires-clause-order
+count_down-requires-clause-order c =
+    before (hits_in c.args.by_key.now) c.args.mark c.deref.result.now (Some c.in-Some.pos) (c.deref.ensures.value ∙ c.requires.order) (sym c.first_at.ensures ∙ c.in-Some.is) (hits_in c.take_hit.new.by_key) c.take_hit.ensures.left
+
+pub count_down-requires-clause-split : goal.count_down-requires-clause-split
+count_down-requires-clause-split c =
+    let hits : Hits = hits_in c.args.by_key.now in
+    let counts : hitcount hits ≡ with_more (hitcount (hits_in c.take_hit.new.by_key)) c.args.mark.key =
+    counts-more hits c.args.mark (sym c.take_hit.ensures.found ∙ c.if-take_hit.true) ∙ ap (λ (h : Hits). with_more (hitcount h) c.args.mark.key) (sym c.take_hit.ensures.left) in
+    subst (λ (t : (List Part → ℕ) × List Mark). IsSplit t.0 c.args.size t.1 c.args.split.now.hits c.args.split.now.dropped) (λ i. (counts i, sym c.deref.ensures.value i)) c.requires.split
+
+pub settle-requires-clause-order : goal.settle-requires-clause-order
+settle-requires-clause-order c =
+    before (hits_in c.args.by_key.now) c.args.mark c.args.order.now.items (Some c.in-Some.pos) c.requires.order (sym c.first_at.ensures ∙ c.in-Some.is) (hits_in c.take_hit.new.by_key) c.take_hit.ensures.left
+
+same : (hits after : Hits) (m : Mark) → after ≡ map.remove hits m → map.contains_key hits m ≡ false → hits ≡ after
+same hits after m is none = sym (is ∙ remove-none hits m none)
+
+pub returns-else-take_hit-clause-order : goal.returns-else-take_hit-clause-order
+returns-else-take_hit-clause-order c =
+    c.requires.order ∙ ap order_of (same (hits_in c.args.by_key.now) (hits_in c.take_hit.new.by_key) c.args.mark c.take_hit.ensures.left (sym c.take_hit.ensures.found ∙ c.if-take_hit.false))
+
+pub returns-else-take_hit-clause-split : goal.returns-else-take_hit-clause-split
+returns-else-take_hit-clause-split c =
+    subst (λ (h : Hits). IsSplit (hitcount h) c.args.size c.args.order.now.items c.args.split.now.hits c.args.split.now.dropped)
+    (same (hits_in c.args.by_key.now) (hits_in c.take_hit.new.by_key) c.args.mark c.take_hit.ensures.left (sym c.take_hit.ensures.found ∙ c.if-take_hit.false)) c.requires.split

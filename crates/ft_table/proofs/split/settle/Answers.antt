@@ -1,0 +1,32 @@
+-- The order before and after, by where the key's first hit stood and where it stands.
+use Rattle.std.proofs.Common.{◌≡◌, sym, ap, ◌∙◌, rules}
+use Rattle.ft_event.specs.declared.pos.Pos.{Pos}
+use Rattle.ft_table.specs.ByKey.{hits_in}
+use Rattle.ft_table.specs.Moves.{order_before, order_with}
+use Rattle.ft_table.proofs.Flat.{mark}
+use Rattle.ft_table.proofs.Firsts.{order-none, order-some}
+use Rattle.ft_table.proofs.split.settle.Goals as goal
+
+pub returns-in-None-None-clause-order : goal.returns-in-None-None-clause-order
+returns-in-None-None-clause-order c =
+    c.requires.order ∙ ap (order_before (hits_in c.args.by_key.now) c.args.key) c.in-None-None.is-0
+    ∙ sym (order-none (hits_in c.args.by_key.now) c.args.key (sym c.first_at-after.ensures ∙ c.in-None-None.is-1))
+
+pub returns-in-None-Some-clause-order : goal.returns-in-None-Some-clause-order
+returns-in-None-Some-clause-order c =
+    c.enter.ensures.order ∙ sym (order-some (hits_in c.args.by_key.now) c.args.key c.in-None-Some.new (sym c.first_at-after.ensures ∙ c.in-None-Some.is-1))
+
+pub returns-in-Some-None-clause-order : goal.returns-in-Some-None-clause-order
+returns-in-Some-None-clause-order c =
+    c.leave.ensures.order ∙ sym (order-none (hits_in c.args.by_key.now) c.args.key (sym c.first_at-after.ensures ∙ c.in-Some-None.is-1))
+
+pub returns-then-ne-clause-order : goal.returns-then-ne-clause-order
+returns-then-ne-clause-order c =
+    c.enter-then-ne.ensures.order ∙ sym (order-some (hits_in c.args.by_key.now) c.args.key c.in-Some-Some.new (sym c.first_at-after.ensures ∙ c.in-Some-Some.is-1))
+
+pub returns-else-ne-clause-order : goal.returns-else-ne-clause-order
+returns-else-ne-clause-order c =
+    let same : c.in-Some-Some.old ≡ c.in-Some-Some.new = search rules in
+    c.requires.order ∙ ap (order_before (hits_in c.args.by_key.now) c.args.key) c.in-Some-Some.is-0
+    ∙ ap (λ (p : Pos). order_with (hits_in c.args.by_key.now) (mark p c.args.key)) same
+    ∙ sym (order-some (hits_in c.args.by_key.now) c.args.key c.in-Some-Some.new (sym c.first_at-after.ensures ∙ c.in-Some-Some.is-1))

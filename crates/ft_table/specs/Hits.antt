@@ -1,0 +1,67 @@
+-- Hits: values by place and key.
+use Rattle.std.specs.Prelude.{ℕ, ◌%◌, ◌^◌, ℤ, pos, Bool, true, List, [], ◌∷◌, Option, Some, None, map as list_map, slice_index_or}
+use Rattle.std.specs.List.{filter, sum_by}
+use Rattle.std.specs.Int.{w64, cast_unsigned}
+use Rattle.std.specs.Ordering.{eq_by_cmp, is_lt}
+use Rattle.std.specs.FinMap as map
+use Rattle.std.specs.FinMap.{FinMap}
+use Rattle.ft_event.specs.declared.pos.Pos.{Pos}
+use Rattle.ft_event.specs.Places.{pos_cmp}
+use Rattle.ft_hist.specs.declared.key.Part.{Part}
+use Rattle.ft_hist.specs.Parts.{key_cmp}
+use Rattle.ft_table.specs.Marks.{mark_cmp}
+
+-- the hits of a trigger: values by place and key (our own choice)
+abbrev pub Hits : Type 0
+Hits = FinMap mark_cmp (List ℤ)
+
+-- the hits of one key: values by place (our own choice)
+abbrev pub EntryHits : Type 0
+EntryHits = FinMap pos_cmp (List ℤ)
+
+-- whether two keys are the same (our own choice)
+abbrev pub same_key : List Part → List Part → Bool
+same_key = eq_by_cmp key_cmp
+
+-- the hits of a key among all (our own choice)
+unfoldable pub hits_of : Hits → List Part → EntryHits
+hits_of hits key = map.from_entries (list_map (λ e. (e.0.pos, e.1)) (filter (λ e. same_key e.0.key key) (map.entries hits)))
+
+-- how many hits a key has (kernel: histogram.rst, `hitcount`)
+abbrev pub hitcount : Hits → List Part → ℕ
+hitcount hits key = map.len (hits_of hits key)
+
+-- a value as an unsigned number (kernel: histogram.rst, `values`; modulo 2^64 is our own choice)
+abbrev pub unsigned_at : ℕ → List ℤ → ℕ
+unsigned_at j values = cast_unsigned w64 (slice_index_or values j (pos 0))
+
+-- the sum of one value over hits, modulo 2^64 (kernel: histogram.rst, `values`; modulo 2^64 is our own choice)
+abbrev pub column : ℕ → EntryHits → ℕ
+column j hits = sum_by (unsigned_at j) (map.values hits) % 2 ^ 64
+
+-- the sums of the three values (kernel: histogram.rst, `values`)
+abbrev pub sums_of : EntryHits → List ℕ
+sums_of hits = column 0 hits ∷ column 1 hits ∷ column 2 hits ∷ []
+
+-- the key of the first of some entries (our own choice)
+abbrev pub least_key : {K X : Type 0} → List (K × X) → Option K
+least_key [] = None
+least_key (e ∷ es) = Some e.0
+
+-- the place of a key's first hit (our own choice)
+abbrev pub first_place : Hits → List Part → Option Pos
+first_place hits key = least_key (map.entries (hits_of hits key))
+
+-- the first of a list (our own choice)
+abbrev pub first_entry : {X : Type 0} → List X → Option X
+first_entry [] = None
+first_entry (x ∷ xs) = Some x
+
+-- whether a place is after another, if there is another (our own choice)
+abbrev pub is_after : Option Pos → Pos → Bool
+is_after None p = true
+is_after (Some a) p = is_lt (pos_cmp a p)
+
+-- the hits after a place, in order; without a place all (our own choice)
+abbrev pub hits_after : Option Pos → EntryHits → List (Pos × List ℤ)
+hits_after place hits = filter (λ e. is_after place e.0) (map.entries hits)

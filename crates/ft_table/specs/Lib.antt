@@ -1,0 +1,15 @@
+pub mod Admission
+pub mod Ascending
+pub mod ByKey
+pub mod Codes
+pub mod Growth
+pub mod Hits
+pub mod Kept
+pub mod Marks
+pub mod Moves
+pub mod OneKey
+pub mod Rows
+pub mod Split
+pub mod Tabled
+pub use Rattle.ft_event.specs.Places
+pub use Rattle.ft_hist.specs.Parts

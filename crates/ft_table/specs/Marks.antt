@@ -1,0 +1,29 @@
+-- Marks: where hits stand, and under which key.
+use Rattle.std.specs.Prelude.{List}
+use Rattle.std.specs.declared.cmp.Ordering.{Ordering}
+use Rattle.std.specs.Ordering.{on, then_cmp}
+use Rattle.std.specs.Cmp.{IsTotalOrder, on_total, then_total}
+use Rattle.std.specs.FinMap.{IsAntisymmetric}
+use Rattle.std.proofs.Common.{ap}
+use Rattle.std.proofs.lemmas.Map.Lookups.{exact_pairs}
+use Rattle.ft_event.specs.declared.pos.Pos.{Pos}
+use Rattle.ft_event.specs.Places.{pos_cmp, pos_cmp_total, pos_same}
+use Rattle.ft_hist.specs.declared.key.Part.{Part}
+use Rattle.ft_hist.specs.Parts.{key_cmp}
+use Rattle.ft_hist.specs.Orders.{key_cmp_total}
+use Rattle.ft_hist.specs.Ties.{key_same}
+use Rattle.ft_table.specs.declared.mark.Mark.{Mark}
+
+-- marks in order: by place, then by key (our own choice)
+abbrev pub mark_cmp : Mark → Mark → Ordering
+mark_cmp = then_cmp (on (λ m. m.pos) pos_cmp) (on (λ m. m.key) key_cmp)
+
+-- the order of marks is total (our own choice)
+pub mark_cmp_total : IsTotalOrder mark_cmp
+mark_cmp_total = then_total (on_total (λ m. m.pos) pos_cmp_total) (on_total (λ m. m.key) key_cmp_total)
+
+-- marks that tie are equal (our own choice)
+pub mark_same : IsAntisymmetric mark_cmp
+mark_same a b h =
+    ap (λ (p : Pos × List Part). record { pos = p.0; key = p.1 })
+    (exact_pairs pos_cmp key_cmp pos_same key_same (a.pos, a.key) (b.pos, b.key) h)

@@ -1,0 +1,31 @@
+-- How little the keys in a table change with the hits of one key.
+use Rattle.std.specs.Prelude.{◌≡◌, ℤ, List, Some}
+use Rattle.std.specs.FinMap as map
+use Rattle.ft_hist.specs.declared.key.Part.{Part}
+use Rattle.ft_table.specs.declared.mark.Mark.{Mark}
+use Rattle.ft_table.specs.Hits.{Hits}
+use Rattle.ft_table.specs.Tabled.{Tabled, is_in, last_in, first_out}
+use Rattle.ft_table.specs.Growth.{with_hit}
+
+-- a table with one hit less (our own choice)
+abbrev pub without_hit : Tabled → Mark → Tabled
+without_hit table m = record table { hits = map.remove table.hits m }
+
+-- a hit that comes, wherever it stands, leaves every key but its own and the last in the table where it was (our own choice)
+abbrev pub LastGoesOut : Type 0
+LastGoesOut = (table : Tabled) (m : Mark) (v : List ℤ) (key : List Part) → (key ≡ m.key → ⊥) → (last_in table ≡ Some key → ⊥)
+    → is_in (with_hit table m v) key ≡ is_in table key
+
+-- a hit that goes leaves every key but its own and the first outside where it was (our own choice)
+abbrev pub FirstComesIn : Type 0
+FirstComesIn = (table : Tabled) (m : Mark) (key : List Part) → (key ≡ m.key → ⊥) → (first_out table ≡ Some key → ⊥)
+    → is_in (without_hit table m) key ≡ is_in table key
+
+-- two maps have the same hits of all keys but one (our own choice)
+abbrev pub AreSameBut : List Part → Hits → Hits → Type 0
+AreSameBut key a b = (m : Mark) → (m.key ≡ key → ⊥) → map.get b m ≡ map.get a m
+
+-- whatever happens to the hits of one key, it and at most one other come in or go out (our own choice)
+abbrev pub OneOtherMoves : Type 0
+OneOtherMoves = (table : Tabled) (after : Hits) (key : List Part) → AreSameBut key table.hits after
+    → (other : List Part) × ((q : List Part) → (q ≡ key → ⊥) → (q ≡ other → ⊥) → is_in (record table { hits = after }) q ≡ is_in table q)

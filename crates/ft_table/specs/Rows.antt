@@ -1,0 +1,26 @@
+-- What a table shows: rows and totals.
+use Rattle.std.specs.Prelude.{List, length, Option, Some, None, option_map, if◌then◌else◌}
+use Rattle.std.specs.List.{sum_by}
+use Rattle.ft_event.specs.declared.pos.Pos.{Pos}
+use Rattle.ft_hist.specs.declared.key.Part.{Part}
+use Rattle.ft_table.specs.declared.hit.Hit.{Hit}
+use Rattle.ft_table.specs.declared.row.Row.{Row}
+use Rattle.ft_table.specs.declared.row.Totals.{Totals}
+use Rattle.ft_table.specs.Hits.{Hits, hits_of, hitcount, sums_of, first_entry, hits_after}
+use Rattle.ft_table.specs.Tabled.{Tabled, keys_in, keys_out, is_in}
+
+-- what the hits of a key come to (kernel: histogram.rst, the `hist` file; sums modulo 2^64 are our own choice)
+abbrev pub row_of : Hits → List Part → Row
+row_of hits key = record { key = key; hitcount = hitcount hits key; sums = sums_of (hits_of hits key) }
+
+-- the row of a key in the table (kernel: histogram.rst, the `hist` file)
+abbrev pub row_at : Tabled → List Part → Option Row
+row_at table key = if is_in table key then Some (row_of table.hits key) else None
+
+-- the totals: the hits of the keys in the table, these keys, and the hits of the keys outside (kernel: histogram.rst, `Hits`, `Entries` and `Dropped`)
+abbrev pub totals_of : Tabled → Totals
+totals_of table = record { hits = sum_by (hitcount table.hits) (keys_in table); entries = length (keys_in table); dropped = sum_by (hitcount table.hits) (keys_out table) }
+
+-- the first hit of a key after a place; without a place its first (our own choice)
+abbrev pub hit_after : Hits → List Part → Option Pos → Option Hit
+hit_after hits key after = option_map (λ e. record { pos = e.0; key = key; values = e.1 }) (first_entry (hits_after after (hits_of hits key)))

@@ -1,0 +1,272 @@
+//! Entries: the hits of one key with their sums, and all keys with theirs.
+
+ghost use Rattle.std.specs.Prelude.{◌≡◌, ℕ, ◌+◌, ◌%◌, ◌<◌, ◌^◌, OnOk, OnErr, None, Some, IsTrue};
+ghost use Rattle.std.specs.Int.{w64, cast_unsigned};
+ghost use Rattle.std.specs.FinMap as map;
+ghost use Rattle.ft_table.specs.Hits.{sums_of, least_key, first_place, hitcount, hits_of, first_entry, hits_after};
+ghost use Rattle.ft_table.specs.ByKey.{hits_in};
+ghost use Rattle.ft_hist.specs.Parts.{key_cmp};
+ghost use Rattle.ft_maps.specs.Seen.{seen};
+ghost use Rattle.ft_table.specs.Rows.{hit_after};
+
+use crate::hit::Hit;
+use crate::mark::Mark;
+use ft_event::Pos;
+use ft_hist::Key;
+use ft_maps::take;
+use std::alloc::{AllocError, Global};
+use std::collections::BTreeMap;
+use std::marker::Model;
+use std::ops::Bound;
+
+/// The hits of one key, by place, with the sums of their values modulo 2^64.
+///
+/// Contracts see the hits alone.
+#[derive(Drop)]
+pub(crate) struct Entry {
+    hits: BTreeMap<Pos, [i64; 3]>,
+    sums: [u64; 3],
+}
+
+impl Model for Entry {
+    ghost use Rattle.ft_event.specs.Places.{pos_cmp};
+    ghost use Rattle.ft_table.specs.Hits.{EntryHits};
+    ghost use Rattle.ft_maps.specs.Seen.{seen};
+    ghost use Rattle.ft_table.specs.Codes.{entry_code};
+
+    ghost Value = { EntryHits };
+
+    ghost coded = { entry_code };
+
+    ghost view = { λ e. seen pos_cmp e.hits };
+
+    ghost use Rattle.std.specs.Prelude.{◌≡◌};
+    ghost use Rattle.ft_table.specs.Hits.{sums_of};
+
+    ghost invariant = { λ e. e.sums ≡ sums_of (seen pos_cmp e.hits) };
+}
+
+/// A sum and a value, modulo 2^64.
+fn added(sum: u64, value: i64) -> u64
+    ensures { result ≡ (sum + cast_unsigned w64 value) % 2 ^ 64 }
+{
+    sum.wrapping_add(value.cast_unsigned())
+}
+
+/// A sum without a value that is in it, modulo 2^64.
+fn taken(sum: u64, value: i64) -> u64
+    ensures { (rest : ℕ) → sum ≡ (rest + cast_unsigned w64 value) % 2 ^ 64 → result ≡ rest % 2 ^ 64 }
+{
+    sum.wrapping_sub(value.cast_unsigned())
+}
+
+impl Entry {
+    /// No hits.
+    fn new(alloc: Global) -> Entry
+        ensures { result ≡ map.empty }
+    {
+        Entry {
+            hits: BTreeMap::new(alloc),
+            sums: [0, 0, 0],
+        }
+    }
+
+    /// How many hits it has.
+    pub(crate) fn len(&self) -> usize
+        ensures len { result ≡ map.len self.now }
+        ensures small { result < 2 ^ 63 }
+    {
+        self.hits.len()
+    }
+
+    /// The place of its first hit.
+    fn first(&self) -> Option<Pos>
+        ensures { result ≡ least_key (map.entries self.now) }
+    {
+        if self.hits.len() == 0 {
+            return None;
+        }
+        match self.hits.first_key_value() {
+            Some((pos, _)) => Some(*pos),
+            None => None,
+        }
+    }
+
+    /// Its first hit after a place, or its first.
+    fn after(&self, place: Option<Pos>) -> Option<(Pos, [i64; 3])>
+        ensures { result ≡ first_entry (hits_after place self.now) }
+    {
+        let from = match place {
+            None => Bound::Unbounded,
+            Some(pos) => Bound::Excluded(pos),
+        };
+        match self.hits.range((from, Bound::Unbounded)).next() {
+            Some((pos, values)) => Some((*pos, *values)),
+            None => None,
+        }
+    }
+
+    /// Puts a hit at a place. Refused for memory, and then it is as it was.
+    fn insert(&mut self, pos: Pos, values: [i64; 3]) -> Result<(), AllocError>
+        requires { map.get self.old pos ≡ None }
+        ensures ok { OnOk result (self.new ≡ map.insert self.old pos values) }
+        ensures err { OnErr result (self.new ≡ self.old) }
+    {
+        self.hits.insert(pos, values)?;
+        self.sums = [
+            added(self.sums[0], values[0]),
+            added(self.sums[1], values[1]),
+            added(self.sums[2], values[2]),
+        ];
+        Ok(())
+    }
+
+    /// The sums of its values, modulo 2^64.
+    pub(crate) fn sums(&self) -> [u64; 3]
+        ensures { result ≡ sums_of self.now }
+    {
+        self.sums
+    }
+
+    /// Whether a hit stands at a place.
+    fn contains(&self, pos: Pos) -> bool
+        ensures { result ≡ map.contains_key self.now pos }
+    {
+        self.hits.contains_key(&pos)
+    }
+
+    /// Takes the hit at a place.
+    fn remove(&mut self, pos: Pos) -> bool
+        ensures left { self.new ≡ map.remove self.old pos }
+        ensures found { result ≡ map.contains_key self.old pos }
+    {
+        match self.hits.remove(&pos) {
+            None => false,
+            Some(values) => {
+                self.sums = [
+                    taken(self.sums[0], values[0]),
+                    taken(self.sums[1], values[1]),
+                    taken(self.sums[2], values[2]),
+                ];
+                true
+            }
+        }
+    }
+}
+
+/// How many hits a key has.
+pub(crate) fn count_of(by_key: &BTreeMap<Key, Entry>, key: &Key) -> u64
+    ensures { result ≡ hitcount (hits_in by_key.now) key.now }
+{
+    match by_key.get(key) {
+        Some(entry) => entry.len() as u64,
+        None => 0,
+    }
+}
+
+/// The sums of a key's values, modulo 2^64.
+pub(crate) fn sums_at(by_key: &BTreeMap<Key, Entry>, key: &Key) -> [u64; 3]
+    ensures { result ≡ sums_of (hits_of (hits_in by_key.now) key.now) }
+{
+    match by_key.get(key) {
+        Some(entry) => entry.sums(),
+        None => [0, 0, 0],
+    }
+}
+
+/// The first hit of a key after a place, or its first.
+pub(crate) fn next_hit(
+    by_key: &BTreeMap<Key, Entry>,
+    key: &Key,
+    after: Option<Pos>,
+) -> Option<Hit>
+    ensures { result ≡ hit_after (hits_in by_key.now) key.now after }
+{
+    let entry = by_key.get(key)?;
+    let (pos, values) = entry.after(after)?;
+    Some(Hit {
+        pos,
+        key: *key,
+        values,
+    })
+}
+
+/// The place of a key's first hit.
+pub(crate) fn first_at(by_key: &BTreeMap<Key, Entry>, key: &Key) -> Option<Pos>
+    ensures { result ≡ first_place (hits_in by_key.now) key.now }
+{
+    match by_key.get(key) {
+        Some(entry) => entry.first(),
+        None => None,
+    }
+}
+
+/// Whether a hit stands at a mark.
+pub(crate) fn holds(by_key: &BTreeMap<Key, Entry>, mark: Mark) -> bool
+    ensures { result ≡ map.contains_key (hits_in by_key.now) mark }
+{
+    match by_key.get(&mark.key) {
+        Some(entry) => entry.contains(mark.pos),
+        None => false,
+    }
+}
+
+/// Puts a hit at a mark. Refused for memory, and then all is as it was.
+pub(crate) fn put_hit(
+    alloc: Global,
+    by_key: &mut BTreeMap<Key, Entry>,
+    mark: Mark,
+    values: [i64; 3],
+) -> Result<(), AllocError>
+    requires { map.get (hits_in by_key.old) mark ≡ None }
+    ensures ok { OnOk result (hits_in by_key.new ≡ map.insert (hits_in by_key.old) mark values) }
+    ensures err { OnErr result (hits_in by_key.new ≡ hits_in by_key.old) }
+{
+    if let Some(entry) = by_key.get_mut(&mark.key) {
+        return entry.insert(mark.pos, values);
+    }
+    let mut entry = Entry::new(alloc);
+    entry.insert(mark.pos, values)?;
+    by_key.insert(mark.key, entry)?;
+    Ok(())
+}
+
+/// Takes the hit at a mark: whether there was one. A key without hits goes too.
+pub(crate) fn take_hit(by_key: &mut BTreeMap<Key, Entry>, mark: Mark) -> bool
+    ensures left { hits_in by_key.new ≡ map.remove (hits_in by_key.old) mark }
+    ensures found { result ≡ map.contains_key (hits_in by_key.old) mark }
+{
+    let found = take_from(by_key, mark);
+    clear_out(by_key, &mark.key);
+    found
+}
+
+/// Takes the hit at a mark from its key's: whether there was one.
+fn take_from(by_key: &mut BTreeMap<Key, Entry>, mark: Mark) -> bool
+    ensures left { hits_in by_key.new ≡ map.remove (hits_in by_key.old) mark }
+    ensures found { result ≡ map.contains_key (hits_in by_key.old) mark }
+{
+    match by_key.get_mut(&mark.key) {
+        Some(entry) => entry.remove(mark.pos),
+        None => false,
+    }
+}
+
+/// Takes a key out that has no hits, so that it takes no memory.
+fn clear_out(by_key: &mut BTreeMap<Key, Entry>, key: &Key)
+    ensures { hits_in by_key.new ≡ hits_in by_key.old }
+{
+    if is_clear(by_key, key) {
+        take(by_key, key);
+    }
+}
+
+/// Whether a key stands there without hits.
+fn is_clear(by_key: &BTreeMap<Key, Entry>, key: &Key) -> bool
+    ensures { IsTrue result → map.get (seen key_cmp by_key.now) key.now ≡ Some map.empty }
+{
+    match by_key.get(key) {
+        Some(entry) => entry.len() == 0,
+        None => false,
+    }
+}

@@ -1,0 +1,23 @@
+//! Tables: the hits of one hist trigger, which keys are in, and what they count.
+//!
+//! A table holds every hit, so that one may come before all others, or go again. The keys in it
+//! are the first `size` keys in order of their first hits; the hits of the others are dropped.
+#![tactic(auto)]
+
+mod entry;
+mod hit;
+mod laws;
+mod mark;
+mod order;
+mod row;
+mod split;
+mod table;
+
+pub use hit::Hit;
+pub use laws::{all_hits, first_keys, one_key, one_more_hit};
+pub use mark::{Mark, one_mark_order};
+pub use row::{Row, Totals};
+pub use table::{Edge, Table};
+
+#[cfg(test)]
+mod tests;

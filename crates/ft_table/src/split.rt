@@ -1,0 +1,257 @@
+//! The edge of a table: keys in the order of their first hits, cut at the size, and how many hits
+//! the keys on both sides have.
+
+ghost use Rattle.std.specs.Prelude.{◌≡◌, ◌+◌, ◌<◌, ◌≤◌, ◌^◌, OnOk, OnErr, vec_len, vec_capacity};
+ghost use Rattle.std.specs.FinMap as map;
+ghost use Rattle.std.specs.List.{insert, remove};
+ghost use Rattle.ft_table.specs.Split.{IsSplit};
+ghost use Rattle.ft_table.specs.Hits.{hitcount};
+ghost use Rattle.ft_table.specs.Tabled.{order_of};
+ghost use Rattle.ft_table.specs.Moves.{order_with, order_without, order_before, with_more, with_less};
+ghost use Rattle.ft_table.specs.ByKey.{hits_in};
+
+use crate::entry::{Entry, count_of, first_at, put_hit, take_hit};
+use crate::mark::Mark;
+use crate::order::place_of;
+use ft_event::Pos;
+use ft_hist::Key;
+use std::alloc::{AllocError, Global};
+use std::collections::BTreeMap;
+
+/// How many hits the keys in the table have, and the keys outside.
+#[derive(Clone, Copy, Debug)]
+pub(crate) struct Split {
+    pub(crate) hits: u64,
+    pub(crate) dropped: u64,
+}
+
+/// Puts a mark into the order at its place. The last key in the table may go out.
+pub(crate) fn put_in(
+    order: &mut Vec<Mark>,
+    split: &mut Split,
+    by_key: &BTreeMap<Key, Entry>,
+    size: usize,
+    place: usize,
+    mark: Mark,
+)
+    requires some { 0 < size }
+    requires within { place ≤ vec_len order.old }
+    requires room { vec_len order.old < vec_capacity order.old }
+    requires split { IsSplit (hitcount (hits_in by_key.now)) size order.old.items split.old.hits split.old.dropped }
+    requires few { split.old.hits + split.old.dropped + hitcount (hits_in by_key.now) mark.key < 2 ^ 64 }
+    ensures order { order.new.items ≡ insert order.old.items place mark }
+    ensures split { IsSplit (hitcount (hits_in by_key.now)) size order.new.items split.new.hits split.new.dropped }
+{
+    let count = count_of(by_key, &mark.key);
+    if place < size {
+        split.hits += count;
+        if order.len() >= size {
+            let out = count_of(by_key, &order[size - 1].key);
+            split.hits -= out;
+            split.dropped += out;
+        }
+    } else {
+        split.dropped += count;
+    }
+    let _placed = order.insert(place, mark);
+}
+
+/// Takes the mark at a place out of the order. The first key outside may come in.
+pub(crate) fn take_out(
+    order: &mut Vec<Mark>,
+    split: &mut Split,
+    by_key: &BTreeMap<Key, Entry>,
+    size: usize,
+    place: usize,
+)
+    requires within { place < vec_len order.old }
+    requires split { IsSplit (hitcount (hits_in by_key.now)) size order.old.items split.old.hits split.old.dropped }
+    ensures order { order.new.items ≡ remove order.old.items place }
+    ensures split { IsSplit (hitcount (hits_in by_key.now)) size order.new.items split.new.hits split.new.dropped }
+    ensures room { vec_len order.new < vec_capacity order.new }
+{
+    let count = count_of(by_key, &order[place].key);
+    if place < size {
+        if order.len() > size {
+            let back = count_of(by_key, &order[size].key);
+            split.hits += back;
+            split.dropped -= back;
+        }
+        split.hits -= count;
+    } else {
+        split.dropped -= count;
+    }
+    let _taken = order.remove(place);
+}
+
+/// Puts a key into the order, at the mark of its first hit.
+fn enter(
+    order: &mut Vec<Mark>,
+    split: &mut Split,
+    by_key: &BTreeMap<Key, Entry>,
+    size: usize,
+    mark: Mark,
+)
+    requires some { 0 < size }
+    requires room { vec_len order.old < vec_capacity order.old }
+    requires order { order.old.items ≡ order_without (hits_in by_key.now) mark.key }
+    requires split { IsSplit (hitcount (hits_in by_key.now)) size order.old.items split.old.hits split.old.dropped }
+    requires few { split.old.hits + split.old.dropped + hitcount (hits_in by_key.now) mark.key < 2 ^ 64 }
+    ensures order { order.new.items ≡ order_with (hits_in by_key.now) mark }
+    ensures split { IsSplit (hitcount (hits_in by_key.now)) size order.new.items split.new.hits split.new.dropped }
+{
+    let place = place_of(order, &mark);
+    put_in(order, split, by_key, size, place, mark);
+}
+
+/// Takes a key out of the order, from the mark where its first hit was.
+fn leave(
+    order: &mut Vec<Mark>,
+    split: &mut Split,
+    by_key: &BTreeMap<Key, Entry>,
+    size: usize,
+    mark: Mark,
+)
+    requires order { order.old.items ≡ order_with (hits_in by_key.now) mark }
+    requires split { IsSplit (hitcount (hits_in by_key.now)) size order.old.items split.old.hits split.old.dropped }
+    ensures order { order.new.items ≡ order_without (hits_in by_key.now) mark.key }
+    ensures split { IsSplit (hitcount (hits_in by_key.now)) size order.new.items split.new.hits split.new.dropped }
+    ensures fewer { split.new.hits + split.new.dropped + hitcount (hits_in by_key.now) mark.key ≡ split.old.hits + split.old.dropped }
+    ensures room { vec_len order.new < vec_capacity order.new }
+{
+    let place = place_of(order, &mark);
+    take_out(order, split, by_key, size, place);
+}
+
+/// Moves a key to where its first hit stands, from where that stood before, if it had any.
+pub(crate) fn settle(
+    order: &mut Vec<Mark>,
+    split: &mut Split,
+    by_key: &BTreeMap<Key, Entry>,
+    size: usize,
+    key: Key,
+    before: Option<Pos>,
+)
+    requires some { 0 < size }
+    requires room { before ≡ None → vec_len order.old < vec_capacity order.old }
+    requires order { order.old.items ≡ order_before (hits_in by_key.now) key before }
+    requires split { IsSplit (hitcount (hits_in by_key.now)) size order.old.items split.old.hits split.old.dropped }
+    requires few { before ≡ None → split.old.hits + split.old.dropped + hitcount (hits_in by_key.now) key < 2 ^ 64 }
+    ensures order { order.new.items ≡ order_of (hits_in by_key.now) }
+    ensures split { IsSplit (hitcount (hits_in by_key.now)) size order.new.items split.new.hits split.new.dropped }
+{
+    let after = first_at(by_key, &key);
+    match (before, after) {
+        (None, None) => {}
+        (None, Some(new)) => enter(order, split, by_key, size, Mark { pos: new, key }),
+        (Some(old), None) => leave(order, split, by_key, size, Mark { pos: old, key }),
+        (Some(old), Some(new)) => {
+            if old != new {
+                leave(order, split, by_key, size, Mark { pos: old, key });
+                enter(order, split, by_key, size, Mark { pos: new, key });
+            }
+        }
+    }
+}
+
+/// Counts a hit that came to a key whose first hit stands at a mark.
+fn count_up(
+    order: &[Mark],
+    split: &mut Split,
+    by_key: &BTreeMap<Key, Entry>,
+    size: usize,
+    mark: Mark,
+)
+    requires order { order.now ≡ order_with (hits_in by_key.now) mark }
+    requires split { IsSplit (with_less (hitcount (hits_in by_key.now)) mark.key) size order.now split.old.hits split.old.dropped }
+    requires some { 0 < hitcount (hits_in by_key.now) mark.key }
+    requires few { split.old.hits + split.old.dropped + 1 < 2 ^ 64 }
+    ensures { IsSplit (hitcount (hits_in by_key.now)) size order.now split.new.hits split.new.dropped }
+{
+    if place_of(order, &mark) < size {
+        split.hits += 1;
+    } else {
+        split.dropped += 1;
+    }
+}
+
+/// Counts a hit that went from a key whose first hit stood at a mark.
+fn count_down(
+    order: &[Mark],
+    split: &mut Split,
+    by_key: &BTreeMap<Key, Entry>,
+    size: usize,
+    mark: Mark,
+)
+    requires order { order.now ≡ order_with (hits_in by_key.now) mark }
+    requires split { IsSplit (with_more (hitcount (hits_in by_key.now)) mark.key) size order.now split.old.hits split.old.dropped }
+    ensures { IsSplit (hitcount (hits_in by_key.now)) size order.now split.new.hits split.new.dropped }
+{
+    if place_of(order, &mark) < size {
+        split.hits -= 1;
+    } else {
+        split.dropped -= 1;
+    }
+}
+
+/// Adds a hit where none stands. Refused for memory, or where the counts would pass 64 bits, and
+/// then all is as it was.
+pub(crate) fn add_hit(
+    alloc: Global,
+    by_key: &mut BTreeMap<Key, Entry>,
+    order: &mut Vec<Mark>,
+    split: &mut Split,
+    size: usize,
+    mark: Mark,
+    values: [i64; 3],
+) -> Result<(), AllocError>
+    requires some { 0 < size }
+    requires order { order.old.items ≡ order_of (hits_in by_key.old) }
+    requires split { IsSplit (hitcount (hits_in by_key.old)) size order.old.items split.old.hits split.old.dropped }
+    requires absent { map.get (hits_in by_key.old) mark ≡ None }
+    ensures hits { OnOk result (hits_in by_key.new ≡ map.insert (hits_in by_key.old) mark values) }
+    ensures same_hits { OnErr result (hits_in by_key.new ≡ hits_in by_key.old) }
+    ensures order { order.new.items ≡ order_of (hits_in by_key.new) }
+    ensures split { IsSplit (hitcount (hits_in by_key.new)) size order.new.items split.new.hits split.new.dropped }
+{
+    if split.hits == u64::MAX - split.dropped {
+        return Err(AllocError);
+    }
+    order.reserve(1)?;
+    let before = first_at(by_key, &mark.key);
+    put_hit(alloc, by_key, mark, values)?;
+    match before {
+        None => settle(order, split, by_key, size, mark.key, None),
+        Some(pos) => {
+            count_up(order, split, by_key, size, Mark { pos, key: mark.key });
+            settle(order, split, by_key, size, mark.key, Some(pos));
+        }
+    }
+    Ok(())
+}
+
+/// Takes the hit at a mark away, if one stands there.
+pub(crate) fn drop_hit(
+    by_key: &mut BTreeMap<Key, Entry>,
+    order: &mut Vec<Mark>,
+    split: &mut Split,
+    size: usize,
+    mark: Mark,
+)
+    requires some { 0 < size }
+    requires order { order.old.items ≡ order_of (hits_in by_key.old) }
+    requires split { IsSplit (hitcount (hits_in by_key.old)) size order.old.items split.old.hits split.old.dropped }
+    ensures hits { hits_in by_key.new ≡ map.remove (hits_in by_key.old) mark }
+    ensures order { order.new.items ≡ order_of (hits_in by_key.new) }
+    ensures split { IsSplit (hitcount (hits_in by_key.new)) size order.new.items split.new.hits split.new.dropped }
+{
+    match first_at(by_key, &mark.key) {
+        None => {}
+        Some(pos) => {
+            if take_hit(by_key, mark) {
+                count_down(order, split, by_key, size, Mark { pos, key: mark.key });
+                settle(order, split, by_key, size, mark.key, Some(pos));
+            }
+        }
+    }
+}

@@ -1,0 +1,187 @@
+//! Tables: the hits of one trigger, by key, and the order of the keys.
+
+ghost use Rattle.std.specs.Prelude.{◌≡◌, ◌+◌, ◌<◌, OnOk, OnErr};
+ghost use Rattle.std.specs.FinMap as map;
+
+use crate::entry::{Entry, count_of, first_at, next_hit, holds, sums_at};
+use crate::hit::Hit;
+use crate::mark::Mark;
+use crate::order::place_of;
+use crate::row::{Row, Totals};
+use crate::split::{Split, add_hit, drop_hit};
+use ft_event::Pos;
+use ft_hist::{Key, Work};
+use std::alloc::{AllocError, Global};
+use std::collections::BTreeMap;
+use std::marker::Model;
+
+/// The keys at a table's edge.
+#[derive(Clone, Copy, Debug)]
+pub struct Edge {
+    /// The key in the table whose first hit is last.
+    pub last_in: Option<Key>,
+    /// The key outside whose first hit is first.
+    pub first_out: Option<Key>,
+}
+
+/// The hits of one trigger, and for how many keys there is room.
+///
+/// Contracts see the hits by place and key, and the size. Kept beside the hits are each key's sums,
+/// the order of first hits and the totals, so that no question walks the hits.
+#[derive(Drop)]
+pub struct Table {
+    alloc: Global,
+    size: u32,
+    by_key: BTreeMap<Key, Entry>,
+    order: Vec<Mark>,
+    split: Split,
+}
+
+impl Model for Table {
+    ghost use Rattle.ft_table.specs.Tabled.{Tabled};
+    ghost use Rattle.ft_table.specs.Codes.{tabled_code};
+
+    ghost Value = { Tabled };
+
+    ghost coded = { tabled_code };
+
+    ghost use Rattle.ft_table.specs.Kept.{table_of, IsKept};
+
+    ghost view = { table_of };
+
+    ghost invariant = { IsKept };
+}
+
+impl Table {
+    ghost use Rattle.std.specs.Prelude.{None};
+    ghost use Rattle.ft_table.specs.Rows.{row_at, totals_of, hit_after};
+    ghost use Rattle.ft_table.specs.Tabled.{is_in, last_in, first_out};
+
+    /// A table without hits, with room for at least one key. It takes no memory.
+    pub fn new(alloc: Global, size: u32) -> Table
+        requires { 0 < size }
+        ensures { result ≡ record { hits = map.empty; size = size } }
+    {
+        Table {
+            alloc,
+            size,
+            by_key: BTreeMap::new(alloc),
+            order: Vec::new(alloc),
+            split: Split {
+                hits: 0,
+                dropped: 0,
+            },
+        }
+    }
+
+    /// Puts a hit in, where none stands. Counts one put in `work`, refused or not.
+    ///
+    /// Refused for memory, or where the hits would be too many for 64 bits, and then the table is
+    /// as it was.
+    pub fn insert(&mut self, hit: Hit, work: &mut Work) -> Result<(), AllocError>
+        requires { map.get self.old.hits (record { pos = hit.pos; key = hit.key }) ≡ None }
+        ensures ok { OnOk result (self.new ≡ record self.old { hits = map.insert self.old.hits (record { pos = hit.pos; key = hit.key }) hit.values }) }
+        ensures err { OnErr result (self.new ≡ self.old) }
+        ensures puts { work.new.puts ≡ work.old.puts + 1 }
+        ensures evals { work.new.evals ≡ work.old.evals }
+    {
+        work.tick_put();
+        let mark = Mark {
+            pos: hit.pos,
+            key: hit.key,
+        };
+        add_hit(
+            self.alloc,
+            &mut self.by_key,
+            &mut self.order,
+            &mut self.split,
+            self.size as usize,
+            mark,
+            hit.values,
+        )
+    }
+
+    /// Takes a hit away, if one stands there. It needs no memory.
+    pub fn remove(&mut self, pos: Pos, key: Key)
+        ensures { self.new ≡ record self.old { hits = map.remove self.old.hits (record { pos = pos; key = key }) } }
+    {
+        drop_hit(
+            &mut self.by_key,
+            &mut self.order,
+            &mut self.split,
+            self.size as usize,
+            Mark { pos, key },
+        );
+    }
+
+    /// Whether a hit stands at a place under a key.
+    pub fn holds(&self, pos: Pos, key: Key) -> bool
+        ensures { result ≡ map.contains_key self.now.hits (record { pos = pos; key = key }) }
+    {
+        holds(&self.by_key, Mark { pos, key })
+    }
+
+    /// Whether a key is in the table.
+    pub fn is_in(&self, key: &Key) -> bool
+        ensures { result ≡ is_in self.now key.now }
+    {
+        match first_at(&self.by_key, key) {
+            Some(pos) => place_of(&self.order, &Mark { pos, key: *key }) < self.size as usize,
+            None => false,
+        }
+    }
+
+    /// The row of a key, if it is in the table.
+    pub fn row(&self, key: &Key) -> Option<Row>
+        ensures { result ≡ row_at self.now key.now }
+    {
+        if self.is_in(key) {
+            Some(Row {
+                key: *key,
+                hitcount: count_of(&self.by_key, key),
+                sums: sums_at(&self.by_key, key),
+            })
+        } else {
+            None
+        }
+    }
+
+    /// How many hits are counted, under how many keys, and how many are dropped.
+    pub fn totals(&self) -> Totals
+        ensures { result ≡ totals_of self.now }
+    {
+        let keys = self.order.len().min(self.size as usize);
+        Totals {
+            hits: self.split.hits,
+            entries: keys as u64,
+            dropped: self.split.dropped,
+        }
+    }
+
+    /// The keys at the table's edge: the last one in by first hit, and the first one outside.
+    pub fn edge(&self) -> Edge
+        ensures last { result.last_in ≡ last_in self.now }
+        ensures first { result.first_out ≡ first_out self.now }
+    {
+        let size = self.size as usize;
+        let inside = self.order.len().min(size);
+        let last_in = if inside == 0 {
+            None
+        } else {
+            Some(self.order[inside - 1].key)
+        };
+        let first_out = if self.order.len() > size {
+            Some(self.order[size].key)
+        } else {
+            None
+        };
+        Edge { last_in, first_out }
+    }
+
+    /// The first hit of a key after a place, or its first of all.
+    pub fn hit_after(&self, key: &Key, after: Option<Pos>) -> Option<Hit>
+        ensures { result ≡ hit_after self.now.hits key.now after }
+    {
+        next_hit(&self.by_key, key, after)
+    }
+}

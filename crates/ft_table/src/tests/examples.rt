@@ -1,0 +1,115 @@
+//! Worked examples.
+
+use super::*;
+
+/// A table of two keys, with a hit of PID 5 at stamp 10, of 6 at 20 and of 7 at 30.
+fn three_hits(alloc: Global) -> Result<Table, AllocError> {
+    let mut table = Table::new(alloc, 2);
+    put(&mut table, hit(10, 5, [1, 0, 0]))?;
+    put(&mut table, hit(20, 6, [2, 0, 0]))?;
+    put(&mut table, hit(30, 7, [3, 0, 0]))?;
+    Ok(table)
+}
+
+/// Whether a table has what the three hits give.
+fn has_three_hits(table: &Table) -> bool {
+    table.is_in(&pid(5))
+        && table.is_in(&pid(6))
+        && !table.is_in(&pid(7))
+        && are_totals(table, 2, 2, 1)
+        && is_edge(table, Some(pid(6)), Some(pid(7)))
+        && is_row(table, pid(5), Some((1, [1, 0, 0])))
+        && is_row(table, pid(6), Some((1, [2, 0, 0])))
+        && is_row(table, pid(7), None)
+}
+
+/// Whether a table has what they give with one of PID 7 at stamp 5.
+fn has_four_hits(table: &Table) -> bool {
+    table.is_in(&pid(7))
+        && table.is_in(&pid(5))
+        && !table.is_in(&pid(6))
+        && are_totals(table, 3, 2, 1)
+        && is_edge(table, Some(pid(5)), Some(pid(6)))
+        && is_row(table, pid(7), Some((2, [7, 0, 0])))
+        && is_row(table, pid(5), Some((1, [1, 0, 0])))
+        && is_row(table, pid(6), None)
+}
+
+#[test]
+fn full_table_and_early_insert(rt: HostRuntime) -> Result<(), Fail> {
+    let mut table = three_hits(rt.alloc())?;
+    assert!(rt; has_three_hits(&table));
+    put(&mut table, hit(5, 7, [4, 0, 0]))?;
+    assert!(rt; has_four_hits(&table));
+    table.remove(at(5), pid(7));
+    assert!(rt; has_three_hits(&table));
+    Ok(())
+}
+
+#[test]
+fn nothing(rt: HostRuntime) -> Result<(), Fail> {
+    let mut table = Table::new(rt.alloc(), 1);
+    assert!(rt; are_totals(&table, 0, 0, 0));
+    assert!(rt; is_edge(&table, None, None));
+    assert!(rt; is_row(&table, pid(5), None));
+    assert!(rt; table.hit_after(&pid(5), None).is_none());
+    table.remove(at(5), pid(5));
+    assert!(rt; are_totals(&table, 0, 0, 0));
+    Ok(())
+}
+
+#[test]
+fn sums_wrap(rt: HostRuntime) -> Result<(), Fail> {
+    let mut table = Table::new(rt.alloc(), 1);
+    put(&mut table, hit(10, 5, [-1, i64::MIN, 1]))?;
+    assert!(rt; is_row(&table, pid(5), Some((1, [u64::MAX, 1 << 63, 1]))));
+    put(&mut table, hit(20, 5, [3, i64::MIN, 1]))?;
+    assert!(rt; is_row(&table, pid(5), Some((2, [2, 0, 2]))));
+    table.remove(at(10), pid(5));
+    assert!(rt; is_row(&table, pid(5), Some((1, [3, 1 << 63, 1]))));
+    Ok(())
+}
+
+#[test]
+fn hits_of_a_key_in_order(rt: HostRuntime) -> Result<(), Fail> {
+    let mut table = Table::new(rt.alloc(), 1);
+    put(&mut table, hit(30, 5, [3, 0, 0]))?;
+    put(&mut table, hit(10, 5, [1, 0, 0]))?;
+    put(&mut table, hit(20, 6, [2, 0, 0]))?;
+    let first = table.hit_after(&pid(5), None);
+    assert!(rt; first.map(|hit| hit.values) == Some([1, 0, 0]));
+    let second = table.hit_after(&pid(5), Some(at(10)));
+    assert!(rt; second.map(|hit| hit.values) == Some([3, 0, 0]));
+    assert!(rt; table.hit_after(&pid(5), Some(at(30))).is_none());
+    let other = table.hit_after(&pid(6), Some(at(10)));
+    assert!(rt; other.map(|hit| hit.pos) == Some(at(20)));
+    Ok(())
+}
+
+/// The table of the three hits, where a growth may be refused once.
+fn three_hits_at_last(alloc: Global) -> Result<Table, AllocError> {
+    match three_hits(alloc) {
+        Ok(table) => Ok(table),
+        Err(_) => three_hits(alloc),
+    }
+}
+
+/// Passes whichever allocation is refused: `rt try --test --fail-alloc N`.
+#[test]
+fn unchanged_after_want_of_memory(rt: HostRuntime) -> Result<(), Fail> {
+    let mut table = three_hits_at_last(rt.alloc())?;
+    if put(&mut table, hit(5, 7, [4, 0, 0])).is_err() {
+        assert!(rt; has_three_hits(&table));
+        put(&mut table, hit(5, 7, [4, 0, 0]))?;
+    }
+    assert!(rt; has_four_hits(&table));
+    if put(&mut table, hit(40, 8, [4, 0, 0])).is_err() {
+        assert!(rt; has_four_hits(&table));
+        put(&mut table, hit(40, 8, [4, 0, 0]))?;
+    }
+    assert!(rt; are_totals(&table, 3, 2, 2));
+    table.remove(at(40), pid(8));
+    table.remove(at(5), pid(7));
+    assert!(rt; has_three_hits(&table));
+    Ok(())
+}
