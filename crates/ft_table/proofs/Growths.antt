@@ -10,7 +10,7 @@ use Rattle.ft_event.specs.declared.pos.Pos.{Pos}
 use Rattle.ft_event.specs.Places.{pos_cmp}
 use Rattle.ft_hist.specs.declared.key.Part.{Part}
 use Rattle.ft_table.specs.declared.mark.Mark.{Mark}
-use Rattle.ft_table.specs.declared.row.Row.{Row}
+use Rattle.ft_table.specs.Counted.{Counted}
 use Rattle.ft_table.specs.Marks.{mark_cmp, mark_cmp_total, mark_same}
 use Rattle.ft_table.specs.Hits.{Hits, EntryHits, same_key, hits_of, hitcount, unsigned_at, column, sums_of, least_key, first_place}
 use Rattle.ft_table.specs.Tabled.{Tabled, keys_in, keys_out, is_in}
@@ -89,7 +89,7 @@ row-more hits m v absent =
     λ i. record { key = m.key; hitcount = count i; sums = sum 0 i ∷ sum 1 i ∷ sum 2 i ∷ [] }
 
 row-beside : (hits : Hits) (m : Mark) (v : List ℤ) (key : List Part) → same_key key m.key ≡ false → row_of (map.insert hits m v) key ≡ row_of hits key
-row-beside hits m v key apart = ap (λ (es : EntryHits). let row : Row = record { key = key; hitcount = map.len es; sums = sums_of es } in row) (hits_of-beside hits (map.insert hits m v) m.key key (insert-beside hits m v) apart)
+row-beside hits m v key apart = ap (λ (es : EntryHits). let row : Counted = record { key = key; hitcount = map.len es; sums = sums_of es } in row) (hits_of-beside hits (map.insert hits m v) m.key key (insert-beside hits m v) apart)
 
 module _ (table : Tabled) (m : Mark) (v : List ℤ) (last : ComesLast table m) where
   -- the row that grows
@@ -99,9 +99,9 @@ module _ (table : Tabled) (m : Mark) (v : List ℤ) (last : ComesLast table m) w
   before false false inside room counted = cc
 
   row-here : (c : Bool) → is_counted table m.key ≡ c → (if c then Some (row_of (map.insert table.hits m v) m.key) else None) ≡ (if c then Some (grown v (unwrap_or (row_at table m.key) (empty_row m.key))) else row_at table m.key)
-  row-here true counted = ap (λ (row : Row). Some row) (row-more table.hits m v last.absent ∙ ap (grown v) (sym (before (is_in table m.key) (has_room table) refl refl counted)))
+  row-here true counted = ap (λ (row : Counted). Some row) (row-more table.hits m v last.absent ∙ ap (grown v) (sym (before (is_in table m.key) (has_room table) refl refl counted)))
   row-here false counted = out (is_in table m.key) counted where
-    out : (a : Bool) → (a || has_room table) ≡ false → ◌≡◌ {A = Option Row} None (if a then Some (row_of table.hits m.key) else None)
+    out : (a : Bool) → (a || has_room table) ≡ false → ◌≡◌ {A = Option Counted} None (if a then Some (row_of table.hits m.key) else None)
     out true counted = cc
     out false counted = refl
 

@@ -106,7 +106,7 @@ first-listed hits m some = first_is (first_place hits m.key) m.pos (of (is_first
   of false h = cc
 
 -- another place of the order has another key
-apart_after : (hits : Hits) (i j : ℕ) (d : Mark) → i < j → j < length (order_of hits) → same_key (get_or (order_of hits) i d).key (get_or (order_of hits) j d).key ≡ false
+pub apart_after : (hits : Hits) (i j : ℕ) (d : Mark) → i < j → j < length (order_of hits) → same_key (get_or (order_of hits) i d).key (get_or (order_of hits) j d).key ≡ false
 apart_after hits i j d before within =
     let m : Mark = get_or (order_of hits) i d in
     let first : first_place hits m.key ≡ Some m.pos = first-listed hits m (listed (first_hits hits) i d (omega arith)) in

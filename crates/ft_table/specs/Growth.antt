@@ -4,7 +4,7 @@ use Rattle.std.specs.declared.cmp.Ordering.TheVariants.{Less}
 use Rattle.std.specs.FinMap as map
 use Rattle.ft_hist.specs.declared.key.Part.{Part}
 use Rattle.ft_table.specs.declared.mark.Mark.{Mark}
-use Rattle.ft_table.specs.declared.row.Row.{Row}
+use Rattle.ft_table.specs.Counted.{Counted}
 use Rattle.ft_table.specs.Marks.{mark_cmp}
 use Rattle.ft_table.specs.Hits.{Hits, same_key, unsigned_at}
 use Rattle.ft_table.specs.Tabled.{Tabled, keys_in, is_in}
@@ -27,7 +27,7 @@ abbrev pub is_counted : Tabled → List Part → Bool
 is_counted table key = is_in table key || has_room table
 
 -- a key's row before its first hit (our own choice)
-abbrev pub empty_row : List Part → Row
+abbrev pub empty_row : List Part → Counted
 empty_row key = record { key = key; hitcount = 0; sums = 0 ∷ 0 ∷ 0 ∷ [] }
 
 -- a sum and a value of a hit, modulo 2^64 (kernel: histogram.rst, `values`; modulo 2^64 is our own choice)
@@ -35,7 +35,7 @@ abbrev pub added : ℕ → List ℕ → List ℤ → ℕ
 added j sums v = (slice_index_or sums j 0 + unsigned_at j v) % 2 ^ 64
 
 -- a row and one more hit (kernel: histogram.rst, `hitcount` and `values`)
-abbrev pub grown : List ℤ → Row → Row
+abbrev pub grown : List ℤ → Counted → Counted
 grown v row = record row { hitcount = row.hitcount + 1; sums = added 0 row.sums v ∷ added 1 row.sums v ∷ added 2 row.sums v ∷ [] }
 
 -- it comes behind all others, where none stands (our own choice)

@@ -2,6 +2,8 @@ pub mod Admission
 pub mod Ascending
 pub mod ByKey
 pub mod Codes
+pub mod Counted
+pub mod Fronts
 pub mod Growth
 pub mod Hits
 pub mod Kept
@@ -9,7 +11,12 @@ pub mod Marks
 pub mod Moves
 pub mod OneKey
 pub mod Rows
+pub mod Sorting
 pub mod Split
 pub mod Tabled
+pub mod Text
 pub use Rattle.ft_event.specs.Places
+pub use Rattle.ft_hist.specs.Fitting
+pub use Rattle.ft_hist.specs.Hist
 pub use Rattle.ft_hist.specs.Parts
+pub use Rattle.ft_hist.specs.Steps

@@ -1,21 +1,32 @@
 -- What a table shows: rows and totals.
-use Rattle.std.specs.Prelude.{List, length, Option, Some, None, option_map, if◌then◌else◌}
+use Rattle.std.specs.Prelude.{ℕ, List, length, map as list_map, Option, Some, None, option_map, if◌then◌else◌, IsSome}
 use Rattle.std.specs.List.{sum_by}
+use Rattle.std.specs.FinMap as map
 use Rattle.ft_event.specs.declared.pos.Pos.{Pos}
+use Rattle.ft_hist.specs.declared.item.SortItem.{SortItem}
 use Rattle.ft_hist.specs.declared.key.Part.{Part}
+use Rattle.ft_hist.specs.Fitting.{KeyFits}
+use Rattle.ft_hist.specs.Hist.{Hist}
 use Rattle.ft_table.specs.declared.hit.Hit.{Hit}
-use Rattle.ft_table.specs.declared.row.Row.{Row}
+use Rattle.ft_table.specs.Counted.{Counted}
 use Rattle.ft_table.specs.declared.row.Totals.{Totals}
 use Rattle.ft_table.specs.Hits.{Hits, hits_of, hitcount, sums_of, first_entry, hits_after}
+use Rattle.ft_table.specs.declared.mark.Mark.{Mark}
+use Rattle.ft_table.specs.Sorting.{in_order}
 use Rattle.ft_table.specs.Tabled.{Tabled, keys_in, keys_out, is_in}
+use Rattle.ft_table.specs.Text.{rows_text}
 
 -- what the hits of a key come to (kernel: histogram.rst, the `hist` file; sums modulo 2^64 are our own choice)
-abbrev pub row_of : Hits → List Part → Row
+abbrev pub row_of : Hits → List Part → Counted
 row_of hits key = record { key = key; hitcount = hitcount hits key; sums = sums_of (hits_of hits key) }
 
 -- the row of a key in the table (kernel: histogram.rst, the `hist` file)
-abbrev pub row_at : Tabled → List Part → Option Row
+abbrev pub row_at : Tabled → List Part → Option Counted
 row_at table key = if is_in table key then Some (row_of table.hits key) else None
+
+-- the rows of the keys in the table, in order of the sort items (kernel: histogram.rst, `sort`)
+abbrev pub rows_of : Tabled → List SortItem → List Counted
+rows_of table sort = in_order sort (list_map (row_of table.hits) (keys_in table))
 
 -- the totals: the hits of the keys in the table, these keys, and the hits of the keys outside (kernel: histogram.rst, `Hits`, `Entries` and `Dropped`)
 abbrev pub totals_of : Tabled → Totals
@@ -24,3 +35,11 @@ totals_of table = record { hits = sum_by (hitcount table.hits) (keys_in table); 
 -- the first hit of a key after a place; without a place its first (our own choice)
 abbrev pub hit_after : Hits → List Part → Option Pos → Option Hit
 hit_after hits key after = option_map (λ e. record { pos = e.0; key = key; values = e.1 }) (first_entry (hits_after after (hits_of hits key)))
+
+-- the key of each hit fits the trigger's key items (our own choice)
+abbrev pub AllFit : Tabled → Hist → Type 0
+AllFit table hist = (m : Mark) → IsSome (map.get table.hits m) → KeyFits hist.keys m.key
+
+-- the text of a trigger's table, from its first row on: rows by the trigger's sort items, and totals (kernel: histogram.rst, the `hist` file)
+abbrev pub table_text : Tabled → Hist → List ℕ
+table_text table hist = rows_text hist (rows_of table hist.sort) (totals_of table)

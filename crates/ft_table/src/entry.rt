@@ -175,11 +175,7 @@ pub(crate) fn sums_at(by_key: &BTreeMap<Key, Entry>, key: &Key) -> [u64; 3]
 }
 
 /// The first hit of a key after a place, or its first.
-pub(crate) fn next_hit(
-    by_key: &BTreeMap<Key, Entry>,
-    key: &Key,
-    after: Option<Pos>,
-) -> Option<Hit>
+pub(crate) fn next_hit(by_key: &BTreeMap<Key, Entry>, key: &Key, after: Option<Pos>) -> Option<Hit>
     ensures { result ≡ hit_after (hits_in by_key.now) key.now after }
 {
     let entry = by_key.get(key)?;

@@ -8,15 +8,20 @@ mod entry;
 mod hit;
 mod laws;
 mod mark;
+mod number;
 mod order;
+mod part;
 mod row;
+mod sorting;
 mod split;
 mod table;
+mod text;
 
 pub use hit::Hit;
 pub use laws::{all_hits, first_keys, one_key, one_more_hit};
 pub use mark::{Mark, one_mark_order};
 pub use row::{Row, Totals};
+pub use sorting::one_row_order;
 pub use table::{Edge, Table};
 
 #[cfg(test)]

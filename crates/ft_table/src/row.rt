@@ -1,25 +1,41 @@
-//! What a table shows: its rows and its totals.
+//! Rows and totals.
 
 use ft_hist::Key;
+use std::marker::Model;
 
-/// A key's row: how many hits it has, and the sums of their values modulo 2 to the 64.
-#[derive(Clone, Copy, Debug)]
+/// A row of a table: a key, how often it was hit, and what the values of its hits sum up to.
+///
+/// Contracts see a record of the same fields.
+#[derive(Clone, Copy, Debug, PartialEq, Eq)]
 pub struct Row {
     /// The key.
     pub key: Key,
-    /// How many hits the key has.
+    /// Its hits.
     pub hitcount: u64,
-    /// The sums of the hits' values, as unsigned numbers.
+    /// The sums of its hits' values modulo 2^64, in the order of the trigger's values.
     pub sums: [u64; 3],
 }
 
-/// How many hits were counted, under how many keys, and how many were dropped.
-#[derive(Clone, Copy, Debug)]
+/// What a table holds beside its rows.
+#[derive(Clone, Copy, Debug, PartialEq, Eq)]
 pub struct Totals {
-    /// The hits of the keys in the table.
+    /// The hits of all keys in the table.
     pub hits: u64,
     /// The keys in the table.
     pub entries: u64,
-    /// The hits of the keys outside.
+    /// The hits of keys that found no room.
     pub dropped: u64,
+}
+
+impl Model for Row {
+    ghost use Rattle.ft_table.specs.Counted.{Counted};
+    ghost use Rattle.ft_table.specs.Codes.{counted_code};
+
+    ghost Value = { Counted };
+
+    ghost coded = { counted_code };
+
+    ghost view = { λ row. record { key = row.key; hitcount = row.hitcount; sums = row.sums } };
+
+    ghost inverse = { λ row. record { key = row.key; hitcount = row.hitcount; sums = row.sums } };
 }

@@ -1,16 +1,22 @@
 //! Tables: the hits of one trigger, by key, and the order of the keys.
 
-ghost use Rattle.std.specs.Prelude.{◌≡◌, ◌+◌, ◌<◌, OnOk, OnErr};
+ghost use Rattle.std.specs.Prelude.{◌≡◌, ◌+◌, ◌<◌, ◌++◌, OnOk, OnErr, IfOk};
+ghost use Rattle.std.specs.Prelude.{map as list_map};
 ghost use Rattle.std.specs.FinMap as map;
+ghost use Rattle.ft_table.specs.ByKey.{hits_in};
+ghost use Rattle.ft_table.specs.Fronts.{IsFront};
+ghost use Rattle.ft_table.specs.Rows.{row_of};
 
-use crate::entry::{Entry, count_of, first_at, next_hit, holds, sums_at};
+use crate::entry::{Entry, count_of, first_at, holds, next_hit, sums_at};
 use crate::hit::Hit;
 use crate::mark::Mark;
 use crate::order::place_of;
 use crate::row::{Row, Totals};
+use crate::sorting::sort_rows;
 use crate::split::{Split, add_hit, drop_hit};
+use crate::text::write_rows;
 use ft_event::Pos;
-use ft_hist::{Key, Work};
+use ft_hist::{Key, SortItem, Trigger, Work};
 use std::alloc::{AllocError, Global};
 use std::collections::BTreeMap;
 use std::marker::Model;
@@ -54,7 +60,7 @@ impl Model for Table {
 
 impl Table {
     ghost use Rattle.std.specs.Prelude.{None};
-    ghost use Rattle.ft_table.specs.Rows.{row_at, totals_of, hit_after};
+    ghost use Rattle.ft_table.specs.Rows.{row_at, rows_of, totals_of, hit_after, AllFit, table_text};
     ghost use Rattle.ft_table.specs.Tabled.{is_in, last_in, first_out};
 
     /// A table without hits, with room for at least one key. It takes no memory.
@@ -136,14 +142,48 @@ impl Table {
         ensures { result ≡ row_at self.now key.now }
     {
         if self.is_in(key) {
-            Some(Row {
-                key: *key,
-                hitcount: count_of(&self.by_key, key),
-                sums: sums_at(&self.by_key, key),
-            })
+            Some(row_of(&self.by_key, key))
         } else {
             None
         }
+    }
+
+    /// The rows of the keys in the table, by the sort items from the left, each ascending unless it
+    /// is descending, and those that these leave equal by key.
+    pub fn rows(&self, sort: &[SortItem]) -> Result<Vec<Row>, AllocError>
+        ensures { IfOk result (λ rows. rows.items ≡ rows_of self.now sort.now) }
+    {
+        let inside = self.order.len().min(self.size as usize);
+        let mut rows = rows_at(self.alloc, &self.by_key, &self.order[..inside])?;
+        sort_rows(&mut rows, sort);
+        Ok(rows)
+    }
+
+    /// Adds the text of a trigger's table: its rows by the trigger's sort items, one a line, and
+    /// below an empty line the totals. After a refusal the vector holds its old bytes.
+    pub fn write(&self, trigger: &Trigger, text: &mut Vec<u8>) -> Result<(), AllocError>
+        requires { AllFit self.now trigger.now }
+        ensures ok { OnOk result (text.new.items ≡ text.old.items ++ table_text self.now trigger.now) }
+        ensures err { OnErr result (text.new.items ≡ text.old.items) }
+    {
+        let len = text.len();
+        match self.write_parts(trigger, text) {
+            Ok(()) => Ok(()),
+            Err(refused) => {
+                text.truncate(len);
+                Err(refused)
+            }
+        }
+    }
+
+    /// Adds the text of a trigger's table. What it added before a refusal stays.
+    fn write_parts(&self, trigger: &Trigger, text: &mut Vec<u8>) -> Result<(), AllocError>
+        requires { AllFit self.now trigger.now }
+        ensures ok { OnOk result (text.new.items ≡ text.old.items ++ table_text self.now trigger.now) }
+        ensures err { OnErr result (IsFront text.old.items text.new.items) }
+    {
+        let rows = self.rows(trigger.sort())?;
+        write_rows(trigger, &rows, self.totals(), text)
     }
 
     /// How many hits are counted, under how many keys, and how many are dropped.
@@ -184,4 +224,31 @@ impl Table {
     {
         next_hit(&self.by_key, key, after)
     }
+}
+
+/// What the hits of a key come to.
+fn row_of(by_key: &BTreeMap<Key, Entry>, key: &Key) -> Row
+    ensures { result ≡ row_of (hits_in by_key.now) key.now }
+{
+    Row {
+        key: *key,
+        hitcount: count_of(by_key, key),
+        sums: sums_at(by_key, key),
+    }
+}
+
+/// What the hits of each of some keys come to.
+fn rows_at(
+    alloc: Global,
+    by_key: &BTreeMap<Key, Entry>,
+    marks: &[Mark],
+) -> Result<Vec<Row>, AllocError>
+    ensures { IfOk result (λ rows. rows.items
+        ≡ list_map (λ mark. row_of (hits_in by_key.now) mark.key) marks.now) }
+{
+    let mut rows = Vec::with_capacity(alloc, marks.len())?;
+    for mark in marks {
+        rows.push(row_of(by_key, &mark.key))?;
+    }
+    Ok(rows)
 }

@@ -1,9 +1,11 @@
 mod examples;
+mod order;
 mod recounts;
+mod texts;
 
 use super::*;
-use ft_event::Pos;
-use ft_hist::{Key, Part, Work};
+use ft_event::{Comm, Pos};
+use ft_hist::{Key, Part, SortBy, SortItem, Work};
 use std::alloc::{AllocError, Global};
 use std::test::*;
 
@@ -59,4 +61,26 @@ fn is_row(table: &Table, key: Key, numbers: Option<(u64, [u64; 3])>) -> bool {
             row.key == key && numbers == Some((row.hitcount, sums))
         }
     }
+}
+
+/// A row of a key of one part, with one sum.
+fn row_of(part: Part, hitcount: u64, sum: u64) -> Row {
+    Row {
+        key: Key::of_one(part),
+        hitcount,
+        sums: [sum, 0, 0],
+    }
+}
+
+/// A text of at most 31 bytes.
+fn text_of(text: &str) -> Result<Part, &'static str> {
+    match Comm::of(text.as_bytes()) {
+        Some(name) => Ok(Part::Text(name)),
+        None => Err("the text is too long for a name"),
+    }
+}
+
+/// A sort item.
+fn by(what: SortBy, descending: bool) -> SortItem {
+    SortItem { what, descending }
 }

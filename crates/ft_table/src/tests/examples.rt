@@ -86,6 +86,27 @@ fn hits_of_a_key_in_order(rt: HostRuntime) -> Result<(), Fail> {
     Ok(())
 }
 
+#[test]
+fn each_key_comes_before_the_others(rt: HostRuntime) -> Result<(), Fail> {
+    let mut table = Table::new(rt.alloc(), 5);
+    for (stamp, number) in [
+        (80, 0),
+        (70, 1),
+        (60, 2),
+        (50, 3),
+        (40, 4),
+        (30, 5),
+        (20, 6),
+        (10, 7),
+    ] {
+        put(&mut table, hit(stamp, number, [1, 1, 1]))?;
+        put(&mut table, hit(90, number, [1, 1, 1]))?;
+    }
+    assert!(rt; are_totals(&table, 10, 5, 6));
+    assert!(rt; is_edge(&table, Some(pid(3)), Some(pid(2))));
+    Ok(())
+}
+
 /// The table of the three hits, where a growth may be refused once.
 fn three_hits_at_last(alloc: Global) -> Result<Table, AllocError> {
     match three_hits(alloc) {
@@ -111,5 +132,40 @@ fn unchanged_after_want_of_memory(rt: HostRuntime) -> Result<(), Fail> {
     table.remove(at(40), pid(8));
     table.remove(at(5), pid(7));
     assert!(rt; has_three_hits(&table));
+    Ok(())
+}
+
+/// The PIDs of a table's rows, in this order, with their hits and first sums.
+fn are_rows(table: &Table, sort: SortItem, wanted: &[(i64, u64, u64)]) -> Result<bool, AllocError> {
+    let rows = table.rows(&[sort])?;
+    if rows.len() != wanted.len() {
+        return Ok(false);
+    }
+    for (row, (number, hitcount, sum)) in rows.iter().zip(wanted) {
+        let sums = row.sums;
+        if row.key != pid(*number) || row.hitcount != *hitcount || sums[0] != *sum {
+            return Ok(false);
+        }
+    }
+    Ok(true)
+}
+
+#[test]
+fn rows_of_the_keys_that_are_in(rt: HostRuntime) -> Result<(), Fail> {
+    for (size, by_hits, by_key) in [
+        (
+            5,
+            [(6, 2, 5), (5, 1, 1)].as_slice(),
+            [(5, 1, 1), (6, 2, 5)].as_slice(),
+        ),
+        (1, [(5, 1, 1)].as_slice(), [(5, 1, 1)].as_slice()),
+    ] {
+        let mut table = Table::new(rt.alloc(), size);
+        put(&mut table, hit(10, 5, [1, 0, 0]))?;
+        put(&mut table, hit(20, 6, [2, 0, 0]))?;
+        put(&mut table, hit(30, 6, [3, 0, 0]))?;
+        assert!(rt; are_rows(&table, by(SortBy::Hits, true), by_hits)?);
+        assert!(rt; are_rows(&table, by(SortBy::Key(0), false), by_key)?);
+    }
     Ok(())
 }
