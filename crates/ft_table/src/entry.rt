@@ -3,7 +3,8 @@
 ghost use Rattle.std.specs.Prelude.{◌≡◌, ℕ, ◌+◌, ◌%◌, ◌<◌, ◌^◌, OnOk, OnErr, None, Some, IsTrue};
 ghost use Rattle.std.specs.Int.{w64, cast_unsigned};
 ghost use Rattle.std.specs.FinMap as map;
-ghost use Rattle.ft_table.specs.Hits.{sums_of, least_key, first_place, hitcount, hits_of, first_entry, hits_after};
+ghost use Rattle.ft_table.specs.Hits.{sums_of, least_key, first_place, hitcount, hits_of};
+ghost use Rattle.ft_table.specs.Hits.{first_entry, hits_after};
 ghost use Rattle.ft_table.specs.ByKey.{hits_in};
 ghost use Rattle.ft_hist.specs.Parts.{key_cmp};
 ghost use Rattle.ft_maps.specs.Seen.{seen};
@@ -55,7 +56,8 @@ fn added(sum: u64, value: i64) -> u64
 
 /// A sum without a value that is in it, modulo 2^64.
 fn taken(sum: u64, value: i64) -> u64
-    ensures { (rest : ℕ) → sum ≡ (rest + cast_unsigned w64 value) % 2 ^ 64 → result ≡ rest % 2 ^ 64 }
+    ensures { (rest : ℕ) → sum ≡ (rest + cast_unsigned w64 value) % 2 ^ 64
+        → result ≡ rest % 2 ^ 64 }
 {
     sum.wrapping_sub(value.cast_unsigned())
 }

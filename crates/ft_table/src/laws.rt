@@ -1,6 +1,7 @@
 //! Laws of tables.
 
-ghost use Rattle.ft_table.specs.Admission.{FirstsAreFirst, InByRank, AllCount, InsideCount, OutsideDrop, WholeCount};
+ghost use Rattle.ft_table.specs.Admission.{FirstsAreFirst, InByRank, AllCount, InsideCount};
+ghost use Rattle.ft_table.specs.Admission.{OutsideDrop, WholeCount};
 ghost use Rattle.ft_table.specs.Growth.{KeysGrow, InGrows, RowsGrow, TotalsGrow};
 ghost use Rattle.ft_table.specs.OneKey.{LastGoesOut, FirstComesIn, OneOtherMoves};
 

@@ -7,7 +7,8 @@ ghost use Rattle.std.specs.List.{insert, remove};
 ghost use Rattle.ft_table.specs.Split.{IsSplit};
 ghost use Rattle.ft_table.specs.Hits.{hitcount};
 ghost use Rattle.ft_table.specs.Tabled.{order_of};
-ghost use Rattle.ft_table.specs.Moves.{order_with, order_without, order_before, with_more, with_less};
+ghost use Rattle.ft_table.specs.Moves.{order_with, order_without, order_before};
+ghost use Rattle.ft_table.specs.Moves.{with_more, with_less};
 ghost use Rattle.ft_table.specs.ByKey.{hits_in};
 
 use crate::entry::{Entry, count_of, first_at, put_hit, take_hit};
@@ -37,10 +38,12 @@ pub(crate) fn put_in(
     requires some { 0 < size }
     requires within { place ≤ vec_len order.old }
     requires room { vec_len order.old < vec_capacity order.old }
-    requires split { IsSplit (hitcount (hits_in by_key.now)) size order.old.items split.old.hits split.old.dropped }
+    requires split { IsSplit (hitcount (hits_in by_key.now)) size order.old.items
+        split.old.hits split.old.dropped }
     requires few { split.old.hits + split.old.dropped + hitcount (hits_in by_key.now) mark.key < 2 ^ 64 }
     ensures order { order.new.items ≡ insert order.old.items place mark }
-    ensures split { IsSplit (hitcount (hits_in by_key.now)) size order.new.items split.new.hits split.new.dropped }
+    ensures split { IsSplit (hitcount (hits_in by_key.now)) size order.new.items
+        split.new.hits split.new.dropped }
 {
     let count = count_of(by_key, &mark.key);
     if place < size {
@@ -65,9 +68,11 @@ pub(crate) fn take_out(
     place: usize,
 )
     requires within { place < vec_len order.old }
-    requires split { IsSplit (hitcount (hits_in by_key.now)) size order.old.items split.old.hits split.old.dropped }
+    requires split { IsSplit (hitcount (hits_in by_key.now)) size order.old.items
+        split.old.hits split.old.dropped }
     ensures order { order.new.items ≡ remove order.old.items place }
-    ensures split { IsSplit (hitcount (hits_in by_key.now)) size order.new.items split.new.hits split.new.dropped }
+    ensures split { IsSplit (hitcount (hits_in by_key.now)) size order.new.items
+        split.new.hits split.new.dropped }
     ensures room { vec_len order.new < vec_capacity order.new }
 {
     let count = count_of(by_key, &order[place].key);
@@ -95,10 +100,12 @@ fn enter(
     requires some { 0 < size }
     requires room { vec_len order.old < vec_capacity order.old }
     requires order { order.old.items ≡ order_without (hits_in by_key.now) mark.key }
-    requires split { IsSplit (hitcount (hits_in by_key.now)) size order.old.items split.old.hits split.old.dropped }
+    requires split { IsSplit (hitcount (hits_in by_key.now)) size order.old.items
+        split.old.hits split.old.dropped }
     requires few { split.old.hits + split.old.dropped + hitcount (hits_in by_key.now) mark.key < 2 ^ 64 }
     ensures order { order.new.items ≡ order_with (hits_in by_key.now) mark }
-    ensures split { IsSplit (hitcount (hits_in by_key.now)) size order.new.items split.new.hits split.new.dropped }
+    ensures split { IsSplit (hitcount (hits_in by_key.now)) size order.new.items
+        split.new.hits split.new.dropped }
 {
     let place = place_of(order, &mark);
     put_in(order, split, by_key, size, place, mark);
@@ -113,10 +120,13 @@ fn leave(
     mark: Mark,
 )
     requires order { order.old.items ≡ order_with (hits_in by_key.now) mark }
-    requires split { IsSplit (hitcount (hits_in by_key.now)) size order.old.items split.old.hits split.old.dropped }
+    requires split { IsSplit (hitcount (hits_in by_key.now)) size order.old.items
+        split.old.hits split.old.dropped }
     ensures order { order.new.items ≡ order_without (hits_in by_key.now) mark.key }
-    ensures split { IsSplit (hitcount (hits_in by_key.now)) size order.new.items split.new.hits split.new.dropped }
-    ensures fewer { split.new.hits + split.new.dropped + hitcount (hits_in by_key.now) mark.key ≡ split.old.hits + split.old.dropped }
+    ensures split { IsSplit (hitcount (hits_in by_key.now)) size order.new.items
+        split.new.hits split.new.dropped }
+    ensures fewer { split.new.hits + split.new.dropped + hitcount (hits_in by_key.now) mark.key
+        ≡ split.old.hits + split.old.dropped }
     ensures room { vec_len order.new < vec_capacity order.new }
 {
     let place = place_of(order, &mark);
@@ -135,10 +145,13 @@ pub(crate) fn settle(
     requires some { 0 < size }
     requires room { before ≡ None → vec_len order.old < vec_capacity order.old }
     requires order { order.old.items ≡ order_before (hits_in by_key.now) key before }
-    requires split { IsSplit (hitcount (hits_in by_key.now)) size order.old.items split.old.hits split.old.dropped }
-    requires few { before ≡ None → split.old.hits + split.old.dropped + hitcount (hits_in by_key.now) key < 2 ^ 64 }
+    requires split { IsSplit (hitcount (hits_in by_key.now)) size order.old.items
+        split.old.hits split.old.dropped }
+    requires few { before ≡ None
+        → split.old.hits + split.old.dropped + hitcount (hits_in by_key.now) key < 2 ^ 64 }
     ensures order { order.new.items ≡ order_of (hits_in by_key.now) }
-    ensures split { IsSplit (hitcount (hits_in by_key.now)) size order.new.items split.new.hits split.new.dropped }
+    ensures split { IsSplit (hitcount (hits_in by_key.now)) size order.new.items
+        split.new.hits split.new.dropped }
 {
     let after = first_at(by_key, &key);
     match (before, after) {
@@ -163,10 +176,12 @@ fn count_up(
     mark: Mark,
 )
     requires order { order.now ≡ order_with (hits_in by_key.now) mark }
-    requires split { IsSplit (with_less (hitcount (hits_in by_key.now)) mark.key) size order.now split.old.hits split.old.dropped }
+    requires split { IsSplit (with_less (hitcount (hits_in by_key.now)) mark.key) size order.now
+        split.old.hits split.old.dropped }
     requires some { 0 < hitcount (hits_in by_key.now) mark.key }
     requires few { split.old.hits + split.old.dropped + 1 < 2 ^ 64 }
-    ensures { IsSplit (hitcount (hits_in by_key.now)) size order.now split.new.hits split.new.dropped }
+    ensures { IsSplit (hitcount (hits_in by_key.now)) size order.now
+        split.new.hits split.new.dropped }
 {
     if place_of(order, &mark) < size {
         split.hits += 1;
@@ -184,8 +199,10 @@ fn count_down(
     mark: Mark,
 )
     requires order { order.now ≡ order_with (hits_in by_key.now) mark }
-    requires split { IsSplit (with_more (hitcount (hits_in by_key.now)) mark.key) size order.now split.old.hits split.old.dropped }
-    ensures { IsSplit (hitcount (hits_in by_key.now)) size order.now split.new.hits split.new.dropped }
+    requires split { IsSplit (with_more (hitcount (hits_in by_key.now)) mark.key) size order.now
+        split.old.hits split.old.dropped }
+    ensures { IsSplit (hitcount (hits_in by_key.now)) size order.now
+        split.new.hits split.new.dropped }
 {
     if place_of(order, &mark) < size {
         split.hits -= 1;
@@ -207,12 +224,14 @@ pub(crate) fn add_hit(
 ) -> Result<(), AllocError>
     requires some { 0 < size }
     requires order { order.old.items ≡ order_of (hits_in by_key.old) }
-    requires split { IsSplit (hitcount (hits_in by_key.old)) size order.old.items split.old.hits split.old.dropped }
+    requires split { IsSplit (hitcount (hits_in by_key.old)) size order.old.items
+        split.old.hits split.old.dropped }
     requires absent { map.get (hits_in by_key.old) mark ≡ None }
     ensures hits { OnOk result (hits_in by_key.new ≡ map.insert (hits_in by_key.old) mark values) }
     ensures same_hits { OnErr result (hits_in by_key.new ≡ hits_in by_key.old) }
     ensures order { order.new.items ≡ order_of (hits_in by_key.new) }
-    ensures split { IsSplit (hitcount (hits_in by_key.new)) size order.new.items split.new.hits split.new.dropped }
+    ensures split { IsSplit (hitcount (hits_in by_key.new)) size order.new.items
+        split.new.hits split.new.dropped }
 {
     if split.hits == u64::MAX - split.dropped {
         return Err(AllocError);
@@ -240,10 +259,12 @@ pub(crate) fn drop_hit(
 )
     requires some { 0 < size }
     requires order { order.old.items ≡ order_of (hits_in by_key.old) }
-    requires split { IsSplit (hitcount (hits_in by_key.old)) size order.old.items split.old.hits split.old.dropped }
+    requires split { IsSplit (hitcount (hits_in by_key.old)) size order.old.items
+        split.old.hits split.old.dropped }
     ensures hits { hits_in by_key.new ≡ map.remove (hits_in by_key.old) mark }
     ensures order { order.new.items ≡ order_of (hits_in by_key.new) }
-    ensures split { IsSplit (hitcount (hits_in by_key.new)) size order.new.items split.new.hits split.new.dropped }
+    ensures split { IsSplit (hitcount (hits_in by_key.new)) size order.new.items
+        split.new.hits split.new.dropped }
 {
     match first_at(by_key, &mark.key) {
         None => {}

@@ -60,7 +60,8 @@ impl Model for Table {
 
 impl Table {
     ghost use Rattle.std.specs.Prelude.{None};
-    ghost use Rattle.ft_table.specs.Rows.{row_at, rows_of, totals_of, hit_after, AllFit, table_text};
+    ghost use Rattle.ft_table.specs.Rows.{row_at, rows_of, totals_of, hit_after, AllFit};
+    ghost use Rattle.ft_table.specs.Rows.{table_text};
     ghost use Rattle.ft_table.specs.Tabled.{is_in, last_in, first_out};
 
     /// A table without hits, with room for at least one key. It takes no memory.
@@ -86,7 +87,14 @@ impl Table {
     /// as it was.
     pub fn insert(&mut self, hit: Hit, work: &mut Work) -> Result<(), AllocError>
         requires { map.get self.old.hits (record { pos = hit.pos; key = hit.key }) ≡ None }
-        ensures ok { OnOk result (self.new ≡ record self.old { hits = map.insert self.old.hits (record { pos = hit.pos; key = hit.key }) hit.values }) }
+        ensures ok { OnOk result (self.new
+            ≡ record self.old {
+              hits = map.insert self.old.hits (record {
+                pos = hit.pos;
+                key =
+                    hit.key;
+              }) hit.values;
+            }) }
         ensures err { OnErr result (self.new ≡ self.old) }
         ensures puts { work.new.puts ≡ work.old.puts + 1 }
         ensures evals { work.new.evals ≡ work.old.evals }
@@ -109,7 +117,10 @@ impl Table {
 
     /// Takes a hit away, if one stands there. It needs no memory.
     pub fn remove(&mut self, pos: Pos, key: Key)
-        ensures { self.new ≡ record self.old { hits = map.remove self.old.hits (record { pos = pos; key = key }) } }
+        ensures { self.new
+            ≡ record self.old {
+              hits = map.remove self.old.hits (record { pos = pos; key = key });
+            } }
     {
         drop_hit(
             &mut self.by_key,
@@ -163,7 +174,8 @@ impl Table {
     /// below an empty line the totals. After a refusal the vector holds its old bytes.
     pub fn write(&self, trigger: &Trigger, text: &mut Vec<u8>) -> Result<(), AllocError>
         requires { AllFit self.now trigger.now }
-        ensures ok { OnOk result (text.new.items ≡ text.old.items ++ table_text self.now trigger.now) }
+        ensures ok { OnOk result (text.new.items
+            ≡ text.old.items ++ table_text self.now trigger.now) }
         ensures err { OnErr result (text.new.items ≡ text.old.items) }
     {
         let len = text.len();
@@ -179,7 +191,8 @@ impl Table {
     /// Adds the text of a trigger's table. What it added before a refusal stays.
     fn write_parts(&self, trigger: &Trigger, text: &mut Vec<u8>) -> Result<(), AllocError>
         requires { AllFit self.now trigger.now }
-        ensures ok { OnOk result (text.new.items ≡ text.old.items ++ table_text self.now trigger.now) }
+        ensures ok { OnOk result (text.new.items
+            ≡ text.old.items ++ table_text self.now trigger.now) }
         ensures err { OnErr result (IsFront text.old.items text.new.items) }
     {
         let rows = self.rows(trigger.sort())?;
