@@ -60,8 +60,10 @@ impl Model for Table {
 
 impl Table {
     ghost use Rattle.std.specs.Prelude.{None};
-    ghost use Rattle.ft_table.specs.Rows.{row_at, rows_of, totals_of, hit_after, AllFit};
-    ghost use Rattle.ft_table.specs.Rows.{table_text};
+    ghost use Rattle.ft_table.specs.Growth.{with_hit};
+    ghost use Rattle.ft_table.specs.OneKey.{without_hit};
+    ghost use Rattle.ft_table.specs.Rows.{row_at, rows_of, totals_of, hit_after};
+    ghost use Rattle.ft_table.specs.Rows.{AllFit, table_text};
     ghost use Rattle.ft_table.specs.Tabled.{is_in, last_in, first_out};
 
     /// A table without hits, with room for at least one key. It takes no memory.
@@ -88,13 +90,7 @@ impl Table {
     pub fn insert(&mut self, hit: Hit, work: &mut Work) -> Result<(), AllocError>
         requires { map.get self.old.hits (record { pos = hit.pos; key = hit.key }) ≡ None }
         ensures ok { OnOk result (self.new
-            ≡ record self.old {
-              hits = map.insert self.old.hits (record {
-                pos = hit.pos;
-                key =
-                    hit.key;
-              }) hit.values;
-            }) }
+            ≡ with_hit self.old (record { pos = hit.pos; key = hit.key }) hit.values) }
         ensures err { OnErr result (self.new ≡ self.old) }
         ensures puts { work.new.puts ≡ work.old.puts + 1 }
         ensures evals { work.new.evals ≡ work.old.evals }
@@ -117,10 +113,7 @@ impl Table {
 
     /// Takes a hit away, if one stands there. It needs no memory.
     pub fn remove(&mut self, pos: Pos, key: Key)
-        ensures { self.new
-            ≡ record self.old {
-              hits = map.remove self.old.hits (record { pos = pos; key = key });
-            } }
+        ensures { self.new ≡ without_hit self.old (record { pos = pos; key = key }) }
     {
         drop_hit(
             &mut self.by_key,
