@@ -4,18 +4,20 @@
 #
 #   ft_filter   old_bytes_after_want_of_memory
 #   ft_trigger  old_bytes_after_want_of_memory, answers_after_want_of_memory
+#   ft_table    unchanged_after_want_of_memory
 #   ft_board    trigger_after_want_of_memory, load_after_want_of_memory
 #   ft_desk     whole_output_or_that_of_the_commands_before
 #
 # A filter or a trigger that is read and written, a load, an attached trigger and its table have the
 # wanted text, value or fault, or answer want of memory with everything as it was, so that they succeed
 # when they are asked again. And a script through `run` prints its whole output, or answers want of
-# memory with the whole output of the commands before.
+# memory with the whole output of the commands before. A table is as it was.
 #
 # `rt try`, which proves nothing, compiles a crate's tests anew for each allocation. That took half a
 # minute to three minutes on four processors that other work kept busy. The plain tests below make fewer
 # than 24 allocations in ft_filter, 30 in ft_trigger, 16 in ft_board, and between 40 and 80 in ft_desk, so
-# that all four crates should take one to three hours. Nobody has timed the whole.
+# that these four crates should take one to three hours. Nobody has timed the whole, and ft_table's were not
+# counted.
 set -euo pipefail
 
 crates=$(dirname -- "$(realpath -- "${BASH_SOURCE[0]}")")/../crates
@@ -75,6 +77,10 @@ tests_of() {
                 tests::reading::old_bytes_after_want_of_memory \
                 tests::reading::answers_after_want_of_memory
             ;;
+        ft_table)
+            each ft_table tests::examples::each_key_comes_before_the_others \
+                tests::examples::unchanged_after_want_of_memory
+            ;;
         ft_board)
             each ft_board tests::two_wakings tests::trigger_after_want_of_memory \
                 tests::load_after_want_of_memory
@@ -91,7 +97,7 @@ tests_of() {
 }
 
 if (($# == 0)); then
-    set -- ft_filter ft_trigger ft_board ft_desk
+    set -- ft_filter ft_trigger ft_table ft_board ft_desk
 fi
 for crate in "$@"; do
     tests_of "$crate"
