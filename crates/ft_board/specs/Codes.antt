@@ -6,9 +6,8 @@ use Rattle.std.specs.FinMap as map
 use Rattle.std.specs.FinMap.{FinMap}
 use Rattle.ft_event.specs.Traced.{Traced}
 use Rattle.ft_event.specs.Codes.{traced_code}
-use Rattle.ft_board.specs.declared.trigger.Trigger.{Trigger}
-use Rattle.ft_board.specs.contracts.trigger.Trigger as trigger
-use Rattle.ft_board.specs.Base.{Lane, Base}
+use Rattle.ft_hist.specs.Codes.{hist_code}
+use Rattle.ft_board.specs.Base.{Lane, Lanes, Triggers, Base}
 
 -- a lane, stored as its events and its next number (our own choice)
 abbrev pub lane_code : Coded Lane
@@ -19,5 +18,5 @@ lane_code = code_by
 -- a base, stored as its lanes, its triggers and its next id (our own choice)
 abbrev pub base_code : Coded Base
 base_code = code_by
-    (FinMap nat_cmp Lane × (FinMap nat_cmp Trigger × ℕ)) (coded× (map.code coded_ℕ lane_code) (coded× (map.code coded_ℕ trigger.the_row.coded) coded_ℕ))
+    (Lanes × (Triggers × ℕ)) (coded× (map.code coded_ℕ lane_code) (coded× (map.code coded_ℕ hist_code) coded_ℕ))
     (λ base. (base.lanes, (base.triggers, base.next_id))) (λ p. record { lanes = p.0; triggers = p.1.0; next_id = p.1.1 }) (λ _. refl)

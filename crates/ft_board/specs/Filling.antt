@@ -5,7 +5,7 @@ use Rattle.std.specs.Ordering.{nat_cmp}
 use Rattle.std.specs.FinMap as map
 use Rattle.std.specs.FinMap.{FinMap}
 use Rattle.ft_event.specs.Traced.{Traced}
-use Rattle.ft_board.specs.Base.{Lane, number_limit}
+use Rattle.ft_board.specs.Base.{Lane, Lanes, number_limit}
 
 -- a lane without events: its first line is 1 (our own choice)
 abbrev pub new_lane : Lane
@@ -16,7 +16,7 @@ abbrev pub lane_with : Lane → Traced → Lane
 lane_with lane event = record { events = map.insert lane.events lane.next event; next = lane.next + 1 }
 
 -- the lanes with one more event, in the lane of its CPU (our own choice)
-abbrev pub lanes_with : FinMap nat_cmp Lane → Traced → FinMap nat_cmp Lane
+abbrev pub lanes_with : Lanes → Traced → Lanes
 lanes_with lanes event = map.insert lanes event.cpu (lane_with (unwrap_or (map.get lanes event.cpu) new_lane) event)
 
 -- an event of the list has the CPU (our own choice)
@@ -24,9 +24,9 @@ abbrev pub has_cpu : List Traced → ℕ → Bool
 has_cpu events cpu = list_any (λ e. e.cpu == cpu) events
 
 -- two sets of lanes are the same but for the CPUs of the events (our own choice)
-abbrev pub AgreeBeside : List Traced → FinMap nat_cmp Lane → FinMap nat_cmp Lane → Type 0
+abbrev pub AgreeBeside : List Traced → Lanes → Lanes → Type 0
 AgreeBeside events old new = (cpu : ℕ) → has_cpu events cpu ≡ false → map.get new cpu ≡ map.get old cpu
 
 -- the lanes of the events' CPUs have numbers left for all of them (our own choice)
-abbrev pub HasRoom : FinMap nat_cmp Lane → List Traced → Type 0
+abbrev pub HasRoom : Lanes → List Traced → Type 0
 HasRoom lanes events = (cpu : ℕ) → has_cpu events cpu ≡ true → (unwrap_or (map.get lanes cpu) new_lane).next + length events ≤ number_limit + 1

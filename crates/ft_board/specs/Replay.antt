@@ -1,65 +1,86 @@
--- Replaying what is held: the merged order, and what each trigger counts along it (kernel: histogram.rst, hist triggers).
-use Rattle.std.specs.Prelude.{ℕ, ◌+◌, List, Option, Some, None, nat_lt, ◌==◌, ◌||◌, if◌then◌else◌, unwrap_or, option_and_then, map as list_map, fold}
-use Rattle.std.specs.List.{flat_map}
+-- Replaying: events in merged order go past the attached triggers (kernel: histogram.rst, hist triggers; replaying held events is our own choice).
+use Rattle.std.specs.Prelude.{ℕ, ◌-◌, ℤ, pos as whole, List, Option, Some, None, unwrap_or, fold, if◌then◌else◌}
 use Rattle.std.specs.Option.{option_map_or}
 use Rattle.std.specs.Ordering.{nat_cmp}
 use Rattle.std.specs.FinMap as map
 use Rattle.std.specs.FinMap.{FinMap}
 use Rattle.ft_event.specs.Traced.{Traced}
-use Rattle.ft_event.specs.Places.{pos_cmp}
 use Rattle.ft_event.specs.declared.pos.Pos.{Pos}
-use Rattle.ft_board.specs.declared.trigger.Trigger.{Trigger}
-use Rattle.ft_board.specs.declared.trigger.Key.{Key}
-use Rattle.ft_board.specs.Trigger.{size_of, key_cmp, hit}
-use Rattle.ft_board.specs.Base.{Lane, Base, event_at}
+use Rattle.ft_hist.specs.declared.key.Part.{Part}
+use Rattle.ft_hist.specs.Hist.{Hist}
+use Rattle.ft_hist.specs.Hit.{hit}
+use Rattle.ft_hist.specs.Values.{values_of}
+use Rattle.ft_pairs.specs.declared.at.At.{At}
+use Rattle.ft_table.specs.Counted.{Counted}
+use Rattle.ft_table.specs.Growth.{grown, empty_row}
+use Rattle.ft_board.specs.declared.role.Role.{Role}
+use Rattle.ft_board.specs.declared.role.Role.TheVariants.{Plain, Saves, Reads}
+use Rattle.ft_board.specs.declared.role.Variable.{Variable}
+use Rattle.ft_board.specs.Base.{Triggers, Events}
+use Rattle.ft_board.specs.Roles.{role_of}
+use Rattle.ft_board.specs.Tally.{Tally, RowGrowth, empty_tally, has_place, tell}
+use Rattle.ft_board.specs.Variables.{variable_cmp}
 
--- the place of a CPU's line with this event (our own choice)
-abbrev pub place_of : ℕ → ℕ × Traced → Pos
-place_of cpu entry = record { stamp = entry.1.stamp; cpu = cpu; line = entry.0 }
+-- the tallies of triggers by id (our own choice)
+abbrev pub Tallies : Type 0
+Tallies = FinMap nat_cmp Tally
 
--- a lane's events, each at its place (our own choice)
-abbrev pub placed : ℕ × Lane → List (Pos × Traced)
-placed lane = list_map (λ entry. (place_of lane.0 entry, entry.1)) (map.entries lane.1.events)
+-- what replaying has come to: each trigger's tally, and the variables that are set, each to the place of the saving event (kernel: histogram.rst, inter-event hist triggers)
+pub record State : Type 0 where
+  pub tallies : Tallies
+  pub variables : FinMap variable_cmp Pos
 
--- all held events by place (our own choice)
-unfoldable pub merged : Base → FinMap pos_cmp Traced
-merged base = fold (λ m entry. map.insert m entry.0 entry.1) map.empty (flat_map placed (map.entries base.lanes))
+-- ---- one trigger at one event
 
--- the event held at a place: on its lane's line, with its stamp (our own choice)
-abbrev pub held_at : Base → Pos → Option Traced
-held_at base pos = option_and_then (λ e. if e.stamp == pos.stamp then Some e else None) (event_at base pos.cpu pos.line)
+-- a trigger with this tally acts at a hit of a key: a saver sets its variable where the hit is counted; a reader whose variable is unset has no hit, and else unsets it (kernel: histogram.rst, inter-event hist triggers; that a reading unsets is our own choice)
+abbrev pub act_as : ℕ → RowGrowth → Role → State → At → List Part → Tally → State
+act_as size growth Plain state at key tally = record state { tallies = map.insert state.tallies at.trigger (tell size growth at.pos key None tally) }
+act_as size growth Saves state at key tally = record {
+  tallies = map.insert state.tallies at.trigger (tell size growth at.pos key None tally);
+  variables = if has_place size tally.table key then map.insert state.variables (record { saver = at.trigger; key = key }) at.pos else state.variables;
+}
+act_as size growth (Reads saver) state at key tally =
+    option_map_or (λ saved. record {
+      tallies = map.insert state.tallies at.trigger (tell size growth at.pos key (Some saved) tally);
+      variables = map.remove state.variables (record { saver = saver; key = key });
+    }) (map.get state.variables (record { saver = saver; key = key })) state
 
--- a trigger's table: hits by key, and how many hits found no room (kernel: histogram.rst, `Dropped`)
-pub record Tally : Type 0 where
-  pub table : FinMap key_cmp ℕ
-  pub dropped : ℕ
+-- a trigger acts at a hit of a key, where it has a tally (our own choice)
+unfoldable pub act : ℕ → Role → RowGrowth → State → At → List Part → State
+act size role growth state at key = option_map_or (act_as size growth role state at key) (map.get state.tallies at.trigger) state
 
--- nothing counted yet (kernel: histogram.rst, hist triggers)
-abbrev pub empty_tally : Tally
-empty_tally = record { table = map.empty; dropped = 0 }
+-- ---- what a hit adds
 
--- one hit of a key: counted where the key is in the table or there is room, else dropped (kernel: histogram.rst, `size` and `Dropped`)
-unfoldable pub count : ℕ → Key → Tally → Tally
-count size key tally =
-    if map.contains_key tally.table key || nat_lt (map.len tally.table) size
-    then record tally { table = map.insert tally.table key (unwrap_or (map.get tally.table key) 0 + 1) }
-    else record tally { dropped = tally.dropped + 1 }
+-- the value of a trigger's own variable, in microseconds: the stamp that it saves, or the time since the stamp that it read (kernel: histogram.rst, `common_timestamp.usecs`)
+abbrev pub own_value : Pos → Option Pos → ℤ
+own_value at None = whole at.stamp
+own_value at (Some saved) = whole (at.stamp - saved.stamp)
 
--- one event at one attached trigger (kernel: histogram.rst, hist triggers)
-unfoldable pub act : Traced → FinMap nat_cmp Tally → ℕ × Trigger → FinMap nat_cmp Tally
-act event state attached =
+-- what a trigger's hit adds to its sums (kernel: histogram.rst, `values`)
+abbrev pub values_at : Hist → Pos → Traced → Option Pos → List ℤ
+values_at hist at event saved = values_of hist event (own_value at saved)
+
+-- a row with a trigger's hit, where the key has a row or none yet (kernel: histogram.rst, `hitcount` and `values`)
+abbrev pub growth_by : Hist → Pos → Traced → List Part → RowGrowth
+growth_by hist at event key saved row = grown (values_at hist at event saved) (unwrap_or row (empty_row key))
+
+-- ---- all triggers, all events
+
+-- one event at one attached trigger: it acts where the event is a hit (kernel: histogram.rst, hist triggers)
+unfoldable pub act_at : Triggers → Pos × Traced → State → ℕ × Hist → State
+act_at triggers entry state attached =
     option_map_or (λ key.
-    option_map_or (λ tally. map.insert state attached.0 (count (size_of attached.1) key tally)) (map.get state attached.0) state
-    ) (hit attached.1 event) state
+    act attached.1.size (role_of triggers attached.1.variable) (growth_by attached.1 entry.0 entry.1 key) state (record { pos = entry.0; trigger = attached.0 }) key
+    ) (hit attached.1 entry.1) state
 
 -- one event: the attached triggers act in order of id (our own choice)
-unfoldable pub step : FinMap nat_cmp Trigger → FinMap nat_cmp Tally → Pos × Traced → FinMap nat_cmp Tally
-step triggers state entry = fold (act entry.1) state (map.entries triggers)
+unfoldable pub step : Triggers → State → Pos × Traced → State
+step triggers state entry = fold (act_at triggers entry) state (map.entries triggers)
 
--- an empty table for each attached trigger (kernel: histogram.rst, hist triggers)
-unfoldable pub started : FinMap nat_cmp Trigger → FinMap nat_cmp Tally
-started triggers = fold (λ state attached. map.insert state attached.0 empty_tally) map.empty (map.entries triggers)
+-- nothing counted yet at each attached trigger (kernel: histogram.rst, hist triggers)
+unfoldable pub started : Triggers → Tallies
+started triggers = fold (λ tallies attached. map.insert tallies attached.0 empty_tally) map.empty (map.entries triggers)
 
--- what replaying all held events in merged order gives, for each attached trigger (kernel: histogram.rst, hist triggers; replaying held events is our own choice)
-unfoldable pub replay : Base → FinMap nat_cmp Tally
-replay base = fold (step base.triggers) (started base.triggers) (map.entries (merged base))
+-- what replaying events in merged order gives, for each attached trigger (kernel: histogram.rst, hist triggers; replaying held events is our own choice)
+unfoldable pub replay : Triggers → Events → State
+replay triggers events = fold (step triggers) (record { tallies = started triggers; variables = map.empty }) (map.entries events)

@@ -1,7 +1,7 @@
 //! What an edit answers.
 
-use crate::trigger::TriggerFault;
 use ft_event::LineFault;
+use ft_trigger::TriggerFault;
 
 /// An accepted edit: its value, and whether the kept tables are up to date.
 #[derive(Clone, Copy, Debug, PartialEq, Eq)]
@@ -30,6 +30,18 @@ pub struct Place {
     pub line: u32,
 }
 
+/// What a reading trigger measured: the line whose stamp was saved, the line that read it, and the
+/// time between them.
+#[derive(Clone, Copy, Debug, PartialEq, Eq)]
+pub struct Latency {
+    /// The line of the event that saved.
+    pub saved: Place,
+    /// The line of the event that read.
+    pub read: Place,
+    /// The microseconds from the saving to the reading.
+    pub micros: u64,
+}
+
 /// Why an edit or an answer is refused. Nothing held has changed then.
 #[derive(Clone, Copy, Debug, PartialEq, Eq)]
 pub enum Refused {
@@ -47,10 +59,18 @@ pub enum Refused {
     BadTrigger(TriggerFault),
     /// No trigger with that id is attached.
     NoTrigger,
+    /// The trigger saves a variable of a name that the trigger with this id saves already.
+    NameTaken(u32),
+    /// The trigger reads a variable that no attached trigger saves.
+    NoVariable,
+    /// The keys of a reader and of the trigger that saves what it reads don't match.
+    KeyMismatch,
     /// 64 triggers are attached, or the ids are used up.
     TooManyTriggers,
     /// The command or its event has no such form.
     BadCommand,
+    /// The trigger reads no variable, so it has no latencies.
+    NotReading,
 }
 
 impl Refused {
@@ -69,8 +89,12 @@ impl Refused {
             Refused::Full => 7,
             Refused::BadTrigger(_) => 8,
             Refused::NoTrigger => 10,
+            Refused::NameTaken(_) => 12,
+            Refused::NoVariable => 13,
+            Refused::KeyMismatch => 14,
             Refused::TooManyTriggers => 15,
             Refused::BadCommand => 16,
+            Refused::NotReading => 17,
         }
     }
 }

@@ -1,0 +1,3 @@
+pub mod Places
+pub mod Source
+pub use Rattle.ft_event.specs.Places
