@@ -8,6 +8,7 @@ mod key;
 mod label;
 mod matching;
 mod trigger;
+mod values;
 mod work;
 mod writing;
 
