@@ -25,7 +25,7 @@ pub record FieldLaws : Type 0 where
   pub kind : (event : Traced) (field : Field) → IfSome (field_of event field) (λ value. is_text_value value ≡ is_text field)
 
 -- names that pass the test are equal
-name_same : (a b : Name) → same_name a b ≡ true → a ≡ b
+pub name_same : (a b : Name) → same_name a b ≡ true → a ≡ b
 name_same names.Waking b e = from b e
   where
     from : (b : Name) → same_name names.Waking b ≡ true → names.Waking ≡ b

@@ -3,3 +3,4 @@ mod Fronts
 mod KindLemmas
 mod PartLemmas
 mod PowerLemmas
+mod Summed

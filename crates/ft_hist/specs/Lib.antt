@@ -11,6 +11,7 @@ pub mod Sound
 pub mod Steps
 pub mod Ties
 pub mod Triggers
+pub mod Values
 pub use Rattle.ft_event.specs.Traced
 pub use Rattle.ft_event.specs.Fields
 pub use Rattle.ft_filter.specs.Tree

@@ -8,6 +8,7 @@ mod key;
 mod label;
 mod matching;
 mod trigger;
+mod values;
 mod work;
 mod writing;
 
@@ -16,6 +17,7 @@ pub use item::{Item, KeyItem, Mode, SortBy, SortItem};
 pub use key::{Key, Part, equal_keys, one_key_order};
 pub use label::{Label, Var};
 pub use trigger::Trigger;
+pub use values::summed_fields;
 pub use work::Work;
 
 #[cfg(test)]
