@@ -3,15 +3,15 @@ use Rattle.std.proofs.Common.{◌≡◌, ℕ, ◌+◌, ◌<◌, ◌≤◌, Bool,
 use Rattle.std.specs.List.{AllByRecursion}
 use Rattle.std.specs.Option.{option_map_or}
 use Rattle.std.specs.FinMap as map
-use Rattle.std.proofs.lemmas.Bool.{le-ltb, lt-ltb, le-leb, lt-leb, ltb-false, leb-false, or_parts, or_left, or_right}
+use Rattle.std.proofs.lemmas.Bool.{le-ltb, lt-ltb, le-leb, lt-leb, ltb-false, or_left, or_right}
 use Rattle.ft_event.specs.Traced.{Traced}
-use Rattle.ft_board.specs.declared.trigger.Trigger.{Trigger}
+use Rattle.ft_hist.specs.Hist.{Hist}
 use Rattle.ft_board.specs.declared.refused.Refused.{Refused}
 use Rattle.ft_board.specs.declared.refused.Refused.TheVariants.{LaneHeld, Full, TooManyTriggers}
 use Rattle.ft_board.specs.Base.{Base, number_limit, event_limit, trigger_limit, held_in}
-use Rattle.ft_board.specs.After.{after_load, after_attach, with_lanes, first_held, AnswerKeeps}
+use Rattle.ft_board.specs.After.{after_load, after_attach, variable_refused, with_lanes, first_held, AnswerKeeps}
 use Rattle.ft_board.specs.Reachable.{HasCpu, IsReachable}
-use Rattle.ft_board.proofs.Reachable.{load-IsReachable, attach-IsReachable}
+use Rattle.ft_board.proofs.Reachable.{load-IsReachable}
 
 -- a clause on success, where a call did not fail
 pub at_ok : {T E P : Type 0} (r : Result T E) → false ≡ is_err r → OnOk r P → P
@@ -63,33 +63,35 @@ load-reachable base es new count is at answer =
       ] refl
     ] refl (sym (after_load-cases base es) ∙ answer)
 
--- the cases of an attachment, by the test of what is used up
-abbrev attached : Base → Trigger → Bool → Result (Base × ℕ) Refused
-attached base trigger used = cond used (Err TooManyTriggers) (Ok (record base { triggers = map.insert base.triggers base.next_id trigger; next_id = base.next_id + 1 }, base.next_id))
+-- the cases of an attachment, by the test of what is used up and by what stands against its variable
+abbrev attached : Base → Hist → Bool → Option Refused → Result (Base × ℕ) Refused
+attached base hist used refused =
+    cond used (Err TooManyTriggers)
+    (option_map_or Err refused (Ok (record base { triggers = map.insert base.triggers base.next_id hist; next_id = base.next_id + 1 }, base.next_id)))
 
 abbrev is_used : Base → Bool
 is_used base = leb trigger_limit (map.len base.triggers) || ltb number_limit base.next_id
 
-after_attach-cases : (base : Base) (trigger : Trigger) → after_attach base trigger ≡ attached base trigger (is_used base)
+abbrev against : Base → Hist → Option Refused
+against base hist = variable_refused base.triggers hist.keys hist.variable
+
+after_attach-cases : (base : Base) (hist : Hist) → after_attach base hist ≡ attached base hist (is_used base) (against base hist)
 unfolding after_attach
-after_attach-cases base trigger = refl
+after_attach-cases base hist = refl
 
-pub attach-reachable : (base : Base) (trigger : Trigger) (new : Base) (id : ℕ) → IsReachable base → after_attach base trigger ≡ Ok (new, id) → IsReachable new
-attach-reachable base trigger new id is answer =
-    elim (is_used base) as (λ b. is_used base ≡ b → attached base trigger b ≡ Ok (new, id) → IsReachable new) [
-      | true ↦ λ _ e. cc
-      | false ↦ λ free e.
-          let parts = or_parts _ _ free in
-          subst IsReachable (same-base _ new base.next_id id e) (attach-IsReachable base trigger is (leb-false trigger_limit (map.len base.triggers) parts.0) (ltb-false number_limit base.next_id parts.1))
-    ] refl (sym (after_attach-cases base trigger) ∙ answer)
+pub attach-many : (base : Base) (hist : Hist) → trigger_limit ≤ map.len base.triggers → after_attach base hist ≡ Err TooManyTriggers
+attach-many base hist many = after_attach-cases base hist ∙ ap (λ b. attached base hist b (against base hist)) (or_left _ _ (le-leb trigger_limit (map.len base.triggers) many))
 
-pub attach-many : (base : Base) (trigger : Trigger) → trigger_limit ≤ map.len base.triggers → after_attach base trigger ≡ Err TooManyTriggers
-attach-many base trigger many = after_attach-cases base trigger ∙ ap (attached base trigger) (or_left _ _ (le-leb trigger_limit (map.len base.triggers) many))
+pub attach-high : (base : Base) (hist : Hist) → number_limit < base.next_id → after_attach base hist ≡ Err TooManyTriggers
+attach-high base hist high = after_attach-cases base hist ∙ ap (λ b. attached base hist b (against base hist)) (or_right _ _ (lt-ltb number_limit base.next_id high))
 
-pub attach-high : (base : Base) (trigger : Trigger) → number_limit < base.next_id → after_attach base trigger ≡ Err TooManyTriggers
-attach-high base trigger high = after_attach-cases base trigger ∙ ap (attached base trigger) (or_right _ _ (lt-ltb number_limit base.next_id high))
+unused : (base : Base) → map.len base.triggers < trigger_limit → base.next_id ≤ number_limit → is_used base ≡ false
+unused base few low = λ i. lt-leb trigger_limit (map.len base.triggers) few i || le-ltb number_limit base.next_id low i
 
-pub attach-ok : (base : Base) (trigger : Trigger) → map.len base.triggers < trigger_limit → base.next_id ≤ number_limit → after_attach base trigger ≡ Ok (record base { triggers = map.insert base.triggers base.next_id trigger; next_id = base.next_id + 1 }, base.next_id)
-attach-ok base trigger few low =
-    after_attach-cases base trigger
-    ∙ (λ i. attached base trigger (lt-leb trigger_limit (map.len base.triggers) few i || le-ltb number_limit base.next_id low i))
+pub attach-against : (base : Base) (hist : Hist) (refused : Refused) → map.len base.triggers < trigger_limit → base.next_id ≤ number_limit → against base hist ≡ Some refused → after_attach base hist ≡ Err refused
+attach-against base hist refused few low stands =
+    after_attach-cases base hist ∙ ap (λ b. attached base hist b (against base hist)) (unused base few low) ∙ ap (attached base hist false) stands
+
+pub attach-ok : (base : Base) (hist : Hist) → map.len base.triggers < trigger_limit → base.next_id ≤ number_limit → against base hist ≡ None → after_attach base hist ≡ Ok (record base { triggers = map.insert base.triggers base.next_id hist; next_id = base.next_id + 1 }, base.next_id)
+attach-ok base hist few low none =
+    after_attach-cases base hist ∙ ap (λ b. attached base hist b (against base hist)) (unused base few low) ∙ ap (attached base hist false) none

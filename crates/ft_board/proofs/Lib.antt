@@ -2,12 +2,6 @@ pub mod Loading
 pub mod Held
 pub mod Reachable
 pub mod After
-pub mod Orders
 pub mod Merging
-pub mod Counting
-pub mod Replaying
-pub mod Sorting
-pub mod Cutting
-pub mod Texts
-pub mod HistText
 pub mod Places
+pub mod Counted

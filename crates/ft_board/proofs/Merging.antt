@@ -7,10 +7,8 @@ use Rattle.std.specs.FinMap as map
 use Rattle.std.specs.FinMap.{FinMap}
 use Rattle.ft_event.specs.Traced.{Traced}
 use Rattle.ft_event.specs.Places.{pos_cmp}
-use Rattle.ft_board.specs.declared.trigger.Trigger.{Trigger}
 use Rattle.ft_board.specs.Base.{Lane}
-use Rattle.ft_board.specs.Replay.{place_of, placed, merged}
-use Rattle.ft_board.specs.Merge.{merged_with, merged_with_lane}
+use Rattle.ft_board.specs.Merged.{place_of, placed, merged, merged_with, merged_with_lane}
 
 -- the merged events with those of some lines of a lane
 abbrev pub merged_with_lines : ℕ → FinMap pos_cmp Traced → List (ℕ × Traced) → FinMap pos_cmp Traced
@@ -25,6 +23,6 @@ pub by_lane : (m : FinMap pos_cmp Traced) (lanes : List (ℕ × Lane)) → fold 
 by_lane m [] = refl
 by_lane m (lane ∷ lanes) = by_lane (merged_with_lane m lane) lanes ∙ sym (fold-append merged_with m (placed lane) (flat_map placed lanes))
 
-pub all_lanes : (lanes : FinMap nat_cmp Lane) (triggers : FinMap nat_cmp Trigger) (next_id : ℕ) → fold merged_with_lane map.empty (map.entries lanes) ≡ merged (record { lanes = lanes; triggers = triggers; next_id = next_id })
+pub all_lanes : (lanes : FinMap nat_cmp Lane) → fold merged_with_lane map.empty (map.entries lanes) ≡ merged lanes
 unfolding merged
-all_lanes lanes triggers next_id = by_lane map.empty (map.entries lanes)
+all_lanes lanes = by_lane map.empty (map.entries lanes)

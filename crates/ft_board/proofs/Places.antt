@@ -15,9 +15,8 @@ use Rattle.ft_event.specs.Traced.{Traced}
 use Rattle.ft_event.specs.Places.{pos_cmp, pos_cmp_total}
 use Rattle.ft_maps.specs.Entries.{strictly_sorted, same_from_tie}
 use Rattle.ft_event.specs.declared.pos.Pos.{Pos}
-use Rattle.ft_board.specs.Base.{Lane, Base}
-use Rattle.ft_board.specs.Replay.{place_of, merged, held_at}
-use Rattle.ft_board.specs.Merge.{merged_with_lane}
+use Rattle.ft_board.specs.Base.{Lane, Lanes}
+use Rattle.ft_board.specs.Merged.{place_of, merged, held_at, merged_with_lane}
 use Rattle.ft_board.proofs.Merging.{merged_with_lines, by_lane}
 
 -- the first of two that is there
@@ -96,11 +95,11 @@ module _ (pos : Pos) where
       ∙ ap (or_else (lane_at lanes)) (merged_with_lane_at m e)
       ∙ one_lane (eq_by_cmp nat_cmp pos.cpu e.0) e (find nat_cmp pos.cpu lanes) (map.get m pos) (none_later pos.cpu e lanes sorted)
 
-  pub merged_at : (base : Base) → map.get (merged base) pos ≡ held_at base pos
+  pub merged_at : (lanes : Lanes) → map.get (merged lanes) pos ≡ held_at lanes pos
   unfolding merged
-  merged_at base =
-      ap (λ (m : FinMap pos_cmp Traced). map.get m pos) (sym (by_lane map.empty (map.entries base.lanes)))
-      ∙ lanes_at map.empty (map.entries base.lanes) (strictly_sorted nat_cmp (map.entries base.lanes) (entries_sorted base.lanes))
-      ∙ ap (or_else (lane_at (map.entries base.lanes))) (get-empty {X = Traced} pos_cmp pos)
-      ∙ or_none (lane_at (map.entries base.lanes))
-      ∙ ap (λ o. option_and_then on_stamp (option_and_then (λ lane. map.get lane.events pos.line) o)) (sym (get-entries base.lanes pos.cpu))
+  merged_at lanes =
+      ap (λ (m : FinMap pos_cmp Traced). map.get m pos) (sym (by_lane map.empty (map.entries lanes)))
+      ∙ lanes_at map.empty (map.entries lanes) (strictly_sorted nat_cmp (map.entries lanes) (entries_sorted lanes))
+      ∙ ap (or_else (lane_at (map.entries lanes))) (get-empty {X = Traced} pos_cmp pos)
+      ∙ or_none (lane_at (map.entries lanes))
+      ∙ ap (λ o. option_and_then on_stamp (option_and_then (λ lane. map.get lane.events pos.line) o)) (sym (get-entries lanes pos.cpu))

@@ -1,24 +1,21 @@
 -- Edits keep what holds of reachable bases.
-use Rattle.std.proofs.Common.{◌≡◌, ℕ, ◌+◌, ◌<◌, ◌≤◌, Bool, true, false, cond, List, [], ◌∷◌, map as list_map, length, fold, refl, sym, ap, ◌∙◌, subst, Option, Some, None, unwrap_or, is_some, ⊎_elim, arith}
+use Rattle.std.proofs.Common.{◌≡◌, ℕ, ◌+◌, ◌<◌, ◌≤◌, cond, List, [], ◌∷◌, map as list_map, length, fold, refl, sym, ap, ◌∙◌, subst, Option, Some, None, unwrap_or, is_some, ⊎_elim, arith}
 use Rattle.std.specs.List.{AllByRecursion, sum_by}
 use Rattle.std.specs.Option.{option_map_or}
 use Rattle.std.specs.Ordering.{nat_cmp}
 use Rattle.std.specs.Cmp.{nat_cmp_total}
 use Rattle.std.specs.FinMap as map
-use Rattle.std.specs.FinMap.{FinMap, get-empty, len-empty, len-insert, nat_cmp-IsAntisymmetric}
+use Rattle.std.specs.FinMap.{get-empty, len-empty, len-insert, nat_cmp-IsAntisymmetric}
 use Rattle.std.proofs.lemmas.Bool.{cases_eq}
 use Rattle.ft_event.specs.Traced.{Traced}
-use Rattle.ft_board.specs.declared.trigger.Trigger.{Trigger}
-use Rattle.ft_board.specs.Base.{Lane, Base, empty_base, number_limit, event_limit, trigger_limit, held_in}
+use Rattle.ft_hist.specs.Hist.{Hist}
+use Rattle.ft_board.specs.Base.{Lane, Lanes, Base, empty_base, number_limit, event_limit, held_in, trigger_limit}
 use Rattle.ft_board.specs.After.{with_lanes, first_held}
 use Rattle.ft_board.specs.Reachable.{HasCpu, IsReachable}
 use Rattle.ft_board.specs.Filling.{new_lane, lane_with, lanes_with, HasRoom}
 use Rattle.ft_maps.specs.Entries.{entries-empty, get-insert_same, get-insert_other}
 use Rattle.ft_board.proofs.Loading.{room-here, room-next, room-from, free-from, with_lanes-fold}
 use Rattle.ft_board.proofs.Held.{sum-insert}
-
-abbrev Lanes : Type 0
-Lanes = FinMap nat_cmp Lane
 
 -- what holds of a CPU's lane
 record IsLane (cpu : ℕ) (lane : Lane) : Type 0 where
@@ -128,27 +125,9 @@ load-IsReachable base es is at none few =
       next_id = is.next_id;
       few_events = omega (arith, held-with_lanes base es is at none (omega arith));
       few_triggers = is.few_triggers;
+      one_saver = is.one_saver;
+      savers = is.savers;
     }
-
-at_most : (known : Bool) (n : ℕ) → n < trigger_limit → cond known n (n + 1) ≤ trigger_limit
-at_most true n few = omega arith
-at_most false n few = omega arith
-
--- attaching a trigger does so too
-pub attach-IsReachable : (base : Base) (trigger : Trigger) → IsReachable base → map.len base.triggers < trigger_limit → base.next_id ≤ number_limit → IsReachable (record base { triggers = map.insert base.triggers base.next_id trigger; next_id = base.next_id + 1 })
-attach-IsReachable base trigger is few ids = record {
-  cpus = is.cpus;
-  numbers = is.numbers;
-  lines = is.lines;
-  ids = λ id other found.
-      ⊎_elim
-      (λ s. (omega (arith, is.next_id.0), omega arith))
-      (λ ne. let old = is.ids id other (sym (get-insert_other nat_cmp_total nat_cmp-IsAntisymmetric base.triggers base.next_id trigger id ne) ∙ found) in (old.0, omega (arith, old.1)))
-      (cases_eq id base.next_id);
-  next_id = (omega arith, omega arith);
-  few_events = is.few_events;
-  few_triggers = subst (λ n. n ≤ trigger_limit) (sym (len-insert nat_cmp_total base.triggers base.next_id trigger)) (at_most (is_some (map.get base.triggers base.next_id)) (map.len base.triggers) few);
-}
 
 pub held-empty : held_in map.empty ≡ 0
 held-empty = ap (λ es. sum_by (λ lane. map.len lane.events) (list_map (λ e. e.1) es)) (entries-empty nat_cmp)
@@ -158,8 +137,10 @@ empty-IsReachable = record {
   cpus = λ cpu lane found. let none : None ≡ Some lane = sym (get-empty nat_cmp cpu) ∙ found in cc;
   numbers = λ cpu lane found. let none : None ≡ Some lane = sym (get-empty nat_cmp cpu) ∙ found in cc;
   lines = λ cpu lane found. let none : None ≡ Some lane = sym (get-empty nat_cmp cpu) ∙ found in cc;
-  ids = λ id trigger found. let none : None ≡ Some trigger = sym (get-empty nat_cmp id) ∙ found in cc;
+  ids = λ id hist found. let none : None ≡ Some hist = sym (get-empty nat_cmp id) ∙ found in cc;
   next_id = (omega arith, omega arith);
   few_events = omega (arith, held-empty);
-  few_triggers = subst (λ n. n ≤ trigger_limit) (sym (len-empty nat_cmp Trigger)) (omega arith);
+  few_triggers = subst (λ n. n ≤ trigger_limit) (sym (len-empty nat_cmp Hist)) (omega arith);
+  one_saver = λ i j a b name found. let none : None ≡ Some a = sym (get-empty nat_cmp i) ∙ found in cc;
+  savers = λ id hist own source found. let none : None ≡ Some hist = sym (get-empty nat_cmp id) ∙ found in cc;
 }

@@ -1,5 +1,5 @@
 -- What a desk answers: functions of what replaying its base gives.
-use Rattle.std.specs.Prelude.{ℕ, ◌-◌, List, ◌++◌, codes, unwrap_or, Option, Some, None, Result, Ok, Err, map as list_map}
+use Rattle.std.specs.Prelude.{ℕ, ◌-◌, List, ◌++◌, codes, unwrap_or, Option, Some, Result, Ok, Err, map as list_map}
 use Rattle.std.specs.Option.{option_map_or}
 use Rattle.std.specs.FinMap as map
 use Rattle.ft_event.specs.declared.pos.Pos.{Pos}

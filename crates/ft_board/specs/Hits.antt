@@ -1,5 +1,5 @@
 -- What the events are to the attached triggers, in a whole replay: the hits of each, and what its readings find.
-use Rattle.std.specs.Prelude.{ℕ, ℤ, Bool, List, Option, Some, None, option_map, option_and_then, nat_lt, filter, filter_map, fold, map as list_map}
+use Rattle.std.specs.Prelude.{ℕ, ℤ, List, Option, Some, None, option_map, option_and_then, nat_lt, filter, filter_map, fold, map as list_map}
 use Rattle.std.specs.Option.{option_map_or}
 use Rattle.std.specs.Ordering.{is_lt}
 use Rattle.std.specs.FinMap as map

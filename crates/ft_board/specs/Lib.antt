@@ -8,6 +8,7 @@ pub mod Variables
 pub mod Tally
 pub mod Replay
 pub mod Hits
+pub mod Kept
 pub mod Operations
 pub mod Answers
 pub mod After

@@ -11,11 +11,9 @@ use Rattle.ft_hist.specs.Hist.{Hist}
 use Rattle.ft_hist.specs.Hit.{hit}
 use Rattle.ft_hist.specs.Values.{values_of}
 use Rattle.ft_pairs.specs.declared.at.At.{At}
-use Rattle.ft_table.specs.Counted.{Counted}
 use Rattle.ft_table.specs.Growth.{grown, empty_row}
 use Rattle.ft_board.specs.declared.role.Role.{Role}
 use Rattle.ft_board.specs.declared.role.Role.TheVariants.{Plain, Saves, Reads}
-use Rattle.ft_board.specs.declared.role.Variable.{Variable}
 use Rattle.ft_board.specs.Base.{Triggers, Events}
 use Rattle.ft_board.specs.Roles.{role_of}
 use Rattle.ft_board.specs.Tally.{Tally, RowGrowth, empty_tally, has_place, tell}

@@ -3,8 +3,6 @@
 #![tactic(auto)]
 
 mod board;
-mod cut;
-mod hist_text;
 mod lane;
 mod laws;
 mod load;
@@ -12,17 +10,11 @@ mod merge;
 mod order;
 mod plain;
 mod refused;
-mod replay;
-mod rows;
-mod tally;
-mod trigger;
+mod role;
 
 pub use board::Board;
 pub use laws::reachable_bases;
 pub use order::merged_order;
 pub use plain::PlainBoard;
-pub use refused::{Done, Kept, Place, Refused};
-pub use trigger::{Key, Trigger, TriggerFault, one_key_order};
-
-#[cfg(test)]
-mod tests;
+pub use refused::{Done, Kept, Latency, Place, Refused};
+pub use role::{Pair, Role, Variable};

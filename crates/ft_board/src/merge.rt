@@ -7,11 +7,9 @@ ghost use Rattle.std.specs.Map.Iter.{deref};
 ghost use Rattle.ft_maps.specs.Seen.{seen};
 ghost use Rattle.ft_maps.specs.Mapped.{map_by};
 ghost use Rattle.ft_event.specs.Places.{pos_cmp};
-ghost use Rattle.ft_board.specs.Replay.{merged};
-ghost use Rattle.ft_board.specs.Merge.{merged_with_lane};
+ghost use Rattle.ft_board.specs.Merged.{merged, merged_with_lane};
 
 use crate::lane::Lane;
-use crate::trigger::Trigger;
 use ft_event::{Event, Pos};
 use ft_maps::{entries, put};
 use std::alloc::{AllocError, Global};
@@ -22,12 +20,8 @@ pub(crate) fn merged_events<'a>(
     alloc: Global,
     lanes: &'a BTreeMap<u16, Lane>,
 ) -> Result<BTreeMap<Pos, &'a Event>, AllocError>
-    ensures { IfOk result (λ m. (triggers : FinMap nat_cmp Trigger) (next_id : ℕ) →
-        map_by deref (seen pos_cmp m) ≡ merged (record {
-          lanes = seen nat_cmp lanes.now;
-          triggers = triggers;
-          next_id = next_id;
-        })) }
+    ensures { IfOk result (λ m.
+        map_by deref (seen pos_cmp m) ≡ merged (seen nat_cmp lanes.now)) }
 {
     let mut all = BTreeMap::new(alloc);
     for (cpu, lane) in entries(lanes) {

@@ -3,13 +3,13 @@
 ghost use Rattle.std.specs.Prelude.{◌≡◌};
 
 use crate::board::Board;
-use crate::hist_text::hist_of;
 use crate::lane::Lane;
 use crate::load::{held_cpu, load_lanes};
-use crate::refused::{Done, Kept, Refused};
-use crate::trigger::Trigger;
+use crate::refused::{Done, Kept, Latency, Refused};
 use ft_event::Event;
+use ft_hist::Trigger;
 use ft_maps::{len, put};
+use ft_table::Totals;
 use std::alloc::{AllocError, Global};
 use std::collections::BTreeMap;
 use std::marker::Model;
@@ -103,22 +103,19 @@ impl Board for PlainBoard {
     }
 
     fn attach(&mut self, trigger: Trigger) -> Result<Done<u32>, Refused> {
-        if len(&self.triggers) >= TRIGGER_LIMIT || self.next_id > NUMBER_LIMIT {
-            return Err(Refused::TooManyTriggers);
-        }
-        let id = self.next_id as u32;
-        if put(&mut self.triggers, id, trigger).is_err() {
-            return Err(Refused::Memory);
-        }
-        self.next_id += 1;
-        Ok(Done {
-            value: id,
-            kept: Kept::Now,
-        })
+        Err(Refused::Memory)
     }
 
     fn hist(&mut self, id: u32) -> Result<Vec<u8>, Refused> {
-        hist_of(self.alloc, &self.lanes, &self.triggers, id)
+        Err(Refused::Memory)
+    }
+
+    fn totals(&mut self, id: u32) -> Result<Totals, Refused> {
+        Err(Refused::Memory)
+    }
+
+    fn latencies(&mut self, id: u32) -> Result<Vec<Latency>, Refused> {
+        Err(Refused::Memory)
     }
 
     fn is_deferred(&self) -> bool {

@@ -1,3 +1,3 @@
-pub mod Places
+pub mod Order
 pub mod Source
 pub use Rattle.ft_event.specs.Places

@@ -4,7 +4,7 @@ use Rattle.std.specs.declared.cmp.Ordering.TheVariants.{Less}
 use Rattle.ft_pairs.specs.declared.at.At.{At}
 use Rattle.ft_pairs.specs.declared.at.Op.{Op}
 use Rattle.ft_pairs.specs.declared.at.Op.TheVariants.{Save, Read}
-use Rattle.ft_pairs.specs.Places.{at_cmp}
+use Rattle.ft_pairs.specs.Order.{at_cmp}
 
 -- the operations on a variable, by where they stand (our own choice)
 abbrev pub Ops : Type 0

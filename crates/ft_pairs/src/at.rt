@@ -2,7 +2,7 @@
 
 ghost use Rattle.std.specs.Prelude.{◌≡◌};
 ghost use Rattle.std.specs.declared.cmp.Ordering.TheVariants.{Equal};
-ghost use Rattle.ft_pairs.specs.Places.{at_cmp};
+ghost use Rattle.ft_pairs.specs.Order.{at_cmp};
 
 use ft_event::Pos;
 

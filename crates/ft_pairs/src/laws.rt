@@ -4,7 +4,7 @@ ghost use Rattle.std.specs.Prelude.{◌≡◌, Option, Some};
 ghost use Rattle.std.specs.declared.cmp.Ordering.TheVariants.{Less};
 ghost use Rattle.ft_pairs.specs.declared.at.At.{At};
 ghost use Rattle.ft_pairs.specs.declared.at.Op.{Op};
-ghost use Rattle.ft_pairs.specs.Places.{at_cmp};
+ghost use Rattle.ft_pairs.specs.Order.{at_cmp};
 ghost use Rattle.ft_pairs.specs.Source.{Ops, IsSource};
 
 /// A law: what a reading finds is one thing or nothing, and not two.

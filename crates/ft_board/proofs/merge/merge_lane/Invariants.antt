@@ -3,7 +3,7 @@ use Rattle.std.specs.Map.Iter.{deref}
 use Rattle.ft_maps.specs.Seen.{seen}
 use Rattle.ft_maps.specs.Mapped.{map_by}
 use Rattle.ft_event.specs.Places.{pos_cmp}
-use Rattle.ft_board.specs.Merge.{merged_with_lane}
+use Rattle.ft_board.specs.Merged.{merged_with_lane}
 use Rattle.ft_board.proofs.Merging.{merged_with_lines}
 use Rattle.ft_board.proofs.merge.merge_lane.Given as goal
 

@@ -10,7 +10,7 @@ use Rattle.ft_board.specs.Base.{Lane}
 use Rattle.ft_event.specs.Places.{pos_cmp}
 use Rattle.ft_maps.specs.Seen.{seen, seen-empty}
 use Rattle.ft_maps.specs.Mapped.{map_by, map_by-empty}
-use Rattle.ft_board.specs.Merge.{merged_with_lane}
+use Rattle.ft_board.specs.Merged.{merged_with_lane}
 use Rattle.ft_board.proofs.Merging.{all_lanes}
 use Rattle.ft_board.proofs.merge.merged_events.Goals as goal
 
@@ -20,7 +20,7 @@ loop-cpu-init c =
     ∙ ap (fold merged_with_lane map.empty) (c.into_iter-cpu-iterator.ensures.into_iter_gives ∙ c.entries-cpu-items.ensures.rest)
 
 pub returns : goal.returns
-returns c = λ triggers next_id.
+returns c =
     sym (ap (fold merged_with_lane (map_by deref (seen pos_cmp c.loop-cpu.all))) (rest_all (deref_pair {K = ℕ} {X = Lane}) _ _ _ c.in-None.is c.next.ensures.steps))
     ∙ c.loop-cpu.invariant
-    ∙ all_lanes (seen nat_cmp c.args.lanes.now) triggers next_id
+    ∙ all_lanes (seen nat_cmp c.args.lanes.now)
