@@ -17,6 +17,9 @@ python3 "$here/make_trace.py" "$events" >"$trace"
 printf 'load @1\n' >"$folder/load"
 printf 'load @1\nattach sched_waking hist:keys=pid\nhist 1\n' >"$folder/hist"
 printf 'load @1\nattach sched_waking hist:keys=pid if comm ~ "*r*k*" && prio < 130\nhist 1\n' >"$folder/filter"
+printf 'load @1\nattach sched_waking hist:keys=comm:vals=prio\nhist 1\n' >"$folder/sum"
+printf '%s\n' 'load @1' 'attach sched_waking hist:keys=pid:ts0=common_timestamp.usecs' \
+    'attach sched_switch hist:keys=next_pid:vals=$lat:lat=common_timestamp.usecs-$ts0' 'lat 2' >"$folder/pair"
 
 # The least time of some runs of a command, in milliseconds.
 least() {
@@ -46,3 +49,5 @@ row "read the file alone" "$(least "$histdesk" "$folder/nothing" "$trace")" "$wc
 row "load" "$(least "$histdesk" "$folder/load" "$trace")" "$wc_ms"
 row "load, attach, hist" "$(least "$histdesk" "$folder/hist" "$trace")" "$wc_ms"
 row "the same with a filter" "$(least "$histdesk" "$folder/filter" "$trace")" "$wc_ms"
+row "a table by comm, with a sum" "$(least "$histdesk" "$folder/sum" "$trace")" "$wc_ms"
+row "wakeup latencies, listed" "$(least "$histdesk" "$folder/pair" "$trace")" "$wc_ms"
