@@ -5,3 +5,6 @@ pub mod After
 pub mod Merging
 pub mod Places
 pub mod Counted
+pub mod Entries
+pub mod KeysApart
+pub mod Growing
