@@ -8,3 +8,4 @@ pub mod Counted
 pub mod Entries
 pub mod KeysApart
 pub mod Growing
+pub mod Shown
