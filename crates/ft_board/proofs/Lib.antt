@@ -5,3 +5,5 @@ pub mod After
 pub mod Merging
 pub mod Places
 pub mod Counted
+pub mod Replayed
+pub mod Acts
