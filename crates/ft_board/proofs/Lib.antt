@@ -7,3 +7,7 @@ pub mod Places
 pub mod Counted
 pub mod Replayed
 pub mod Acts
+pub mod Apart
+pub mod Acting
+pub mod Rooms
+pub mod Telling
