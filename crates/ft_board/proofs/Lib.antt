@@ -9,3 +9,9 @@ pub mod Entries
 pub mod KeysApart
 pub mod Growing
 pub mod Shown
+pub mod Replayed
+pub mod Acts
+pub mod Apart
+pub mod Acting
+pub mod Rooms
+pub mod Telling
