@@ -5,7 +5,6 @@ pub mod After
 pub mod Merging
 pub mod Places
 pub mod Counted
-pub mod Entries
 pub mod KeysApart
 pub mod Growing
 pub mod Shown
@@ -15,3 +14,4 @@ pub mod Apart
 pub mod Acting
 pub mod Rooms
 pub mod Telling
+pub mod Listed
