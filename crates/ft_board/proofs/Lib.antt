@@ -15,3 +15,4 @@ pub mod Acting
 pub mod Rooms
 pub mod Telling
 pub mod Listed
+pub mod Tallied
