@@ -11,3 +11,4 @@ pub mod Apart
 pub mod Acting
 pub mod Rooms
 pub mod Telling
+pub mod Reached
