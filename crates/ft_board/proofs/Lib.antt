@@ -16,3 +16,4 @@ pub mod Rooms
 pub mod Telling
 pub mod Listed
 pub mod Tallied
+pub mod Reached

@@ -217,7 +217,7 @@ module _ (size : ℕ → ℕ) (role : ℕ → Role) (growth : Act → RowGrowth)
       behind front [] rest state whole there tallies variables = subst (λ (xs : List Act). Holds xs state) (sym (append-nil front)) (tallies, variables)
       behind front (a ∷ mid) rest state whole there tallies variables =
           let one : Next front a (mid ++ rest) state whole there.0 tallies variables (act (size a.at.trigger) (role a.at.trigger) (growth a) state a.at a.key) =
-              next front a (mid ++ rest) state whole there.0 tallies variables
+          next front a (mid ++ rest) state whole there.0 tallies variables
           in
           subst (λ (xs : List Act). Holds xs (run size role growth state (a ∷ mid))) (append_assoc front (a ∷ []) mid)
           (behind (front ++ a ∷ []) mid rest (act (size a.at.trigger) (role a.at.trigger) (growth a) state a.at a.key) (whole ∙ sym (append_assoc front (a ∷ []) (mid ++ rest))) there.1 one.0 one.1)
