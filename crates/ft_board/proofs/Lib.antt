@@ -17,3 +17,5 @@ pub mod Telling
 pub mod Listed
 pub mod Tallied
 pub mod Reached
+pub mod KeptMaps
+pub mod Replaying
