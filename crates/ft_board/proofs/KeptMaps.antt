@@ -37,6 +37,7 @@ find-readings at (found ∷ hits) up = from found.saved refl (eq_by_cmp pos_cmp 
   where
     none_later : eq_by_cmp pos_cmp at found.pos ≡ true → hit_in hits at ≡ None
     none_later tie = none_in at hits (subst (λ p. AreBehind p hits) (sym (same_from_tie pos_same at found.pos tie)) (sorted_head pos_cmp found.pos (list_map place_of hits) up))
+
     from : (o : Option Pos) → found.saved ≡ o → (b : Bool) → eq_by_cmp pos_cmp at found.pos ≡ b → find pos_cmp at (filter_map reading hits) ≡ saved_of (hit_in hits at)
         → find pos_cmp at (cons_option (option_map (λ (saved : Pos). (found.pos, saved)) o) (filter_map reading hits)) ≡ saved_of (cond b (Some found) (hit_in hits at))
     from None is true tie rest = rest ∙ ap saved_of (none_later tie) ∙ sym is
@@ -88,6 +89,6 @@ module _ (triggers : Triggers) (events : Events) (id : ℕ) where
       let hits : List TriggerHit = trigger_hits triggers events id in
       let up : Ascend hits = trigger_hits_ascend triggers events id in
       let map_is : readings ≡ map.from_entries (filter_map reading hits) =
-        same_map pos_cmp_total pos_same _ _ (λ at.
-        is at ∙ ap saved_of (sym (hit_in-trigger_hits triggers events id at)) ∙ sym (find-readings at hits up) ∙ sym (get-from_entries pos_cmp_total (filter_map reading hits) at)) in
+      same_map pos_cmp_total pos_same _ _ (λ at.
+      is at ∙ ap saved_of (sym (hit_in-trigger_hits triggers events id at)) ∙ sym (find-readings at hits up) ∙ sym (get-from_entries pos_cmp_total (filter_map reading hits) at)) in
       ap (list_map paired) (ap map.entries map_is ∙ entries-from_entries pos_cmp_total (filter_map reading hits) (readings_ascend hits up)) ∙ pairs-readings hits

@@ -90,8 +90,8 @@ get-with_all hits (first ∷ found) up q =
     from true tie =
         let at : q ≡ mark_of first = same_from_tie mark_same q (mark_of first) tie in
         let none : find mark_cmp q (list_map entry_of found) ≡ None =
-          find-entries q found (sorted_tail pos_cmp first.pos (list_map place_of found) up)
-          ∙ ap (values_under q.key) (none_in q.pos found (subst (λ (m : Mark). AreBehind m.pos found) (sym at) (sorted_head pos_cmp first.pos (list_map place_of found) up))) in
+        find-entries q found (sorted_tail pos_cmp first.pos (list_map place_of found) up)
+        ∙ ap (values_under q.key) (none_in q.pos found (subst (λ (m : Mark). AreBehind m.pos found) (sym at) (sorted_head pos_cmp first.pos (list_map place_of found) up))) in
         ap (λ o. or_else o (Some first.values)) none
     from false apart = refl
 
