@@ -82,13 +82,26 @@ module _ (triggers : Triggers) (events : Events) (id : ℕ) where
   pub values-are : (values : Hits) → ((m : Mark) → map.get values m ≡ values_found triggers events id m) → values ≡ hits_of triggers events id
   values-are values is = same_map mark_cmp_total mark_same _ _ (λ m. is m ∙ sym (get-hits_of triggers events id m))
 
-  -- a map that holds what each reading found has the trigger's pairs
-  pub pairs-are : (readings : FinMap pos_cmp Pos) → ((at : Pos) → map.get readings at ≡ saving_found triggers events id at) → pairs_in readings ≡ pairs_of triggers events id
-  unfolding saving_found pairs_of
-  pairs-are readings is =
-      let hits : List TriggerHit = trigger_hits triggers events id in
-      let up : Ascend hits = trigger_hits_ascend triggers events id in
-      let map_is : readings ≡ map.from_entries (filter_map reading hits) =
-      same_map pos_cmp_total pos_same _ _ (λ at.
-      is at ∙ ap saved_of (sym (hit_in-trigger_hits triggers events id at)) ∙ sym (find-readings at hits up) ∙ sym (get-from_entries pos_cmp_total (filter_map reading hits) at)) in
-      ap (list_map paired) (ap map.entries map_is ∙ entries-from_entries pos_cmp_total (filter_map reading hits) (readings_ascend hits up)) ∙ pairs-readings hits
+  -- the readings of a trigger's hits, by place
+  abbrev readings : FinMap pos_cmp Pos
+  readings = map.from_entries (filter_map reading (trigger_hits triggers events id))
+
+  get-readings : (at : Pos) → map.get readings at ≡ saving_found triggers events id at
+  unfolding saving_found
+  get-readings at =
+      get-from_entries pos_cmp_total (filter_map reading (trigger_hits triggers events id)) at
+      ∙ find-readings at (trigger_hits triggers events id) (trigger_hits_ascend triggers events id) ∙ ap saved_of (hit_in-trigger_hits triggers events id at)
+
+  pairs-readings_of : pairs_of triggers events id ≡ pairs_in readings
+  unfolding pairs_of
+  pairs-readings_of =
+      sym (ap (list_map paired) (entries-from_entries pos_cmp_total (filter_map reading (trigger_hits triggers events id)) (readings_ascend (trigger_hits triggers events id) (trigger_hits_ascend triggers events id)))
+      ∙ pairs-readings (trigger_hits triggers events id))
+
+  -- a trigger's pairs are those of a map that holds what each reading found
+  pub pairs-found : (found : FinMap pos_cmp Pos) × (((at : Pos) → map.get found at ≡ saving_found triggers events id at) × (pairs_of triggers events id ≡ pairs_in found))
+  pairs-found = (readings, (get-readings, pairs-readings_of))
+
+  -- and there is no other such map
+  pub pairs-are : (found : FinMap pos_cmp Pos) → ((at : Pos) → map.get found at ≡ saving_found triggers events id at) → pairs_in found ≡ pairs_of triggers events id
+  pairs-are found is = ap pairs_in (same_map pos_cmp_total pos_same found readings (λ at. is at ∙ sym (get-readings at))) ∙ sym pairs-readings_of

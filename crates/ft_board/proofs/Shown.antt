@@ -1,11 +1,10 @@
 -- What is read off a table's tally is what the table shows.
 use Rattle.std.proofs.Common.{◌≡◌, ℕ, ◌+◌, List, [], ◌∷◌, map as list_map, refl, sym, ap, subst, ◌∙◌, Some, None}
-use Rattle.std.specs.Prelude.{fold, IsPermutation, IsSorted}
+use Rattle.std.specs.Prelude.{cond, fold, IsPermutation, IsSorted}
 use Rattle.std.specs.List.{IsDistinct, sum_by}
 use Rattle.std.specs.declared.cmp.Ordering.{Ordering}
 use Rattle.std.specs.declared.cmp.Ordering.TheVariants.{Less, Equal, Greater}
 use Rattle.std.specs.Ordering.{is_eq}
-use Rattle.std.specs.Prelude.{cond}
 use Rattle.std.specs.FinMap as map
 use Rattle.std.specs.FinMap.{find, put, entries-insert, get-entries}
 use Rattle.std.specs.FinMap.Entries.{by_order}

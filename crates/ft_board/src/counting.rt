@@ -24,8 +24,9 @@ ghost use Rattle.ft_board.specs.declared.role.Pair.{Pair};
 
 /// A law: replaying gives each attached trigger the tally of the table that its hits make, with
 /// the pairs of its readings, and no other trigger has a tally. The hits are at each place and key
-/// what the trigger's hit there adds. The tally's rows and totals are those of the table, and its
-/// keys those with a hit and with fewer than `size` other keys that have an earlier first hit.
+/// what the trigger's hit there adds; the pairs are what each reading found, in merged order of
+/// the reading. The tally's rows and totals are those of the table, and its keys those with a hit
+/// and with fewer than `size` other keys that have an earlier first hit.
 pub fn counted_hits()
     ensures tally { (triggers : Triggers) (events : Events) (id : ℕ) (hist : Hist)
         → map.get triggers id ≡ Some hist
@@ -36,6 +37,10 @@ pub fn counted_hits()
         → map.get triggers id ≡ None → map.get (replay triggers events).tallies id ≡ None }
     ensures hits { (triggers : Triggers) (events : Events) (id : ℕ) (mark : Mark)
         → map.get (hits_of triggers events id) mark ≡ values_found triggers events id mark }
+    ensures pairs { (triggers : Triggers) (events : Events) (id : ℕ)
+        → (readings : FinMap pos_cmp Pos)
+        × (((at : Pos) → map.get readings at ≡ saving_found triggers events id at)
+        × (pairs_of triggers events id ≡ pairs_in readings)) }
     ensures row { (table : Tabled) (pairs : List Pair) (key : List Part)
         → map.get (tally_of table pairs).table key ≡ row_at table key }
     ensures rows { (table : Tabled) (pairs : List Pair) (sort : List SortItem)

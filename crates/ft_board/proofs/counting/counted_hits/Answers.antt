@@ -1,4 +1,5 @@
 use Rattle.ft_board.proofs.Growing.{get-tally}
+use Rattle.ft_board.proofs.KeptMaps.{pairs-found}
 use Rattle.ft_board.proofs.Listed.{get-hits_of}
 use Rattle.ft_board.proofs.Replayed.{replayed_none}
 use Rattle.ft_board.proofs.Replaying.{tally-replayed, admitted-rank}
@@ -13,6 +14,9 @@ returns-clause-none c = replayed_none
 
 pub returns-clause-hits : goal.returns-clause-hits
 returns-clause-hits c = get-hits_of
+
+pub returns-clause-pairs : goal.returns-clause-pairs
+returns-clause-pairs c = pairs-found
 
 pub returns-clause-row : goal.returns-clause-row
 returns-clause-row c = get-tally
