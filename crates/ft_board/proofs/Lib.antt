@@ -5,3 +5,17 @@ pub mod After
 pub mod Merging
 pub mod Places
 pub mod Counted
+pub mod KeysApart
+pub mod Growing
+pub mod Shown
+pub mod Replayed
+pub mod Acts
+pub mod Apart
+pub mod Acting
+pub mod Rooms
+pub mod Telling
+pub mod Listed
+pub mod Tallied
+pub mod Reached
+pub mod KeptMaps
+pub mod Replaying

@@ -3,6 +3,7 @@
 #![tactic(auto)]
 
 mod board;
+mod counting;
 mod lane;
 mod laws;
 mod load;
@@ -13,6 +14,7 @@ mod refused;
 mod role;
 
 pub use board::Board;
+pub use counting::{counted_hits, kept_maps};
 pub use laws::reachable_bases;
 pub use order::merged_order;
 pub use plain::PlainBoard;
