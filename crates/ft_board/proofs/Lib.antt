@@ -12,3 +12,7 @@ pub mod Acting
 pub mod Rooms
 pub mod Telling
 pub mod Reached
+pub mod ActAt
+pub mod Sources
+pub mod Matched
+pub mod Savers

@@ -6,6 +6,7 @@ mod board;
 mod lane;
 mod laws;
 mod load;
+mod matching;
 mod merge;
 mod order;
 mod plain;
@@ -14,6 +15,7 @@ mod role;
 
 pub use board::Board;
 pub use laws::reachable_bases;
+pub use matching::{matched_readings, one_saver};
 pub use order::merged_order;
 pub use plain::PlainBoard;
 pub use refused::{Done, Kept, Latency, Place, Refused};
