@@ -16,3 +16,4 @@ pub mod ActAt
 pub mod Sources
 pub mod Matched
 pub mod Savers
+pub mod Elsewhere

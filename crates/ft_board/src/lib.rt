@@ -15,7 +15,7 @@ mod role;
 
 pub use board::Board;
 pub use laws::reachable_bases;
-pub use matching::{matched_readings, one_saver};
+pub use matching::{matched_readings, one_saver, same_elsewhere};
 pub use order::merged_order;
 pub use plain::PlainBoard;
 pub use refused::{Done, Kept, Latency, Place, Refused};

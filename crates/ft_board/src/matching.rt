@@ -1,17 +1,24 @@
 //! Laws of variables in a whole replay: what readings find, and what that depends on.
 
 ghost use Rattle.std.specs.Prelude.{◌≡◌, ℕ, ◌≤◌, List, Some, true, option_map};
+ghost use Rattle.std.specs.declared.cmp.Ordering.TheVariants.{Less};
 ghost use Rattle.std.specs.FinMap as map;
 ghost use Rattle.std.specs.List.{All};
+ghost use Rattle.ft_hist.specs.declared.label.Var.TheVariants as vars;
 ghost use Rattle.ft_hist.specs.Hist.{Hist};
 ghost use Rattle.ft_pairs.specs.declared.at.At.{At};
+ghost use Rattle.ft_pairs.specs.declared.at.Op.{Op};
+ghost use Rattle.ft_pairs.specs.declared.at.Op.TheVariants.{Read};
+ghost use Rattle.ft_pairs.specs.Order.{at_cmp};
 ghost use Rattle.ft_pairs.specs.Source.{IsSource};
+ghost use Rattle.ft_board.specs.declared.role.Role.TheVariants.{Reads};
 ghost use Rattle.ft_board.specs.declared.role.Variable.{Variable};
 ghost use Rattle.ft_board.specs.Base.{Triggers, Events};
-ghost use Rattle.ft_board.specs.Hits.{found_at, pairs_of};
-ghost use Rattle.ft_board.specs.Operations.{ops_on};
+ghost use Rattle.ft_board.specs.Hits.{found_at, hit_at, pairs_of};
+ghost use Rattle.ft_board.specs.Operations.{is_admitted, ops_on};
 ghost use Rattle.ft_board.specs.Reachable.{HasOneSaver};
-ghost use Rattle.ft_board.specs.Roles.{saves_name, saver_of};
+ghost use Rattle.ft_board.specs.Replay.{replay};
+ghost use Rattle.ft_board.specs.Roles.{role_at, role_of, saves_name, saver_of};
 
 /// A law: what a reading finds as events are replayed is the last operation on its variable before
 /// it, where that is a saving; where it is a reading, or none stands before, the reading finds
@@ -26,11 +33,57 @@ pub fn matched_readings()
         → All (λ pair. pair.saved.stamp ≤ pair.read.stamp) (pairs_of triggers events id) }
 {}
 
+/// A law: what changes elsewhere changes nothing here. Where a place has the event and the trigger
+/// that it had, with the same role, and other triggers or events changed:
+///
+/// - its hit is what it was, if its reading, where it reads, finds what it found;
+/// - an operation is what it was, if its variable's saver still has the variable's key in its
+///   table, or still hasn't.
+///
+/// And a reading finds what it found, if the operations on its variable before it are what they
+/// were, or those back to one that stayed.
+pub fn same_elsewhere()
+    ensures hits { (triggers others : Triggers) (events more : Events) (at : At)
+        → map.get others at.trigger ≡ map.get triggers at.trigger
+        → role_at others at.trigger ≡ role_at triggers at.trigger
+        → map.get more at.pos ≡ map.get events at.pos
+        → ((variable : Variable) → ops_on triggers events variable at ≡ Some Read
+        → found_at others more variable at ≡ found_at triggers events variable at)
+        → hit_at others more at.trigger at.pos ≡ hit_at triggers events at.trigger at.pos }
+    ensures ops { (triggers others : Triggers) (events more : Events) (at : At)
+        → map.get others at.trigger ≡ map.get triggers at.trigger
+        → role_at others at.trigger ≡ role_at triggers at.trigger
+        → map.get more at.pos ≡ map.get events at.pos
+        → (variable : Variable)
+        → is_admitted (replay others more) variable.saver variable.key
+        ≡ is_admitted (replay triggers events) variable.saver variable.key
+        → ops_on others more variable at ≡ ops_on triggers events variable at }
+    ensures front { (triggers others : Triggers) (events more : Events)
+        (variable : Variable) (at : At)
+        → ((q : At) → at_cmp q at ≡ Less
+        → ops_on others more variable q ≡ ops_on triggers events variable q)
+        → found_at others more variable at ≡ found_at triggers events variable at }
+    ensures behind { (triggers others : Triggers) (events more : Events)
+        (variable : Variable) (at mid : At) (op : Op)
+        → ops_on triggers events variable mid ≡ Some op
+        → ops_on others more variable mid ≡ Some op → at_cmp mid at ≡ Less
+        → ((q : At) → at_cmp mid q ≡ Less → at_cmp q at ≡ Less
+        → ops_on others more variable q ≡ ops_on triggers events variable q)
+        → found_at others more variable at ≡ found_at triggers events variable at }
+{
+    ft_pairs::one_source();
+    ft_pairs::local_sources();
+}
+
 /// A law: where no two attached triggers save one name, the saver of a name is the trigger that
-/// saves it.
+/// saves it, and those who read the name read that trigger's variables.
 pub fn one_saver()
-    ensures { (triggers : Triggers) → HasOneSaver triggers
+    ensures saver { (triggers : Triggers) → HasOneSaver triggers
         → (name : List ℕ) (id : ℕ) (hist : Hist)
         → map.get triggers id ≡ Some hist → saves_name name hist.variable ≡ true
         → saver_of triggers name ≡ Some id }
+    ensures role { (triggers : Triggers) → HasOneSaver triggers
+        → (name : List ℕ) (id : ℕ) (hist : Hist)
+        → map.get triggers id ≡ Some hist → saves_name name hist.variable ≡ true
+        → (own : List ℕ) → role_of triggers (Some (vars.Reads own name)) ≡ Reads id }
 {}
