@@ -19,6 +19,7 @@ use Rattle.ft_board.specs.declared.role.Role.{Role}
 use Rattle.ft_board.specs.declared.role.Role.TheVariants.{Plain, Saves, Reads}
 use Rattle.ft_board.specs.declared.role.Variable.{Variable}
 use Rattle.ft_board.specs.Base.{Triggers, Events}
+use Rattle.ft_board.specs.Elsewhere.{IsSameAct, FindsTheSame, AdmitsTheSame}
 use Rattle.ft_board.specs.Hits.{TriggerHit, found_at, read_as, hit_at}
 use Rattle.ft_board.specs.Operations.{is_admitted, op_as, ops_on}
 use Rattle.ft_board.specs.Replay.{replay, values_at}
@@ -33,7 +34,7 @@ at_both f attached held = option_and_then (λ event. option_and_then (f event) a
 module _ (triggers others : Triggers) (events more : Events) where
   -- ---- operations
 
-  module _ (variable : Variable) (alike : is_admitted (replay others more) variable.saver variable.key ≡ is_admitted (replay triggers events) variable.saver variable.key) where
+  module _ (variable : Variable) (alike : AdmitsTheSame triggers others events more variable) where
     op_alike : (r : Role) (id : ℕ) (key : List Part) → op_as (is_admitted (replay others more)) r variable id key ≡ op_as (is_admitted (replay triggers events)) r variable id key
     op_alike Plain id key = refl
     op_alike Saves id key = elim (eq_by_cmp variable_cmp variable (record { saver = id; key = key })) as (λ b. eq_by_cmp variable_cmp variable (record { saver = id; key = key }) ≡ b
@@ -45,22 +46,17 @@ module _ (triggers others : Triggers) (events more : Events) where
         ] refl
     op_alike (Reads saver) id key = refl
 
-  module _ (at : At) (trigger : map.get others at.trigger ≡ map.get triggers at.trigger) (role : role_at others at.trigger ≡ role_at triggers at.trigger)
-      (event : map.get more at.pos ≡ map.get events at.pos) where
-    pub same_op : (variable : Variable) → is_admitted (replay others more) variable.saver variable.key ≡ is_admitted (replay triggers events) variable.saver variable.key
-        → ops_on others more variable at ≡ ops_on triggers events variable at
+  module _ (at : At) (act : IsSameAct triggers others events more at) where
+    pub same_op : (variable : Variable) → AdmitsTheSame triggers others events more variable → ops_on others more variable at ≡ ops_on triggers events variable at
     unfolding ops_on
     same_op variable alike =
-        ap (at_both (λ e h. option_and_then (op_as (is_admitted (replay others more)) (role_at others at.trigger) variable at.trigger) (hit h e)) (map.get others at.trigger)) event
-        ∙ ap (λ o. at_both (λ e h. option_and_then (op_as (is_admitted (replay others more)) (role_at others at.trigger) variable at.trigger) (hit h e)) o (map.get events at.pos)) trigger
-        ∙ ap (λ r. at_both (λ e h. option_and_then (op_as (is_admitted (replay others more)) r variable at.trigger) (hit h e)) (map.get triggers at.trigger) (map.get events at.pos)) role
+        ap (at_both (λ e h. option_and_then (op_as (is_admitted (replay others more)) (role_at others at.trigger) variable at.trigger) (hit h e)) (map.get others at.trigger)) act.event
+        ∙ ap (λ o. at_both (λ e h. option_and_then (op_as (is_admitted (replay others more)) (role_at others at.trigger) variable at.trigger) (hit h e)) o (map.get events at.pos)) act.trigger
+        ∙ ap (λ r. at_both (λ e h. option_and_then (op_as (is_admitted (replay others more)) r variable at.trigger) (hit h e)) (map.get triggers at.trigger) (map.get events at.pos)) act.role
         ∙ ap (λ (f : List Part → Option Op). at_both (λ e h. option_and_then f (hit h e)) (map.get triggers at.trigger) (map.get events at.pos))
         (λ i key. op_alike variable alike (role_at triggers at.trigger) at.trigger key i)
 
     -- ---- hits
-
-    abbrev SameReadings : Type 0
-    SameReadings = (variable : Variable) → ops_on triggers events variable at ≡ Some Read → found_at others more variable at ≡ found_at triggers events variable at
 
     -- the hit of a trigger with a role at an event with a key, by what is found
     abbrev hit_as : (Variable → Option Pos) → Hist → Traced → List Part → Role → Option TriggerHit
@@ -73,7 +69,7 @@ module _ (triggers others : Triggers) (events more : Events) where
 
       role_other-is : role_of others hist.variable ≡ role_of triggers hist.variable
       unfolding role_at
-      role_other-is = sym (ap (λ (o : Option Hist). option_map_or (λ h. role_of others h.variable) o Plain) (trigger ∙ attached)) ∙ role ∙ role-is
+      role_other-is = sym (ap (λ (o : Option Hist). option_map_or (λ h. role_of others h.variable) o Plain) (act.trigger ∙ attached)) ∙ act.role ∙ role-is
 
       reads-is : (e : Traced) (key : List Part) (saver : ℕ) → map.get events at.pos ≡ Some e → hit hist e ≡ Some key → role_of triggers hist.variable ≡ Reads saver
           → ops_on triggers events (record { saver = saver; key = key }) at ≡ Some Read
@@ -87,7 +83,7 @@ module _ (triggers others : Triggers) (events more : Events) where
           ∙ ap (λ r. op r key) (role-is ∙ reads)
           ∙ ap (λ b. cond b (Some Read) None) ((eq_by_cmp_equiv variable_cmp_total).refl variable)
 
-      same_with : SameReadings → (e : Traced) (key : List Part) → map.get events at.pos ≡ Some e → hit hist e ≡ Some key → (r : Role) → role_of triggers hist.variable ≡ r
+      same_with : FindsTheSame triggers others events more at → (e : Traced) (key : List Part) → map.get events at.pos ≡ Some e → hit hist e ≡ Some key → (r : Role) → role_of triggers hist.variable ≡ r
           → hit_as (λ variable. found_at others more variable at) hist e key r ≡ hit_as (λ variable. found_at triggers events variable at) hist e key r
       same_with same e key held is Plain _ = refl
       same_with same e key held is Saves _ = refl
@@ -95,11 +91,11 @@ module _ (triggers others : Triggers) (events more : Events) where
           ap (λ o. option_map (λ saved. record { pos = at.pos; key = key; saved = saved; values = values_at hist at.pos e saved }) (option_map (λ saved. Some saved) o))
           (same (record { saver = saver; key = key }) (reads-is e key saver held is reads))
 
-    pub same_hit : SameReadings → hit_at others more at.trigger at.pos ≡ hit_at triggers events at.trigger at.pos
+    pub same_hit : FindsTheSame triggers others events more at → hit_at others more at.trigger at.pos ≡ hit_at triggers events at.trigger at.pos
     unfolding hit_at
     same_hit same =
-        ap (at_both (λ e h. option_and_then (λ key. hit_as (λ variable. found_at others more variable at) h e key (role_of others h.variable)) (hit h e)) (map.get others at.trigger)) event
-        ∙ ap (λ o. at_both (λ e h. option_and_then (λ key. hit_as (λ variable. found_at others more variable at) h e key (role_of others h.variable)) (hit h e)) o (map.get events at.pos)) trigger
+        ap (at_both (λ e h. option_and_then (λ key. hit_as (λ variable. found_at others more variable at) h e key (role_of others h.variable)) (hit h e)) (map.get others at.trigger)) act.event
+        ∙ ap (λ o. at_both (λ e h. option_and_then (λ key. hit_as (λ variable. found_at others more variable at) h e key (role_of others h.variable)) (hit h e)) o (map.get events at.pos)) act.trigger
         ∙ elim (map.get events at.pos) as (λ o. map.get events at.pos ≡ o
         → at_both (λ e h. option_and_then (λ key. hit_as (λ variable. found_at others more variable at) h e key (role_of others h.variable)) (hit h e)) (map.get triggers at.trigger) o
         ≡ at_both (λ e h. option_and_then (λ key. hit_as (λ variable. found_at triggers events variable at) h e key (role_of triggers h.variable)) (hit h e)) (map.get triggers at.trigger) o) [

@@ -10,6 +10,7 @@ pub mod Replay
 pub mod Hits
 pub mod Kept
 pub mod Operations
+pub mod Elsewhere
 pub mod Answers
 pub mod After
 pub mod Reachable

@@ -8,17 +8,16 @@ ghost use Rattle.ft_hist.specs.declared.label.Var.TheVariants as vars;
 ghost use Rattle.ft_hist.specs.Hist.{Hist};
 ghost use Rattle.ft_pairs.specs.declared.at.At.{At};
 ghost use Rattle.ft_pairs.specs.declared.at.Op.{Op};
-ghost use Rattle.ft_pairs.specs.declared.at.Op.TheVariants.{Read};
 ghost use Rattle.ft_pairs.specs.Order.{at_cmp};
 ghost use Rattle.ft_pairs.specs.Source.{IsSource};
 ghost use Rattle.ft_board.specs.declared.role.Role.TheVariants.{Reads};
 ghost use Rattle.ft_board.specs.declared.role.Variable.{Variable};
 ghost use Rattle.ft_board.specs.Base.{Triggers, Events};
+ghost use Rattle.ft_board.specs.Elsewhere.{IsSameAct, FindsTheSame, AdmitsTheSame, OperatesTheSame};
 ghost use Rattle.ft_board.specs.Hits.{found_at, hit_at, pairs_of};
-ghost use Rattle.ft_board.specs.Operations.{is_admitted, ops_on};
+ghost use Rattle.ft_board.specs.Operations.{ops_on};
 ghost use Rattle.ft_board.specs.Reachable.{HasOneSaver};
-ghost use Rattle.ft_board.specs.Replay.{replay};
-ghost use Rattle.ft_board.specs.Roles.{role_at, role_of, saves_name, saver_of};
+ghost use Rattle.ft_board.specs.Roles.{role_of, saves_name, saver_of};
 
 /// A law: what a reading finds as events are replayed is the last operation on its variable before
 /// it, where that is a saving; where it is a reading, or none stands before, the reading finds
@@ -33,42 +32,33 @@ pub fn matched_readings()
         → All (λ pair. pair.saved.stamp ≤ pair.read.stamp) (pairs_of triggers events id) }
 {}
 
-/// A law: what changes elsewhere changes nothing here. Where a place has the event and the trigger
-/// that it had, with the same role, and other triggers or events changed:
+/// A law: what changes elsewhere changes nothing here. Where a place keeps its event, its trigger
+/// and the trigger's role, and other triggers or events change:
 ///
-/// - its hit is what it was, if its reading, where it reads, finds what it found;
-/// - an operation is what it was, if its variable's saver still has the variable's key in its
-///   table, or still hasn't.
+/// - its hit is what it was, if its reading, where it is one, finds what it found;
+/// - its operation on a variable is what it was, if the saver has the variable's key in its table
+///   just where it had.
 ///
 /// And a reading finds what it found, if the operations on its variable before it are what they
-/// were, or those back to one that stayed.
+/// were, or those back to one that stays.
 pub fn same_elsewhere()
     ensures hits { (triggers others : Triggers) (events more : Events) (at : At)
-        → map.get others at.trigger ≡ map.get triggers at.trigger
-        → role_at others at.trigger ≡ role_at triggers at.trigger
-        → map.get more at.pos ≡ map.get events at.pos
-        → ((variable : Variable) → ops_on triggers events variable at ≡ Some Read
-        → found_at others more variable at ≡ found_at triggers events variable at)
+        → IsSameAct triggers others events more at → FindsTheSame triggers others events more at
         → hit_at others more at.trigger at.pos ≡ hit_at triggers events at.trigger at.pos }
     ensures ops { (triggers others : Triggers) (events more : Events) (at : At)
-        → map.get others at.trigger ≡ map.get triggers at.trigger
-        → role_at others at.trigger ≡ role_at triggers at.trigger
-        → map.get more at.pos ≡ map.get events at.pos
-        → (variable : Variable)
-        → is_admitted (replay others more) variable.saver variable.key
-        ≡ is_admitted (replay triggers events) variable.saver variable.key
-        → ops_on others more variable at ≡ ops_on triggers events variable at }
+        → IsSameAct triggers others events more at
+        → (variable : Variable) → AdmitsTheSame triggers others events more variable
+        → OperatesTheSame triggers others events more variable at }
     ensures front { (triggers others : Triggers) (events more : Events)
         (variable : Variable) (at : At)
-        → ((q : At) → at_cmp q at ≡ Less
-        → ops_on others more variable q ≡ ops_on triggers events variable q)
+        → ((q : At) → at_cmp q at ≡ Less → OperatesTheSame triggers others events more variable q)
         → found_at others more variable at ≡ found_at triggers events variable at }
     ensures behind { (triggers others : Triggers) (events more : Events)
         (variable : Variable) (at mid : At) (op : Op)
         → ops_on triggers events variable mid ≡ Some op
-        → ops_on others more variable mid ≡ Some op → at_cmp mid at ≡ Less
+        → OperatesTheSame triggers others events more variable mid → at_cmp mid at ≡ Less
         → ((q : At) → at_cmp mid q ≡ Less → at_cmp q at ≡ Less
-        → ops_on others more variable q ≡ ops_on triggers events variable q)
+        → OperatesTheSame triggers others events more variable q)
         → found_at others more variable at ≡ found_at triggers events variable at }
 {
     ft_pairs::one_source();
