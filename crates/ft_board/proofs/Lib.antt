@@ -19,3 +19,8 @@ pub mod Tallied
 pub mod Reached
 pub mod KeptMaps
 pub mod Replaying
+pub mod ActAt
+pub mod Sources
+pub mod Matched
+pub mod Savers
+pub mod Elsewhere

@@ -11,6 +11,7 @@ pub mod Hits
 pub mod Kept
 pub mod Counting
 pub mod Operations
+pub mod Elsewhere
 pub mod Answers
 pub mod After
 pub mod Reachable
