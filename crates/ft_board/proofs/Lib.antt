@@ -5,3 +5,4 @@ pub mod After
 pub mod Merging
 pub mod Places
 pub mod Counted
+pub mod Savers

@@ -11,6 +11,7 @@ mod order;
 mod plain;
 mod refused;
 mod role;
+mod roles;
 
 pub use board::Board;
 pub use laws::reachable_bases;
