@@ -2,6 +2,7 @@
 //! the events gives.
 #![tactic(auto)]
 
+mod attach;
 mod board;
 mod lane;
 mod laws;
