@@ -20,3 +20,6 @@ pub use order::merged_order;
 pub use plain::PlainBoard;
 pub use refused::{Done, Kept, Latency, Place, Refused};
 pub use role::{Pair, Role, Variable};
+
+#[cfg(test)]
+mod tests;
