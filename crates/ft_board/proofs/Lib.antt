@@ -1,6 +1,7 @@
 pub mod Loading
 pub mod Held
 pub mod Reachable
+pub mod Attaching
 pub mod After
 pub mod Merging
 pub mod Places
@@ -23,4 +24,5 @@ pub mod ActAt
 pub mod Sources
 pub mod Matched
 pub mod Savers
+pub mod OneSaver
 pub mod Elsewhere
