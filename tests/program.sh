@@ -103,6 +103,8 @@ gives who_wakes 1 "" "$histdesk" "$examples/who-wakes.script" "$examples/who-wak
 prints who_wakes "$examples/who-wakes.expected"
 gives filters 1 "" "$histdesk" "$examples/filters.script" "$examples/who-wakes.trace"
 prints filters "$examples/filters.expected"
+gives wakeups 1 "" "$histdesk" "$examples/wakeups.script" "$examples/wakeups.trace"
+prints wakeups "$examples/wakeups.expected"
 gives no_words 0 "" "$histdesk"
 gives two_dashes 0 "" "$histdesk" --
 gives standard_input 0 "" "$histdesk" -
