@@ -3,6 +3,7 @@
 #![tactic(auto)]
 
 mod board;
+mod counting;
 mod lane;
 mod laws;
 mod load;
@@ -14,6 +15,7 @@ mod refused;
 mod role;
 
 pub use board::Board;
+pub use counting::{counted_hits, kept_maps};
 pub use laws::reachable_bases;
 pub use matching::{matched_readings, one_saver, same_elsewhere};
 pub use order::merged_order;

@@ -1,4 +1,5 @@
 mod keys;
+mod values;
 
 use super::*;
 use ft_event::{Body, Comm, Event, Field, Name, Wake};

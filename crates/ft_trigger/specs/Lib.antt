@@ -25,3 +25,4 @@ pub use Rattle.ft_hist.specs.Parts
 pub use Rattle.ft_hist.specs.Powers
 pub use Rattle.ft_hist.specs.Sound
 pub use Rattle.ft_hist.specs.Steps
+pub use Rattle.ft_hist.specs.Values

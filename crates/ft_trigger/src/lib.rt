@@ -15,7 +15,7 @@ mod words;
 pub use fault::TriggerFault;
 pub use ft_hist::{
     Item, Key, KeyItem, Label, Mode, Part, SortBy, SortItem, Trigger, Var, Work, asked_events,
-    equal_keys, fitting_parts, multiples, one_key_order, powers,
+    equal_keys, fitting_parts, multiples, one_key_order, powers, summed_fields,
 };
 pub use laws::{
     any_order, cuts, faults_stay, heads_first, one_list, one_tail, one_word, shapes, sizes,
