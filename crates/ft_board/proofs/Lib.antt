@@ -1,6 +1,7 @@
 pub mod Loading
 pub mod Held
 pub mod Reachable
+pub mod Attaching
 pub mod After
 pub mod Merging
 pub mod Places
@@ -17,10 +18,11 @@ pub mod Telling
 pub mod Listed
 pub mod Tallied
 pub mod Reached
+pub mod KeptMaps
+pub mod Replaying
 pub mod ActAt
 pub mod Sources
 pub mod Matched
 pub mod Savers
+pub mod OneSaver
 pub mod Elsewhere
-pub mod KeptMaps
-pub mod Replaying

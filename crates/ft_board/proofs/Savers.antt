@@ -1,38 +1,22 @@
--- A name that one attached trigger at most saves: who saves it.
-use Rattle.std.proofs.Common.{◌≡◌, ℕ, Bool, true, false, cond, List, [], ◌∷◌, refl, sym, ap, ◌∙◌, Some}
-use Rattle.std.specs.Prelude.{option_map, is_some, unwrap_or}
-use Rattle.std.specs.List as list
-use Rattle.std.specs.List.{AllByRecursion}
-use Rattle.std.specs.Ordering.{nat_cmp, eq_by_cmp}
-use Rattle.std.specs.Cmp.{nat_cmp_total}
+-- Looking for the saver of a name, trigger by trigger.
+use Rattle.std.proofs.Common.{◌≡◌, ℕ, true, false, cond, List, ◌∷◌, Option, Some, refl, ap}
+use Rattle.std.specs.Prelude.{option_map}
+use Rattle.std.specs.List.{find}
 use Rattle.std.specs.FinMap as map
-use Rattle.std.specs.FinMap.{find, get-entries}
-use Rattle.std.proofs.lemmas.Bool.{true≢false}
 use Rattle.ft_hist.specs.Hist.{Hist}
 use Rattle.ft_board.specs.Base.{Triggers}
-use Rattle.ft_board.specs.Reachable.{HasOneSaver}
 use Rattle.ft_board.specs.Roles.{saves_name, saver_of}
-use Rattle.ft_board.proofs.Apart.{entries_found}
 
-module _ (triggers : Triggers) (one : HasOneSaver triggers) (name : List ℕ) (id : ℕ) (hist : Hist) (attached : map.get triggers id ≡ Some hist) (saves : saves_name name hist.variable ≡ true) where
-  abbrev saves_it : ℕ × Hist → Bool
-  saves_it t = saves_name name t.1.variable
+-- the saver of a name among some triggers
+abbrev pub saver_among : List ℕ → List (ℕ × Hist) → Option ℕ
+saver_among name attached = option_map (λ e. e.0) (find (λ e. saves_name name e.1.variable) attached)
 
-  first_saver : (ts : List (ℕ × Hist)) → AllByRecursion (λ t. map.get triggers t.0 ≡ Some t.1) ts → find nat_cmp id ts ≡ Some hist
-      → option_map (λ (t : ℕ × Hist). t.0) (list.find saves_it ts) ≡ Some id
-  first_saver [] all found = absurd (true≢false (sym (ap is_some found)))
-  first_saver (t ∷ ts) all found = elim (saves_it t) as (λ b. saves_it t ≡ b → option_map (λ (t : ℕ × Hist). t.0) (cond b (Some t) (list.find saves_it ts)) ≡ Some id) [
-    | true ↦ λ is. ap Some (one t.0 id t.1 hist name all.0 attached is saves)
-    | false ↦ λ other. first_saver ts all.1 (elim (eq_by_cmp nat_cmp id t.0) as (λ b. cond b (Some t.1) (find nat_cmp id ts) ≡ Some hist → find nat_cmp id ts ≡ Some hist) [
-      | true ↦ λ same. absurd (true≢false (sym saves ∙ ap (λ h. saves_name name h.variable) (sym (ap (λ o. unwrap_or o hist) same)) ∙ other))
-      | false ↦ λ rest. rest
-    ] found)
-  ] refl
+pub saver_of-among : (triggers : Triggers) (name : List ℕ) → saver_among name (map.entries triggers) ≡ saver_of triggers name
+unfolding saver_of
+saver_of-among triggers name = refl
 
-  saver-is : saver_of triggers name ≡ Some id
-  unfolding saver_of
-  saver-is = first_saver (map.entries triggers) (entries_found nat_cmp nat_cmp_total triggers) (sym (get-entries triggers id) ∙ attached)
+pub saver_among-here : (name : List ℕ) (e : ℕ × Hist) (es : List (ℕ × Hist)) → saves_name name e.1.variable ≡ true → saver_among name (e ∷ es) ≡ Some e.0
+saver_among-here name e es is = ap (λ b. option_map (λ (x : ℕ × Hist). x.0) (cond b (Some e) (find (λ x. saves_name name x.1.variable) es))) is
 
--- where no two triggers save one name, the trigger that saves it is its saver
-pub one_saver : (triggers : Triggers) → HasOneSaver triggers → (name : List ℕ) (id : ℕ) (hist : Hist) → map.get triggers id ≡ Some hist → saves_name name hist.variable ≡ true → saver_of triggers name ≡ Some id
-one_saver triggers one name id hist attached saves = saver-is triggers one name id hist attached saves
+pub saver_among-later : (name : List ℕ) (e : ℕ × Hist) (es : List (ℕ × Hist)) → saves_name name e.1.variable ≡ false → saver_among name (e ∷ es) ≡ saver_among name es
+saver_among-later name e es is = ap (λ b. option_map (λ (x : ℕ × Hist). x.0) (cond b (Some e) (find (λ x. saves_name name x.1.variable) es))) is

@@ -2,6 +2,7 @@
 //! the events gives.
 #![tactic(auto)]
 
+mod attach;
 mod board;
 mod counting;
 mod lane;
@@ -13,6 +14,7 @@ mod order;
 mod plain;
 mod refused;
 mod role;
+mod roles;
 
 pub use board::Board;
 pub use counting::{counted_hits, kept_maps};
@@ -22,3 +24,6 @@ pub use order::merged_order;
 pub use plain::PlainBoard;
 pub use refused::{Done, Kept, Latency, Place, Refused};
 pub use role::{Pair, Role, Variable};
+
+#[cfg(test)]
+mod tests;

@@ -3,7 +3,7 @@ use Rattle.std.proofs.Common.{◌≡◌, ℕ, List, Ok, Err, refl, ap, ◌∙◌
 use Rattle.ft_event.specs.Traced.{Traced}
 use Rattle.ft_event.specs.declared.event.Name.{Name}
 use Rattle.ft_board.specs.declared.refused.Refused.{Refused}
-use Rattle.ft_board.specs.declared.trigger.Trigger.{Trigger}
+use Rattle.ft_trigger.specs.Hist.{Hist}
 use Rattle.ft_board.specs.Base.{Base}
 use Rattle.ft_board.specs.After.{after_load, after_attach}
 use Rattle.ft_desk.specs.Output.{events_of, after_load_text, trigger_for, after_attach_text, ◌>>=◌}
@@ -24,7 +24,7 @@ unfolding after_attach_text
 attach-text base event text = refl
 
 -- a trigger's text that can be read
-pub attach-trigger : (base : Base) (event : Name) (text : List ℕ) (trigger : Trigger) → trigger_for event text ≡ Ok trigger → after_attach_text base event text ≡ after_attach base trigger
+pub attach-trigger : (base : Base) (event : Name) (text : List ℕ) (trigger : Hist) → trigger_for event text ≡ Ok trigger → after_attach_text base event text ≡ after_attach base trigger
 attach-trigger base event text trigger e = attach-text base event text ∙ ap (λ read. read >>= after_attach base) e
 
 -- a trigger's text that cannot be read

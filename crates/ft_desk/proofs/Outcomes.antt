@@ -8,10 +8,11 @@ use Rattle.ft_board.specs.declared.refused.Refused.{Refused}
 use Rattle.ft_board.specs.declared.refused.Refused.TheVariants.{Memory, BadCommand}
 use Rattle.ft_board.specs.Base.{Base}
 use Rattle.ft_board.specs.After.{EditGives, AnswersFrom, AnswerIs}
-use Rattle.ft_board.specs.HistText.{hist_text}
+use Rattle.ft_board.specs.Answers.{hist_text, totals, latencies}
+use Rattle.ft_desk.specs.Answered.{totals_line, latency_lines}
 use Rattle.ft_desk.specs.declared.perform.Performed.{Performed}
 use Rattle.ft_desk.specs.Printed.{printed}
-use Rattle.ft_desk.specs.Script.{Asked, Nothing, Load, Attach, Hist, NoForm}
+use Rattle.ft_desk.specs.Script.{Asked}
 use Rattle.ft_desk.specs.Output.{Outcome, outcome, edit_outcome, answer_outcome, refused_text, after_load_file, after_attach_text}
 
 -- what was printed and left is the outcome, unless there was no memory
@@ -41,19 +42,22 @@ edit_shows old new word after behind_old behind_new edit (Ok done) expected give
     }
 
 -- an answer's text, which is not want of memory, prints the outcome
-answer-text : {S : Type 0} (view : S → List ℕ) (base : Base) (expected : Result (List ℕ) Refused) (answer : Result S Refused) → AnswerIs view expected answer → answer ≢ Err Memory → (printed view answer ≡ (answer_outcome base expected).text) × (is_err answer ≡ (answer_outcome base expected).refused) × (base ≡ (answer_outcome base expected).base)
-answer-text view base expected (Ok text) is kept = rw is (refl, refl, refl)
-answer-text view base expected (Err refused) is kept =
+answer-text : {S T : Type 0} (view : S → T) (shown : T → List ℕ) (base : Base) (expected : Result T Refused) (answer : Result S Refused) → AnswerIs view expected answer → answer ≢ Err Memory
+    → (printed (λ given. shown (view given)) answer ≡ (answer_outcome shown base expected).text) × (is_err answer ≡ (answer_outcome shown base expected).refused) × (base ≡ (answer_outcome shown base expected).base)
+answer-text view shown base expected (Ok answer) is kept = rw is (refl, refl, refl)
+answer-text view shown base expected (Err refused) is kept =
     elim is [
       | inl memory ↦ absurd (kept (ap Err memory))
       | inr bad ↦ rw bad (refl, refl, refl)
     ]
 
 -- an answer
-pub answer_shows : {S : Type 0} (view : S → List ℕ) (old new : Base) (wanted : Result (List ℕ) Refused) (behind_old behind_new : Bool) (answer : Result S Refused) (result : Result Performed AllocError) (expected : Outcome) → AnswersFrom view wanted old new behind_old behind_new answer → expected ≡ answer_outcome old wanted → IfOk result (λ done. done.text.items ≡ printed view answer) → IfOk result (λ done. done.refused ≡ is_err answer) → OnOk result (answer ≢ Err Memory) → Shows result new expected
-answer_shows view old new wanted behind_old behind_new answer (Err lack) expected gives so text refused memory = record { text = tt; refused = tt; base = tt }
-answer_shows view old new wanted behind_old behind_new answer (Ok done) expected gives so text refused memory =
-    let same = answer-text view old wanted answer gives.1 memory in
+pub answer_shows : {S T : Type 0} (view : S → T) (shown : T → List ℕ) (old new : Base) (wanted : Result T Refused) (behind_old behind_new : Bool) (answer : Result S Refused) (result : Result Performed AllocError) (expected : Outcome)
+    → AnswersFrom view wanted old new behind_old behind_new answer → expected ≡ answer_outcome shown old wanted → IfOk result (λ done. done.text.items ≡ printed (λ given. shown (view given)) answer) → IfOk result (λ done. done.refused ≡ is_err answer)
+    → OnOk result (answer ≢ Err Memory) → Shows result new expected
+answer_shows view shown old new wanted behind_old behind_new answer (Err lack) expected gives so text refused memory = record { text = tt; refused = tt; base = tt }
+answer_shows view shown old new wanted behind_old behind_new answer (Ok done) expected gives so text refused memory =
+    let same = answer-text view shown old wanted answer gives.1 memory in
     record {
       text = text ∙ same.0 ∙ ap (λ o. o.text) (sym so);
       refused = refused ∙ same.1 ∙ ap (λ o. o.refused) (sym so);
@@ -71,22 +75,30 @@ bad_shows base (Ok done) expected so text refused =
     }
 
 -- what each command that has a form is to do
-pub load_outcome : (files : List (List ℕ)) (base : Base) (n : ℕ) (asked : Asked) → Load n ≡ asked → outcome files base asked ≡ edit_outcome base (codes "loaded ") (after_load_file files base n)
+pub load_outcome : (files : List (List ℕ)) (base : Base) (n : ℕ) (asked : Asked) → Asked.Load n ≡ asked → outcome files base asked ≡ edit_outcome base (codes "loaded ") (after_load_file files base n)
 unfolding outcome
 load_outcome files base n asked e = ap (outcome files base) (sym e)
 
-pub attach_outcome : (files : List (List ℕ)) (base : Base) (event : Name) (text : List ℕ) (asked : Asked) → Attach event text ≡ asked → outcome files base asked ≡ edit_outcome base (codes "attached ") (after_attach_text base event text)
+pub attach_outcome : (files : List (List ℕ)) (base : Base) (event : Name) (text : List ℕ) (asked : Asked) → Asked.Attach event text ≡ asked → outcome files base asked ≡ edit_outcome base (codes "attached ") (after_attach_text base event text)
 unfolding outcome
 attach_outcome files base event text asked e = ap (outcome files base) (sym e)
 
-pub hist_outcome : (files : List (List ℕ)) (base : Base) (id : ℕ) (asked : Asked) → Hist id ≡ asked → outcome files base asked ≡ answer_outcome base (hist_text base id)
+pub hist_outcome : (files : List (List ℕ)) (base : Base) (id : ℕ) (asked : Asked) → Asked.Hist id ≡ asked → outcome files base asked ≡ answer_outcome (λ text. text) base (hist_text base id)
 unfolding outcome
 hist_outcome files base id asked e = ap (outcome files base) (sym e)
 
-pub nothing_outcome : (files : List (List ℕ)) (base : Base) (asked : Asked) → Nothing ≡ asked → outcome files base asked ≡ record { text = []; base = base; refused = false }
+pub totals_outcome : (files : List (List ℕ)) (base : Base) (id : ℕ) (asked : Asked) → Asked.Totals id ≡ asked → outcome files base asked ≡ answer_outcome totals_line base (totals base id)
+unfolding outcome
+totals_outcome files base id asked e = ap (outcome files base) (sym e)
+
+pub latencies_outcome : (files : List (List ℕ)) (base : Base) (id : ℕ) (asked : Asked) → Asked.Latencies id ≡ asked → outcome files base asked ≡ answer_outcome latency_lines base (latencies base id)
+unfolding outcome
+latencies_outcome files base id asked e = ap (outcome files base) (sym e)
+
+pub nothing_outcome : (files : List (List ℕ)) (base : Base) (asked : Asked) → Asked.Nothing ≡ asked → outcome files base asked ≡ record { text = []; base = base; refused = false }
 unfolding outcome
 nothing_outcome files base asked e = ap (outcome files base) (sym e)
 
-pub bad_outcome : (files : List (List ℕ)) (base : Base) (asked : Asked) → NoForm ≡ asked → outcome files base asked ≡ record { text = refused_text BadCommand; base = base; refused = true }
+pub bad_outcome : (files : List (List ℕ)) (base : Base) (asked : Asked) → Asked.NoForm ≡ asked → outcome files base asked ≡ record { text = refused_text BadCommand; base = base; refused = true }
 unfolding outcome
 bad_outcome files base asked e = ap (outcome files base) (sym e)

@@ -2,6 +2,7 @@ pub mod Lines
 pub mod Reading
 pub mod Script
 pub mod Command
+pub mod Answered
 pub mod Output
 pub mod Printed
 pub mod Steps
@@ -15,10 +16,11 @@ pub use Rattle.ft_event.specs.Line
 pub use Rattle.ft_event.specs.LineFault
 pub use Rattle.ft_event.specs.Names
 pub use Rattle.ft_filter.specs.FilterFault
+pub use Rattle.ft_trigger.specs.Hist
+pub use Rattle.ft_trigger.specs.TriggerFault
+pub use Rattle.ft_trigger.specs.TriggerIs
 pub use Rattle.ft_board.specs.Refused
-pub use Rattle.ft_board.specs.Trigger
-pub use Rattle.ft_board.specs.TriggerFault
 pub use Rattle.ft_board.specs.Codes
 pub use Rattle.ft_board.specs.Base
 pub use Rattle.ft_board.specs.After
-pub use Rattle.ft_board.specs.HistText
+pub use Rattle.ft_board.specs.Answers

@@ -9,20 +9,21 @@ use Rattle.ft_event.specs.declared.event.Name.TheVariants as names
 use Rattle.ft_event.specs.declared.fault.Line.{Line}
 use Rattle.ft_event.specs.declared.fault.Line.TheVariants as lines
 use Rattle.ft_event.specs.declared.fault.LineFault.{LineFault}
-use Rattle.ft_board.specs.declared.trigger.Trigger.{Trigger}
+use Rattle.ft_trigger.specs.Hist.{Hist}
 use Rattle.ft_filter.specs.FilterFault.{number_of as filter_number, place_of as filter_place}
-use Rattle.ft_board.specs.declared.trigger.TriggerFault.{TriggerFault}
-use Rattle.ft_board.specs.declared.trigger.TriggerFault.TheVariants as faults
+use Rattle.ft_trigger.specs.declared.fault.TriggerFault.{TriggerFault}
+use Rattle.ft_trigger.specs.declared.fault.TriggerFault.TheVariants as faults
 use Rattle.ft_board.specs.declared.refused.Refused.{Refused}
-use Rattle.ft_board.specs.declared.refused.Refused.TheVariants.{Memory, NoFile, BadLine, LaneHeld, Full, BadTrigger, NoTrigger, TooManyTriggers, BadCommand}
+use Rattle.ft_board.specs.declared.refused.Refused.TheVariants.{Memory, NoFile, BadLine, LaneHeld, Full, BadTrigger, NoTrigger, NameTaken, NoVariable, KeyMismatch, TooManyTriggers, BadCommand, NotReading}
 use Rattle.ft_board.specs.Refused.{number_of}
-use Rattle.ft_board.specs.TriggerFault.{number_of as trigger_number, place_of}
-use Rattle.ft_board.specs.Trigger.{trigger_of}
+use Rattle.ft_trigger.specs.TriggerFault.{number_of as trigger_number, place_of}
+use Rattle.ft_trigger.specs.TriggerIs.{trigger_of}
 use Rattle.ft_board.specs.Base.{Base, empty_base}
 use Rattle.ft_board.specs.After.{after_load, after_attach}
-use Rattle.ft_board.specs.HistText.{hist_text}
+use Rattle.ft_board.specs.Answers.{hist_text, totals, latencies}
 use Rattle.ft_desk.specs.Lines.{lines_of}
-use Rattle.ft_desk.specs.Script.{Asked, Nothing, Load, Attach, Hist, NoForm, asked_by}
+use Rattle.ft_desk.specs.Script.{Asked, asked_by}
+use Rattle.ft_desk.specs.Answered.{totals_line, latency_lines}
 
 -- a line's event in front of those of the lines behind it; a line that cannot be read is the fault of all
 abbrev pub line_in_front : ℕ → Result Line LineFault → Result (List Traced) Refused → Result (List Traced) Refused
@@ -56,16 +57,16 @@ refused_for faults.Memory = Memory
 refused_for fault = BadTrigger fault
 
 -- a trigger's text as read, or refused
-abbrev pub trigger_or_refused : Result Trigger TriggerFault → Result Trigger Refused
+abbrev pub trigger_or_refused : Result Hist TriggerFault → Result Hist Refused
 trigger_or_refused (Ok trigger) = Ok trigger
 trigger_or_refused (Err fault) = Err (refused_for fault)
 
--- a trigger's text on an event: on the three wake events alone for now
-abbrev pub trigger_for : Name → List ℕ → Result Trigger Refused
+-- a trigger's text on an event: on the four named events
+abbrev pub trigger_for : Name → List ℕ → Result Hist Refused
 trigger_for names.Waking text = trigger_or_refused (trigger_of names.Waking text)
 trigger_for names.Wakeup text = trigger_or_refused (trigger_of names.Wakeup text)
 trigger_for names.WakeupNew text = trigger_or_refused (trigger_of names.WakeupNew text)
-trigger_for names.Switch text = Err BadCommand
+trigger_for names.Switch text = trigger_or_refused (trigger_of names.Switch text)
 trigger_for names.Other text = Err BadCommand
 
 -- attaching a trigger's text to an event
@@ -95,12 +96,16 @@ abbrev pub detail : Refused → List ℕ
 detail (BadLine line fault) = codes ": line " ++ decimal line ++ codes " fault " ++ decimal (fault_number fault)
 detail (LaneHeld cpu) = codes ": cpu " ++ decimal cpu
 detail (BadTrigger fault) = codes ": fault " ++ decimal (trigger_number fault) ++ fault_detail fault
+detail (NameTaken id) = codes ": trigger " ++ decimal id
 detail Memory = []
 detail NoFile = []
 detail Full = []
 detail NoTrigger = []
+detail NoVariable = []
+detail KeyMismatch = []
 detail TooManyTriggers = []
 detail BadCommand = []
+detail NotReading = []
 
 -- the line of a refused command
 unfoldable pub refused_text : Refused → List ℕ
@@ -117,18 +122,20 @@ abbrev pub edit_outcome : Base → List ℕ → Result (Base × ℕ) Refused →
 edit_outcome base word (Ok done) = record { text = word ++ decimal done.1 ++ codes "\n"; base = done.0; refused = false }
 edit_outcome base word (Err refused) = record { text = refused_text refused; base = base; refused = true }
 
--- an answer prints its text, or its refusal
-abbrev pub answer_outcome : Base → Result (List ℕ) Refused → Outcome
-answer_outcome base (Ok text) = record { text = text; base = base; refused = false }
-answer_outcome base (Err refused) = record { text = refused_text refused; base = base; refused = true }
+-- an answer prints what its text shows, or its refusal
+abbrev pub answer_outcome : {T : Type 0} → (T → List ℕ) → Base → Result T Refused → Outcome
+answer_outcome shown base (Ok answer) = record { text = shown answer; base = base; refused = false }
+answer_outcome shown base (Err refused) = record { text = refused_text refused; base = base; refused = true }
 
 -- what a command does
 unfoldable pub outcome : List (List ℕ) → Base → Asked → Outcome
-outcome files base Nothing = record { text = []; base = base; refused = false }
-outcome files base (Load n) = edit_outcome base (codes "loaded ") (after_load_file files base n)
-outcome files base (Attach name text) = edit_outcome base (codes "attached ") (after_attach_text base name text)
-outcome files base (Hist id) = answer_outcome base (hist_text base id)
-outcome files base NoForm = record { text = refused_text BadCommand; base = base; refused = true }
+outcome files base Asked.Nothing = record { text = []; base = base; refused = false }
+outcome files base (Asked.Load n) = edit_outcome base (codes "loaded ") (after_load_file files base n)
+outcome files base (Asked.Attach name text) = edit_outcome base (codes "attached ") (after_attach_text base name text)
+outcome files base (Asked.Hist id) = answer_outcome (λ text. text) base (hist_text base id)
+outcome files base (Asked.Totals id) = answer_outcome totals_line base (totals base id)
+outcome files base (Asked.Latencies id) = answer_outcome latency_lines base (latencies base id)
+outcome files base Asked.NoForm = record { text = refused_text BadCommand; base = base; refused = true }
 
 -- what lines of a script do, one after the other, from a base on
 unfoldable pub output_from : List (List ℕ) → Base → List (List ℕ) → Outcome

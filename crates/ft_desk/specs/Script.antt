@@ -14,6 +14,8 @@ pub data Asked : Type 0 where
   Load : ℕ → Asked
   Attach : Name → List ℕ → Asked
   Hist : ℕ → Asked
+  Totals : ℕ → Asked
+  Latencies : ℕ → Asked
   NoForm : Asked
 
 -- the most bytes of a script line
@@ -60,16 +62,18 @@ load_in (byte ∷ digits) = if byte == 64 then option_map_or Load (number_in dig
 unfoldable pub attach_in : List ℕ → Asked
 attach_in text = option_map_or (λ name. Attach name (after_word text)) (name_called (first_word text)) NoForm
 
--- behind `hist`: an id
-unfoldable pub hist_in : List ℕ → Asked
-hist_in text = option_map_or Hist (number_in text) NoForm
+-- behind the word of an answer: the trigger's id
+unfoldable pub about : (ℕ → Asked) → List ℕ → Asked
+about answer text = option_map_or answer (number_in text) NoForm
 
 -- a command by its first word
 unfoldable pub worded : List ℕ → Asked
 worded text =
     if bytes_eq (first_word text) (codes "load") then load_in (after_word text)
     else (if bytes_eq (first_word text) (codes "attach") then attach_in (after_word text)
-    else (if bytes_eq (first_word text) (codes "hist") then hist_in (after_word text) else NoForm))
+    else (if bytes_eq (first_word text) (codes "hist") then about Hist (after_word text)
+    else (if bytes_eq (first_word text) (codes "totals") then about Totals (after_word text)
+    else (if bytes_eq (first_word text) (codes "lat") then about Latencies (after_word text) else NoForm))))
 
 -- what a line asks for: nothing where it is empty, of spaces, or begins with `#`; a longer line than 8,192 bytes has no form
 unfoldable pub asked_by : List ℕ → Asked

@@ -17,9 +17,11 @@ mod words;
 
 pub use desk::Desk;
 pub use files::{FileFault, read_file, read_whole};
-pub use ft_board::{Board, Done, Kept, Place, PlainBoard, Refused, TriggerFault};
+pub use ft_board::{Board, Done, Kept, Latency, Place, PlainBoard, Refused};
 pub use ft_event::{LineFault, Name};
 pub use ft_filter::FilterFault;
+pub use ft_table::Totals;
+pub use ft_trigger::TriggerFault;
 pub use program::histdesk;
 pub use running::{RunFault, Status, run};
 pub use words::{Words, WordsFault, read_words};

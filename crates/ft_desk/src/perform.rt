@@ -3,13 +3,15 @@
 ghost use Rattle.std.specs.Prelude.{◌≡◌, ◌≢◌, ◌++◌, Err, true, codes, decimal, map, is_err, IfOk, OnOk, Some, None, MatchOption};
 ghost use Rattle.ft_board.specs.After.{EditGives};
 ghost use Rattle.ft_desk.specs.Script.{asked_by};
+ghost use Rattle.ft_desk.specs.Answered.{totals_line, latency_lines};
 ghost use Rattle.ft_desk.specs.Output.{outcome, refused_text, file_at, after_load_file};
 ghost use Rattle.ft_desk.specs.Printed.{printed};
 
 use crate::desk::Desk;
 use crate::script::{Command, read_command};
-use crate::text::{done_line, refused_line};
-use ft_board::{Board, Done, Refused};
+use crate::text::{done_line, latency_lines, refused_line, totals_line};
+use ft_board::{Board, Done, Latency, Refused};
+use ft_table::Totals;
 use std::alloc::{AllocError, Global};
 
 /// What a line of a script prints, and whether it was refused.
@@ -47,6 +49,8 @@ pub(crate) fn perform<B: Board>(
             widened(desk.attach(event, text)),
         ),
         Command::Hist(id) => answered(alloc, desk.hist(id)),
+        Command::Totals(id) => totalled(alloc, desk.totals(id)),
+        Command::Latencies(id) => measured(alloc, desk.latencies(id)),
         Command::NoForm => refused(alloc, Refused::BadCommand),
     }
 }
@@ -116,6 +120,37 @@ fn answered(alloc: Global, answer: Result<Vec<u8>, Refused>) -> Result<Performed
     match answer {
         Ok(text) => Ok(Performed {
             text,
+            refused: false,
+        }),
+        Err(reason) => refused(alloc, reason),
+    }
+}
+
+/// What totals print: their line, or their refusal.
+fn totalled(alloc: Global, answer: Result<Totals, Refused>) -> Result<Performed, AllocError>
+    ensures text { IfOk result (λ done. done.text.items ≡ printed totals_line answer) }
+    ensures refused { IfOk result (λ done. done.refused ≡ is_err answer) }
+    ensures memory { OnOk result (answer ≢ Err Refused.Memory) }
+{
+    match answer {
+        Ok(totals) => Ok(Performed {
+            text: totals_line(alloc, totals)?,
+            refused: false,
+        }),
+        Err(reason) => refused(alloc, reason),
+    }
+}
+
+/// What latencies print: their lines, or their refusal.
+fn measured(alloc: Global, answer: Result<Vec<Latency>, Refused>) -> Result<Performed, AllocError>
+    ensures text { IfOk result (λ done.
+        done.text.items ≡ printed (λ latencies. latency_lines latencies.items) answer) }
+    ensures refused { IfOk result (λ done. done.refused ≡ is_err answer) }
+    ensures memory { OnOk result (answer ≢ Err Refused.Memory) }
+{
+    match answer {
+        Ok(latencies) => Ok(Performed {
+            text: latency_lines(alloc, &latencies)?,
             refused: false,
         }),
         Err(reason) => refused(alloc, reason),

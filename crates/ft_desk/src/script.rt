@@ -3,7 +3,7 @@
 ghost use Rattle.std.specs.Prelude.{◌≡◌, ◌==◌, ◌||◌, reverse, slice_index};
 ghost use Rattle.std.specs.List.{list_all, prefix_len};
 ghost use Rattle.ft_desk.specs.Command.{asked};
-ghost use Rattle.ft_desk.specs.Script.{asked_by, is_space, is_in_word, drop_while, trimmed, first_word, after_word, number_in, load_in, attach_in, hist_in};
+ghost use Rattle.ft_desk.specs.Script.{Asked, asked_by, is_space, is_in_word, drop_while, trimmed, first_word, after_word, number_in, load_in, attach_in, about};
 
 use ft_event::Name;
 use memchr::memchr;
@@ -23,6 +23,12 @@ const ATTACH: &[u8] = b"attach";
 /// The first word of a command that prints a trigger's table.
 const HIST: &[u8] = b"hist";
 
+/// The first word of a command that prints a trigger's totals.
+const TOTALS: &[u8] = b"totals";
+
+/// The first word of a command that prints a trigger's latencies.
+const LATENCIES: &[u8] = b"lat";
+
 /// What a line of the script asks for.
 #[derive(Clone, Copy, Debug, PartialEq, Eq)]
 pub(crate) enum Command<'a> {
@@ -34,6 +40,10 @@ pub(crate) enum Command<'a> {
     Attach(Name, &'a [u8]),
     /// To print the table of the trigger with this id.
     Hist(u32),
+    /// To print the totals of the trigger with this id.
+    Totals(u32),
+    /// To print the latencies of the trigger with this id.
+    Latencies(u32),
     /// No command has the line's form.
     NoForm,
 }
@@ -56,6 +66,10 @@ pub(crate) fn read_command(line: &[u8]) -> Command<'_>
         attach(rest)
     } else if word == HIST {
         hist(rest)
+    } else if word == TOTALS {
+        totals(rest)
+    } else if word == LATENCIES {
+        latencies(rest)
     } else {
         Command::NoForm
     }
@@ -149,12 +163,34 @@ fn attach(text: &[u8]) -> Command<'_>
 }
 
 /// Behind `hist`: a trigger's id.
-#[tactic(auto, unfolding(crate::specs::Script::hist_in))]
+#[tactic(auto, unfolding(crate::specs::Script::about))]
 fn hist(text: &[u8]) -> Command<'_>
-    ensures { asked result ≡ hist_in text.now }
+    ensures { asked result ≡ about Asked.Hist text.now }
 {
     match number(text) {
         Some(id) => Command::Hist(id),
+        None => Command::NoForm,
+    }
+}
+
+/// Behind `totals`: a trigger's id.
+#[tactic(auto, unfolding(crate::specs::Script::about))]
+fn totals(text: &[u8]) -> Command<'_>
+    ensures { asked result ≡ about Asked.Totals text.now }
+{
+    match number(text) {
+        Some(id) => Command::Totals(id),
+        None => Command::NoForm,
+    }
+}
+
+/// Behind `lat`: a trigger's id.
+#[tactic(auto, unfolding(crate::specs::Script::about))]
+fn latencies(text: &[u8]) -> Command<'_>
+    ensures { asked result ≡ about Asked.Latencies text.now }
+{
+    match number(text) {
+        Some(id) => Command::Latencies(id),
         None => Command::NoForm,
     }
 }

@@ -1,9 +1,12 @@
 //! The lines that commands print.
 
 ghost use Rattle.std.specs.Prelude.{◌≡◌, ◌++◌, codes, decimal, IfOk, OnOk};
+ghost use Rattle.ft_desk.specs.Answered.{totals_line, numbered, latency_line, latency_lines};
 ghost use Rattle.ft_desk.specs.Output.{detail, fault_detail, place_text, refused_text};
 
-use ft_board::{Refused, TriggerFault};
+use ft_board::{Latency, Place, Refused};
+use ft_table::Totals;
+use ft_trigger::TriggerFault;
 use itoa::Buffer;
 use std::alloc::{AllocError, Global};
 
@@ -43,12 +46,16 @@ fn add_detail(line: &mut Vec<u8>, refused: Refused) -> Result<(), AllocError>
             add(line, b": fault ", u64::from(fault.number()))?;
             add_fault(line, fault)
         }
+        Refused::NameTaken(id) => add(line, b": trigger ", u64::from(id)),
         Refused::Memory
         | Refused::NoFile
         | Refused::Full
         | Refused::NoTrigger
+        | Refused::NoVariable
+        | Refused::KeyMismatch
         | Refused::TooManyTriggers
-        | Refused::BadCommand => Ok(()),
+        | Refused::BadCommand
+        | Refused::NotReading => Ok(()),
     }
 }
 
@@ -74,6 +81,52 @@ fn add_place(line: &mut Vec<u8>, place: Option<usize>) -> Result<(), AllocError>
         Some(place) => add(line, b" at ", place as u64),
         None => Ok(()),
     }
+}
+
+/// The line of a trigger's totals.
+#[tactic(auto, unfolding(crate::specs::Answered::totals_line))]
+pub(crate) fn totals_line(alloc: Global, totals: Totals) -> Result<Vec<u8>, AllocError>
+    ensures { IfOk result (λ line. line.items ≡ totals_line totals) }
+{
+    let mut line = Vec::new(alloc);
+    add(&mut line, b"hits ", totals.hits)?;
+    add(&mut line, b" entries ", totals.entries)?;
+    add(&mut line, b" dropped ", totals.dropped)?;
+    line.extend_from_slice(b"\n")?;
+    Ok(line)
+}
+
+/// The lines of a trigger's latencies, and a last line with their count.
+pub(crate) fn latency_lines(alloc: Global, latencies: &[Latency]) -> Result<Vec<u8>, AllocError>
+    ensures { IfOk result (λ lines. lines.items ≡ latency_lines latencies.now) }
+{
+    let mut lines = Vec::new(alloc);
+    for latency in latencies {
+        add_latency(&mut lines, *latency)?;
+    }
+    add(&mut lines, b"Latencies: ", latencies.len() as u64)?;
+    lines.extend_from_slice(b"\n")?;
+    Ok(lines)
+}
+
+/// Adds the line of a latency.
+#[tactic(auto, unfolding(crate::specs::Answered::latency_line))]
+fn add_latency(lines: &mut Vec<u8>, latency: Latency) -> Result<(), AllocError>
+    ensures { OnOk result (lines.new.items ≡ lines.old.items ++ latency_line latency) }
+{
+    add_numbered(lines, latency.saved)?;
+    lines.extend_from_slice(b" -> ")?;
+    add_numbered(lines, latency.read)?;
+    add(lines, b": ", latency.micros)?;
+    lines.extend_from_slice(b" us\n")
+}
+
+/// Adds a line's CPU and number.
+fn add_numbered(text: &mut Vec<u8>, place: Place) -> Result<(), AllocError>
+    ensures { OnOk result (text.new.items ≡ text.old.items ++ numbered place) }
+{
+    add(text, b"", u64::from(place.cpu))?;
+    add(text, b":", u64::from(place.line))
 }
 
 /// Adds a text and a number.

@@ -5,7 +5,7 @@ use ft_event::Name;
 use std::test::Fail;
 
 /// Lines, each with what it asks for.
-fn lines() -> [(&'static [u8], Command<'static>); 33] {
+fn lines() -> [(&'static [u8], Command<'static>); 41] {
     [
         (b"", Command::Nothing),
         (b"   ", Command::Nothing),
@@ -33,6 +33,14 @@ fn lines() -> [(&'static [u8], Command<'static>); 33] {
         (b"hist 9999999999", Command::NoForm),
         (b"hist +1", Command::NoForm),
         (b"hist", Command::NoForm),
+        (b"totals 1", Command::Totals(1)),
+        (b" totals  07 ", Command::Totals(7)),
+        (b"totals", Command::NoForm),
+        (b"total 1", Command::NoForm),
+        (b"lat 4294967295", Command::Latencies(4_294_967_295)),
+        (b"lat 1 2", Command::NoForm),
+        (b"lat @1", Command::NoForm),
+        (b"latencies 1", Command::NoForm),
         (b"attach", Command::NoForm),
         (b"attach sched_waking", Command::Attach(Name::Waking, b"")),
         (

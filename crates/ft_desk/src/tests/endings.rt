@@ -1,41 +1,11 @@
 //! How runs end, over a board that has no memory.
 
-ghost use Rattle.std.specs.Prelude.{false};
-ghost use Rattle.ft_board.specs.Base.{empty_base};
-
+use super::no_room::NoRoom;
 use super::streams::{Sink, Source};
 use crate::{RunFault, Status, run};
-use ft_board::{Board, Done, Refused, Trigger};
-use ft_event::Event;
 use std::alloc::Global;
 use std::io::ErrorKind;
 use std::test::*;
-
-/// A board that has no memory for anything.
-#[derive(Drop)]
-struct NoRoom;
-
-impl Board for NoRoom {
-    ghost content = { λ _. empty_base };
-
-    ghost deferred = { λ _. false };
-
-    fn load(&mut self, _events: Vec<Event>) -> Result<Done<u64>, Refused> {
-        Err(Refused::Memory)
-    }
-
-    fn attach(&mut self, _trigger: Trigger) -> Result<Done<u32>, Refused> {
-        Err(Refused::Memory)
-    }
-
-    fn hist(&mut self, _id: u32) -> Result<Vec<u8>, Refused> {
-        Err(Refused::Memory)
-    }
-
-    fn is_deferred(&self) -> bool {
-        false
-    }
-}
 
 /// Runs a script over a board without room and no files.
 fn ran(alloc: Global, script: &mut Source<'_>, out: &mut Sink) -> Result<Status, RunFault> {

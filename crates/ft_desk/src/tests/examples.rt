@@ -1,8 +1,9 @@
 //! The worked examples, over the plain board.
 
+use super::scripts::ran_over;
 use super::streams::{Sink, Source};
 use crate::{
-    Desk, Done, Kept, LineFault, Name, PlainBoard, Refused, RunFault, Status, TriggerFault, run,
+    Desk, Done, Kept, LineFault, Name, PlainBoard, Refused, RunFault, Status, TriggerFault,
 };
 use std::alloc::{AllocError, Global};
 use std::io::ErrorKind;
@@ -35,18 +36,6 @@ Totals:
 
 /// How many bytes each command of the script ends at, and how many are printed by then.
 const ENDS: [(usize, usize); 4] = [(0, 0), (8, 9), (42, 20), (49, 212)];
-
-/// Runs a script over the plain board with one trace file.
-fn ran_over(
-    alloc: Global,
-    trace: &[u8],
-    script: &mut Source<'_>,
-    out: &mut Sink,
-) -> Result<Result<Status, RunFault>, AllocError> {
-    let mut files = Vec::new(alloc);
-    files.push(Vec::from_slice(alloc, trace)?)?;
-    Ok(run(alloc, PlainBoard::new(alloc), files.as_slice(), script, out))
-}
 
 /// Runs a script over the plain board with the two wakings.
 fn ran(
@@ -105,7 +94,7 @@ fn refusals_by_number(rt: HostRuntime) -> Result<(), Fail> {
 attach sched_waking hist:keys=pid
 load @1
 hist 2
-attach sched_waking hist:keys=prio
+attach sched_waking keys=prio
 attach sched_switch hist:keys=pid
 load @2
 unload 1";
@@ -114,7 +103,7 @@ attached 1
 refused 4: cpu 1
 refused 10
 refused 8: fault 2 at 0
-refused 16
+refused 8: fault 3
 refused 2
 refused 16
 ";
@@ -163,7 +152,7 @@ attach sched_waking hist:keys=pid if (((((((((((((((((((((((((((((((((
 attach sched_waking hist:keys=pid unless prio < 100
 attach sched_wakeup hist:keys=pid
 attach sched_wakeup_new hist:keys=pid if prio & 0x1
-attach sched_switch hist:keys=pid
+attach sched_switch hist:keys=next_pid
 ",
     b"refused 8: fault 11 filter 5 at 7
 refused 8: fault 2 at 15
@@ -171,7 +160,7 @@ refused 8: fault 11 filter 7
 refused 8: fault 2 at 14
 attached 1
 attached 2
-refused 16
+attached 3
 ",
 );
 
@@ -377,7 +366,7 @@ fn desk_over_the_plain_board(rt: HostRuntime) -> Result<(), Fail> {
     };
     assert_eq!(rt; desk.attach(Name::Waking, b"hist:keys=pid"), Ok(attached));
     assert_eq!(rt;
-        desk.attach(Name::Waking, b"hist:keys=prio"),
+        desk.attach(Name::Waking, b"keys=prio"),
         Err(Refused::BadTrigger(TriggerFault::Syntax(0)))
     );
     assert_eq!(rt;
