@@ -204,18 +204,10 @@ module _ (triggers : Triggers) (events : Events) where
         ∙ ap (option_map (λ h. fold (tells id) empty_tally (acts_in triggers events))) attached
         ∙ ap Some (by_hits empty_tally (acts_in triggers events) ∙ ap (counted_all hist.size) hits-are)
 
--- the tally of an attached trigger is what its hits come to
-abbrev pub IsReplayedTally : Triggers → Events → Type 0
-IsReplayedTally triggers events =
-    (id : ℕ) (hist : Hist) → map.get triggers id ≡ Some hist
+pub replayed_tally : (triggers : Triggers) (events : Events) (id : ℕ) (hist : Hist) → map.get triggers id ≡ Some hist
     → map.get (replay triggers events).tallies id ≡ Some (counted_all hist.size (trigger_hits triggers events id))
-
--- and no other trigger has one
-abbrev pub IsReplayedNone : Triggers → Events → Type 0
-IsReplayedNone triggers events = (id : ℕ) → map.get triggers id ≡ None → map.get (replay triggers events).tallies id ≡ None
-
-pub replayed_tally : (triggers : Triggers) (events : Events) → IsReplayedTally triggers events
 replayed_tally triggers events = tally-is triggers events
 
-pub replayed_none : (triggers : Triggers) (events : Events) → IsReplayedNone triggers events
+-- an id that is no trigger's has no tally
+pub replayed_none : (triggers : Triggers) (events : Events) (id : ℕ) → map.get triggers id ≡ None → map.get (replay triggers events).tallies id ≡ None
 replayed_none triggers events id none = tallies-are triggers events id ∙ ap (option_map (λ h. fold (tells triggers events id) empty_tally (acts_in triggers events))) none
