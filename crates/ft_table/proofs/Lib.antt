@@ -8,6 +8,7 @@ mod Empty
 mod Examples
 mod FirstPlaces
 mod Firsts
+mod Fits
 mod Flat
 mod Fronts
 mod Growths

@@ -3,6 +3,7 @@ pub mod Ascending
 pub mod ByKey
 pub mod Codes
 pub mod Counted
+pub mod Fits
 pub mod Fronts
 pub mod Growth
 pub mod Hits
