@@ -18,6 +18,7 @@ mod Kept
 mod KeyParts
 mod Members
 mod OneKeys
+mod Only
 mod Ranks
 mod Rising
 mod RowOrders

@@ -6,6 +6,7 @@ pub mod Counted
 pub mod Fits
 pub mod Fronts
 pub mod Growth
+pub mod Held
 pub mod Hits
 pub mod Kept
 pub mod Marks

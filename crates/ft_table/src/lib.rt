@@ -12,6 +12,7 @@ mod number;
 mod order;
 mod part;
 mod row;
+mod series;
 mod sorting;
 mod split;
 mod table;
