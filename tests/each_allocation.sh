@@ -16,8 +16,8 @@
 # `rt try`, which proves nothing, compiles a crate's tests anew for each allocation. That took half a
 # minute to three minutes on four processors that other work kept busy. The plain tests below make fewer
 # than 24 allocations in ft_filter, 30 in ft_trigger, 16 in ft_board, and between 40 and 80 in ft_desk, so
-# that these four crates should take one to three hours. Nobody has timed the whole, and ft_table's were not
-# counted.
+# that these four crates should take one to three hours, which nobody has timed. The one of ft_table makes
+# 12, and this crate was timed: 17 runs took 10 minutes.
 set -euo pipefail
 
 crates=$(dirname -- "$(realpath -- "${BASH_SOURCE[0]}")")/../crates

@@ -8,6 +8,7 @@ mod Empty
 mod Examples
 mod FirstPlaces
 mod Firsts
+mod Fits
 mod Flat
 mod Fronts
 mod Growths
@@ -17,6 +18,7 @@ mod Kept
 mod KeyParts
 mod Members
 mod OneKeys
+mod Only
 mod Ranks
 mod Rising
 mod RowOrders

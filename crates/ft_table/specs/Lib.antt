@@ -3,8 +3,10 @@ pub mod Ascending
 pub mod ByKey
 pub mod Codes
 pub mod Counted
+pub mod Fits
 pub mod Fronts
 pub mod Growth
+pub mod Held
 pub mod Hits
 pub mod Kept
 pub mod Marks

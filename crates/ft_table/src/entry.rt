@@ -1,75 +1,99 @@
 //! Entries: the hits of one key with their sums, and all keys with theirs.
 
-ghost use Rattle.std.specs.Prelude.{◌≡◌, ℕ, ◌+◌, ◌%◌, ◌<◌, ◌^◌, OnOk, OnErr, None, Some, IsTrue};
+ghost use Rattle.std.specs.Prelude.{◌≡◌, ℕ, ◌+◌, ◌%◌, ◌<◌, ◌^◌, OnOk, OnErr, IfOk, None, Some, IsTrue};
 ghost use Rattle.std.specs.Int.{w64, cast_unsigned};
 ghost use Rattle.std.specs.FinMap as map;
 ghost use Rattle.ft_table.specs.Hits.{sums_of, least_key, first_place, hitcount, hits_of};
-ghost use Rattle.ft_table.specs.Hits.{first_entry, hits_after};
+ghost use Rattle.ft_table.specs.Hits.{first_entry, hits_after, is_after};
 ghost use Rattle.ft_table.specs.ByKey.{hits_in};
 ghost use Rattle.ft_hist.specs.Parts.{key_cmp};
 ghost use Rattle.ft_maps.specs.Seen.{seen};
 ghost use Rattle.ft_table.specs.Rows.{hit_after};
+ghost use Rattle.ft_table.specs.Held.{only};
+ghost use Rattle.ft_event.specs.declared.pos.Pos.{Pos};
 
 use crate::hit::Hit;
 use crate::mark::Mark;
+use crate::series::{Series, added};
 use ft_event::Pos;
 use ft_hist::Key;
 use ft_maps::take;
 use std::alloc::{AllocError, Global};
 use std::collections::BTreeMap;
 use std::marker::Model;
-use std::ops::Bound;
 
-/// The hits of one key, by place, with the sums of their values modulo 2^64.
+/// The hits of one key, by place, with the sums of their values modulo 2^64. One hit stands in the
+/// entry itself, so that a key of one hit needs no tree.
 ///
 /// Contracts see the hits alone.
 #[derive(Drop)]
 pub(crate) struct Entry {
-    hits: BTreeMap<Pos, [i64; 3]>,
-    sums: [u64; 3],
+    held: Held,
+}
+
+/// The hits that are held.
+#[derive(Drop)]
+enum Held {
+    Nothing,
+    One((Pos, [i64; 3])),
+    Many(Series),
 }
 
 impl Model for Entry {
-    ghost use Rattle.ft_event.specs.Places.{pos_cmp};
     ghost use Rattle.ft_table.specs.Hits.{EntryHits};
-    ghost use Rattle.ft_maps.specs.Seen.{seen};
     ghost use Rattle.ft_table.specs.Codes.{entry_code};
+    ghost use Rattle.ft_table.specs.Held.{hits_held};
 
     ghost Value = { EntryHits };
 
     ghost coded = { entry_code };
 
-    ghost view = { λ e. seen pos_cmp e.hits };
-
-    ghost use Rattle.std.specs.Prelude.{◌≡◌};
-    ghost use Rattle.ft_table.specs.Hits.{sums_of};
-
-    ghost invariant = { λ e. e.sums ≡ sums_of (seen pos_cmp e.hits) };
+    ghost view = { λ e. hits_held e.held };
 }
 
-/// A sum and a value, modulo 2^64.
-fn added(sum: u64, value: i64) -> u64
-    ensures { result ≡ (sum + cast_unsigned w64 value) % 2 ^ 64 }
+/// Whether a place is after another, if there is another.
+fn is_after(place: Option<Pos>, pos: Pos) -> bool
+    ensures { result ≡ is_after place pos }
 {
-    sum.wrapping_add(value.cast_unsigned())
+    match place {
+        None => true,
+        Some(before) => before < pos,
+    }
 }
 
-/// A sum without a value that is in it, modulo 2^64.
-fn taken(sum: u64, value: i64) -> u64
-    ensures { (rest : ℕ) → sum ≡ (rest + cast_unsigned w64 value) % 2 ^ 64
-        → result ≡ rest % 2 ^ 64 }
+/// The sums of the values of one hit.
+fn sums_of_one(values: [i64; 3]) -> [u64; 3]
+    ensures { (pos : Pos) → result ≡ sums_of (only (pos, values)) }
 {
-    sum.wrapping_sub(value.cast_unsigned())
+    [
+        added(0, values[0]),
+        added(0, values[1]),
+        added(0, values[2]),
+    ]
+}
+
+/// Two hits at unlike places.
+fn two_hits(
+    alloc: Global,
+    first: (Pos, [i64; 3]),
+    second: (Pos, [i64; 3]),
+) -> Result<Series, AllocError>
+    requires { map.get (only first) second.0 ≡ None }
+    ensures { IfOk result (λ hits. hits ≡ map.insert (only first) second.0 second.1) }
+{
+    let mut series = Series::new(alloc);
+    series.insert(first.0, first.1)?;
+    series.insert(second.0, second.1)?;
+    Ok(series)
 }
 
 impl Entry {
     /// No hits.
-    fn new(alloc: Global) -> Entry
+    fn new() -> Entry
         ensures { result ≡ map.empty }
     {
         Entry {
-            hits: BTreeMap::new(alloc),
-            sums: [0, 0, 0],
+            held: Held::Nothing,
         }
     }
 
@@ -78,19 +102,21 @@ impl Entry {
         ensures len { result ≡ map.len self.now }
         ensures small { result < 2 ^ 63 }
     {
-        self.hits.len()
+        match &self.held {
+            Held::Nothing => 0,
+            Held::One(_) => 1,
+            Held::Many(series) => series.len(),
+        }
     }
 
     /// The place of its first hit.
     fn first(&self) -> Option<Pos>
         ensures { result ≡ least_key (map.entries self.now) }
     {
-        if self.hits.len() == 0 {
-            return None;
-        }
-        match self.hits.first_key_value() {
-            Some((pos, _)) => Some(*pos),
-            None => None,
+        match &self.held {
+            Held::Nothing => None,
+            Held::One(hit) => Some(hit.0),
+            Held::Many(series) => series.first(),
         }
     }
 
@@ -98,43 +124,59 @@ impl Entry {
     fn after(&self, place: Option<Pos>) -> Option<(Pos, [i64; 3])>
         ensures { result ≡ first_entry (hits_after place self.now) }
     {
-        let from = match place {
-            None => Bound::Unbounded,
-            Some(pos) => Bound::Excluded(pos),
-        };
-        match self.hits.range((from, Bound::Unbounded)).next() {
-            Some((pos, values)) => Some((*pos, *values)),
-            None => None,
+        match &self.held {
+            Held::Nothing => None,
+            Held::One(hit) => {
+                if is_after(place, hit.0) {
+                    Some(*hit)
+                } else {
+                    None
+                }
+            }
+            Held::Many(series) => series.after(place),
         }
     }
 
     /// Puts a hit at a place. Refused for memory, and then it is as it was.
-    fn insert(&mut self, pos: Pos, values: [i64; 3]) -> Result<(), AllocError>
+    fn insert(&mut self, alloc: Global, pos: Pos, values: [i64; 3]) -> Result<(), AllocError>
         requires { map.get self.old pos ≡ None }
         ensures ok { OnOk result (self.new ≡ map.insert self.old pos values) }
         ensures err { OnErr result (self.new ≡ self.old) }
     {
-        self.hits.insert(pos, values)?;
-        self.sums = [
-            added(self.sums[0], values[0]),
-            added(self.sums[1], values[1]),
-            added(self.sums[2], values[2]),
-        ];
-        Ok(())
+        match &mut self.held {
+            Held::Nothing => {
+                self.held = Held::One((pos, values));
+                Ok(())
+            }
+            Held::One(hit) => {
+                let series = two_hits(alloc, *hit, (pos, values))?;
+                self.held = Held::Many(series);
+                Ok(())
+            }
+            Held::Many(series) => series.insert(pos, values),
+        }
     }
 
     /// The sums of its values, modulo 2^64.
     pub(crate) fn sums(&self) -> [u64; 3]
         ensures { result ≡ sums_of self.now }
     {
-        self.sums
+        match &self.held {
+            Held::Nothing => [0, 0, 0],
+            Held::One(hit) => sums_of_one(hit.1),
+            Held::Many(series) => series.sums(),
+        }
     }
 
     /// Whether a hit stands at a place.
     fn contains(&self, pos: Pos) -> bool
         ensures { result ≡ map.contains_key self.now pos }
     {
-        self.hits.contains_key(&pos)
+        match &self.held {
+            Held::Nothing => false,
+            Held::One(hit) => pos.cmp(&hit.0).is_eq(),
+            Held::Many(series) => series.contains(pos),
+        }
     }
 
     /// Takes the hit at a place.
@@ -142,16 +184,16 @@ impl Entry {
         ensures left { self.new ≡ map.remove self.old pos }
         ensures found { result ≡ map.contains_key self.old pos }
     {
-        match self.hits.remove(&pos) {
-            None => false,
-            Some(values) => {
-                self.sums = [
-                    taken(self.sums[0], values[0]),
-                    taken(self.sums[1], values[1]),
-                    taken(self.sums[2], values[2]),
-                ];
+        match &mut self.held {
+            Held::Nothing => false,
+            Held::One(hit) => {
+                if pos.cmp(&hit.0).is_ne() {
+                    return false;
+                }
+                self.held = Held::Nothing;
                 true
             }
+            Held::Many(series) => series.remove(pos),
         }
     }
 }
@@ -221,10 +263,10 @@ pub(crate) fn put_hit(
     ensures err { OnErr result (hits_in by_key.new ≡ hits_in by_key.old) }
 {
     if let Some(entry) = by_key.get_mut(&mark.key) {
-        return entry.insert(mark.pos, values);
+        return entry.insert(alloc, mark.pos, values);
     }
-    let mut entry = Entry::new(alloc);
-    entry.insert(mark.pos, values)?;
+    let mut entry = Entry::new();
+    entry.insert(alloc, mark.pos, values)?;
     by_key.insert(mark.key, entry)?;
     Ok(())
 }

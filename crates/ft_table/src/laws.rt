@@ -2,6 +2,7 @@
 
 ghost use Rattle.ft_table.specs.Admission.{FirstsAreFirst, InByRank, AllCount, InsideCount};
 ghost use Rattle.ft_table.specs.Admission.{OutsideDrop, WholeCount};
+ghost use Rattle.ft_table.specs.Fits.{NoneFits, OneMoreFits, OneLessFits};
 ghost use Rattle.ft_table.specs.Growth.{KeysGrow, InGrows, RowsGrow, TotalsGrow};
 ghost use Rattle.ft_table.specs.OneKey.{LastGoesOut, FirstComesIn, OneOtherMoves};
 
@@ -38,4 +39,12 @@ pub fn one_key()
     ensures comes { LastGoesOut }
     ensures goes { FirstComesIn }
     ensures any { OneOtherMoves }
+{}
+
+/// A law: where the keys of all hits fit a trigger's key items, they do so as a hit comes whose key
+/// fits, and as a hit goes. So the text of a table can be written that was fed by its trigger.
+pub fn fitting_keys()
+    ensures none { NoneFits }
+    ensures comes { OneMoreFits }
+    ensures goes { OneLessFits }
 {}

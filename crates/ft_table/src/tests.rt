@@ -1,7 +1,14 @@
+//! Tests, and what they share.
+
+ghost use Rattle.ft_hist.specs.Fitting.{KeyFits};
+ghost use Rattle.ft_hist.specs.Hist.{Hist};
+ghost use Rattle.ft_table.specs.Rows.{AllFit};
+
 mod examples;
 mod order;
 mod recounts;
 mod texts;
+mod written;
 
 use super::*;
 use ft_event::{Comm, Pos};
@@ -33,7 +40,11 @@ fn hit(stamp: u64, number: i64, values: [i64; 3]) -> Hit {
 }
 
 /// Puts a hit in, if none stands there.
-fn put(table: &mut Table, hit: Hit) -> Result<(), AllocError> {
+fn put(table: &mut Table, hit: Hit) -> Result<(), AllocError>
+    ensures { (hist : Hist) → AllFit table.old hist → KeyFits hist.keys hit.key
+        → AllFit table.new hist }
+{
+    fitting_keys();
     if table.holds(hit.pos, hit.key) {
         return Ok(());
     }

@@ -11,6 +11,28 @@ fn three_hits(alloc: Global) -> Result<Table, AllocError> {
     Ok(table)
 }
 
+/// Whether a table of two keys has no hit.
+fn has_no_hits(table: &Table) -> bool {
+    are_totals(table, 0, 0, 0) && is_edge(table, None, None) && is_row(table, pid(5), None)
+}
+
+/// Whether a table has what the first of the three hits gives.
+fn has_one_hit(table: &Table) -> bool {
+    are_totals(table, 1, 1, 0)
+        && is_edge(table, Some(pid(5)), None)
+        && is_row(table, pid(5), Some((1, [1, 0, 0])))
+        && is_row(table, pid(6), None)
+}
+
+/// Whether a table has what the first two of the three hits give.
+fn has_two_hits(table: &Table) -> bool {
+    are_totals(table, 2, 2, 0)
+        && is_edge(table, Some(pid(6)), None)
+        && is_row(table, pid(5), Some((1, [1, 0, 0])))
+        && is_row(table, pid(6), Some((1, [2, 0, 0])))
+        && !table.holds(at(30), pid(7))
+}
+
 /// Whether a table has what the three hits give.
 fn has_three_hits(table: &Table) -> bool {
     table.is_in(&pid(5))
@@ -21,6 +43,8 @@ fn has_three_hits(table: &Table) -> bool {
         && is_row(table, pid(5), Some((1, [1, 0, 0])))
         && is_row(table, pid(6), Some((1, [2, 0, 0])))
         && is_row(table, pid(7), None)
+        && table.holds(at(30), pid(7))
+        && !table.holds(at(5), pid(7))
 }
 
 /// Whether a table has what they give with one of PID 7 at stamp 5.
@@ -107,29 +131,28 @@ fn each_key_comes_before_the_others(rt: HostRuntime) -> Result<(), Fail> {
     Ok(())
 }
 
-/// The table of the three hits, where a growth may be refused once.
-fn three_hits_at_last(alloc: Global) -> Result<Table, AllocError> {
-    match three_hits(alloc) {
-        Ok(table) => Ok(table),
-        Err(_) => three_hits(alloc),
-    }
-}
-
 /// Passes whichever allocation is refused: `rt try --test --fail-alloc N`.
 #[test]
 fn unchanged_after_want_of_memory(rt: HostRuntime) -> Result<(), Fail> {
-    let mut table = three_hits_at_last(rt.alloc())?;
+    let mut table = Table::new(rt.alloc(), 2);
+    if put(&mut table, hit(10, 5, [1, 0, 0])).is_err() {
+        assert!(rt; has_no_hits(&table));
+        put(&mut table, hit(10, 5, [1, 0, 0]))?;
+    }
+    if put(&mut table, hit(20, 6, [2, 0, 0])).is_err() {
+        assert!(rt; has_one_hit(&table));
+        put(&mut table, hit(20, 6, [2, 0, 0]))?;
+    }
+    if put(&mut table, hit(30, 7, [3, 0, 0])).is_err() {
+        assert!(rt; has_two_hits(&table));
+        put(&mut table, hit(30, 7, [3, 0, 0]))?;
+    }
+    assert!(rt; has_three_hits(&table));
     if put(&mut table, hit(5, 7, [4, 0, 0])).is_err() {
         assert!(rt; has_three_hits(&table));
         put(&mut table, hit(5, 7, [4, 0, 0]))?;
     }
     assert!(rt; has_four_hits(&table));
-    if put(&mut table, hit(40, 8, [4, 0, 0])).is_err() {
-        assert!(rt; has_four_hits(&table));
-        put(&mut table, hit(40, 8, [4, 0, 0]))?;
-    }
-    assert!(rt; are_totals(&table, 3, 2, 2));
-    table.remove(at(40), pid(8));
     table.remove(at(5), pid(7));
     assert!(rt; has_three_hits(&table));
     Ok(())

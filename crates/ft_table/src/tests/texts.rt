@@ -1,4 +1,4 @@
-//! The text of a table.
+//! The text of rows.
 
 ghost use Rattle.std.specs.Prelude.{◌≡◌, All, IfOk, None, [], ◌∷◌};
 ghost use Rattle.ft_hist.specs.Fitting.{KeyFits};
@@ -11,47 +11,6 @@ use crate::sorting::sort_rows;
 use crate::text::write_rows;
 use ft_event::{Body, Event, Field, Name, Wake};
 use ft_hist::{Item, KeyItem, Label, Mode, Trigger, Var, Work, fitting_parts};
-
-/// The rows by powers: the numbers 0 to 3 and -1.
-const POWERS: &[u8] = b"{ prio: ~ 2^1  } hitcount:          1
-{ prio: ~ 2^2  } hitcount:          1
-{ prio: ~ 2^64 } hitcount:          1
-{ prio: ~ 2^0  } hitcount:          2
-
-Totals:
-    Hits: 5
-    Entries: 4
-    Dropped: 0
-";
-
-/// The rows by buckets of 32.
-const BUCKETS: &[u8] = b"{ pid: ~ 32-63 } hitcount:          1
-{ pid: ~ 0-31 } hitcount:          5
-
-Totals:
-    Hits: 6
-    Entries: 2
-    Dropped: 0
-";
-
-/// The rows in hexadecimal, with a sum.
-const HEXADECIMAL: &[u8] = b"{ pid: 6 } hitcount:          2  prio:        240
-{ pid: 5 } hitcount:          1  prio:        120
-
-Totals:
-    Hits: 3
-    Entries: 2
-    Dropped: 0
-";
-
-/// One row.
-const ONE: &[u8] = b"{ pid:         42 } hitcount:          2
-
-Totals:
-    Hits: 2
-    Entries: 1
-    Dropped: 0
-";
 
 /// No row, and the totals.
 const NO_ROWS: &[u8] = b"
@@ -82,7 +41,7 @@ Totals:
 ";
 
 /// A trigger on wakings of these keys and values.
-fn trigger_of(
+pub(super) fn trigger_of(
     alloc: Global,
     keys: &[KeyItem],
     values: &[Item],
@@ -113,7 +72,7 @@ fn trigger_of(
 }
 
 /// A waking of such a name, PID and priority.
-fn waking(name: &str, pid: i32, prio: i32) -> Result<Event, &'static str> {
+pub(super) fn waking(name: &str, pid: i32, prio: i32) -> Result<Event, &'static str> {
     let Some(comm) = Comm::of(name.as_bytes()) else {
         return Err("the text is too long for a name");
     };
@@ -159,7 +118,7 @@ fn add_row(
 }
 
 /// The text of the table with these rows: the events' keys, each with its hits and its sum.
-fn table_text(
+fn text_of_rows(
     alloc: Global,
     trigger: &Trigger,
     hits: &[(Event, u64, u64)],
@@ -185,7 +144,7 @@ fn kept(hits: u64, entries: u64) -> Totals {
 }
 
 #[test]
-fn one_row_and_none(rt: HostRuntime) -> Result<(), Fail> {
+fn no_rows(rt: HostRuntime) -> Result<(), Fail> {
     let keys = [KeyItem {
         field: Field::Pid,
         mode: Mode::Plain,
@@ -195,84 +154,15 @@ fn one_row_and_none(rt: HostRuntime) -> Result<(), Fail> {
         descending: false,
     };
     let trigger = trigger_of(rt.alloc(), &keys, &[], sort, None)?;
-    let hits = [(waking("w", 42, 120)?, 2, 0)];
-    assert_eq!(rt;
-        table_text(rt.alloc(), &trigger, &hits, kept(2, 1))?.as_slice(),
-        ONE
-    );
     let totals = Totals {
         hits: 0,
         entries: 0,
         dropped: 7,
     };
     assert_eq!(rt;
-        table_text(rt.alloc(), &trigger, &[], totals)?.as_slice(),
+        text_of_rows(rt.alloc(), &trigger, &[], totals)?.as_slice(),
         NO_ROWS
     );
-    Ok(())
-}
-
-#[test]
-fn powers_by_hits(rt: HostRuntime) -> Result<(), Fail> {
-    let keys = [KeyItem {
-        field: Field::Prio,
-        mode: Mode::Log2,
-    }];
-    let sort = SortItem {
-        what: SortBy::Hits,
-        descending: false,
-    };
-    let trigger = trigger_of(rt.alloc(), &keys, &[], sort, None)?;
-    let hits = [
-        (waking("w", 31, 0)?, 2, 0),
-        (waking("w", 31, -1)?, 1, 0),
-        (waking("w", 31, 2)?, 1, 0),
-        (waking("w", 31, 3)?, 1, 0),
-    ];
-    assert_eq!(rt;
-        table_text(rt.alloc(), &trigger, &hits, kept(5, 4))?.as_slice(),
-        POWERS
-    );
-    Ok(())
-}
-
-#[test]
-fn buckets_by_hits(rt: HostRuntime) -> Result<(), Fail> {
-    let keys = [KeyItem {
-        field: Field::Pid,
-        mode: Mode::Buckets(32),
-    }];
-    let sort = SortItem {
-        what: SortBy::Hits,
-        descending: false,
-    };
-    let trigger = trigger_of(rt.alloc(), &keys, &[], sort, None)?;
-    let hits = [(waking("w", 31, 0)?, 5, 0), (waking("w", 32, 120)?, 1, 0)];
-    assert_eq!(rt;
-        table_text(rt.alloc(), &trigger, &hits, kept(6, 2))?.as_slice(),
-        BUCKETS
-    );
-    Ok(())
-}
-
-#[test]
-fn hexadecimal_by_descending_sum(rt: HostRuntime) -> Result<(), Fail> {
-    let keys = [KeyItem {
-        field: Field::Pid,
-        mode: Mode::Hex,
-    }];
-    let values = [Item::Num(Field::Prio)];
-    let sort = SortItem {
-        what: SortBy::Value(0),
-        descending: true,
-    };
-    let trigger = trigger_of(rt.alloc(), &keys, &values, sort, None)?;
-    let hits = [
-        (waking("w", 5, 120)?, 1, 120),
-        (waking("w", 6, 120)?, 2, 240),
-    ];
-    let text = table_text(rt.alloc(), &trigger, &hits, kept(3, 2))?;
-    assert_eq!(rt; text.as_slice(), HEXADECIMAL);
     Ok(())
 }
 
@@ -290,7 +180,7 @@ fn stamps_that_wrap(rt: HostRuntime) -> Result<(), Fail> {
     let saves = Some(Var::Saves(Label::of(rt.alloc(), b"ts0")?));
     let trigger = trigger_of(rt.alloc(), &keys, &values, sort, saves)?;
     let hits = [(waking("w", 42, 120)?, 4294, 18_442_589_569_023_995_706)];
-    let text = table_text(rt.alloc(), &trigger, &hits, kept(4294, 1))?;
+    let text = text_of_rows(rt.alloc(), &trigger, &hits, kept(4294, 1))?;
     assert_eq!(rt; text.as_slice(), STAMPS);
     Ok(())
 }
@@ -317,7 +207,7 @@ fn three_parts(rt: HostRuntime) -> Result<(), Fail> {
     };
     let trigger = trigger_of(rt.alloc(), &keys, &[], sort, None)?;
     let hits = [(waking("a pid=7 b", 42, -1)?, 10_000_000_000, 0)];
-    let text = table_text(rt.alloc(), &trigger, &hits, kept(10_000_000_000, 1))?;
+    let text = text_of_rows(rt.alloc(), &trigger, &hits, kept(10_000_000_000, 1))?;
     assert_eq!(rt; text.as_slice(), THREE_PARTS);
     Ok(())
 }

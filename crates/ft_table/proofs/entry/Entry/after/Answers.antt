@@ -1,45 +1,18 @@
--- The first of the tree's range is the first behind the place.
-use Rattle.std.proofs.Common.{◌≡◌, Bool, List, [], ◌∷◌, sym, ap, ◌∙◌, Some, None, Option}
-use Rattle.std.specs.Prelude.{ℤ}
-use Rattle.std.specs.List.{filter}
-use Rattle.std.specs.Ordering.{is_lt}
-use Rattle.std.specs.FinMap as map
-use Rattle.std.specs.declared.ops.Bound.{Bound}
-use Rattle.std.specs.declared.ops.Bound.TheVariants.{Unbounded, Excluded}
-use Rattle.std.specs.BTreeMap.Range.{range_contains}
-use Rattle.std.specs.Map.Iter.{deref_pair}
-use Rattle.std.proofs.lemmas.Map.Iter.{rest_more, rest_all}
-use Rattle.ft_event.specs.declared.pos.Pos.{Pos}
-use Rattle.ft_event.specs.Places.{pos_cmp, pos_cmp_total}
-use Rattle.ft_table.specs.Hits.{first_entry, is_after}
-use Rattle.ft_maps.specs.Seen.{entries-seen}
-use Rattle.ft_table.proofs.Flat.{true_and}
+use Rattle.std.proofs.Common.{◌≡◌, true, false, sym, ap, ◌∙◌}
+use Rattle.ft_table.specs.Held.{hits_held}
+use Rattle.ft_table.specs.Hits.{EntryHits, first_entry, hits_after, is_after}
+use Rattle.ft_table.proofs.Only.{after-empty, after-only}
 use Rattle.ft_table.proofs.entry.Entry.after.Goals as goal
-use Rattle.ft_table.proofs.entry.Entry.after.Goals.{in-None, in-Some}
 
-behind_none : (from : Bound Pos) (place : Option Pos) → from ≡ Unbounded → place ≡ None → (q : Pos) → range_contains pos_cmp from Unbounded q ≡ is_after place q
-behind_none from place e f q = ap (λ b. range_contains pos_cmp b Unbounded q) e ∙ ap (λ p. is_after p q) (sym f)
+pub returns-in-Nothing : goal.returns-in-Nothing
+returns-in-Nothing c = sym (ap (λ (l : EntryHits). first_entry (hits_after c.args.place l)) (sym c.self.view_is ∙ ap hits_held c.in-Nothing.is) ∙ after-empty c.args.place)
 
-behind_some : (from : Bound Pos) (place : Option Pos) (a : Pos) → from ≡ Excluded a → place ≡ Some a → (q : Pos) → range_contains pos_cmp from Unbounded q ≡ is_after place q
-behind_some from place a e f q = ap (λ b. range_contains pos_cmp b Unbounded q) e ∙ true_and (is_lt (pos_cmp a q)) ∙ ap (λ p. is_after p q) (sym f)
+pub returns-then-is_after : goal.returns-then-is_after
+returns-then-is_after c =
+    let yes_after : is_after c.args.place c.in-One.hit.0 ≡ true = sym c.is_after.ensures ∙ c.if-is_after.true in
+    sym (ap (λ (l : EntryHits). first_entry (hits_after c.args.place l)) (sym c.self.view_is ∙ ap hits_held c.in-One.is) ∙ after-only c.args.place c.in-One.hit true yes_after)
 
-same_filter : (p q : Pos → Bool) → ((x : Pos) → p x ≡ q x) → (es : List (Pos × List ℤ)) → filter (λ e. p e.0) es ≡ filter (λ e. q e.0) es
-same_filter p q h es = ap (λ (f : Pos → Bool). filter (λ (e : Pos × List ℤ). f e.0) es) (λ i x. h x i)
-
-pub returns-in-Some-next : goal.returns-in-Some-next
-returns-in-Some-next c =
-    let es : List (Pos × List ℤ) = c.self.inside.hits.entries in
-    let all : map.entries c.args.self.now ≡ es = ap (λ l. map.entries l) (sym c.self.view_is) ∙ entries-seen pos_cmp_total c.self.inside.hits c.range.ensures.ordered in
-    let same : (q : Pos) → range_contains pos_cmp c.match-place.from Unbounded q ≡ is_after c.args.place q = elim c.match-place.branch [ in-None w ↦ behind_none c.match-place.from c.args.place w.from-is w.in-None.is | in-Some w ↦ behind_some c.match-place.from c.args.place w.in-Some.pos w.from-is w.in-Some.is ] in
-    let run : c.range.result ≡ filter (λ e. is_after c.args.place e.0) es = c.range.ensures.between tt ∙ same_filter (range_contains pos_cmp c.match-place.from Unbounded) (is_after c.args.place) same es in
-    let more : c.range.result ≡ (c.in-Some-next.pos.now, c.in-Some-next.values.now) ∷ c.next.new.self = rest_more (deref_pair {K = Pos} {X = List ℤ}) _ _ _ _ c.in-Some-next.is c.next.ensures.steps in
-    ap first_entry (sym more ∙ run ∙ ap (filter (λ e. is_after c.args.place e.0)) (sym all))
-
-pub returns-in-None-next : goal.returns-in-None-next
-returns-in-None-next c =
-    let es : List (Pos × List ℤ) = c.self.inside.hits.entries in
-    let all : map.entries c.args.self.now ≡ es = ap (λ l. map.entries l) (sym c.self.view_is) ∙ entries-seen pos_cmp_total c.self.inside.hits c.range.ensures.ordered in
-    let same : (q : Pos) → range_contains pos_cmp c.match-place.from Unbounded q ≡ is_after c.args.place q = elim c.match-place.branch [ in-None w ↦ behind_none c.match-place.from c.args.place w.from-is w.in-None.is | in-Some w ↦ behind_some c.match-place.from c.args.place w.in-Some.pos w.from-is w.in-Some.is ] in
-    let run : c.range.result ≡ filter (λ e. is_after c.args.place e.0) es = c.range.ensures.between tt ∙ same_filter (range_contains pos_cmp c.match-place.from Unbounded) (is_after c.args.place) same es in
-    let none : c.range.result ≡ [] = rest_all (deref_pair {K = Pos} {X = List ℤ}) _ _ _ c.in-None-next.is c.next.ensures.steps in
-    ap first_entry (sym none ∙ run ∙ ap (filter (λ e. is_after c.args.place e.0)) (sym all))
+pub returns-else-is_after : goal.returns-else-is_after
+returns-else-is_after c =
+    let not_after : is_after c.args.place c.in-One.hit.0 ≡ false = sym c.is_after.ensures ∙ c.if-is_after.false in
+    sym (ap (λ (l : EntryHits). first_entry (hits_after c.args.place l)) (sym c.self.view_is ∙ ap hits_held c.in-One.is) ∙ after-only c.args.place c.in-One.hit false not_after)

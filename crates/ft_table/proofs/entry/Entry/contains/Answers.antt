@@ -1,9 +1,18 @@
-use Rattle.std.proofs.Common.{sym, ap, ◌∙◌}
+use Rattle.std.proofs.Common.{◌≡◌, rules, sym, ap, ◌∙◌}
 use Rattle.std.specs.Prelude.{is_some}
+use Rattle.std.specs.Ordering.{eq_by_cmp}
 use Rattle.std.specs.FinMap as map
-use Rattle.ft_event.specs.Places.{pos_cmp_total}
-use Rattle.ft_maps.specs.Seen.{get-seen}
+use Rattle.std.specs.FinMap.{get-empty}
+use Rattle.ft_event.specs.Places.{pos_cmp}
+use Rattle.ft_table.specs.Held.{hits_held}
+use Rattle.ft_table.specs.Hits.{EntryHits}
+use Rattle.ft_table.proofs.Only.{has-only}
 use Rattle.ft_table.proofs.entry.Entry.contains.Goals as goal
 
-pub returns : goal.returns
-returns c = c.contains_key.ensures ∙ sym (ap is_some (get-seen pos_cmp_total c.self.inside.hits c.args.pos)) ∙ ap (λ l. map.contains_key l c.args.pos) c.self.view_is
+pub returns-in-Nothing : goal.returns-in-Nothing
+returns-in-Nothing c = sym (ap (λ (l : EntryHits). map.contains_key l c.args.pos) (sym c.self.view_is ∙ ap hits_held c.in-Nothing.is) ∙ ap is_some (get-empty pos_cmp c.args.pos))
+
+pub returns-in-One : goal.returns-in-One
+returns-in-One c =
+    let tie : c.is_eq.result ≡ eq_by_cmp pos_cmp c.args.pos c.in-One.hit.0 = search rules in
+    tie ∙ sym (ap (λ (l : EntryHits). map.contains_key l c.args.pos) (sym c.self.view_is ∙ ap hits_held c.in-One.is) ∙ has-only c.in-One.hit c.args.pos)

@@ -1,9 +1,15 @@
--- A map in order has as many entries as the finite map that it is seen as.
-use Rattle.std.proofs.Common.{sym, ap, ◌∙◌}
+use Rattle.std.proofs.Common.{List, sym, ap, ◌∙◌}
+use Rattle.std.specs.Prelude.{ℤ}
 use Rattle.std.specs.FinMap as map
-use Rattle.ft_event.specs.Places.{pos_cmp_total}
-use Rattle.ft_maps.specs.Seen.{len-seen}
+use Rattle.std.specs.FinMap.{len-empty}
+use Rattle.ft_event.specs.Places.{pos_cmp}
+use Rattle.ft_table.specs.Held.{hits_held}
+use Rattle.ft_table.specs.Hits.{EntryHits}
+use Rattle.ft_table.proofs.Only.{len-only}
 use Rattle.ft_table.proofs.entry.Entry.len.Goals as goal
 
-pub returns-clause-len : goal.returns-clause-len
-returns-clause-len c = c.len.ensures.len ∙ sym (len-seen pos_cmp_total c.self.inside.hits c.len.ensures.ordered) ∙ ap map.len c.self.view_is
+pub returns-in-Nothing-clause-len : goal.returns-in-Nothing-clause-len
+returns-in-Nothing-clause-len c = sym (ap (λ (l : EntryHits). map.len l) (sym c.self.view_is ∙ ap hits_held c.in-Nothing.is) ∙ len-empty pos_cmp (List ℤ))
+
+pub returns-in-One-clause-len : goal.returns-in-One-clause-len
+returns-in-One-clause-len c = sym (ap (λ (l : EntryHits). map.len l) (sym c.self.view_is ∙ ap hits_held c.in-One.is) ∙ len-only c.in-One.field-0)

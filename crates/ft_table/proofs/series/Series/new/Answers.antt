@@ -8,7 +8,7 @@ use Rattle.ft_event.specs.Places.{pos_cmp}
 use Rattle.ft_table.specs.Hits.{unsigned_at, sums_of}
 use Rattle.ft_maps.specs.Seen.{seen-empty}
 use Rattle.ft_maps.specs.Entries.{entries-empty}
-use Rattle.ft_table.proofs.entry.Entry.new.Goals as goal
+use Rattle.ft_table.proofs.series.Series.new.Goals as goal
 
 abbrev total : ℕ → List (Pos × List ℤ) → ℕ
 total j es = sum_by (unsigned_at j) (values_of es) % 2 ^ 64

@@ -1,7 +1,7 @@
 use Rattle.std.proofs.lemmas.List.Sorted.{All-permutation}
 use Rattle.ft_hist.specs.Fitting.{KeyFits}
 use Rattle.ft_table.specs.Counted.{Counted}
-use Rattle.ft_table.proofs.tests.texts.table_text.Goals as goal
+use Rattle.ft_table.proofs.tests.texts.text_of_rows.Goals as goal
 
 pub write_rows-requires : goal.write_rows-requires
 write_rows-requires c =

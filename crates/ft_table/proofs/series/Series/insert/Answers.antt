@@ -6,7 +6,7 @@ use Rattle.ft_event.specs.Places.{pos_cmp, pos_cmp_total, pos_same}
 use Rattle.ft_table.specs.Hits.{EntryHits, unsigned_at, sums_of}
 use Rattle.ft_maps.specs.Seen.{seen, seen-insert}
 use Rattle.ft_table.proofs.Columns.{column-more}
-use Rattle.ft_table.proofs.entry.Entry.insert.Goals as goal
+use Rattle.ft_table.proofs.series.Series.insert.Goals as goal
 
 pub returns-clause-ok : goal.returns-clause-ok
 returns-clause-ok c = seen-insert pos_cmp_total pos_same c.self.inside.hits c.insert.new.self c.args.pos c.args.values c.in_ok-insert.ensures.updates.0 ∙ ap (λ l. map.insert l c.args.pos c.args.values) c.self.view_is
