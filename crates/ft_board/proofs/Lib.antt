@@ -6,3 +6,6 @@ pub mod Merging
 pub mod Places
 pub mod Counted
 pub mod Savers
+pub mod Entries
+pub mod KeysApart
+pub mod Growing
