@@ -9,3 +9,4 @@ pub mod Savers
 pub mod Entries
 pub mod KeysApart
 pub mod Growing
+pub mod Acting

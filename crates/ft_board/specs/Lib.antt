@@ -11,6 +11,7 @@ pub mod Hits
 pub mod Kept
 pub mod Operations
 pub mod Answers
+pub mod Shelves
 pub mod After
 pub mod Reachable
 pub use Rattle.ft_event.specs.Traced

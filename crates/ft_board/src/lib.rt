@@ -2,6 +2,7 @@
 //! the events gives.
 #![tactic(auto)]
 
+mod act;
 mod board;
 mod lane;
 mod laws;
@@ -12,6 +13,7 @@ mod plain;
 mod refused;
 mod role;
 mod roles;
+mod shelf;
 
 pub use board::Board;
 pub use laws::reachable_bases;
