@@ -10,3 +10,6 @@ pub mod Entries
 pub mod KeysApart
 pub mod Growing
 pub mod Acting
+pub mod Acts
+pub mod Standing
+pub mod Replaying

@@ -1,12 +1,11 @@
 -- What replaying holds: the hits of each attached trigger, from which its rows follow, and the variables that are set.
-use Rattle.std.specs.Prelude.{◌≡◌, ℕ, ℤ, List, [], ◌∷◌, ◌++◌, Option, Some, None, if◌then◌else◌, refl, IsSome}
+use Rattle.std.specs.Prelude.{◌≡◌, ℕ, ℤ, List, [], ◌∷◌, ◌++◌, Option, Some, None, if◌then◌else◌, fold, refl, IsSome}
 use Rattle.std.specs.declared.cmp.Ordering.TheVariants.{Less}
 use Rattle.std.specs.Coded.{Coded, code_by, coded×, coded_list}
 use Rattle.std.specs.Option.{option_map_or}
 use Rattle.std.specs.Ordering.{nat_cmp}
 use Rattle.std.specs.FinMap as map
 use Rattle.std.specs.FinMap.{FinMap}
-use Rattle.ft_event.specs.Places.{pos_cmp}
 use Rattle.ft_event.specs.Traced.{Traced}
 use Rattle.ft_event.specs.declared.pos.Pos.{Pos}
 use Rattle.ft_hist.specs.Hist.{Hist}
@@ -59,6 +58,18 @@ tally_on shelf = tally_of shelf.table shelf.pairs
 abbrev pub state_on : Shelves × Saved → State
 state_on (shelves, saved) = record { tallies = map_by tally_on shelves; variables = saved }
 
+-- the shelf of a trigger without hits (our own choice)
+abbrev pub new_shelf : Triggers → Hist → Shelved
+new_shelf triggers hist = record { role = role_of triggers hist.variable; table = record { hits = map.empty; size = hist.size }; pairs = [] }
+
+-- shelves, and a new one for a trigger (our own choice)
+abbrev pub with_shelf : Triggers → Shelves → ℕ × Hist → Shelves
+with_shelf triggers shelves attached = map.insert shelves attached.0 (new_shelf triggers attached.1)
+
+-- a shelf without hits for each attached trigger (our own choice)
+unfoldable pub new_shelves : Triggers → Shelves
+new_shelves triggers = fold (with_shelf triggers) map.empty (map.entries triggers)
+
 -- ---- a hit
 
 -- pairs, and one more where the hit at a place read (our own choice)
@@ -100,13 +111,17 @@ after_act hist event at held = option_map_or (after_key hist event at held) (hit
 abbrev pub IsFree : At → Shelves → Type 0
 IsFree at shelves = (shelf : Shelved) (key : List Part) → map.get shelves at.trigger ≡ Some shelf → map.get shelf.table.hits (record { pos = at.pos; key = key }) ≡ None
 
--- the shelf of an attached trigger: with its role and its size, and only keys that fit it (our own choice)
-pub record HasShelf (triggers : Triggers) (shelves : Shelves) (id : ℕ) (hist : Hist) : Type 0 where
-  pub shelf : Shelved
-  pub there : map.get shelves id ≡ Some shelf
+-- a shelf is as a trigger's: with its role and its size, and only keys that fit it (our own choice)
+pub record Suits (triggers : Triggers) (hist : Hist) (shelf : Shelved) : Type 0 where
   pub role : shelf.role ≡ role_of triggers hist.variable
   pub size : shelf.table.size ≡ hist.size
   pub fit : AllFit shelf.table hist
+
+-- a trigger has its shelf (our own choice)
+pub record HasShelf (triggers : Triggers) (shelves : Shelves) (id : ℕ) (hist : Hist) : Type 0 where
+  pub shelf : Shelved
+  pub there : map.get shelves id ≡ Some shelf
+  pub suits : Suits triggers hist shelf
 
 -- each attached trigger has its shelf (our own choice)
 abbrev pub AreShelved : Triggers → Shelves → Type 0

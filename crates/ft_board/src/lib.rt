@@ -11,6 +11,7 @@ mod merge;
 mod order;
 mod plain;
 mod refused;
+mod replay;
 mod role;
 mod roles;
 mod shelf;
