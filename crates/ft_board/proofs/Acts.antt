@@ -1,8 +1,10 @@
 -- Acts in order, and which hits stand before them.
-use Rattle.std.proofs.Common.{◌≡◌, ℕ, false, true, sym, ap, ◌∙◌}
+use Rattle.std.proofs.Common.{◌≡◌, ℕ, List, [], ◌∷◌, sym, ap, ◌∙◌}
 use Rattle.std.specs.declared.cmp.Ordering.{Ordering}
 use Rattle.std.specs.declared.cmp.Ordering.TheVariants.{Less, Equal, Greater}
-use Rattle.std.specs.Ordering.{nat_cmp, is_eq, ordering_then}
+use Rattle.std.specs.List.{AllByRecursion}
+use Rattle.std.specs.Map.{keys_of}
+use Rattle.std.specs.Ordering.{nat_cmp, ordering_then}
 use Rattle.std.specs.Cmp.{IsTotalOrder, eq_by_cmp_equiv, nat_cmp_total}
 use Rattle.ft_event.specs.Places.{pos_cmp, pos_cmp_total}
 use Rattle.ft_event.specs.declared.pos.Pos.{Pos}
@@ -41,3 +43,8 @@ place_by Greater ids tied less = less
 -- an earlier act of the same trigger stands at an earlier place
 pub place_before : (p q : Pos) (i : ℕ) → at_cmp (act_of p i) (act_of q i) ≡ Less → pos_cmp p q ≡ Less
 place_before p q i less = place_by (pos_cmp p q) (nat_cmp i i) (ties nat_cmp_total i) less
+
+-- what holds of all keys above one holds of the entries behind it
+pub all_above : {K X : Type 0} (R : K → K → Ordering) (k : K) (P : K → Type 0) → ((q : K) → R k q ≡ Less → P q) → (es : List (K × X)) → AllByRecursion (λ q. R k q ≡ Less) (keys_of es) → AllByRecursion (λ e. P e.0) es
+all_above R k P f [] above = tt
+all_above R k P f (e ∷ es) above = (f e.0 above.0, all_above R k P f es above.1)
