@@ -1,6 +1,7 @@
 pub mod Loading
 pub mod Held
 pub mod Reachable
+pub mod Attaching
 pub mod After
 pub mod Merging
 pub mod Places

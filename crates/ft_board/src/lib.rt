@@ -3,6 +3,7 @@
 #![tactic(auto)]
 
 mod act;
+mod attach;
 mod board;
 mod lane;
 mod laws;
@@ -22,3 +23,6 @@ pub use order::merged_order;
 pub use plain::PlainBoard;
 pub use refused::{Done, Kept, Latency, Place, Refused};
 pub use role::{Pair, Role, Variable};
+
+#[cfg(test)]
+mod tests;

@@ -2,6 +2,7 @@
 
 ghost use Rattle.std.specs.Prelude.{◌≡◌};
 
+use crate::attach::variable_refused;
 use crate::board::Board;
 use crate::lane::Lane;
 use crate::load::{held_cpu, load_lanes};
@@ -103,7 +104,21 @@ impl Board for PlainBoard {
     }
 
     fn attach(&mut self, trigger: Trigger) -> Result<Done<u32>, Refused> {
-        Err(Refused::Memory)
+        if len(&self.triggers) >= TRIGGER_LIMIT || self.next_id > NUMBER_LIMIT {
+            return Err(Refused::TooManyTriggers);
+        }
+        if let Some(refused) = variable_refused(&self.triggers, &trigger) {
+            return Err(refused);
+        }
+        let id = self.next_id as u32;
+        if put(&mut self.triggers, id, trigger).is_err() {
+            return Err(Refused::Memory);
+        }
+        self.next_id += 1;
+        Ok(Done {
+            value: id,
+            kept: Kept::Now,
+        })
     }
 
     fn hist(&mut self, id: u32) -> Result<Vec<u8>, Refused> {
