@@ -10,7 +10,7 @@ pub mod Savers
 pub mod Entries
 pub mod KeysApart
 pub mod Growing
-pub mod Acting
-pub mod Acts
+pub mod Shelving
+pub mod Order
 pub mod Standing
-pub mod Replaying
+pub mod Shelved

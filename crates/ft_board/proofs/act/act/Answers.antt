@@ -8,7 +8,7 @@ use Rattle.std.proofs.lemmas.Result.{on_ok_weaker}
 use Rattle.ft_maps.specs.Seen.{seen, get-seen, seen-found}
 use Rattle.ft_board.specs.Shelves.{Shelved, Shelves, Saved}
 use Rattle.ft_board.specs.Variables.{variable_cmp}
-use Rattle.ft_board.proofs.Acting.{after_act-no_hit, after_act-no_shelf, after_act-hit}
+use Rattle.ft_board.proofs.Shelving.{after_act-no_hit, after_act-no_shelf, after_act-hit}
 use Rattle.ft_board.proofs.act.act.Goals as goal
 
 pub returns-in_default : goal.returns-in_default

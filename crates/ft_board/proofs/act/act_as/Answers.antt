@@ -7,7 +7,7 @@ use Rattle.ft_board.specs.Shelves.{Saved, after_hit}
 use Rattle.ft_board.specs.Variables.{variable_cmp, variable_cmp_total, variable_same}
 use Rattle.ft_board.specs.declared.role.Variable.{Variable}
 use Rattle.ft_board.specs.declared.role.Role.{Role}
-use Rattle.ft_board.proofs.Acting.{remove_absent, after_hit-unset}
+use Rattle.ft_board.proofs.Shelving.{remove_absent, after_hit-unset}
 use Rattle.ft_board.proofs.act.act_as.Goals as goal
 
 pub returns-in_default : goal.returns-in_default

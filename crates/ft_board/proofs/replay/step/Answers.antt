@@ -20,9 +20,9 @@ use Rattle.ft_board.specs.Base.{Triggers}
 use Rattle.ft_board.specs.Replay.{State, act_at}
 use Rattle.ft_board.specs.Shelves.{Shelves, Saved, state_on, after_act, AreShelved, AllBefore}
 use Rattle.ft_board.specs.Variables.{variable_cmp}
-use Rattle.ft_board.proofs.Acts.{act_of, earlier_place, lower_id, all_above}
+use Rattle.ft_board.proofs.Order.{act_of, earlier_place, lower_id, all_above}
 use Rattle.ft_board.proofs.Entries.{all_by, entries_found}
-use Rattle.ft_board.proofs.Replaying.{after_act-acts, step-fold}
+use Rattle.ft_board.proofs.Shelved.{after_act-acts, step-fold}
 use Rattle.ft_board.proofs.Standing.{free_before, before_later, after_act-before, after_act-shelved}
 use Rattle.ft_board.proofs.replay.step.Goals as goal
 

@@ -33,7 +33,7 @@ use Rattle.ft_board.specs.Variables.{variable_cmp}
 use Rattle.ft_board.specs.declared.role.Role.{Role}
 use Rattle.ft_board.specs.declared.role.Role.TheVariants.{Plain, Saves, Reads}
 use Rattle.ft_board.specs.declared.role.Variable.{Variable}
-use Rattle.ft_board.proofs.Acting.{after_act-no_hit, after_act-hit, with_hit_on}
+use Rattle.ft_board.proofs.Shelving.{after_act-no_hit, after_act-hit, with_hit_on}
 use Rattle.ft_board.proofs.Entries.{all_both, all_by, entries_found}
 use Rattle.ft_board.proofs.Growing.{place_is_counted, in_where_counted, tally_grows_with, tally-empty}
 use Rattle.ft_board.proofs.Standing.{comes_last, none_before, each_shelf}
