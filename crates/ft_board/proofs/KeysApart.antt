@@ -18,7 +18,7 @@ use Rattle.ft_table.specs.declared.mark.Mark.{Mark}
 use Rattle.ft_table.specs.Hits.{Hits, same_key, first_place}
 use Rattle.ft_table.specs.Marks.{mark_cmp, mark_cmp_total, mark_same}
 use Rattle.ft_table.specs.Tabled.{Tabled, is_first, first_hits, order_of, keys_in}
-use Rattle.ft_board.proofs.Entries.{all_both, all_by, on_keys, entries_found}
+use Rattle.ft_board.proofs.Apart.{all_map, entries_found}
 
 -- a first hit is a hit
 pub get-first_hits : (hits : Hits) (m : Mark) → map.get (first_hits hits) m ≡ cond (is_first hits m) (map.get hits m) None
@@ -29,13 +29,17 @@ is_first-some : (first : Bool) (o : Option (List ℤ)) (v : List ℤ) → cond f
 is_first-some true o v e = refl
 is_first-some false o v e = absurd cc
 
+on_keys : {K X : Type 0} (P : K → Type 0) (es : List (K × X)) → AllByRecursion (λ e. P e.0) es → AllByRecursion P (list_map (λ e. e.0) es)
+on_keys P [] h = tt
+on_keys P (e ∷ es) h = (h.0, on_keys P es h.1)
+
 -- each mark of the order is that of its key's first hit
 order_first : (hits : Hits) → AllByRecursion (λ m. is_first hits m ≡ true) (order_of hits)
 order_first hits =
     on_keys (λ m. is_first hits m ≡ true) (map.entries (first_hits hits))
-    (all_both (λ e. map.get (first_hits hits) e.0 ≡ Some e.1) (λ e. ◌≡◌ {A = Mark} e.0 e.0) (λ e. is_first hits e.0 ≡ true)
-    (λ e is _. is_first-some (is_first hits e.0) (map.get hits e.0) e.1 (sym (get-first_hits hits e.0) ∙ is)) (map.entries (first_hits hits))
-    (entries_found mark_cmp mark_cmp_total (first_hits hits)) (all_by (λ e. ◌≡◌ {A = Mark} e.0 e.0) (λ e. refl) (map.entries (first_hits hits))))
+    (all_map (λ e. map.get (first_hits hits) e.0 ≡ Some e.1) (λ e. is_first hits e.0 ≡ true)
+    (λ e is. is_first-some (is_first hits e.0) (map.get hits e.0) e.1 (sym (get-first_hits hits e.0) ∙ is)) (map.entries (first_hits hits))
+    (entries_found mark_cmp mark_cmp_total (first_hits hits)))
 
 one_place : (first : Option Pos) (p q : Pos) → option_map_or (eq_by_cmp pos_cmp p) first false ≡ true → option_map_or (eq_by_cmp pos_cmp q) first false ≡ true → p ≡ q
 one_place None p q a b = absurd cc

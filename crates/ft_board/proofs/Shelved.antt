@@ -34,7 +34,7 @@ use Rattle.ft_board.specs.declared.role.Role.{Role}
 use Rattle.ft_board.specs.declared.role.Role.TheVariants.{Plain, Saves, Reads}
 use Rattle.ft_board.specs.declared.role.Variable.{Variable}
 use Rattle.ft_board.proofs.Shelving.{after_act-no_hit, after_act-hit, with_hit_on}
-use Rattle.ft_board.proofs.Entries.{all_both, all_by, entries_found}
+use Rattle.ft_board.proofs.Apart.{all_map, entries_found}
 use Rattle.ft_board.proofs.Growing.{place_is_counted, in_where_counted, tally_grows_with, tally-empty}
 use Rattle.ft_board.proofs.Standing.{comes_last, none_before, each_shelf}
 use Rattle.ft_board.proofs.Places.{merged_at, none_later}
@@ -211,7 +211,4 @@ held_stamp lanes pos event held =
 
 -- and so has each of the merged events
 pub merged_stamped : (lanes : Lanes) → AllByRecursion (λ e. e.0.stamp ≡ e.1.stamp) (map.entries (merged lanes))
-merged_stamped lanes =
-    all_both (λ e. map.get (merged lanes) e.0 ≡ Some e.1) (λ e. ◌≡◌ {A = Pos} e.0 e.0) (λ e. e.0.stamp ≡ e.1.stamp)
-    (λ e is _. held_stamp lanes e.0 e.1 (sym (merged_at e.0 lanes) ∙ is)) (map.entries (merged lanes))
-    (entries_found pos_cmp pos_cmp_total (merged lanes)) (all_by (λ e. ◌≡◌ {A = Pos} e.0 e.0) (λ e. refl) (map.entries (merged lanes)))
+merged_stamped lanes = all_map _ _ (λ e is. held_stamp lanes e.0 e.1 (sym (merged_at e.0 lanes) ∙ is)) (map.entries (merged lanes)) (entries_found pos_cmp pos_cmp_total (merged lanes))

@@ -9,6 +9,7 @@ pub mod Tally
 pub mod Replay
 pub mod Hits
 pub mod Kept
+pub mod Counting
 pub mod Operations
 pub mod Answers
 pub mod Shelves

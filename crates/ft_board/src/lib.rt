@@ -3,8 +3,10 @@
 #![tactic(auto)]
 
 mod act;
+mod answers;
 mod attach;
 mod board;
+mod counting;
 mod lane;
 mod laws;
 mod load;
@@ -18,6 +20,7 @@ mod roles;
 mod shelf;
 
 pub use board::Board;
+pub use counting::{counted_hits, kept_maps};
 pub use laws::reachable_bases;
 pub use order::merged_order;
 pub use plain::PlainBoard;

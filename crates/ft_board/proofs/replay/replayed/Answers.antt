@@ -21,7 +21,7 @@ use Rattle.ft_board.specs.Replay.{State, step}
 use Rattle.ft_board.specs.Shelves.{Shelves, Saved, state_on, new_shelves, AreShelved, AllBeforePlace}
 use Rattle.ft_board.specs.Variables.{variable_cmp}
 use Rattle.ft_board.proofs.Order.{act_of, all_above}
-use Rattle.ft_board.proofs.Entries.{all_by}
+use Rattle.ft_board.proofs.Apart.{all_of}
 use Rattle.ft_board.proofs.Shelved.{replay-fold, new_shelves-started, new_shelves-shelved, new_shelves-before, merged_stamped}
 use Rattle.ft_board.proofs.replay.replayed.Goals as goal
 
@@ -40,7 +40,7 @@ loop-pos-init c =
       sorted = subst (λ (es : List (Pos × Traced)). IsStrictlySortedBy pos_cmp (keys_of es)) (sym all) (strictly_sorted pos_cmp (map.entries events) (entries_sorted events));
       stamped = subst (AllByRecursion (λ (e : Pos × Traced). e.0.stamp ≡ e.1.stamp)) (sym all) (merged_stamped (seen nat_cmp c.args.lanes.now));
       shelved = subst (AreShelved triggers) (sym shelves) (new_shelves-shelved triggers);
-      before = all_by (λ (e : Pos × Traced). AllBeforePlace e.0 (seen nat_cmp c.in_ok-shelves.shelves))
+      before = all_of (λ (e : Pos × Traced). AllBeforePlace e.0 (seen nat_cmp c.in_ok-shelves.shelves))
           (λ e. subst (AllBeforePlace e.0) (sym shelves) (λ id. new_shelves-before triggers (act_of e.0 id))) (entries_by deref c.into_iter-pos-iterator.result);
     }
 

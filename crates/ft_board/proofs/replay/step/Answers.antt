@@ -21,7 +21,7 @@ use Rattle.ft_board.specs.Replay.{State, act_at}
 use Rattle.ft_board.specs.Shelves.{Shelves, Saved, state_on, after_act, AreShelved, AllBefore}
 use Rattle.ft_board.specs.Variables.{variable_cmp}
 use Rattle.ft_board.proofs.Order.{act_of, earlier_place, lower_id, all_above}
-use Rattle.ft_board.proofs.Entries.{all_by, entries_found}
+use Rattle.ft_board.proofs.Apart.{all_of, entries_found}
 use Rattle.ft_board.proofs.Shelved.{after_act-acts, step-fold}
 use Rattle.ft_board.proofs.Standing.{free_before, before_later, after_act-before, after_act-shelved}
 use Rattle.ft_board.proofs.replay.step.Goals as goal
@@ -36,7 +36,7 @@ loop-id-init c =
       sorted = subst (λ (es : List (ℕ × Hist)). IsStrictlySortedBy nat_cmp (keys_of es)) (sym all) (strictly_sorted nat_cmp (map.entries triggers) (entries_sorted triggers));
       attached = subst (AllByRecursion (λ (e : ℕ × Hist). map.get triggers e.0 ≡ Some e.1)) (sym all) (entries_found nat_cmp nat_cmp_total triggers);
       shelved = c.requires.shelved;
-      before = all_by (λ (e : ℕ × Hist). AllBefore (act_of c.args.pos e.0) shelves) (λ e. c.requires.before e.0) c.into_iter-id-iterator.result;
+      before = all_of (λ (e : ℕ × Hist). AllBefore (act_of c.args.pos e.0) shelves) (λ e. c.requires.before e.0) c.into_iter-id-iterator.result;
       later = λ next less id. before_later (act_of c.args.pos id) shelves (c.requires.before id) (act_of next id) (earlier_place c.args.pos next id id less);
     }
 
