@@ -10,7 +10,7 @@ pub mod Savers
 pub mod KeysApart
 pub mod Growing
 pub mod Shelving
-pub mod Order
+pub mod Earlier
 pub mod Standing
 pub mod Shelved
 pub mod Shown

@@ -20,7 +20,7 @@ use Rattle.ft_board.specs.Merged.{merged}
 use Rattle.ft_board.specs.Replay.{State, step}
 use Rattle.ft_board.specs.Shelves.{Shelves, Saved, state_on, new_shelves, AreShelved, AllBeforePlace}
 use Rattle.ft_board.specs.Variables.{variable_cmp}
-use Rattle.ft_board.proofs.Order.{act_of, all_above}
+use Rattle.ft_board.proofs.Earlier.{act_of, all_above}
 use Rattle.ft_board.proofs.Apart.{all_of}
 use Rattle.ft_board.proofs.Shelved.{replay-fold, new_shelves-started, new_shelves-shelved, new_shelves-before, merged_stamped}
 use Rattle.ft_board.proofs.replay.replayed.Goals as goal

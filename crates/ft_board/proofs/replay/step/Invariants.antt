@@ -12,7 +12,7 @@ use Rattle.ft_maps.specs.Seen.{seen}
 use Rattle.ft_board.specs.Replay.{act_at}
 use Rattle.ft_board.specs.Shelves.{state_on, AreShelved, AllBefore, AllBeforePlace}
 use Rattle.ft_board.specs.Variables.{variable_cmp}
-use Rattle.ft_board.proofs.Order.{act_of}
+use Rattle.ft_board.proofs.Earlier.{act_of}
 use Rattle.ft_board.proofs.replay.step.Given as goal
 
 -- the triggers that are left lead where all triggers lead; each trigger has its shelf; all hits stand before what is left to act here, and before all that comes later
