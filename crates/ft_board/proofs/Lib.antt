@@ -25,3 +25,4 @@ pub mod Tallied
 pub mod Reached
 pub mod KeptMaps
 pub mod Replaying
+pub mod Answering
