@@ -21,6 +21,7 @@ use Rattle.ft_table.specs.Rows.{row_of, row_at, totals_of}
 use Rattle.ft_table.specs.Tabled.{Tabled, is_first, first_hits, order_of, keys_in, is_in}
 use Rattle.ft_board.specs.declared.role.Pair.{Pair}
 use Rattle.ft_board.specs.Tally.{Counts, Tally, empty_tally, has_place, count, with_pair, tally_of}
+use Rattle.ft_board.specs.Shelves.{pairs_with}
 use Rattle.ft_board.proofs.Counted.{grow}
 use Rattle.ft_board.proofs.KeysApart.{get-first_hits, keys_distinct}
 
@@ -123,10 +124,6 @@ tally-empty size =
 
 -- ---- a hit's pair
 
--- pairs, and one more where the hit read
-abbrev pub pairs_with : Pos → Option Pos → List Pair → List Pair
-pairs_with at None pairs = pairs
-pairs_with at (Some saved) pairs = pairs ++ record { saved = saved; read = at } ∷ []
 
 pub tally-pair : (table : Tabled) (at : Pos) (saved : Option Pos) (pairs : List Pair) → tally_of table (pairs_with at saved pairs) ≡ with_pair at saved (tally_of table pairs)
 unfolding tally_of

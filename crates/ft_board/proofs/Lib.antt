@@ -6,8 +6,13 @@ pub mod After
 pub mod Merging
 pub mod Places
 pub mod Counted
+pub mod Savers
 pub mod KeysApart
 pub mod Growing
+pub mod Shelving
+pub mod Earlier
+pub mod Standing
+pub mod Shelved
 pub mod Shown
 pub mod Replayed
 pub mod Acts
@@ -23,6 +28,6 @@ pub mod Replaying
 pub mod ActAt
 pub mod Sources
 pub mod Matched
-pub mod Savers
 pub mod OneSaver
 pub mod Elsewhere
+pub mod Answering

@@ -13,6 +13,7 @@ pub mod Counting
 pub mod Operations
 pub mod Elsewhere
 pub mod Answers
+pub mod Shelves
 pub mod After
 pub mod Reachable
 pub use Rattle.ft_event.specs.Traced

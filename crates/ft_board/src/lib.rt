@@ -2,6 +2,8 @@
 //! the events gives.
 #![tactic(auto)]
 
+mod act;
+mod answers;
 mod attach;
 mod board;
 mod counting;
@@ -13,8 +15,10 @@ mod merge;
 mod order;
 mod plain;
 mod refused;
+mod replay;
 mod role;
 mod roles;
+mod shelf;
 
 pub use board::Board;
 pub use counting::{counted_hits, kept_maps};
