@@ -1,5 +1,5 @@
 -- The tally of a table, as hits come behind all others.
-use Rattle.std.proofs.Common.{◌≡◌, ℕ, zero, suc, take, drop, ◌+◌, Bool, true, false, cond, List, [], ◌∷◌, ◌++◌, length, map as list_map, refl, sym, ap, ◌∙◌, Some, None, Option, arith, nat_lt, unwrap_or}
+use Rattle.std.proofs.Common.{◌≡◌, ℕ, zero, suc, take, drop, ◌+◌, Bool, true, false, cond, List, [], ◌∷◌, length, map as list_map, refl, sym, ap, ◌∙◌, Some, None, Option, arith, nat_lt, unwrap_or}
 use Rattle.std.specs.Prelude.{ℤ, ◌||◌, ◌&&◌, if◌then◌else◌, is_some}
 use Rattle.std.specs.List.{AllByRecursion, IsDistinct, list_any, sum_by}
 use Rattle.std.specs.Cmp.{eq_by_cmp_equiv}
@@ -21,7 +21,7 @@ use Rattle.ft_table.specs.Rows.{row_of, row_at, totals_of}
 use Rattle.ft_table.specs.Tabled.{Tabled, is_first, first_hits, order_of, keys_in, is_in}
 use Rattle.ft_board.specs.declared.role.Pair.{Pair}
 use Rattle.ft_board.specs.Tally.{Counts, Tally, empty_tally, has_place, count, with_pair, tally_of}
-use Rattle.ft_board.specs.Shelves.{pairs_with}
+pub use Rattle.ft_board.specs.Shelves.{pairs_with}
 use Rattle.ft_board.proofs.Counted.{grow}
 use Rattle.ft_board.proofs.KeysApart.{get-first_hits, keys_distinct}
 

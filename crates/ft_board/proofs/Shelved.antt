@@ -9,14 +9,14 @@ use Rattle.std.specs.List.Sorted.{IsStrictlySortedBy}
 use Rattle.std.specs.Map.{keys_of}
 use Rattle.std.specs.FinMap as map
 use Rattle.std.specs.FinMap.{FinMap, find, get-insert, get-empty, get-entries, entries_sorted, nat_cmp-IsAntisymmetric}
-use Rattle.std.proofs.lemmas.Map.Keys.{sorted_head, sorted_tail}
+use Rattle.std.proofs.lemmas.Map.Keys.{sorted_tail}
 use Rattle.ft_event.specs.Traced.{Traced}
 use Rattle.ft_event.specs.Places.{pos_cmp, pos_cmp_total}
 use Rattle.ft_event.specs.declared.pos.Pos.{Pos}
 use Rattle.ft_hist.specs.Hist.{Hist}
 use Rattle.ft_hist.specs.Hit.{hit}
 use Rattle.ft_hist.specs.declared.key.Part.{Part}
-use Rattle.ft_maps.specs.Entries.{strictly_sorted, insert_same, same_from_tie}
+use Rattle.ft_maps.specs.Entries.{strictly_sorted, insert_same}
 use Rattle.ft_maps.specs.Mapped.{map_by, map_by-insert, map_by-empty, get-map_by}
 use Rattle.ft_pairs.specs.declared.at.At.{At}
 use Rattle.ft_table.specs.Growth.{ComesLast, InGrows, RowsGrow, TotalsGrow, with_hit}
@@ -29,11 +29,10 @@ use Rattle.ft_board.specs.Replay.{State, act_as, act, act_at, step, started, rep
 use Rattle.ft_board.specs.Roles.{role_of}
 use Rattle.ft_board.specs.Shelves.{Shelved, Shelves, Saved, tally_on, state_on, new_shelf, with_shelf, new_shelves, shelf_with, after_hit, after_act, HasShelf, AreShelved, AllBefore}
 use Rattle.ft_board.specs.Tally.{Tally, empty_tally, has_place, tell}
-use Rattle.ft_board.specs.Variables.{variable_cmp}
 use Rattle.ft_board.specs.declared.role.Role.{Role}
 use Rattle.ft_board.specs.declared.role.Role.TheVariants.{Plain, Saves, Reads}
 use Rattle.ft_board.specs.declared.role.Variable.{Variable}
-use Rattle.ft_board.proofs.Shelving.{after_act-no_hit, after_act-hit, with_hit_on}
+use Rattle.ft_board.proofs.Shelving.{after_act-no_hit, after_act-hit}
 use Rattle.ft_board.proofs.Apart.{all_map, entries_found}
 use Rattle.ft_board.proofs.Growing.{place_is_counted, in_where_counted, tally_grows_with, tally-empty}
 use Rattle.ft_board.proofs.Standing.{comes_last, none_before, each_shelf}

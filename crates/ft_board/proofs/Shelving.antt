@@ -17,8 +17,6 @@ use Rattle.ft_pairs.specs.declared.at.At.{At}
 use Rattle.ft_board.specs.declared.role.Role.TheVariants.{Reads}
 use Rattle.ft_board.specs.Replay.{values_at}
 use Rattle.ft_board.specs.Shelves.{Shelved, Shelves, Saved, after_hit, after_key, after_act}
-use Rattle.ft_board.specs.Variables.{variable_cmp, variable_cmp_total, variable_same}
-use Rattle.ft_board.specs.declared.role.Variable.{Variable}
 
 module _ {K X : Type 0} {R : K → K → Ordering} (total : IsTotalOrder R) (same : IsAntisymmetric R) where
   gone : (m : FinMap R X) (k : K) → map.get m k ≡ None → (q : K) (at : Bool) → eq_by_cmp R q k ≡ at → cond at None (map.get m q) ≡ map.get m q

@@ -56,9 +56,9 @@ fn new_shelves(
         seen nat_cmp shelves ≡ new_shelves (seen nat_cmp triggers.now)) }
 {
     let mut shelves = BTreeMap::new(alloc);
-    for (id, trigger) in entries(triggers) {
-        let role = role_of(triggers, trigger.variable());
-        put(&mut shelves, *id, Shelf::new(alloc, role, trigger.size()))?;
+    for (id, attached) in entries(triggers) {
+        let role = role_of(triggers, attached.variable());
+        put(&mut shelves, *id, Shelf::new(alloc, role, attached.size()))?;
     }
     Ok(shelves)
 }

@@ -9,7 +9,6 @@ use Rattle.ft_board.specs.Answers.{tally_at, latency_of, latencies_as}
 use Rattle.ft_board.specs.Base.{Triggers, Events}
 use Rattle.ft_board.specs.Merged.{merged}
 use Rattle.ft_board.specs.Shelves.{tally_on, is_reader}
-use Rattle.ft_board.specs.Tally.{Tally}
 use Rattle.ft_board.proofs.Answering.{of_attached-some, latencies-reader}
 use Rattle.ft_board.proofs.Growing.{pairs-tally}
 use Rattle.ft_board.proofs.answers.latencies_from.Goals as goal

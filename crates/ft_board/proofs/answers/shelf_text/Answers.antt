@@ -1,7 +1,6 @@
-use Rattle.std.proofs.Common.{◌≡◌, ℕ, List, [], ◌++◌, ap, sym, ◌∙◌}
+use Rattle.std.proofs.Common.{ℕ, List, ◌++◌, ap, sym, ◌∙◌}
 use Rattle.ft_hist.specs.Hist.{Hist}
 use Rattle.ft_table.specs.Rows.{table_text}
-use Rattle.ft_table.specs.Tabled.{Tabled}
 use Rattle.ft_table.specs.Text.{rows_text}
 use Rattle.ft_board.specs.Answers.{heading, tally_text}
 use Rattle.ft_board.specs.Shelves.{Shelved}

@@ -8,7 +8,7 @@ use Rattle.ft_board.specs.declared.refused.Refused.{Refused}
 use Rattle.ft_board.specs.Answers.{tally_at}
 use Rattle.ft_board.specs.Base.{Triggers, Events}
 use Rattle.ft_board.specs.Merged.{merged}
-use Rattle.ft_board.specs.Tally.{Tally, totals_in}
+use Rattle.ft_board.specs.Tally.{totals_in}
 use Rattle.ft_board.proofs.Answering.{of_attached-known}
 use Rattle.ft_board.proofs.Shown.{totals-tally}
 use Rattle.ft_board.proofs.answers.totals_from.Goals as goal

@@ -23,7 +23,7 @@ pub loop-id-preserved : goal.loop-id-preserved
 loop-id-preserved c =
     let triggers : Triggers = seen nat_cmp c.args.triggers.now in
     let shelves : Shelves = seen nat_cmp c.loop-id.shelves in
-    let e : ℕ × Hist = (c.in-Some.id.now, c.in-Some.trigger.now) in
+    let e : ℕ × Hist = (c.in-Some.id.now, c.in-Some.attached.now) in
     let shelf : c.new.result ≡ new_shelf triggers e.1 =
     c.new.ensures ∙ (λ i. record { role = (c.role_of-role.ensures ∙ ap (role_of triggers) c.variable.ensures) i; table = record { hits = map.empty; size = c.size.ensures.value i }; pairs = [] }) in
     let put : seen nat_cmp c.put.new.map ≡ with_shelf triggers shelves e = c.in_ok-put.ensures.ok ∙ ap (map.insert shelves e.0) shelf in

@@ -1,4 +1,4 @@
-use Rattle.std.proofs.Common.{ℕ, ◌≡◌, List, ◌∷◌, Bor, refl, sym, ap, subst, ◌∙◌}
+use Rattle.std.proofs.Common.{◌≡◌, List, ◌∷◌, Bor, refl, sym, ap, subst, ◌∙◌}
 use Rattle.std.specs.Prelude.{fold}
 use Rattle.std.specs.Ordering.{nat_cmp}
 use Rattle.std.specs.List.{AllByRecursion}
@@ -18,7 +18,7 @@ use Rattle.ft_maps.specs.Seen.{seen, seen-empty}
 use Rattle.ft_board.specs.Base.{Triggers, Events}
 use Rattle.ft_board.specs.Merged.{merged}
 use Rattle.ft_board.specs.Replay.{State, step}
-use Rattle.ft_board.specs.Shelves.{Shelves, Saved, state_on, new_shelves, AreShelved, AllBeforePlace}
+use Rattle.ft_board.specs.Shelves.{state_on, new_shelves, AreShelved, AllBeforePlace}
 use Rattle.ft_board.specs.Variables.{variable_cmp}
 use Rattle.ft_board.proofs.Earlier.{act_of, all_above}
 use Rattle.ft_board.proofs.Apart.{all_of}
