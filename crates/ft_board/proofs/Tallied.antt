@@ -22,7 +22,8 @@ use Rattle.ft_board.specs.declared.role.Pair.{Pair}
 use Rattle.ft_board.specs.Hits.{TriggerHit, entry_of, pair_of}
 use Rattle.ft_board.specs.Tally.{tally_of}
 use Rattle.ft_board.proofs.Counted.{counted, counted_all}
-use Rattle.ft_board.proofs.Growing.{pairs_with, tally-empty, tally_grows_with}
+use Rattle.ft_board.specs.Shelves.{pairs_with}
+use Rattle.ft_board.proofs.Growing.{tally-empty, tally_grows_with}
 use Rattle.ft_board.proofs.Listed.{Ascend, AreBehind, place_of, find-entries, none_in, values_under}
 
 -- where a hit stands in a map of hits
