@@ -124,7 +124,10 @@ fn two_wakings(rt: HostRuntime) -> Result<(), Fail> {
         waking_of(42, 1, 6_012_000_200)?,
     ];
     let mut board = board_of(alloc, &events)?;
-    assert_eq!(rt; attach_text(alloc, &mut board, Name::Waking, "hist:keys=pid"), Ok(1));
+    assert_eq!(rt;
+        attach_text(alloc, &mut board, Name::Waking, "hist:keys=pid"),
+        Ok(1)
+    );
     assert_eq!(rt; board.hist(1)?.as_slice(), TWO_WAKINGS);
     assert!(rt; !board.is_deferred());
     Ok(())
@@ -139,7 +142,10 @@ fn one_latency(rt: HostRuntime) -> Result<(), Fail> {
     ];
     let mut board = board_of(rt.alloc(), &events)?;
     attach_pair(&rt, rt.alloc(), &mut board);
-    assert_eq!(rt; board.latencies(2)?.as_slice(), [latency((0, 1), (0, 2), 50)].as_slice());
+    assert_eq!(rt;
+        board.latencies(2)?.as_slice(),
+        [latency((0, 1), (0, 2), 50)].as_slice()
+    );
     assert_eq!(rt; board.totals(2)?, totals(1, 1, 0));
     assert_eq!(rt; board.totals(1)?, totals(1, 1, 0));
     Ok(())
@@ -156,7 +162,10 @@ fn equal_stamps(rt: HostRuntime) -> Result<(), Fail> {
     let turned = [waking_of(42, 0, 1_000_100)?, switch_to(42, 1, 1_000_100)?];
     let mut other = board_of(rt.alloc(), &turned)?;
     attach_pair(&rt, rt.alloc(), &mut other);
-    assert_eq!(rt; other.latencies(2)?.as_slice(), [latency((0, 1), (1, 1), 0)].as_slice());
+    assert_eq!(rt;
+        other.latencies(2)?.as_slice(),
+        [latency((0, 1), (1, 1), 0)].as_slice()
+    );
     Ok(())
 }
 
@@ -181,7 +190,10 @@ fn first_reader_gets_it(rt: HostRuntime) -> Result<(), Fail> {
     let events = [waking_of(42, 0, 1_000_100)?, switch_to(42, 0, 1_000_150)?];
     let mut board = board_of(rt.alloc(), &events)?;
     attach_pair(&rt, rt.alloc(), &mut board);
-    assert_eq!(rt; attach_text(rt.alloc(), &mut board, Name::Switch, READER), Ok(3));
+    assert_eq!(rt;
+        attach_text(rt.alloc(), &mut board, Name::Switch, READER),
+        Ok(3)
+    );
     assert_eq!(rt; board.totals(2)?, totals(1, 1, 0));
     assert_eq!(rt; board.totals(3)?, totals(0, 0, 0));
     Ok(())
@@ -244,7 +256,10 @@ fn dropped_reading_still_pairs(rt: HostRuntime) -> Result<(), Fail> {
     assert_eq!(rt; board.totals(2)?, totals(128, 128, 1));
     let latencies = board.latencies(2)?;
     assert_eq!(rt; latencies.len(), 129);
-    assert_eq!(rt; latencies.first(), Some(&latency((0, 1), (0, 129), 1_000_000)));
+    assert_eq!(rt;
+        latencies.first(),
+        Some(&latency((0, 1), (0, 129), 1_000_000))
+    );
     assert_eq!(rt; latencies.last(), Some(&latency((0, 257), (0, 258), 10)));
     Ok(())
 }
@@ -300,7 +315,10 @@ fn answers_after_want_of_memory(rt: HostRuntime) -> Result<(), Fail> {
         Err(Refused::Memory) => board.latencies(2)?,
         other => other?,
     };
-    assert_eq!(rt; latencies.as_slice(), [latency((0, 1), (0, 2), 50)].as_slice());
+    assert_eq!(rt;
+        latencies.as_slice(),
+        [latency((0, 1), (0, 2), 50)].as_slice()
+    );
     let counted = match board.totals(2) {
         Err(Refused::Memory) => board.totals(2)?,
         other => other?,
