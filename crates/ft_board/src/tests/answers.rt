@@ -4,6 +4,7 @@ ghost use Rattle.std.specs.Prelude.{◌≤◌};
 
 use super::*;
 use ft_event::Turn;
+use ft_table::Totals;
 use std::process::Abort;
 
 /// Saves `ts0` by the PID of a waking.
