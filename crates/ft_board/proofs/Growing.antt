@@ -124,7 +124,6 @@ tally-empty size =
 
 -- ---- a hit's pair
 
-
 pub tally-pair : (table : Tabled) (at : Pos) (saved : Option Pos) (pairs : List Pair) → tally_of table (pairs_with at saved pairs) ≡ with_pair at saved (tally_of table pairs)
 unfolding tally_of
 tally-pair table at None pairs = refl

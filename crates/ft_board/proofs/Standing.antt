@@ -65,9 +65,9 @@ hit_or_not P values (Reads saver) at key shelf saved none one =
 module _ (at : At) (shelves : Shelves) (before : AllBefore at shelves) where
   not_there : (hits : Hits) (mark : Mark) → ((m : Mark) → IsSome (map.get hits m) → m ≡ mark → ⊥) → map.get hits mark ≡ None
   not_there hits mark none = elim (map.get hits mark) as (λ o. map.get hits mark ≡ o → o ≡ None) [
-      | None ↦ λ is. refl
-      | Some v ↦ λ is. absurd (none mark (subst IsSome (sym is) refl) refl)
-    ] refl
+    | None ↦ λ is. refl
+    | Some v ↦ λ is. absurd (none mark (subst IsSome (sym is) refl) refl)
+  ] refl
 
   -- no hit stands where the trigger acts
   pub free_before : IsFree at shelves

@@ -87,7 +87,14 @@ fn step(
     ft_hist::fitting_parts();
     ft_table::one_more_hit();
     for (id, trigger) in entries(triggers) {
-        act(trigger, event, At { pos, trigger: *id }, shelves, saved, work)?;
+        act(
+            trigger,
+            event,
+            At { pos, trigger: *id },
+            shelves,
+            saved,
+            work,
+        )?;
     }
     Ok(())
 }
