@@ -5,19 +5,19 @@
 #   ft_filter   old_bytes_after_want_of_memory
 #   ft_trigger  old_bytes_after_want_of_memory, answers_after_want_of_memory
 #   ft_table    unchanged_after_want_of_memory
-#   ft_board    trigger_after_want_of_memory, load_after_want_of_memory
+#   ft_board    load_after_want_of_memory, attach_after_want_of_memory, answer_after_want_of_memory
 #   ft_desk     whole_output_or_that_of_the_commands_before
 #
-# A filter or a trigger that is read and written, a load, an attached trigger and its table have the
-# wanted text, value or fault, or answer want of memory with everything as it was, so that they succeed
-# when they are asked again. And a script through `run` prints its whole output, or answers want of
-# memory with the whole output of the commands before. A table is as it was.
+# A filter or a trigger that is read and written, a load, an attached trigger and the latencies that it
+# measured have the wanted text, value or fault, or answer want of memory with everything as it was, so
+# that they succeed when they are asked again. And a script through `run` prints its whole output, or
+# answers want of memory with the whole output of the commands before. A table is as it was.
 #
 # `rt try`, which proves nothing, compiles a crate's tests anew for each allocation. That took half a
 # minute to three minutes on four processors that other work kept busy. The plain tests below make fewer
-# than 24 allocations in ft_filter, 30 in ft_trigger, 16 in ft_board, and between 40 and 80 in ft_desk, so
-# that these four crates should take one to three hours, which nobody has timed. The one of ft_table makes
-# 12, and this crate was timed: 17 runs took 10 minutes.
+# than 24 allocations in ft_filter, 30 in ft_trigger, and between 40 and 80 in ft_desk, so that these three
+# crates should take one to three hours, which nobody has timed, nor ft_board. The one of ft_table made 12
+# when it was timed: 17 runs took 10 minutes.
 set -euo pipefail
 
 crates=$(dirname -- "$(realpath -- "${BASH_SOURCE[0]}")")/../crates
@@ -82,8 +82,10 @@ tests_of() {
                 tests::examples::unchanged_after_want_of_memory
             ;;
         ft_board)
-            each ft_board tests::two_wakings tests::trigger_after_want_of_memory \
-                tests::load_after_want_of_memory
+            each ft_board tests::answers::one_latency \
+                tests::load::load_after_want_of_memory \
+                tests::attach::attach_after_want_of_memory \
+                tests::answers::answer_after_want_of_memory
             ;;
         ft_desk)
             each ft_desk tests::examples::triggers_with_filters \
