@@ -244,9 +244,8 @@ fn dropped_hit_saves_nothing(rt: HostRuntime) -> Result<(), Fail> {
     Ok(())
 }
 
-/// A reading whose hit finds no room has unset the variable, and its latency stands.
-#[test]
-fn dropped_reading_still_pairs(rt: HostRuntime) -> Result<(), Fail> {
+/// Pids 1 to 128 are woken and run, and then pid 300 is woken once and runs twice.
+fn wakings_and_switches() -> [Line; 259] {
     let mut lines: [Line; 259] = [(Switch(300), 0, 3_000_020); 259];
     for (pid, line) in lines[..128].iter_mut().enumerate() {
         *line = (Waking(pid as i32 + 1), 0, 1_000_001);
@@ -256,6 +255,13 @@ fn dropped_reading_still_pairs(rt: HostRuntime) -> Result<(), Fail> {
     }
     lines[256] = (Waking(300), 0, 3_000_000);
     lines[257] = (Switch(300), 0, 3_000_010);
+    lines
+}
+
+/// A reading whose hit finds no room has unset the variable, and its latency stands.
+#[test]
+fn dropped_reading_still_pairs(rt: HostRuntime) -> Result<(), Fail> {
+    let lines = wakings_and_switches();
     let reader = (
         Name::Switch,
         "hist:keys=next_pid:lat=common_timestamp.usecs-$ts0:size=128",
