@@ -3,7 +3,7 @@ use Rattle.std.proofs.Common.{◌≡◌, ℕ, ◌+◌, ◌<◌, ◌≤◌, Bool,
 use Rattle.std.specs.List.{AllByRecursion}
 use Rattle.std.specs.Option.{option_map_or}
 use Rattle.std.specs.FinMap as map
-use Rattle.std.proofs.lemmas.Bool.{le-ltb, lt-ltb, le-leb, lt-leb, ltb-false, or_left, or_right}
+use Rattle.std.proofs.lemmas.Bool.{le-ltb, lt-ltb, le-leb, lt-leb, ltb-false, leb-false, or_parts, or_left, or_right}
 use Rattle.ft_event.specs.Traced.{Traced}
 use Rattle.ft_hist.specs.Hist.{Hist}
 use Rattle.ft_board.specs.declared.refused.Refused.{Refused}
@@ -12,6 +12,7 @@ use Rattle.ft_board.specs.Base.{Base, number_limit, event_limit, trigger_limit, 
 use Rattle.ft_board.specs.After.{after_load, after_attach, variable_refused, with_lanes, first_held, AnswerKeeps}
 use Rattle.ft_board.specs.Reachable.{HasCpu, IsReachable}
 use Rattle.ft_board.proofs.Reachable.{load-IsReachable}
+use Rattle.ft_board.proofs.Attaching.{attach-IsReachable}
 
 -- a clause on success, where a call did not fail
 pub at_ok : {T E P : Type 0} (r : Result T E) → false ≡ is_err r → OnOk r P → P
@@ -95,3 +96,15 @@ attach-against base hist refused few low stands =
 pub attach-ok : (base : Base) (hist : Hist) → map.len base.triggers < trigger_limit → base.next_id ≤ number_limit → against base hist ≡ None → after_attach base hist ≡ Ok (record base { triggers = map.insert base.triggers base.next_id hist; next_id = base.next_id + 1 }, base.next_id)
 attach-ok base hist few low none =
     after_attach-cases base hist ∙ ap (λ b. attached base hist b (against base hist)) (unused base few low) ∙ ap (attached base hist false) none
+
+pub attach-reachable : (base : Base) (hist : Hist) (new : Base) (id : ℕ) → IsReachable base → after_attach base hist ≡ Ok (new, id) → IsReachable new
+attach-reachable base hist new id is answer =
+    elim (is_used base) as (λ b. is_used base ≡ b → attached base hist b (against base hist) ≡ Ok (new, id) → IsReachable new) [
+      | true ↦ λ _ e. cc
+      | false ↦ λ free. elim (against base hist) as (λ o. against base hist ≡ o → attached base hist false o ≡ Ok (new, id) → IsReachable new) [
+        | Some refused ↦ λ _ e. cc
+        | None ↦ λ stands e.
+            let parts = or_parts _ _ free in
+            subst IsReachable (same-base _ new base.next_id id e) (attach-IsReachable base hist is (leb-false trigger_limit (map.len base.triggers) parts.0) (ltb-false number_limit base.next_id parts.1) stands)
+      ] refl
+    ] refl (sym (after_attach-cases base hist) ∙ answer)

@@ -38,7 +38,7 @@ none_above : {X : Type 0} (k : ℕ) (es : List (ℕ × X)) → AllByRecursion (�
 none_above k [] above = refl
 none_above k (e ∷ es) above = ap (λ o. cond (is_eq o) (Some e.1) (find nat_cmp k es)) above.0 ∙ none_above k es above.1
 
-none_later : {X : Type 0} (q : ℕ) (e : ℕ × X) (es : List (ℕ × X)) → IsStrictlySortedBy nat_cmp (keys_of (e ∷ es)) → eq_by_cmp nat_cmp q e.0 ≡ true → find nat_cmp q es ≡ None
+pub none_later : {X : Type 0} (q : ℕ) (e : ℕ × X) (es : List (ℕ × X)) → IsStrictlySortedBy nat_cmp (keys_of (e ∷ es)) → eq_by_cmp nat_cmp q e.0 ≡ true → find nat_cmp q es ≡ None
 none_later q e es sorted at =
     subst (λ k. find nat_cmp k es ≡ None) (sym (same_from_tie nat_cmp-IsAntisymmetric q e.0 at)) (none_above e.0 es (sorted_head nat_cmp e.0 (keys_of es) sorted))
 

@@ -26,7 +26,7 @@ record IsLane (cpu : ℕ) (lane : Lane) : Type 0 where
 abbrev AreLanes : Lanes → Type 0
 AreLanes lanes = (cpu : ℕ) (lane : Lane) → map.get lanes cpu ≡ Some lane → IsLane cpu lane
 
-same-Some : {X : Type 0} (x y : X) → Some x ≡ Some y → x ≡ y
+pub same-Some : {X : Type 0} (x y : X) → Some x ≡ Some y → x ≡ y
 same-Some x y e = ap (λ o. unwrap_or o x) e
 
 new-IsLane : (cpu : ℕ) → cpu ≤ 8191 → IsLane cpu new_lane

@@ -9,8 +9,10 @@ pub mod Tally
 pub mod Replay
 pub mod Hits
 pub mod Kept
+pub mod Counting
 pub mod Operations
 pub mod Answers
+pub mod Shelves
 pub mod After
 pub mod Reachable
 pub use Rattle.ft_event.specs.Traced

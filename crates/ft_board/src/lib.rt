@@ -2,7 +2,11 @@
 //! the events gives.
 #![tactic(auto)]
 
+mod act;
+mod answers;
+mod attach;
 mod board;
+mod counting;
 mod lane;
 mod laws;
 mod load;
@@ -10,11 +14,18 @@ mod merge;
 mod order;
 mod plain;
 mod refused;
+mod replay;
 mod role;
+mod roles;
+mod shelf;
 
 pub use board::Board;
+pub use counting::{counted_hits, kept_maps};
 pub use laws::reachable_bases;
 pub use order::merged_order;
 pub use plain::PlainBoard;
 pub use refused::{Done, Kept, Latency, Place, Refused};
 pub use role::{Pair, Role, Variable};
+
+#[cfg(test)]
+mod tests;

@@ -2,12 +2,14 @@
 
 ghost use Rattle.std.specs.Prelude.{◌≡◌};
 
+use crate::answers::{hist_from, latencies_from, totals_from};
+use crate::attach::variable_refused;
 use crate::board::Board;
 use crate::lane::Lane;
 use crate::load::{held_cpu, load_lanes};
 use crate::refused::{Done, Kept, Latency, Refused};
 use ft_event::Event;
-use ft_hist::Trigger;
+use ft_hist::{Trigger, Work};
 use ft_maps::{len, put};
 use ft_table::Totals;
 use std::alloc::{AllocError, Global};
@@ -23,7 +25,8 @@ const TRIGGER_LIMIT: usize = 64;
 /// The greatest id of a trigger.
 const NUMBER_LIMIT: u64 = 4_294_967_295;
 
-/// Lanes of events and attached triggers, and no tables.
+/// Lanes of events and attached triggers, and no tables. The steps of all its answers are counted
+/// in one place.
 #[derive(Drop)]
 pub struct PlainBoard {
     alloc: Global,
@@ -31,6 +34,7 @@ pub struct PlainBoard {
     triggers: BTreeMap<u32, Trigger>,
     next_id: u64,
     held: u64,
+    work: Work,
 }
 
 impl Model for PlainBoard {
@@ -73,6 +77,7 @@ impl PlainBoard {
             triggers: BTreeMap::new(alloc),
             next_id: 1,
             held: 0,
+            work: Work::new(),
         }
     }
 }
@@ -103,19 +108,33 @@ impl Board for PlainBoard {
     }
 
     fn attach(&mut self, trigger: Trigger) -> Result<Done<u32>, Refused> {
-        Err(Refused::Memory)
+        if len(&self.triggers) >= TRIGGER_LIMIT || self.next_id > NUMBER_LIMIT {
+            return Err(Refused::TooManyTriggers);
+        }
+        if let Some(refused) = variable_refused(&self.triggers, &trigger) {
+            return Err(refused);
+        }
+        let id = self.next_id as u32;
+        if put(&mut self.triggers, id, trigger).is_err() {
+            return Err(Refused::Memory);
+        }
+        self.next_id += 1;
+        Ok(Done {
+            value: id,
+            kept: Kept::Now,
+        })
     }
 
     fn hist(&mut self, id: u32) -> Result<Vec<u8>, Refused> {
-        Err(Refused::Memory)
+        hist_from(self.alloc, &self.lanes, &self.triggers, id, &mut self.work)
     }
 
     fn totals(&mut self, id: u32) -> Result<Totals, Refused> {
-        Err(Refused::Memory)
+        totals_from(self.alloc, &self.lanes, &self.triggers, id, &mut self.work)
     }
 
     fn latencies(&mut self, id: u32) -> Result<Vec<Latency>, Refused> {
-        Err(Refused::Memory)
+        latencies_from(self.alloc, &self.lanes, &self.triggers, id, &mut self.work)
     }
 
     fn is_deferred(&self) -> bool {

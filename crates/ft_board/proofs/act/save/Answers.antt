@@ -1,0 +1,5 @@
+use Rattle.ft_board.specs.Variables.{variable_same}
+use Rattle.ft_board.proofs.act.save.Goals as goal
+
+pub put-requires : goal.put-requires
+put-requires c = variable_same

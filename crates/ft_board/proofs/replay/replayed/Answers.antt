@@ -1,0 +1,81 @@
+use Rattle.std.proofs.Common.{◌≡◌, List, ◌∷◌, Bor, refl, sym, ap, subst, ◌∙◌}
+use Rattle.std.specs.Prelude.{fold}
+use Rattle.std.specs.Ordering.{nat_cmp}
+use Rattle.std.specs.List.{AllByRecursion}
+use Rattle.std.specs.List.Sorted.{IsStrictlySortedBy}
+use Rattle.std.specs.Map.{keys_of}
+use Rattle.std.specs.Map.Iter.{deref, deref_pair}
+use Rattle.std.specs.FinMap as map
+use Rattle.std.specs.FinMap.{entries_sorted}
+use Rattle.std.proofs.lemmas.Map.Iter.{rest_more, rest_all}
+use Rattle.std.proofs.lemmas.Map.Keys.{sorted_head, sorted_tail}
+use Rattle.ft_event.specs.Traced.{Traced}
+use Rattle.ft_event.specs.Places.{pos_cmp, pos_cmp_total}
+use Rattle.ft_event.specs.declared.pos.Pos.{Pos}
+use Rattle.ft_maps.specs.Entries.{strictly_sorted}
+use Rattle.ft_maps.specs.Mapped.{entries_by, entries-map_by}
+use Rattle.ft_maps.specs.Seen.{seen, seen-empty}
+use Rattle.ft_board.specs.Base.{Triggers, Events}
+use Rattle.ft_board.specs.Merged.{merged}
+use Rattle.ft_board.specs.Replay.{State, step}
+use Rattle.ft_board.specs.Shelves.{state_on, new_shelves, AreShelved, AllBeforePlace}
+use Rattle.ft_board.specs.Variables.{variable_cmp}
+use Rattle.ft_board.proofs.Earlier.{act_of, all_above}
+use Rattle.ft_board.proofs.Apart.{all_of}
+use Rattle.ft_board.proofs.Shelved.{replay-fold, new_shelves-started, new_shelves-shelved, new_shelves-before, merged_stamped}
+use Rattle.ft_board.proofs.replay.replayed.Goals as goal
+
+pub loop-pos-init : goal.loop-pos-init
+loop-pos-init c =
+    let triggers : Triggers = seen nat_cmp c.args.triggers.now in
+    let events : Events = merged (seen nat_cmp c.args.lanes.now) in
+    let all : entries_by deref c.into_iter-pos-iterator.result ≡ map.entries events =
+    ap (entries_by deref) (c.into_iter-pos-iterator.ensures.into_iter_gives ∙ c.entries-pos-items.ensures.rest) ∙ sym (entries-map_by deref pos_cmp_total (seen pos_cmp c.in_ok-merged.merged)) ∙ ap map.entries c.in_ok-merged.ensures in
+    let shelves : seen nat_cmp c.in_ok-shelves.shelves ≡ new_shelves triggers = c.in_ok-shelves.ensures in
+    let saved : seen variable_cmp c.new-saved.result ≡ map.empty = seen-empty variable_cmp c.new-saved.result c.new-saved.ensures.empty in
+    record {
+      rest =
+          (λ i. fold (step triggers) (state_on (shelves i, saved i)) (all i))
+          ∙ ap (λ tallies. fold (step triggers) (record { tallies = tallies; variables = map.empty }) (map.entries events)) (new_shelves-started triggers);
+      sorted = subst (λ (es : List (Pos × Traced)). IsStrictlySortedBy pos_cmp (keys_of es)) (sym all) (strictly_sorted pos_cmp (map.entries events) (entries_sorted events));
+      stamped = subst (AllByRecursion (λ (e : Pos × Traced). e.0.stamp ≡ e.1.stamp)) (sym all) (merged_stamped (seen nat_cmp c.args.lanes.now));
+      shelved = subst (AreShelved triggers) (sym shelves) (new_shelves-shelved triggers);
+      before = all_of (λ (e : Pos × Traced). AllBeforePlace e.0 (seen nat_cmp c.in_ok-shelves.shelves))
+          (λ e. subst (AllBeforePlace e.0) (sym shelves) (λ id. new_shelves-before triggers (act_of e.0 id))) (entries_by deref c.into_iter-pos-iterator.result);
+    }
+
+pub loop-pos-preserved : goal.loop-pos-preserved
+loop-pos-preserved c =
+    let triggers : Triggers = seen nat_cmp c.args.triggers.now in
+    let e : Pos × Traced = (c.in-Some.pos.now, c.in-Some.event.now.now) in
+    let rest : List (Pos × Traced) = entries_by deref c.next.new.self in
+    let more : entries_by deref c.loop-pos.pos-iterator ≡ e ∷ rest = ap (entries_by deref) (rest_more (deref_pair {K = Pos} {X = Bor Traced}) _ _ _ _ c.in-Some.is c.next.ensures.steps) in
+    let sorted : IsStrictlySortedBy pos_cmp (keys_of (e ∷ rest)) = subst (λ (es : List (Pos × Traced)). IsStrictlySortedBy pos_cmp (keys_of es)) more c.loop-pos.invariant.sorted in
+    record {
+      rest =
+          ap (λ (s : State). fold (step triggers) s rest) c.in_ok-step.ensures.state
+          ∙ sym (ap (fold (step triggers) (state_on (seen nat_cmp c.loop-pos.shelves, seen variable_cmp c.loop-pos.saved))) more) ∙ c.loop-pos.invariant.rest;
+      sorted = sorted_tail pos_cmp e.0 (keys_of rest) sorted;
+      stamped = (subst (AllByRecursion (λ (x : Pos × Traced). x.0.stamp ≡ x.1.stamp)) more c.loop-pos.invariant.stamped).1;
+      shelved = c.in_ok-step.ensures.shelved;
+      before = all_above pos_cmp e.0 (λ pos. AllBeforePlace pos (seen nat_cmp c.step.new.shelves)) c.in_ok-step.ensures.before rest (sorted_head pos_cmp e.0 (keys_of rest) sorted);
+    }
+
+pub step-requires-clause-stamped : goal.step-requires-clause-stamped
+step-requires-clause-stamped c =
+    let more = ap (entries_by deref) (rest_more (deref_pair {K = Pos} {X = Bor Traced}) _ _ _ _ c.in-Some.is c.next.ensures.steps) in
+    (subst (AllByRecursion (λ (x : Pos × Traced). x.0.stamp ≡ x.1.stamp)) more c.loop-pos.invariant.stamped).0
+
+pub step-requires-clause-before : goal.step-requires-clause-before
+step-requires-clause-before c =
+    let more = ap (entries_by deref) (rest_more (deref_pair {K = Pos} {X = Bor Traced}) _ _ _ _ c.in-Some.is c.next.ensures.steps) in
+    (subst (AllByRecursion (λ (x : Pos × Traced). AllBeforePlace x.0 (seen nat_cmp c.loop-pos.shelves))) more c.loop-pos.invariant.before).0
+
+pub returns-clause-tallies : goal.returns-clause-tallies
+returns-clause-tallies c =
+    let triggers : Triggers = seen nat_cmp c.args.triggers.now in
+    let events : Events = merged (seen nat_cmp c.args.lanes.now) in
+    ap (λ (s : State). s.tallies)
+    (sym (ap (λ (es : List (Pos × Bor Traced)). fold (step triggers) (state_on (seen nat_cmp c.loop-pos.shelves, seen variable_cmp c.loop-pos.saved)) (entries_by deref es)) (rest_all (deref_pair {K = Pos} {X = Bor Traced}) _ _ _ c.in-None.is c.next.ensures.steps))
+    ∙ c.loop-pos.invariant.rest
+    ∙ replay-fold triggers events events refl)
