@@ -1,0 +1,4 @@
+pub mod Mapped
+pub mod Each
+pub mod Counts
+pub mod Views

@@ -1,0 +1,5 @@
+pub mod Held
+pub mod Codes
+pub mod Edits
+pub mod Loaded
+pub mod Slots
