@@ -1,6 +1,7 @@
 -- A property of each value of a map, as the map is edited.
-use Rattle.std.proofs.Common.{◌≡◌, ℕ, ◌<◌, ◌≤◌, refl, sym, ap, ◌∙◌, subst, Option, Some, None, unwrap_or, ⊎_elim, arith}
+use Rattle.std.proofs.Common.{◌≡◌, ℕ, suc, List, [], ◌∷◌, ◌<◌, ◌≤◌, refl, sym, ap, ◌∙◌, subst, Option, Some, None, unwrap_or, ⊎_elim, arith}
 use Rattle.std.specs.Prelude.{option_and_then}
+use Rattle.std.specs.List.{All}
 use Rattle.std.specs.Option.{option_map_or}
 use Rattle.std.specs.Ordering.{nat_cmp}
 use Rattle.std.specs.Cmp.{nat_cmp_total}
@@ -10,6 +11,7 @@ use Rattle.std.proofs.lemmas.Bool.{cases_eq}
 use Rattle.std.proofs.lemmas.Option.{none-some}
 use Rattle.ft_maps.specs.Entries.{get-insert_same, get-insert_other, get-remove_same, get-remove_other}
 use Rattle.ft_lanes.specs.Slots.{SlotsOf, AllSlots, Each, IsWithin, AreWithin, no_slots, slots_with, slots_without, all_with, all_without}
+use Rattle.ft_lanes.specs.Walks.{PlacesWithin}
 
 module _ {X : Type 0} (P : X → Type 0) where
   pub each-empty : Each P map.empty
@@ -76,3 +78,8 @@ within-found n all cpu line place within = at (map.get all cpu) refl
     at : (o : Option SlotsOf) → map.get all cpu ≡ o → option_and_then (λ slots. map.get slots.places line) o ≡ Some place → place < n
     at None is found = absurd (none-some place found)
     at (Some slots) is found = within cpu slots is line place found
+
+-- lines that are found have places of the store
+pub places-within : (n : ℕ) (slots : SlotsOf) (lines : List (ℕ × ℕ)) → IsWithin n slots → All (λ e. map.get slots.places e.0 ≡ Some e.1) lines → PlacesWithin n lines
+places-within n slots [] within found = tt
+places-within n slots (e ∷ lines) within found = (within e.0 e.1 (found 0 e (omega arith)), places-within n slots lines within (λ k d lt. found (suc k) d (omega arith)))

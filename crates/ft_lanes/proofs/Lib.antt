@@ -2,3 +2,4 @@ pub mod Mapped
 pub mod Each
 pub mod Counts
 pub mod Views
+pub mod Loads

@@ -1,5 +1,5 @@
 -- What an edit of slots is for the lanes that they stand for.
-use Rattle.std.proofs.Common.{◌≡◌, ℕ, zero, suc, ◌+◌, ◌<◌, false, List, [], ◌∷◌, ◌++◌, length, refl, sym, ap, ◌∙◌, Option, Some, None, unwrap_or, option_map, Result, Ok, Err, is_err, OnOk, arith}
+use Rattle.std.proofs.Common.{◌≡◌, ℕ, zero, suc, ◌+◌, ◌<◌, false, List, [], ◌∷◌, ◌++◌, length, refl, sym, ap, ◌∙◌, Option, Some, None, unwrap_or, option_map, is_some, Result, Ok, Err, is_err, OnOk, arith}
 use Rattle.std.specs.Prelude.{option_and_then}
 use Rattle.std.specs.Option.{option_map_or}
 use Rattle.std.specs.Ordering.{nat_cmp}
@@ -7,7 +7,7 @@ use Rattle.std.specs.Cmp.{nat_cmp_total}
 use Rattle.std.specs.FinMap as map
 use Rattle.std.specs.FinMap.{nat_cmp-IsAntisymmetric}
 use Rattle.ft_event.specs.Traced.{Traced}
-use Rattle.ft_maps.specs.Mapped.{map_by-empty, get-map_by, map_by-insert}
+use Rattle.ft_maps.specs.Mapped.{entries_by, entries-map_by, map_by-empty, get-map_by, map_by-insert}
 use Rattle.ft_lanes.specs.Held.{Lane, Lanes, event_at}
 use Rattle.ft_lanes.specs.Edits.{new_lane, lane_with, lane_without, lanes_without}
 use Rattle.ft_lanes.specs.Slots.{SlotsOf, AllSlots, no_slots, slots_with, all_with, slots_without, all_without, lane_by, lanes_by, AreWithin, stored_at, slots_in}
@@ -110,3 +110,19 @@ count-at f all cpu = at (map.get all cpu) ∙ ap (option_map (λ lane. map.len l
 pub at_ok : {T E P : Type 0} (r : Result T E) → false ≡ is_err r → OnOk r P → P
 at_ok (Ok x) e h = h
 at_ok (Err y) e h = cc
+
+-- the lines of a lane are those of its slots
+pub lane-entries : (f : ℕ → Traced) (all : AllSlots) (cpu : ℕ) → option_map (λ lane. map.entries lane.events) (map.get (lanes_by f all) cpu) ≡ option_map (λ slots. entries_by f (map.entries slots.places)) (map.get all cpu)
+lane-entries f all cpu = ap (option_map (λ lane. map.entries lane.events)) (lane-found f all cpu) ∙ at (map.get all cpu)
+  where
+    at : (o : Option SlotsOf) → option_map (λ lane. map.entries lane.events) (option_map (lane_by f) o) ≡ option_map (λ slots. entries_by f (map.entries slots.places)) o
+    at None = refl
+    at (Some slots) = ap Some (entries-map_by f nat_cmp_total slots.places)
+
+-- a lane is held where its slots are
+pub held-slots_of : (f : ℕ → Traced) (all : AllSlots) (cpu : ℕ) → map.contains_key (lanes_by f all) cpu ≡ map.contains_key all cpu
+held-slots_of f all cpu = ap is_some (lane-found f all cpu) ∙ at (map.get all cpu)
+  where
+    at : (o : Option SlotsOf) → is_some (option_map (lane_by f) o) ≡ is_some o
+    at None = refl
+    at (Some slots) = refl

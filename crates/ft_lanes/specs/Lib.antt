@@ -3,3 +3,4 @@ pub mod Codes
 pub mod Edits
 pub mod Loaded
 pub mod Slots
+pub mod Walks

@@ -1,6 +1,6 @@
 -- Lanes as places in a store of events, and the lanes of events that they stand for.
-use Rattle.std.specs.Prelude.{◌≡◌, ℕ, ◌+◌, ◌<◌, ◌≤◌, List, [], pos, slice_index_or, Some, unwrap_or}
-use Rattle.std.specs.List.{sum_by}
+use Rattle.std.specs.Prelude.{◌≡◌, ℕ, ◌+◌, ◌<◌, ◌≤◌, Bool, true, false, ◌==◌, List, [], ◌∷◌, length, Option, option_map, pos, slice_index_or, Some, unwrap_or}
+use Rattle.std.specs.List.{sum_by, find, list_any}
 use Rattle.std.specs.Option.{option_map_or}
 use Rattle.std.specs.Ordering.{nat_cmp}
 use Rattle.std.specs.FinMap as map
@@ -8,7 +8,7 @@ use Rattle.std.specs.FinMap.{FinMap}
 use Rattle.ft_event.specs.declared.event.Body.TheVariants as bodies
 use Rattle.ft_event.specs.Traced.{Traced}
 use Rattle.ft_maps.specs.Mapped.{map_by}
-use Rattle.ft_lanes.specs.Held.{Lane, Lanes}
+use Rattle.ft_lanes.specs.Held.{Lane, Lanes, number_limit}
 
 -- where one CPU's events stand in a store, by line number, and the next number (our own choice)
 pub record SlotsOf : Type 0 where
@@ -38,6 +38,27 @@ slots_without slots line = record { places = map.remove slots.places line; next 
 -- the slot of a CPU's line taken out (our own choice)
 abbrev pub all_without : AllSlots → ℕ → ℕ → AllSlots
 all_without all cpu line = option_map_or (λ slots. map.insert all cpu (slots_without slots line)) (map.get all cpu) all
+
+-- one more slot for each event, at rising places (our own choice)
+abbrev pub all_from : AllSlots → ℕ → List Traced → AllSlots
+all_from all place [] = all
+all_from all place (e ∷ es) = all_from (all_with all e.cpu place) (place + 1) es
+
+-- the CPU of the first event that has one of these CPUs (our own choice)
+abbrev pub first_cpu : (ℕ → Bool) → List Traced → Option ℕ
+first_cpu has events = option_map (λ e. e.cpu) (find (λ e. has e.cpu) events)
+
+-- an event of the list has the CPU (our own choice)
+abbrev pub has_cpu : List Traced → ℕ → Bool
+has_cpu events cpu = list_any (λ e. e.cpu == cpu) events
+
+-- two sets of slots are the same but for the CPUs of the events (our own choice)
+abbrev pub AgreeBeside : List Traced → AllSlots → AllSlots → Type 0
+AgreeBeside events old new = (cpu : ℕ) → has_cpu events cpu ≡ false → map.get new cpu ≡ map.get old cpu
+
+-- the lanes of the events' CPUs have numbers left for all of them (our own choice)
+abbrev pub HasRoom : AllSlots → List Traced → Type 0
+HasRoom all events = (cpu : ℕ) → has_cpu events cpu ≡ true → (unwrap_or (map.get all cpu) no_slots).next + length events ≤ number_limit + 1
 
 -- what stands behind a store's end (our own choice)
 abbrev pub blank : Traced

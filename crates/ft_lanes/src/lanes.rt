@@ -1,10 +1,12 @@
 //! Lanes of events.
 
-ghost use Rattle.std.specs.Prelude.{◌≡◌, ◌≤◌, ◌<◌, length, unwrap_or, option_map, OnOk, OnErr, IfOk, IfSome};
+ghost use Rattle.std.specs.Prelude.{◌≡◌, ◌+◌, ◌++◌, ◌≤◌, ◌<◌, ◌^◌, None, length, unwrap_or, option_map, OnOk, OnErr, IfOk, IfSome};
 ghost use Rattle.ft_lanes.specs.Slots.{stored_at};
 
 use crate::edits::{place_in, push_in, take_in, take_lane_in};
+use crate::load::{held_cpu_in, push_load};
 use crate::slots::Slots;
+use crate::walk::Lines;
 use ft_event::Event;
 use std::alloc::{AllocError, Global};
 use std::collections::BTreeMap;
@@ -46,6 +48,31 @@ fn end_of(store: &Vec<Event>) -> Result<u32, AllocError>
     }
 }
 
+/// The place behind the last event of a store. Refused for memory where 32 bits can't number the
+/// places of so many more.
+fn end_before(store: &Vec<Event>, more: &Vec<Event>) -> Result<u32, AllocError>
+    ensures value { IfOk result (λ place. place ≡ length store.now.items) }
+    ensures room { OnOk result (length store.now.items + length more.now.items < 2 ^ 32) }
+{
+    match u32::try_from(store.len() as u64 + more.len() as u64) {
+        Ok(_) => Ok(store.len() as u32),
+        Err(_) => Err(AllocError),
+    }
+}
+
+/// Adds events behind those of a store. An empty store takes them over. Refused for memory, and
+/// then the store is as it was.
+fn append(store: &mut Vec<Event>, events: Vec<Event>) -> Result<(), AllocError>
+    ensures ok { OnOk result (store.new.items ≡ store.old.items ++ events.items) }
+    ensures err { OnErr result (store.new.items ≡ store.old.items) }
+{
+    if store.is_empty() {
+        *store = events;
+        return Ok(());
+    }
+    store.extend_from_slice(&events)
+}
+
 /// The event at a place of a store.
 fn event_of(store: &[Event], place: Option<u32>) -> Option<Event>
     requires { IfSome place (λ p. p < length store.now) }
@@ -60,7 +87,8 @@ fn event_of(store: &[Event], place: Option<u32>) -> Option<Event>
 impl Lanes {
     ghost use Rattle.std.specs.Option.{option_copied};
     ghost use Rattle.std.specs.FinMap as map;
-    ghost use Rattle.ft_lanes.specs.Held.{number_limit, event_at, held_in};
+    ghost use Rattle.ft_lanes.specs.Held.{event_limit, number_limit, event_at, held_in};
+    ghost use Rattle.ft_lanes.specs.Loaded.{first_held, with_lanes};
     ghost use Rattle.ft_lanes.specs.Edits.{new_lane, lanes_with, lanes_without};
 
     /// No lanes.
@@ -96,12 +124,51 @@ impl Lanes {
         pushed
     }
 
+    /// Adds a lane for each CPU of the events, which has its events in this order from line 1 on.
+    /// No event's lane may be held, and the events are at most 1,048,576. Refused for memory, and
+    /// then all is as it was.
+    pub fn load(&mut self, events: Vec<Event>) -> Result<(), AllocError>
+        requires apart { first_held self.old events.items ≡ None }
+        requires few { length events.items ≤ event_limit }
+        ensures ok { OnOk result (self.new ≡ with_lanes self.old events.items) }
+        ensures err { OnErr result (self.new ≡ self.old) }
+    {
+        let first = end_before(&self.store, &events)?;
+        let start = self.store.len();
+        let count = events.len() as u64;
+        append(&mut self.store, events)?;
+        let loaded = push_load(self.alloc, &mut self.lanes, &self.store[start..], first);
+        if loaded.is_err() {
+            self.store.truncate(start);
+            return loaded;
+        }
+        self.held += count;
+        loaded
+    }
+
+    /// The CPU of the first event whose lane is held.
+    pub fn held_cpu(&self, events: &[Event]) -> Option<u16>
+        ensures { result ≡ first_held self.now events.now }
+    {
+        held_cpu_in(&self.lanes, events)
+    }
+
     /// The event of a CPU's line.
     pub fn get(&self, cpu: u16, line: u32) -> Option<&Event>
         ensures { option_copied result ≡ event_at self.now cpu line }
     {
         match place_in(&self.lanes, cpu, line) {
             Some(place) => Some(&self.store[place as usize]),
+            None => None,
+        }
+    }
+
+    /// The lane of a CPU, if there is one: its events by line number.
+    pub fn lane(&self, cpu: u16) -> Option<Lines<'_>>
+        ensures { result ≡ option_map (λ lane. map.entries lane.events) (map.get self.now cpu) }
+    {
+        match self.lanes.get(&cpu) {
+            Some(slots) => Some(Lines::new(&self.store, slots.entries())),
             None => None,
         }
     }

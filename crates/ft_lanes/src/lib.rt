@@ -3,6 +3,9 @@
 
 mod edits;
 mod lanes;
+mod load;
 mod slots;
+mod walk;
 
 pub use lanes::Lanes;
+pub use walk::Lines;

@@ -1,12 +1,14 @@
 //! Where the events of one CPU stand.
 
-ghost use Rattle.std.specs.Prelude.{◌≡◌, ◌+◌, ◌≤◌, OnOk, OnErr, IfOk};
+ghost use Rattle.std.specs.Prelude.{◌≡◌, ◌+◌, ◌≤◌, OnOk, OnErr, IfOk, Some};
+ghost use Rattle.std.specs.List.{All};
 ghost use Rattle.std.specs.Ordering.{nat_cmp};
 ghost use Rattle.std.specs.FinMap as map;
 
 use ft_maps::{len, put};
 use std::alloc::{AllocError, Global};
 use std::collections::BTreeMap;
+use std::collections::btree_map::Iter;
 use std::marker::Model;
 
 /// The places of one CPU's events in a store, by line number, and the next number.
@@ -80,5 +82,13 @@ impl Slots {
         ensures { result ≡ map.len self.now.places }
     {
         len(&self.places)
+    }
+
+    /// The lines with their places, by line number.
+    pub(crate) fn entries(&self) -> Iter<'_, u32, u32>
+        ensures rest { result ≡ map.entries self.now.places }
+        ensures found { All (λ e. map.get self.now.places e.0 ≡ Some e.1) result }
+    {
+        self.places.iter()
     }
 }
