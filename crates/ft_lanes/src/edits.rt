@@ -40,6 +40,16 @@ pub(crate) fn push_in(
     }
 }
 
+/// The number of the next line of a CPU.
+pub(crate) fn next_in(lanes: &BTreeMap<u16, Slots>, cpu: u16) -> u64
+    ensures { result ≡ (unwrap_or (map.get (seen nat_cmp lanes.now) cpu) no_slots).next }
+{
+    match lanes.get(&cpu) {
+        Some(slots) => slots.next(),
+        None => 1,
+    }
+}
+
 /// The place of the event of a CPU's line.
 pub(crate) fn place_in(lanes: &BTreeMap<u16, Slots>, cpu: u16, line: u32) -> Option<u32>
     ensures { result ≡ option_and_then (λ slots. map.get slots.places line)

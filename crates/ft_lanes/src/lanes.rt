@@ -3,7 +3,7 @@
 ghost use Rattle.std.specs.Prelude.{◌≡◌, ◌+◌, ◌++◌, ◌≤◌, ◌<◌, ◌^◌, None, length, unwrap_or, option_map, OnOk, OnErr, IfOk, IfSome};
 ghost use Rattle.ft_lanes.specs.Slots.{stored_at};
 
-use crate::edits::{place_in, push_in, take_in, take_lane_in};
+use crate::edits::{next_in, place_in, push_in, take_in, take_lane_in};
 use crate::load::{held_cpu_in, push_load};
 use crate::slots::Slots;
 use crate::walk::Lines;
@@ -101,6 +101,13 @@ impl Lanes {
             lanes: BTreeMap::new(alloc),
             held: 0,
         }
+    }
+
+    /// The number of the next line of a CPU, which is 1 where it has no lane.
+    pub fn next_line(&self, cpu: u16) -> u64
+        ensures { result ≡ (unwrap_or (map.get self.now cpu) new_lane).next }
+    {
+        next_in(&self.lanes, cpu)
     }
 
     /// Adds an event to the lane of its CPU, at the lane's next number, which is at most

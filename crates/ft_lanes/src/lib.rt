@@ -9,3 +9,6 @@ mod walk;
 
 pub use lanes::Lanes;
 pub use walk::Lines;
+
+#[cfg(test)]
+mod tests;

@@ -91,4 +91,11 @@ impl Slots {
     {
         self.places.iter()
     }
+
+    /// The number of the next line.
+    pub(crate) fn next(&self) -> u64
+        ensures { result ≡ self.now.next }
+    {
+        self.next
+    }
 }
