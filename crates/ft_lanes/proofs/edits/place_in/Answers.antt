@@ -1,0 +1,14 @@
+use Rattle.std.proofs.Common.{sym, ◌∙◌, ap}
+use Rattle.std.specs.Prelude.{option_and_then}
+use Rattle.std.specs.Cmp.{nat_cmp_total}
+use Rattle.std.specs.FinMap as map
+use Rattle.ft_maps.specs.Seen.{get-seen}
+use Rattle.ft_lanes.specs.Slots.{SlotsOf}
+use Rattle.ft_lanes.proofs.edits.place_in.Goals as goal
+
+pub returns-in-Some : goal.returns-in-Some
+returns-in-Some c =
+    c.get-in-Some.ensures ∙ sym (ap (option_and_then (λ (s : SlotsOf). map.get s.places c.args.line)) (get-seen nat_cmp_total c.args.lanes.now c.args.cpu ∙ sym c.in-Some.ensures.value))
+
+pub returns-in-None : goal.returns-in-None
+returns-in-None c = sym (ap (option_and_then (λ (s : SlotsOf). map.get s.places c.args.line)) (get-seen nat_cmp_total c.args.lanes.now c.args.cpu ∙ sym c.in-None.ensures.value))

@@ -1,0 +1,34 @@
+-- What is left of the list has the same first event.
+use Rattle.std.proofs.Common.{◌≡◌, ℕ, ◌+◌, ◌<◌, Bool, true, false, cond, List, get_or, drop, length, sym, ap, ◌∙◌, Some, is_some, arith}
+use Rattle.std.specs.Ordering.{nat_cmp}
+use Rattle.std.specs.Cmp.{nat_cmp_total}
+use Rattle.std.specs.BTreeMap as tree
+use Rattle.std.specs.BTreeMap.{BTreeMap}
+use Rattle.std.specs.FinMap as map
+use Rattle.ft_event.specs.Traced.{Traced}
+use Rattle.ft_maps.specs.Seen.{seen, get-seen}
+use Rattle.ft_lanes.specs.Slots.{SlotsOf, first_cpu}
+use Rattle.ft_lanes.proofs.Loads.{first_cpu-at, first_cpu-end}
+use Rattle.ft_lanes.proofs.load.held_cpu_in.Goals as goal
+
+-- the list from this event on
+step : (m : BTreeMap ℕ SlotsOf) (es : List Traced) (i : ℕ) (item : Traced) (cpu : ℕ) (held : Bool) → i < length es → cpu ≡ (get_or es i item).cpu → held ≡ is_some (tree.get nat_cmp m cpu) → first_cpu (map.contains_key (seen nat_cmp m)) (drop i es) ≡ cond held (Some cpu) (first_cpu (map.contains_key (seen nat_cmp m)) (drop (i + 1) es))
+step m es i item cpu held lt is found =
+    let has = map.contains_key (seen nat_cmp m) in
+    first_cpu-at has es i item lt
+    ∙ ap (λ k. cond (has k) (Some k) (first_cpu has (drop (i + 1) es))) (sym is)
+    ∙ ap (λ b. cond b (Some cpu) (first_cpu has (drop (i + 1) es))) (ap is_some (get-seen nat_cmp_total m cpu) ∙ sym found)
+
+pub returns-then-contains_key : goal.returns-then-contains_key
+returns-then-contains_key c =
+    let cpu = ap (λ t. t.cpu) (c.event.view_is ∙ c.event-item.is) in
+    sym (c.loop-event.invariant ∙ step c.args.lanes.now c.args.events.now c.loop-event.event-index c.event-item.result c.event.inside.cpu true c.loop-event-test.true cpu c.if-contains_key.ensures)
+
+pub loop-event-preserved : goal.loop-event-preserved
+loop-event-preserved c =
+    let cpu : c.event.inside.cpu ≡ (get_or c.args.events.now c.loop-event.event-index c.event-item.result).cpu = ap (λ t. t.cpu) (c.event.view_is ∙ c.event-item.is) in
+    c.loop-event.invariant ∙ step c.args.lanes.now c.args.events.now c.loop-event.event-index c.event-item.result c.event.inside.cpu false c.loop-event-test.true cpu c.if-contains_key.ensures
+
+pub returns : goal.returns
+returns c =
+    sym (c.loop-event.invariant ∙ first_cpu-end (map.contains_key (seen nat_cmp c.args.lanes.now)) c.args.events.now c.loop-event.event-index (omega arith))

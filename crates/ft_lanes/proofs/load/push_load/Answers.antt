@@ -1,0 +1,15 @@
+-- Event by event, and what was half done is undone.
+use Rattle.std.proofs.Common.{◌∙◌}
+use Rattle.std.specs.Ordering.{nat_cmp}
+use Rattle.std.proofs.lemmas.Result.{on_err_weaker}
+use Rattle.ft_maps.specs.Seen.{seen}
+use Rattle.ft_lanes.proofs.Loads.{free-from, room-from, removed-back}
+use Rattle.ft_lanes.proofs.load.push_load.Goals as goal
+
+pub push_all-pushed-requires-clause-room : goal.push_all-pushed-requires-clause-room
+push_all-pushed-requires-clause-room c = room-from (seen nat_cmp c.args.lanes.now) c.args.events.now (free-from (seen nat_cmp c.args.lanes.now) c.args.events.now c.requires.apart) c.requires.few
+
+pub returns-then-is_err-clause-err : goal.returns-then-is_err-clause-err
+returns-then-is_err-clause-err c =
+    on_err_weaker c.push_all-pushed.result (λ beside.
+    c.remove_all.ensures ∙ removed-back (seen nat_cmp c.args.lanes.now) (seen nat_cmp c.push_all-pushed.new.lanes) c.args.events.now (free-from (seen nat_cmp c.args.lanes.now) c.args.events.now c.requires.apart) beside) c.push_all-pushed.ensures.err

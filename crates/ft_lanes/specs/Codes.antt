@@ -1,0 +1,26 @@
+-- How a proof tells lanes apart: by what they hold.
+use Rattle.std.specs.Prelude.{ℕ, refl}
+use Rattle.std.specs.Ordering.{nat_cmp}
+use Rattle.std.specs.Coded.{Coded, code_by, coded×, coded_ℕ}
+use Rattle.std.specs.FinMap as map
+use Rattle.std.specs.FinMap.{FinMap}
+use Rattle.ft_event.specs.Traced.{Traced}
+use Rattle.ft_event.specs.Codes.{traced_code}
+use Rattle.ft_lanes.specs.Held.{Lane, Lanes}
+use Rattle.ft_lanes.specs.Slots.{SlotsOf}
+
+-- a lane, stored as its events and its next number (our own choice)
+abbrev pub lane_code : Coded Lane
+lane_code = code_by
+    (FinMap nat_cmp Traced × ℕ) (coded× (map.code coded_ℕ traced_code) coded_ℕ)
+    (λ lane. (lane.events, lane.next)) (λ p. record { events = p.0; next = p.1 }) (λ _. refl)
+
+-- lanes, stored as a map of such (our own choice)
+abbrev pub lanes_code : Coded Lanes
+lanes_code = map.code coded_ℕ lane_code
+
+-- a lane's slots, stored as their places and the next number (our own choice)
+abbrev pub slots_code : Coded SlotsOf
+slots_code = code_by
+    (FinMap nat_cmp ℕ × ℕ) (coded× (map.code coded_ℕ coded_ℕ) coded_ℕ)
+    (λ slots. (slots.places, slots.next)) (λ p. record { places = p.0; next = p.1 }) (λ _. refl)

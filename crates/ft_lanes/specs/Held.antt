@@ -1,0 +1,32 @@
+-- What lanes hold.
+use Rattle.std.specs.Prelude.{ℕ, Option, option_and_then}
+use Rattle.std.specs.List.{sum_by}
+use Rattle.std.specs.Ordering.{nat_cmp}
+use Rattle.std.specs.FinMap as map
+use Rattle.std.specs.FinMap.{FinMap}
+use Rattle.ft_event.specs.Traced.{Traced}
+
+-- one CPU's events by line number, and the next number (our own choice)
+pub record Lane : Type 0 where
+  pub events : FinMap nat_cmp Traced
+  pub next : ℕ
+
+-- lanes by CPU (our own choice)
+abbrev pub Lanes : Type 0
+Lanes = FinMap nat_cmp Lane
+
+-- the most events that are held (our own choice)
+abbrev pub event_limit : ℕ
+event_limit = 1048576
+
+-- the greatest line number (our own choice)
+abbrev pub number_limit : ℕ
+number_limit = 4294967295
+
+-- how many events the lanes hold together (our own choice)
+abbrev pub held_in : Lanes → ℕ
+held_in lanes = sum_by (λ lane. map.len lane.events) (map.values lanes)
+
+-- the event of a lane's line, where there is one (our own choice)
+abbrev pub event_at : Lanes → ℕ → ℕ → Option Traced
+event_at lanes cpu line = option_and_then (λ lane. map.get lane.events line) (map.get lanes cpu)

@@ -1,0 +1,103 @@
+-- Lanes as places in a store of events, and the lanes of events that they stand for.
+use Rattle.std.specs.Prelude.{◌≡◌, ℕ, ◌+◌, ◌<◌, ◌≤◌, Bool, true, false, ◌==◌, List, [], ◌∷◌, length, Option, option_map, pos, slice_index_or, Some, unwrap_or}
+use Rattle.std.specs.List.{sum_by, find, list_any}
+use Rattle.std.specs.Option.{option_map_or}
+use Rattle.std.specs.Ordering.{nat_cmp}
+use Rattle.std.specs.FinMap as map
+use Rattle.std.specs.FinMap.{FinMap}
+use Rattle.ft_event.specs.declared.event.Body.TheVariants as bodies
+use Rattle.ft_event.specs.Traced.{Traced}
+use Rattle.ft_maps.specs.Mapped.{map_by}
+use Rattle.ft_lanes.specs.Held.{Lane, Lanes, number_limit}
+
+-- where one CPU's events stand in a store, by line number, and the next number (our own choice)
+pub record SlotsOf : Type 0 where
+  pub places : FinMap nat_cmp ℕ
+  pub next : ℕ
+
+-- slots by CPU (our own choice)
+abbrev pub AllSlots : Type 0
+AllSlots = FinMap nat_cmp SlotsOf
+
+-- a lane without slots: its first line is 1 (our own choice)
+abbrev pub no_slots : SlotsOf
+no_slots = record { places = map.empty; next = 1 }
+
+-- one more slot, at the next number (our own choice)
+abbrev pub slots_with : SlotsOf → ℕ → SlotsOf
+slots_with slots place = record { places = map.insert slots.places slots.next place; next = slots.next + 1 }
+
+-- one more slot in the lane of a CPU (our own choice)
+abbrev pub all_with : AllSlots → ℕ → ℕ → AllSlots
+all_with all cpu place = map.insert all cpu (slots_with (unwrap_or (map.get all cpu) no_slots) place)
+
+-- the slot of a line taken out; the next number stays (our own choice)
+abbrev pub slots_without : SlotsOf → ℕ → SlotsOf
+slots_without slots line = record { places = map.remove slots.places line; next = slots.next }
+
+-- the slot of a CPU's line taken out (our own choice)
+abbrev pub all_without : AllSlots → ℕ → ℕ → AllSlots
+all_without all cpu line = option_map_or (λ slots. map.insert all cpu (slots_without slots line)) (map.get all cpu) all
+
+-- one more slot for each event, at rising places (our own choice)
+abbrev pub all_from : AllSlots → ℕ → List Traced → AllSlots
+all_from all place [] = all
+all_from all place (e ∷ es) = all_from (all_with all e.cpu place) (place + 1) es
+
+-- the CPU of the first event that has one of these CPUs (our own choice)
+abbrev pub first_cpu : (ℕ → Bool) → List Traced → Option ℕ
+first_cpu has events = option_map (λ e. e.cpu) (find (λ e. has e.cpu) events)
+
+-- an event of the list has the CPU (our own choice)
+abbrev pub has_cpu : List Traced → ℕ → Bool
+has_cpu events cpu = list_any (λ e. e.cpu == cpu) events
+
+-- two sets of slots are the same but for the CPUs of the events (our own choice)
+abbrev pub AgreeBeside : List Traced → AllSlots → AllSlots → Type 0
+AgreeBeside events old new = (cpu : ℕ) → has_cpu events cpu ≡ false → map.get new cpu ≡ map.get old cpu
+
+-- the lanes of the events' CPUs have numbers left for all of them (our own choice)
+abbrev pub HasRoom : AllSlots → List Traced → Type 0
+HasRoom all events = (cpu : ℕ) → has_cpu events cpu ≡ true → (unwrap_or (map.get all cpu) no_slots).next + length events ≤ number_limit + 1
+
+-- what stands behind a store's end (our own choice)
+abbrev pub blank : Traced
+blank = record { task = []; pid = pos 0; cpu = 0; stamp = 0; body = bodies.Other }
+
+-- the event at a place of a store (our own choice)
+abbrev pub stored_at : List Traced → ℕ → Traced
+stored_at store place = slice_index_or store place blank
+
+-- the lane that slots stand for (our own choice)
+abbrev pub lane_by : (ℕ → Traced) → SlotsOf → Lane
+lane_by at slots = record { events = map_by at slots.places; next = slots.next }
+
+-- the lanes that slots stand for (our own choice)
+abbrev pub lanes_by : (ℕ → Traced) → AllSlots → Lanes
+lanes_by at all = map_by (lane_by at) all
+
+-- each value of a map has a property (our own choice)
+abbrev pub Each : {X : Type 0} → (X → Type 0) → FinMap nat_cmp X → Type 0
+Each {X = X} P m = (k : ℕ) (v : X) → map.get m k ≡ Some v → P v
+
+-- slots are places of a store of this length (our own choice)
+abbrev pub IsWithin : ℕ → SlotsOf → Type 0
+IsWithin n slots = Each (λ place. place < n) slots.places
+
+-- all slots are places of a store of this length (our own choice)
+abbrev pub AreWithin : ℕ → AllSlots → Type 0
+AreWithin n all = Each (IsWithin n) all
+
+-- how many slots there are together (our own choice)
+abbrev pub slots_in : AllSlots → ℕ
+slots_in all = sum_by (λ slots. map.len slots.places) (map.values all)
+
+-- lines are below the next number (our own choice)
+abbrev pub AreBelow : ℕ → FinMap nat_cmp ℕ → Type 0
+AreBelow next places = (line place : ℕ) → map.get places line ≡ Some place → line < next
+
+-- what holds of slots, of their number as it was counted, and of the length of their store (our own choice)
+pub record AreStored (n held : ℕ) (all : AllSlots) : Type 0 where
+  pub within : AreWithin n all
+  pub counted : held ≡ slots_in all
+  pub few : held ≤ n

@@ -1,0 +1,222 @@
+//! Lanes of events.
+
+ghost use Rattle.std.specs.Prelude.{◌≡◌, ◌+◌, ◌++◌, ◌≤◌, ◌<◌, ◌^◌, None, length, unwrap_or, option_map, OnOk, OnErr, IfOk, IfSome};
+ghost use Rattle.ft_lanes.specs.Slots.{stored_at};
+
+use crate::edits::{next_in, place_in, push_in, take_in, take_lane_in};
+use crate::load::{held_cpu_in, push_load};
+use crate::slots::Slots;
+use crate::walk::Lines;
+use ft_event::Event;
+use std::alloc::{AllocError, Global};
+use std::collections::BTreeMap;
+use std::marker::Model;
+
+/// Events by CPU and line number, each held once.
+#[derive(Drop)]
+pub struct Lanes {
+    alloc: Global,
+    store: Vec<Event>,
+    lanes: BTreeMap<u16, Slots>,
+    held: u64,
+}
+
+impl Model for Lanes {
+    ghost use Rattle.std.specs.Prelude.{length};
+    ghost use Rattle.std.specs.Ordering.{nat_cmp};
+    ghost use Rattle.ft_maps.specs.Seen.{seen};
+    ghost use Rattle.ft_lanes.specs.Held.{Lanes as Held};
+    ghost use Rattle.ft_lanes.specs.Slots.{stored_at, lanes_by, AreStored};
+    ghost use Rattle.ft_lanes.specs.Codes.{lanes_code};
+
+    ghost Value = { Held };
+
+    ghost coded = { lanes_code };
+
+    ghost view = { λ l. lanes_by (stored_at l.store.items) (seen nat_cmp l.lanes) };
+
+    ghost invariant = { λ l. AreStored (length l.store.items) l.held (seen nat_cmp l.lanes) };
+}
+
+/// The place behind the last event of a store. Refused for memory where 32 bits can't number it.
+fn end_of(store: &Vec<Event>) -> Result<u32, AllocError>
+    ensures { IfOk result (λ place. place ≡ length store.now.items) }
+{
+    match u32::try_from(store.len()) {
+        Ok(place) => Ok(place),
+        Err(_) => Err(AllocError),
+    }
+}
+
+/// The place behind the last event of a store. Refused for memory where 32 bits can't number the
+/// places of so many more.
+fn end_before(store: &Vec<Event>, more: &Vec<Event>) -> Result<u32, AllocError>
+    ensures value { IfOk result (λ place. place ≡ length store.now.items) }
+    ensures room { OnOk result (length store.now.items + length more.now.items < 2 ^ 32) }
+{
+    match u32::try_from(store.len() as u64 + more.len() as u64) {
+        Ok(_) => Ok(store.len() as u32),
+        Err(_) => Err(AllocError),
+    }
+}
+
+/// Adds events behind those of a store. An empty store takes them over. Refused for memory, and
+/// then the store is as it was.
+fn append(store: &mut Vec<Event>, events: Vec<Event>) -> Result<(), AllocError>
+    ensures ok { OnOk result (store.new.items ≡ store.old.items ++ events.items) }
+    ensures err { OnErr result (store.new.items ≡ store.old.items) }
+{
+    if store.is_empty() {
+        *store = events;
+        return Ok(());
+    }
+    store.extend_from_slice(&events)
+}
+
+/// The event at a place of a store.
+fn event_of(store: &[Event], place: Option<u32>) -> Option<Event>
+    requires { IfSome place (λ p. p < length store.now) }
+    ensures { result ≡ option_map (stored_at store.now) place }
+{
+    match place {
+        Some(place) => Some(store[place as usize]),
+        None => None,
+    }
+}
+
+impl Lanes {
+    ghost use Rattle.std.specs.Option.{option_copied};
+    ghost use Rattle.std.specs.FinMap as map;
+    ghost use Rattle.ft_lanes.specs.Held.{event_limit, number_limit, event_at, held_in};
+    ghost use Rattle.ft_lanes.specs.Loaded.{first_held, with_lanes};
+    ghost use Rattle.ft_lanes.specs.Edits.{new_lane, lanes_with, lanes_without};
+
+    /// No lanes.
+    pub fn new(alloc: Global) -> Lanes
+        ensures { result ≡ map.empty }
+    {
+        Lanes {
+            alloc,
+            store: Vec::new(alloc),
+            lanes: BTreeMap::new(alloc),
+            held: 0,
+        }
+    }
+
+    /// The number of the next line of a CPU, which is 1 where it has no lane.
+    pub fn next_line(&self, cpu: u16) -> u64
+        ensures { result ≡ (unwrap_or (map.get self.now cpu) new_lane).next }
+    {
+        next_in(&self.lanes, cpu)
+    }
+
+    /// Adds an event to the lane of its CPU, at the lane's next number, which is at most
+    /// 4,294,967,295: that number. The first of a new lane is 1. Refused for memory, and then all
+    /// is as it was.
+    pub fn push(&mut self, event: Event) -> Result<u32, AllocError>
+        requires { (unwrap_or (map.get self.old event.cpu) new_lane).next ≤ number_limit }
+        ensures ok { OnOk result (self.new ≡ lanes_with self.old event) }
+        ensures line { IfOk result (λ line.
+            line ≡ (unwrap_or (map.get self.old event.cpu) new_lane).next) }
+        ensures err { OnErr result (self.new ≡ self.old) }
+    {
+        let place = end_of(&self.store)?;
+        self.store.push(event)?;
+        let pushed = push_in(self.alloc, &mut self.lanes, event.cpu, place);
+        if pushed.is_err() {
+            self.store.pop();
+            return pushed;
+        }
+        self.held += 1;
+        pushed
+    }
+
+    /// Adds a lane for each CPU of the events, which has its events in this order from line 1 on.
+    /// No event's lane may be held, and the events are at most 1,048,576. Refused for memory, and
+    /// then all is as it was.
+    pub fn load(&mut self, events: Vec<Event>) -> Result<(), AllocError>
+        requires apart { first_held self.old events.items ≡ None }
+        requires few { length events.items ≤ event_limit }
+        ensures ok { OnOk result (self.new ≡ with_lanes self.old events.items) }
+        ensures err { OnErr result (self.new ≡ self.old) }
+    {
+        let first = end_before(&self.store, &events)?;
+        let start = self.store.len();
+        let count = events.len() as u64;
+        append(&mut self.store, events)?;
+        let loaded = push_load(self.alloc, &mut self.lanes, &self.store[start..], first);
+        if loaded.is_err() {
+            self.store.truncate(start);
+            return loaded;
+        }
+        self.held += count;
+        loaded
+    }
+
+    /// The CPU of the first event whose lane is held.
+    pub fn held_cpu(&self, events: &[Event]) -> Option<u16>
+        ensures { result ≡ first_held self.now events.now }
+    {
+        held_cpu_in(&self.lanes, events)
+    }
+
+    /// The event of a CPU's line.
+    pub fn get(&self, cpu: u16, line: u32) -> Option<&Event>
+        ensures { option_copied result ≡ event_at self.now cpu line }
+    {
+        match place_in(&self.lanes, cpu, line) {
+            Some(place) => Some(&self.store[place as usize]),
+            None => None,
+        }
+    }
+
+    /// The lane of a CPU, if there is one: its events by line number.
+    pub fn lane(&self, cpu: u16) -> Option<Lines<'_>>
+        ensures { result ≡ option_map (λ lane. map.entries lane.events) (map.get self.now cpu) }
+    {
+        match self.lanes.get(&cpu) {
+            Some(slots) => Some(Lines::new(&self.store, slots.entries())),
+            None => None,
+        }
+    }
+
+    /// Takes the event of a CPU's line out, if there is one: that event. No other line changes its
+    /// number, and this one's is not given again.
+    pub fn take(&mut self, cpu: u16, line: u32) -> Option<Event>
+        ensures value { result ≡ event_at self.old cpu line }
+        ensures rest { self.new ≡ lanes_without self.old cpu line }
+    {
+        let place = take_in(&mut self.lanes, cpu, line);
+        let event = event_of(&self.store, place);
+        self.held -= u64::from(event.is_some());
+        self.forget_dead();
+        event
+    }
+
+    /// Takes the lane of a CPU out, if there is one: how many events it had.
+    pub fn take_lane(&mut self, cpu: u16) -> Option<u64>
+        ensures value { result ≡ option_map (λ lane. map.len lane.events) (map.get self.old cpu) }
+        ensures rest { self.new ≡ map.remove self.old cpu }
+    {
+        let count = take_lane_in(&mut self.lanes, cpu);
+        self.held -= count.unwrap_or(0);
+        self.forget_dead();
+        count
+    }
+
+    /// How many events are held.
+    pub fn len(&self) -> u64
+        ensures { result ≡ held_in self.now }
+    {
+        self.held
+    }
+
+    /// Clears the store where nothing is held.
+    fn forget_dead(&mut self)
+        ensures { self.new ≡ self.old }
+    {
+        if self.held == 0 {
+            self.store.clear();
+        }
+    }
+}
