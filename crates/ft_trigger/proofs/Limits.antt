@@ -10,7 +10,7 @@ use Rattle.ft_hist.specs.Hist.{Hist, IsWithin}
 use Rattle.ft_trigger.specs.declared.fault.TriggerFault.{TriggerFault}
 use Rattle.ft_trigger.specs.declared.fault.TriggerFault.TheVariants.{NoField, BadSort}
 use Rattle.ft_trigger.specs.Draft.{Draft, ◌>>=◌, is_word, besides_hitcount}
-use Rattle.ft_trigger.specs.TriggerIs.{head_len, behind_head, tail_of, own_name, value_of, values_of, sort_by, sorts_of, is_descending, by_hits, sort_of, trigger_of}
+use Rattle.ft_trigger.specs.TriggerIs.{head_len, behind_head, tail_of, own_name, value_item, value_items, sort_by, sorts_of, is_descending, by_hits, sort_of, trigger_of}
 use Rattle.ft_trigger.specs.Words.{Word, pieces}
 use Rattle.ft_trigger.proofs.Chains.{Chain}
 use Rattle.ft_trigger.proofs.Drafts.{Listed, If, DraftFits, draft_fits}
@@ -63,11 +63,11 @@ values_few event (word ∷ more) words chain low =
     (values_few event more (words ++ word ∷ []) chain.1 (value_short event words word chain.0 low))
 
 -- each word is one value
-values_counted : (event : Name) (own : Option (List ℕ)) (words : List Word) (values : List Item) → values_of event own words ≡ Ok values → length values ≡ length words
+values_counted : (event : Name) (own : Option (List ℕ)) (words : List Word) (values : List Item) → value_items event own words ≡ Ok values → length values ≡ length words
 values_counted event own [] values e = let same : [] ≡ values = cc in ap length (sym same)
 values_counted event own (word ∷ words) values e =
-    let value = given_parts NoField (value_of event own word) (λ value. values_of event own words >>= (λ values. Ok (value ∷ values))) values e in
-    let rest = then_parts (values_of event own words) (λ values. Ok (value.0 ∷ values)) values value.2 in
+    let value = given_parts NoField (value_item event own word) (λ value. value_items event own words >>= (λ values. Ok (value ∷ values))) values e in
+    let rest = then_parts (value_items event own words) (λ values. Ok (value.0 ∷ values)) values value.2 in
     joined value.0 rest.0 (values_counted event own words rest.0 rest.1) rest.2
   where
     joined : (value : Item) (rest : List Item) → length rest ≡ length words → ◌≡◌ {A = Result (List Item) TriggerFault} (Ok (value ∷ rest)) (Ok values) → length values ≡ suc (length words)

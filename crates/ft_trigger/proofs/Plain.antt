@@ -16,7 +16,7 @@ use Rattle.ft_hist.specs.declared.item.KeyItem.{KeyItem}
 use Rattle.ft_hist.specs.declared.item.Item.{Item}
 use Rattle.ft_trigger.specs.Words.{Piece, Word, word_of}
 use Rattle.ft_trigger.specs.Draft.{Draft, unless, given_or, ◌>>=◌, items_from, with_field, with_key, with_value, with_sort, with_kind, with_named, with_variable, with_part, parts_from}
-use Rattle.ft_trigger.specs.TriggerIs.{values_of, sorts_of, sort_of}
+use Rattle.ft_trigger.specs.TriggerIs.{value_items, sorts_of, sort_of}
 
 -- the fault is no filter's
 abbrev pub is_plain : TriggerFault → Bool
@@ -119,7 +119,7 @@ parts_plain event draft [] = tt
 parts_plain event draft (part ∷ parts) = then_plain (with_part event draft part) (λ more. parts_from event more parts) (part_plain event draft part) (λ more. parts_plain event more parts)
 
 -- what values name
-values_plain : (event : Name) (own : Option (List ℕ)) (words : List Word) → Plain (values_of event own words)
+values_plain : (event : Name) (own : Option (List ℕ)) (words : List Word) → Plain (value_items event own words)
 values_plain event own [] = tt
 values_plain event own (word ∷ words) = let rest = values_plain event own words in search (rules, given_plain, then_plain)
 
@@ -143,8 +143,8 @@ pub parts_no_filter : (event : Name) (draft : Draft) (parts : List Piece) (fault
 parts_no_filter event draft parts fault gives = no_filter (parts_from event draft parts) fault (parts_plain event draft parts) gives
 
 -- what values name
-pub values_no_filter : (event : Name) (own : Option (List ℕ)) (words : List Word) (fault : TriggerFault) → (fault ≡ Memory) ⊎ (values_of event own words ≡ Err fault) → fault ≢ BadFilter filters.Memory
-values_no_filter event own words fault gives = no_filter (values_of event own words) fault (values_plain event own words) gives
+pub values_no_filter : (event : Name) (own : Option (List ℕ)) (words : List Word) (fault : TriggerFault) → (fault ≡ Memory) ⊎ (value_items event own words ≡ Err fault) → fault ≢ BadFilter filters.Memory
+values_no_filter event own words fault gives = no_filter (value_items event own words) fault (values_plain event own words) gives
 
 -- what sort items name
 pub sort_no_filter : (keys : List KeyItem) (values : List Item) (own : Option (List ℕ)) (words : Option (List Word)) (fault : TriggerFault) → (fault ≡ Memory) ⊎ (sort_of keys values own words ≡ Err fault) → fault ≢ BadFilter filters.Memory

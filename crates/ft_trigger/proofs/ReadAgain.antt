@@ -17,7 +17,7 @@ use Rattle.ft_hist.specs.declared.label.Var.TheVariants as vars
 use Rattle.ft_hist.specs.Canonical.{listed, more_items, key_text, variable_text, if_text, canonical}
 use Rattle.ft_trigger.specs.Draft.{Draft, blank, ◌>>=◌, unless, besides_hitcount, parts_from}
 use Rattle.ft_hist.specs.Hist.{Hist}
-use Rattle.ft_trigger.specs.TriggerIs.{head_len, behind_head, tail_of, own_name, values_of, sort_by, sorts_of, by_hits, sort_of, filter_in, finished, trigger_of}
+use Rattle.ft_trigger.specs.TriggerIs.{head_len, behind_head, tail_of, own_name, value_items, sort_by, sorts_of, by_hits, sort_of, filter_in, finished, trigger_of}
 use Rattle.ft_trigger.specs.Words.{pieces, Word}
 use Rattle.ft_trigger.proofs.Chains.{Chain}
 use Rattle.ft_trigger.proofs.Drafts.{Listed, If, DraftFits, draft_fits}
@@ -71,7 +71,7 @@ pub record Made (event : Name) (draft : Draft) (hist : Hist) : Type 0 where
   pub sort : List SortItem
   pub filter : Option Tree
   pub keys_are : draft.keys ≡ Some keys
-  pub values_are : values_of event (own_name draft.variable) (besides_hitcount (unwrap_or draft.values [])) ≡ Ok values
+  pub values_are : value_items event (own_name draft.variable) (besides_hitcount (unwrap_or draft.values [])) ≡ Ok values
   pub sort_is : sort_of keys values (own_name draft.variable) draft.sort ≡ Ok sort
   pub filter_fits : If (TreeFits event) filter
   pub is : made event draft keys values sort filter ≡ hist
@@ -86,14 +86,14 @@ behind_items event place tail draft keys values = sort_of keys values (own_name 
 
 -- behind the keys
 abbrev behind_keys : Name → ℕ → List ℕ → Draft → List KeyItem → Result Hist TriggerFault
-behind_keys event place tail draft keys = values_of event (own_name draft.variable) (besides_hitcount (unwrap_or draft.values [])) >>= behind_items event place tail draft keys
+behind_keys event place tail draft keys = value_items event (own_name draft.variable) (besides_hitcount (unwrap_or draft.values [])) >>= behind_items event place tail draft keys
 
 -- a trigger that was read was made so
 pub made_so : (event : Name) (head place : ℕ) (tail : List ℕ) (draft : Draft) (hist : Hist) → finished event head place tail draft ≡ Ok hist → Made event draft hist
 unfolding finished
 made_so event head place tail draft hist e =
     let keys = given_parts (Syntax head) draft.keys (behind_keys event place tail draft) hist e in
-    let values = then_parts (values_of event (own_name draft.variable) (besides_hitcount (unwrap_or draft.values []))) (behind_items event place tail draft keys.0) hist keys.2 in
+    let values = then_parts (value_items event (own_name draft.variable) (besides_hitcount (unwrap_or draft.values []))) (behind_items event place tail draft keys.0) hist keys.2 in
     let sort = then_parts (sort_of keys.0 values.0 (own_name draft.variable) draft.sort) (behind_sort event place tail draft keys.0 values.0) hist values.2 in
     let filter = then_parts (filter_in event place tail) (λ filter. Ok (made event draft keys.0 values.0 sort.0 filter)) hist sort.2 in
     record {
@@ -136,7 +136,7 @@ grouped k v s d f variable =
 
 -- a canonical text is made of what is read
 spelled : (event : Name) (t : Told event) (values : List Item) (sort : List SortItem) (filter : Option Tree)
-    → values_of event (own_name t.variable) (besides_hitcount t.values) ≡ Ok values → sorts_of (t.key ∷ t.keys) values (own_name t.variable) (t.word ∷ t.words) ≡ Ok sort
+    → value_items event (own_name t.variable) (besides_hitcount t.values) ≡ Ok values → sorts_of (t.key ∷ t.keys) values (own_name t.variable) (t.word ∷ t.words) ≡ Ok sort
     → canonical (hist_of event t values sort filter) ≡ codes "hist:" ++ body event t ++ if_text filter
 unfolding canonical
 spelled event t values sort filter values_are sort_is =
@@ -146,7 +146,7 @@ spelled event t values sort filter values_are sort_is =
 
 -- a draft whose steps are known is a trigger
 finish_step : (event : Name) (head place : ℕ) (tail : List ℕ) (keys : List KeyItem) (words order : List Word) (variable : Option Var) (size : ℕ) (values : List Item) (sort : List SortItem) (filter : Option Tree)
-    → values_of event (own_name variable) (besides_hitcount words) ≡ Ok values → sorts_of keys values (own_name variable) order ≡ Ok sort → filter_in event place tail ≡ Ok filter
+    → value_items event (own_name variable) (besides_hitcount words) ≡ Ok values → sorts_of keys values (own_name variable) order ≡ Ok sort → filter_in event place tail ≡ Ok filter
     → finished event head place tail (whole keys words variable order size) ≡ Ok (record { event = event; keys = keys; values = values; sort = sort; variable = variable; size = size; filter = filter })
 unfolding finished
 finish_step event head place tail keys words order variable size values sort filter values_are sort_is filter_is = rw (values_are, sort_is, filter_is) refl
@@ -154,10 +154,10 @@ finish_step event head place tail keys words order variable size values sort fil
 module _ (laws : FilterLaws) (event : Name) where
   -- a trigger that is written is read
   written_again : (t : Told event) (values : List Item) (sort : List SortItem) (filter : Option Tree)
-      → values_of event (own_name t.variable) (besides_hitcount t.values) ≡ Ok values → sorts_of (t.key ∷ t.keys) values (own_name t.variable) (t.word ∷ t.words) ≡ Ok sort → If (TreeFits event) filter
+      → value_items event (own_name t.variable) (besides_hitcount t.values) ≡ Ok values → sorts_of (t.key ∷ t.keys) values (own_name t.variable) (t.word ∷ t.words) ≡ Ok sort → If (TreeFits event) filter
       → trigger_of event (canonical (hist_of event t values sort filter)) ≡ Ok (hist_of event t values sort filter)
   written_again t values sort filter values_are sort_is fits =
-      let once : values_of event (own_name t.variable) (besides_hitcount (hits ∷ besides_hitcount t.values)) ≡ Ok values = ap (values_of event (own_name t.variable)) (besides_twice t.values) ∙ values_are in
+      let once : value_items event (own_name t.variable) (besides_hitcount (hits ∷ besides_hitcount t.values)) ≡ Ok values = ap (value_items event (own_name t.variable)) (besides_twice t.values) ∙ values_are in
       let way : sorts_of (t.key ∷ t.keys) values (own_name t.variable) (map directed (t.word ∷ t.words)) ≡ Ok sort = sorts_directed (t.key ∷ t.keys) values (own_name t.variable) (t.word ∷ t.words) ∙ sort_is in
       ap (trigger_of event) (spelled event t values sort filter values_are sort_is)
       ∙ cut_again event (body event t) (if_text filter) (told event t) (Ok (hist_of event t values sort filter)) (body_seen event t) (if_gap filter) (head_again event t 5)

@@ -13,7 +13,7 @@ use Rattle.ft_hist.specs.declared.item.SortBy.{SortBy}
 use Rattle.ft_hist.specs.declared.item.SortItem.{SortItem}
 use Rattle.ft_trigger.specs.Words.{Word}
 use Rattle.ft_trigger.specs.Draft.{◌>>=◌, given_or, is_word, besides_hitcount}
-use Rattle.ft_trigger.specs.TriggerIs.{value_of, values_of, sort_by, sorts_of, is_descending}
+use Rattle.ft_trigger.specs.TriggerIs.{value_item, value_items, sort_by, sorts_of, is_descending}
 
 -- what is still to be read, behind what is read already
 abbrev pub onto : {A : Type 0} → List A → Result (List A) TriggerFault → Result (List A) TriggerFault
@@ -43,21 +43,21 @@ kept done (Ok new) = new
 kept done (Err fault) = done
 
 -- a word that is read moves what it names to what is read already
-pub values_step : (event : Name) (own : Option (List ℕ)) (done new : List Item) (word : Word) (words : List Word) → with_word (is_word word (codes "hitcount")) (value_of event own word) done ≡ Ok new → onto new (values_of event own (besides_hitcount words)) ≡ onto done (values_of event own (besides_hitcount (word ∷ words)))
-values_step event own done new word words = by (is_word word (codes "hitcount")) (value_of event own word) refl
+pub values_step : (event : Name) (own : Option (List ℕ)) (done new : List Item) (word : Word) (words : List Word) → with_word (is_word word (codes "hitcount")) (value_item event own word) done ≡ Ok new → onto new (value_items event own (besides_hitcount words)) ≡ onto done (value_items event own (besides_hitcount (word ∷ words)))
+values_step event own done new word words = by (is_word word (codes "hitcount")) (value_item event own word) refl
   where
-    by : (hits : Bool) (value : Option Item) → value_of event own word ≡ value → with_word hits value done ≡ Ok new → onto new (values_of event own (besides_hitcount words)) ≡ onto done (values_of event own (in_front hits word (besides_hitcount words)))
-    by true value is ok = ap (λ d. onto d (values_of event own (besides_hitcount words))) (sym (ap (kept done) ok))
+    by : (hits : Bool) (value : Option Item) → value_item event own word ≡ value → with_word hits value done ≡ Ok new → onto new (value_items event own (besides_hitcount words)) ≡ onto done (value_items event own (in_front hits word (besides_hitcount words)))
+    by true value is ok = ap (λ d. onto d (value_items event own (besides_hitcount words))) (sym (ap (kept done) ok))
     by false (Some value) is ok =
-        ap (λ d. onto d (values_of event own (besides_hitcount words))) (sym (ap (kept done) ok))
-        ∙ sym (rw is (onto_more done value (values_of event own (besides_hitcount words))))
+        ap (λ d. onto d (value_items event own (besides_hitcount words))) (sym (ap (kept done) ok))
+        ∙ sym (rw is (onto_more done value (value_items event own (besides_hitcount words))))
     by false None is ok = absurd (none-some _ (ap result_ok ok))
 
 -- a word with a fault
-pub values_stop : (event : Name) (own : Option (List ℕ)) (done : List Item) (fault : TriggerFault) (word : Word) (words : List Word) → with_word (is_word word (codes "hitcount")) (value_of event own word) done ≡ Err fault → onto done (values_of event own (besides_hitcount (word ∷ words))) ≡ Err fault
-values_stop event own done fault word words = by (is_word word (codes "hitcount")) (value_of event own word) refl
+pub values_stop : (event : Name) (own : Option (List ℕ)) (done : List Item) (fault : TriggerFault) (word : Word) (words : List Word) → with_word (is_word word (codes "hitcount")) (value_item event own word) done ≡ Err fault → onto done (value_items event own (besides_hitcount (word ∷ words))) ≡ Err fault
+values_stop event own done fault word words = by (is_word word (codes "hitcount")) (value_item event own word) refl
   where
-    by : (hits : Bool) (value : Option Item) → value_of event own word ≡ value → with_word hits value done ≡ Err fault → onto done (values_of event own (in_front hits word (besides_hitcount words))) ≡ Err fault
+    by : (hits : Bool) (value : Option Item) → value_item event own word ≡ value → with_word hits value done ≡ Err fault → onto done (value_items event own (in_front hits word (besides_hitcount words))) ≡ Err fault
     by true value is err = absurd (none-some _ (ap result_ok (sym err)))
     by false (Some value) is err = absurd (none-some _ (ap result_ok (sym err)))
     by false None is err = rw is err

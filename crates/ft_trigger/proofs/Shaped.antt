@@ -20,7 +20,7 @@ use Rattle.ft_trigger.specs.declared.fault.TriggerFault.{TriggerFault}
 use Rattle.ft_trigger.specs.declared.fault.TriggerFault.TheVariants.{Syntax}
 use Rattle.ft_trigger.specs.Draft.{Draft, blank, ◌>>=◌, unless, given_or, besides_hitcount, parts_from}
 use Rattle.ft_trigger.specs.Shape.{Opens, IsCut, IsIf, TailIs, nothing, filtered, unread, other, with_tail, IsShaped}
-use Rattle.ft_trigger.specs.TriggerIs.{head_len, behind_head, tail_of, behind_if, filter_or_fault, filter_in, own_name, values_of, sort_of, finished, trigger_of}
+use Rattle.ft_trigger.specs.TriggerIs.{head_len, behind_head, tail_of, behind_if, filter_or_fault, filter_in, own_name, value_items, sort_of, finished, trigger_of}
 use Rattle.ft_trigger.specs.Words.{pieces}
 use Rattle.ft_trigger.proofs.Halves.{Known, known, cut_of, skip_opens, skip_some, skip_blank}
 use Rattle.ft_trigger.proofs.Inversions.{then_parts, unless_parts}
@@ -34,7 +34,7 @@ use Rattle.ft_trigger.proofs.Tails.{OneFilter, filter_none}
 abbrev pub make_of : Name → ℕ → Draft → Result Hist TriggerFault
 make_of event head draft =
     given_or (Syntax head) draft.keys (λ keys.
-    values_of event (own_name draft.variable) (besides_hitcount (unwrap_or draft.values [])) >>= (λ values.
+    value_items event (own_name draft.variable) (besides_hitcount (unwrap_or draft.values [])) >>= (λ values.
     sort_of keys values (own_name draft.variable) draft.sort >>= (λ sort.
     Ok (made event draft keys values sort None))))
 
@@ -58,9 +58,9 @@ module _ (event : Name) (draft : Draft) (filter : Result (Option Tree) TriggerFa
 
   -- behind the keys
   made_keys : (head : ℕ) (keys : Option (List KeyItem))
-      → given_or (Syntax head) keys (λ keys. values_of event (own_name draft.variable) (besides_hitcount (unwrap_or draft.values [])) >>= (λ values. sort_of keys values (own_name draft.variable) draft.sort >>= (λ sort. filter >>= (λ filter. Ok (made event draft keys values sort filter)))))
-      ≡ (given_or (Syntax head) keys (λ keys. values_of event (own_name draft.variable) (besides_hitcount (unwrap_or draft.values [])) >>= (λ values. sort_of keys values (own_name draft.variable) draft.sort >>= (λ sort. Ok (made event draft keys values sort None)))) >>= with_made filter)
-  made_keys head (Some keys) = made_values keys (values_of event (own_name draft.variable) (besides_hitcount (unwrap_or draft.values [])))
+      → given_or (Syntax head) keys (λ keys. value_items event (own_name draft.variable) (besides_hitcount (unwrap_or draft.values [])) >>= (λ values. sort_of keys values (own_name draft.variable) draft.sort >>= (λ sort. filter >>= (λ filter. Ok (made event draft keys values sort filter)))))
+      ≡ (given_or (Syntax head) keys (λ keys. value_items event (own_name draft.variable) (besides_hitcount (unwrap_or draft.values [])) >>= (λ values. sort_of keys values (own_name draft.variable) draft.sort >>= (λ sort. Ok (made event draft keys values sort None)))) >>= with_made filter)
+  made_keys head (Some keys) = made_values keys (value_items event (own_name draft.variable) (besides_hitcount (unwrap_or draft.values [])))
   made_keys head None = refl
 
 -- a draft and a tail are the draft, and then the tail

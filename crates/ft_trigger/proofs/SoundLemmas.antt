@@ -25,7 +25,7 @@ use Rattle.ft_trigger.specs.Draft.{Draft, blank, ◌>>=◌, is_word, besides_hit
 use Rattle.ft_hist.specs.Hist.{Hist}
 use Rattle.ft_filter.specs.Tree.{Tree}
 use Rattle.ft_hist.specs.Sound.{mode_suits, key_suits, value_suits, by_suits, IsSound}
-use Rattle.ft_trigger.specs.TriggerIs.{own_name, value_of, values_of, index_where, names_value, sort_by, is_descending, sorts_of, by_hits, sort_of, head_len, behind_head, tail_of, filter_in, finished, trigger_of}
+use Rattle.ft_trigger.specs.TriggerIs.{own_name, value_item, value_items, index_where, names_value, sort_by, is_descending, sorts_of, by_hits, sort_of, head_len, behind_head, tail_of, filter_in, finished, trigger_of}
 use Rattle.ft_trigger.specs.Words.{Word, number_in, pieces}
 use Rattle.ft_trigger.proofs.Chains.{Chain}
 use Rattle.ft_trigger.proofs.Inversions.{then_parts, given_parts}
@@ -128,7 +128,7 @@ names_number event word field true is found e = no_hitcount event word.name fiel
 names_number event word field false is found e = numeric field (is_text field) refl e
 
 -- what a word names as a value suits the event, where nothing is wrong with the word
-value_sound : (event : Name) (variable : Option Var) (word : Word) (value : Item) → value_fault event word ≡ None → value_of event (own_name variable) word ≡ Some value → value_suits event variable value ≡ true
+value_sound : (event : Name) (variable : Option Var) (word : Word) (value : Item) → value_fault event word ≡ None → value_item event (own_name variable) word ≡ Some value → value_suits event variable value ≡ true
 value_sound event variable word value sound e = from word.dollar refl e
   where
     own_from : (v : Option Var) → option_map_or (λ name. if bytes_eq word.name name then Some items.Own else None) (own_name v) None ≡ Some value → value_suits event v value ≡ true
@@ -151,11 +151,11 @@ value_sound event variable word value sound e = from word.dollar refl e
     from false is e = field_from is (find (is_named event word.name) all_fields) refl e
 
 -- so do values
-pub values_sound : (event : Name) (variable : Option Var) (words list : List Word) (values : List Item) → Chain (ValueFits event) list words → values_of event (own_name variable) words ≡ Ok values → list_all (value_suits event variable) values ≡ true
+pub values_sound : (event : Name) (variable : Option Var) (words list : List Word) (values : List Item) → Chain (ValueFits event) list words → value_items event (own_name variable) words ≡ Ok values → list_all (value_suits event variable) values ≡ true
 values_sound event variable [] list values chain e = let same : [] ≡ values = cc in subst (λ (l : List Item). list_all (value_suits event variable) l ≡ true) same refl
 values_sound event variable (word ∷ words) list values chain e =
-    let value = given_parts NoField (value_of event (own_name variable) word) (λ value. values_of event (own_name variable) words >>= (λ values. Ok (value ∷ values))) values e in
-    let rest = then_parts (values_of event (own_name variable) words) (λ values. Ok (value.0 ∷ values)) values value.2 in
+    let value = given_parts NoField (value_item event (own_name variable) word) (λ value. value_items event (own_name variable) words >>= (λ values. Ok (value ∷ values))) values e in
+    let rest = then_parts (value_items event (own_name variable) words) (λ values. Ok (value.0 ∷ values)) values value.2 in
     joined value.0 rest.0 (values_sound event variable words (list ++ word ∷ []) rest.0 chain.1 rest.1) (value_sound event variable word value.0 chain.0.sound value.1) rest.2
   where
     joined : (value : Item) (rest : List Item) → list_all (value_suits event variable) rest ≡ true → value_suits event variable value ≡ true → ◌≡◌ {A = Result (List Item) TriggerFault} (Ok (value ∷ rest)) (Ok values) → list_all (value_suits event variable) values ≡ true
@@ -187,7 +187,7 @@ sound event text hist e =
 
 -- a draft whose steps are known is a trigger
 pub finished_is : (event : Name) (head place : ℕ) (tail : List ℕ) (draft : Draft) (keys : List KeyItem) (values : List Item) (sort : List SortItem) (size : ℕ) (filter : Option Tree)
-    → draft.keys ≡ Some keys → values_of event (own_name draft.variable) (besides_hitcount (unwrap_or draft.values [])) ≡ Ok values → sort_of keys values (own_name draft.variable) draft.sort ≡ Ok sort → filter_in event place tail ≡ Ok filter → unwrap_or draft.size 2048 ≡ size
+    → draft.keys ≡ Some keys → value_items event (own_name draft.variable) (besides_hitcount (unwrap_or draft.values [])) ≡ Ok values → sort_of keys values (own_name draft.variable) draft.sort ≡ Ok sort → filter_in event place tail ≡ Ok filter → unwrap_or draft.size 2048 ≡ size
     → finished event head place tail draft ≡ Ok (record { event = event; keys = keys; values = values; sort = sort; variable = draft.variable; size = size; filter = filter })
 unfolding finished
 finished_is event head place tail draft keys values sort size filter k v s f z = rw (k, v, s, f, z) refl

@@ -19,7 +19,7 @@ use Rattle.ft_trigger.specs.declared.fault.TriggerFault.TheVariants.{Syntax, NoF
 use Rattle.ft_trigger.specs.Draft.{Draft, blank, ◌>>=◌, given_or, besides_hitcount, with_part, with_variable, parts_from}
 use Rattle.ft_trigger.specs.PartFaults.{PartsFail, is_late}
 use Rattle.ft_trigger.specs.Shape.{IsCut, Cut}
-use Rattle.ft_trigger.specs.TriggerIs.{behind_if, filter_or_fault, filter_in, own_name, value_of, values_of, sort_by, sorts_of, sort_of, is_descending, trigger_of}
+use Rattle.ft_trigger.specs.TriggerIs.{behind_if, filter_or_fault, filter_in, own_name, value_item, value_items, sort_by, sorts_of, sort_of, is_descending, trigger_of}
 use Rattle.ft_trigger.specs.Words.{Piece, Word, grown, pieces}
 use Rattle.ft_trigger.proofs.Halves.{cut_of}
 use Rattle.ft_trigger.proofs.ReadAgain.{made}
@@ -142,11 +142,11 @@ parts_just event parts fault bare = (parts_always event parts fault bare, from (
 -- ---- faults behind the parts
 
 -- a value that names nothing
-values_late : (event : Name) (own : Option (List ℕ)) (words : List Word) (fault : TriggerFault) → values_of event own words ≡ Err fault → fault ≡ NoField
+values_late : (event : Name) (own : Option (List ℕ)) (words : List Word) (fault : TriggerFault) → value_items event own words ≡ Err fault → fault ≡ NoField
 values_late event own [] fault e = absurd cc
-values_late event own (word ∷ words) fault e = from (values_late event own words fault) (value_of event own word) (values_of event own words) refl e
+values_late event own (word ∷ words) fault e = from (values_late event own words fault) (value_item event own word) (value_items event own words) refl e
   where
-    from : (values_of event own words ≡ Err fault → fault ≡ NoField) → (value : Option Item) (rest : Result (List Item) TriggerFault) → values_of event own words ≡ rest → given_or NoField value (λ value. rest >>= (λ values. Ok (value ∷ values))) ≡ Err fault → fault ≡ NoField
+    from : (value_items event own words ≡ Err fault → fault ≡ NoField) → (value : Option Item) (rest : Result (List Item) TriggerFault) → value_items event own words ≡ rest → given_or NoField value (λ value. rest >>= (λ values. Ok (value ∷ values))) ≡ Err fault → fault ≡ NoField
     from later None rest is e = cc
     from later (Some value) (Ok values) is e = absurd cc
     from later (Some value) (Err found) is e = later (is ∙ (let same : found ≡ fault = cc in ap Err same))
@@ -176,15 +176,15 @@ make_late event head draft fault e = keyed draft.keys e
     sorted keys values (Ok sort) is e = absurd cc
     sorted keys values (Err found) is e = ap (is_late head) (order_late keys values (own_name draft.variable) draft.sort fault (is ∙ (let same : found ≡ fault = cc in ap Err same)))
 
-    valued : (keys : List KeyItem) (values : Result (List Item) TriggerFault) → values_of event (own_name draft.variable) (besides_hitcount (unwrap_or draft.values [])) ≡ values
+    valued : (keys : List KeyItem) (values : Result (List Item) TriggerFault) → value_items event (own_name draft.variable) (besides_hitcount (unwrap_or draft.values [])) ≡ values
         → (values >>= (λ values. sort_of keys values (own_name draft.variable) draft.sort >>= (λ sort. Ok (made event draft keys values sort None)))) ≡ Err fault → is_late head fault ≡ true
     valued keys (Ok values) is e = sorted keys values (sort_of keys values (own_name draft.variable) draft.sort) refl e
     valued keys (Err found) is e = ap (is_late head) (values_late event (own_name draft.variable) (besides_hitcount (unwrap_or draft.values [])) fault (is ∙ (let same : found ≡ fault = cc in ap Err same)))
 
-    keyed : (keys : Option (List KeyItem)) → given_or (Syntax head) keys (λ keys. values_of event (own_name draft.variable) (besides_hitcount (unwrap_or draft.values [])) >>= (λ values. sort_of keys values (own_name draft.variable) draft.sort >>= (λ sort. Ok (made event draft keys values sort None)))) ≡ Err fault
+    keyed : (keys : Option (List KeyItem)) → given_or (Syntax head) keys (λ keys. value_items event (own_name draft.variable) (besides_hitcount (unwrap_or draft.values [])) >>= (λ values. sort_of keys values (own_name draft.variable) draft.sort >>= (λ sort. Ok (made event draft keys values sort None)))) ≡ Err fault
         → is_late head fault ≡ true
     keyed None e = let same : Syntax head ≡ fault = cc in ap (is_late head) (sym same) ∙ le-leb head head (omega arith)
-    keyed (Some keys) e = valued keys (values_of event (own_name draft.variable) (besides_hitcount (unwrap_or draft.values []))) refl e
+    keyed (Some keys) e = valued keys (value_items event (own_name draft.variable) (besides_hitcount (unwrap_or draft.values []))) refl e
 
 -- a tail's fault
 tail_late : (event : Name) (head place : ℕ) (tail : List ℕ) (fault : TriggerFault) → head ≤ place → filter_in event place tail ≡ Err fault → is_late head fault ≡ true

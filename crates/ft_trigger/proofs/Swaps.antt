@@ -18,7 +18,7 @@ use Rattle.ft_trigger.specs.Draft.{Draft, blank, ◌>>=◌, given_or, items_from
 use Rattle.ft_trigger.specs.Words.{Piece, grown, pieces, Word, word_of}
 use Rattle.ft_trigger.proofs.Inversions.{then_parts, unless_parts, given_parts}
 use Rattle.ft_trigger.specs.Spelling.{is_part, more_parts, joined}
-use Rattle.ft_trigger.specs.TriggerIs.{own_name, values_of, sort_of, trigger_of}
+use Rattle.ft_trigger.specs.TriggerIs.{own_name, value_items, sort_of, trigger_of}
 use Rattle.ft_trigger.proofs.Keyed.{key_shift}
 use Rattle.ft_trigger.proofs.ReadAgain.{made}
 use Rattle.ft_trigger.proofs.Separators.{Free, is_seen, is_inner, all_weaker, pieces_first, pieces_last}
@@ -346,7 +346,7 @@ make_same : (event : Name) (head other : ℕ) (draft : Draft) (hist : Hist) → 
 make_same event head other draft hist e = from draft.keys e
   where
     rest : List KeyItem → Result Hist TriggerFault
-    rest keys = values_of event (own_name draft.variable) (besides_hitcount (unwrap_or draft.values [])) >>= (λ values. sort_of keys values (own_name draft.variable) draft.sort >>= (λ sort. Ok (made event draft keys values sort None)))
+    rest keys = value_items event (own_name draft.variable) (besides_hitcount (unwrap_or draft.values [])) >>= (λ values. sort_of keys values (own_name draft.variable) draft.sort >>= (λ sort. Ok (made event draft keys values sort None)))
 
     from : (keys : Option (List KeyItem)) → given_or (Syntax head) keys rest ≡ Ok hist → given_or (Syntax other) keys rest ≡ Ok hist
     from None e = absurd cc

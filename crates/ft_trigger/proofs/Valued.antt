@@ -18,7 +18,7 @@ use Rattle.ft_hist.specs.declared.label.Var.{Var}
 use Rattle.ft_hist.specs.declared.label.Var.TheVariants as vars
 use Rattle.ft_hist.specs.Canonical.{more_items, name_of, value_text}
 use Rattle.ft_trigger.specs.Draft.{◌>>=◌, unless, items_from, is_left_out, is_word, same_word, besides_hitcount, value_fault, with_value}
-use Rattle.ft_trigger.specs.TriggerIs.{own_name, value_of, values_of}
+use Rattle.ft_trigger.specs.TriggerIs.{own_name, value_item, value_items}
 use Rattle.ft_trigger.specs.Words.{Word, pieces}
 use Rattle.ft_trigger.proofs.Chains.{Chain, Steps, Again, items_again, chain_inner}
 use Rattle.ft_trigger.proofs.Inversions.{then_parts, unless_parts, given_parts, no_fault}
@@ -196,7 +196,7 @@ values_inner event words chain = chain_inner (ValueFits event) word_text (λ lis
 -- ---- what values are
 
 -- the text of what a word names is the word's
-value_spelled : (event : Name) (variable : Option Var) (word : Word) (value : Item) → word.suffix ≡ None → value_of event (own_name variable) word ≡ Some value → value_text variable value ≡ word_text word
+value_spelled : (event : Name) (variable : Option Var) (word : Word) (value : Item) → word.suffix ≡ None → value_item event (own_name variable) word ≡ Some value → value_text variable value ≡ word_text word
 value_spelled event variable word value plain e = rw plain (from word.dollar e)
   where
     field_from : (o : Option Field) → find (is_named event word.name) all_fields ≡ o → option_map items.Num o ≡ Some value → value_text variable value ≡ word.name ++ []
@@ -220,12 +220,12 @@ value_spelled event variable word value plain e = rw plain (from word.dollar e)
     from false e = field_from (find (is_named event word.name) all_fields) refl e
 
 -- so the texts of values are their words'
-pub values_spelled : (event : Name) (variable : Option Var) (more words : List Word) (values : List Item) → Chain (ValueFits event) words more → values_of event (own_name variable) more ≡ Ok values
+pub values_spelled : (event : Name) (variable : Option Var) (more words : List Word) (values : List Item) → Chain (ValueFits event) words more → value_items event (own_name variable) more ≡ Ok values
     → map (value_text variable) values ≡ map word_text more
 values_spelled event variable [] words values chain e = let same : [] ≡ values = cc in ap (map (value_text variable)) (sym same)
 values_spelled event variable (word ∷ more) words values chain e =
-    let value = given_parts NoField (value_of event (own_name variable) word) (λ value. values_of event (own_name variable) more >>= (λ values. Ok (value ∷ values))) values e in
-    let rest = then_parts (values_of event (own_name variable) more) (λ values. Ok (value.0 ∷ values)) values value.2 in
+    let value = given_parts NoField (value_item event (own_name variable) word) (λ value. value_items event (own_name variable) more >>= (λ values. Ok (value ∷ values))) values e in
+    let rest = then_parts (value_items event (own_name variable) more) (λ values. Ok (value.0 ∷ values)) values value.2 in
     joined value.0 rest.0 (values_spelled event variable more (words ++ word ∷ []) rest.0 chain.1 rest.1) (value_spelled event variable word value.0 chain.0.plain value.1) rest.2
   where
     joined : (value : Item) (found : List Item) → map (value_text variable) found ≡ map word_text more → value_text variable value ≡ word_text word → ◌≡◌ {A = Result (List Item) TriggerFault} (Ok (value ∷ found)) (Ok values)

@@ -66,16 +66,16 @@ own_name (Some (vars.Saves name)) = Some name
 own_name (Some (vars.Reads own source)) = Some own
 
 -- a value as the trigger sums it: its own variable, or a field (kernel: histogram.rst, `values`)
-abbrev pub value_of : Name → Option (List ℕ) → Word → Option Item
-value_of event own word =
+abbrev pub value_item : Name → Option (List ℕ) → Word → Option Item
+value_item event own word =
     if word.dollar then option_map_or (λ name. if bytes_eq word.name name then Some items.Own else None) own None
     else option_map items.Num (find (is_named event word.name) all_fields)
 
 -- values, from left to right; a `$name` that is not the trigger's own variable is a fault (kernel: histogram.rst, `values`)
-abbrev pub values_of : Name → Option (List ℕ) → List Word → Result (List Item) TriggerFault
-values_of event own [] = Ok []
-values_of event own (word ∷ words) =
-    given_or NoField (value_of event own word) (λ value. values_of event own words >>= (λ values. Ok (value ∷ values)))
+abbrev pub value_items : Name → Option (List ℕ) → List Word → Result (List Item) TriggerFault
+value_items event own [] = Ok []
+value_items event own (word ∷ words) =
+    given_or NoField (value_item event own word) (λ value. value_items event own words >>= (λ values. Ok (value ∷ values)))
 
 -- the number of the first thing that passes, from 0 (our own choice)
 abbrev pub index_where : {A : Type 0} → (A → Bool) → ℕ → List A → Option ℕ
@@ -118,7 +118,7 @@ sort_of keys values own (Some words) = sorts_of keys values own words
 unfoldable pub finished : Name → ℕ → ℕ → List ℕ → Draft → Result Hist TriggerFault
 finished event head place tail draft =
     given_or (Syntax head) draft.keys (λ keys.
-    values_of event (own_name draft.variable) (besides_hitcount (unwrap_or draft.values [])) >>= (λ values.
+    value_items event (own_name draft.variable) (besides_hitcount (unwrap_or draft.values [])) >>= (λ values.
     sort_of keys values (own_name draft.variable) draft.sort >>= (λ sort.
     filter_in event place tail >>= (λ filter.
     Ok (record {

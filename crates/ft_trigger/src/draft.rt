@@ -11,7 +11,7 @@ ghost use Rattle.ft_trigger.specs.Drafts.{stamp_seen};
 ghost use Rattle.ft_trigger.specs.Given.{Gives, Leaves};
 
 use crate::fault::TriggerFault;
-use crate::lists::{keys_of, sort_of, values_of};
+use crate::lists::{keys_of, sort_of, value_words};
 use crate::pieces::{Piece, Pieces};
 use crate::words::{Word, is, is_name, number_in};
 use ft_event::{Name, field_named};
@@ -156,7 +156,7 @@ impl<'a> Draft<'a> {
         if self.values.is_some() {
             return Err(TriggerFault::Duplicate);
         }
-        self.values = Some(values_of(alloc, event, list)?);
+        self.values = Some(value_words(alloc, event, list)?);
         Ok(())
     }
 

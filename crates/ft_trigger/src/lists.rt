@@ -191,7 +191,7 @@ fn is_key(keys: &[KeyItem], field: Field) -> bool
 }
 
 /// The words of a part's list of values.
-pub(crate) fn values_of<'a>(
+pub(crate) fn value_words<'a>(
     alloc: Global,
     event: Name,
     list: &Piece<'a>,

@@ -11,7 +11,7 @@ ghost use Rattle.ft_trigger.specs.Given.{Gives, GivesTrigger};
 use crate::draft::{Draft, parts_of};
 use crate::fault::TriggerFault;
 use crate::pieces::{Piece, Pieces};
-use crate::resolving::{own_name, sort_of, values_of};
+use crate::resolving::{own_name, sort_of, value_items};
 use crate::tail::{filter_in, head_len, without_end};
 use crate::words::Word;
 use ft_event::Name;
@@ -99,7 +99,7 @@ fn finished(
     match keys {
         Some(keys) => {
             let own = own_name(&variable);
-            let values = values_of(alloc, event, own, words_in(&values))?;
+            let values = value_items(alloc, event, own, words_in(&values))?;
             let sort = sort_of(alloc, &keys, &values, own, &sort)?;
             let filter = filter_in(alloc, event, place, tail)?;
             let size = size.unwrap_or(DEFAULT_SIZE);

@@ -8,7 +8,7 @@ ghost use Rattle.ft_event.specs.Fields.{text_of, is_named, all_fields};
 ghost use Rattle.ft_trigger.specs.declared.fault.TriggerFault.TheVariants.{NoField, BadSort};
 ghost use Rattle.ft_hist.specs.declared.item.Item.TheVariants as items;
 ghost use Rattle.ft_trigger.specs.Draft.{given_or, is_word, besides_hitcount};
-ghost use Rattle.ft_trigger.specs.TriggerIs.{own_name, value_of, values_of, index_where, names_value, sort_by, is_descending, sorts_of, sort_of, by_hits};
+ghost use Rattle.ft_trigger.specs.TriggerIs.{own_name, value_item, value_items, index_where, names_value, sort_by, is_descending, sorts_of, sort_of, by_hits};
 ghost use Rattle.ft_trigger.specs.Given.{Gives, Leaves};
 
 use crate::fault::TriggerFault;
@@ -31,14 +31,14 @@ pub(crate) fn own_name(variable: &Option<Var>) -> Option<&[u8]>
 
 /// What the words of values name, in order, without `hitcount`. A `$name` that is not the
 /// trigger's own variable is a fault.
-pub(crate) fn values_of(
+pub(crate) fn value_items(
     alloc: Global,
     event: Name,
     own: Option<&[u8]>,
     words: &[Word<'_>],
 ) -> Result<Vec<Item>, TriggerFault>
     ensures gives { Gives (λ values. values.items)
-        (values_of event (option_copied own.entry) (besides_hitcount words.now)) result }
+        (value_items event (option_copied own.entry) (besides_hitcount words.now)) result }
     ensures few { IfOk result (λ values.
         length values.items ≤ length (besides_hitcount words.now)) }
 {
@@ -57,21 +57,21 @@ fn add_value(
     word: &Word<'_>,
 ) -> Result<(), TriggerFault>
     ensures { Leaves (if is_word word.now (codes "hitcount") then Ok values.old.items
-        else given_or NoField (value_of event (option_copied own.entry) word.now)
+        else given_or NoField (value_item event (option_copied own.entry) word.now)
         (λ value. Ok (values.old.items ++ value ∷ []))) values.new.items result }
 {
     if word.is(b"hitcount") {
         return Ok(());
     }
-    match value_of(event, own, word) {
+    match value_item(event, own, word) {
         Some(value) => keep(values, value),
         None => Err(TriggerFault::NoField),
     }
 }
 
 /// What a word names as a value.
-fn value_of(event: Name, own: Option<&[u8]>, word: &Word<'_>) -> Option<Item>
-    ensures { result ≡ value_of event (option_copied own.entry) word.now }
+fn value_item(event: Name, own: Option<&[u8]>, word: &Word<'_>) -> Option<Item>
+    ensures { result ≡ value_item event (option_copied own.entry) word.now }
 {
     if !word.dollar() {
         return field_value(event, word.name());

@@ -1,6 +1,6 @@
 use Rattle.std.proofs.Common.{◌≡◌, ◌≤◌, length}
 use Rattle.ft_trigger.specs.Draft.{items_of, items_from, with_value, besides_hitcount}
-use Rattle.ft_trigger.proofs.lists.values_of.Given as goal
+use Rattle.ft_trigger.proofs.lists.value_words.Given as goal
 
 -- the items that are left make of the words so far what all items make of none
 abbrev pub invariant-loop-item : goal.invariant-loop-item
