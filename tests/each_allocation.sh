@@ -16,8 +16,8 @@
 # `rt try`, which proves nothing, compiles a crate's tests anew for each allocation. That took half a
 # minute to three minutes on four processors that other work kept busy. The plain tests below make fewer
 # than 24 allocations in ft_filter, 30 in ft_trigger, and between 40 and 80 in ft_desk, so that these three
-# crates should take one to three hours, which nobody has timed, nor ft_board. The one of ft_table made 12
-# when it was timed: 17 runs took 10 minutes.
+# crates should take one to three hours, which nobody has timed, nor ft_board. The one of ft_table makes 12:
+# its 17 runs took 13 minutes beside other work.
 set -euo pipefail
 
 crates=$(dirname -- "$(realpath -- "${BASH_SOURCE[0]}")")/../crates
