@@ -1,11 +1,13 @@
 -- Lines that hold no event: the test is the relation.
-use Rattle.std.proofs.Common.{◌≡◌, ◌⊎◌, ℕ, true, inl, inr, subst, List, [], ◌∷◌, ◌++◌, length, take, Option, Some, None, refl, sym, ap, ◌∙◌, append_assoc, arith, eqb, get_or}
-use Rattle.std.proofs.lemmas.Bool.{eq-eqb, eqb-true, or_cases, or_left, or_right}
+use Rattle.std.proofs.Common.{◌≡◌, ◌⊎◌, ℕ, true, inl, inr, subst, List, [], ◌∷◌, ◌++◌, length, take, Option, Some, None, refl, sym, ap, ◌∙◌, append_assoc, arith, eqb, get_or, suc}
+use Rattle.std.proofs.lemmas.Bool.{cases_Bool, eq-eqb, eqb-true, or_cases, or_left, or_right}
 use Rattle.std.proofs.lemmas.List.{append-nil, take_all, nil_from_length}
+use Prim.Native.Nat.compare
 use Rattle.std.specs.Prelude.{codes, unwrap_or}
 use Rattle.std.specs.List.{prefix_len, list_all}
-use Rattle.ft_event.specs.Bytes.{is_digit, is_blank}
-use Rattle.ft_event.specs.Spans.{run_of, behind}
+use Rattle.std.proofs.Math.Numerals.{one-add}
+use Rattle.ft_event.specs.Bytes.{is_space, is_digit, is_blank}
+use Rattle.ft_event.specs.Spans.{without_spaces, run_of, behind}
 use Rattle.ft_event.specs.Skipped.{behind_count, behind_lost, is_at_end, is_skipped}
 use Rattle.ft_event.specs.LineIs.{IsCount, IsLost, IsSkipped}
 use Rattle.ft_event.proofs.Runs.{run_splits, run_len, run_of-append, run_of-some, behind-append, behind-some}
@@ -20,6 +22,24 @@ len_blank : (bytes : List ℕ) → prefix_len is_blank bytes ≡ length bytes �
 len_blank bytes e =
     let whole : take (prefix_len is_blank bytes) bytes ≡ bytes = take_all _ bytes (omega arith) in
     subst (λ (t : List ℕ). list_all is_blank t ≡ true) whole (run_splits is_blank bytes).passes
+
+blank_but_spaces : (bytes : List ℕ) → eqb (prefix_len is_blank (without_spaces bytes)) (length (without_spaces bytes)) ≡ eqb (prefix_len is_blank bytes) (length bytes)
+blank_but_spaces [] = refl
+blank_but_spaces (b ∷ bytes) =
+    elim (cases_Bool (is_space b)) [
+      | inl space ↦
+          let spaces : prefix_len is_space (b ∷ bytes) ≡ suc (prefix_len is_space bytes) = rw (space, one-add) refl in
+          let blanks : prefix_len is_blank (b ∷ bytes) ≡ suc (prefix_len is_blank bytes) = rw (space, one-add) refl in
+          let both = compare.suc-suc (prefix_len is_blank bytes) (length bytes) in
+          rw (spaces, blanks, both) (blank_but_spaces bytes)
+      | inr other ↦
+          let none : prefix_len is_space (b ∷ bytes) ≡ 0 = rw other refl in
+          rw none refl
+    ]
+
+-- whether a line is blank shows in its text behind the spaces
+pub blank_behind : (line text : List ℕ) → text ≡ without_spaces line → eqb (prefix_len is_blank line) (length line) ≡ eqb (prefix_len is_blank text) (length text)
+blank_behind line text e = rw e (sym (blank_but_spaces line))
 
 -- ---- lost events
 

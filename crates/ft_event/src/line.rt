@@ -1,6 +1,6 @@
 //! One line of a trace: what it says, or the first thing that is wrong with it.
 
-ghost use Rattle.std.specs.Prelude.{◌≡◌, ◌==◌, ℕ, List, Result};
+ghost use Rattle.std.specs.Prelude.{◌≡◌, ◌≤◌, ◌==◌, false, ℕ, List, length, Result};
 ghost use Rattle.std.specs.List.{list_any};
 ghost use Rattle.std.specs.Option.{option_copied};
 ghost use Rattle.ft_event.specs.Columns.{head_texts};
@@ -8,7 +8,7 @@ ghost use Rattle.ft_event.specs.declared.fault.Line.{Line};
 ghost use Rattle.ft_event.specs.declared.fault.LineFault.{LineFault};
 ghost use Rattle.ft_event.specs.LineIs.{LineIs};
 ghost use Rattle.ft_event.specs.Line.{name_from, signed_from, success_from, wake_from, turn_from};
-ghost use Rattle.ft_event.specs.Line.{payload_from, body_from, event_from, traced_from, line_of};
+ghost use Rattle.ft_event.specs.Line.{payload_from, body_from, event_from, line_of};
 
 use crate::columns::{Head, head_of, stamp_of};
 use crate::comm::Comm;
@@ -137,20 +137,28 @@ fn event_from(head: &Head<'_>) -> Result<Event, LineFault>
     })
 }
 
-/// The event of a line that is not skipped.
-#[tactic(auto, unfolding(crate::specs::Line::traced_from))]
-fn traced_from(line: &[u8]) -> Result<Event, LineFault>
-    ensures { result ≡ traced_from line.now }
-{
-    let head = head_of(without_spaces(line)).ok_or(LineFault::NoTask)?;
-    event_from(&head)
-}
-
 /// Whether a line break stands in the line.
 fn is_broken(line: &[u8]) -> bool
     ensures { result ≡ list_any (λ b. b == 10) line.now }
 {
     memchr(b'\n', line).is_some()
+}
+
+/// What a line of a length that is read gives, without a line break: nothing where it is skipped, or
+/// else its event.
+#[tactic(auto, unfolding(crate::specs::Line::line_of, crate::specs::Line::traced_from))]
+fn unbroken_answer(line: &[u8]) -> Result<Line, LineFault>
+    requires length { length line.now ≤ 4096 }
+    requires unbroken { list_any (λ b. b == 10) line.now ≡ false }
+    ensures { result ≡ line_of line.now }
+{
+    let text = without_spaces(line);
+    if is_skipped(line, text) {
+        return Ok(Line::Skip);
+    }
+    let head = head_of(text).ok_or(LineFault::NoTask)?;
+    let event = event_from(&head)?;
+    Ok(Line::Event(event))
 }
 
 /// The line's length, its bytes, and then its columns: the first fault is the answer.
@@ -164,11 +172,19 @@ fn answer_to(line: &[u8]) -> Result<Line, LineFault>
     if is_broken(line) {
         return Err(LineFault::NoTask);
     }
-    if is_skipped(line) {
-        return Ok(Line::Skip);
+    unbroken_answer(line)
+}
+
+/// The line's length, and then its columns: the first fault is the answer.
+#[tactic(auto, unfolding(crate::specs::Line::line_of))]
+fn answer_to_cut(line: &[u8]) -> Result<Line, LineFault>
+    requires { list_any (λ b. b == 10) line.now ≡ false }
+    ensures { result ≡ line_of line.now }
+{
+    if line.len() > LONGEST_LINE {
+        return Err(LineFault::LineLong);
     }
-    let event = traced_from(line)?;
-    Ok(Line::Event(event))
+    unbroken_answer(line)
 }
 
 /// Reads one line of the kernel's `trace` file, without its line break.
@@ -179,6 +195,18 @@ pub fn read_line(line: &[u8]) -> Result<Line, LineFault>
     ensures meaning { LineIs line.now result }
 {
     answer_to(line)
+}
+
+/// Reads one line of the kernel's `trace` file that was cut at its line break: as `read_line`, but
+/// no line break is looked for.
+pub fn read_cut_line(line: &[u8]) -> Result<Line, LineFault>
+    requires { list_any (λ b. b == 10) line.now ≡ false }
+    // The line's answer, as the function that the definitions compute.
+    ensures exact { result ≡ line_of line.now }
+    // What the answer says of the whole line's bytes.
+    ensures meaning { LineIs line.now result }
+{
+    answer_to_cut(line)
 }
 
 /// A law: a line has one answer, that of `read_line`.

@@ -101,14 +101,13 @@ pub(crate) fn trimmed(text: &[u8]) -> &[u8]
 
 /// What is behind a label that the text begins with.
 #[tactic(auto, unfolding(crate::specs::Spans::behind))]
-pub(crate) fn behind<'a>(label: &[u8], text: &'a [u8]) -> Option<&'a [u8]>
+// Where the label's length is known, a few words are compared, and nothing is called.
+#[inline(always)]
+pub(crate) fn behind<'a, const N: usize>(label: &[u8; N], text: &'a [u8]) -> Option<&'a [u8]>
     ensures { option_copied result ≡ behind label.now text.now }
 {
-    if text.starts_with(label) {
-        Some(&text[label.len()..])
-    } else {
-        None
-    }
+    let (front, rest) = text.split_first_chunk::<N>()?;
+    if *front == *label { Some(rest) } else { None }
 }
 
 /// What stands before and behind the last space.
@@ -125,7 +124,10 @@ pub(crate) fn last_cut(text: &[u8]) -> Option<(&[u8], &[u8])>
 }
 
 /// What stands before and behind the last place of a label, which must not be empty.
-pub(crate) fn label_cut<'a>(label: &[u8], text: &'a [u8]) -> Option<(&'a [u8], &'a [u8])>
+pub(crate) fn label_cut<'a, const N: usize>(
+    label: &[u8; N],
+    text: &'a [u8],
+) -> Option<(&'a [u8], &'a [u8])>
     requires { 0 < length label.now }
     ensures { option_map (λ x. (x.0.now, x.1.now)) result ≡ label_cut label.now text.now }
 {

@@ -3,6 +3,7 @@
 ghost use Rattle.std.specs.Prelude.{◌≡◌};
 ghost use Rattle.std.specs.Option.{option_copied};
 ghost use Rattle.ft_event.specs.Skipped.{behind_count, behind_lost, is_at_end, is_skipped};
+ghost use Rattle.ft_event.specs.Spans.{without_spaces};
 
 use crate::scan::{Class, behind, front_len, run};
 
@@ -36,10 +37,12 @@ fn is_lost(line: &[u8]) -> bool
     }
 }
 
-/// Whether the line is blank, a comment of the header, or says that events were lost.
-#[tactic(auto, unfolding(crate::specs::Skipped::is_skipped))]
-pub(crate) fn is_skipped(line: &[u8]) -> bool
+/// Whether the line, which is this text behind its spaces, is blank, a comment of the header, or
+/// says that events were lost.
+#[tactic(auto, unfolding(crate::specs::Skipped::is_skipped), using(crate::proofs::Skips::blank_behind))]
+pub(crate) fn is_skipped(line: &[u8], text: &[u8]) -> bool
+    requires { text.now ≡ without_spaces line.now }
     ensures { result ≡ is_skipped line.now }
 {
-    front_len(line, Class::Blank) == line.len() || line[0] == b'#' || is_lost(line)
+    front_len(text, Class::Blank) == text.len() || line[0] == b'#' || is_lost(line)
 }
