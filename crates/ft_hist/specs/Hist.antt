@@ -22,6 +22,10 @@ abbrev pub hist_with : Name → List KeyItem → List Item → List SortItem →
 hist_with event keys values sort variable size filter =
     record { event = event; keys = keys; values = values; sort = sort; variable = variable; size = size; filter = option_map (λ f. f.tree) filter }
 
+-- the trigger with this filter, or none, in place of its own (our own choice)
+abbrev pub with_filter : Hist → Option Tree → Hist
+with_filter hist filter = record hist { filter = filter }
+
 -- a trigger is within its limits: 1 to 3 keys, at most 3 values, 1 or 2 sort items, a size of 128 to 131,072 (kernel: histogram.rst, hist triggers; 3 values besides `hitcount` is our own choice)
 pub record IsWithin (hist : Hist) : Type 0 where
   pub some_keys : 0 < length hist.keys

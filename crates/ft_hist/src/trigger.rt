@@ -3,7 +3,7 @@
 ghost use Rattle.std.specs.Prelude.{◌≡◌, ◌<◌, ◌≤◌, length, option_map, IsTrue};
 ghost use Rattle.std.specs.List.{list_all};
 ghost use Rattle.std.specs.Option.{option_copied, ForSome};
-ghost use Rattle.ft_hist.specs.Hist.{IsWithin, hist_with};
+ghost use Rattle.ft_hist.specs.Hist.{IsWithin, hist_with, with_filter};
 ghost use Rattle.ft_hist.specs.Sound.{key_suits, value_suits, by_suits, IsSound};
 
 use crate::item::{Item, KeyItem, SortItem};
@@ -136,5 +136,13 @@ impl Trigger {
             self.now.filter }
     {
         self.filter.as_ref()
+    }
+
+    /// Takes this filter, or none, in place of its own. All else stays.
+    pub fn set_filter(&mut self, filter: Option<Filter>)
+        requires { ForSome filter (λ f. f.event ≡ self.old.event) }
+        ensures { self.new ≡ with_filter self.old (option_map (λ f. f.tree) filter) }
+    {
+        self.filter = filter;
     }
 }

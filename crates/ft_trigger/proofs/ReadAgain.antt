@@ -16,7 +16,7 @@ use Rattle.ft_hist.specs.declared.label.Var.{Var}
 use Rattle.ft_hist.specs.declared.label.Var.TheVariants as vars
 use Rattle.ft_hist.specs.Canonical.{listed, more_items, key_text, variable_text, if_text, canonical}
 use Rattle.ft_trigger.specs.Draft.{Draft, blank, ◌>>=◌, unless, besides_hitcount, parts_from}
-use Rattle.ft_hist.specs.Hist.{Hist}
+use Rattle.ft_hist.specs.Hist.{Hist, with_filter}
 use Rattle.ft_trigger.specs.TriggerIs.{head_len, behind_head, tail_of, own_name, value_items, sort_by, sorts_of, by_hits, sort_of, filter_in, finished, trigger_of}
 use Rattle.ft_trigger.specs.Words.{pieces, Word}
 use Rattle.ft_trigger.proofs.Chains.{Chain}
@@ -227,9 +227,31 @@ made_again laws event draft hist h m =
     let same : hist_of event t m.values m.sort m.filter ≡ hist = ap (λ (k : List KeyItem). made event draft k m.values m.sort m.filter) (sym keys.is) ∙ m.is in
     subst (λ (x : Hist). trigger_of event (canonical x) ≡ Ok x) same written
 
+-- how a trigger is made with another filter
+refiltered : (event : Name) (draft : Draft) (hist : Hist) (filter : Option Tree) → If (TreeFits event) filter → Made event draft hist → Made event draft (with_filter hist filter)
+refiltered event draft hist filter fits m = record {
+  keys = m.keys;
+  values = m.values;
+  sort = m.sort;
+  filter = filter;
+  keys_are = m.keys_are;
+  values_are = m.values_are;
+  sort_is = m.sort_is;
+  filter_fits = fits;
+  is = ap (λ (h : Hist). with_filter h filter) m.is;
+}
+
 -- the canonical text of a trigger that some text gives, gives that trigger again
 pub reads_again : (laws : FilterLaws) (event : Name) (text : List ℕ) (hist : Hist) → trigger_of event text ≡ Ok hist → trigger_of event (canonical hist) ≡ Ok hist
 reads_again laws event text hist e =
     let read = read_so event text hist e in
     made_again laws event read.draft hist (draft_fits event (pieces 58 5 (drop 5 (take (head_len text) text))) read.draft read.parts)
     (made_so event (head_len text) (length text - length (behind_head text)) (tail_of text) read.draft hist read.ends)
+
+-- so does that of a trigger that some text gives, with another filter that some text gives, or with none
+pub refiltered_again : (laws : FilterLaws) (event : Name) (text : List ℕ) (hist : Hist) (filter : Option Tree) → If (TreeFits event) filter → trigger_of event text ≡ Ok hist
+    → trigger_of event (canonical (with_filter hist filter)) ≡ Ok (with_filter hist filter)
+refiltered_again laws event text hist filter fits e =
+    let read = read_so event text hist e in
+    made_again laws event read.draft (with_filter hist filter) (draft_fits event (pieces 58 5 (drop 5 (take (head_len text) text))) read.draft read.parts)
+    (refiltered event read.draft hist filter fits (made_so event (head_len text) (length text - length (behind_head text)) (tail_of text) read.draft hist read.ends))

@@ -6,7 +6,7 @@ use Rattle.ft_filter.specs.declared.fault.FilterFault.{FilterFault}
 use Rattle.ft_filter.specs.FilterIs.{FilterIs}
 use Rattle.ft_filter.specs.Tokens.{is_gap}
 use Rattle.ft_filter.specs.Tree.{Tree}
-use Rattle.ft_hist.specs.Hist.{Hist}
+use Rattle.ft_hist.specs.Hist.{Hist, with_filter}
 use Rattle.ft_trigger.specs.declared.fault.TriggerFault.{TriggerFault}
 use Rattle.ft_trigger.specs.declared.fault.TriggerFault.TheVariants.{Syntax, BadFilter}
 use Rattle.ft_trigger.specs.TriggerIs.{TriggerIs}
@@ -62,7 +62,7 @@ pub data TailIs (event : Name) (place : ℕ) : List ℕ → Result (Option Tree)
 
 -- a trigger with what its tail says (our own choice)
 abbrev pub with_tail : Hist → Result (Option Tree) TriggerFault → Result Hist TriggerFault
-with_tail hist (Ok filter) = Ok (record hist { filter = filter })
+with_tail hist (Ok filter) = Ok (with_filter hist filter)
 with_tail hist (Err fault) = Err fault
 
 -- ---- triggers
@@ -74,5 +74,5 @@ pub record IsShaped (event : Name) (text : List ℕ) (hist : Hist) : Type 0 wher
   pub tail : List ℕ
   pub end : List ℕ
   pub cut : IsCut text (codes "hist:" ++ parts) gap tail end
-  pub head : TriggerIs event (codes "hist:" ++ parts) (Ok (record hist { filter = None }))
+  pub head : TriggerIs event (codes "hist:" ++ parts) (Ok (with_filter hist None))
   pub filter : TailIs event (length (codes "hist:" ++ parts) + length gap) tail (Ok hist.filter)

@@ -1,11 +1,13 @@
 //! Laws on what triggers' texts are read as, apart from the steps that read them.
 
-ghost use Rattle.std.specs.Prelude.{◌≡◌, ◌↔◌, ◌+◌, ◌++◌, ◌∷◌, ℕ, true, false, codes, List, length, Option, Some, Result, Ok, Err};
+ghost use Rattle.std.specs.Prelude.{◌≡◌, ◌↔◌, ◌+◌, ◌++◌, ◌∷◌, ℕ, true, false, codes, List, length, Option, Some, None, Result, Ok, Err};
 ghost use Rattle.ft_event.specs.declared.event.Name.{Name};
 ghost use Rattle.std.specs.List.{list_all, list_any};
+ghost use Rattle.ft_filter.specs.FilterIs.{FilterIs};
 ghost use Rattle.ft_filter.specs.Tokens.{is_gap};
 ghost use Rattle.ft_filter.specs.Tree.{Tree};
-ghost use Rattle.ft_hist.specs.Hist.{Hist, IsWithin};
+ghost use Rattle.ft_hist.specs.Canonical.{canonical};
+ghost use Rattle.ft_hist.specs.Hist.{Hist, IsWithin, with_filter};
 ghost use Rattle.ft_hist.specs.Sound.{IsSound};
 ghost use Rattle.ft_trigger.specs.declared.fault.TriggerFault.{TriggerFault};
 ghost use Rattle.ft_trigger.specs.Draft.{size_of};
@@ -32,6 +34,21 @@ pub fn sound_triggers()
     ensures sound { (event : Name) (text : List ℕ) (hist : Hist) → TriggerIs event text (Ok hist)
         → IsSound hist }
 {}
+
+/// A law: a trigger that some text gives, with a filter that some text gives for its event in place
+/// of its own, or with none, is given by its canonical text.
+pub fn refiltered_reads_again()
+    ensures some { (event : Name) (text other : List ℕ) (hist : Hist) (tree : Tree)
+        → TriggerIs event text (Ok hist) → FilterIs event other (Ok tree)
+        → TriggerIs event (canonical (with_filter hist (Some tree)))
+        (Ok (with_filter hist (Some tree))) }
+    ensures none { (event : Name) (text : List ℕ) (hist : Hist)
+        → TriggerIs event text (Ok hist)
+        → TriggerIs event (canonical (with_filter hist None)) (Ok (with_filter hist None)) }
+{
+    ft_filter::one_answer();
+    ft_filter::reads_again();
+}
 
 /// A law: every text is a head, and then nothing, or a gap and a tail.
 pub fn cuts()

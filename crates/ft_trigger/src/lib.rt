@@ -18,8 +18,8 @@ pub use ft_hist::{
     equal_keys, fitting_parts, multiples, one_key_order, powers, summed_fields,
 };
 pub use laws::{
-    any_order, cuts, faults_stay, heads_first, one_list, one_tail, one_word, shapes, sizes,
-    sound_triggers,
+    any_order, cuts, faults_stay, heads_first, one_list, one_tail, one_word,
+    refiltered_reads_again, shapes, sizes, sound_triggers,
 };
 pub use reading::{one_answer, parse, reads_again};
 
