@@ -1,7 +1,5 @@
 -- There is one last operation before a place, and so one source.
 use Rattle.std.proofs.Common.{◌≡◌, refl, sym, ap, ◌∙◌, Some, None, Option, inl, inr}
-use Rattle.std.specs.Prelude.{is_some}
-use Rattle.std.proofs.lemmas.Bool.{true≢false}
 use Rattle.std.specs.declared.cmp.Ordering.TheVariants.{Less, Equal, Greater}
 use Rattle.std.specs.Ordering.{ordering_reverse}
 use Rattle.ft_pairs.specs.declared.at.At.{At}
@@ -9,17 +7,15 @@ use Rattle.ft_pairs.specs.declared.at.Op.{Op}
 use Rattle.ft_pairs.specs.declared.at.Op.TheVariants.{Save, Read}
 use Rattle.ft_pairs.specs.Order.{at_cmp, at_cmp_total, at_same}
 use Rattle.ft_pairs.specs.Source.{Ops, IsLastBefore, IsSource}
+use Rattle.ft_pairs.proofs.Local.{there_not_none}
 
 module _ (ops : Ops) (at : At) where
-  is_there : (q : At) (op : Op) → ops q ≡ Some op → ops q ≡ None → ⊥
-  is_there q op there none = true≢false (sym (ap is_some there) ∙ ap is_some none)
-
   -- two last operations before a place stand at one place
   one_last : (p q : At) (v w : Op) → IsLastBefore ops at p v → IsLastBefore ops at q w → p ≡ q
   one_last p q v w a b = elim (at_cmp p q) as (λ o. at_cmp p q ≡ o → p ≡ q) [
-    | Less ↦ λ less. absurd (is_there q w b.there (a.none q less b.before))
+    | Less ↦ λ less. absurd (there_not_none ops q w b.there (a.none q less b.before))
     | Equal ↦ λ tie. at_same p q tie
-    | Greater ↦ λ more. absurd (is_there p v a.there (b.none p (at_cmp_total.antisymm q p ∙ ap ordering_reverse more) a.before))
+    | Greater ↦ λ more. absurd (there_not_none ops p v a.there (b.none p (at_cmp_total.antisymm q p ∙ ap ordering_reverse more) a.before))
   ] refl
 
   save_not_read : (p q : At) → IsLastBefore ops at p Save → IsLastBefore ops at q Read → ⊥
@@ -28,7 +24,7 @@ module _ (ops : Ops) (at : At) where
       cc
 
   saved_not_none : (p : At) → IsLastBefore ops at p Save → IsSource ops at None → ⊥
-  saved_not_none p a (inl none) = is_there p Save a.there (none p a.before)
+  saved_not_none p a (inl none) = there_not_none ops p Save a.there (none p a.before)
   saved_not_none p a (inr last) = save_not_read p last.0 a last.1
 
   pub one_source : (a b : Option At) → IsSource ops at a → IsSource ops at b → a ≡ b

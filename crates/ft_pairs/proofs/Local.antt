@@ -25,7 +25,7 @@ module _ (old new : Ops) (at : At) where
   same_source same None (inr h) = inr (h.0, same_last same h.0 Read h.1)
 
 -- a place where an operation stands is no place where none does
-there_not_none : (ops : Ops) (q : At) (op : Op) → ops q ≡ Some op → ops q ≡ None → ⊥
+pub there_not_none : (ops : Ops) (q : At) (op : Op) → ops q ≡ Some op → ops q ≡ None → ⊥
 there_not_none ops q op there none = true≢false (sym (ap is_some there) ∙ ap is_some none)
 
 module _ (old new : Ops) (at mid : At) (op : Op)

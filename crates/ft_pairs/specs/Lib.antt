@@ -1,3 +1,9 @@
+pub mod ByKey
+pub mod Codes
+pub mod Edits
+pub mod Next
 pub mod Order
 pub mod Source
 pub use Rattle.ft_event.specs.Places
+pub use Rattle.ft_hist.specs.Parts
+pub use Rattle.ft_hist.specs.Steps

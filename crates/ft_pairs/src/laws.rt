@@ -1,11 +1,18 @@
-//! Laws of what readings find.
+//! Laws of what readings find, and of the next operation.
 
-ghost use Rattle.std.specs.Prelude.{◌≡◌, Option, Some};
+ghost use Rattle.std.specs.Prelude.{◌≡◌, ◌⊎◌, ◌↔◌, List, Option, Some, None, Contains};
+ghost use Rattle.std.specs.Prelude.{map as list_map};
+ghost use Rattle.std.specs.List.Sorted.{IsStrictlySortedBy};
 ghost use Rattle.std.specs.declared.cmp.Ordering.TheVariants.{Less};
+ghost use Rattle.ft_hist.specs.declared.key.Part.{Part};
 ghost use Rattle.ft_pairs.specs.declared.at.At.{At};
 ghost use Rattle.ft_pairs.specs.declared.at.Op.{Op};
+ghost use Rattle.ft_pairs.specs.declared.at.Op.TheVariants.{Read};
 ghost use Rattle.ft_pairs.specs.Order.{at_cmp};
 ghost use Rattle.ft_pairs.specs.Source.{Ops, IsSource};
+ghost use Rattle.ft_pairs.specs.Next.{IsBehind, IsNext, IsWalk};
+ghost use Rattle.ft_pairs.specs.Edits.{KeepsSource, with_op, without_op, reads_alone};
+ghost use Rattle.ft_pairs.specs.ByKey.{ByKey, ChangesKey, ops_of};
 
 /// A law: what a reading finds is one thing or nothing, and not two.
 pub fn one_source()
@@ -24,4 +31,60 @@ pub fn local_sources()
         → old mid ≡ Some op → new mid ≡ Some op → at_cmp mid at ≡ Less
         → ((q : At) → at_cmp mid q ≡ Less → at_cmp q at ≡ Less → new q ≡ old q)
         → (found : Option At) → IsSource old at found → IsSource new at found }
+{}
+
+/// A law: behind a place stands one next operation or none, and not two.
+pub fn one_next()
+    ensures { (ops : Ops) (after : Option At) (a b : Option (At × Op))
+        → IsNext ops after a → IsNext ops after b → a ≡ b }
+{}
+
+/// A law: what a reading of a key finds, and which operation of a key is next, depends on the
+/// operations of that key alone.
+pub fn own_operations()
+    ensures sources { (old new : ByKey) (key : List Part)
+        → ((q : At) → ops_of new key q ≡ ops_of old key q)
+        → (at : At) → KeepsSource (ops_of old key) (ops_of new key) at }
+    ensures nexts { (old new : ByKey) (key : List Part)
+        → ((q : At) → ops_of new key q ≡ ops_of old key q)
+        → (after : Option At) (next : Option (At × Op))
+        → IsNext (ops_of old key) after next → IsNext (ops_of new key) after next }
+{}
+
+/// A law: where the operations on a variable change at one place, each of them finds what it found,
+/// but the next one behind that place. So an operation of a key that comes or goes changes what the
+/// next one on that key finds at most, and no other.
+pub fn one_operation()
+    ensures place { (old new : Ops) (at : At) (next : Option (At × Op))
+        → ((q : At) → (q ≡ at → ⊥) → new q ≡ old q) → IsNext new (Some at) next
+        → (q : At) (op : Op) → new q ≡ Some op → next ≡ Some (q, op) ⊎ KeepsSource old new q }
+    ensures inserted { (old new : ByKey) (key : List Part) (at : At) (put : Op)
+        (next : Option (At × Op))
+        → ChangesKey key (with_op at put) old new → IsNext (ops_of new key) (Some at) next
+        → (k : List Part) (q : At) (op : Op) → ops_of new k q ≡ Some op
+        → ((k ≡ key) × (next ≡ Some (q, op))) ⊎ KeepsSource (ops_of old k) (ops_of new k) q }
+    ensures removed { (old new : ByKey) (key : List Part) (at : At) (next : Option (At × Op))
+        → ChangesKey key (without_op at) old new → IsNext (ops_of new key) (Some at) next
+        → (k : List Part) (q : At) (op : Op) → ops_of new k q ≡ Some op
+        → ((k ≡ key) × (next ≡ Some (q, op))) ⊎ KeepsSource (ops_of old k) (ops_of new k) q }
+{}
+
+/// A law: where the saves of a key go, no operation but the reads of that key may find another
+/// saving than before, and these find none.
+pub fn reads_of_one_key()
+    ensures others { (old new : ByKey) (key : List Part) → ChangesKey key reads_alone old new
+        → (k : List Part) (q : At) (op : Op) → ops_of new k q ≡ Some op
+        → ((k ≡ key) × (op ≡ Read)) ⊎ KeepsSource (ops_of old k) (ops_of new k) q }
+    ensures unset { (old new : ByKey) (key : List Part) → ChangesKey key reads_alone old new
+        → (at : At) (found : Option At) → IsSource (ops_of new key) at found → found ≡ None }
+{}
+
+/// A law: a walk from one operation to the next goes up, and has just the operations behind the
+/// place where it starts, each once.
+pub fn whole_walks()
+    ensures order { (ops : Ops) (after : Option At) (walk : List (At × Op)) → IsWalk ops after walk
+        → IsStrictlySortedBy at_cmp (list_map (λ step. step.0) walk) }
+    ensures each { (ops : Ops) (after : Option At) (walk : List (At × Op)) → IsWalk ops after walk
+        → (at : At) (op : Op)
+        → Contains walk (at, op) ↔ (IsBehind after at × (ops at ≡ Some op)) }
 {}

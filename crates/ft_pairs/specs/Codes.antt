@@ -1,0 +1,15 @@
+-- How the logic stores what contracts see.
+use Rattle.std.specs.Coded.{Coded, coded_list}
+use Rattle.std.specs.FinMap as map
+use Rattle.ft_hist.specs.contracts.key.Part as part
+use Rattle.ft_pairs.specs.contracts.at.At as at
+use Rattle.ft_pairs.specs.contracts.at.Op as op
+use Rattle.ft_pairs.specs.ByKey.{KeyOps, ByKey}
+
+-- the operations of one key, stored as their list (our own choice)
+abbrev pub key_ops_code : Coded KeyOps
+key_ops_code = map.code at.the_row.coded op.the_row.coded
+
+-- those of all keys, stored as a list by key (our own choice)
+abbrev pub by_key_code : Coded ByKey
+by_key_code = map.code (coded_list part.the_row.coded) key_ops_code
