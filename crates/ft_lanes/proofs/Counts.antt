@@ -23,11 +23,11 @@ use Rattle.ft_lanes.specs.Slots.{SlotsOf, AllSlots, slots_in, slots_with, slots_
 use Rattle.ft_lanes.proofs.Each.{within-longer, within-with, within-without, within-unloaded}
 use lib.Dec.{T}
 
-first : (a b : Bool) → T (a && b) → T a
+pub first : (a b : Bool) → T (a && b) → T a
 first true b p = tt
 first false b p = p
 
-second : (a b : Bool) → T (a && b) → T b
+pub second : (a b : Bool) → T (a && b) → T b
 second true b p = p
 second false b p = absurd p
 

@@ -1,17 +1,18 @@
 -- A property of each value of a map, as the map is edited.
-use Rattle.std.proofs.Common.{◌≡◌, ℕ, suc, List, [], ◌∷◌, ◌<◌, ◌≤◌, refl, sym, ap, ◌∙◌, subst, Option, Some, None, unwrap_or, ⊎_elim, arith}
+use Rattle.std.proofs.Common.{◌≡◌, ℕ, zero, suc, ◌+◌, length, get_or, List, [], ◌∷◌, ◌<◌, ◌≤◌, refl, sym, ap, ◌∙◌, subst, Option, Some, None, unwrap_or, ⊎_elim, arith}
 use Rattle.std.specs.Prelude.{option_and_then}
-use Rattle.std.specs.List.{All}
+use Rattle.std.specs.List.{All, AllByRecursion}
 use Rattle.std.specs.Option.{option_map_or}
 use Rattle.std.specs.Ordering.{nat_cmp}
 use Rattle.std.specs.Cmp.{nat_cmp_total}
 use Rattle.std.specs.FinMap as map
 use Rattle.std.specs.FinMap.{FinMap, nat_cmp-IsAntisymmetric, get-empty}
 use Rattle.std.proofs.lemmas.Bool.{cases_eq}
+use Rattle.std.proofs.lemmas.List.{get_or_default}
 use Rattle.std.proofs.lemmas.Option.{none-some}
 use Rattle.ft_maps.specs.Entries.{get-insert_same, get-insert_other, get-remove_same, get-remove_other}
 use Rattle.ft_lanes.specs.Slots.{SlotsOf, AllSlots, Each, IsWithin, AreWithin, no_slots, slots_with, slots_without, all_with, all_without}
-use Rattle.ft_lanes.specs.Walks.{PlacesWithin}
+use Rattle.ft_lanes.specs.Walks.{PlacesWithin, SlotsWithin}
 
 module _ {X : Type 0} (P : X → Type 0) where
   pub each-empty : Each P map.empty
@@ -83,3 +84,23 @@ within-found n all cpu line place within = at (map.get all cpu) refl
 pub places-within : (n : ℕ) (slots : SlotsOf) (lines : List (ℕ × ℕ)) → IsWithin n slots → All (λ e. map.get slots.places e.0 ≡ Some e.1) lines → PlacesWithin n lines
 places-within n slots [] within found = tt
 places-within n slots (e ∷ lines) within found = (within e.0 e.1 (found 0 e (omega arith)), places-within n slots lines within (λ k d lt. found (suc k) d (omega arith)))
+
+-- slots by CPU that are places of the store, as a list
+pub slots-within : (n : ℕ) (all : AllSlots) (lanes : List (ℕ × SlotsOf)) → AreWithin n all → All (λ e. map.get all e.0 ≡ Some e.1) lanes → SlotsWithin n lanes
+slots-within n all [] within found = tt
+slots-within n all (e ∷ lanes) within found = (within e.0 e.1 (found 0 e (omega arith)), slots-within n all lanes within (λ k d lt. found (suc k) d (omega arith)))
+
+-- ---- a property of each element of a list
+
+-- what has it at each place has it everywhere
+pub all-from_each : {X : Type 0} (P : X → Type 0) (xs : List X) → ((k : ℕ) (d : X) → k < length xs → P (get_or xs k d)) → AllByRecursion P xs
+all-from_each P [] each = tt
+all-from_each P (x ∷ xs) each = (each zero x (omega arith), all-from_each P xs (λ k d lt. each (suc k) d (omega arith)))
+
+-- one more element that has it, below a place
+pub each-more : {X : Type 0} (P : X → Type 0) (xs : List X) (i : ℕ) (x : X) → i < length xs → P (get_or xs i x) → ((k : ℕ) (d : X) → k < i → P (get_or xs k d)) → (k : ℕ) (d : X) → k < i + 1 → P (get_or xs k d)
+each-more P xs i x lt here below k d k_lt =
+    ⊎_elim
+    (λ s. subst (λ n. P (get_or xs n d)) (sym s) (subst P (get_or_default xs i x d lt) here))
+    (λ ne. below k d (omega arith))
+    (cases_eq k i)

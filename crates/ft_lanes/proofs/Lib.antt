@@ -1,5 +1,10 @@
+pub mod Runs
+pub mod Appends
 pub mod Mapped
 pub mod Each
 pub mod Counts
 pub mod Views
+pub mod RowLines
 pub mod Loads
+pub mod Puts
+pub mod Copies

@@ -1,7 +1,7 @@
 -- How a proof tells lanes apart: by what they hold.
-use Rattle.std.specs.Prelude.{ℕ, refl}
+use Rattle.std.specs.Prelude.{ℕ, List, refl}
 use Rattle.std.specs.Ordering.{nat_cmp}
-use Rattle.std.specs.Coded.{Coded, code_by, coded×, coded_ℕ}
+use Rattle.std.specs.Coded.{Coded, code_by, coded×, coded_list, coded_ℕ}
 use Rattle.std.specs.FinMap as map
 use Rattle.std.specs.FinMap.{FinMap}
 use Rattle.ft_event.specs.Traced.{Traced}
@@ -24,3 +24,7 @@ abbrev pub slots_code : Coded SlotsOf
 slots_code = code_by
     (FinMap nat_cmp ℕ × ℕ) (coded× (map.code coded_ℕ coded_ℕ) coded_ℕ)
     (λ slots. (slots.places, slots.next)) (λ p. record { places = p.0; next = p.1 }) (λ _. refl)
+
+-- what a walk over lanes has left, stored as a list (our own choice)
+abbrev pub walk_code : Coded (List (ℕ × Lane))
+walk_code = coded_list (coded× coded_ℕ lane_code)

@@ -1,5 +1,5 @@
 -- What lanes hold.
-use Rattle.std.specs.Prelude.{ℕ, Option, option_and_then}
+use Rattle.std.specs.Prelude.{ℕ, ◌≤◌, Option, option_and_then}
 use Rattle.std.specs.List.{sum_by}
 use Rattle.std.specs.Ordering.{nat_cmp}
 use Rattle.std.specs.FinMap as map
@@ -30,3 +30,7 @@ held_in lanes = sum_by (λ lane. map.len lane.events) (map.values lanes)
 -- the event of a lane's line, where there is one (our own choice)
 abbrev pub event_at : Lanes → ℕ → ℕ → Option Traced
 event_at lanes cpu line = option_and_then (λ lane. map.get lane.events line) (map.get lanes cpu)
+
+-- an event's CPU is at most 8,191 (our own choice)
+abbrev pub HasCpu : Traced → Type 0
+HasCpu event = event.cpu ≤ 8191

@@ -1,6 +1,7 @@
 pub mod Held
 pub mod Codes
 pub mod Edits
+pub mod Listing
 pub mod Loaded
 pub mod Slots
 pub mod Walks

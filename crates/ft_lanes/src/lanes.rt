@@ -1,12 +1,13 @@
 //! Lanes of events.
 
-ghost use Rattle.std.specs.Prelude.{◌≡◌, ◌+◌, ◌++◌, ◌≤◌, ◌<◌, ◌^◌, None, length, unwrap_or, option_map, OnOk, OnErr, IfOk, IfSome};
-ghost use Rattle.ft_lanes.specs.Slots.{stored_at};
+ghost use Rattle.std.specs.Prelude.{◌≡◌, ◌+◌, ◌≤◌, ◌<◌, ◌^◌, None, length, unwrap_or, option_map, OnOk, OnErr, IfOk, IfSome};
 
 use crate::edits::{next_in, place_in, push_in, take_in, take_lane_in};
 use crate::load::{held_cpu_in, push_load};
+use crate::rebuild::copy_lane;
 use crate::slots::Slots;
-use crate::walk::Lines;
+use crate::store::{append, end_before, end_of, event_of};
+use crate::walk::{ByCpu, Lines};
 use ft_event::Event;
 use std::alloc::{AllocError, Global};
 use std::collections::BTreeMap;
@@ -38,56 +39,15 @@ impl Model for Lanes {
     ghost invariant = { λ l. AreStored (length l.store.items) l.held (seen nat_cmp l.lanes) };
 }
 
-/// The place behind the last event of a store. Refused for memory where 32 bits can't number it.
-fn end_of(store: &Vec<Event>) -> Result<u32, AllocError>
-    ensures { IfOk result (λ place. place ≡ length store.now.items) }
-{
-    match u32::try_from(store.len()) {
-        Ok(place) => Ok(place),
-        Err(_) => Err(AllocError),
-    }
-}
-
-/// The place behind the last event of a store. Refused for memory where 32 bits can't number the
-/// places of so many more.
-fn end_before(store: &Vec<Event>, more: &Vec<Event>) -> Result<u32, AllocError>
-    ensures value { IfOk result (λ place. place ≡ length store.now.items) }
-    ensures room { OnOk result (length store.now.items + length more.now.items < 2 ^ 32) }
-{
-    match u32::try_from(store.len() as u64 + more.len() as u64) {
-        Ok(_) => Ok(store.len() as u32),
-        Err(_) => Err(AllocError),
-    }
-}
-
-/// Adds events behind those of a store. An empty store takes them over. Refused for memory, and
-/// then the store is as it was.
-fn append(store: &mut Vec<Event>, events: Vec<Event>) -> Result<(), AllocError>
-    ensures ok { OnOk result (store.new.items ≡ store.old.items ++ events.items) }
-    ensures err { OnErr result (store.new.items ≡ store.old.items) }
-{
-    if store.is_empty() {
-        *store = events;
-        return Ok(());
-    }
-    store.extend_from_slice(&events)
-}
-
-/// The event at a place of a store.
-fn event_of(store: &[Event], place: Option<u32>) -> Option<Event>
-    requires { IfSome place (λ p. p < length store.now) }
-    ensures { result ≡ option_map (stored_at store.now) place }
-{
-    match place {
-        Some(place) => Some(store[place as usize]),
-        None => None,
-    }
-}
-
 impl Lanes {
     ghost use Rattle.std.specs.Option.{option_copied};
     ghost use Rattle.std.specs.FinMap as map;
-    ghost use Rattle.ft_lanes.specs.Held.{event_limit, number_limit, event_at, held_in};
+    ghost use Rattle.std.specs.Prelude.{ℕ};
+    ghost use Rattle.std.specs.List.{AllByRecursion};
+    ghost use Rattle.std.specs.Map.Iter.{ShowsInOrder};
+    ghost use Rattle.ft_event.specs.Traced.{Traced};
+    ghost use Rattle.ft_lanes.specs.Held.{Lane, event_limit, number_limit, event_at, held_in, HasCpu};
+    ghost use Rattle.ft_lanes.specs.Walks.{shown, itself};
     ghost use Rattle.ft_lanes.specs.Loaded.{first_held, with_lanes};
     ghost use Rattle.ft_lanes.specs.Edits.{new_lane, lanes_with, lanes_without};
 
@@ -120,6 +80,18 @@ impl Lanes {
             line ≡ (unwrap_or (map.get self.old event.cpu) new_lane).next) }
         ensures err { OnErr result (self.new ≡ self.old) }
     {
+        self.make_room(1);
+        self.push_behind(event)
+    }
+
+    /// The same, with the event behind the store as it is.
+    fn push_behind(&mut self, event: Event) -> Result<u32, AllocError>
+        requires { (unwrap_or (map.get self.old event.cpu) new_lane).next ≤ number_limit }
+        ensures ok { OnOk result (self.new ≡ lanes_with self.old event) }
+        ensures line { IfOk result (λ line.
+            line ≡ (unwrap_or (map.get self.old event.cpu) new_lane).next) }
+        ensures err { OnErr result (self.new ≡ self.old) }
+    {
         let place = end_of(&self.store)?;
         self.store.push(event)?;
         let pushed = push_in(self.alloc, &mut self.lanes, event.cpu, place);
@@ -140,6 +112,17 @@ impl Lanes {
         ensures ok { OnOk result (self.new ≡ with_lanes self.old events.items) }
         ensures err { OnErr result (self.new ≡ self.old) }
     {
+        self.make_room(events.len());
+        self.load_behind(events)
+    }
+
+    /// The same, with the events behind the store as it is.
+    fn load_behind(&mut self, events: Vec<Event>) -> Result<(), AllocError>
+        requires apart { first_held self.old events.items ≡ None }
+        requires few { length events.items ≤ event_limit }
+        ensures ok { OnOk result (self.new ≡ with_lanes self.old events.items) }
+        ensures err { OnErr result (self.new ≡ self.old) }
+    {
         let first = end_before(&self.store, &events)?;
         let start = self.store.len();
         let count = events.len() as u64;
@@ -155,7 +138,8 @@ impl Lanes {
 
     /// The CPU of the first event whose lane is held.
     pub fn held_cpu(&self, events: &[Event]) -> Option<u16>
-        ensures { result ≡ first_held self.now events.now }
+        ensures value { result ≡ first_held self.now events.now }
+        ensures cpus { result ≡ None → AllByRecursion HasCpu events.now }
     {
         held_cpu_in(&self.lanes, events)
     }
@@ -172,12 +156,26 @@ impl Lanes {
 
     /// The lane of a CPU, if there is one: its events by line number.
     pub fn lane(&self, cpu: u16) -> Option<Lines<'_>>
-        ensures { result ≡ option_map (λ lane. map.entries lane.events) (map.get self.now cpu) }
+        ensures rest { result
+            ≡ option_map (λ lane. map.entries lane.events) (map.get self.now cpu) }
+        ensures fits { IfSome result (λ lines. length lines < 2 ^ 63) }
+        // A loop takes them from the front.
+        ensures runs { ShowsInOrder (shown {X = Traced}) }
     {
         match self.lanes.get(&cpu) {
             Some(slots) => Some(Lines::new(&self.store, slots.entries())),
             None => None,
         }
+    }
+
+    /// The lanes with their CPUs, by CPU.
+    pub fn lanes(&self) -> ByCpu<'_>
+        ensures rest { result ≡ map.entries self.now }
+        ensures fits { length result < 2 ^ 63 }
+        // A loop takes them from the front.
+        ensures runs { ShowsInOrder (itself {X = ℕ × Lane}) }
+    {
+        ByCpu::new(&self.store, self.lanes.iter())
     }
 
     /// Takes the event of a CPU's line out, if there is one: that event. No other line changes its
@@ -218,5 +216,37 @@ impl Lanes {
         if self.held == 0 {
             self.store.clear();
         }
+    }
+
+    /// Where the store has no room for so many more events and more of it is dead than held, puts
+    /// the held events in a store of their own. Where memory for that is refused, it stays.
+    fn make_room(&mut self, more: usize)
+        ensures { self.new ≡ self.old }
+    {
+        let room = self.store.capacity().saturating_sub(self.store.len());
+        let dead = self.store.len() as u64 - self.held;
+        if room >= more || dead <= self.held {
+            return;
+        }
+        if let Ok(lanes) = self.rebuilt() {
+            *self = lanes;
+        }
+    }
+
+    /// The same lanes over a store that has the held events alone. Refused for memory.
+    fn rebuilt(&self) -> Result<Lanes, AllocError>
+        ensures { IfOk result (λ lanes. lanes ≡ self.now) }
+    {
+        let mut store = Vec::new(self.alloc);
+        let mut slots = BTreeMap::new(self.alloc);
+        for (cpu, lane) in self.lanes() {
+            copy_lane(self.alloc, &mut store, &mut slots, cpu, &lane)?;
+        }
+        Ok(Lanes {
+            alloc: self.alloc,
+            store,
+            lanes: slots,
+            held: self.held,
+        })
     }
 }

@@ -3,12 +3,16 @@
 
 mod edits;
 mod lanes;
+mod listing;
 mod load;
+mod rebuild;
+mod rows;
 mod slots;
+mod store;
 mod walk;
 
 pub use lanes::Lanes;
-pub use walk::Lines;
+pub use walk::{ByCpu, Lane, Lines};
 
 #[cfg(test)]
 mod tests;

@@ -1,13 +1,14 @@
 //! Slots for the events of a load, or none.
 
 ghost use Rattle.std.specs.Prelude.{◌≡◌, ◌+◌, ◌<◌, ◌≤◌, ◌^◌, None, length, fold, OnOk, OnErr};
+ghost use Rattle.std.specs.List.{AllByRecursion};
 ghost use Rattle.std.specs.Ordering.{nat_cmp};
 ghost use Rattle.std.specs.FinMap as map;
 ghost use Rattle.ft_maps.specs.Seen.{seen};
-ghost use Rattle.ft_lanes.specs.Held.{event_limit};
-ghost use Rattle.ft_lanes.specs.Slots.{all_from, first_cpu, slots_in, AgreeBeside, HasRoom};
+ghost use Rattle.ft_lanes.specs.Held.{event_limit, HasCpu};
+ghost use Rattle.ft_lanes.specs.Slots.{all_from, first_cpu, slots_in};
 
-use crate::edits::push_in;
+use crate::rows::{put_rows, rows_of};
 use crate::slots::Slots;
 use ft_event::Event;
 use ft_maps::take;
@@ -16,7 +17,8 @@ use std::collections::BTreeMap;
 
 /// The CPU of the first event that has slots.
 pub(crate) fn held_cpu_in(lanes: &BTreeMap<u16, Slots>, events: &[Event]) -> Option<u16>
-    ensures { result ≡ first_cpu (map.contains_key (seen nat_cmp lanes.now)) events.now }
+    ensures value { result ≡ first_cpu (map.contains_key (seen nat_cmp lanes.now)) events.now }
+    ensures cpus { result ≡ None → AllByRecursion HasCpu events.now }
 {
     for event in events {
         if lanes.contains_key(&event.cpu) {
@@ -24,31 +26,6 @@ pub(crate) fn held_cpu_in(lanes: &BTreeMap<u16, Slots>, events: &[Event]) -> Opt
         }
     }
     None
-}
-
-/// Adds a slot for each event, at rising places from `first` on. After a refusal for memory some
-/// are added.
-fn push_all(
-    alloc: Global,
-    lanes: &mut BTreeMap<u16, Slots>,
-    events: &[Event],
-    first: u32,
-) -> Result<(), AllocError>
-    requires room { HasRoom (seen nat_cmp lanes.old) events.now }
-    requires places { first + length events.now < 2 ^ 32 }
-    ensures ok { OnOk result
-        (seen nat_cmp lanes.new ≡ all_from (seen nat_cmp lanes.old) first events.now) }
-    ensures count { OnOk result (slots_in (seen nat_cmp lanes.new)
-        ≡ slots_in (seen nat_cmp lanes.old) + length events.now) }
-    ensures err { OnErr result
-        (AgreeBeside events.now (seen nat_cmp lanes.old) (seen nat_cmp lanes.new)) }
-{
-    let mut place = first;
-    for event in events {
-        push_in(alloc, lanes, event.cpu, place)?;
-        place += 1;
-    }
-    Ok(())
 }
 
 /// Removes the slots of the events' CPUs.
@@ -78,9 +55,10 @@ pub(crate) fn push_load(
         ≡ slots_in (seen nat_cmp lanes.old) + length events.now) }
     ensures err { OnErr result (seen nat_cmp lanes.new ≡ seen nat_cmp lanes.old) }
 {
-    let pushed = push_all(alloc, lanes, events, first);
-    if pushed.is_err() {
+    let rows = rows_of(alloc, events, first)?;
+    let added = put_rows(alloc, lanes, rows);
+    if added.is_err() {
         remove_all(lanes, events);
     }
-    pushed
+    added
 }

@@ -1,9 +1,12 @@
 //! Where the events of one CPU stand.
 
-ghost use Rattle.std.specs.Prelude.{◌≡◌, ◌+◌, ◌≤◌, OnOk, OnErr, IfOk, Some};
+ghost use Rattle.std.specs.Prelude.{◌≡◌, ◌+◌, ◌≤◌, ◌<◌, ◌^◌, length, OnOk, OnErr, IfOk, Some};
 ghost use Rattle.std.specs.List.{All};
 ghost use Rattle.std.specs.Ordering.{nat_cmp};
+ghost use Rattle.std.specs.List.Sorted.{IsStrictlySortedBy};
+ghost use Rattle.std.specs.Map.{keys_of};
 ghost use Rattle.std.specs.FinMap as map;
+ghost use Rattle.ft_maps.specs.Seen.{seen};
 
 use ft_maps::{len, put};
 use std::alloc::{AllocError, Global};
@@ -33,9 +36,17 @@ impl Model for Slots {
     ghost invariant = { λ s. AreBelow s.next (seen nat_cmp s.places) };
 }
 
+/// The map of these keys and values, whose keys rise. Refused for memory.
+fn collected(alloc: Global, lines: Vec<(u32, u32)>) -> Result<BTreeMap<u32, u32>, AllocError>
+    requires { IsStrictlySortedBy nat_cmp (keys_of lines.items) }
+    ensures { IfOk result (λ m. seen nat_cmp m ≡ map.from_entries lines.items) }
+{
+    lines.into_iter().collect(alloc)
+}
+
 impl Slots {
     ghost use Rattle.ft_lanes.specs.Held.{number_limit};
-    ghost use Rattle.ft_lanes.specs.Slots.{no_slots, slots_with, slots_without};
+    ghost use Rattle.ft_lanes.specs.Slots.{no_slots, slots_of, slots_with, slots_without, AreBelow};
 
     /// No slots; the first line is 1.
     pub(crate) fn new(alloc: Global) -> Slots
@@ -45,6 +56,17 @@ impl Slots {
             places: BTreeMap::new(alloc),
             next: 1,
         }
+    }
+
+    /// These lines with their places, by rising line numbers below the next one. Refused for
+    /// memory.
+    pub(crate) fn of(alloc: Global, lines: Vec<(u32, u32)>, next: u64) -> Result<Slots, AllocError>
+        requires ascending { IsStrictlySortedBy nat_cmp (keys_of lines.items) }
+        requires below { AreBelow next (map.from_entries lines.items) }
+        ensures { IfOk result (λ slots. slots ≡ slots_of lines.items next) }
+    {
+        let places = collected(alloc, lines)?;
+        Ok(Slots { places, next })
     }
 
     /// Adds a place at the next line number, which is at most 4,294,967,295: that number. Refused
@@ -87,6 +109,7 @@ impl Slots {
     /// The lines with their places, by line number.
     pub(crate) fn entries(&self) -> Iter<'_, u32, u32>
         ensures rest { result ≡ map.entries self.now.places }
+        ensures fits { length result < 2 ^ 63 }
         ensures found { All (λ e. map.get self.now.places e.0 ≡ Some e.1) result }
     {
         self.places.iter()
@@ -94,7 +117,8 @@ impl Slots {
 
     /// The number of the next line.
     pub(crate) fn next(&self) -> u64
-        ensures { result ≡ self.now.next }
+        ensures value { result ≡ self.now.next }
+        ensures above { AreBelow result self.now.places }
     {
         self.next
     }

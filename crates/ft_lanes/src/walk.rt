@@ -3,8 +3,9 @@
 ghost use Rattle.std.specs.Prelude.{length};
 ghost use Rattle.std.specs.Iterator.{at_most};
 ghost use Rattle.std.specs.Map.Iter.{TakesFirst};
-ghost use Rattle.ft_lanes.specs.Walks.{shown, PlacesWithin};
+ghost use Rattle.ft_lanes.specs.Walks.{shown, itself, PlacesWithin};
 
+use crate::slots::Slots;
 use ft_event::Event;
 use std::collections::btree_map::Iter;
 use std::marker::Model;
@@ -54,6 +55,117 @@ impl<'a> Iterator for Lines<'a> {
     fn next(&mut self) -> Option<(u32, &'a Event)> {
         match self.places.next() {
             Some((line, place)) => Some((*line, &self.store[*place as usize])),
+            None => None,
+        }
+    }
+}
+
+/// The lane of one CPU.
+#[derive(Drop)]
+pub struct Lane<'a> {
+    store: &'a [Event],
+    slots: &'a Slots,
+}
+
+impl<'a> Model for Lane<'a> {
+    ghost use Rattle.std.specs.Prelude.{length};
+    ghost use Rattle.ft_lanes.specs.Held.{Lane as Held};
+    ghost use Rattle.ft_lanes.specs.Slots.{stored_at, lane_by, IsWithin};
+    ghost use Rattle.ft_lanes.specs.Codes.{lane_code};
+
+    ghost Value = { Held };
+
+    ghost coded = { lane_code };
+
+    ghost view = { λ l. lane_by (stored_at l.store.now) l.slots.now };
+
+    ghost invariant = { λ l. IsWithin (length l.store.now) l.slots.now };
+}
+
+impl<'a> Lane<'a> {
+    ghost use Rattle.std.specs.Prelude.{◌≡◌, ◌<◌, ◌^◌, ℕ, Some};
+    ghost use Rattle.std.specs.Map.Iter.{ShowsInOrder};
+    ghost use Rattle.std.specs.FinMap as map;
+    ghost use Rattle.ft_event.specs.Traced.{Traced};
+    ghost use Rattle.ft_lanes.specs.Slots.{stored_at, lane_by, IsWithin};
+
+    /// The events at the places of these slots in a store.
+    pub(crate) fn new(store: &'a [Event], slots: &'a Slots) -> Lane<'a>
+        requires { IsWithin (length store.now) slots.now }
+        ensures { result ≡ lane_by (stored_at store.now) slots.now }
+    {
+        Lane { store, slots }
+    }
+
+    /// The number of its next line, which is above all its lines.
+    pub(crate) fn next(&self) -> u64
+        ensures value { result ≡ self.now.next }
+        ensures above { (line : ℕ) (event : Traced)
+            → map.get self.now.events line ≡ Some event → line < result }
+    {
+        self.slots.next()
+    }
+
+    /// Its events with their line numbers, by line number.
+    pub fn lines(&self) -> Lines<'a>
+        ensures rest { result ≡ map.entries self.now.events }
+        ensures fits { length result < 2 ^ 63 }
+        // A loop takes them from the front.
+        ensures runs { ShowsInOrder (shown {X = Traced}) }
+    {
+        Lines::new(self.store, self.slots.entries())
+    }
+}
+
+/// The lanes with their CPUs, by CPU.
+#[derive(Drop)]
+pub struct ByCpu<'a> {
+    store: &'a [Event],
+    lanes: Iter<'a, u16, Slots>,
+}
+
+impl<'a> Model for ByCpu<'a> {
+    ghost use Rattle.std.specs.Prelude.{ℕ, List, length};
+    ghost use Rattle.ft_maps.specs.Mapped.{entries_by};
+    ghost use Rattle.ft_lanes.specs.Held.{Lane as Held};
+    ghost use Rattle.ft_lanes.specs.Slots.{stored_at, lane_by};
+    ghost use Rattle.ft_lanes.specs.Codes.{walk_code};
+    ghost use Rattle.ft_lanes.specs.Walks.{SlotsWithin};
+
+    ghost Value = { List (ℕ × Held) };
+
+    ghost coded = { walk_code };
+
+    ghost view = { λ w. entries_by (lane_by (stored_at w.store.now)) w.lanes };
+
+    ghost invariant = { λ w. SlotsWithin (length w.store.now) w.lanes };
+}
+
+impl<'a> ByCpu<'a> {
+    ghost use Rattle.std.specs.Prelude.{◌≡◌};
+    ghost use Rattle.ft_maps.specs.Mapped.{entries_by};
+    ghost use Rattle.ft_lanes.specs.Slots.{stored_at, lane_by};
+    ghost use Rattle.ft_lanes.specs.Walks.{SlotsWithin};
+
+    /// The lanes of these slots in a store.
+    pub(crate) fn new(store: &'a [Event], lanes: Iter<'a, u16, Slots>) -> ByCpu<'a>
+        requires { SlotsWithin (length store.now) lanes }
+        ensures { result ≡ entries_by (lane_by (stored_at store.now)) lanes.entry }
+    {
+        ByCpu { store, lanes }
+    }
+}
+
+impl<'a> Iterator for ByCpu<'a> {
+    type Item = (u16, Lane<'a>);
+
+    ghost next_gives = { TakesFirst itself };
+
+    ghost remaining = { λ s. at_most (length s) };
+
+    fn next(&mut self) -> Option<(u16, Lane<'a>)> {
+        match self.lanes.next() {
+            Some((cpu, slots)) => Some((*cpu, Lane::new(self.store, slots))),
             None => None,
         }
     }

@@ -5,7 +5,7 @@ use Rattle.ft_lanes.specs.Slots.{no_slots}
 use Rattle.ft_lanes.proofs.edits.next_in.Goals as goal
 
 pub returns-in-Some : goal.returns-in-Some
-returns-in-Some c = c.next.ensures ∙ sym (ap (λ o. (unwrap_or o no_slots).next) (get-seen nat_cmp_total c.args.lanes.now c.args.cpu ∙ sym c.in-Some.ensures.value))
+returns-in-Some c = c.next.ensures.value ∙ sym (ap (λ o. (unwrap_or o no_slots).next) (get-seen nat_cmp_total c.args.lanes.now c.args.cpu ∙ sym c.in-Some.ensures.value))
 
 pub returns-in-None : goal.returns-in-None
 returns-in-None c = sym (ap (λ o. (unwrap_or o no_slots).next) (get-seen nat_cmp_total c.args.lanes.now c.args.cpu ∙ sym c.in-None.ensures.value))

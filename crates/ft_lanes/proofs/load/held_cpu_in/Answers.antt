@@ -1,5 +1,5 @@
--- What is left of the list has the same first event.
-use Rattle.std.proofs.Common.{◌≡◌, ℕ, ◌+◌, ◌<◌, Bool, true, false, cond, List, get_or, drop, length, sym, ap, ◌∙◌, Some, is_some, arith}
+-- What is left of the list has the same first event, and each event that was passed has a CPU.
+use Rattle.std.proofs.Common.{◌≡◌, ℕ, ◌+◌, ◌<◌, ◌≤◌, Bool, true, false, cond, List, get_or, drop, length, sym, ap, ◌∙◌, subst, Some, is_some, arith}
 use Rattle.std.specs.Ordering.{nat_cmp}
 use Rattle.std.specs.Cmp.{nat_cmp_total}
 use Rattle.std.specs.BTreeMap as tree
@@ -7,7 +7,9 @@ use Rattle.std.specs.BTreeMap.{BTreeMap}
 use Rattle.std.specs.FinMap as map
 use Rattle.ft_event.specs.Traced.{Traced}
 use Rattle.ft_maps.specs.Seen.{seen, get-seen}
+use Rattle.ft_lanes.specs.Held.{HasCpu}
 use Rattle.ft_lanes.specs.Slots.{SlotsOf, first_cpu}
+use Rattle.ft_lanes.proofs.Each.{all-from_each, each-more}
 use Rattle.ft_lanes.proofs.Loads.{first_cpu-at, first_cpu-end}
 use Rattle.ft_lanes.proofs.load.held_cpu_in.Goals as goal
 
@@ -19,16 +21,24 @@ step m es i item cpu held lt is found =
     ∙ ap (λ k. cond (has k) (Some k) (first_cpu has (drop (i + 1) es))) (sym is)
     ∙ ap (λ b. cond b (Some cpu) (first_cpu has (drop (i + 1) es))) (ap is_some (get-seen nat_cmp_total m cpu) ∙ sym found)
 
-pub returns-then-contains_key : goal.returns-then-contains_key
-returns-then-contains_key c =
+pub returns-then-contains_key-clause-value : goal.returns-then-contains_key-clause-value
+returns-then-contains_key-clause-value c =
     let cpu = ap (λ t. t.cpu) (c.event.view_is ∙ c.event-item.is) in
-    sym (c.loop-event.invariant ∙ step c.args.lanes.now c.args.events.now c.loop-event.event-index c.event-item.result c.event.inside.cpu true c.loop-event-test.true cpu c.if-contains_key.ensures)
+    sym (c.loop-event.invariant.0 ∙ step c.args.lanes.now c.args.events.now c.loop-event.event-index c.event-item.result c.event.inside.cpu true c.loop-event-test.true cpu c.if-contains_key.ensures)
 
 pub loop-event-preserved : goal.loop-event-preserved
 loop-event-preserved c =
-    let cpu : c.event.inside.cpu ≡ (get_or c.args.events.now c.loop-event.event-index c.event-item.result).cpu = ap (λ t. t.cpu) (c.event.view_is ∙ c.event-item.is) in
-    c.loop-event.invariant ∙ step c.args.lanes.now c.args.events.now c.loop-event.event-index c.event-item.result c.event.inside.cpu false c.loop-event-test.true cpu c.if-contains_key.ensures
+    let es = c.args.events.now in
+    let i = c.loop-event.event-index in
+    let item = c.event-item.result in
+    let cpu : c.event.inside.cpu ≡ (get_or es i item).cpu = ap (λ t. t.cpu) (c.event.view_is ∙ c.event-item.is) in (
+      c.loop-event.invariant.0 ∙ step c.args.lanes.now es i item c.event.inside.cpu false c.loop-event-test.true cpu c.if-contains_key.ensures,
+      each-more HasCpu es i item c.loop-event-test.true (subst (λ n. n ≤ 8191) cpu c.event.invariant.1) c.loop-event.invariant.1,
+    )
 
-pub returns : goal.returns
-returns c =
-    sym (c.loop-event.invariant ∙ first_cpu-end (map.contains_key (seen nat_cmp c.args.lanes.now)) c.args.events.now c.loop-event.event-index (omega arith))
+pub returns-clause-value : goal.returns-clause-value
+returns-clause-value c =
+    sym (c.loop-event.invariant.0 ∙ first_cpu-end (map.contains_key (seen nat_cmp c.args.lanes.now)) c.args.events.now c.loop-event.event-index (omega arith))
+
+pub returns-clause-cpus : goal.returns-clause-cpus
+returns-clause-cpus c _ = all-from_each HasCpu c.args.events.now (λ k d lt. c.loop-event.invariant.1 k d (omega arith))

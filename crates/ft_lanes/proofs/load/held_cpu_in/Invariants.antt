@@ -1,10 +1,13 @@
-use Rattle.std.proofs.Common.{◌≡◌, drop}
+use Rattle.std.proofs.Common.{◌≡◌, ℕ, ◌<◌, get_or, drop}
 use Rattle.std.specs.Ordering.{nat_cmp}
 use Rattle.std.specs.FinMap as map
+use Rattle.ft_event.specs.Traced.{Traced}
 use Rattle.ft_maps.specs.Seen.{seen}
+use Rattle.ft_lanes.specs.Held.{HasCpu}
 use Rattle.ft_lanes.specs.Slots.{first_cpu}
 use Rattle.ft_lanes.proofs.load.held_cpu_in.Given as goal
 
 abbrev pub invariant-loop-event : goal.invariant-loop-event
 invariant-loop-event l =
-    first_cpu (map.contains_key (seen nat_cmp l.lanes)) l.events ≡ first_cpu (map.contains_key (seen nat_cmp l.lanes)) (drop l.event-index l.events)
+    (first_cpu (map.contains_key (seen nat_cmp l.lanes)) l.events ≡ first_cpu (map.contains_key (seen nat_cmp l.lanes)) (drop l.event-index l.events))
+    × ((k : ℕ) (event : Traced) → k < l.event-index → HasCpu (get_or l.events k event))

@@ -7,8 +7,11 @@ use Rattle.ft_lanes.specs.Slots.{stored_at}
 use Rattle.ft_lanes.proofs.Loads.{first_held-slots}
 use Rattle.ft_lanes.proofs.lanes.Lanes.held_cpu.Goals as goal
 
-pub returns : goal.returns
-returns c =
-    c.held_cpu_in.ensures
+pub returns-clause-value : goal.returns-clause-value
+returns-clause-value c =
+    c.held_cpu_in.ensures.value
     ∙ first_held-slots (stored_at c.self.inside.store.items) (seen nat_cmp c.self.inside.lanes) c.args.events.now
     ∙ ap (λ (lanes : Lanes). first_held lanes c.args.events.now) c.self.view_is
+
+pub returns-clause-cpus : goal.returns-clause-cpus
+returns-clause-cpus c none = c.held_cpu_in.ensures.cpus none

@@ -7,9 +7,10 @@ use Rattle.ft_maps.specs.Seen.{seen, get-seen}
 use Rattle.ft_maps.specs.Mapped.{entries_by}
 use Rattle.ft_lanes.specs.Held.{Lane, Lanes}
 use Rattle.ft_lanes.specs.Slots.{SlotsOf, stored_at}
-use Rattle.ft_lanes.specs.Walks.{PlacesWithin}
+use Rattle.ft_lanes.specs.Walks.{shown, PlacesWithin}
 use Rattle.ft_lanes.proofs.Each.{places-within}
 use Rattle.ft_lanes.proofs.Views.{lane-entries}
+use Rattle.ft_lanes.proofs.Runs.{shows_in_order}
 use Rattle.ft_lanes.proofs.lanes.Lanes.lane.Goals as goal
 
 pub new-requires : goal.new-requires
@@ -19,8 +20,8 @@ new-requires c =
     subst (λ k. PlacesWithin k c.entries.result) (ap length (sym c.deref.ensures.value))
     (places-within n c.in-Some.slots.now c.entries.result (c.self.invariant.within c.args.cpu c.in-Some.slots.now at) c.entries.ensures.found)
 
-pub returns-in-Some : goal.returns-in-Some
-returns-in-Some c =
+pub returns-in-Some-clause-rest : goal.returns-in-Some-clause-rest
+returns-in-Some-clause-rest c =
     let at = stored_at c.self.inside.store.items in
     let all = seen nat_cmp c.self.inside.lanes in
     ap Some (c.new.ensures ∙ (λ i. entries_by (stored_at (c.deref.ensures.value i)) (c.entries.ensures.rest i)))
@@ -28,10 +29,16 @@ returns-in-Some c =
     ∙ sym (lane-entries at all c.args.cpu)
     ∙ ap (λ (lanes : Lanes). option_map (λ (lane : Lane). map.entries lane.events) (map.get lanes c.args.cpu)) c.self.view_is
 
-pub returns-in-None : goal.returns-in-None
-returns-in-None c =
+pub returns-in-None-clause-rest : goal.returns-in-None-clause-rest
+returns-in-None-clause-rest c =
     let at = stored_at c.self.inside.store.items in
     let all = seen nat_cmp c.self.inside.lanes in
     ap (option_map (λ (s : SlotsOf). entries_by at (map.entries s.places))) (c.in-None.ensures.value ∙ sym (get-seen nat_cmp_total c.self.inside.lanes c.args.cpu))
     ∙ sym (lane-entries at all c.args.cpu)
     ∙ ap (λ (lanes : Lanes). option_map (λ (lane : Lane). map.entries lane.events) (map.get lanes c.args.cpu)) c.self.view_is
+
+pub returns-in-Some-clause-runs : goal.returns-in-Some-clause-runs
+returns-in-Some-clause-runs c = shows_in_order shown
+
+pub returns-in-None-clause-runs : goal.returns-in-None-clause-runs
+returns-in-None-clause-runs c = shows_in_order shown

@@ -10,7 +10,7 @@ use Rattle.ft_lanes.specs.Edits.{new_lane, lane_with}
 use Rattle.ft_lanes.specs.Slots.{no_slots, stored_at, lanes_by, AreStored}
 use Rattle.ft_lanes.proofs.Counts.{stored-with}
 use Rattle.ft_lanes.proofs.Views.{lanes-with, lanes-appended, lane-or_new, stored-last, at_ok}
-use Rattle.ft_lanes.proofs.lanes.Lanes.push.Goals as goal
+use Rattle.ft_lanes.proofs.lanes.Lanes.push_behind.Goals as goal
 
 pub push_in-pushed-requires : goal.push_in-pushed-requires
 push_in-pushed-requires c =

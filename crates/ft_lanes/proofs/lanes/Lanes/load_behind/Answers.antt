@@ -11,7 +11,7 @@ use Rattle.ft_lanes.specs.Loaded.{first_held, with_lanes}
 use Rattle.ft_lanes.specs.Slots.{AllSlots, stored_at, lanes_by, all_from, first_cpu, slots_in, AreStored}
 use Rattle.ft_lanes.proofs.Views.{at_ok}
 use Rattle.ft_lanes.proofs.Loads.{behind, first_held-slots, free-from, lanes-loaded, stored-all}
-use Rattle.ft_lanes.proofs.lanes.Lanes.load.Goals as goal
+use Rattle.ft_lanes.proofs.lanes.Lanes.load_behind.Goals as goal
 
 -- where the CPUs are free of lanes, they are free of slots
 apart : (store : List Traced) (all : AllSlots) (lanes : Lanes) (es : List Traced) → lanes_by (stored_at store) all ≡ lanes → first_held lanes es ≡ None → first_cpu (map.contains_key all) es ≡ None

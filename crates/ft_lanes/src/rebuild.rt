@@ -1,0 +1,56 @@
+//! Lanes copied behind another store.
+
+ghost use Rattle.std.specs.Prelude.{◌≡◌, ◌++◌, length, OnOk, IfOk};
+ghost use Rattle.std.specs.Ordering.{nat_cmp};
+ghost use Rattle.std.specs.Map.{keys_of, values_of};
+ghost use Rattle.std.specs.FinMap as map;
+ghost use Rattle.ft_maps.specs.Seen.{seen};
+ghost use Rattle.ft_lanes.specs.Slots.{placed_from, slots_from};
+
+use crate::slots::Slots;
+use crate::store::end_of;
+use crate::walk::Lane;
+use ft_event::Event;
+use ft_maps::put;
+use std::alloc::{AllocError, Global};
+use std::collections::BTreeMap;
+
+/// Adds the events of a lane behind a store, by line: their lines with their places there. After a
+/// refusal for memory some are added.
+fn append_lane(
+    alloc: Global,
+    store: &mut Vec<Event>,
+    lane: &Lane<'_>,
+) -> Result<Vec<(u32, u32)>, AllocError>
+    ensures store { OnOk result
+        (store.new.items ≡ store.old.items ++ values_of (map.entries lane.now.events)) }
+    ensures lines { IfOk result (λ lines. lines.items
+        ≡ placed_from (length store.old.items) (keys_of (map.entries lane.now.events))) }
+{
+    let mut lines = Vec::new(alloc);
+    for (line, event) in lane.lines() {
+        let place = end_of(store)?;
+        store.push(*event)?;
+        lines.push((line, place))?;
+    }
+    Ok(lines)
+}
+
+/// Adds the events of a lane behind a store, and its slots there, as those of the CPU. After a
+/// refusal for memory some of it is done.
+pub(crate) fn copy_lane(
+    alloc: Global,
+    store: &mut Vec<Event>,
+    lanes: &mut BTreeMap<u16, Slots>,
+    cpu: u16,
+    lane: &Lane<'_>,
+) -> Result<(), AllocError>
+    ensures store { OnOk result
+        (store.new.items ≡ store.old.items ++ values_of (map.entries lane.now.events)) }
+    ensures lanes { OnOk result (seen nat_cmp lanes.new
+        ≡ map.insert (seen nat_cmp lanes.old) cpu (slots_from (length store.old.items) lane.now)) }
+{
+    let lines = append_lane(alloc, store, lane)?;
+    let slots = Slots::of(alloc, lines, lane.next())?;
+    put(lanes, cpu, slots)
+}
