@@ -5,19 +5,23 @@
 #   ft_filter   old_bytes_after_want_of_memory
 #   ft_trigger  old_bytes_after_want_of_memory, answers_after_want_of_memory
 #   ft_table    unchanged_after_want_of_memory
-#   ft_board    load_after_want_of_memory, attach_after_want_of_memory, answer_after_want_of_memory
+#   ft_pairs    unchanged_after_want_of_memory
+#   ft_lanes    what_is_refused_leaves_the_lanes, a_refused_rebuild_leaves_the_lanes
+#   ft_board    load_after_want_of_memory, attach_after_want_of_memory, answer_after_want_of_memory,
+#               edits_after_want_of_memory
 #   ft_desk     whole_output_or_that_of_the_commands_before
 #
-# A filter or a trigger that is read and written, a load, an attached trigger and the latencies that it
-# measured have the wanted text, value or fault, or answer want of memory with everything as it was, so
-# that they succeed when they are asked again. And a script through `run` prints its whole output, or
-# answers want of memory with the whole output of the commands before. A table is as it was.
+# A filter or a trigger that is read and written, a load, an inserted event, an attached trigger and the
+# latencies that it measured have the wanted text, value or fault, or answer want of memory with
+# everything as it was, so that they succeed when they are asked again. And a script through `run` prints
+# its whole output, or answers want of memory with the whole output of the commands before. A table, the
+# operations of a key and the lanes are as they were.
 #
 # `rt try`, which proves nothing, compiles a crate's tests anew for each allocation. That took half a
 # minute to three minutes on four processors that other work kept busy. The plain tests below make fewer
 # than 24 allocations in ft_filter, 30 in ft_trigger, and between 40 and 80 in ft_desk, so that these three
-# crates should take one to three hours, which nobody has timed, nor ft_board. The one of ft_table makes 12:
-# its 17 runs took 13 minutes beside other work.
+# crates should take one to three hours, which nobody has timed, nor ft_pairs, ft_lanes and ft_board. The
+# one of ft_table makes 12: its 17 runs took 13 minutes beside other work.
 set -euo pipefail
 
 crates=$(dirname -- "$(realpath -- "${BASH_SOURCE[0]}")")/../crates
@@ -81,11 +85,21 @@ tests_of() {
             each ft_table tests::examples::each_key_comes_before_the_others \
                 tests::examples::unchanged_after_want_of_memory
             ;;
+        ft_pairs)
+            each ft_pairs tests::examples::save_and_two_reads \
+                tests::examples::unchanged_after_want_of_memory
+            ;;
+        ft_lanes)
+            each ft_lanes tests::an_unloaded_lane_begins_anew \
+                tests::what_is_refused_leaves_the_lanes \
+                tests::a_refused_rebuild_leaves_the_lanes
+            ;;
         ft_board)
             each ft_board tests::answers::one_latency \
                 tests::load::load_after_want_of_memory \
                 tests::attach::attach_after_want_of_memory \
-                tests::answers::answer_after_want_of_memory
+                tests::answers::answer_after_want_of_memory \
+                tests::striking::edits_after_want_of_memory
             ;;
         ft_desk)
             each ft_desk tests::examples::triggers_with_filters \
@@ -99,7 +113,7 @@ tests_of() {
 }
 
 if (($# == 0)); then
-    set -- ft_filter ft_trigger ft_table ft_board ft_desk
+    set -- ft_filter ft_trigger ft_table ft_pairs ft_lanes ft_board ft_desk
 fi
 for crate in "$@"; do
     tests_of "$crate"

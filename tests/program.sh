@@ -1,7 +1,7 @@
 #!/usr/bin/env bash
 # program.sh [PROGRAM]: runs a program, or else the launcher, as a user would: the examples, words,
-# folders, full disks, limits of files, and a script that is typed. It prints what went wrong, and a
-# last line with the counts.
+# folders, full disks, limits of files, a script that is typed, and random scripts. It prints what went
+# wrong, and a last line with the counts.
 set -uo pipefail
 
 here=$(dirname -- "$(realpath -- "${BASH_SOURCE[0]}")")
@@ -53,6 +53,15 @@ says() {
     prints "$1" "$folder/line"
 }
 
+# mixed COMMANDS EVENTS SEED: a random script of edits and answers prints what a plain model in Python prints.
+mixed() {
+    mkdir -p -- "$folder/mixed"
+    python3 "$here/random_script.py" "$1" "$2" "$3" "$folder/mixed"
+    python3 "$here/model.py" "$folder/mixed/script" "$folder/mixed/trace" >"$folder/wanted"
+    gives "mixed_$3" 1 "" "$histdesk" "$folder/mixed/script" "$folder/mixed/trace"
+    prints "mixed_$3" "$folder/wanted"
+}
+
 # comes FILE LINE: whether the file holds that line alone, now or some seconds later.
 comes() {
     local end=$((SECONDS + 10))
@@ -99,12 +108,18 @@ mkdir "$folder/folder"
 
 gives two_wakings 0 "" "$histdesk" "$examples/two-wakings.script" "$examples/two-wakings.trace"
 prints two_wakings "$examples/two-wakings.expected"
-gives who_wakes 1 "" "$histdesk" "$examples/who-wakes.script" "$examples/who-wakes.trace" "$examples/torn.trace"
+gives who_wakes 0 "" "$histdesk" "$examples/who-wakes.script" "$examples/who-wakes.trace"
 prints who_wakes "$examples/who-wakes.expected"
-gives filters 1 "" "$histdesk" "$examples/filters.script" "$examples/who-wakes.trace"
+gives filters 0 "" "$histdesk" "$examples/filters.script" "$examples/who-wakes.trace"
 prints filters "$examples/filters.expected"
-gives wakeups 1 "" "$histdesk" "$examples/wakeups.script" "$examples/wakeups.trace"
+gives wakeups 0 "" "$histdesk" "$examples/wakeups.script" "$examples/wakeups.trace"
 prints wakeups "$examples/wakeups.expected"
+gives edits 0 "" "$histdesk" "$examples/edits.script" "$examples/wakeups.trace"
+prints edits "$examples/edits.expected"
+gives full_table 0 "" "$histdesk" "$examples/full-table.script" "$examples/full-table.trace"
+prints full_table "$examples/full-table.expected"
+gives refusals 1 "" "$histdesk" "$examples/refusals.script" "$examples/wakeups.trace" "$examples/torn.trace"
+prints refusals "$examples/refusals.expected"
 gives no_words 0 "" "$histdesk"
 gives two_dashes 0 "" "$histdesk" --
 gives standard_input 0 "" "$histdesk" -
@@ -125,10 +140,16 @@ gives full_disk 2 "histdesk: write failed" bash -c 'exec "$@" >/dev/full' - "$hi
 yes 'a-1 [000] 1.000000:' | head -n 1048576 >"$folder/million"
 gives million_lines 0 "" "$histdesk" "$folder/load" "$folder/million"
 says million_lines "loaded 1048576"
+printf 'load @1\ninsert a-1 [001] 1.000000:\n' >"$folder/one_more"
+gives insert_past_the_limit 1 "" "$histdesk" "$folder/one_more" "$folder/million"
+printf 'loaded 1048576\nrefused 7\n' >"$folder/refused"
+prints insert_past_the_limit "$folder/refused"
 echo 'a-1 [000] 1.000000:' >>"$folder/million"
 gives one_line_more 1 "" "$histdesk" "$folder/load" "$folder/million"
 says one_line_more "refused 7"
 types
+mixed 1000 600 1
+mixed 1000 600 2
 
 echo "$passed passed, $failed failed"
 ((failed == 0))

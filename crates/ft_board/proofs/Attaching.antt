@@ -18,27 +18,15 @@ use Rattle.ft_hist.specs.Hist.{Hist}
 use Rattle.ft_hist.specs.Matching.{keys_match}
 use Rattle.ft_board.specs.declared.refused.Refused.{Refused}
 use Rattle.ft_board.specs.declared.refused.Refused.TheVariants.{NameTaken, NoVariable, KeyMismatch}
-use Rattle.ft_board.specs.Base.{Triggers, Base, number_limit, trigger_limit}
+use Rattle.ft_board.specs.Base.{Triggers, Base, id_limit, trigger_limit}
 use Rattle.ft_board.specs.Roles.{saves_name, saver_of}
 use Rattle.ft_board.specs.After.{reader_refused, variable_refused}
 use Rattle.ft_board.specs.Reachable.{HasOneSaver, HasSaver, HasSavers, IsReachable}
 use Rattle.ft_maps.specs.Entries.{get-insert_same, get-insert_other}
-use Rattle.ft_board.proofs.Savers.{saver_among, saver_of-among}
+use Rattle.ft_board.proofs.Savers.{saver_among, saver_of-among, saves-none}
 use Rattle.ft_board.proofs.Reachable.{same-Some}
 
 -- ---- among some triggers
-
--- where nobody among them saves a name, the one at an id doesn't
-none-among : (name : List ℕ) (es : List (ℕ × Hist)) (id : ℕ) (hist : Hist) → saver_among name es ≡ None → find nat_cmp id es ≡ Some hist → saves_name name hist.variable ≡ false
-none-among name [] id hist none found = cc
-none-among name (e ∷ es) id hist none found =
-    elim (saves_name name e.1.variable) as (λ b. saves_name name e.1.variable ≡ b → option_map (λ (x : ℕ × Hist). x.0) (cond b (Some e) (list.find (λ x. saves_name name x.1.variable) es)) ≡ None → saves_name name hist.variable ≡ false) [
-      | true ↦ λ _ other. cc
-      | false ↦ λ not rest. elim (eq_by_cmp nat_cmp id e.0) as (λ b. cond b (Some e.1) (find nat_cmp id es) ≡ Some hist → saves_name name hist.variable ≡ false) [
-        | true ↦ λ here. ap (λ (h : Hist). saves_name name h.variable) (sym (same-Some e.1 hist here)) ∙ not
-        | false ↦ λ later. none-among name es id hist rest later
-      ] found
-    ] refl none
 
 -- one more behind them leaves the saver that is found as it was
 saver-put : (name : List ℕ) (id : ℕ) (hist : Hist) (es : List (ℕ × Hist)) (saver : ℕ) → ((q : ℕ) → is_some (find nat_cmp q es) ≡ true → q < id) → saver_among name es ≡ Some saver → saver_among name (put nat_cmp id hist es) ≡ Some saver
@@ -55,9 +43,6 @@ saver-put name id hist (e ∷ es) saver below named =
 
 abbrev AreBelow : Triggers → ℕ → Type 0
 AreBelow triggers next = (id : ℕ) (hist : Hist) → map.get triggers id ≡ Some hist → id < next
-
-none-attached : (triggers : Triggers) (name : List ℕ) (id : ℕ) (hist : Hist) → saver_of triggers name ≡ None → map.get triggers id ≡ Some hist → saves_name name hist.variable ≡ false
-none-attached triggers name id hist none found = none-among name (map.entries triggers) id hist (saver_of-among triggers name ∙ none) (sym (get-entries triggers id) ∙ found)
 
 found-below : (triggers : Triggers) (next : ℕ) → AreBelow triggers next → (id : ℕ) → is_some (map.get triggers id) ≡ true → id < next
 found-below triggers next below id is =
@@ -133,7 +118,7 @@ module _ (triggers : Triggers) (next : ℕ) (hist : Hist) (below : AreBelow trig
   not-both : (id : ℕ) (old new : Hist) (name : List ℕ) → hist ≡ new → map.get triggers id ≡ Some old → saves_name name old.variable ≡ true → saves_name name new.variable ≡ true → ⊥
   not-both id old new name same found saves also =
       let none = name-free triggers hist.keys hist.variable name free (ap (λ (h : Hist). saves_name name h.variable) same ∙ also) in
-      true≢false (sym saves ∙ none-attached triggers name id old none found)
+      true≢false (sym saves ∙ saves-none triggers name id old none found)
 
   one_saver-insert : HasOneSaver triggers → HasOneSaver (map.insert triggers next hist)
   one_saver-insert one i j a b name found-i found-j saves-i saves-j = elim (at-insert i a found-i) [
@@ -159,7 +144,7 @@ at_most true n few = omega arith
 at_most false n few = omega arith
 
 -- attaching a trigger keeps the base reachable
-pub attach-IsReachable : (base : Base) (hist : Hist) → IsReachable base → map.len base.triggers < trigger_limit → base.next_id ≤ number_limit → variable_refused base.triggers hist.keys hist.variable ≡ None → IsReachable (record base { triggers = map.insert base.triggers base.next_id hist; next_id = base.next_id + 1 })
+pub attach-IsReachable : (base : Base) (hist : Hist) → IsReachable base → map.len base.triggers < trigger_limit → base.next_id ≤ id_limit → variable_refused base.triggers hist.keys hist.variable ≡ None → IsReachable (record base { triggers = map.insert base.triggers base.next_id hist; next_id = base.next_id + 1 })
 attach-IsReachable base hist is few low free =
     let below : AreBelow base.triggers base.next_id = λ id other found. (is.ids id other found).1 in
     record {

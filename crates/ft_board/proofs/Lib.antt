@@ -1,10 +1,17 @@
 pub mod Loading
 pub mod Held
 pub mod Reachable
+pub mod LaneEdits
 pub mod Attaching
+pub mod TriggerEdits
 pub mod After
+pub mod Cases
+pub mod HeldLanes
+pub mod Refilters
 pub mod Merging
 pub mod Places
+pub mod Naming
+pub mod Placing
 pub mod Counted
 pub mod Savers
 pub mod KeysApart

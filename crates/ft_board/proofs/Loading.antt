@@ -1,23 +1,28 @@
 -- Loading event by event makes the lanes that a load gives, and removing them again the old ones.
-use Rattle.std.proofs.Common.{◌≡◌, ℕ, ◌+◌, ◌<◌, ◌≤◌, zero, suc, Bool, true, false, cond, ◌==◌, ◌||◌, List, [], ◌∷◌, ◌++◌, length, get_or, take, drop, filter, fold, refl, sym, ap, ◌∙◌, subst, Option, Some, None, is_some, option_map, unwrap_or, ⊎_elim, append_assoc, arith}
-use Rattle.std.specs.List.{enumerate_from, AllByRecursion}
+use Rattle.std.proofs.Common.{◌≡◌, ℕ, ◌+◌, ◌≤◌, suc, Bool, true, false, cond, ◌==◌, ◌||◌, List, [], ◌∷◌, ◌++◌, length, filter, fold, refl, sym, ap, ◌∙◌, subst, Option, Some, None, is_some, option_map, unwrap_or, ⊎_elim, append_assoc, arith}
+use Rattle.std.specs.List.{enumerate_from, list_any}
 use Rattle.std.specs.List as list
 use Rattle.std.specs.Ordering.{nat_cmp}
 use Rattle.std.specs.Cmp.{nat_cmp_total, unsigned_tied}
 use Rattle.std.specs.FinMap as map
-use Rattle.std.specs.FinMap.{FinMap, find, same_map, from_entries_push, nat_cmp-IsAntisymmetric}
-use Rattle.std.proofs.lemmas.Bool.{cases_eq, eq-eqb, ne_eqb, eqb-true, eqb-false, or_cases, or_parts, or_left, or_right}
-use Rattle.std.proofs.lemmas.List.{append-nil, length_push, at_drop_more, at_drop_all, get_or_default}
+use Rattle.std.specs.FinMap.{find, same_map, from_entries_push, nat_cmp-IsAntisymmetric}
+use Rattle.std.proofs.lemmas.Bool.{cases_eq, eq-eqb, ne_eqb, eqb-true, or_cases, or_parts, or_left, or_right}
+use Rattle.std.proofs.lemmas.List.{append-nil, length_push}
 use Rattle.std.proofs.lemmas.List.Elements.{filter-append}
 use Rattle.std.proofs.lemmas.List.Folds.{list_any-append}
 use Rattle.ft_event.specs.Traced.{Traced}
-use Rattle.ft_board.specs.Base.{Lane, number_limit, event_limit}
-use Rattle.ft_board.specs.After.{lane_of, with_lanes, first_held}
-use Rattle.ft_board.specs.Filling.{new_lane, lane_with, lanes_with, has_cpu, AgreeBeside, HasRoom}
-use Rattle.ft_maps.specs.Entries.{get-insert_same, get-insert_other, get-remove_same, get-remove_other}
+use Rattle.ft_lanes.specs.Held.{Lane, Lanes, number_limit, event_limit}
+use Rattle.ft_lanes.specs.Loaded.{lane_of, with_lanes, first_held}
+use Rattle.ft_lanes.specs.Edits.{new_lane, lane_with, lanes_with}
+use Rattle.ft_maps.specs.Entries.{get-insert_same, get-insert_other}
 
-abbrev Lanes : Type 0
-Lanes = FinMap nat_cmp Lane
+-- an event of the list has the CPU
+abbrev pub has_cpu : List Traced → ℕ → Bool
+has_cpu events cpu = list_any (λ e. e.cpu == cpu) events
+
+-- the lanes of the events' CPUs have numbers left for all of them
+abbrev pub HasRoom : Lanes → List Traced → Type 0
+HasRoom lanes events = (cpu : ℕ) → has_cpu events cpu ≡ true → (unwrap_or (map.get lanes cpu) new_lane).next + length events ≤ number_limit + 1
 
 -- ---- the numbers that are left
 
@@ -36,26 +41,6 @@ room-next m e es h q is =
     subst P (sym here) (omega arith))
     (λ ne. subst P (sym (get-insert_other nat_cmp_total nat_cmp-IsAntisymmetric m e.cpu _ q ne)) (omega arith))
     (cases_eq q e.cpu)
-
-pub room-at : (m : Lanes) (es : List Traced) (i : ℕ) (d : Traced) → HasRoom m es → i < length es → (unwrap_or (map.get (fold lanes_with m (take i es)) (get_or es i d).cpu) new_lane).next ≤ number_limit
-room-at m [] i d h lt = absurd (omega arith)
-room-at m (e ∷ es) zero d h lt = room-here m e es h
-room-at m (e ∷ es) (suc i) d h lt = room-at (lanes_with m e) es i d (room-next m e es h) (omega arith)
-
--- ---- lanes beside the events' CPUs stay
-
-apart-from : (e : Traced) (es : List Traced) (q : ℕ) → has_cpu (e ∷ es) q ≡ false → (q ≡ e.cpu → ⊥) × (has_cpu es q ≡ false)
-apart-from e es q away =
-    let parts = or_parts _ _ away in
-    ((λ s. eqb-false e.cpu q parts.0 (sym s)), parts.1)
-
-pub beside-at : (m : Lanes) (es : List Traced) (i : ℕ) → AgreeBeside es m (fold lanes_with m (take i es))
-beside-at m [] zero q away = refl
-beside-at m [] (suc i) q away = refl
-beside-at m (e ∷ es) zero q away = refl
-beside-at m (e ∷ es) (suc i) q away =
-    let apart = apart-from e es q away in
-    beside-at (lanes_with m e) es i q apart.1 ∙ get-insert_other nat_cmp_total nat_cmp-IsAntisymmetric m e.cpu _ q apart.0
 
 -- ---- the lane that a list of events gives a CPU
 
@@ -198,13 +183,6 @@ first_held-nil : (lanes : Lanes) → first_held lanes [] ≡ None
 unfolding first_held
 first_held-nil lanes = refl
 
--- a loop's step, and its end
-pub first_held-at : (lanes : Lanes) (es : List Traced) (i : ℕ) (d : Traced) → i < length es → first_held lanes (drop i es) ≡ cond (map.contains_key lanes (get_or es i d).cpu) (Some (get_or es i d).cpu) (first_held lanes (drop (i + 1) es))
-first_held-at lanes es i d lt = at_drop_more (first_held lanes) es i d lt ∙ first_held-cons lanes (get_or es i d) (drop (i + 1) es)
-
-pub first_held-end : (lanes : Lanes) (es : List Traced) (i : ℕ) → length es ≤ i → first_held lanes (drop i es) ≡ None
-first_held-end lanes es i le = at_drop_all (first_held lanes) es i le ∙ first_held-nil lanes
-
 missing : {X : Type 0} (o : Option X) → is_some o ≡ false → o ≡ None
 missing None e = refl
 missing (Some x) e = cc
@@ -225,40 +203,3 @@ pub room-from : (lanes : Lanes) (es : List Traced) → first_held lanes es ≡ N
 room-from lanes es none few q is =
     let P : Option Lane → Type 0 = λ o. (unwrap_or o new_lane).next + length es ≤ number_limit + 1 in
     subst P (sym (free-from lanes es none q is)) (omega arith)
-
--- ---- removing the lanes of the events' CPUs
-
-remove-at : (m : Lanes) (es : List Traced) (q : ℕ) → map.get (fold (λ n e. map.remove n e.cpu) m es) q ≡ cond (has_cpu es q) None (map.get m q)
-remove-at m [] q = refl
-remove-at m (e ∷ es) q =
-    remove-at (map.remove m e.cpu) es q
-    ∙ ⊎_elim
-    (λ s.
-    ap (λ o. cond (has_cpu es q) None o) (ap (map.get (map.remove m e.cpu)) s ∙ get-remove_same nat_cmp_total m e.cpu)
-    ∙ cond-same (has_cpu es q) None
-    ∙ ap (λ b. cond (b || has_cpu es q) None (map.get m q)) (sym (eq-eqb e.cpu q (sym s))))
-    (λ ne.
-    ap (λ o. cond (has_cpu es q) None o) (get-remove_other nat_cmp_total nat_cmp-IsAntisymmetric m e.cpu q ne)
-    ∙ ap (λ b. cond (b || has_cpu es q) None (map.get m q)) (sym (ne_eqb e.cpu q (λ s. ne (sym s)))))
-    (cases_eq q e.cpu)
-
-as_before : (lanes m : Lanes) (es : List Traced) → IsFree lanes es → AgreeBeside es lanes m → (q : ℕ) (b : Bool) → has_cpu es q ≡ b → cond b None (map.get m q) ≡ map.get lanes q
-as_before lanes m es free beside q true is = sym (free q is)
-as_before lanes m es free beside q false is = beside q is
-
--- gives the lanes from before, where the CPUs were free
-pub removed-back : (lanes m : Lanes) (es : List Traced) → first_held lanes es ≡ None → AgreeBeside es lanes m → fold (λ n e. map.remove n e.cpu) m es ≡ lanes
-removed-back lanes m es none beside = same_map nat_cmp_total nat_cmp-IsAntisymmetric _ _ (λ q. remove-at m es q ∙ as_before lanes m es (free-from lanes es none) beside q _ refl)
-
--- a fact of each element, as a recursion over the list
-pub all-from_each : {X : Type 0} (P : X → Type 0) (xs : List X) → ((k : ℕ) (d : X) → k < length xs → P (get_or xs k d)) → AllByRecursion P xs
-all-from_each P [] each = tt
-all-from_each P (x ∷ xs) each = (each zero x (omega arith), all-from_each P xs (λ k d lt. each (suc k) d (omega arith)))
-
--- one more element that has it, below a place
-pub each-more : {X : Type 0} (P : X → Type 0) (xs : List X) (i : ℕ) (x : X) → i < length xs → P (get_or xs i x) → ((k : ℕ) (d : X) → k < i → P (get_or xs k d)) → (k : ℕ) (d : X) → k < i + 1 → P (get_or xs k d)
-each-more P xs i x lt here below k d k_lt =
-    ⊎_elim
-    (λ s. subst (λ n. P (get_or xs n d)) (sym s) (subst P (get_or_default xs i x d lt) here))
-    (λ ne. below k d (omega arith))
-    (cases_eq k i)

@@ -2,13 +2,11 @@
 use Rattle.std.proofs.Common.{◌≡◌, ℕ, List, [], ◌∷◌, ◌++◌, map as list_map, refl, sym, ◌∙◌}
 use Rattle.std.specs.Prelude.{fold}
 use Rattle.std.specs.List.{flat_map}
-use Rattle.std.specs.Ordering.{nat_cmp}
-use Rattle.std.specs.FinMap as map
 use Rattle.std.specs.FinMap.{FinMap}
 use Rattle.ft_event.specs.Traced.{Traced}
 use Rattle.ft_event.specs.Places.{pos_cmp}
-use Rattle.ft_board.specs.Base.{Lane}
-use Rattle.ft_board.specs.Merged.{place_of, placed, merged, merged_with, merged_with_lane}
+use Rattle.ft_lanes.specs.Held.{Lane}
+use Rattle.ft_board.specs.Merged.{place_of, placed, merged_with, merged_with_lane}
 
 -- the merged events with those of some lines of a lane
 abbrev pub merged_with_lines : ℕ → FinMap pos_cmp Traced → List (ℕ × Traced) → FinMap pos_cmp Traced
@@ -22,7 +20,3 @@ fold-append f b (x ∷ xs) ys = fold-append f (f b x) xs ys
 pub by_lane : (m : FinMap pos_cmp Traced) (lanes : List (ℕ × Lane)) → fold merged_with_lane m lanes ≡ fold merged_with m (flat_map placed lanes)
 by_lane m [] = refl
 by_lane m (lane ∷ lanes) = by_lane (merged_with_lane m lane) lanes ∙ sym (fold-append merged_with m (placed lane) (flat_map placed lanes))
-
-pub all_lanes : (lanes : FinMap nat_cmp Lane) → fold merged_with_lane map.empty (map.entries lanes) ≡ merged lanes
-unfolding merged
-all_lanes lanes = by_lane map.empty (map.entries lanes)

@@ -15,7 +15,7 @@ use Rattle.ft_event.specs.Traced.{Traced}
 use Rattle.ft_event.specs.Places.{pos_cmp, pos_cmp_total}
 use Rattle.ft_maps.specs.Entries.{strictly_sorted, same_from_tie}
 use Rattle.ft_event.specs.declared.pos.Pos.{Pos}
-use Rattle.ft_board.specs.Base.{Lane, Lanes}
+use Rattle.ft_lanes.specs.Held.{Lane, Lanes}
 use Rattle.ft_board.specs.Merged.{place_of, merged, held_at, merged_with_lane}
 use Rattle.ft_board.proofs.Merging.{merged_with_lines, by_lane}
 
@@ -28,7 +28,8 @@ or_none : {X : Type 0} (x : Option X) → or_else x None ≡ x
 or_none None = refl
 or_none (Some x) = refl
 
-tied_then : (a b : Ordering) → is_eq (ordering_then a b) ≡ (is_eq a && is_eq b)
+-- two comparisons in turn tie where both do
+pub tied_then : (a b : Ordering) → is_eq (ordering_then a b) ≡ (is_eq a && is_eq b)
 tied_then Less b = refl
 tied_then Equal b = refl
 tied_then Greater b = refl

@@ -9,21 +9,23 @@ use Rattle.std.specs.FinMap.{get-empty, len-empty, len-insert, nat_cmp-IsAntisym
 use Rattle.std.proofs.lemmas.Bool.{cases_eq}
 use Rattle.ft_event.specs.Traced.{Traced}
 use Rattle.ft_hist.specs.Hist.{Hist}
-use Rattle.ft_board.specs.Base.{Lane, Lanes, Base, empty_base, number_limit, event_limit, held_in, trigger_limit}
-use Rattle.ft_board.specs.After.{with_lanes, first_held}
-use Rattle.ft_board.specs.Reachable.{HasCpu, IsReachable}
-use Rattle.ft_board.specs.Filling.{new_lane, lane_with, lanes_with, HasRoom}
+use Rattle.ft_lanes.specs.Held.{Lane, Lanes, number_limit, event_limit, held_in}
+use Rattle.ft_board.specs.Base.{Base, empty_base, trigger_limit}
+use Rattle.ft_lanes.specs.Loaded.{with_lanes, first_held}
+use Rattle.ft_lanes.specs.Held.{HasCpu}
+use Rattle.ft_board.specs.Reachable.{IsReachable}
+use Rattle.ft_lanes.specs.Edits.{new_lane, lane_with, lanes_with}
 use Rattle.ft_maps.specs.Entries.{entries-empty, get-insert_same, get-insert_other}
-use Rattle.ft_board.proofs.Loading.{room-here, room-next, room-from, free-from, with_lanes-fold}
+use Rattle.ft_board.proofs.Loading.{HasRoom, room-here, room-next, room-from, free-from, with_lanes-fold}
 use Rattle.ft_board.proofs.Held.{sum-insert}
 
 -- what holds of a CPU's lane
-record IsLane (cpu : ℕ) (lane : Lane) : Type 0 where
-  at_cpu : cpu ≤ 8191
-  numbers : (1 ≤ lane.next) × (lane.next ≤ number_limit + 1)
-  lines : (line : ℕ) (event : Traced) → map.get lane.events line ≡ Some event → (1 ≤ line) × (line < lane.next) × (event.cpu ≡ cpu)
+pub record IsLane (cpu : ℕ) (lane : Lane) : Type 0 where
+  pub at_cpu : cpu ≤ 8191
+  pub numbers : (1 ≤ lane.next) × (lane.next ≤ number_limit + 1)
+  pub lines : (line : ℕ) (event : Traced) → map.get lane.events line ≡ Some event → (1 ≤ line) × (line < lane.next) × (event.cpu ≡ cpu)
 
-abbrev AreLanes : Lanes → Type 0
+abbrev pub AreLanes : Lanes → Type 0
 AreLanes lanes = (cpu : ℕ) (lane : Lane) → map.get lanes cpu ≡ Some lane → IsLane cpu lane
 
 pub same-Some : {X : Type 0} (x y : X) → Some x ≡ Some y → x ≡ y
@@ -59,15 +61,20 @@ lane-or_new lanes cpu are le =
       | Some lane ↦ λ is. are cpu lane is
     ] refl
 
-lanes_with-AreLanes : (lanes : Lanes) (e : Traced) → AreLanes lanes → HasCpu e → (unwrap_or (map.get lanes e.cpu) new_lane).next ≤ number_limit → AreLanes (lanes_with lanes e)
-lanes_with-AreLanes lanes e are at room cpu lane is =
-    let old = unwrap_or (map.get lanes e.cpu) new_lane in
+-- lanes of which one was made or changed
+pub insert-AreLanes : (lanes : Lanes) (cpu : ℕ) (lane : Lane) → AreLanes lanes → IsLane cpu lane → AreLanes (map.insert lanes cpu lane)
+insert-AreLanes lanes cpu lane are is q other found =
     ⊎_elim
     (λ s.
-    let same : lane_with old e ≡ lane = same-Some (lane_with old e) lane (sym (ap (map.get (lanes_with lanes e)) s ∙ get-insert_same nat_cmp_total lanes e.cpu (lane_with old e)) ∙ is) in
-    subst (λ k. IsLane k lane) (sym s) (subst (IsLane e.cpu) same (lane_with-IsLane e.cpu old e (lane-or_new lanes e.cpu are at) refl room)))
-    (λ ne. are cpu lane (sym (get-insert_other nat_cmp_total nat_cmp-IsAntisymmetric lanes e.cpu (lane_with old e) cpu ne) ∙ is))
-    (cases_eq cpu e.cpu)
+    let same : lane ≡ other = same-Some lane other (sym (ap (map.get (map.insert lanes cpu lane)) s ∙ get-insert_same nat_cmp_total lanes cpu lane) ∙ found) in
+    subst (λ k. IsLane k other) (sym s) (subst (IsLane cpu) same is))
+    (λ ne. are q other (sym (get-insert_other nat_cmp_total nat_cmp-IsAntisymmetric lanes cpu lane q ne) ∙ found))
+    (cases_eq q cpu)
+
+pub lanes_with-AreLanes : (lanes : Lanes) (e : Traced) → AreLanes lanes → HasCpu e → (unwrap_or (map.get lanes e.cpu) new_lane).next ≤ number_limit → AreLanes (lanes_with lanes e)
+lanes_with-AreLanes lanes e are at room =
+    let old = unwrap_or (map.get lanes e.cpu) new_lane in
+    insert-AreLanes lanes e.cpu (lane_with old e) are (lane_with-IsLane e.cpu old e (lane-or_new lanes e.cpu are at) refl room)
 
 -- the next line of a lane is free, so an event more makes it one longer
 next_free : (cpu : ℕ) (lane : Lane) → IsLane cpu lane → map.get lane.events lane.next ≡ None
@@ -84,7 +91,7 @@ len-or_new : (o : Option Lane) → option_map_or (λ l. map.len l.events) o 0 �
 len-or_new None = sym (len-empty nat_cmp Traced)
 len-or_new (Some lane) = refl
 
-held-lanes_with : (lanes : Lanes) (e : Traced) → AreLanes lanes → HasCpu e → held_in (lanes_with lanes e) ≡ held_in lanes + 1
+pub held-lanes_with : (lanes : Lanes) (e : Traced) → AreLanes lanes → HasCpu e → held_in (lanes_with lanes e) ≡ held_in lanes + 1
 held-lanes_with lanes e are at =
     let old = unwrap_or (map.get lanes e.cpu) new_lane in
     let sums = sum-insert nat_cmp_total (λ l. map.len l.events) lanes e.cpu (lane_with old e) in
@@ -99,7 +106,7 @@ fold-AreLanes lanes (e ∷ es) are at room =
     let rest = fold-AreLanes (lanes_with lanes e) es (lanes_with-AreLanes lanes e are at.0 (room-here lanes e es room)) at.1 (room-next lanes e es room) in
     (rest.0, omega (arith, rest.1, held-lanes_with lanes e are at.0))
 
-lanes-from : (base : Base) → IsReachable base → AreLanes base.lanes
+pub lanes-from : (base : Base) → IsReachable base → AreLanes base.lanes
 lanes-from base is cpu lane found = record {
   at_cpu = is.cpus cpu lane found;
   numbers = is.numbers cpu lane found;
@@ -112,22 +119,26 @@ held-with_lanes base es is at none few =
     ap held_in (sym (with_lanes-fold base.lanes es (free-from base.lanes es none)))
     ∙ (fold-AreLanes base.lanes es (lanes-from base is) at (room-from base.lanes es none few)).1
 
--- and keeps the base reachable
+-- a base with other lanes
+pub lanes-IsReachable : (base : Base) (lanes : Lanes) → IsReachable base → AreLanes lanes → held_in lanes ≤ event_limit → IsReachable (record base { lanes = lanes })
+lanes-IsReachable base lanes is are few = record {
+  cpus = λ cpu lane found. (are cpu lane found).at_cpu;
+  numbers = λ cpu lane found. (are cpu lane found).numbers;
+  lines = λ cpu lane found. (are cpu lane found).lines;
+  ids = is.ids;
+  next_id = is.next_id;
+  few_events = few;
+  few_triggers = is.few_triggers;
+  one_saver = is.one_saver;
+  savers = is.savers;
+}
+
+-- a load that is not refused keeps the base reachable
 pub load-IsReachable : (base : Base) (es : List Traced) → IsReachable base → AllByRecursion HasCpu es → first_held base.lanes es ≡ None → held_in base.lanes + length es ≤ event_limit → IsReachable (record base { lanes = with_lanes base.lanes es })
 load-IsReachable base es is at none few =
     let same = with_lanes-fold base.lanes es (free-from base.lanes es none) in
-    let are : AreLanes (with_lanes base.lanes es) = subst AreLanes same (fold-AreLanes base.lanes es (lanes-from base is) at (room-from base.lanes es none (omega arith))).0 in
-    record {
-      cpus = λ cpu lane found. (are cpu lane found).at_cpu;
-      numbers = λ cpu lane found. (are cpu lane found).numbers;
-      lines = λ cpu lane found. (are cpu lane found).lines;
-      ids = is.ids;
-      next_id = is.next_id;
-      few_events = omega (arith, held-with_lanes base es is at none (omega arith));
-      few_triggers = is.few_triggers;
-      one_saver = is.one_saver;
-      savers = is.savers;
-    }
+    let are = subst AreLanes same (fold-AreLanes base.lanes es (lanes-from base is) at (room-from base.lanes es none (omega arith))).0 in
+    lanes-IsReachable base (with_lanes base.lanes es) is are (omega (arith, held-with_lanes base es is at none (omega arith)))
 
 pub held-empty : held_in map.empty ≡ 0
 held-empty = ap (λ es. sum_by (λ lane. map.len lane.events) (list_map (λ e. e.1) es)) (entries-empty nat_cmp)

@@ -23,7 +23,8 @@ use Rattle.ft_table.specs.Growth.{ComesLast, InGrows, RowsGrow, TotalsGrow, with
 use Rattle.ft_table.specs.Marks.{mark_cmp}
 use Rattle.ft_table.specs.Tabled.{is_in}
 use Rattle.ft_table.specs.declared.mark.Mark.{Mark}
-use Rattle.ft_board.specs.Base.{Triggers, Events, Lanes, event_at}
+use Rattle.ft_lanes.specs.Held.{Lanes, event_at}
+use Rattle.ft_board.specs.Base.{Triggers, Events}
 use Rattle.ft_board.specs.Merged.{merged, held_at}
 use Rattle.ft_board.specs.Replay.{State, act_as, act, act_at, step, started, replay, growth_by, values_at}
 use Rattle.ft_board.specs.Roles.{role_of}

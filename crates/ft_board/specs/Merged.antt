@@ -4,7 +4,8 @@ use Rattle.std.specs.List.{flat_map}
 use Rattle.std.specs.FinMap as map
 use Rattle.ft_event.specs.Traced.{Traced}
 use Rattle.ft_event.specs.declared.pos.Pos.{Pos}
-use Rattle.ft_board.specs.Base.{Lane, Lanes, Events, event_at}
+use Rattle.ft_lanes.specs.Held.{Lane, Lanes, event_at}
+use Rattle.ft_board.specs.Base.{Events}
 
 -- the place of a CPU's line with this event (our own choice)
 abbrev pub place_of : ℕ → ℕ × Traced → Pos

@@ -6,12 +6,9 @@ use Rattle.ft_hist.specs.declared.item.KeyItem.{KeyItem}
 use Rattle.ft_hist.specs.declared.label.Var.TheVariants as vars
 use Rattle.ft_hist.specs.Hist.{Hist}
 use Rattle.ft_hist.specs.Matching.{keys_match}
-use Rattle.ft_board.specs.Base.{Lane, Triggers, Base, event_limit, trigger_limit, number_limit, held_in}
+use Rattle.ft_lanes.specs.Held.{Lane, event_limit, number_limit, held_in}
+use Rattle.ft_board.specs.Base.{Triggers, Base, trigger_limit, id_limit}
 use Rattle.ft_board.specs.Roles.{saves_name, saver_of}
-
--- an event fits the lanes: its CPU is at most 8,191 (our own choice)
-abbrev pub HasCpu : Traced → Type 0
-HasCpu event = event.cpu ≤ 8191
 
 -- no two attached triggers save one name (our own choice)
 abbrev pub HasOneSaver : Triggers → Type 0
@@ -38,7 +35,7 @@ pub record IsReachable (base : Base) : Type 0 where
   pub numbers : (cpu : ℕ) (lane : Lane) → map.get base.lanes cpu ≡ Some lane → (1 ≤ lane.next) × (lane.next ≤ number_limit + 1)
   pub lines : (cpu : ℕ) (lane : Lane) → map.get base.lanes cpu ≡ Some lane → (line : ℕ) (event : Traced) → map.get lane.events line ≡ Some event → (1 ≤ line) × (line < lane.next) × (event.cpu ≡ cpu)
   pub ids : (id : ℕ) (hist : Hist) → map.get base.triggers id ≡ Some hist → (1 ≤ id) × (id < base.next_id)
-  pub next_id : (1 ≤ base.next_id) × (base.next_id ≤ number_limit + 1)
+  pub next_id : (1 ≤ base.next_id) × (base.next_id ≤ id_limit + 1)
   pub few_events : held_in base.lanes ≤ event_limit
   pub few_triggers : map.len base.triggers ≤ trigger_limit
   pub one_saver : HasOneSaver base.triggers

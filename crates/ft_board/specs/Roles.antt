@@ -19,6 +19,15 @@ saves_name name variable = false
 unfoldable pub saver_of : Triggers → List ℕ → Option ℕ
 saver_of triggers name = option_map (λ attached. attached.0) (find (λ attached. saves_name name attached.1.variable) (map.entries triggers))
 
+-- the variable reads another, saved under this name (kernel: histogram.rst, inter-event hist triggers)
+abbrev pub reads_name : List ℕ → Option Var → Bool
+reads_name name (Some (vars.Reads own source)) = bytes_eq source name
+reads_name name variable = false
+
+-- an attached trigger that reads a name, the first by id (kernel: histogram.rst, inter-event hist triggers)
+unfoldable pub reader_of : Triggers → List ℕ → Option ℕ
+reader_of triggers name = option_map (λ attached. attached.0) (find (λ attached. reads_name name attached.1.variable) (map.entries triggers))
+
 -- what a trigger does with its variable; where nobody saves what it reads, it reads that of 0, who is nobody (our own choice)
 abbrev pub role_of : Triggers → Option Var → Role
 role_of triggers None = Plain

@@ -6,19 +6,19 @@ ghost use Rattle.std.specs.FinMap as map;
 ghost use Rattle.ft_hist.specs.Hist.{Hist};
 ghost use Rattle.ft_maps.specs.Seen.{seen};
 ghost use Rattle.ft_table.specs.Rows.{AllFit};
-ghost use Rattle.ft_board.specs.After.{AnswerIs};
+ghost use Rattle.ft_board.specs.Edited.{AnswerIs};
 ghost use Rattle.ft_board.specs.Answers.{heading, tally_at, tally_text, latency_of, line_at};
 ghost use Rattle.ft_board.specs.Answers.{hist_from, totals_from, latencies_from};
 ghost use Rattle.ft_board.specs.Merged.{merged};
 ghost use Rattle.ft_board.specs.Shelves.{tally_on, is_reader};
 
-use crate::lane::Lane;
 use crate::refused::{Latency, Place, Refused};
 use crate::replay::replayed;
 use crate::role::Pair;
 use crate::shelf::Shelf;
 use ft_event::Pos;
 use ft_hist::{Trigger, Var, Work};
+use ft_lanes::Lanes;
 use ft_maps::get;
 use ft_table::Totals;
 use std::alloc::{AllocError, Global};
@@ -28,13 +28,13 @@ use std::collections::BTreeMap;
 /// memory.
 pub(crate) fn hist_from(
     alloc: Global,
-    lanes: &BTreeMap<u16, Lane>,
+    lanes: &Lanes,
     triggers: &BTreeMap<u32, Trigger>,
     id: u32,
     work: &mut Work,
 ) -> Result<Vec<u8>, Refused>
     ensures { AnswerIs (λ text. text.items)
-        (hist_from (seen nat_cmp triggers.now) (merged (seen nat_cmp lanes.now)) id) result }
+        (hist_from (seen nat_cmp triggers.now) (merged lanes.now) id) result }
 {
     let Some(trigger) = get(triggers, &id) else {
         return Err(Refused::NoTrigger);
@@ -51,13 +51,13 @@ pub(crate) fn hist_from(
 /// The totals of the trigger with an id. Refused where no trigger has the id, or for memory.
 pub(crate) fn totals_from(
     alloc: Global,
-    lanes: &BTreeMap<u16, Lane>,
+    lanes: &Lanes,
     triggers: &BTreeMap<u32, Trigger>,
     id: u32,
     work: &mut Work,
 ) -> Result<Totals, Refused>
     ensures { AnswerIs (λ totals. totals)
-        (totals_from (seen nat_cmp triggers.now) (merged (seen nat_cmp lanes.now)) id) result }
+        (totals_from (seen nat_cmp triggers.now) (merged lanes.now) id) result }
 {
     if get(triggers, &id).is_none() {
         return Err(Refused::NoTrigger);
@@ -72,13 +72,13 @@ pub(crate) fn totals_from(
 /// variable, or for memory.
 pub(crate) fn latencies_from(
     alloc: Global,
-    lanes: &BTreeMap<u16, Lane>,
+    lanes: &Lanes,
     triggers: &BTreeMap<u32, Trigger>,
     id: u32,
     work: &mut Work,
 ) -> Result<Vec<Latency>, Refused>
     ensures { AnswerIs (λ latencies. latencies.items)
-        (latencies_from (seen nat_cmp triggers.now) (merged (seen nat_cmp lanes.now)) id) result }
+        (latencies_from (seen nat_cmp triggers.now) (merged lanes.now) id) result }
 {
     let Some(trigger) = get(triggers, &id) else {
         return Err(Refused::NoTrigger);
@@ -98,14 +98,14 @@ pub(crate) fn latencies_from(
 /// The shelf of an attached trigger after all held events. Refused for memory.
 fn shelf_at(
     alloc: Global,
-    lanes: &BTreeMap<u16, Lane>,
+    lanes: &Lanes,
     triggers: &BTreeMap<u32, Trigger>,
     id: u32,
     work: &mut Work,
 ) -> Result<Shelf, AllocError>
     requires { IsSome (map.get (seen nat_cmp triggers.now) id) }
     ensures tally { IfOk result (λ shelf. tally_on shelf
-        ≡ tally_at (seen nat_cmp triggers.now) (merged (seen nat_cmp lanes.now)) id) }
+        ≡ tally_at (seen nat_cmp triggers.now) (merged lanes.now) id) }
     ensures fit { IfOk result (λ shelf. (hist : Hist)
         → map.get (seen nat_cmp triggers.now) id ≡ Some hist → AllFit shelf.table hist) }
 {

@@ -1,6 +1,7 @@
 //! What an edit answers.
 
 use ft_event::LineFault;
+use ft_filter::FilterFault;
 use ft_trigger::TriggerFault;
 
 /// An accepted edit: its value, and whether the kept tables are up to date.
@@ -53,12 +54,20 @@ pub enum Refused {
     BadLine(u64, LineFault),
     /// The CPU's lane is held already.
     LaneHeld(u32),
-    /// More than 1,048,576 events would be held.
+    /// No lane of the CPU is held.
+    NoLane(u32),
+    /// The lane has no such line, or the line to insert is one that is skipped.
+    NoEvent,
+    /// More than 1,048,576 events would be held, or a line number would pass 4,294,967,295.
     Full,
     /// The trigger's text cannot be read.
     BadTrigger(TriggerFault),
+    /// The filter's text cannot be read.
+    BadFilter(FilterFault),
     /// No trigger with that id is attached.
     NoTrigger,
+    /// The trigger saves a variable that the trigger with this id reads, the first by id.
+    InUse(u32),
     /// The trigger saves a variable of a name that the trigger with this id saves already.
     NameTaken(u32),
     /// The trigger reads a variable that no attached trigger saves.
@@ -86,9 +95,13 @@ impl Refused {
             Refused::NoFile => 2,
             Refused::BadLine(_, _) => 3,
             Refused::LaneHeld(_) => 4,
+            Refused::NoLane(_) => 5,
+            Refused::NoEvent => 6,
             Refused::Full => 7,
             Refused::BadTrigger(_) => 8,
+            Refused::BadFilter(_) => 9,
             Refused::NoTrigger => 10,
+            Refused::InUse(_) => 11,
             Refused::NameTaken(_) => 12,
             Refused::NoVariable => 13,
             Refused::KeyMismatch => 14,

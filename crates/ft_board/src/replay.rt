@@ -14,13 +14,13 @@ ghost use Rattle.ft_board.specs.Shelves.{AllBeforePlace};
 ghost use Rattle.ft_board.specs.Variables.{variable_cmp};
 
 use crate::act::act;
-use crate::lane::Lane;
 use crate::merge::merged_events;
 use crate::role::Variable;
 use crate::roles::role_of;
 use crate::shelf::Shelf;
 use ft_event::{Event, Pos};
 use ft_hist::{Trigger, Work};
+use ft_lanes::Lanes;
 use ft_maps::{entries, put};
 use ft_pairs::At;
 use std::alloc::{AllocError, Global};
@@ -29,19 +29,19 @@ use std::collections::BTreeMap;
 /// The shelf of each attached trigger after all held events. Refused for memory.
 pub(crate) fn replayed(
     alloc: Global,
-    lanes: &BTreeMap<u16, Lane>,
+    lanes: &Lanes,
     triggers: &BTreeMap<u32, Trigger>,
     work: &mut Work,
 ) -> Result<BTreeMap<u32, Shelf>, AllocError>
     ensures tallies { IfOk result (λ shelves. map_by tally_on (seen nat_cmp shelves)
-        ≡ (replay (seen nat_cmp triggers.now) (merged (seen nat_cmp lanes.now))).tallies) }
+        ≡ (replay (seen nat_cmp triggers.now) (merged lanes.now)).tallies) }
     ensures shelved { IfOk result (λ shelves.
         AreShelved (seen nat_cmp triggers.now) (seen nat_cmp shelves)) }
 {
-    let merged = merged_events(alloc, lanes)?;
+    let merged = merged_events(alloc, lanes, triggers)?;
     let mut shelves = new_shelves(alloc, triggers)?;
     let mut saved = BTreeMap::new(alloc);
-    for (pos, event) in entries(&merged) {
+    for (pos, event) in &merged {
         step(triggers, *pos, event, &mut shelves, &mut saved, work)?;
     }
     Ok(shelves)

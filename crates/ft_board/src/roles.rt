@@ -4,7 +4,8 @@ ghost use Rattle.std.specs.Prelude.{◌≡◌};
 ghost use Rattle.std.specs.Ordering.{nat_cmp};
 ghost use Rattle.std.specs.Option.{option_copied};
 ghost use Rattle.ft_maps.specs.Seen.{seen};
-ghost use Rattle.ft_board.specs.Roles.{saves_name, saver_of, role_of};
+ghost use Rattle.ft_board.specs.After.{reader_on};
+ghost use Rattle.ft_board.specs.Roles.{saves_name, reads_name, saver_of, reader_of, role_of};
 
 use crate::role::Role;
 use ft_hist::{Trigger, Var};
@@ -31,6 +32,39 @@ pub(crate) fn saver_of(triggers: &BTreeMap<u32, Trigger>, name: &[u8]) -> Option
         }
     }
     None
+}
+
+/// Whether a variable reads one that is saved under a name.
+fn reads_name(variable: Option<&Var>, name: &[u8]) -> bool
+    ensures { result ≡ reads_name name.now (option_copied variable.entry) }
+{
+    match variable {
+        Some(Var::Reads { source, .. }) => source.bytes() == name,
+        Some(Var::Saves(_)) | None => false,
+    }
+}
+
+/// The id of an attached trigger that reads a name, the first by id.
+fn reader_of(triggers: &BTreeMap<u32, Trigger>, name: &[u8]) -> Option<u32>
+    ensures { result ≡ reader_of (seen nat_cmp triggers.now) name.now }
+{
+    for (id, trigger) in entries(triggers) {
+        if reads_name(trigger.variable(), name) {
+            return Some(*id);
+        }
+    }
+    None
+}
+
+/// The id of an attached trigger that reads what a trigger with this variable saves, the first by
+/// id.
+pub(crate) fn reader_on(triggers: &BTreeMap<u32, Trigger>, variable: Option<&Var>) -> Option<u32>
+    ensures { result ≡ reader_on (seen nat_cmp triggers.now) (option_copied variable.entry) }
+{
+    match variable {
+        Some(Var::Saves(label)) => reader_of(triggers, label.bytes()),
+        Some(Var::Reads { .. }) | None => None,
+    }
 }
 
 /// What a trigger with a variable does with it.

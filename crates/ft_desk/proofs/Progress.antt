@@ -1,7 +1,7 @@
 -- What a run has done while it reads a script, and how each ending follows.
-use Rattle.std.proofs.Common.{◌≡◌, ◌≢◌, ℕ, ◌≤◌, Bool, false, List, [], ◌∷◌, ◌++◌, All, Option, Result, Ok, length, take, refl, sym, ap, subst, ◌∙◌, ⊎_elim, append_assoc, append-nil, arith}
+use Rattle.std.proofs.Common.{◌≡◌, ◌≢◌, ℕ, ◌≤◌, Bool, false, List, [], ◌∷◌, ◌++◌, All, Option, None, Some, IfSome, Result, Ok, length, take, refl, sym, ap, subst, ◌∙◌, ⊎_elim, append-nil, arith}
 use Rattle.std.specs.Prelude.{◌||◌}
-use Rattle.std.specs.Io.KnownBytes.{Appends, Consumes}
+use Rattle.std.specs.Io.KnownBytes.{Keeps, Appends, Consumes, IsAtEnd}
 use Rattle.std.proofs.KnownBytes.{Consumes-nil, Consumes-trans, Appends-nil, Appends-trans}
 use Rattle.std.proofs.lemmas.List.{take_all, take-append-le, take-take, length-take, length-take-le}
 use Rattle.std.proofs.lemmas.Bool.{cases_lt}
@@ -11,6 +11,7 @@ use Rattle.ft_desk.specs.declared.running.RunFault.{RunFault}
 use Rattle.ft_desk.specs.Lines.{lines_of, ended_lines}
 use Rattle.ft_desk.specs.Script.{asked_by}
 use Rattle.ft_desk.specs.Output.{outcome, output_from, output_of_lines}
+use Rattle.ft_desk.specs.Run.{ReadsWhole, ReadsFront, ReadsLines}
 use Rattle.ft_desk.specs.Steps.{AddsPart, TakingGives, LineGives}
 use Rattle.ft_desk.proofs.LineLemmas.{last_piece, lines_of-split, lines_of-plain, last_piece-plain, ended_lines-part, ended_lines-line}
 use Rattle.ft_desk.proofs.OutputLemmas.{output_from-push, asked_by-kept}
@@ -24,11 +25,6 @@ take-take-append n xs ys =
     (λ all. ap (λ l. take n (l ++ ys)) (take_all n xs all))
     (cases_lt n (length xs))
 
--- a list behind which something stands isn't empty
-pub append-some : (xs ys : List ℕ) → ys ≢ [] → xs ++ ys ≢ []
-append-some [] ys some = some
-append-some (x ∷ xs) ys some = λ e. absurd (cc)
-
 -- a kept piece isn't empty where the line isn't
 pub kept-some : (line piece : List ℕ) → piece ≡ take 8193 line → piece ≢ [] → line ≢ []
 kept-some line piece kept some = λ none. some (kept ∙ ap (take 8193) none ∙ take_all 8193 [] (omega arith))
@@ -38,41 +34,39 @@ pub kept-none : (line piece : List ℕ) → piece ≡ take 8193 line → piece �
 kept-none [] piece kept none = refl
 kept-none (byte ∷ bytes) piece kept none = absurd (omega (arith, ap length (sym kept ∙ none), length-take 8193 (byte ∷ bytes)))
 
--- the next line of a script of which this was read, whose piece this is
-pub record Next (script read piece : List ℕ) : Type 0 where
-  pub line : List ℕ
-  pub more : List (List ℕ)
-  pub lines : lines_of script ≡ ended_lines read ++ line ∷ more
-  pub asked : asked_by piece ≡ asked_by line
+-- a script of which nothing is left was read to its end
+pub all_read : (reader left rest : Option (List ℕ)) (read : List ℕ) → Consumes reader left read → Keeps left rest → IsAtEnd left → ReadsWhole reader rest read
+all_read None left rest read consumed kept end = (tt, tt)
+all_read (Some script) None rest read consumed kept end = absurd consumed
+all_read (Some script) (Some bytes) None read consumed kept end = absurd kept
+all_read (Some script) (Some bytes) (Some further) read consumed kept end = (consumed ∙ ap (λ l. read ++ l) (sym kept), kept ∙ end)
 
--- a line that its end was read of
-pub line_next : (script read part rest piece : List ℕ) → script ≡ read ++ ((part ++ 10 ∷ []) ++ rest) → All (λ byte. byte ≢ 10) part
-    → piece ≡ take 8193 (last_piece read ++ part) → Next script read piece
-line_next script read part rest piece is plain kept =
-    let whole = part ++ 10 ∷ [] in
-    let ended = ended_lines-line read part plain in
-    record {
-      line = last_piece read ++ part;
-      more = lines_of rest;
-      lines =
-          ap lines_of (is ∙ sym (append_assoc read whole rest)) ∙ lines_of-split (read ++ whole) rest ∙ rw (ended.0, ended.1)
-          (append_assoc (ended_lines read) ((last_piece read ++ part) ∷ []) (lines_of rest));
-      asked = ap asked_by kept ∙ asked_by-kept (last_piece read ++ part);
-    }
+-- and one of which something is left was not
+pub front_read : (reader left rest : Option (List ℕ)) (read : List ℕ) → Consumes reader left read → Keeps left rest → IfSome left (λ bytes. bytes ≢ []) → ReadsFront reader rest read
+front_read None left rest read consumed kept some = (tt, tt)
+front_read (Some script) None rest read consumed kept some = absurd consumed
+front_read (Some script) (Some bytes) None read consumed kept some = absurd kept
+front_read (Some script) (Some bytes) (Some further) read consumed kept some = (consumed ∙ ap (λ l. read ++ l) (sym kept), λ end. some (sym kept ∙ end))
 
--- the lines of a script that was read whole, where its last line has no end
-pub last_lines : (script read : List ℕ) → script ≡ read ++ [] → last_piece read ≢ [] → lines_of script ≡ ended_lines read ++ last_piece read ∷ []
-last_lines script read is some =
-    ap lines_of is ∙ lines_of-split read [] ∙ ap (λ l. ended_lines read ++ lines_of l) (append-nil (last_piece read)) ∙ ap (λ l. ended_lines read ++ l) (one (last_piece read) (last_piece-plain read) some)
+-- the lines of a script whose last line has no end
+pub last_lines : (read : List ℕ) → last_piece read ≢ [] → lines_of read ≡ ended_lines read ++ last_piece read ∷ []
+last_lines read some =
+    ap lines_of (sym (append-nil read)) ∙ lines_of-split read [] ∙ ap (λ l. ended_lines read ++ lines_of l) (append-nil (last_piece read)) ∙ ap (λ l. ended_lines read ++ l) (one (last_piece read) (last_piece-plain read) some)
   where
     one : (line : List ℕ) → All (λ byte. byte ≢ 10) line → line ≢ [] → lines_of line ≡ line ∷ []
     one [] plain some = absurd (some refl)
     one (byte ∷ bytes) plain some = lines_of-plain byte bytes plain
 
--- and where it has
-pub whole_lines : (script read : List ℕ) → script ≡ read ++ [] → last_piece read ≡ [] → lines_of script ≡ ended_lines read
-whole_lines script read is none =
-    ap lines_of is ∙ lines_of-split read [] ∙ ap (λ l. ended_lines read ++ lines_of (l ++ [])) none ∙ append-nil (ended_lines read)
+-- and where it has one
+pub whole_lines : (read : List ℕ) → last_piece read ≡ [] → lines_of read ≡ ended_lines read
+whole_lines read none =
+    ap lines_of (sym (append-nil read)) ∙ lines_of-split read [] ∙ ap (λ l. ended_lines read ++ lines_of (l ++ [])) none ∙ append-nil (ended_lines read)
+
+-- the line behind those that are done: its piece asks for what it asks for, and it was read
+pub record Next (reader rest : Option (List ℕ)) (read piece : List ℕ) : Type 0 where
+  pub line : List ℕ
+  pub reads : ReadsLines reader rest (ended_lines read ++ line ∷ [])
+  pub asked : asked_by piece ≡ asked_by line
 
 -- what was read, and what is known by it: the piece is the beginning of the last line, and the lines before it are done
 pub record Progress (files : List (List ℕ)) (reader left before after : Option (List ℕ)) (base : Base) (refused : Bool) (piece : List ℕ) : Type 0 where

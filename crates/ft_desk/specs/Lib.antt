@@ -3,11 +3,12 @@ pub mod Reading
 pub mod Script
 pub mod Command
 pub mod Answered
+pub mod Edits
+pub mod Refusals
 pub mod Output
 pub mod Printed
-pub mod Steps
 pub mod Run
-pub mod Shown
+pub mod Steps
 pub mod Files
 pub mod Words
 pub mod Program
@@ -15,6 +16,8 @@ pub use Rattle.ft_event.specs.Traced
 pub use Rattle.ft_event.specs.Line
 pub use Rattle.ft_event.specs.LineFault
 pub use Rattle.ft_event.specs.Names
+pub use Rattle.ft_filter.specs.Tree
+pub use Rattle.ft_filter.specs.Answers as FilterAnswers
 pub use Rattle.ft_filter.specs.FilterFault
 pub use Rattle.ft_trigger.specs.Hist
 pub use Rattle.ft_trigger.specs.TriggerFault
@@ -23,4 +26,6 @@ pub use Rattle.ft_board.specs.Refused
 pub use Rattle.ft_board.specs.Codes
 pub use Rattle.ft_board.specs.Base
 pub use Rattle.ft_board.specs.After
+pub use Rattle.ft_board.specs.Edited
+pub use Rattle.ft_board.specs.Shown
 pub use Rattle.ft_board.specs.Answers

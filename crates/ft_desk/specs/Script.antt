@@ -1,6 +1,6 @@
 -- What a line of the script asks for. All of it is our own choice.
-use Rattle.std.specs.Prelude.{ℕ, Bool, not, ◌&&◌, ◌||◌, List, [], ◌∷◌, length, reverse, Option, Some, None, nat_lt, nat_le, ◌==◌, if◌then◌else◌, codes, slice_index}
-use Rattle.std.specs.List.{list_all, take_while}
+use Rattle.std.specs.Prelude.{ℕ, Bool, not, ◌&&◌, ◌||◌, List, [], ◌∷◌, length, take, drop, reverse, Option, Some, None, nat_lt, nat_le, ◌==◌, if◌then◌else◌, codes, slice_index}
+use Rattle.std.specs.List.{list_all, find, take_while, before_first, after_first}
 use Rattle.std.specs.Option.{option_map_or}
 use Rattle.std.specs.Char.{is_ascii_digit}
 use Rattle.std.specs.Str.{bytes_eq}
@@ -12,10 +12,16 @@ use Rattle.ft_event.specs.Names.{name_called}
 pub data Asked : Type 0 where
   Nothing : Asked
   Load : ℕ → Asked
+  Unload : ℕ → Asked
+  Insert : List ℕ → Asked
+  Strike : ℕ → ℕ → Asked
   Attach : Name → List ℕ → Asked
+  Refilter : ℕ → Option (List ℕ) → Asked
+  Remove : ℕ → Asked
   Hist : ℕ → Asked
   Totals : ℕ → Asked
   Latencies : ℕ → Asked
+  Lane : ℕ → Asked
   NoForm : Asked
 
 -- the most bytes of a script line
@@ -62,21 +68,62 @@ load_in (byte ∷ digits) = if byte == 64 then option_map_or Load (number_in dig
 unfoldable pub attach_in : List ℕ → Asked
 attach_in text = option_map_or (λ name. Attach name (after_word text)) (name_called (first_word text)) NoForm
 
--- behind the word of an answer: the trigger's id
-unfoldable pub about : (ℕ → Asked) → List ℕ → Asked
-about answer text = option_map_or answer (number_in text) NoForm
+-- a colon, byte 58
+abbrev pub is_colon : ℕ → Bool
+is_colon byte = byte == 58
+
+-- the numbers of a CPU and of a line, where both stand
+abbrev pub struck : Option ℕ → Option ℕ → Asked
+struck cpu None = NoForm
+struck None (Some line) = NoForm
+struck (Some cpu) (Some line) = Strike cpu line
+
+-- behind `strike`: `C:L`, a CPU's number and a line's number
+unfoldable pub strike_in : List ℕ → Asked
+strike_in text = struck (number_in (before_first is_colon text)) (number_in (after_first is_colon text))
+
+-- behind a trigger's id: `if` and a filter's text, which may be empty, or `none` alone
+unfoldable pub refilter_in : ℕ → List ℕ → Asked
+refilter_in id text =
+    if bytes_eq text (codes "none") then Refilter id None
+    else (if bytes_eq (first_word text) (codes "if") then Refilter id (Some (after_word text)) else NoForm)
+
+-- behind `filter`: a trigger's id, and its new filter or none
+unfoldable pub filter_in : List ℕ → Asked
+filter_in text = option_map_or (λ id. refilter_in id (after_word text)) (number_in (first_word text)) NoForm
+
+-- the words of the commands about one number, each with what it asks
+abbrev pub numbered_words : List (List ℕ × (ℕ → Asked))
+numbered_words =
+    (codes "unload", Unload) ∷ (codes "remove", Remove) ∷ (codes "hist", Hist) ∷
+    (codes "totals", Totals) ∷ (codes "lat", Latencies) ∷ (codes "list", Lane) ∷ []
+
+-- a command about one number, by its word
+abbrev pub numbered : List ℕ → ℕ → Asked
+numbered word number = option_map_or (λ form. form.1 number) (find (λ form. bytes_eq word form.0) numbered_words) NoForm
+
+-- the words of the other commands, each with how what is behind it is read
+abbrev pub worded_forms : List (List ℕ × (List ℕ → Asked))
+worded_forms = (codes "load", load_in) ∷ (codes "strike", strike_in) ∷ (codes "attach", attach_in) ∷ (codes "filter", filter_in) ∷ []
 
 -- a command by its first word
 unfoldable pub worded : List ℕ → Asked
 worded text =
-    if bytes_eq (first_word text) (codes "load") then load_in (after_word text)
-    else (if bytes_eq (first_word text) (codes "attach") then attach_in (after_word text)
-    else (if bytes_eq (first_word text) (codes "hist") then about Hist (after_word text)
-    else (if bytes_eq (first_word text) (codes "totals") then about Totals (after_word text)
-    else (if bytes_eq (first_word text) (codes "lat") then about Latencies (after_word text) else NoForm))))
+    option_map_or (λ form. form.1 (after_word text)) (find (λ form. bytes_eq (first_word text) form.0) worded_forms)
+    (option_map_or (numbered (first_word text)) (number_in (after_word text)) NoForm)
+
+-- what stands behind one space, or an end
+abbrev pub behind_space : List ℕ → Option (List ℕ)
+behind_space [] = Some []
+behind_space (byte ∷ bytes) = if byte == 32 then Some bytes else None
+
+-- the line of a trace behind `insert` and one space, byte for byte, where they begin the line; `insert` alone has the empty one
+unfoldable pub inserted : List ℕ → Option (List ℕ)
+inserted line = if bytes_eq (take 6 line) (codes "insert") then behind_space (drop 6 line) else None
 
 -- what a line asks for: nothing where it is empty, of spaces, or begins with `#`; a longer line than 8,192 bytes has no form
 unfoldable pub asked_by : List ℕ → Asked
 asked_by line =
     if nat_lt line_limit (length line) then NoForm
-    else (if list_all is_space line || slice_index line 0 == 35 then Nothing else worded (trimmed line))
+    else (if list_all is_space line || slice_index line 0 == 35 then Nothing
+    else option_map_or Insert (inserted line) (worded (trimmed line)))

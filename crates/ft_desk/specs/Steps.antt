@@ -1,6 +1,5 @@
 -- The steps of a run: what taking a part of the script, a line of it, and the flush at its end do to the bytes that are left and written. All of it is our own choice.
 use Rattle.std.specs.Prelude.{◌≡◌, ◌≢◌, ℕ, ◌+◌, ◌<◌, ◌⊎◌, Bool, List, [], ◌∷◌, ◌++◌, All, length, take, slice_index, Option, IfSome, Result, Ok, Err}
-use Rattle.std.specs.Io.{StartsWith}
 use Rattle.std.specs.Io.KnownBytes.{Keeps, Appends, Consumes, IsAtEnd}
 use Rattle.ft_desk.specs.declared.pieces.Taken.{Taken}
 use Rattle.ft_desk.specs.declared.pieces.Taken.TheVariants as takes
@@ -10,10 +9,7 @@ use Rattle.ft_desk.specs.declared.running.RunFault.TheVariants as faults
 use Rattle.ft_board.specs.Base.{Base}
 use Rattle.ft_desk.specs.Script.{line_limit}
 use Rattle.ft_desk.specs.Output.{Outcome}
-
--- a beginning of the text was written
-abbrev pub WritesFront : Option (List ℕ) → Option (List ℕ) → List ℕ → Type 0
-WritesFront before after text = (written : List ℕ) × Appends before after written × StartsWith text written
+use Rattle.ft_desk.specs.Run.{WritesFront}
 
 -- a line's end stands at this place, or the bytes end there
 abbrev pub CutsAt : Taken → List ℕ → ℕ → Type 0
@@ -31,7 +27,7 @@ TakingGives (Ok takes.Part) left rest before after = (part : List ℕ) × Consum
 TakingGives (Ok takes.Line) left rest before after = (part : List ℕ) × Consumes left rest (part ++ 10 ∷ []) × AddsPart before after part
 TakingGives (Ok takes.End) left rest before after = Keeps left rest × IsAtEnd left × (after ≡ before)
 TakingGives (Err faults.Read) left rest before after = Keeps left rest
-TakingGives (Err faults.Memory) left rest before after = IfSome left (λ bytes. bytes ≢ [])
+TakingGives (Err faults.Memory) left rest before after = Keeps left rest × IfSome left (λ bytes. bytes ≢ [])
 TakingGives (Err faults.Write) left rest before after = ⊥
 
 -- what a line left: its base, and its text written whole; nothing written where it found no memory; or a beginning of its text

@@ -1,13 +1,17 @@
 //! The desk over a board.
 
-ghost use Rattle.std.specs.Prelude.{◌≡◌};
-ghost use Rattle.ft_board.specs.After.{AnswerIs};
+ghost use Rattle.std.specs.Prelude.{◌≡◌, ◌≢◌, option_map, IfOk};
+ghost use Rattle.std.specs.Option.{option_copied, ForSome};
+ghost use Rattle.ft_board.specs.Edited.{AnswerIs};
+ghost use Rattle.ft_filter.specs.Answers.{filter_of};
 ghost use Rattle.ft_trigger.specs.TriggerIs.{trigger_of};
-ghost use Rattle.ft_desk.specs.Output.{trigger_for, trigger_or_refused, refused_for};
+ghost use Rattle.ft_desk.specs.Edits.{trigger_for, trigger_or_refused, refused_for};
+ghost use Rattle.ft_desk.specs.Edits.{filter_for, filter_or_refused, filter_refused};
 
-use crate::events::events_in;
-use ft_board::{Board, Done, Latency, Refused};
+use crate::events::{event_in, events_in};
+use ft_board::{Board, Done, Latency, Place, Refused};
 use ft_event::Name;
+use ft_filter::{Filter, FilterFault};
 use ft_table::Totals;
 use ft_trigger::{Trigger, TriggerFault, parse};
 use std::alloc::Global;
@@ -21,25 +25,29 @@ pub struct Desk<B: Board> {
 }
 
 impl<B: Board> Model for Desk<B> {
-    ghost use Rattle.ft_desk.specs.Shown.{Shown, shown_code};
+    ghost use Rattle.ft_board.specs.Codes.{shown_code};
+    ghost use Rattle.ft_board.specs.Shown.{Shown};
 
     ghost Value = { Shown };
 
     ghost coded = { shown_code };
 
-    ghost view = { λ d. record { base = B.content d.board; deferred = B.deferred d.board } };
+    ghost view = { λ d. B.shown d.board };
 }
 
 impl<B: Board> Desk<B> {
-    ghost use Rattle.std.specs.Prelude.{◌≡◌};
-    ghost use Rattle.ft_board.specs.After.{EditGives, AnswersFrom};
-    ghost use Rattle.ft_board.specs.Answers.{hist_text, totals, latencies};
-    ghost use Rattle.ft_desk.specs.Output.{after_load_text, after_attach_text};
+    ghost use Rattle.std.specs.Prelude.{◌≡◌, ◌≢◌, Err};
+    ghost use Rattle.std.specs.Option.{option_copied};
+    ghost use Rattle.ft_board.specs.declared.refused.Refused.TheVariants.{Memory};
+    ghost use Rattle.ft_board.specs.After.{after_unload, after_strike, after_remove};
+    ghost use Rattle.ft_board.specs.Edited.{EditGives, AnswersFrom, AnswerIs};
+    ghost use Rattle.ft_board.specs.Answers.{hist_text, totals, latencies, list_text};
+    ghost use Rattle.ft_desk.specs.Edits.{after_load_text, after_insert_text};
+    ghost use Rattle.ft_desk.specs.Edits.{after_attach_text, after_refilter_text};
 
     /// A desk over a board, as the board is.
     pub fn new(alloc: Global, board: B) -> Desk<B>
-        ensures base { result.base ≡ B.content board }
-        ensures deferred { result.deferred ≡ B.deferred board }
+        ensures { result ≡ B.shown board }
     {
         Desk { board, alloc }
     }
@@ -48,11 +56,41 @@ impl<B: Board> Desk<B> {
     /// first line that cannot be read, where a lane is held, where too many events would be, or for
     /// memory.
     pub fn load(&mut self, text: &[u8]) -> Result<Done<u64>, Refused>
-        ensures { EditGives (after_load_text self.old.base text.now)
-            self.old.base self.new.base self.old.deferred self.new.deferred result }
+        ensures { EditGives (λ count. count) (after_load_text self.old.base text.now)
+            self.old self.new result }
     {
         let events = events_in(self.alloc, text)?;
         self.board.load(events)
+    }
+
+    /// Takes the lane of a CPU away: how many events it had. Refused where the lane is not held.
+    pub fn unload(&mut self, cpu: u32) -> Result<Done<u64>, Refused>
+        ensures gives { EditGives (λ count. count) (after_unload self.old.base cpu)
+            self.old self.new result }
+        ensures memory { result ≢ Err Memory }
+    {
+        self.board.unload(cpu)
+    }
+
+    /// Adds the event of a trace line, which has no line break, at the next line of its CPU's lane:
+    /// the event's place. Refused where the line cannot be read or holds no event, where too many
+    /// events would be or the lane's line numbers are used up, or for memory.
+    pub fn insert(&mut self, line: &[u8]) -> Result<Done<Place>, Refused>
+        ensures { EditGives (λ place. place) (after_insert_text self.old.base line.now)
+            self.old self.new result }
+    {
+        let event = event_in(line)?;
+        self.board.insert(event)
+    }
+
+    /// Takes the event of a CPU's line away: its place. Refused where the lane is not held, or has
+    /// no such line.
+    pub fn strike(&mut self, cpu: u32, line: u32) -> Result<Done<Place>, Refused>
+        ensures gives { EditGives (λ place. place) (after_strike self.old.base cpu line)
+            self.old self.new result }
+        ensures memory { result ≢ Err Memory }
+    {
+        self.board.strike(cpu, line)
     }
 
     /// Attaches a trigger's text to an event: the trigger's id. Refused for another event than
@@ -60,17 +98,40 @@ impl<B: Board> Desk<B> {
     /// ids are used up, where its variable's name is saved already, where nobody saves what it
     /// reads, where its keys don't match its saver's, or for memory.
     pub fn attach(&mut self, event: Name, text: &[u8]) -> Result<Done<u32>, Refused>
-        ensures { EditGives (after_attach_text self.old.base event text.now)
-            self.old.base self.new.base self.old.deferred self.new.deferred result }
+        ensures { EditGives (λ id. id) (after_attach_text self.old.base event text.now)
+            self.old self.new result }
     {
         let trigger = read_trigger(self.alloc, event, text)?;
         self.board.attach(trigger)
     }
 
+    /// Gives a trigger the filter of a text, or none, for the events held and for those to come: the
+    /// trigger's id. Refused where no trigger has the id, where the text cannot be read, or for
+    /// memory.
+    pub fn refilter(&mut self, id: u32, text: Option<&[u8]>) -> Result<Done<u32>, Refused>
+        ensures { EditGives (λ id. id)
+            (after_refilter_text self.old.base id (option_copied text.entry))
+            self.old self.new result }
+    {
+        let event = self.board.name_of(id).ok_or(Refused::NoTrigger)?;
+        let filter = read_filter(self.alloc, event, text)?;
+        self.board.refilter(id, filter)
+    }
+
+    /// Takes a trigger away: its id. Refused where no trigger has the id, or where it saves what
+    /// another reads.
+    pub fn remove(&mut self, id: u32) -> Result<Done<u32>, Refused>
+        ensures gives { EditGives (λ id. id) (after_remove self.old.base id)
+            self.old self.new result }
+        ensures memory { result ≢ Err Memory }
+    {
+        self.board.remove(id)
+    }
+
     /// The text of a trigger's table. Refused where no trigger has the id, or for memory.
     pub fn hist(&mut self, id: u32) -> Result<Vec<u8>, Refused>
         ensures { AnswersFrom (λ text. text.items) (hist_text self.old.base id)
-            self.old.base self.new.base self.old.deferred self.new.deferred result }
+            self.old self.new result }
     {
         self.board.hist(id)
     }
@@ -79,7 +140,7 @@ impl<B: Board> Desk<B> {
     /// room. Refused where no trigger has the id, or for memory.
     pub fn totals(&mut self, id: u32) -> Result<Totals, Refused>
         ensures { AnswersFrom (λ totals. totals) (totals self.old.base id)
-            self.old.base self.new.base self.old.deferred self.new.deferred result }
+            self.old self.new result }
     {
         self.board.totals(id)
     }
@@ -88,9 +149,16 @@ impl<B: Board> Desk<B> {
     /// where no trigger has the id, where it reads no variable, or for memory.
     pub fn latencies(&mut self, id: u32) -> Result<Vec<Latency>, Refused>
         ensures { AnswersFrom (λ latencies. latencies.items) (latencies self.old.base id)
-            self.old.base self.new.base self.old.deferred self.new.deferred result }
+            self.old self.new result }
     {
         self.board.latencies(id)
+    }
+
+    /// The text of a CPU's lane. Refused where the lane is not held, or for memory.
+    pub fn list(&self, cpu: u32) -> Result<Vec<u8>, Refused>
+        ensures { AnswerIs (λ text. text.items) (list_text self.now.base cpu) result }
+    {
+        self.board.list(cpu)
     }
 
     /// Whether the board is deferred: its kept tables lack an edit, and the next answer rebuilds
@@ -104,7 +172,8 @@ impl<B: Board> Desk<B> {
 
 /// Reads the text of a trigger on an event, which is one of the four named ones.
 fn read_trigger(alloc: Global, event: Name, text: &[u8]) -> Result<Trigger, Refused>
-    ensures { AnswerIs (λ trigger. trigger) (trigger_for event text.now) result }
+    ensures reads { AnswerIs (λ trigger. trigger) (trigger_for event text.now) result }
+    ensures event { IfOk result (λ trigger. trigger.event ≢ Name.Other) }
 {
     match event {
         Name::Waking | Name::Wakeup | Name::WakeupNew | Name::Switch => {
@@ -116,8 +185,9 @@ fn read_trigger(alloc: Global, event: Name, text: &[u8]) -> Result<Trigger, Refu
 
 /// Reads the text of a trigger on a named event.
 fn named_trigger(alloc: Global, event: Name, text: &[u8]) -> Result<Trigger, Refused>
-    ensures { AnswerIs (λ trigger. trigger)
+    ensures reads { AnswerIs (λ trigger. trigger)
         (trigger_or_refused (trigger_of event text.now)) result }
+    ensures event { IfOk result (λ trigger. trigger.event ≡ event) }
 {
     match parse(alloc, event, text) {
         Ok(trigger) => Ok(trigger),
@@ -132,5 +202,30 @@ fn refused_for(fault: TriggerFault) -> Refused
     match fault {
         TriggerFault::Memory => Refused::Memory,
         _ => Refused::BadTrigger(fault),
+    }
+}
+
+/// Reads the text of a filter on an event. No text is no filter.
+fn read_filter(alloc: Global, event: Name, text: Option<&[u8]>) -> Result<Option<Filter>, Refused>
+    ensures reads { AnswerIs (option_map (λ filter. filter.tree))
+        (filter_for event (option_copied text.entry)) result }
+    ensures event { IfOk result (λ filter. ForSome filter (λ f. f.event ≡ event)) }
+{
+    match text {
+        Some(text) => match ft_filter::parse(alloc, text, event) {
+            Ok(filter) => Ok(Some(filter)),
+            Err(fault) => Err(filter_refused(fault)),
+        },
+        None => Ok(None),
+    }
+}
+
+/// A filter's fault as a refusal. Want of memory is a refusal of its own.
+fn filter_refused(fault: FilterFault) -> Refused
+    ensures { result ≡ filter_refused fault }
+{
+    match fault {
+        FilterFault::Memory => Refused::Memory,
+        _ => Refused::BadFilter(fault),
     }
 }

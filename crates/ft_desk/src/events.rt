@@ -1,15 +1,16 @@
-//! The events of a trace text.
+//! The events of a trace text, and of one line.
 
-ghost use Rattle.std.specs.Prelude.{◌≡◌, ◌⊎◌, List, ◌++◌, ◌∷◌, [], Result, Err, OnOk, IfErr};
+ghost use Rattle.std.specs.Prelude.{◌≡◌, ◌==◌, false, ◌⊎◌, List, ◌++◌, ◌∷◌, [], Result, Err, OnOk, IfErr};
+ghost use Rattle.std.specs.List.{list_any};
 ghost use Rattle.ft_event.specs.Line.{line_of};
 ghost use Rattle.ft_event.specs.Traced.{Traced};
-ghost use Rattle.ft_board.specs.After.{AnswerIs};
-ghost use Rattle.ft_desk.specs.Output.{events_of, line_in_front};
+ghost use Rattle.ft_board.specs.Edited.{AnswerIs};
+ghost use Rattle.ft_desk.specs.Edits.{events_of, line_in_front, event_or_refused};
 ghost use Rattle.ft_desk.specs.Reading.{in_front};
 
 use crate::lines::next_line;
 use ft_board::Refused;
-use ft_event::{Event, Line, read_line};
+use ft_event::{Event, Line, read_cut_line, read_line};
 use std::alloc::Global;
 
 /// Reads every line of a trace text: its events in file order. Refused at the first line that
@@ -30,6 +31,7 @@ pub(crate) fn events_in(alloc: Global, text: &[u8]) -> Result<Vec<Event>, Refuse
 
 /// Adds the event of the line of this number, if the line is not skipped.
 fn add_line(events: &mut Vec<Event>, number: u64, line: &[u8]) -> Result<(), Refused>
+    requires { list_any (λ b. b == 10) line.now ≡ false }
     ensures ok { OnOk result ((behind : Result (List Traced) Refused) →
         in_front events.old.items (line_in_front number (line_of line.now) behind)
         ≡ in_front events.new.items behind) }
@@ -37,13 +39,26 @@ fn add_line(events: &mut Vec<Event>, number: u64, line: &[u8]) -> Result<(), Ref
         ⊎ ((behind : Result (List Traced) Refused) →
         line_in_front number (line_of line.now) behind ≡ Err refused)) }
 {
-    match read_line(line) {
+    match read_cut_line(line) {
         // One pattern `Ok(Line::Event(event))` gets no generated proof outside `Event`'s crate.
         Ok(given) => match given {
             Line::Skip => Ok(()),
             Line::Event(event) => keep(events, event),
         },
         Err(fault) => Err(Refused::BadLine(number, fault)),
+    }
+}
+
+/// Reads one line: its event. Refused where the line cannot be read or holds no event.
+pub(crate) fn event_in(line: &[u8]) -> Result<Event, Refused>
+    ensures { result ≡ event_or_refused (line_of line.now) }
+{
+    match read_line(line) {
+        Ok(given) => match given {
+            Line::Skip => Err(Refused::NoEvent),
+            Line::Event(event) => Ok(event),
+        },
+        Err(fault) => Err(Refused::BadLine(1, fault)),
     }
 }
 

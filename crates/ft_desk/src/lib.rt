@@ -5,6 +5,7 @@
 mod desk;
 mod events;
 mod files;
+mod in_memory;
 mod lines;
 mod perform;
 mod pieces;
@@ -22,6 +23,7 @@ pub use ft_event::{LineFault, Name};
 pub use ft_filter::FilterFault;
 pub use ft_table::Totals;
 pub use ft_trigger::TriggerFault;
+pub use in_memory::{Ran, run_text};
 pub use program::histdesk;
 pub use running::{RunFault, Status, run};
 pub use words::{Words, WordsFault, read_words};

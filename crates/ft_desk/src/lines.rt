@@ -1,6 +1,7 @@
 //! The lines of a text.
 
-ghost use Rattle.std.specs.Prelude.{◌≡◌, ◌∷◌, ◌<◌, [], length, MatchOption, IfSome};
+ghost use Rattle.std.specs.Prelude.{◌≡◌, ◌==◌, false, ◌∷◌, ◌<◌, [], length, MatchOption, IfSome};
+ghost use Rattle.std.specs.List.{list_any};
 ghost use Rattle.ft_desk.specs.Lines.{lines_of};
 
 use memchr::memchr;
@@ -13,6 +14,7 @@ const LINE_BREAK: u8 = b'\n';
 pub(crate) fn next_line(text: &[u8]) -> Option<(&[u8], &[u8])>
     ensures cut { MatchOption result (text.now ≡ [])
         (λ cut. lines_of text.now ≡ cut.0.now ∷ lines_of cut.1.now) }
+    ensures unbroken { IfSome result (λ cut. list_any (λ b. b == 10) cut.0.now ≡ false) }
     ensures shorter { IfSome result (λ cut. length cut.1.now < length text.now) }
 {
     if text.is_empty() {

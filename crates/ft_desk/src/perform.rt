@@ -1,15 +1,16 @@
 //! One line of a script.
 
-ghost use Rattle.std.specs.Prelude.{◌≡◌, ◌≢◌, ◌++◌, Err, true, codes, decimal, map, is_err, IfOk, OnOk, Some, None, MatchOption};
-ghost use Rattle.ft_board.specs.After.{EditGives};
+ghost use Rattle.std.specs.Prelude.{◌≡◌, ◌≢◌, ◌++◌, Err, true, codes, map, is_err, IfOk, OnOk, Some, None, MatchOption};
+ghost use Rattle.ft_board.specs.Edited.{EditGives};
 ghost use Rattle.ft_desk.specs.Script.{asked_by};
 ghost use Rattle.ft_desk.specs.Answered.{totals_line, latency_lines};
-ghost use Rattle.ft_desk.specs.Output.{outcome, refused_text, file_at, after_load_file};
+ghost use Rattle.ft_desk.specs.Output.{outcome, file_at, after_load_file};
+ghost use Rattle.ft_desk.specs.Refusals.{refused_text};
 ghost use Rattle.ft_desk.specs.Printed.{printed};
 
 use crate::desk::Desk;
 use crate::script::{Command, read_command};
-use crate::text::{done_line, latency_lines, refused_line, totals_line};
+use crate::text::{EditValue, done_line, latency_lines, refused_line, totals_line};
 use ft_board::{Board, Done, Latency, Refused};
 use ft_table::Totals;
 use std::alloc::{AllocError, Global};
@@ -43,14 +44,16 @@ pub(crate) fn perform<B: Board>(
             refused: false,
         }),
         Command::Load(number) => edited(alloc, b"loaded ", load_file(desk, files, number)),
-        Command::Attach(event, text) => edited(
-            alloc,
-            b"attached ",
-            widened(desk.attach(event, text)),
-        ),
+        Command::Unload(cpu) => edited(alloc, b"unloaded ", desk.unload(cpu)),
+        Command::Insert(line) => edited(alloc, b"inserted ", desk.insert(line)),
+        Command::Strike(cpu, line) => edited(alloc, b"struck ", desk.strike(cpu, line)),
+        Command::Attach(event, text) => edited(alloc, b"attached ", desk.attach(event, text)),
+        Command::Refilter(id, text) => edited(alloc, b"refiltered ", desk.refilter(id, text)),
+        Command::Remove(id) => edited(alloc, b"removed ", desk.remove(id)),
         Command::Hist(id) => answered(alloc, desk.hist(id)),
         Command::Totals(id) => totalled(alloc, desk.totals(id)),
         Command::Latencies(id) => measured(alloc, desk.latencies(id)),
+        Command::Lane(cpu) => answered(alloc, desk.list(cpu)),
         Command::NoForm => refused(alloc, Refused::BadCommand),
     }
 }
@@ -62,8 +65,9 @@ fn load_file<B: Board>(
     files: &[Vec<u8>],
     number: u32,
 ) -> Result<Done<u64>, Refused>
-    ensures { EditGives (after_load_file (map (λ f. f.items) files.now) desk.old.base number)
-        desk.old.base desk.new.base desk.old.deferred desk.new.deferred result }
+    ensures { EditGives (λ count. count)
+        (after_load_file (map (λ f. f.items) files.now) desk.old.base number)
+        desk.old desk.new result }
 {
     match nth_file(files, number) {
         Some(text) => desk.load(text),
@@ -80,25 +84,14 @@ fn nth_file(files: &[Vec<u8>], number: u32) -> Option<&[u8]>
     files.get(index as usize).map(|file| file.as_slice())
 }
 
-/// What an edit answered, its value as one of 64 bits.
-fn widened(attached: Result<Done<u32>, Refused>) -> Result<Done<u64>, Refused>
-    ensures { result ≡ attached }
-{
-    let done = attached?;
-    Ok(Done {
-        value: u64::from(done.value),
-        kept: done.kept,
-    })
-}
-
 /// What an edit prints: a text and its value, or its refusal.
-fn edited(
+fn edited<V: EditValue>(
     alloc: Global,
     text: &[u8],
-    edit: Result<Done<u64>, Refused>,
+    edit: Result<Done<V>, Refused>,
 ) -> Result<Performed, AllocError>
     ensures text { IfOk result (λ done.
-        done.text.items ≡ printed (λ edit. text.now ++ decimal edit.value ++ codes "\n") edit) }
+        done.text.items ≡ printed (λ edit. text.now ++ V.shown edit.value ++ codes "\n") edit) }
     ensures refused { IfOk result (λ done. done.refused ≡ is_err edit) }
     ensures memory { OnOk result (edit ≢ Err Refused.Memory) }
 {

@@ -104,7 +104,7 @@ pub fn histdesk<P, B>(rt: &P, board: B) -> u8
 where
     P: Env + Files + Input + Print + Eprint + AllocGlobal,
     B: Board,
-    requires { B.content board ≡ empty_base }
+    requires { (B.shown board).base ≡ empty_base }
     ensures { result ≤ 2 }
 {
     let args = match arguments(rt) {
@@ -138,7 +138,7 @@ fn run_words<'a, P, B>(rt: &P, board: B, args: &'a [String]) -> Result<Status, F
 where
     P: Files + Input + Print + AllocGlobal,
     B: Board,
-    requires { B.content board ≡ empty_base }
+    requires { (B.shown board).base ≡ empty_base }
 {
     let alloc = rt.alloc();
     let words = read_words(alloc, args)?;
@@ -181,7 +181,7 @@ where
     P: Print + AllocGlobal,
     B: Board,
     R: Read + Drop,
-    requires { B.content board ≡ empty_base }
+    requires { (B.shown board).base ≡ empty_base }
 {
     let alloc = rt.alloc();
     let mut script = BufReader::with_capacity(alloc, BUFFER, script).map_err(|_| Fault::Memory)?;

@@ -32,20 +32,23 @@ pub enum Status {
 /// Why a run ended before its script did.
 #[derive(Debug, Drop, Error)]
 pub enum RunFault {
-    /// A command found no memory. The output of the commands before it is written whole.
+    /// A command or a part of a line found no memory. The output of the lines before it is written
+    /// whole.
     #[error("out of memory")]
     Memory,
     /// The script's reader failed, or gave no end. The output of the lines that were read whole is
     /// written.
     #[error("read failed")]
     Read,
-    /// The writer failed or took nothing. A beginning of the output is written.
+    /// The writer failed or took nothing. A beginning of the output of the lines that were read is
+    /// written.
     #[error("write failed")]
     Write,
 }
 
 /// Runs a script over a board on which nothing is held or attached, and writes what its commands
-/// print, each command's text when the command is done. The Nth file is what `load @N` loads.
+/// print, each command's text when the command is done. The Nth file is what `load @N` loads. A
+/// script that is in memory is run by `run_text`.
 ///
 /// Fails for memory, where the reader fails or shows no end though it was asked 1,073,741,824
 /// times, and where the writer or the flush at the end fails; an interrupted read or write is a
@@ -57,7 +60,7 @@ pub fn run<B: Board, R: BufRead, W: Write>(
     script: &mut R,
     out: &mut W,
 ) -> Result<Status, RunFault>
-    requires { B.content board ≡ empty_base }
+    requires { (B.shown board).base ≡ empty_base }
     ensures { RunEnds (map (λ f. f.items) files.now) result
         (R.remaining script.old) (R.remaining script.new)
         (W.contents out.old) (W.contents out.new) }
@@ -74,7 +77,7 @@ fn answer_script<B: Board, R: BufRead, W: Write>(
     script: &mut R,
     out: &mut W,
 ) -> Result<Status, RunFault>
-    requires { B.content board ≡ empty_base }
+    requires { (B.shown board).base ≡ empty_base }
     ensures { RunEnds (map (λ f. f.items) files.now) result
         (R.remaining script.old) (R.remaining script.new)
         (W.contents out.old) (W.contents out.new) }
@@ -122,7 +125,7 @@ fn answer_line<B: Board, W: Write>(
 }
 
 /// The status, from whether some command was refused.
-fn status_from(refused: bool) -> Status
+pub(crate) fn status_from(refused: bool) -> Status
     ensures { result ≡ status_of refused }
 {
     if refused {

@@ -1,9 +1,10 @@
 //! What a line of the script asks for.
 
-ghost use Rattle.std.specs.Prelude.{◌≡◌, ◌==◌, ◌||◌, reverse, slice_index};
+ghost use Rattle.std.specs.Prelude.{◌≡◌, ◌==◌, ◌||◌, reverse, slice_index, option_map};
 ghost use Rattle.std.specs.List.{list_all, prefix_len};
+ghost use Rattle.std.specs.Str.{bytes_eq};
 ghost use Rattle.ft_desk.specs.Command.{asked};
-ghost use Rattle.ft_desk.specs.Script.{Asked, asked_by, is_space, is_in_word, drop_while, trimmed, first_word, after_word, number_in, load_in, attach_in, about};
+ghost use Rattle.ft_desk.specs.Script.{asked_by, inserted, worded, numbered, is_space, is_in_word, drop_while, trimmed, first_word, after_word, number_in, load_in, strike_in, struck, attach_in, filter_in, refilter_in};
 
 use ft_event::Name;
 use memchr::memchr;
@@ -14,21 +15,6 @@ const LINE_LIMIT: usize = 8192;
 /// The most digits of a number.
 const MOST_DIGITS: usize = 10;
 
-/// The first word of a command that loads a trace file.
-const LOAD: &[u8] = b"load";
-
-/// The first word of a command that attaches a trigger.
-const ATTACH: &[u8] = b"attach";
-
-/// The first word of a command that prints a trigger's table.
-const HIST: &[u8] = b"hist";
-
-/// The first word of a command that prints a trigger's totals.
-const TOTALS: &[u8] = b"totals";
-
-/// The first word of a command that prints a trigger's latencies.
-const LATENCIES: &[u8] = b"lat";
-
 /// What a line of the script asks for.
 #[derive(Clone, Copy, Debug, PartialEq, Eq)]
 pub(crate) enum Command<'a> {
@@ -36,20 +22,32 @@ pub(crate) enum Command<'a> {
     Nothing,
     /// To load the trace file of this number, from 1.
     Load(u32),
+    /// To unload the lane of this CPU.
+    Unload(u32),
+    /// To insert the event of this trace line.
+    Insert(&'a [u8]),
+    /// To strike the event of this CPU's line of this number.
+    Strike(u32, u32),
     /// To attach the trigger of this text to an event.
     Attach(Name, &'a [u8]),
+    /// To give the trigger with this id the filter of this text, or none.
+    Refilter(u32, Option<&'a [u8]>),
+    /// To remove the trigger with this id.
+    Remove(u32),
     /// To print the table of the trigger with this id.
     Hist(u32),
     /// To print the totals of the trigger with this id.
     Totals(u32),
     /// To print the latencies of the trigger with this id.
     Latencies(u32),
+    /// To print the lane of this CPU.
+    Lane(u32),
     /// No command has the line's form.
     NoForm,
 }
 
 /// Reads a line of the script.
-#[tactic(auto, unfolding(crate::specs::Script::asked_by, crate::specs::Script::worded))]
+#[tactic(auto, unfolding(crate::specs::Script::asked_by))]
 pub(crate) fn read_command(line: &[u8]) -> Command<'_>
     ensures { asked result ≡ asked_by line.now }
 {
@@ -59,20 +57,73 @@ pub(crate) fn read_command(line: &[u8]) -> Command<'_>
     if is_silent(line) {
         return Command::Nothing;
     }
-    let (word, rest) = split_word(trim(line));
-    if word == LOAD {
+    match inserted(line) {
+        Some(text) => Command::Insert(text),
+        None => worded(trim(line)),
+    }
+}
+
+/// The trace line behind `insert` and one space, where they begin the line: all its bytes as they
+/// stand.
+#[tactic(auto, unfolding(crate::specs::Script::inserted))]
+fn inserted(line: &[u8]) -> Option<&[u8]>
+    ensures { option_map (λ text. text.now) result ≡ inserted line.now }
+{
+    match line.strip_prefix(b"insert") {
+        Some([b' ', text @ ..]) => Some(text),
+        Some([]) => Some(&[]),
+        _ => None,
+    }
+}
+
+/// A command by its first word.
+#[tactic(auto, unfolding(crate::specs::Script::worded))]
+fn worded(text: &[u8]) -> Command<'_>
+    ensures { asked result ≡ worded text.now }
+{
+    let (word, rest) = split_word(text);
+    if is(word, b"load") {
         load(rest)
-    } else if word == ATTACH {
+    } else if is(word, b"strike") {
+        strike(rest)
+    } else if is(word, b"attach") {
         attach(rest)
-    } else if word == HIST {
-        hist(rest)
-    } else if word == TOTALS {
-        totals(rest)
-    } else if word == LATENCIES {
-        latencies(rest)
+    } else if is(word, b"filter") {
+        filter(rest)
+    } else {
+        match number(rest) {
+            Some(number) => numbered(word, number),
+            None => Command::NoForm,
+        }
+    }
+}
+
+/// A command about one number, by its word.
+fn numbered<'a>(word: &[u8], number: u32) -> Command<'a>
+    ensures { asked result ≡ numbered word.now number }
+{
+    if is(word, b"unload") {
+        Command::Unload(number)
+    } else if is(word, b"remove") {
+        Command::Remove(number)
+    } else if is(word, b"hist") {
+        Command::Hist(number)
+    } else if is(word, b"totals") {
+        Command::Totals(number)
+    } else if is(word, b"lat") {
+        Command::Latencies(number)
+    } else if is(word, b"list") {
+        Command::Lane(number)
     } else {
         Command::NoForm
     }
+}
+
+/// Whether a word is a text.
+fn is(word: &[u8], text: &[u8]) -> bool
+    ensures { result ≡ bytes_eq word.now text.now }
+{
+    word == text
 }
 
 /// Whether a line is of spaces alone, or a comment.
@@ -162,36 +213,50 @@ fn attach(text: &[u8]) -> Command<'_>
     }
 }
 
-/// Behind `hist`: a trigger's id.
-#[tactic(auto, unfolding(crate::specs::Script::about))]
-fn hist(text: &[u8]) -> Command<'_>
-    ensures { asked result ≡ about Asked.Hist text.now }
+/// Behind `strike`: a CPU's number, `:` and a line's number.
+#[tactic(auto, unfolding(crate::specs::Script::strike_in))]
+fn strike(text: &[u8]) -> Command<'_>
+    ensures { asked result ≡ strike_in text.now }
 {
-    match number(text) {
-        Some(id) => Command::Hist(id),
+    match memchr(b':', text) {
+        Some(colon) => struck(number(&text[..colon]), number(&text[colon + 1..])),
         None => Command::NoForm,
     }
 }
 
-/// Behind `totals`: a trigger's id.
-#[tactic(auto, unfolding(crate::specs::Script::about))]
-fn totals(text: &[u8]) -> Command<'_>
-    ensures { asked result ≡ about Asked.Totals text.now }
+/// The event to strike, where its CPU and its line are numbers.
+fn struck<'a>(cpu: Option<u32>, line: Option<u32>) -> Command<'a>
+    ensures { asked result ≡ struck cpu line }
 {
-    match number(text) {
-        Some(id) => Command::Totals(id),
+    match (cpu, line) {
+        (Some(cpu), Some(line)) => Command::Strike(cpu, line),
+        _ => Command::NoForm,
+    }
+}
+
+/// Behind `filter`: a trigger's id, and its new filter or none.
+#[tactic(auto, unfolding(crate::specs::Script::filter_in))]
+fn filter(text: &[u8]) -> Command<'_>
+    ensures { asked result ≡ filter_in text.now }
+{
+    let (word, rest) = split_word(text);
+    match number(word) {
+        Some(id) => refilter(id, rest),
         None => Command::NoForm,
     }
 }
 
-/// Behind `lat`: a trigger's id.
-#[tactic(auto, unfolding(crate::specs::Script::about))]
-fn latencies(text: &[u8]) -> Command<'_>
-    ensures { asked result ≡ about Asked.Latencies text.now }
+/// Behind a trigger's id: `if` and a filter's text, or `none` alone.
+#[tactic(auto, unfolding(crate::specs::Script::refilter_in))]
+fn refilter(id: u32, text: &[u8]) -> Command<'_>
+    ensures { asked result ≡ refilter_in id text.now }
 {
-    match number(text) {
-        Some(id) => Command::Latencies(id),
-        None => Command::NoForm,
+    match text {
+        b"none" => Command::Refilter(id, None),
+        _ => match split_word(text) {
+            (b"if", filter) => Command::Refilter(id, Some(filter)),
+            _ => Command::NoForm,
+        },
     }
 }
 

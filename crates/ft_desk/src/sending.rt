@@ -2,7 +2,7 @@
 
 ghost use Rattle.std.specs.Prelude.{OnOk, OnErr};
 ghost use Rattle.std.specs.Io.KnownBytes.{Appends};
-ghost use Rattle.ft_desk.specs.Steps.{WritesFront};
+ghost use Rattle.ft_desk.specs.Run.{WritesFront};
 
 use std::io::{self, ErrorKind, Write};
 

@@ -1,7 +1,10 @@
+mod edits;
 mod endings;
 mod examples;
 mod keys;
 mod latencies;
 pub(crate) mod no_room;
 mod scripts;
+mod sessions;
 mod streams;
+mod tables;

@@ -2,7 +2,7 @@
 
 ghost use Rattle.std.specs.Prelude.{◌≡◌, ◌++◌, codes, decimal, IfOk, OnOk};
 ghost use Rattle.ft_desk.specs.Answered.{totals_line, numbered, latency_line, latency_lines};
-ghost use Rattle.ft_desk.specs.Output.{detail, fault_detail, place_text, refused_text};
+ghost use Rattle.ft_desk.specs.Refusals.{detail, fault_detail, place_text, refused_text};
 
 use ft_board::{Latency, Place, Refused};
 use ft_table::Totals;
@@ -10,18 +10,58 @@ use ft_trigger::TriggerFault;
 use itoa::Buffer;
 use std::alloc::{AllocError, Global};
 
+/// What an edit gives, as the edit's line shows it.
+pub(crate) trait EditValue: Copy {
+    ghost use Rattle.std.specs.Prelude.{◌≡◌, ◌++◌, ℕ, List, OnOk};
+
+    /// Its text.
+    ghost shown: { Self → List ℕ };
+
+    /// Adds its text to a line.
+    fn add_to(self, line: &mut Vec<u8>) -> Result<(), AllocError>
+        ensures { OnOk result (line.new.items ≡ line.old.items ++ shown self) };
+}
+
+impl EditValue for u64 {
+    ghost shown = { decimal };
+
+    fn add_to(self, line: &mut Vec<u8>) -> Result<(), AllocError> {
+        add(line, b"", self)
+    }
+}
+
+impl EditValue for u32 {
+    ghost shown = { decimal };
+
+    fn add_to(self, line: &mut Vec<u8>) -> Result<(), AllocError> {
+        add(line, b"", u64::from(self))
+    }
+}
+
+impl EditValue for Place {
+    ghost shown = { numbered };
+
+    fn add_to(self, line: &mut Vec<u8>) -> Result<(), AllocError> {
+        add_numbered(line, self)
+    }
+}
+
 /// The line of an accepted edit: a text, and the edit's value.
-pub(crate) fn done_line(alloc: Global, text: &[u8], value: u64) -> Result<Vec<u8>, AllocError>
-    ensures { IfOk result (λ line. line.items ≡ text.now ++ decimal value ++ codes "\n") }
+pub(crate) fn done_line<V: EditValue>(
+    alloc: Global,
+    text: &[u8],
+    value: V,
+) -> Result<Vec<u8>, AllocError>
+    ensures { IfOk result (λ line. line.items ≡ text.now ++ V.shown value ++ codes "\n") }
 {
-    let mut line = Vec::new(alloc);
-    add(&mut line, text, value)?;
+    let mut line = Vec::from_slice(alloc, text)?;
+    value.add_to(&mut line)?;
     line.extend_from_slice(b"\n")?;
     Ok(line)
 }
 
 /// The line of a refused command: the refusal's number, and what else it says.
-#[tactic(auto, unfolding(crate::specs::Output::refused_text))]
+#[tactic(auto, unfolding(crate::specs::Refusals::refused_text))]
 pub(crate) fn refused_line(alloc: Global, refused: Refused) -> Result<Vec<u8>, AllocError>
     ensures { IfOk result (λ line. line.items ≡ refused_text refused) }
 {
@@ -41,14 +81,19 @@ fn add_detail(line: &mut Vec<u8>, refused: Refused) -> Result<(), AllocError>
             add(line, b": line ", number)?;
             add(line, b" fault ", u64::from(fault.number()))
         }
-        Refused::LaneHeld(cpu) => add(line, b": cpu ", u64::from(cpu)),
+        Refused::LaneHeld(cpu) | Refused::NoLane(cpu) => add(line, b": cpu ", u64::from(cpu)),
         Refused::BadTrigger(fault) => {
             add(line, b": fault ", u64::from(fault.number()))?;
             add_fault(line, fault)
         }
-        Refused::NameTaken(id) => add(line, b": trigger ", u64::from(id)),
+        Refused::BadFilter(fault) => {
+            add(line, b": filter ", u64::from(fault.number()))?;
+            add_place(line, fault.place())
+        }
+        Refused::InUse(id) | Refused::NameTaken(id) => add(line, b": trigger ", u64::from(id)),
         Refused::Memory
         | Refused::NoFile
+        | Refused::NoEvent
         | Refused::Full
         | Refused::NoTrigger
         | Refused::NoVariable

@@ -91,10 +91,14 @@ fn ids_and_their_limit(rt: HostRuntime) -> Result<(), Fail> {
     Ok(())
 }
 
-/// The numbers that refused attachments print.
+/// The numbers that refused edits print.
 #[test]
 fn numbers_of_refusals(rt: HostRuntime) {
     for (refused, number) in [
+        (Refused::NoLane(1), 5),
+        (Refused::NoEvent, 6),
+        (Refused::NoTrigger, 10),
+        (Refused::InUse(1), 11),
         (Refused::NameTaken(1), 12),
         (Refused::NoVariable, 13),
         (Refused::KeyMismatch, 14),

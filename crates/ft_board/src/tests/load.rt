@@ -3,7 +3,6 @@
 ghost use Rattle.std.specs.Prelude.{◌≤◌};
 
 use super::*;
-use crate::lane::Lane;
 
 /// Loads two wakings on two CPUs: how many were loaded.
 fn load_two(alloc: Global, board: &mut PlainBoard, first: u16, second: u16) -> Result<u64, Refused>
@@ -59,19 +58,5 @@ fn load_after_want_of_memory(rt: HostRuntime) -> Result<(), Fail> {
         load_two(rt.alloc(), &mut board, 3, 2),
         Err(Refused::LaneHeld(2))
     );
-    Ok(())
-}
-
-#[test]
-fn lines_of_a_lane(rt: HostRuntime) -> Result<(), Fail> {
-    let mut lane = Lane::new(rt.alloc());
-    lane.push(waking(7, 2)?)?;
-    lane.push(waking(7, 1)?)?;
-    let mut stamps = Vec::new(rt.alloc());
-    for (line, event) in lane.events().iter() {
-        stamps.push((*line, event.stamp))?;
-    }
-    assert_eq!(rt; stamps.as_slice(), [(1, 2), (2, 1)].as_slice());
-    reachable_bases();
     Ok(())
 }

@@ -2,7 +2,7 @@
 
 use super::no_room::NoRoom;
 use super::streams::{Sink, Source};
-use crate::{RunFault, Status, run};
+use crate::{RunFault, Status, run, run_text};
 use std::alloc::Global;
 use std::io::ErrorKind;
 use std::test::*;
@@ -111,6 +111,21 @@ fn ends_where_a_command_finds_no_memory(rt: HostRuntime) {
         assert_eq!(rt; out.bytes.as_slice(), b"refused 16\n".as_slice());
         assert_eq!(rt; out.flushes, 1);
     }
+}
+
+#[test]
+fn in_memory_a_command_finds_no_memory(rt: HostRuntime) {
+    for script in [b"hist 1".as_slice(), b"lists\nhist 1\nlists\n"] {
+        assert!(rt; run_text(rt.alloc(), NoRoom, &[], script).is_err());
+    }
+}
+
+#[test]
+fn in_memory_a_script_needs_no_room_for_nothing(rt: HostRuntime) -> Result<(), Fail> {
+    let ran = run_text(rt.alloc(), NoRoom, &[], b"# hist 1\n\n  ")?;
+    assert_eq!(rt; ran.status, Status::AllAccepted);
+    assert_eq!(rt; ran.output.len(), 0);
+    Ok(())
 }
 
 #[test]

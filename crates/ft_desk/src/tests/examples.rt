@@ -1,6 +1,6 @@
 //! The worked examples, over the plain board.
 
-use super::scripts::ran_over;
+use super::scripts::{Example, ran_over};
 use super::streams::{Sink, Source};
 use crate::{
     Desk, Done, Kept, LineFault, Name, PlainBoard, Refused, RunFault, Status, TriggerFault,
@@ -67,6 +67,20 @@ fn two_wakings(rt: HostRuntime) -> Result<(), Fail> {
     Ok(())
 }
 
+/// The script in memory.
+const IN_MEMORY: Example<'static> = Example {
+    trace: TRACE,
+    script: SCRIPT,
+    printed: PRINTED,
+    status: Status::AllAccepted,
+};
+
+#[test]
+fn two_wakings_in_memory(rt: HostRuntime) -> Result<(), Fail> {
+    assert!(rt; IN_MEMORY.holds(rt.alloc())?);
+    Ok(())
+}
+
 #[test]
 fn two_wakings_by_pieces(rt: HostRuntime) -> Result<(), Fail> {
     for step in [1, 7, 100] {
@@ -88,17 +102,18 @@ fn empty_script(rt: HostRuntime) -> Result<(), Fail> {
     Ok(())
 }
 
-#[test]
-fn refusals_by_number(rt: HostRuntime) -> Result<(), Fail> {
-    let script = b"load @1
+/// Refused commands, and a last line without its end.
+const REFUSALS: Example<'static> = Example {
+    trace: TRACE,
+    script: b"load @1
 attach sched_waking hist:keys=pid
 load @1
 hist 2
 attach sched_waking keys=prio
 attach sched_switch hist:keys=pid
 load @2
-unload 1";
-    let printed = b"loaded 2
+unload @1",
+    printed: b"loaded 2
 attached 1
 refused 4: cpu 1
 refused 10
@@ -106,11 +121,13 @@ refused 8: fault 2 at 0
 refused 8: fault 3
 refused 2
 refused 16
-";
-    let mut out = Sink::new(rt.alloc(), 100);
-    let ended = ran(rt.alloc(), &mut Source::new(script, 100), &mut out)?;
-    assert!(rt; matches!(ended, Ok(Status::SomeRefused)));
-    assert_eq!(rt; out.bytes.as_slice(), printed.as_slice());
+",
+    status: Status::SomeRefused,
+};
+
+#[test]
+fn refusals_by_number(rt: HostRuntime) -> Result<(), Fail> {
+    assert!(rt; REFUSALS.holds(rt.alloc())?);
     Ok(())
 }
 

@@ -3,26 +3,49 @@
 ghost use Rattle.std.specs.Prelude.{false};
 ghost use Rattle.ft_board.specs.Base.{empty_base};
 
-use ft_board::{Board, Done, Latency, Refused};
-use ft_event::Event;
+use ft_board::{Board, Done, Latency, Place, Refused};
+use ft_event::{Event, Name};
+use ft_filter::Filter;
 use ft_table::Totals;
 use ft_trigger::Trigger;
 
-/// A board that has no memory for anything.
+/// A board that holds nothing, and has no memory for anything.
 #[derive(Drop)]
 pub(crate) struct NoRoom;
 
 impl Board for NoRoom {
-    ghost content = { λ _. empty_base };
-
-    ghost deferred = { λ _. false };
+    ghost shown = { λ _. record { base = empty_base; deferred = false } };
 
     fn load(&mut self, _events: Vec<Event>) -> Result<Done<u64>, Refused> {
         Err(Refused::Memory)
     }
 
+    fn unload(&mut self, cpu: u32) -> Result<Done<u64>, Refused> {
+        Err(Refused::NoLane(cpu))
+    }
+
+    fn insert(&mut self, _event: Event) -> Result<Done<Place>, Refused> {
+        Err(Refused::Memory)
+    }
+
+    fn strike(&mut self, cpu: u32, _line: u32) -> Result<Done<Place>, Refused> {
+        Err(Refused::NoLane(cpu))
+    }
+
     fn attach(&mut self, _trigger: Trigger) -> Result<Done<u32>, Refused> {
         Err(Refused::Memory)
+    }
+
+    fn refilter(&mut self, _id: u32, _filter: Option<Filter>) -> Result<Done<u32>, Refused> {
+        Err(Refused::Memory)
+    }
+
+    fn remove(&mut self, _id: u32) -> Result<Done<u32>, Refused> {
+        Err(Refused::NoTrigger)
+    }
+
+    fn name_of(&self, _id: u32) -> Option<Name> {
+        None
     }
 
     fn hist(&mut self, _id: u32) -> Result<Vec<u8>, Refused> {
@@ -34,6 +57,10 @@ impl Board for NoRoom {
     }
 
     fn latencies(&mut self, _id: u32) -> Result<Vec<Latency>, Refused> {
+        Err(Refused::Memory)
+    }
+
+    fn list(&self, _cpu: u32) -> Result<Vec<u8>, Refused> {
         Err(Refused::Memory)
     }
 

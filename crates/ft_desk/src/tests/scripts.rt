@@ -1,7 +1,7 @@
 //! Scripts over the plain board.
 
 use super::streams::{Sink, Source};
-use crate::{PlainBoard, RunFault, Status, run};
+use crate::{PlainBoard, RunFault, Status, run, run_text};
 use std::alloc::{AllocError, Global};
 use std::test::Fail;
 
@@ -12,9 +12,15 @@ pub(super) fn ran_over(
     script: &mut Source<'_>,
     out: &mut Sink,
 ) -> Result<Result<Status, RunFault>, AllocError> {
+    let files = one_file(alloc, trace)?;
+    Ok(run(alloc, PlainBoard::new(alloc), files.as_slice(), script, out))
+}
+
+/// The trace files of a run that has one.
+fn one_file(alloc: Global, trace: &[u8]) -> Result<Vec<Vec<u8>>, AllocError> {
     let mut files = Vec::new(alloc);
     files.push(Vec::from_slice(alloc, trace)?)?;
-    Ok(run(alloc, PlainBoard::new(alloc), files.as_slice(), script, out))
+    Ok(files)
 }
 
 /// A script with the trace that it loads, and what it prints.
@@ -29,10 +35,9 @@ pub(super) struct Example<'a> {
 impl Example<'_> {
     /// Whether the script prints that, and no more, and ends with that status.
     pub(super) fn holds(&self, alloc: Global) -> Result<bool, Fail> {
-        let mut out = Sink::new(alloc, 4096);
-        let mut source = Source::new(self.script, 4096);
-        let status = ran_over(alloc, self.trace, &mut source, &mut out)??;
-        Ok(status == self.status && out.bytes.as_slice() == self.printed)
+        let files = one_file(alloc, self.trace)?;
+        let ran = run_text(alloc, PlainBoard::new(alloc), files.as_slice(), self.script)?;
+        Ok(ran.status == self.status && ran.output.as_slice() == self.printed)
     }
 }
 

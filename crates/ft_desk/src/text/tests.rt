@@ -9,7 +9,7 @@ use ft_trigger::TriggerFault;
 use std::test::Fail;
 
 /// Refusals, each with its line.
-fn refusals() -> [(Refused, &'static [u8]); 16] {
+fn refusals() -> [(Refused, &'static [u8]); 21] {
     [
         (Refused::Memory, b"refused 1\n"),
         (Refused::NoFile, b"refused 2\n"),
@@ -18,6 +18,8 @@ fn refusals() -> [(Refused, &'static [u8]); 16] {
             b"refused 3: line 3 fault 3\n",
         ),
         (Refused::LaneHeld(1), b"refused 4: cpu 1\n"),
+        (Refused::NoLane(8191), b"refused 5: cpu 8191\n"),
+        (Refused::NoEvent, b"refused 6\n"),
         (Refused::Full, b"refused 7\n"),
         (
             Refused::BadTrigger(TriggerFault::Syntax(0)),
@@ -35,7 +37,16 @@ fn refusals() -> [(Refused, &'static [u8]); 16] {
             Refused::BadTrigger(TriggerFault::BadFilter(FilterFault::TooDeep)),
             b"refused 8: fault 11 filter 7\n",
         ),
+        (
+            Refused::BadFilter(FilterFault::NoField(12)),
+            b"refused 9: filter 3 at 12\n",
+        ),
+        (
+            Refused::BadFilter(FilterFault::TooDeep),
+            b"refused 9: filter 7\n",
+        ),
         (Refused::NoTrigger, b"refused 10\n"),
+        (Refused::InUse(2), b"refused 11: trigger 2\n"),
         (
             Refused::NameTaken(4_294_967_295),
             b"refused 12: trigger 4294967295\n",
@@ -56,20 +67,18 @@ fn each_refusal_has_its_line(rt: HostRuntime) -> Result<(), Fail> {
     Ok(())
 }
 
-/// Words and values of edits, each with their line.
-fn edits() -> [(&'static [u8], u64, &'static [u8]); 3] {
-    [
-        (b"loaded ", 0, b"loaded 0\n"),
-        (b"loaded ", 1_048_576, b"loaded 1048576\n"),
-        (b"attached ", 4_294_967_295, b"attached 4294967295\n"),
-    ]
-}
-
 #[test]
 fn each_edit_has_its_line(rt: HostRuntime) -> Result<(), Fail> {
-    for (word, value, line) in edits() {
-        assert_eq!(rt; done_line(rt.alloc(), word, value)?.as_slice(), line);
-    }
+    let count = done_line(rt.alloc(), b"loaded ", 1_048_576_u64)?;
+    assert_eq!(rt; count.as_slice(), b"loaded 1048576\n".as_slice());
+    let id = done_line(rt.alloc(), b"attached ", u32::MAX)?;
+    assert_eq!(rt; id.as_slice(), b"attached 4294967295\n".as_slice());
+    let place = Place {
+        cpu: 8191,
+        line: 10,
+    };
+    let inserted = done_line(rt.alloc(), b"inserted ", place)?;
+    assert_eq!(rt; inserted.as_slice(), b"inserted 8191:10\n".as_slice());
     Ok(())
 }
 

@@ -12,7 +12,7 @@ use Rattle.ft_board.proofs.answers.hist_from.Goals as goal
 pub returns-in-Ok-shelf_text : goal.returns-in-Ok-shelf_text
 returns-in-Ok-shelf_text c =
     let triggers : Triggers = seen nat_cmp c.args.triggers.now in
-    let events : Events = merged (seen nat_cmp c.args.lanes.now) in
+    let events : Events = merged c.args.lanes.now in
     let hist : Hist = c.in-Some.trigger.now in
     of_attached-some triggers c.args.id (λ (h : Hist). Ok (tally_text h (tally_at triggers events c.args.id))) hist (sym c.in-Some.ensures)
     ∙ ap (λ (text : List ℕ). let answer : Result (List ℕ) Refused = Ok text in answer) (ap (tally_text hist) (sym c.in-Ok.ensures.tally) ∙ sym c.in-Ok-shelf_text.ensures)

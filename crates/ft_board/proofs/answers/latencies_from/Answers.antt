@@ -16,7 +16,7 @@ use Rattle.ft_board.proofs.answers.latencies_from.Goals as goal
 pub returns-in-Ok-latencies_of : goal.returns-in-Ok-latencies_of
 returns-in-Ok-latencies_of c =
     let triggers : Triggers = seen nat_cmp c.args.triggers.now in
-    let events : Events = merged (seen nat_cmp c.args.lanes.now) in
+    let events : Events = merged c.args.lanes.now in
     let hist : Hist = c.in-Some.trigger.now in
     let shelf = c.in-Ok.shelf in
     let reads : is_reader hist.variable ≡ true = search rules in

@@ -18,7 +18,7 @@ pub returns-clause-tally : goal.returns-clause-tally
 returns-clause-tally c =
     let shelves : Shelves = seen nat_cmp c.in_ok-shelves.shelves in
     let there : map.get shelves c.args.id ≡ Some c.unwrap.result = get-seen nat_cmp_total c.in_ok-shelves.shelves c.args.id ∙ sym c.remove.ensures.value ∙ c.unwrap.ensures in
-    shelf_tally (seen nat_cmp c.args.triggers.now) (merged (seen nat_cmp c.args.lanes.now)) shelves c.args.id c.unwrap.result c.in_ok-shelves.ensures.tallies there
+    shelf_tally (seen nat_cmp c.args.triggers.now) (merged c.args.lanes.now) shelves c.args.id c.unwrap.result c.in_ok-shelves.ensures.tallies there
 
 pub returns-clause-fit : goal.returns-clause-fit
 returns-clause-fit c =

@@ -16,7 +16,7 @@ use Rattle.ft_board.proofs.answers.totals_from.Goals as goal
 pub returns : goal.returns
 returns c =
     let triggers : Triggers = seen nat_cmp c.args.triggers.now in
-    let events : Events = merged (seen nat_cmp c.args.lanes.now) in
+    let events : Events = merged c.args.lanes.now in
     let shelf = c.in-Ok.shelf in
     of_attached-known triggers c.args.id (Ok (totals_in (tally_at triggers events c.args.id))) (search rules)
     ∙ ap (λ (totals : Totals). let answer : Result Totals Refused = Ok totals in answer)

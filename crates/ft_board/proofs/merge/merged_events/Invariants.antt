@@ -1,14 +1,17 @@
-use Rattle.std.proofs.Common.{◌≡◌}
-use Rattle.std.specs.Prelude.{fold}
-use Rattle.std.specs.Ordering.{nat_cmp}
+use Rattle.std.proofs.Common.{◌≡◌, ◌++◌, Bool}
+use Rattle.std.specs.Prelude.{filter}
+use Rattle.std.specs.List.{flat_map}
 use Rattle.std.specs.FinMap as map
 use Rattle.std.specs.Map.Iter.{deref}
-use Rattle.ft_maps.specs.Seen.{seen}
-use Rattle.ft_maps.specs.Mapped.{map_by}
-use Rattle.ft_event.specs.Places.{pos_cmp}
-use Rattle.ft_board.specs.Merged.{merged_with_lane}
+use Rattle.ft_event.specs.Traced.{Traced, name_of}
+use Rattle.ft_event.specs.declared.pos.Pos.{Pos}
+use Rattle.ft_maps.specs.Mapped.{entries_by}
+use Rattle.ft_board.specs.Merged.{placed}
+use Rattle.ft_board.specs.Named.{has_name}
 use Rattle.ft_board.proofs.merge.merged_events.Given as goal
 
--- the lanes that are left lead where all lanes lead
+-- with those of the lanes that are left it is all
 abbrev pub invariant-loop-cpu : goal.invariant-loop-cpu
-invariant-loop-cpu l = fold merged_with_lane (map_by deref (seen pos_cmp l.all)) l.cpu-iterator ≡ fold merged_with_lane map.empty (map.entries (seen nat_cmp l.lanes))
+invariant-loop-cpu l =
+    let fits : Pos × Traced → Bool = λ entry. has_name l.names (name_of entry.1.body) in
+    entries_by deref l.events.items ++ filter fits (flat_map placed l.cpu-iterator) ≡ filter fits (flat_map placed (map.entries l.lanes))

@@ -1,4 +1,4 @@
-use Rattle.std.proofs.Common.{◌≡◌}
+use Rattle.std.proofs.Common.{◌≡◌, drop}
 use Rattle.std.specs.Prelude.{fold}
 use Rattle.std.specs.Map.{keys_of}
 use Rattle.std.specs.Map.Iter.{deref}
@@ -10,6 +10,7 @@ use Rattle.ft_event.specs.Places.{pos_cmp}
 use Rattle.ft_maps.specs.Mapped.{entries_by}
 use Rattle.ft_maps.specs.Seen.{seen}
 use Rattle.ft_board.specs.Merged.{merged}
+use Rattle.ft_board.specs.Named.{named}
 use Rattle.ft_board.specs.Replay.{step, started}
 use Rattle.ft_board.specs.Shelves.{state_on, AreShelved, AllBeforePlace}
 use Rattle.ft_board.specs.Variables.{variable_cmp}
@@ -18,10 +19,10 @@ use Rattle.ft_board.proofs.replay.replayed.Given as goal
 -- the events that are left lead where all events lead; their places have their stamps, ascend, and stand behind all hits; each trigger has its shelf
 abbrev pub invariant-loop-pos : goal.invariant-loop-pos
 invariant-loop-pos l = record {
-  rest : fold (step (seen nat_cmp l.triggers)) (state_on (seen nat_cmp l.shelves, seen variable_cmp l.saved)) (entries_by deref l.pos-iterator)
-      ≡ fold (step (seen nat_cmp l.triggers)) (record { tallies = started (seen nat_cmp l.triggers); variables = map.empty }) (map.entries (merged (seen nat_cmp l.lanes)));
-  sorted : IsStrictlySortedBy pos_cmp (keys_of (entries_by deref l.pos-iterator));
-  stamped : AllByRecursion (λ e. e.0.stamp ≡ e.1.stamp) (entries_by deref l.pos-iterator);
+  rest : fold (step (seen nat_cmp l.triggers)) (state_on (seen nat_cmp l.shelves, seen variable_cmp l.saved)) (entries_by deref (drop l.pos-index l.pos-items))
+      ≡ fold (step (seen nat_cmp l.triggers)) (record { tallies = started (seen nat_cmp l.triggers); variables = map.empty }) (map.entries (named (seen nat_cmp l.triggers) (merged l.lanes)));
+  sorted : IsStrictlySortedBy pos_cmp (keys_of (entries_by deref (drop l.pos-index l.pos-items)));
+  stamped : AllByRecursion (λ e. e.0.stamp ≡ e.1.stamp) (entries_by deref (drop l.pos-index l.pos-items));
   shelved : AreShelved (seen nat_cmp l.triggers) (seen nat_cmp l.shelves);
-  before : AllByRecursion (λ e. AllBeforePlace e.0 (seen nat_cmp l.shelves)) (entries_by deref l.pos-iterator);
+  before : AllByRecursion (λ e. AllBeforePlace e.0 (seen nat_cmp l.shelves)) (entries_by deref (drop l.pos-index l.pos-items));
 }

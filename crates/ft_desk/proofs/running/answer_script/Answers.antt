@@ -11,7 +11,7 @@ abbrev texts_of : List (Vec ℕ Global) → List (List ℕ)
 texts_of files = map (λ f. f.items) files
 
 pub loop-init : goal.loop-init
-loop-init g c = rw c.new-piece.ensures.items (begins _ _ _ _ (c.new-desk.ensures.base ∙ c.requires))
+loop-init g c = rw c.new-piece.ensures.items (begins _ _ _ _ (ap (λ s. s.base) c.new-desk.ensures ∙ c.requires))
 
 pub take_part-requires : goal.take_part-requires
 take_part-requires g c = omega (arith, piece_within _ c.loop.invariant)
@@ -19,7 +19,7 @@ take_part-requires g c = omega (arith, piece_within _ c.loop.invariant)
 pub returns-in_err-take_part : goal.returns-in_err-take_part
 returns-in_err-take_part g c =
     let p = err_from_is_err_and c.from_residual.result c.from_residual.ensures.1 in
-    rw (p.1, p.2) (taking_fails _ _ _ _ c.take_part.new.piece.items c.in_err-take_part.field-0.0 _ _ _ _ _ c.loop.invariant c.in_err-take_part.ensures)
+    rw (p.1, p.2) (taking_fails _ _ _ _ c.take_part.new.piece.items _ _ _ _ _ c.loop.invariant c.in_err-take_part.field-0.0 c.in_err-take_part.ensures)
 
 pub returns-in_err-refused-in-Line : goal.returns-in_err-refused-in-Line
 returns-in_err-refused-in-Line g c =
@@ -33,7 +33,7 @@ returns-in_err-refused-in-Line g c =
     let held = c.answer_line.new.desk.base in
     let gives = line_of_piece files c.loop.desk.base held c.deref.result.now piece (g.W.Write.contents c.loop.out) later (Err fault) c.deref.ensures.value c.in_err-refused-in-Line.ensures in
     let next = line_begins files _ _ _ piece _ _ rest _ _ c.loop.invariant took in
-    rw (p.1, p.2) (line_fails files _ _ _ piece fault _ _ rest _ _ later held c.loop.invariant next gives)
+    rw (p.1, p.2) (line_fails files _ _ _ piece _ _ rest _ _ c.loop.invariant fault later held next gives)
 
 pub returns-in_err-refused-in-End : goal.returns-in_err-refused-in-End
 returns-in_err-refused-in-End g c =
@@ -47,7 +47,7 @@ returns-in_err-refused-in-End g c =
     let held = c.answer_line-then-not-is_empty.new.desk.base in
     let gives = line_of_piece files c.loop.desk.base held c.deref-then-not-is_empty.result.now piece (g.W.Write.contents c.loop.out) later (Err fault) c.deref-then-not-is_empty.ensures.value c.in_err-refused-in-End.ensures in
     let next = last_begins files _ _ _ piece _ _ rest _ _ c.loop.invariant took (λ none. eqb-false _ 0 (sym c.is_empty.ensures ∙ c.if-not-is_empty.true) (omega (arith, ap length none))) in
-    rw (p.1, p.2) (line_fails files _ _ _ piece fault _ _ rest _ _ later held c.loop.invariant next gives)
+    rw (p.1, p.2) (line_fails files _ _ _ piece _ _ rest _ _ c.loop.invariant fault later held next gives)
 
 pub returns-in-End : goal.returns-in-End
 returns-in-End g c =

@@ -1,6 +1,6 @@
 use Rattle.std.proofs.Common.{◌∙◌}
-use Rattle.ft_desk.proofs.WordLemmas.{word_ends}
+use Rattle.ft_desk.proofs.WordLemmas.{first_at}
 use Rattle.ft_desk.proofs.script.word_len.Goals as goal
 
 pub returns : goal.returns
-returns c = c.unwrap_or.ensures ∙ word_ends c.args.text.now c.memchr.result c.memchr.ensures
+returns c = c.unwrap_or.ensures ∙ first_at 32 c.args.text.now c.memchr.result c.memchr.ensures

@@ -1,6 +1,6 @@
 -- The board is left as it is, and the latencies are those of its view.
 use Rattle.std.proofs.Common.{subst}
-use Rattle.ft_board.specs.After.{AnswerIs}
+use Rattle.ft_board.specs.Edited.{AnswerIs}
 use Rattle.ft_board.specs.Answers.{latencies}
 use Rattle.ft_board.proofs.After.{never-deferred}
 use Rattle.ft_board.proofs.plain.PlainBoardBoard.latencies.Goals as goal

@@ -1,6 +1,6 @@
 -- The board is left as it is, and the totals are those of its view.
 use Rattle.std.proofs.Common.{subst}
-use Rattle.ft_board.specs.After.{AnswerIs}
+use Rattle.ft_board.specs.Edited.{AnswerIs}
 use Rattle.ft_board.specs.Answers.{totals}
 use Rattle.ft_board.proofs.After.{never-deferred}
 use Rattle.ft_board.proofs.plain.PlainBoardBoard.totals.Goals as goal

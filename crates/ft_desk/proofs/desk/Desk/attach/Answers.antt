@@ -4,7 +4,7 @@ use Rattle.ft_desk.proofs.Edits.{attach-trigger, attach-refused}
 use Rattle.ft_desk.proofs.desk.Desk.attach.Goals as goal
 
 pub returns : goal.returns
-returns g c = rw (attach-trigger c.args.self.now.base c.args.event c.args.text.now _ c.in_ok-trigger.ensures) (search rules)
+returns g c = rw (attach-trigger c.args.self.now.base c.args.event c.args.text.now _ c.in_ok-trigger.ensures.reads) (search rules)
 
 pub returns-in_err-trigger : goal.returns-in_err-trigger
 returns-in_err-trigger g c =
@@ -12,7 +12,7 @@ returns-in_err-trigger g c =
     rw (same.1, same.2) (
       refl,
       refl,
-      elim c.in_err-trigger.ensures [
+      elim c.in_err-trigger.ensures.reads [
         | inl memory ↦ inl memory
         | inr bad ↦ inr (attach-refused c.args.self.now.base c.args.event c.args.text.now _ bad)
       ],

@@ -1,0 +1,93 @@
+-- An event on whose name no trigger is changes nothing.
+use Rattle.std.proofs.Common.{◌≡◌, ℕ, Bool, true, false, cond, List, [], ◌∷◌, refl, sym, ap, subst, ◌∙◌, None}
+use Rattle.std.specs.Prelude.{◌&&◌, ◌||◌, fold, filter, if◌then◌else◌}
+use Rattle.std.specs.List.{list_any, AllByRecursion}
+use Rattle.std.specs.List.Sorted.{IsStrictlySortedBy}
+use Rattle.std.specs.Option.{option_map_or}
+use Rattle.std.specs.Map.{keys_of}
+use Rattle.std.specs.FinMap as map
+use Rattle.std.specs.FinMap.{entries_sorted}
+use Rattle.std.specs.declared.cmp.Ordering.TheVariants.{Less}
+use Rattle.ft_event.specs.Traced.{Traced, name_of}
+use Rattle.ft_event.specs.declared.pos.Pos.{Pos}
+use Rattle.ft_event.specs.Places.{pos_cmp, pos_cmp_total}
+use Rattle.ft_hist.specs.declared.key.Part.{Part}
+use Rattle.ft_hist.specs.Hist.{Hist}
+use Rattle.ft_hist.specs.Hit.{key_of, passes_filter, same_name}
+use Rattle.ft_maps.specs.Entries.{entries-from_entries, strictly_sorted}
+use Rattle.ft_board.specs.Base.{Triggers, Events}
+use Rattle.ft_board.specs.Named.{is_on, is_named, named}
+use Rattle.ft_board.specs.Replay.{State, act, growth_by, act_at, step, replay}
+use Rattle.ft_board.specs.Roles.{role_of}
+
+either-left : (a b : Bool) → (a || b) ≡ false → a ≡ false
+either-left true b h = h
+either-left false b h = refl
+
+either-right : (a b : Bool) → (a || b) ≡ false → b ≡ false
+either-right true b h = absurd cc
+either-right false b h = h
+
+module _ (triggers : Triggers) where
+  -- a trigger that is not on the event's name doesn't act
+  idle : (entry : Pos × Traced) (state : State) (attached : ℕ × Hist) → same_name attached.1.event (name_of entry.1.body) ≡ false → act_at triggers entry state attached ≡ state
+  unfolding act_at
+  idle entry state attached other =
+      ap (λ (b : Bool). option_map_or (λ (key : List Part).
+      act attached.1.size (role_of triggers attached.1.variable) (growth_by attached.1 entry.0 entry.1 key) state (record { pos = entry.0; trigger = attached.0 }) key
+      ) (if b && passes_filter attached.1.filter entry.1 then key_of attached.1.keys entry.1 else None) state) other
+
+  all_idle : (entry : Pos × Traced) (state : State) (ts : List (ℕ × Hist)) → list_any (λ attached. same_name attached.1.event (name_of entry.1.body)) ts ≡ false → fold (act_at triggers entry) state ts ≡ state
+  all_idle entry state [] none = refl
+  all_idle entry state (t ∷ ts) none =
+      let here = same_name t.1.event (name_of entry.1.body) in
+      let rest = list_any (λ (attached : ℕ × Hist). same_name attached.1.event (name_of entry.1.body)) ts in
+      ap (λ (s : State). fold (act_at triggers entry) s ts) (idle entry state t (either-left here rest none))
+      ∙ all_idle entry state ts (either-right here rest none)
+
+  pub unnamed_step : (state : State) (entry : Pos × Traced) → is_named triggers entry.1 ≡ false → step triggers state entry ≡ state
+  unfolding step is_on
+  unnamed_step state entry none = all_idle entry state (map.entries triggers) none
+
+  -- an entry on whose name some trigger is
+  abbrev pub is_kept : Pos × Traced → Bool
+  is_kept entry = is_named triggers entry.1
+
+  some_named : (state : State) (es : List (Pos × Traced)) → fold (step triggers) state (filter is_kept es) ≡ fold (step triggers) state es
+  some_named state [] = refl
+  some_named state (e ∷ es) =
+      elim (is_kept e) as (λ b. is_kept e ≡ b → fold (step triggers) state (cond b (e ∷ filter is_kept es) (filter is_kept es)) ≡ fold (step triggers) (step triggers state e) es) [
+        | true ↦ λ is. some_named (step triggers state e) es
+        | false ↦ λ is. some_named state es ∙ ap (λ (s : State). fold (step triggers) s es) (sym (unnamed_step state e is))
+      ] refl
+
+  above_kept : (k : Pos) (es : List (Pos × Traced)) → AllByRecursion (λ q. pos_cmp k q ≡ Less) (keys_of es) → AllByRecursion (λ q. pos_cmp k q ≡ Less) (keys_of (filter is_kept es))
+  above_kept k [] h = tt
+  above_kept k (e ∷ es) h =
+      let rest = above_kept k es h.1 in
+      elim (is_kept e) as (λ b. AllByRecursion (λ q. pos_cmp k q ≡ Less) (keys_of (cond b (e ∷ filter is_kept es) (filter is_kept es)))) [ true ↦ (h.0, rest) | false ↦ rest ]
+
+  kept_sorted : (es : List (Pos × Traced)) → IsStrictlySortedBy pos_cmp (keys_of es) → IsStrictlySortedBy pos_cmp (keys_of (filter is_kept es))
+  unfolding IsStrictlySortedBy
+  kept_sorted [] h = tt
+  kept_sorted (e ∷ es) h =
+      let rest = kept_sorted es h.1 in
+      elim (is_kept e) as (λ b. IsStrictlySortedBy pos_cmp (keys_of (cond b (e ∷ filter is_kept es) (filter is_kept es)))) [ true ↦ (above_kept e.0 es h.0, rest) | false ↦ rest ]
+
+  pub entries-named : (events : Events) → map.entries (named triggers events) ≡ filter is_kept (map.entries events)
+  unfolding named
+  entries-named events = entries-from_entries pos_cmp_total (filter is_kept (map.entries events)) (kept_sorted (map.entries events) (strictly_sorted pos_cmp (map.entries events) (entries_sorted events)))
+
+  kept_all : (P : Pos × Traced → Type 0) (es : List (Pos × Traced)) → AllByRecursion P es → AllByRecursion P (filter is_kept es)
+  kept_all P [] h = tt
+  kept_all P (e ∷ es) h =
+      let rest = kept_all P es h.1 in
+      elim (is_kept e) as (λ b. AllByRecursion P (cond b (e ∷ filter is_kept es) (filter is_kept es))) [ true ↦ (h.0, rest) | false ↦ rest ]
+
+  -- what holds of all events holds of these
+  pub named_all : (P : Pos × Traced → Type 0) (events : Events) → AllByRecursion P (map.entries events) → AllByRecursion P (map.entries (named triggers events))
+  named_all P events h = subst (AllByRecursion P) (sym (entries-named events)) (kept_all P (map.entries events) h)
+
+  pub replay-named : (events : Events) → replay triggers (named triggers events) ≡ replay triggers events
+  unfolding replay
+  replay-named events = ap (fold (step triggers) _) (entries-named events) ∙ some_named _ (map.entries events)

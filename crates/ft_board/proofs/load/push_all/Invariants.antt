@@ -1,8 +1,0 @@
-use Rattle.std.proofs.Common.{◌≡◌, take, fold}
-use Rattle.std.specs.Ordering.{nat_cmp}
-use Rattle.ft_maps.specs.Seen.{seen}
-use Rattle.ft_board.specs.Filling.{lanes_with}
-use Rattle.ft_board.proofs.load.push_all.Given as goal
-
-abbrev pub invariant-loop-event : goal.invariant-loop-event
-invariant-loop-event l = seen nat_cmp l.lanes ≡ fold lanes_with (seen nat_cmp l.initial.lanes) (take l.event-index l.events)

@@ -1,0 +1,88 @@
+#!/usr/bin/env python3
+"""Writes a random script of edits and answers, and the trace that it loads, for comparing with model.py.
+
+    random_script.py COMMANDS EVENTS SEED FOLDER
+
+writes FOLDER/script and FOLDER/trace. Tables of the least size fill up, since keys are many; triggers save and read
+variables, and each kind of edit comes, some of them refused.
+"""
+
+import random
+import sys
+
+NAMES = ["sched_waking", "sched_wakeup", "sched_wakeup_new", "sched_switch"]
+COMMS = ["cyclictest", "my app 2", "kworker/0:1", "sh"]
+
+
+def line(draw, cpus, stamps):
+    cpu, stamp, pid = draw.randrange(cpus), draw.randrange(stamps), draw.randrange(160)
+    comm, prio, name = draw.choice(COMMS), draw.randrange(-2, 140), draw.choice(NAMES)
+    head = f" sim-{draw.randrange(9)} [{cpu:03}] d.h.. {stamp // 10**6}.{stamp % 10**6:06}: {name}: "
+    if name == "sched_switch":
+        return head + f"prev_comm=sim prev_pid=1 prev_prio=120 prev_state=S ==> next_comm={comm} next_pid={pid} next_prio={prio}"
+    return head + f"comm={comm} pid={pid} prio={prio} target_cpu=001"
+
+
+def trigger(draw):
+    """A trigger's text: a saver on some event, a reader, or a plain one."""
+    event = draw.choice(NAMES)
+    side = "next_" if event == "sched_switch" else ""
+    key = draw.choice(["pid"] * 8 + ["comm", "prio.log2", "pid.buckets=8", "comm,pid", "pid.hex"])
+    keys = ",".join(side + item for item in key.split(","))
+    value = draw.choice(["", f":vals={side}prio", f":vals={side}pid,{side}prio"])
+    sort = draw.choice(["", ":sort=hitcount.descending", f":sort={keys.split(',')[0].split('.')[0]}.descending,hitcount"])
+    size = draw.choice(["", ":size=65", ":size=128"])
+    name = draw.choice(["a", "b"])
+    kind = draw.randrange(4)
+    if kind == 0:
+        value, variable = draw.choice(["", f":vals=${name}"]), f":{name}=common_timestamp.usecs"
+    elif kind < 3:
+        value, variable = draw.choice(["", ":vals=$lat"]), f":lat=common_timestamp.usecs-${name}"
+    else:
+        variable = ""
+    return f"attach {event} hist:keys={keys}{value}{variable}{sort}{size}"
+
+
+def condition(draw):
+    """A filter that each event name has the fields of."""
+    return draw.choice(["common_pid < 6", "common_cpu == 0", "common_cpu != 1 && common_pid & 3", "common_pid >= 2"])
+
+
+def command(draw, cpus, lines, ids):
+    kind = draw.randrange(1000) / 10
+    number = draw.randrange(1, max(2, 2 + ids[0] // 2))
+    if kind < 30:
+        return "insert" + " " + line(draw, cpus, 3 * 10**6)
+    if kind < 55:
+        return f"strike {draw.randrange(cpus)}:{draw.randrange(1, lines)}"
+    if kind < 62:
+        ids[0] += 1
+        return trigger(draw)
+    if kind < 68:
+        return f"filter {number} " + draw.choice(["none", "if " + condition(draw)])
+    if kind < 73:
+        return f"remove {number}"
+    if kind < 73.2:
+        return f"unload {draw.randrange(cpus)}"
+    if kind < 73.6:
+        return "load @1"
+    if kind < 78:
+        return f"list {draw.randrange(cpus)}"
+    return draw.choice(["hist", "totals", "totals", "lat", "lat"]) + f" {number}"
+
+
+def main():
+    commands, events, seed, folder = int(sys.argv[1]), int(sys.argv[2]), int(sys.argv[3]), sys.argv[4]
+    draw, cpus, ids = random.Random(seed), 3, [2]
+    with open(f"{folder}/trace", "w") as trace:
+        for _ in range(events):
+            trace.write(line(draw, cpus, 3 * 10**6) + "\n")
+    with open(f"{folder}/script", "w") as script:
+        script.write("load @1\n")
+        script.write("attach sched_waking hist:keys=pid:a=common_timestamp.usecs:size=128\n")
+        script.write("attach sched_switch hist:keys=next_pid:vals=$lat:lat=common_timestamp.usecs-$a:size=128\n")
+        for _ in range(commands):
+            script.write(command(draw, cpus, 2 * events // cpus, ids) + "\n")
+
+
+main()
