@@ -18,7 +18,7 @@ use Rattle.ft_hist.specs.Hist.{Hist}
 use Rattle.ft_hist.specs.Hit.{hit}
 use Rattle.ft_pairs.specs.Order.{at_cmp}
 use Rattle.ft_table.specs.Growth.{empty_row}
-use Rattle.ft_board.specs.declared.role.Role.TheVariants.{Plain}
+use Rattle.ft_kept.specs.declared.role.Role.TheVariants.{Plain}
 use Rattle.ft_board.specs.Base.{Triggers, Events}
 use Rattle.ft_board.specs.Roles.{role_of, role_at}
 use Rattle.ft_board.specs.Tally.{empty_tally}

@@ -13,14 +13,14 @@ use Rattle.ft_hist.specs.Hit.{hit}
 use Rattle.ft_pairs.specs.declared.at.At.{At}
 use Rattle.ft_pairs.specs.Order.{at_cmp}
 use Rattle.ft_table.specs.Growth.{empty_row}
-use Rattle.ft_board.specs.declared.role.Role.{Role}
-use Rattle.ft_board.specs.declared.role.Role.TheVariants.{Plain, Saves, Reads}
-use Rattle.ft_board.specs.declared.role.Variable.{Variable}
+use Rattle.ft_kept.specs.declared.role.Role.{Role}
+use Rattle.ft_kept.specs.declared.role.Role.TheVariants.{Plain, Saves, Reads}
+use Rattle.ft_kept.specs.declared.role.Variable.{Variable}
 use Rattle.ft_board.specs.Base.{Triggers, Events}
 use Rattle.ft_board.specs.Hits.{read_as}
 use Rattle.ft_board.specs.Replay.{State, act, growth_by}
 use Rattle.ft_board.specs.Tally.{Tally, RowGrowth, empty_tally, tell}
-use Rattle.ft_board.specs.Variables.{variable_cmp}
+use Rattle.ft_kept.specs.Variables.{variable_cmp}
 
 -- a trigger at an event that has a key for it
 pub record Act : Type 0 where

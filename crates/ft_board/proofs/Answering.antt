@@ -15,7 +15,7 @@ use Rattle.ft_board.specs.declared.refused.Refused.TheVariants.{NoTrigger, NotRe
 use Rattle.ft_board.specs.Base.{Triggers, Events}
 use Rattle.ft_board.specs.Answers.{tally_at, of_attached, latency_of, latencies_as}
 use Rattle.ft_board.specs.Replay.{replay}
-use Rattle.ft_board.specs.Shelves.{Shelved, Shelves, tally_on, is_reader, HasShelf, AreShelved}
+use Rattle.ft_board.specs.OnShelves.{Shelved, Shelves, tally_on, is_reader, HasShelf, AreShelved}
 use Rattle.ft_board.specs.Tally.{Tally, empty_tally}
 
 -- ---- a trigger's shelf

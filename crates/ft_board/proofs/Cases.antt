@@ -77,6 +77,19 @@ insert-reachable base event new place is at answer =
           subst IsReachable (same-base _ new (next_place base event) place e) (insert-IsReachable base event is at (leb-false event_limit (held_in base.lanes) parts.0) (ltb-false number_limit (lane_or_new base.lanes event.cpu).next parts.1))
     ] refl (sym (after_insert-cases base event) ∙ answer)
 
+-- what an insertion gives
+pub insert-gives : (base : Base) (event : Traced) (new : Base) (place : Place) → after_insert base event ≡ Ok (new, place)
+    → ◌≡◌ {A = Base × Place} (record base { lanes = lanes_with base.lanes event }, next_place base event) (new, place)
+insert-gives base event new place answer =
+    elim (is_full base event) as (λ b. inserted base event b ≡ Ok (new, place) → ◌≡◌ {A = Base × Place} (record base { lanes = lanes_with base.lanes event }, next_place base event) (new, place)) [
+      | true ↦ λ e. cc
+      | false ↦ λ e. ap (given (new, place)) e
+    ] (sym (after_insert-cases base event) ∙ answer)
+  where
+    given : Base × Place → Result (Base × Place) Refused → Base × Place
+    given other (Ok both) = both
+    given other (Err refused) = other
+
 -- ---- striking, by the lane and by its event
 
 abbrev struck_event : Base → ℕ → ℕ → Option Traced → Result (Base × Place) Refused

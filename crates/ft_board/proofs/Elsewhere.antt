@@ -15,16 +15,18 @@ use Rattle.ft_pairs.specs.declared.at.At.{At}
 use Rattle.ft_pairs.specs.declared.at.Op.{Op}
 use Rattle.ft_pairs.specs.declared.at.Op.TheVariants.{Save, Read}
 use Rattle.ft_pairs.specs.Source.{Ops, IsSource}
-use Rattle.ft_board.specs.declared.role.Role.{Role}
-use Rattle.ft_board.specs.declared.role.Role.TheVariants.{Plain, Saves, Reads}
-use Rattle.ft_board.specs.declared.role.Variable.{Variable}
+use Rattle.ft_kept.specs.declared.role.Role.{Role}
+use Rattle.ft_kept.specs.declared.role.Role.TheVariants.{Plain, Saves, Reads}
+use Rattle.ft_kept.specs.declared.role.Variable.{Variable}
 use Rattle.ft_board.specs.Base.{Triggers, Events}
 use Rattle.ft_board.specs.Elsewhere.{IsSameAct, FindsTheSame, AdmitsTheSame}
 use Rattle.ft_board.specs.Hits.{TriggerHit, found_at, read_as, hit_at}
-use Rattle.ft_board.specs.Operations.{is_admitted, op_as, ops_on}
-use Rattle.ft_board.specs.Replay.{replay, values_at}
+use Rattle.ft_board.specs.Operations.{is_admitted, ops_on}
+use Rattle.ft_kept.specs.Roles.{op_as}
+use Rattle.ft_board.specs.Replay.{replay}
+use Rattle.ft_kept.specs.Values.{values_at}
 use Rattle.ft_board.specs.Roles.{role_of, role_at}
-use Rattle.ft_board.specs.Variables.{variable_cmp, variable_cmp_total, variable_same}
+use Rattle.ft_kept.specs.Variables.{variable_cmp, variable_cmp_total, variable_same}
 use Rattle.ft_board.proofs.Matched.{matched}
 
 -- what an answer about an attached trigger at a held event comes to, by whether there are both

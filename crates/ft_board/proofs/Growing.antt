@@ -19,9 +19,9 @@ use Rattle.ft_table.specs.Hits.{Hits, same_key, hitcount}
 use Rattle.ft_table.specs.Marks.{mark_cmp, mark_cmp_total, mark_same}
 use Rattle.ft_table.specs.Rows.{row_of, row_at, totals_of}
 use Rattle.ft_table.specs.Tabled.{Tabled, is_first, first_hits, order_of, keys_in, is_in}
-use Rattle.ft_board.specs.declared.role.Pair.{Pair}
+use Rattle.ft_board.specs.declared.pair.Pair.{Pair}
 use Rattle.ft_board.specs.Tally.{Counts, Tally, empty_tally, has_place, count, with_pair, tally_of}
-pub use Rattle.ft_board.specs.Shelves.{pairs_with}
+pub use Rattle.ft_board.specs.OnShelves.{pairs_with}
 use Rattle.ft_board.proofs.Counted.{grow}
 use Rattle.ft_board.proofs.KeysApart.{get-first_hits, keys_distinct}
 

@@ -15,7 +15,7 @@ use Rattle.ft_maps.specs.Entries.{entries-from_entries, same_from_tie}
 use Rattle.ft_table.specs.declared.mark.Mark.{Mark}
 use Rattle.ft_table.specs.Hits.{Hits}
 use Rattle.ft_table.specs.Marks.{mark_cmp_total, mark_same}
-use Rattle.ft_board.specs.declared.role.Pair.{Pair}
+use Rattle.ft_board.specs.declared.pair.Pair.{Pair}
 use Rattle.ft_board.specs.Base.{Triggers, Events}
 use Rattle.ft_board.specs.Hits.{TriggerHit, trigger_hits, hits_of, pair_of, pairs_of}
 use Rattle.ft_board.specs.Kept.{values_found, saving_found, pairs_in}

@@ -38,3 +38,12 @@ pub mod Matched
 pub mod OneSaver
 pub mod Elsewhere
 pub mod Answering
+pub mod KeptBoardForms
+pub mod KeptBoardActs
+pub mod KeptBoardBuilt
+pub mod KeptBoardLanes
+pub mod KeptBoardRepair
+pub mod KeptBoardTold
+pub mod ByRole
+pub mod KeptEntries
+pub mod KeptShelves

@@ -23,7 +23,7 @@ use Rattle.ft_table.specs.Marks.{mark_cmp, mark_cmp_total}
 use Rattle.ft_board.specs.Base.{Triggers, Events}
 use Rattle.ft_board.specs.Hits.{TriggerHit, found_at, hit_at, trigger_hits, entry_of, hits_of, read_as}
 use Rattle.ft_board.specs.Kept.{values_found}
-use Rattle.ft_board.specs.Replay.{values_at}
+use Rattle.ft_kept.specs.Values.{values_at}
 use Rattle.ft_board.specs.Roles.{role_of}
 
 abbrev pub place_of : TriggerHit → Pos

@@ -20,17 +20,19 @@ use Rattle.ft_pairs.specs.declared.at.Op.{Op}
 use Rattle.ft_pairs.specs.declared.at.Op.TheVariants.{Save, Read}
 use Rattle.ft_pairs.specs.Order.{at_cmp}
 use Rattle.ft_pairs.specs.Source.{Ops, IsLastBefore, IsSource}
-use Rattle.ft_board.specs.declared.role.Pair.{Pair}
-use Rattle.ft_board.specs.declared.role.Role.{Role}
-use Rattle.ft_board.specs.declared.role.Role.TheVariants.{Plain, Saves, Reads}
-use Rattle.ft_board.specs.declared.role.Variable.{Variable}
+use Rattle.ft_board.specs.declared.pair.Pair.{Pair}
+use Rattle.ft_kept.specs.declared.role.Role.{Role}
+use Rattle.ft_kept.specs.declared.role.Role.TheVariants.{Plain, Saves, Reads}
+use Rattle.ft_kept.specs.declared.role.Variable.{Variable}
 use Rattle.ft_board.specs.Base.{Triggers, Events}
 use Rattle.ft_board.specs.Hits.{TriggerHit, found_at, read_as, hit_at, trigger_hits, pair_of, pairs_of}
-use Rattle.ft_board.specs.Operations.{is_admitted, op_as, ops_on}
-use Rattle.ft_board.specs.Replay.{replay, values_at}
+use Rattle.ft_board.specs.Operations.{is_admitted, ops_on}
+use Rattle.ft_kept.specs.Roles.{op_as}
+use Rattle.ft_board.specs.Replay.{replay}
+use Rattle.ft_kept.specs.Values.{values_at}
 use Rattle.ft_board.specs.Roles.{role_of, role_at}
 use Rattle.ft_board.specs.Tally.{Tally, empty_tally}
-use Rattle.ft_board.specs.Variables.{variable_cmp, variable_same}
+use Rattle.ft_kept.specs.Variables.{variable_cmp, variable_same}
 use Rattle.ft_board.proofs.Acts.{Act, made, act_of, acts_in, is_before, size_at, growth_at, admits, left_as, left, left_before}
 use Rattle.ft_board.proofs.ActAt.{act_found}
 use Rattle.ft_board.proofs.Acting.{acts_sorted}

@@ -91,3 +91,8 @@ module _ (triggers : Triggers) where
   pub replay-named : (events : Events) → replay triggers (named triggers events) ≡ replay triggers events
   unfolding replay
   replay-named events = ap (fold (step triggers) _) (entries-named events) ∙ some_named _ (map.entries events)
+
+-- where no entry passes, none is left
+pub none_left : {X : Type 0} (fits : X → Bool) (xs : List X) → ((x : X) → fits x ≡ false) → filter fits xs ≡ []
+none_left fits [] none = refl
+none_left fits (x ∷ xs) none = ap (λ (b : Bool). cond b (x ∷ filter fits xs) (filter fits xs)) (none x) ∙ none_left fits xs none

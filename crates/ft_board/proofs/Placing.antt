@@ -79,7 +79,7 @@ module _ {K X : Type 0} {R : K → K → Ordering} (total : IsTotalOrder R) (sam
       ap (λ (o : Option X). option_or o (Some e.1)) (find-none q es
       (subst (λ k. AllByRecursion (λ y. eq_by_cmp R k y ≡ false) (keys_of es)) (sym (same_from_tie same q e.0 is)) (IsDistinct-head (eq_by_cmp R) e.0 (keys_of es) distinct)))
 
-  get-inserted : (q : K) (m : FinMap R X) (es : List (K × X)) → AreDistinct es → map.get (fold (λ all e. map.insert all e.0 e.1) m es) q ≡ option_or (find R q es) (map.get m q)
+  pub get-inserted : (q : K) (m : FinMap R X) (es : List (K × X)) → AreDistinct es → map.get (fold (λ all e. map.insert all e.0 e.1) m es) q ≡ option_or (find R q es) (map.get m q)
   get-inserted q m [] distinct = refl
   get-inserted q m (e ∷ es) distinct =
       get-inserted q (map.insert m e.0 e.1) es (IsDistinct-tail (eq_by_cmp R) e.0 (keys_of es) distinct)
@@ -174,7 +174,7 @@ lanes_differ (lane ∷ lanes) h =
 
 -- ---- those on whose name some trigger is
 
-or_none : {X : Type 0} (o : Option X) → option_or o None ≡ o
+pub or_none : {X : Type 0} (o : Option X) → option_or o None ≡ o
 or_none None = refl
 or_none (Some x) = refl
 
@@ -193,7 +193,7 @@ module _ (triggers : Triggers) (lanes : Lanes) where
       ∙ ap (option_or (find pos_cmp q by_lane)) (get-empty {X = Traced} pos_cmp q)
       ∙ or_none (find pos_cmp q by_lane))
 
-  get-named : (events : Events) (q : Pos) → map.get (named triggers events) q ≡ option_filter (is_named triggers) (map.get events q)
+  pub get-named : (events : Events) (q : Pos) → map.get (named triggers events) q ≡ option_filter (is_named triggers) (map.get events q)
   get-named events q =
       get-entries (named triggers events) q
       ∙ ap (find pos_cmp q) (entries-named triggers events)

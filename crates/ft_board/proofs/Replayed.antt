@@ -19,11 +19,12 @@ use Rattle.ft_hist.specs.Hist.{Hist}
 use Rattle.ft_hist.specs.Hit.{hit}
 use Rattle.ft_maps.specs.Entries.{same_from_tie}
 use Rattle.ft_table.specs.Growth.{empty_row}
-use Rattle.ft_board.specs.declared.role.Role.TheVariants.{Plain}
-use Rattle.ft_board.specs.declared.role.Variable.{Variable}
+use Rattle.ft_kept.specs.declared.role.Role.TheVariants.{Plain}
+use Rattle.ft_kept.specs.declared.role.Variable.{Variable}
 use Rattle.ft_board.specs.Base.{Triggers, Events}
 use Rattle.ft_board.specs.Hits.{TriggerHit, found_at, read_as, hit_at, trigger_hits}
-use Rattle.ft_board.specs.Replay.{Tallies, State, values_at, growth_by, started, replay}
+use Rattle.ft_board.specs.Replay.{Tallies, State, growth_by, started, replay}
+use Rattle.ft_kept.specs.Values.{values_at}
 use Rattle.ft_board.specs.Roles.{role_of, role_at}
 use Rattle.ft_board.specs.Tally.{Tally, empty_tally, tell}
 use Rattle.ft_board.proofs.Counted.{counted, counted_all}

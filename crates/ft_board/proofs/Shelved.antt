@@ -26,13 +26,14 @@ use Rattle.ft_table.specs.declared.mark.Mark.{Mark}
 use Rattle.ft_lanes.specs.Held.{Lanes, event_at}
 use Rattle.ft_board.specs.Base.{Triggers, Events}
 use Rattle.ft_board.specs.Merged.{merged, held_at}
-use Rattle.ft_board.specs.Replay.{State, act_as, act, act_at, step, started, replay, growth_by, values_at}
+use Rattle.ft_board.specs.Replay.{State, act_as, act, act_at, step, started, replay, growth_by}
+use Rattle.ft_kept.specs.Values.{values_at}
 use Rattle.ft_board.specs.Roles.{role_of}
-use Rattle.ft_board.specs.Shelves.{Shelved, Shelves, Saved, tally_on, state_on, new_shelf, with_shelf, new_shelves, shelf_with, after_hit, after_act, HasShelf, AreShelved, AllBefore}
+use Rattle.ft_board.specs.OnShelves.{Shelved, Shelves, Saved, tally_on, state_on, new_shelf, with_shelf, new_shelves, shelf_with, after_hit, after_act, HasShelf, AreShelved, AllBefore}
 use Rattle.ft_board.specs.Tally.{Tally, empty_tally, has_place, tell}
-use Rattle.ft_board.specs.declared.role.Role.{Role}
-use Rattle.ft_board.specs.declared.role.Role.TheVariants.{Plain, Saves, Reads}
-use Rattle.ft_board.specs.declared.role.Variable.{Variable}
+use Rattle.ft_kept.specs.declared.role.Role.{Role}
+use Rattle.ft_kept.specs.declared.role.Role.TheVariants.{Plain, Saves, Reads}
+use Rattle.ft_kept.specs.declared.role.Variable.{Variable}
 use Rattle.ft_board.proofs.Shelving.{after_act-no_hit, after_act-hit}
 use Rattle.ft_board.proofs.Apart.{all_map, entries_found}
 use Rattle.ft_board.proofs.Growing.{place_is_counted, in_where_counted, tally_grows_with, tally-empty}

@@ -14,9 +14,9 @@ use Rattle.ft_hist.specs.Hit.{hit}
 use Rattle.ft_hist.specs.declared.key.Part.{Part}
 use Rattle.ft_maps.specs.Entries.{same_from_tie}
 use Rattle.ft_pairs.specs.declared.at.At.{At}
-use Rattle.ft_board.specs.declared.role.Role.TheVariants.{Reads}
-use Rattle.ft_board.specs.Replay.{values_at}
-use Rattle.ft_board.specs.Shelves.{Shelved, Shelves, Saved, after_hit, after_key, after_act}
+use Rattle.ft_kept.specs.declared.role.Role.TheVariants.{Reads}
+use Rattle.ft_kept.specs.Values.{values_at}
+use Rattle.ft_board.specs.OnShelves.{Shelved, Shelves, Saved, after_hit, after_key, after_act}
 
 module _ {K X : Type 0} {R : K → K → Ordering} (total : IsTotalOrder R) (same : IsAntisymmetric R) where
   gone : (m : FinMap R X) (k : K) → map.get m k ≡ None → (q : K) (at : Bool) → eq_by_cmp R q k ≡ at → cond at None (map.get m q) ≡ map.get m q

@@ -19,7 +19,7 @@ use Rattle.ft_table.specs.Hits.{Hits, same_key, hitcount}
 use Rattle.ft_table.specs.Rows.{row_of, rows_of, totals_of}
 use Rattle.ft_table.specs.Sorting.{row_cmp, in_order, HasDistinctKeys}
 use Rattle.ft_table.specs.Tabled.{Tabled, keys_in}
-use Rattle.ft_board.specs.declared.role.Pair.{Pair}
+use Rattle.ft_board.specs.declared.pair.Pair.{Pair}
 use Rattle.ft_board.specs.Tally.{rows_in, totals_in, tally_of}
 use Rattle.ft_board.proofs.Growing.{rows_by, no_row, len-tally, dropped-tally}
 use Rattle.ft_board.proofs.KeysApart.{keys_distinct}

@@ -21,10 +21,10 @@ use Rattle.ft_table.specs.Hits.{Hits}
 use Rattle.ft_table.specs.Marks.{mark_cmp, mark_cmp_total, mark_same}
 use Rattle.ft_table.specs.declared.mark.Mark.{Mark}
 use Rattle.ft_board.specs.Base.{Triggers}
-use Rattle.ft_board.specs.Replay.{values_at}
-use Rattle.ft_board.specs.Shelves.{Shelved, Shelves, Saved, shelf_with, after_hit, after_act, IsFree, Suits, HasShelf, AreShelved, StandBefore, AllBefore}
-use Rattle.ft_board.specs.declared.role.Role.{Role}
-use Rattle.ft_board.specs.declared.role.Role.TheVariants.{Plain, Saves, Reads}
+use Rattle.ft_kept.specs.Values.{values_at}
+use Rattle.ft_board.specs.OnShelves.{Shelved, Shelves, Saved, shelf_with, after_hit, after_act, IsFree, Suits, HasShelf, AreShelved, StandBefore, AllBefore}
+use Rattle.ft_kept.specs.declared.role.Role.{Role}
+use Rattle.ft_kept.specs.declared.role.Role.TheVariants.{Plain, Saves, Reads}
 use Rattle.ft_board.proofs.Shelving.{after_act-no_hit, after_act-no_shelf, after_act-hit}
 use Rattle.ft_board.proofs.Earlier.{act_of, never_before, place_before}
 

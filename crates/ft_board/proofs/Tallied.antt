@@ -18,11 +18,11 @@ use Rattle.ft_table.specs.Growth.{AreBefore, ComesLast, InGrows, RowsGrow, Total
 use Rattle.ft_table.specs.Hits.{Hits}
 use Rattle.ft_table.specs.Marks.{mark_cmp, mark_cmp_total, mark_same}
 use Rattle.ft_table.specs.Tabled.{Tabled}
-use Rattle.ft_board.specs.declared.role.Pair.{Pair}
+use Rattle.ft_board.specs.declared.pair.Pair.{Pair}
 use Rattle.ft_board.specs.Hits.{TriggerHit, entry_of, pair_of}
 use Rattle.ft_board.specs.Tally.{tally_of}
 use Rattle.ft_board.proofs.Counted.{counted, counted_all}
-use Rattle.ft_board.specs.Shelves.{pairs_with}
+use Rattle.ft_board.specs.OnShelves.{pairs_with}
 use Rattle.ft_board.proofs.Growing.{tally-empty, tally_grows_with}
 use Rattle.ft_board.proofs.Listed.{Ascend, AreBehind, place_of, find-entries, none_in, values_under}
 

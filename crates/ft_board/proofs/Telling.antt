@@ -16,12 +16,12 @@ use Rattle.ft_event.specs.declared.pos.Pos.{Pos}
 use Rattle.ft_maps.specs.Entries.{same_from_tie}
 use Rattle.ft_pairs.specs.declared.at.At.{At}
 use Rattle.ft_pairs.specs.Order.{at_cmp, at_cmp_total}
-use Rattle.ft_board.specs.declared.role.Role.{Role}
-use Rattle.ft_board.specs.declared.role.Role.TheVariants.{Plain, Saves, Reads}
-use Rattle.ft_board.specs.declared.role.Variable.{Variable}
+use Rattle.ft_kept.specs.declared.role.Role.{Role}
+use Rattle.ft_kept.specs.declared.role.Role.TheVariants.{Plain, Saves, Reads}
+use Rattle.ft_kept.specs.declared.role.Variable.{Variable}
 use Rattle.ft_board.specs.Replay.{Tallies, State, act_as, act}
 use Rattle.ft_board.specs.Tally.{Tally, RowGrowth, empty_tally, has_place}
-use Rattle.ft_board.specs.Variables.{variable_cmp, variable_cmp_total, variable_same}
+use Rattle.ft_kept.specs.Variables.{variable_cmp, variable_cmp_total, variable_same}
 use Rattle.ft_board.proofs.Acts.{Act, is_before, run, tell_act, told_plain, admits, left_as, left, left_before, read_by, told}
 use Rattle.ft_board.proofs.Rooms.{has_place-is}
 

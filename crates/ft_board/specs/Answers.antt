@@ -14,7 +14,7 @@ use Rattle.ft_board.specs.declared.refused.Latency.{Latency}
 use Rattle.ft_board.specs.declared.refused.Place.{Place}
 use Rattle.ft_board.specs.declared.refused.Refused.{Refused}
 use Rattle.ft_board.specs.declared.refused.Refused.TheVariants.{NoLane, NoTrigger, NotReading}
-use Rattle.ft_board.specs.declared.role.Pair.{Pair}
+use Rattle.ft_board.specs.declared.pair.Pair.{Pair}
 use Rattle.ft_board.specs.Base.{Triggers, Events, Base}
 use Rattle.ft_board.specs.Merged.{merged}
 use Rattle.ft_board.specs.Replay.{replay}

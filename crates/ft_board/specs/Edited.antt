@@ -1,10 +1,13 @@
 -- What an edit or an answer of a board says, by what contracts see of the board before and after it.
-use Rattle.std.specs.Prelude.{◌≡◌, ◌≢◌, ◌⊎◌, Bool, true, false, Result, Ok, Err}
+use Rattle.std.specs.Prelude.{◌≡◌, ◌≢◌, ◌⊎◌, ℕ, Bool, true, false, Result, Ok, Err}
+use Rattle.ft_lanes.specs.Edits.{lanes_without}
+use Rattle.ft_board.specs.declared.refused.Place.{Place}
 use Rattle.ft_board.specs.declared.refused.Refused.{Refused}
 use Rattle.ft_board.specs.declared.refused.Refused.TheVariants.{Memory}
 use Rattle.ft_board.specs.declared.refused.Done.{Done}
 use Rattle.ft_board.specs.declared.refused.Kept.{Kept}
 use Rattle.ft_board.specs.declared.refused.Kept.TheVariants.{Now, Later}
+use Rattle.ft_board.specs.After.{after_strike}
 use Rattle.ft_board.specs.Base.{Base}
 use Rattle.ft_board.specs.Shown.{Shown}
 
@@ -17,6 +20,16 @@ kept_of false = Now
 abbrev pub EditGives : {S T : Type 0} → (S → T) → Result (Base × T) Refused → Shown → Shown → Result (Done S) Refused → Type 0
 EditGives view after old new (Ok done) = (after ≡ Ok (new.base, view done.value)) × (done.kept ≡ kept_of new.deferred) × (old.deferred ≡ true → new.deferred ≡ true)
 EditGives view after old new (Err refused) = (new.base ≡ old.base) × (new.deferred ≡ old.deferred) × ((refused ≡ Memory) ⊎ (after ≡ Err refused))
+
+-- An edit of a base did what after says: the new base and the value, or its refusal and nothing changed. Want of memory may stand in place of any answer, and changes nothing either (our own choice).
+abbrev pub BaseGives : {T : Type 0} → Result (Base × T) Refused → Base → Base → Result T Refused → Type 0
+BaseGives after old new (Ok value) = after ≡ Ok (new, value)
+BaseGives after old new (Err refused) = (new ≡ old) × ((refused ≡ Memory) ⊎ (after ≡ Err refused))
+
+-- The place of a CPU's line that can be struck, or why it can't be (our own choice).
+abbrev pub FindsToStrike : Base → ℕ → ℕ → Result Place Refused → Type 0
+FindsToStrike base cpu line (Ok place) = after_strike base cpu line ≡ Ok (record base { lanes = lanes_without base.lanes place.cpu place.line }, place)
+FindsToStrike base cpu line (Err refused) = after_strike base cpu line ≡ Err refused
 
 -- An answer is the one expected, as view sees it, unless memory ran out (our own choice).
 abbrev pub AnswerIs : {S T : Type 0} → (S → T) → Result T Refused → Result S Refused → Type 0

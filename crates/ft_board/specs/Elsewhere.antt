@@ -3,7 +3,7 @@ use Rattle.std.specs.Prelude.{◌≡◌, Some}
 use Rattle.std.specs.FinMap as map
 use Rattle.ft_pairs.specs.declared.at.At.{At}
 use Rattle.ft_pairs.specs.declared.at.Op.TheVariants.{Read}
-use Rattle.ft_board.specs.declared.role.Variable.{Variable}
+use Rattle.ft_kept.specs.declared.role.Variable.{Variable}
 use Rattle.ft_board.specs.Base.{Triggers, Events}
 use Rattle.ft_board.specs.Hits.{found_at}
 use Rattle.ft_board.specs.Operations.{is_admitted, ops_on}

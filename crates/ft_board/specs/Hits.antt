@@ -10,12 +10,13 @@ use Rattle.ft_hist.specs.Hit.{hit}
 use Rattle.ft_pairs.specs.declared.at.At.{At}
 use Rattle.ft_table.specs.declared.mark.Mark.{Mark}
 use Rattle.ft_table.specs.Hits.{Hits}
-use Rattle.ft_board.specs.declared.role.Pair.{Pair}
-use Rattle.ft_board.specs.declared.role.Role.{Role}
-use Rattle.ft_board.specs.declared.role.Role.TheVariants.{Plain, Saves, Reads}
-use Rattle.ft_board.specs.declared.role.Variable.{Variable}
+use Rattle.ft_board.specs.declared.pair.Pair.{Pair}
+use Rattle.ft_kept.specs.declared.role.Role.{Role}
+use Rattle.ft_kept.specs.declared.role.Role.TheVariants.{Plain, Saves, Reads}
+use Rattle.ft_kept.specs.declared.role.Variable.{Variable}
 use Rattle.ft_board.specs.Base.{Triggers, Events}
-use Rattle.ft_board.specs.Replay.{State, values_at, act_at, replay}
+use Rattle.ft_board.specs.Replay.{State, act_at, replay}
+use Rattle.ft_kept.specs.Values.{values_at}
 use Rattle.ft_board.specs.Roles.{role_of}
 
 -- what replaying has come to as a trigger comes to act at a place: all events before have gone past, and the triggers before have acted there (our own choice)

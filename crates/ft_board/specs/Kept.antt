@@ -6,7 +6,7 @@ use Rattle.ft_event.specs.declared.pos.Pos.{Pos}
 use Rattle.ft_event.specs.Places.{pos_cmp}
 use Rattle.ft_table.specs.declared.mark.Mark.{Mark}
 use Rattle.ft_table.specs.Hits.{same_key}
-use Rattle.ft_board.specs.declared.role.Pair.{Pair}
+use Rattle.ft_board.specs.declared.pair.Pair.{Pair}
 use Rattle.ft_board.specs.Base.{Triggers, Events}
 use Rattle.ft_board.specs.Hits.{hit_at}
 

@@ -4,7 +4,6 @@ pub mod Shown
 pub mod Codes
 pub mod Merged
 pub mod Roles
-pub mod Variables
 pub mod Tally
 pub mod Replay
 pub mod Named
@@ -13,8 +12,10 @@ pub mod Kept
 pub mod Counting
 pub mod Operations
 pub mod Elsewhere
+pub mod KeptShelves
+pub mod KeptBeside
 pub mod Answers
-pub mod Shelves
+pub mod OnShelves
 pub mod After
 pub mod Edited
 pub mod Reachable
@@ -24,6 +25,9 @@ pub use Rattle.ft_event.specs.Line
 pub use Rattle.ft_event.specs.LineFault
 pub use Rattle.ft_filter.specs.Tree
 pub use Rattle.ft_hist.specs.Hist
+pub use Rattle.ft_kept.specs.Shelves
+pub use Rattle.ft_kept.specs.Values
+pub use Rattle.ft_kept.specs.Variables
 pub use Rattle.ft_lanes.specs.Held
 pub use Rattle.ft_lanes.specs.Edits
 pub use Rattle.ft_lanes.specs.Loaded

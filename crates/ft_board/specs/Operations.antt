@@ -1,31 +1,19 @@
 -- The operations on a variable, in a whole replay (kernel: histogram.rst, inter-event hist triggers).
-use Rattle.std.specs.Prelude.{ℕ, Bool, false, List, Option, Some, None, option_and_then, if◌then◌else◌}
+use Rattle.std.specs.Prelude.{ℕ, Bool, false, List, option_and_then}
 use Rattle.std.specs.Option.{option_map_or}
-use Rattle.std.specs.Ordering.{eq_by_cmp}
 use Rattle.std.specs.FinMap as map
 use Rattle.ft_hist.specs.declared.key.Part.{Part}
 use Rattle.ft_hist.specs.Hit.{hit}
-use Rattle.ft_pairs.specs.declared.at.Op.{Op}
-use Rattle.ft_pairs.specs.declared.at.Op.TheVariants.{Save, Read}
 use Rattle.ft_pairs.specs.Source.{Ops}
-use Rattle.ft_board.specs.declared.role.Role.{Role}
-use Rattle.ft_board.specs.declared.role.Role.TheVariants.{Plain, Saves, Reads}
-use Rattle.ft_board.specs.declared.role.Variable.{Variable}
+use Rattle.ft_kept.specs.declared.role.Variable.{Variable}
 use Rattle.ft_board.specs.Base.{Triggers, Events}
 use Rattle.ft_board.specs.Replay.{State, replay}
 use Rattle.ft_board.specs.Roles.{role_at}
-use Rattle.ft_board.specs.Variables.{variable_cmp}
+use Rattle.ft_kept.specs.Roles.{op_as}
 
 -- the key is in the table of the trigger with the id (kernel: histogram.rst, `size`)
 unfoldable pub is_admitted : State → ℕ → List Part → Bool
 is_admitted state id key = option_map_or (λ tally. map.contains_key tally.table key) (map.get state.tallies id) false
-
--- what a trigger with this role does to a variable at an event with this key: a saver saves its own where the key is admitted, a reader reads its saver's (kernel: histogram.rst, inter-event hist triggers)
-abbrev pub op_as : (ℕ → List Part → Bool) → Role → Variable → ℕ → List Part → Option Op
-op_as admitted Plain variable id key = None
-op_as admitted Saves variable id key =
-    if eq_by_cmp variable_cmp variable (record { saver = id; key = key }) then (if admitted id key then Some Save else None) else None
-op_as admitted (Reads saver) variable id key = if eq_by_cmp variable_cmp variable (record { saver = saver; key = key }) then Some Read else None
 
 -- the operations on a variable: at each place what the trigger does to it there, where the event has its name and passes its filter (kernel: histogram.rst, inter-event hist triggers)
 unfoldable pub ops_on : Triggers → Events → Variable → Ops

@@ -1,5 +1,5 @@
 -- Replaying: events in merged order go past the attached triggers (kernel: histogram.rst, hist triggers; replaying held events is our own choice).
-use Rattle.std.specs.Prelude.{ℕ, ◌-◌, ℤ, pos as whole, List, Option, Some, None, unwrap_or, fold, if◌then◌else◌}
+use Rattle.std.specs.Prelude.{ℕ, List, Some, None, unwrap_or, fold, if◌then◌else◌}
 use Rattle.std.specs.Option.{option_map_or}
 use Rattle.std.specs.Ordering.{nat_cmp}
 use Rattle.std.specs.FinMap as map
@@ -9,15 +9,15 @@ use Rattle.ft_event.specs.declared.pos.Pos.{Pos}
 use Rattle.ft_hist.specs.declared.key.Part.{Part}
 use Rattle.ft_hist.specs.Hist.{Hist}
 use Rattle.ft_hist.specs.Hit.{hit}
-use Rattle.ft_hist.specs.Values.{values_of}
 use Rattle.ft_pairs.specs.declared.at.At.{At}
 use Rattle.ft_table.specs.Growth.{grown, empty_row}
-use Rattle.ft_board.specs.declared.role.Role.{Role}
-use Rattle.ft_board.specs.declared.role.Role.TheVariants.{Plain, Saves, Reads}
+use Rattle.ft_kept.specs.declared.role.Role.{Role}
+use Rattle.ft_kept.specs.declared.role.Role.TheVariants.{Plain, Saves, Reads}
 use Rattle.ft_board.specs.Base.{Triggers, Events}
 use Rattle.ft_board.specs.Roles.{role_of}
 use Rattle.ft_board.specs.Tally.{Tally, RowGrowth, empty_tally, has_place, tell}
-use Rattle.ft_board.specs.Variables.{variable_cmp}
+use Rattle.ft_kept.specs.Values.{values_at}
+use Rattle.ft_kept.specs.Variables.{variable_cmp}
 
 -- the tallies of triggers by id (our own choice)
 abbrev pub Tallies : Type 0
@@ -48,15 +48,6 @@ unfoldable pub act : ℕ → Role → RowGrowth → State → At → List Part �
 act size role growth state at key = option_map_or (act_as size growth role state at key) (map.get state.tallies at.trigger) state
 
 -- ---- what a hit adds
-
--- the value of a trigger's own variable, in microseconds: the stamp that it saves, or the time since the stamp that it read (kernel: histogram.rst, `common_timestamp.usecs`)
-abbrev pub own_value : Pos → Option Pos → ℤ
-own_value at None = whole at.stamp
-own_value at (Some saved) = whole (at.stamp - saved.stamp)
-
--- what a trigger's hit adds to its sums (kernel: histogram.rst, `values`)
-abbrev pub values_at : Hist → Pos → Traced → Option Pos → List ℤ
-values_at hist at event saved = values_of hist event (own_value at saved)
 
 -- a row with a trigger's hit, where the key has a row or none yet (kernel: histogram.rst, `hitcount` and `values`)
 abbrev pub growth_by : Hist → Pos → Traced → List Part → RowGrowth

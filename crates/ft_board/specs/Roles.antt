@@ -6,8 +6,8 @@ use Rattle.std.specs.Str.{bytes_eq}
 use Rattle.std.specs.FinMap as map
 use Rattle.ft_hist.specs.declared.label.Var.{Var}
 use Rattle.ft_hist.specs.declared.label.Var.TheVariants as vars
-use Rattle.ft_board.specs.declared.role.Role.{Role}
-use Rattle.ft_board.specs.declared.role.Role.TheVariants.{Plain, Saves, Reads}
+use Rattle.ft_kept.specs.declared.role.Role.{Role}
+use Rattle.ft_kept.specs.declared.role.Role.TheVariants.{Plain, Saves, Reads}
 use Rattle.ft_board.specs.Base.{Triggers}
 
 -- the variable is saved, and under this name (kernel: histogram.rst, inter-event hist triggers)

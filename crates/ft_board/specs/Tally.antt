@@ -12,7 +12,7 @@ use Rattle.ft_table.specs.declared.row.Totals.{Totals}
 use Rattle.ft_table.specs.Rows.{row_of, totals_of}
 use Rattle.ft_table.specs.Sorting.{in_order}
 use Rattle.ft_table.specs.Tabled.{Tabled, keys_in}
-use Rattle.ft_board.specs.declared.role.Pair.{Pair}
+use Rattle.ft_board.specs.declared.pair.Pair.{Pair}
 
 -- a table: rows by key (kernel: histogram.rst, the `hist` file)
 abbrev pub Counts : Type 0

@@ -6,17 +6,16 @@ ghost use Rattle.std.specs.FinMap as map;
 ghost use Rattle.ft_event.specs.declared.pos.Pos.{Pos};
 ghost use Rattle.ft_maps.specs.Seen.{seen};
 ghost use Rattle.ft_table.specs.Tabled.{is_in};
-ghost use Rattle.ft_board.specs.Replay.{own_value, values_at};
-ghost use Rattle.ft_board.specs.Shelves.{after_hit, after_act, IsFree};
-ghost use Rattle.ft_board.specs.Variables.{variable_cmp};
+ghost use Rattle.ft_kept.specs.Values.{values_at};
+ghost use Rattle.ft_board.specs.OnShelves.{after_hit, after_act, IsFree};
+ghost use Rattle.ft_kept.specs.Variables.{variable_cmp};
 
-use crate::role::{Role, Variable};
 use crate::shelf::Shelf;
 use ft_event::{Event, Pos};
 use ft_hist::{Key, Trigger, Work};
+use ft_kept::{Role, Variable, hit_with};
 use ft_maps::{get, put, take};
 use ft_pairs::At;
-use ft_table::Hit;
 use std::alloc::AllocError;
 use std::collections::BTreeMap;
 
@@ -109,34 +108,4 @@ fn found(saved: &mut BTreeMap<Variable, Pos>, variable: Variable) -> Option<Pos>
     let place = get(saved, &variable).copied();
     take(saved, &variable);
     place
-}
-
-/// The hit of a trigger at an event, with its values by the place of the saving that it read, if
-/// it read.
-fn hit_with(trigger: &Trigger, event: &Event, pos: Pos, key: Key, read: Option<Pos>) -> Hit
-    requires { pos.stamp ≡ event.now.stamp }
-    ensures { result ≡ record {
-      pos = pos;
-      key = key;
-      values = values_at trigger.now pos event.now read;
-    } }
-{
-    let own = own_value(event, read);
-    Hit {
-        pos,
-        key,
-        values: trigger.values_of(event, own),
-    }
-}
-
-/// The value of a trigger's own variable at an event, in microseconds: the stamp, or the time
-/// since the stamp that was read.
-fn own_value(event: &Event, read: Option<Pos>) -> i64
-    ensures { (pos : Pos) → pos.stamp ≡ event.now.stamp → result ≡ own_value pos read }
-{
-    let stamp = event.stamp;
-    match read {
-        None => stamp as i64,
-        Some(saved) => stamp.saturating_sub(saved.stamp) as i64,
-    }
 }

@@ -1,6 +1,6 @@
 //! What a desk answers about an attached trigger, from replaying what it holds.
 
-ghost use Rattle.std.specs.Prelude.{◌≡◌, ◌++◌, Some, IfOk, IsSome, OnOk, map as list_map};
+ghost use Rattle.std.specs.Prelude.{◌≡◌, ◌++◌, List, Some, IfOk, IsSome, OnOk, map as list_map};
 ghost use Rattle.std.specs.Ordering.{nat_cmp};
 ghost use Rattle.std.specs.FinMap as map;
 ghost use Rattle.ft_hist.specs.Hist.{Hist};
@@ -10,17 +10,19 @@ ghost use Rattle.ft_board.specs.Edited.{AnswerIs};
 ghost use Rattle.ft_board.specs.Answers.{heading, tally_at, tally_text, latency_of, line_at};
 ghost use Rattle.ft_board.specs.Answers.{hist_from, totals_from, latencies_from};
 ghost use Rattle.ft_board.specs.Merged.{merged};
-ghost use Rattle.ft_board.specs.Shelves.{tally_on, is_reader};
+ghost use Rattle.ft_board.specs.OnShelves.{tally_on, is_reader};
+ghost use Rattle.ft_board.specs.Tally.{tally_of};
+ghost use Rattle.ft_board.specs.declared.pair.Pair.{Pair};
 
+use crate::pair::Pair;
 use crate::refused::{Latency, Place, Refused};
 use crate::replay::replayed;
-use crate::role::Pair;
 use crate::shelf::Shelf;
 use ft_event::Pos;
 use ft_hist::{Trigger, Var, Work};
 use ft_lanes::Lanes;
 use ft_maps::get;
-use ft_table::Totals;
+use ft_table::{Table, Totals};
 use std::alloc::{AllocError, Global};
 use std::collections::BTreeMap;
 
@@ -42,7 +44,7 @@ pub(crate) fn hist_from(
     let Ok(shelf) = shelf_at(alloc, lanes, triggers, id, work) else {
         return Err(Refused::Memory);
     };
-    match shelf_text(alloc, trigger, &shelf) {
+    match table_text(alloc, trigger, shelf.table()) {
         Ok(text) => Ok(text),
         Err(_) => Err(Refused::Memory),
     }
@@ -113,15 +115,20 @@ fn shelf_at(
     Ok(shelves.remove(&id).unwrap())
 }
 
-/// The text of a trigger with this shelf. Refused for memory.
-fn shelf_text(alloc: Global, trigger: &Trigger, shelf: &Shelf) -> Result<Vec<u8>, AllocError>
-    requires { AllFit shelf.now.table trigger.now }
-    ensures { IfOk result (λ text. text.items ≡ tally_text trigger.now (tally_on shelf.now)) }
+/// The text of a trigger with this table. Refused for memory.
+pub(crate) fn table_text(
+    alloc: Global,
+    trigger: &Trigger,
+    table: &Table,
+) -> Result<Vec<u8>, AllocError>
+    requires { AllFit table.now trigger.now }
+    ensures { IfOk result (λ text. (pairs : List Pair)
+        → text.items ≡ tally_text trigger.now (tally_of table.now pairs)) }
 {
     ft_table::one_row_order();
     let mut text = Vec::new(alloc);
     write_heading(trigger, &mut text)?;
-    shelf.table().write(trigger, &mut text)?;
+    table.write(trigger, &mut text)?;
     Ok(text)
 }
 
@@ -136,7 +143,7 @@ fn write_heading(trigger: &Trigger, text: &mut Vec<u8>) -> Result<(), AllocError
 }
 
 /// Whether a trigger reads a variable.
-fn is_reader(trigger: &Trigger) -> bool
+pub(crate) fn is_reader(trigger: &Trigger) -> bool
     ensures { result ≡ is_reader trigger.now.variable }
 {
     match trigger.variable() {
@@ -157,7 +164,7 @@ fn latencies_of(alloc: Global, pairs: &[Pair]) -> Result<Vec<Latency>, AllocErro
 }
 
 /// A pair as a latency.
-fn latency_of(pair: Pair) -> Latency
+pub(crate) fn latency_of(pair: Pair) -> Latency
     ensures { result ≡ latency_of pair }
 {
     Latency {

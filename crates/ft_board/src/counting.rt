@@ -20,7 +20,7 @@ ghost use Rattle.ft_board.specs.Kept.{values_found, saving_found, pairs_in};
 ghost use Rattle.ft_board.specs.Operations.{is_admitted};
 ghost use Rattle.ft_board.specs.Replay.{replay};
 ghost use Rattle.ft_board.specs.Tally.{tally_of, rows_in, totals_in};
-ghost use Rattle.ft_board.specs.declared.role.Pair.{Pair};
+ghost use Rattle.ft_board.specs.declared.pair.Pair.{Pair};
 
 /// A law: replaying gives each attached trigger the tally of the table that its hits make, with
 /// the pairs of its readings, and no other trigger has a tally. The hits are at each place and key

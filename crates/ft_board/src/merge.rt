@@ -49,6 +49,9 @@ fn push_lane<'a>(
     ensures { OnOk result (entries_by deref events.new.items ≡ entries_by deref events.old.items
         ++ filter (λ entry. has_name names (name_of entry.1.body)) (placed (cpu, lane.now))) }
 {
+    if names.are_none() {
+        return Ok(());
+    }
     for (line, event) in lane.lines() {
         if names.has(event.name()) {
             let stamp = event.stamp;

@@ -1,6 +1,6 @@
 //! The names of the events that attached triggers are on.
 
-ghost use Rattle.std.specs.Prelude.{◌≡◌};
+ghost use Rattle.std.specs.Prelude.{◌≡◌, IsTrue, false};
 ghost use Rattle.std.specs.Ordering.{nat_cmp};
 ghost use Rattle.ft_event.specs.declared.event.Name.{Name};
 ghost use Rattle.ft_maps.specs.Seen.{seen};
@@ -32,6 +32,22 @@ impl Names {
             wakeup_new: is_on(triggers, Name::WakeupNew),
             switch: is_on(triggers, Name::Switch),
             other: is_on(triggers, Name::Other),
+        }
+    }
+
+    /// Whether there is none.
+    pub(crate) fn are_none(self) -> bool
+        ensures { IsTrue result → (name : Name) → has_name self name ≡ false }
+    {
+        match (
+            self.waking,
+            self.wakeup,
+            self.wakeup_new,
+            self.switch,
+            self.other,
+        ) {
+            (false, false, false, false, false) => true,
+            _ => false,
         }
     }
 

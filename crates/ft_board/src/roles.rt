@@ -7,8 +7,8 @@ ghost use Rattle.ft_maps.specs.Seen.{seen};
 ghost use Rattle.ft_board.specs.After.{reader_on};
 ghost use Rattle.ft_board.specs.Roles.{saves_name, reads_name, saver_of, reader_of, role_of};
 
-use crate::role::Role;
 use ft_hist::{Trigger, Var};
+use ft_kept::Role;
 use ft_maps::entries;
 use std::collections::BTreeMap;
 

@@ -2,11 +2,12 @@
 
 ghost use Rattle.std.specs.Prelude.{◌≡◌, ◌<◌, [], None, OnOk};
 ghost use Rattle.std.specs.FinMap as map;
-ghost use Rattle.ft_board.specs.Shelves.{shelf_with};
+ghost use Rattle.ft_board.specs.OnShelves.{shelf_with};
 
-use crate::role::{Pair, Role};
+use crate::pair::Pair;
 use ft_event::Pos;
 use ft_hist::Work;
+use ft_kept::Role;
 use ft_table::{Hit, Table};
 use std::alloc::{AllocError, Global};
 use std::marker::Model;
@@ -23,7 +24,7 @@ pub(crate) struct Shelf {
 }
 
 impl Model for Shelf {
-    ghost use Rattle.ft_board.specs.Shelves.{Shelved, shelved_code};
+    ghost use Rattle.ft_board.specs.OnShelves.{Shelved, shelved_code};
 
     ghost Value = { Shelved };
 

@@ -1,5 +1,6 @@
 mod answers;
 mod attach;
+mod both;
 mod load;
 mod removing;
 mod striking;
@@ -104,9 +105,9 @@ fn waking(cpu: u16, stamp: u64) -> Result<Event, Refused>
 }
 
 /// Attaches the trigger of a text: its id. Refused where nothing can be attached to the event.
-fn attach_text(
+fn attach_text<B: Board>(
     alloc: Global,
-    board: &mut PlainBoard,
+    board: &mut B,
     event: Name,
     text: &str,
 ) -> Result<u32, Refused> {

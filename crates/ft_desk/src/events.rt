@@ -19,18 +19,25 @@ pub(crate) fn events_in(alloc: Global, text: &[u8]) -> Result<Vec<Event>, Refuse
     ensures { AnswerIs (λ events. events.items) (events_of text.now) result }
 {
     let mut events = Vec::new(alloc);
+    // Each line's event is put here, and copied from here alone.
+    let mut event = Event::blank();
     let mut rest = text;
     let mut number = 1;
     while let Some((line, behind)) = next_line(rest) {
-        add_line(&mut events, number, line)?;
+        add_line(&mut events, &mut event, number, line)?;
         rest = behind;
         number += 1;
     }
     Ok(events)
 }
 
-/// Adds the event of the line of this number, if the line is not skipped.
-fn add_line(events: &mut Vec<Event>, number: u64, line: &[u8]) -> Result<(), Refused>
+/// Adds the event of the line of this number, if the line is not skipped. `event` is overwritten.
+fn add_line(
+    events: &mut Vec<Event>,
+    event: &mut Event,
+    number: u64,
+    line: &[u8],
+) -> Result<(), Refused>
     requires { list_any (λ b. b == 10) line.now ≡ false }
     ensures ok { OnOk result ((behind : Result (List Traced) Refused) →
         in_front events.old.items (line_in_front number (line_of line.now) behind)
@@ -39,12 +46,9 @@ fn add_line(events: &mut Vec<Event>, number: u64, line: &[u8]) -> Result<(), Ref
         ⊎ ((behind : Result (List Traced) Refused) →
         line_in_front number (line_of line.now) behind ≡ Err refused)) }
 {
-    match read_cut_line(line) {
-        // One pattern `Ok(Line::Event(event))` gets no generated proof outside `Event`'s crate.
-        Ok(given) => match given {
-            Line::Skip => Ok(()),
-            Line::Event(event) => keep(events, event),
-        },
+    match read_cut_line(line, event) {
+        Ok(true) => keep(events, event),
+        Ok(false) => Ok(()),
         Err(fault) => Err(Refused::BadLine(number, fault)),
     }
 }
@@ -63,9 +67,9 @@ pub(crate) fn event_in(line: &[u8]) -> Result<Event, Refused>
 }
 
 /// Adds an event.
-fn keep(events: &mut Vec<Event>, event: Event) -> Result<(), Refused>
-    ensures ok { OnOk result (events.new.items ≡ events.old.items ++ event ∷ []) }
+fn keep(events: &mut Vec<Event>, event: &Event) -> Result<(), Refused>
+    ensures ok { OnOk result (events.new.items ≡ events.old.items ++ event.now ∷ []) }
     ensures err { IfErr result (λ refused. refused ≡ Refused.Memory) }
 {
-    events.push(event).map_err(|_| Refused::Memory)
+    events.push(*event).map_err(|_| Refused::Memory)
 }

@@ -18,7 +18,7 @@ mod words;
 
 pub use desk::Desk;
 pub use files::{FileFault, read_file, read_whole};
-pub use ft_board::{Board, Done, Kept, Latency, Place, PlainBoard, Refused};
+pub use ft_board::{Board, Done, Kept, KeptBoard, Latency, Place, PlainBoard, Refused};
 pub use ft_event::{LineFault, Name};
 pub use ft_filter::FilterFault;
 pub use ft_table::Totals;

@@ -2,6 +2,7 @@ mod Arrows
 mod Backs
 mod Bodies
 mod Breaks
+mod Caps
 mod Digits
 mod FieldTable
 mod Filled
@@ -14,6 +15,7 @@ mod Numbers
 mod PartLemmas
 mod Runs
 mod Skips
+mod StampCuts
 mod Stamps
 mod TurnCuts
 mod WakeCuts

@@ -55,7 +55,7 @@ next_word gap word rest spaces some in_word ends =
 
 -- ---- STAMP's own form
 
-abbrev stamp_text : List ℕ → List ℕ → List ℕ
+abbrev pub stamp_text : List ℕ → List ℕ → List ℕ
 stamp_text seconds micros = seconds ++ (46 ∷ (micros ++ (58 ∷ [])))
 
 -- what a word of STAMP's form says
@@ -70,7 +70,7 @@ pub record IsStampText (word : List ℕ) (stamp : ℕ) : Type 0 where
   pub micros_six : length micros ≡ 6
   pub value : stamp ≡ digits_value 10 seconds * 1000000 + digits_value 10 micros
 
-micros_of-is : (word : List ℕ) (stamp : ℕ) → IsStampText word stamp → micros_of word ≡ Some stamp
+pub micros_of-is : (word : List ℕ) (stamp : ℕ) → IsStampText word stamp → micros_of word ≡ Some stamp
 unfolding micros_of
 micros_of-is word stamp h =
     let behind_seconds : List ℕ = 46 ∷ (h.micros ++ (58 ∷ [])) in
@@ -95,7 +95,7 @@ lengths seconds micros end x y e = from ((ltb 10 (length seconds) || not (eqb (l
         let inner = or_parts _ _ outer.0 in
         (ltb-false _ _ inner.0, eqb-true _ _ (not-false _ inner.1), nil_from_length end (eqb-true _ _ (not-false _ outer.1)), same_Some x y f)
 
-micros_of-some : (word : List ℕ) (stamp : ℕ) → micros_of word ≡ Some stamp → IsStampText word stamp
+pub micros_of-some : (word : List ℕ) (stamp : ℕ) → micros_of word ≡ Some stamp → IsStampText word stamp
 unfolding micros_of
 micros_of-some word stamp e =
     let seconds = bind_some (run_of is_digit word) _ stamp e in

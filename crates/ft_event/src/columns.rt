@@ -89,20 +89,27 @@ fn stamp_word_of(text: &[u8]) -> Option<(&[u8], &[u8])>
 }
 
 /// The microseconds that STAMP says: SECONDS of up to ten digits, `.`, six digits, `:`.
-#[tactic(auto, unfolding(crate::specs::Columns::micros_of))]
 fn micros_of(word: &[u8]) -> Option<u64>
     ensures value { result ≡ micros_of word.now }
     ensures within { IfSome result (λ micros. micros ≤ 4294967295999999) }
 {
-    let (seconds, rest) = run(word, Class::Digit)?;
-    let rest = behind(b".", rest)?;
-    let (micros, rest) = run(rest, Class::Digit)?;
-    let rest = behind(b":", rest)?;
-    let whole = number(seconds, u32::MAX)?;
-    let part = number(micros, 999_999)?;
-    if seconds.len() > 10 || micros.len() != 6 || !rest.is_empty() {
+    // The six digits and what is round them stand at the word's end, so no digit is looked for.
+    let len = word.len();
+    if len < 9 {
         return None;
     }
+    if len > 18 {
+        return None;
+    }
+    let point = len - 8;
+    if word[point] != b'.' {
+        return None;
+    }
+    if word[len - 1] != b':' {
+        return None;
+    }
+    let whole = number(&word[..point], u32::MAX)?;
+    let part = number(&word[point + 1..len - 1], 999_999)?;
     Some(whole * 1_000_000 + part)
 }
 

@@ -1,25 +1,25 @@
 //! One line of a trace: what it says, or the first thing that is wrong with it.
 
-ghost use Rattle.std.specs.Prelude.{◌≡◌, ◌≤◌, ◌==◌, false, ℕ, List, length, Result};
+ghost use Rattle.std.specs.Prelude.{◌≡◌, ◌≤◌, ◌==◌, false, ℕ, List, length, Result, Ok, Err, OnOk, IfErr};
 ghost use Rattle.std.specs.List.{list_any};
-ghost use Rattle.std.specs.Option.{option_copied};
 ghost use Rattle.ft_event.specs.Columns.{head_texts};
+ghost use Rattle.ft_event.specs.Fronts.{line_behind, switch_behind, line_put, line_given};
 ghost use Rattle.ft_event.specs.declared.fault.Line.{Line};
 ghost use Rattle.ft_event.specs.declared.fault.LineFault.{LineFault};
 ghost use Rattle.ft_event.specs.LineIs.{LineIs};
-ghost use Rattle.ft_event.specs.Line.{name_from, signed_from, success_from, wake_from, turn_from};
-ghost use Rattle.ft_event.specs.Line.{payload_from, body_from, event_from, line_of};
+ghost use Rattle.ft_event.specs.Line.{name_from, wake_from};
+ghost use Rattle.ft_event.specs.Line.{payload_from, body_from, event_from, line_with, line_of};
 
 use crate::columns::{Head, head_of, stamp_of};
 use crate::comm::Comm;
 use crate::event::{Body, Event, Turn, Wake};
 use crate::fault::{Line, LineFault};
+use crate::front::Front;
 use crate::label::{Label, label_of};
-use crate::parts::signed_of;
 use crate::scan::{number, trimmed, without_spaces};
 use crate::skipped::is_skipped;
-use crate::turns::turn_text_of;
-use crate::wakes::wake_text_of;
+use crate::turns::{turn_cut_of, turn_numbers};
+use crate::wakes::{wake_cut_of, wake_numbers};
 use memchr::memchr;
 
 /// The longest line that is read, in bytes.
@@ -28,113 +28,119 @@ const LONGEST_LINE: usize = 4096;
 /// The greatest CPU.
 const LAST_CPU: u32 = 8191;
 
-/// A name of at most 31 bytes.
+/// Tests that a name has at most 31 bytes.
 #[tactic(auto, unfolding(crate::specs::Line::name_from))]
-fn name_from(text: &[u8]) -> Result<Comm, LineFault>
-    ensures { result ≡ name_from text.now }
+fn test_name(text: &[u8]) -> Result<(), LineFault>
+    ensures name { OnOk result (name_from text.now ≡ Ok text.now) }
+    ensures short { OnOk result (length text.now ≤ 31) }
+    ensures fault { IfErr result (λ fault. name_from text.now ≡ Err fault) }
 {
-    Comm::of(text).ok_or(LineFault::NameLong)
-}
-
-/// A number that fits an `i32`.
-fn signed_from(text: &[u8]) -> Result<i32, LineFault>
-    ensures { result ≡ signed_from text.now }
-{
-    signed_of(text).ok_or(LineFault::NumberRange)
-}
-
-/// Tests the number of ` success=N`, which is not kept.
-#[tactic(auto, unfolding(crate::specs::Line::success_from))]
-fn success_from(success: Option<&[u8]>) -> Result<(), LineFault>
-    ensures { result ≡ success_from (option_copied success.entry) }
-{
-    match success {
-        Some(text) => {
-            signed_from(text)?;
-            Ok(())
-        }
-        None => Ok(()),
+    if text.len() > 31 {
+        return Err(LineFault::NameLong);
     }
+    Ok(())
 }
 
 /// What the payload of a wake event says.
-#[tactic(auto, unfolding(crate::specs::Line::wake_from))]
+#[tactic(auto, unfolding(crate::specs::Line::wake_from, crate::specs::Line::success_from))]
 fn wake_from(payload: &[u8]) -> Result<Wake, LineFault>
     ensures { result ≡ wake_from payload.now }
 {
-    let text = wake_text_of(payload).ok_or(LineFault::BadPayload)?;
-    let comm = name_from(text.comm)?;
-    let pid = signed_from(text.pid)?;
-    let prio = signed_from(text.prio)?;
-    success_from(text.success)?;
-    let target_cpu = number(text.target_cpu, i32::MAX as u32).ok_or(LineFault::NumberRange)?;
+    let text = wake_cut_of(payload).ok_or(LineFault::BadPayload)?;
+    let numbers = wake_numbers(&text).ok_or(LineFault::BadPayload)?;
+    test_name(text.comm)?;
+    let pid = numbers.pid.ok_or(LineFault::NumberRange)?;
+    let prio = numbers.prio.ok_or(LineFault::NumberRange)?;
+    if !numbers.success_fits {
+        return Err(LineFault::NumberRange);
+    }
+    let target_cpu = numbers.target_cpu.ok_or(LineFault::NumberRange)?;
     Ok(Wake {
-        comm,
+        comm: Comm::filled(text.comm),
         pid,
         prio,
-        target_cpu: target_cpu as i32,
+        target_cpu,
     })
 }
 
-/// What the payload of a switch says.
+/// Puts the event of a switch with this payload.
 #[tactic(auto, unfolding(crate::specs::Line::turn_from))]
-fn turn_from(payload: &[u8]) -> Result<Turn, LineFault>
-    ensures { result ≡ turn_from payload.now }
+fn put_turn(front: &Front<'_>, payload: &[u8], event: &mut Event) -> Result<(), LineFault>
+    ensures { line_put result event.new ≡ switch_behind front.now payload.now }
 {
-    let text = turn_text_of(payload).ok_or(LineFault::BadPayload)?;
-    Ok(Turn {
-        prev_comm: name_from(text.prev_comm)?,
-        prev_pid: signed_from(text.prev_pid)?,
-        prev_prio: signed_from(text.prev_prio)?,
-        prev_state: name_from(text.prev_state)?,
-        next_comm: name_from(text.next_comm)?,
-        next_pid: signed_from(text.next_pid)?,
-        next_prio: signed_from(text.next_prio)?,
-    })
+    let text = turn_cut_of(payload).ok_or(LineFault::BadPayload)?;
+    let numbers = turn_numbers(&text).ok_or(LineFault::BadPayload)?;
+    test_name(text.prev_comm)?;
+    let prev_pid = numbers.prev_pid.ok_or(LineFault::NumberRange)?;
+    let prev_prio = numbers.prev_prio.ok_or(LineFault::NumberRange)?;
+    test_name(text.prev_state)?;
+    test_name(text.next_comm)?;
+    let next_pid = numbers.next_pid.ok_or(LineFault::NumberRange)?;
+    let next_prio = numbers.next_prio.ok_or(LineFault::NumberRange)?;
+    let turn = Turn {
+        prev_comm: Comm::filled(text.prev_comm),
+        prev_pid,
+        prev_prio,
+        prev_state: Comm::filled(text.prev_state),
+        next_comm: Comm::filled(text.next_comm),
+        next_pid,
+        next_prio,
+    };
+    front.put(event, Body::Switch(turn));
+    Ok(())
 }
 
-/// The event that the payload behind a label says.
+/// Puts the event with the payload behind a label.
 #[tactic(auto, unfolding(crate::specs::Line::payload_from))]
-fn payload_from(label: Label, payload: &[u8]) -> Result<Body, LineFault>
-    ensures { result ≡ payload_from label payload.now }
+fn put_named(
+    front: &Front<'_>,
+    label: Label,
+    payload: &[u8],
+    event: &mut Event,
+) -> Result<(), LineFault>
+    ensures { line_put result event.new ≡ line_behind front.now (payload_from label payload.now) }
 {
-    Ok(match label {
+    let body = match label {
         Label::Waking => Body::Waking(wake_from(payload)?),
         Label::Wakeup => Body::Wakeup(wake_from(payload)?),
         Label::WakeupNew => Body::WakeupNew(wake_from(payload)?),
-        Label::Switch => Body::Switch(turn_from(payload)?),
-    })
+        Label::Switch => return put_turn(front, payload, event),
+    };
+    front.put(event, body);
+    Ok(())
 }
 
-/// What stands behind STAMP: a named event with its payload, or any other event.
+/// Puts the event with this behind STAMP: a named event with its payload, or any other one.
 #[tactic(auto, unfolding(crate::specs::Line::body_from))]
-fn body_from(rest: &[u8]) -> Result<Body, LineFault>
-    ensures { result ≡ body_from rest.now }
+fn put_body(front: &Front<'_>, rest: &[u8], event: &mut Event) -> Result<(), LineFault>
+    ensures { line_put result event.new ≡ line_behind front.now (body_from rest.now) }
 {
     match label_of(without_spaces(rest)) {
-        Some((label, payload)) => payload_from(label, trimmed(payload)),
-        None => Ok(Body::Other),
+        Some((label, payload)) => put_named(front, label, trimmed(payload), event),
+        None => {
+            front.put(event, Body::Other);
+            Ok(())
+        }
     }
 }
 
-/// The event of a line with these columns.
+/// Puts the event of a line with these columns.
 #[tactic(auto, unfolding(crate::specs::Line::event_from))]
-fn event_from(head: &Head<'_>) -> Result<Event, LineFault>
-    ensures { result ≡ event_from (head_texts head.now) }
+fn put_event(head: &Head<'_>, event: &mut Event) -> Result<(), LineFault>
+    ensures { line_put result event.new ≡ line_with (event_from (head_texts head.now)) }
 {
     let tail = &head.tail;
-    let task = name_from(head.task)?;
+    test_name(head.task)?;
     let pid = number(tail.pid, i32::MAX as u32).ok_or(LineFault::NumberRange)?;
     let cpu = number(tail.cpu, LAST_CPU).ok_or(LineFault::BadCpu)?;
     let (stamp, rest) = stamp_of(tail.rest).ok_or(LineFault::BadStamp)?;
-    let body = body_from(rest)?;
-    Ok(Event {
-        task,
+    let front = Front {
+        task: head.task,
         pid: pid as i32,
         cpu: cpu as u16,
         stamp,
-        body,
-    })
+    };
+    put_body(&front, rest, event)
 }
 
 /// Whether a line break stands in the line.
@@ -144,21 +150,46 @@ fn is_broken(line: &[u8]) -> bool
     memchr(b'\n', line).is_some()
 }
 
-/// What a line of a length that is read gives, without a line break: nothing where it is skipped, or
-/// else its event.
+/// Reads a line of a length that is read, without a line break: whether it holds an event, which it
+/// puts, or is skipped.
 #[tactic(auto, unfolding(crate::specs::Line::line_of, crate::specs::Line::traced_from))]
-fn unbroken_answer(line: &[u8]) -> Result<Line, LineFault>
+fn put_unbroken(line: &[u8], event: &mut Event) -> Result<bool, LineFault>
     requires length { length line.now ≤ 4096 }
     requires unbroken { list_any (λ b. b == 10) line.now ≡ false }
-    ensures { result ≡ line_of line.now }
+    ensures { line_given result event.new ≡ line_of line.now }
 {
     let text = without_spaces(line);
     if is_skipped(line, text) {
-        return Ok(Line::Skip);
+        return Ok(false);
     }
     let head = head_of(text).ok_or(LineFault::NoTask)?;
-    let event = event_from(&head)?;
-    Ok(Line::Event(event))
+    put_event(&head, event)?;
+    Ok(true)
+}
+
+/// The line's length, and then its columns: the first fault is the answer.
+#[tactic(auto, unfolding(crate::specs::Line::line_of))]
+fn put_cut(line: &[u8], event: &mut Event) -> Result<bool, LineFault>
+    requires { list_any (λ b. b == 10) line.now ≡ false }
+    ensures { line_given result event.new ≡ line_of line.now }
+{
+    if line.len() > LONGEST_LINE {
+        return Err(LineFault::LineLong);
+    }
+    put_unbroken(line, event)
+}
+
+/// What a line gives that was cut at its line break.
+fn answer_to_cut(line: &[u8]) -> Result<Line, LineFault>
+    requires { list_any (λ b. b == 10) line.now ≡ false }
+    ensures { result ≡ line_of line.now }
+{
+    let mut event = Event::blank();
+    if put_cut(line, &mut event)? {
+        Ok(Line::Event(event))
+    } else {
+        Ok(Line::Skip)
+    }
 }
 
 /// The line's length, its bytes, and then its columns: the first fault is the answer.
@@ -172,19 +203,7 @@ fn answer_to(line: &[u8]) -> Result<Line, LineFault>
     if is_broken(line) {
         return Err(LineFault::NoTask);
     }
-    unbroken_answer(line)
-}
-
-/// The line's length, and then its columns: the first fault is the answer.
-#[tactic(auto, unfolding(crate::specs::Line::line_of))]
-fn answer_to_cut(line: &[u8]) -> Result<Line, LineFault>
-    requires { list_any (λ b. b == 10) line.now ≡ false }
-    ensures { result ≡ line_of line.now }
-{
-    if line.len() > LONGEST_LINE {
-        return Err(LineFault::LineLong);
-    }
-    unbroken_answer(line)
+    answer_to_cut(line)
 }
 
 /// Reads one line of the kernel's `trace` file, without its line break.
@@ -197,16 +216,16 @@ pub fn read_line(line: &[u8]) -> Result<Line, LineFault>
     answer_to(line)
 }
 
-/// Reads one line of the kernel's `trace` file that was cut at its line break: as `read_line`, but
-/// no line break is looked for.
-pub fn read_cut_line(line: &[u8]) -> Result<Line, LineFault>
+/// Reads one line that was cut at its line break, as `read_line` does, but in place: whether it holds
+/// an event, which `event` then is. Where it holds none, `event` may be any.
+pub fn read_cut_line(line: &[u8], event: &mut Event) -> Result<bool, LineFault>
     requires { list_any (λ b. b == 10) line.now ≡ false }
     // The line's answer, as the function that the definitions compute.
-    ensures exact { result ≡ line_of line.now }
+    ensures exact { line_given result event.new ≡ line_of line.now }
     // What the answer says of the whole line's bytes.
-    ensures meaning { LineIs line.now result }
+    ensures meaning { LineIs line.now (line_given result event.new) }
 {
-    answer_to_cut(line)
+    put_cut(line, event)
 }
 
 /// A law: a line has one answer, that of `read_line`.

@@ -1,6 +1,7 @@
 //! Cuts of a text: runs of bytes, words, labels.
 
-ghost use Rattle.std.specs.Prelude.{◌≡◌, ◌<◌, ◌≤◌, length, IfSome};
+ghost use Rattle.std.specs.Prelude.{◌≡◌, ◌<◌, ◌≤◌, ◌==◌, length, IfSome};
+ghost use lib.Pointwise.{pointwise};
 ghost use Rattle.std.specs.Option.{option_map, option_copied};
 ghost use Rattle.std.specs.List.{prefix_len, suffix_len};
 ghost use Rattle.ft_event.specs.Spans.{test_of, run_of, word_of, without_spaces, trimmed};
@@ -23,7 +24,7 @@ pub(crate) enum Class {
 
 impl Class {
     /// Whether the byte is of the class.
-    fn has(self, byte: u8) -> bool
+    pub(crate) fn has(self, byte: u8) -> bool
         ensures { result ≡ test_of self byte }
     {
         match self {
@@ -99,15 +100,33 @@ pub(crate) fn trimmed(text: &[u8]) -> &[u8]
     &rest[..rest.len() - back_len(rest, Class::Space)]
 }
 
+/// Whether a text is a label of its length.
+// Where the label is known, this is a test for each byte up to the first that differs, and nothing is
+// called.
+#[inline(always)]
+fn is_label<const N: usize>(label: &[u8; N], text: &[u8; N]) -> bool
+    ensures { result ≡ pointwise ◌==◌ text.now label.now }
+{
+    for (at, byte) in label.iter().enumerate() {
+        if text[at] != *byte {
+            return false;
+        }
+    }
+    true
+}
+
 /// What is behind a label that the text begins with.
 #[tactic(auto, unfolding(crate::specs::Spans::behind))]
-// Where the label's length is known, a few words are compared, and nothing is called.
 #[inline(always)]
 pub(crate) fn behind<'a, const N: usize>(label: &[u8; N], text: &'a [u8]) -> Option<&'a [u8]>
     ensures { option_copied result ≡ behind label.now text.now }
 {
     let (front, rest) = text.split_first_chunk::<N>()?;
-    if *front == *label { Some(rest) } else { None }
+    if is_label(label, front) {
+        Some(rest)
+    } else {
+        None
+    }
 }
 
 /// What stands before and behind the last space.

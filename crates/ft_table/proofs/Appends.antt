@@ -31,10 +31,10 @@ use Rattle.ft_table.proofs.Members.{in-without, in-with}
 use Rattle.ft_table.proofs.Sorted.{place-end, place-keys}
 
 -- of two marks with one key the place decides
-later : (a b : Pos) (key : List Part) → mark_cmp (mark a key) (mark b key) ≡ Less → pos_cmp b a ≡ Greater
-later a b key less =
+earlier : (a b : Pos) (key : List Part) → mark_cmp (mark a key) (mark b key) ≡ Less → pos_cmp a b ≡ Less
+earlier a b key less =
     let tie : key_cmp key key ≡ Equal = tied_itself key_cmp_total key in
-    pos_cmp_total.antisymm b a ∙ ap ordering_reverse (only (pos_cmp a b) (key_cmp key key) tie less) where
+    only (pos_cmp a b) (key_cmp key key) tie less where
       only : (r s : Ordering) → s ≡ Equal → ordering_then r s ≡ Less → r ≡ Less
       only Less s tie h = refl
       only Equal s tie h = cc
@@ -57,12 +57,18 @@ first_place-insert hits m v = ap (λ (l : FinMap pos_cmp (List ℤ)). least_key 
 some_has : {X : Type 0} (o : Option X) (x : X) → o ≡ Some x → IsSome o
 some_has o x is = ap is_some is
 
--- a known key's hit behind all others leaves the order
+-- a hit behind its key's first leaves the order
+pub order-behind : (hits : Hits) (m : Mark) (v : List ℤ) (f : Pos) → first_place hits m.key ≡ Some f → pos_cmp f m.pos ≡ Less → order_of (map.insert hits m v) ≡ order_of hits
+order-behind hits m v f is less =
+    let turned : pos_cmp m.pos f ≡ Greater = pos_cmp_total.antisymm m.pos f ∙ ap ordering_reverse less in
+    let first : first_place (map.insert hits m v) m.key ≡ Some f = first_place-insert hits m v ∙ first-later m.pos f v (map.entries (hits_of hits m.key)) is turned in
+    order-some (map.insert hits m v) m.key f first ∙ order_before-beside hits (map.insert hits m v) m.key (Some f) (insert-beside hits m v) ∙ sym (order-some hits m.key f is)
+
+-- so does a known key's hit behind all others
 pub order-known : (hits : Hits) (m : Mark) (v : List ℤ) (f : Pos) → first_place hits m.key ≡ Some f → AreBefore hits m → order_of (map.insert hits m v) ≡ order_of hits
 order-known hits m v f is before =
     let at = first_is_hit hits m.key f is in
-    let first : first_place (map.insert hits m v) m.key ≡ Some f = first_place-insert hits m v ∙ first-later m.pos f v (map.entries (hits_of hits m.key)) is (later f m.pos m.key (before (mark f m.key) (some_has _ at.0 at.1))) in
-    order-some (map.insert hits m v) m.key f first ∙ order_before-beside hits (map.insert hits m v) m.key (Some f) (insert-beside hits m v) ∙ sym (order-some hits m.key f is)
+    order-behind hits m v f is (earlier f m.pos m.key (before (mark f m.key) (some_has _ at.0 at.1)))
 
 -- whatever is first is a hit
 pub first_hits-hit : (hits : Hits) (q : Mark) → is_some (map.get (first_hits hits) q) ≡ true → is_some (map.get hits q) ≡ true

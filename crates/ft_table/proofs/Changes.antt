@@ -108,6 +108,10 @@ pub order_before-beside : (hits after : Hits) (key : List Part) (o : Option Pos)
 order_before-beside hits after key None same = ap map.keys (others-beside hits after key same)
 order_before-beside hits after key (Some pos) same = ap (λ (h : Hits). map.keys (map.insert h (mark pos key) [])) (others-beside hits after key same)
 
+-- the order before a hit came, told by the hits after
+pub order-before-insert : (hits : Hits) (m : Mark) (v : List ℤ) (o : Option Pos) → first_place hits m.key ≡ o → order_of hits ≡ order_before (map.insert hits m v) m.key o
+order-before-insert hits m v o first = order-before hits m.key o first ∙ sym (order_before-beside hits (map.insert hits m v) m.key o (insert-beside hits m v))
+
 no_list : {X : Type 0} (es : List (Pos × X)) → least_key es ≡ None → length es ≡ 0
 no_list [] is = refl
 no_list (e ∷ es) is = cc

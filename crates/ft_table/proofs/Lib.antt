@@ -19,6 +19,7 @@ mod KeyParts
 mod Members
 mod OneKeys
 mod Only
+mod Outside
 mod Ranks
 mod Rising
 mod RowOrders

@@ -3,14 +3,15 @@ use Rattle.std.proofs.Common.{◌≡◌, ℕ, ◌+◌, ◌%◌, ◌^◌, Bool, t
 use Rattle.std.specs.Prelude.{ℤ, is_some}
 use Rattle.std.specs.List.{filter, sum_by}
 use Rattle.std.specs.Map.{values_of}
-use Rattle.std.specs.Ordering.{eq_by_cmp}
+use Rattle.std.specs.declared.cmp.Ordering.TheVariants.{Less, Equal, Greater}
+use Rattle.std.specs.Ordering.{eq_by_cmp, is_lt, ordering_reverse}
 use Rattle.std.specs.FinMap as map
 use Rattle.std.specs.FinMap.{put, entries-insert, get-empty, get-insert, get-remove, len-entries, same_map}
 use Rattle.ft_event.specs.declared.pos.Pos.{Pos}
 use Rattle.ft_event.specs.Places.{pos_cmp, pos_cmp_total, pos_same}
 use Rattle.ft_maps.specs.Entries.{entries-empty}
 use Rattle.ft_table.specs.Held.{only}
-use Rattle.ft_table.specs.Hits.{least_key, first_entry, hits_after, is_after, unsigned_at, sums_of, column}
+use Rattle.ft_table.specs.Hits.{EntryHits, least_key, first_with, first_entry, hits_after, is_after, unsigned_at, sums_of, column}
 use Rattle.ft_table.proofs.Columns.{column-more}
 use Rattle.ft_table.proofs.Flat.{is_equal}
 
@@ -83,3 +84,16 @@ still hit pos q false apart tie = refl
 -- and from nowhere else
 pub remove-beside : (hit : Pos × List ℤ) (pos : Pos) → eq_by_cmp pos_cmp pos hit.0 ≡ false → map.remove (only hit) pos ≡ only hit
 remove-beside hit pos apart = same_map pos_cmp_total pos_same _ _ (λ q. get-remove pos_cmp_total (only hit) pos q ∙ still hit pos q (eq_by_cmp pos_cmp q pos) apart refl)
+
+-- the first place of a list, as one is put in
+first-put : (p : Pos) (v : List ℤ) (es : List (Pos × List ℤ)) → least_key (put pos_cmp p v es) ≡ first_with (least_key es) p
+first-put p v [] = refl
+first-put p v (e ∷ es) =
+    elim (pos_cmp p e.0) as (λ o. pos_cmp p e.0 ≡ o → least_key (map.Entries.by_order o ((p, v) ∷ e ∷ es) ((e.0, v) ∷ es) (e ∷ put pos_cmp p v es)) ≡ first_with (Some e.0) p) [
+      | Less ↦ λ at. sym (ap (λ o. cond (is_lt o) (Some e.0) (Some p)) (pos_cmp_total.antisymm e.0 p ∙ ap ordering_reverse at))
+      | Equal ↦ λ at. ap (λ (q : Pos). Some q) (sym (pos_same p e.0 at)) ∙ sym (ap (λ o. cond (is_lt o) (Some e.0) (Some p)) (pos_cmp_total.antisymm e.0 p ∙ ap ordering_reverse at))
+      | Greater ↦ λ at. sym (ap (λ o. cond (is_lt o) (Some e.0) (Some p)) (pos_cmp_total.antisymm e.0 p ∙ ap ordering_reverse at))
+    ] refl
+
+pub first-insert : (hits : EntryHits) (p : Pos) (v : List ℤ) → least_key (map.entries (map.insert hits p v)) ≡ first_with (least_key (map.entries hits)) p
+first-insert hits p v = ap least_key (entries-insert pos_cmp_total hits p v) ∙ first-put p v (map.entries hits)

@@ -1,6 +1,6 @@
 -- Edits of a list in order, as edits of the finite map whose keys it lists.
 use Rattle.std.proofs.Common.{◌≡◌, ℕ, zero, suc, ◌<◌, ◌≤◌, Bool, true, false, cond, T, List, [], ◌∷◌, length, get_or, refl, sym, ap, subst, ◌∙◌, arith, Some, None, Option, ◌⊎◌, inl, inr}
-use Rattle.std.specs.Prelude.{◌&&◌}
+use Rattle.std.specs.Prelude.{◌&&◌, ◌-◌, slice_get}
 use Rattle.std.specs.List.{insert, remove}
 use Rattle.std.specs.declared.cmp.Ordering.{Ordering}
 use Rattle.std.specs.declared.cmp.Ordering.TheVariants.{Less, Equal, Greater}
@@ -11,6 +11,7 @@ use Rattle.std.specs.Map.{keys_of}
 use Rattle.std.specs.FinMap as map
 use Rattle.std.specs.FinMap.{FinMap, find, put, is_sorted, entries-insert, entries_sorted, get-entries}
 use Rattle.std.proofs.lemmas.Cmp.{tied_itself, alike_right}
+use Rattle.std.proofs.lemmas.Option.{get_or_from_slice_get, slice_get_within}
 use Rattle.ft_table.specs.Ascending.{Rises, IsPlace}
 
 and_left : (a b : Bool) → T (a && b) → T a
@@ -117,6 +118,16 @@ module _ {K : Type 0} {R : K → K → Ordering} (total : IsTotalOrder R) where
 -- behind all stands what all are below
 pub place-end : {K : Type 0} (R : K → K → Ordering) (ks : List K) (k : K) → ((j : ℕ) (d : K) → j < length ks → R (get_or ks j d) k ≡ Less) → IsPlace R ks k (length ks)
 place-end R ks k all = record { within = omega arith; below = λ j d lt. all j d lt; above = λ j d le lt. absurd (omega arith) }
+
+-- and behind a list in order what its last item is below
+pub place-behind : {K : Type 0} {R : K → K → Ordering} → IsTotalOrder R → (ks : List K) (k last : K) → Rises R ks → slice_get ks (length ks - 1) ≡ Some last → R last k ≡ Less → IsPlace R ks k (length ks)
+place-behind {R = R} total ks k last rises is less =
+    let n : ℕ = length ks - 1 in
+    let within : n < length ks = slice_get_within ks n last is in
+    place-end R ks k (λ j d lt. elim (le_split j n (omega (arith, within, lt))) [
+      | inl before ↦ total.trans (get_or ks j d) last k (subst (λ y. R (get_or ks j d) y ≡ Less) (get_or_from_slice_get ks n last d is) (rises j n d before within)) less
+      | inr same ↦ subst (λ y. R y k ≡ Less) (sym (ap (λ i. get_or ks i d) same ∙ get_or_from_slice_get ks n last d is)) less
+    ])
 
 module _ {K X : Type 0} (R : K → K → Ordering) where
   -- the keys behind a key are above it

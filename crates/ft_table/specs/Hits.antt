@@ -1,5 +1,5 @@
 -- Hits: values by place and key.
-use Rattle.std.specs.Prelude.{ℕ, ◌%◌, ◌^◌, ℤ, pos, Bool, true, List, [], ◌∷◌, Option, Some, None, map as list_map, slice_index_or}
+use Rattle.std.specs.Prelude.{ℕ, ◌%◌, ◌^◌, ℤ, pos, Bool, true, List, [], ◌∷◌, Option, Some, None, map as list_map, slice_index_or, if◌then◌else◌}
 use Rattle.std.specs.List.{filter, sum_by}
 use Rattle.std.specs.Int.{w64, cast_unsigned}
 use Rattle.std.specs.Ordering.{eq_by_cmp, is_lt}
@@ -51,6 +51,11 @@ least_key (e ∷ es) = Some e.0
 -- the place of a key's first hit (our own choice)
 abbrev pub first_place : Hits → List Part → Option Pos
 first_place hits key = least_key (map.entries (hits_of hits key))
+
+-- the first of places, as another comes (our own choice)
+abbrev pub first_with : Option Pos → Pos → Option Pos
+first_with None p = Some p
+first_with (Some f) p = if is_lt (pos_cmp f p) then Some f else Some p
 
 -- the first of a list (our own choice)
 abbrev pub first_entry : {X : Type 0} → List X → Option X

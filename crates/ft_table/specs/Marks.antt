@@ -12,6 +12,7 @@ use Rattle.ft_hist.specs.declared.key.Part.{Part}
 use Rattle.ft_hist.specs.Parts.{key_cmp}
 use Rattle.ft_hist.specs.Orders.{key_cmp_total}
 use Rattle.ft_hist.specs.Ties.{key_same}
+use Rattle.ft_table.specs.declared.hit.Hit.{Hit}
 use Rattle.ft_table.specs.declared.mark.Mark.{Mark}
 
 -- marks in order: by place, then by key (our own choice)
@@ -27,3 +28,7 @@ pub mark_same : IsAntisymmetric mark_cmp
 mark_same a b h =
     ap (λ (p : Pos × List Part). record { pos = p.0; key = p.1 })
     (exact_pairs pos_cmp key_cmp pos_same key_same (a.pos, a.key) (b.pos, b.key) h)
+
+-- where a hit stands (our own choice)
+abbrev pub mark_of : Hit → Mark
+mark_of hit = record { pos = hit.pos; key = hit.key }

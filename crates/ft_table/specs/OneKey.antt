@@ -1,5 +1,5 @@
 -- How little the keys in a table change with the hits of one key.
-use Rattle.std.specs.Prelude.{◌≡◌, ℤ, List, Some}
+use Rattle.std.specs.Prelude.{◌≡◌, ℤ, false, List, Some}
 use Rattle.std.specs.FinMap as map
 use Rattle.ft_hist.specs.declared.key.Part.{Part}
 use Rattle.ft_table.specs.declared.mark.Mark.{Mark}
@@ -20,6 +20,10 @@ LastGoesOut = (table : Tabled) (m : Mark) (v : List ℤ) (key : List Part) → (
 abbrev pub FirstComesIn : Type 0
 FirstComesIn = (table : Tabled) (m : Mark) (key : List Part) → (key ≡ m.key → ⊥) → (first_out table ≡ Some key → ⊥)
     → is_in (without_hit table m) key ≡ is_in table key
+
+-- the first key outside is not in the table (our own choice)
+abbrev pub FirstIsOut : Type 0
+FirstIsOut = (table : Tabled) (key : List Part) → first_out table ≡ Some key → is_in table key ≡ false
 
 -- two maps have the same hits of all keys but one (our own choice)
 abbrev pub AreSameBut : List Part → Hits → Hits → Type 0

@@ -1,15 +1,19 @@
 //! Entries: the hits of one key with their sums, and all keys with theirs.
 
 ghost use Rattle.std.specs.Prelude.{◌≡◌, ℕ, ◌+◌, ◌%◌, ◌<◌, ◌^◌, OnOk, OnErr, IfOk, None, Some, IsTrue};
+ghost use Rattle.std.specs.Prelude.{IfSome, MatchOption};
+ghost use Rattle.std.specs.declared.cmp.Ordering.TheVariants.{Less};
 ghost use Rattle.std.specs.Int.{w64, cast_unsigned};
 ghost use Rattle.std.specs.FinMap as map;
 ghost use Rattle.ft_table.specs.Hits.{sums_of, least_key, first_place, hitcount, hits_of};
 ghost use Rattle.ft_table.specs.Hits.{first_entry, hits_after, is_after};
 ghost use Rattle.ft_table.specs.ByKey.{hits_in};
+ghost use Rattle.ft_table.specs.Marks.{mark_of};
 ghost use Rattle.ft_hist.specs.Parts.{key_cmp};
 ghost use Rattle.ft_maps.specs.Seen.{seen};
 ghost use Rattle.ft_table.specs.Rows.{hit_after};
 ghost use Rattle.ft_table.specs.Held.{only};
+ghost use Rattle.ft_event.specs.Places.{pos_cmp};
 ghost use Rattle.ft_event.specs.declared.pos.Pos.{Pos};
 
 use crate::hit::Hit;
@@ -157,6 +161,31 @@ impl Entry {
         }
     }
 
+    /// Puts a hit at a place behind its first hit, if it has one before that place: where the first
+    /// stands. Else, and where it is refused for memory, it is as it was.
+    fn insert_behind(
+        &mut self,
+        alloc: Global,
+        pos: Pos,
+        values: [i64; 3],
+    ) -> Result<Option<Pos>, AllocError>
+        requires { map.get self.old pos ≡ None }
+        ensures ok { IfOk result (λ first. MatchOption first (self.new ≡ self.old)
+            (λ _. self.new ≡ map.insert self.old pos values)) }
+        ensures first { IfOk result (λ first. IfSome first (λ at.
+            least_key (map.entries self.old) ≡ Some at)) }
+        ensures behind { IfOk result (λ first. IfSome first (λ at. pos_cmp at pos ≡ Less)) }
+        ensures err { OnErr result (self.new ≡ self.old) }
+    {
+        match self.first() {
+            Some(first) if first < pos => {
+                self.insert(alloc, pos, values)?;
+                Ok(Some(first))
+            }
+            _ => Ok(None),
+        }
+    }
+
     /// The sums of its values, modulo 2^64.
     pub(crate) fn sums(&self) -> [u64; 3]
         ensures { result ≡ sums_of self.now }
@@ -248,6 +277,27 @@ pub(crate) fn holds(by_key: &BTreeMap<Key, Entry>, mark: Mark) -> bool
     match by_key.get(&mark.key) {
         Some(entry) => entry.contains(mark.pos),
         None => false,
+    }
+}
+
+/// Puts a hit in behind the first of its key, if that has one before it: where the first stands.
+/// Else, and where it is refused for memory, all is as it was.
+pub(crate) fn put_behind(
+    alloc: Global,
+    by_key: &mut BTreeMap<Key, Entry>,
+    hit: &Hit,
+) -> Result<Option<Pos>, AllocError>
+    requires { map.get (hits_in by_key.old) (mark_of hit.now) ≡ None }
+    ensures ok { IfOk result (λ first. MatchOption first (hits_in by_key.new ≡ hits_in by_key.old)
+        (λ _. hits_in by_key.new ≡ map.insert (hits_in by_key.old) (mark_of hit.now) hit.now.values)) }
+    ensures first { IfOk result (λ first. IfSome first (λ at.
+        first_place (hits_in by_key.old) hit.now.key ≡ Some at)) }
+    ensures behind { IfOk result (λ first. IfSome first (λ at. pos_cmp at hit.now.pos ≡ Less)) }
+    ensures err { OnErr result (hits_in by_key.new ≡ hits_in by_key.old) }
+{
+    match by_key.get_mut(&hit.key) {
+        Some(entry) => entry.insert_behind(alloc, hit.pos, hit.values),
+        None => Ok(None),
     }
 }
 

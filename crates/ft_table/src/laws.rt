@@ -4,7 +4,7 @@ ghost use Rattle.ft_table.specs.Admission.{FirstsAreFirst, InByRank, AllCount, I
 ghost use Rattle.ft_table.specs.Admission.{OutsideDrop, WholeCount};
 ghost use Rattle.ft_table.specs.Fits.{NoneFits, OneMoreFits, OneLessFits};
 ghost use Rattle.ft_table.specs.Growth.{KeysGrow, InGrows, RowsGrow, TotalsGrow};
-ghost use Rattle.ft_table.specs.OneKey.{LastGoesOut, FirstComesIn, OneOtherMoves};
+ghost use Rattle.ft_table.specs.OneKey.{LastGoesOut, FirstComesIn, FirstIsOut, OneOtherMoves};
 
 /// A law: a key is in a table just where it has a hit and fewer than `size` other keys have an
 /// earlier first hit.
@@ -39,6 +39,11 @@ pub fn one_key()
     ensures comes { LastGoesOut }
     ensures goes { FirstComesIn }
     ensures any { OneOtherMoves }
+{}
+
+/// A law: the first key outside a table isn't in it.
+pub fn first_outside()
+    ensures { FirstIsOut }
 {}
 
 /// A law: where the keys of all hits fit a trigger's key items, they do so as a hit comes whose key

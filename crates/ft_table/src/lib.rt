@@ -19,7 +19,7 @@ mod table;
 mod text;
 
 pub use hit::Hit;
-pub use laws::{all_hits, first_keys, fitting_keys, one_key, one_more_hit};
+pub use laws::{all_hits, first_keys, first_outside, fitting_keys, one_key, one_more_hit};
 pub use mark::{Mark, one_mark_order};
 pub use row::{Row, Totals};
 pub use sorting::one_row_order;

@@ -3,7 +3,9 @@
 ghost use Rattle.std.specs.Prelude.{◌≡◌, ℕ, ◌+◌, ◌%◌, ◌<◌, ◌^◌, OnOk, OnErr, None};
 ghost use Rattle.std.specs.Int.{w64, cast_unsigned};
 ghost use Rattle.std.specs.FinMap as map;
-ghost use Rattle.ft_table.specs.Hits.{sums_of, least_key, first_entry, hits_after};
+ghost use Rattle.ft_event.specs.Places.{pos_cmp};
+ghost use Rattle.ft_maps.specs.Seen.{seen};
+ghost use Rattle.ft_table.specs.Hits.{sums_of, least_key, first_with, first_entry, hits_after};
 
 use ft_event::Pos;
 use std::alloc::{AllocError, Global};
@@ -11,13 +13,15 @@ use std::collections::BTreeMap;
 use std::marker::Model;
 use std::ops::Bound;
 
-/// The hits of one key in a tree, by place, with the sums of their values modulo 2^64.
+/// The hits of one key in a tree, by place, with the sums of their values modulo 2^64 and the place
+/// of the first, for which a way down the tree would be dear.
 ///
 /// Contracts see the hits alone.
 #[derive(Drop)]
 pub(crate) struct Series {
     hits: BTreeMap<Pos, [i64; 3]>,
     sums: [u64; 3],
+    first: Option<Pos>,
 }
 
 impl Model for Series {
@@ -33,9 +37,11 @@ impl Model for Series {
     ghost view = { λ e. seen pos_cmp e.hits };
 
     ghost use Rattle.std.specs.Prelude.{◌≡◌};
-    ghost use Rattle.ft_table.specs.Hits.{sums_of};
+    ghost use Rattle.std.specs.FinMap as map;
+    ghost use Rattle.ft_table.specs.Hits.{sums_of, least_key};
 
-    ghost invariant = { λ e. e.sums ≡ sums_of (seen pos_cmp e.hits) };
+    ghost invariant = { λ e. (e.sums ≡ sums_of (seen pos_cmp e.hits))
+        × (e.first ≡ least_key (map.entries (seen pos_cmp e.hits))) };
 }
 
 /// A sum and a value, modulo 2^64.
@@ -53,6 +59,29 @@ fn taken(sum: u64, value: i64) -> u64
     sum.wrapping_sub(value.cast_unsigned())
 }
 
+/// The first of places, as another comes.
+fn first_with(first: Option<Pos>, pos: Pos) -> Option<Pos>
+    ensures { result ≡ first_with first pos }
+{
+    match first {
+        Some(before) if before < pos => Some(before),
+        _ => Some(pos),
+    }
+}
+
+/// The first place in a tree.
+fn least(hits: &BTreeMap<Pos, [i64; 3]>) -> Option<Pos>
+    ensures { result ≡ least_key (map.entries (seen pos_cmp hits.now)) }
+{
+    if hits.len() == 0 {
+        return None;
+    }
+    match hits.first_key_value() {
+        Some((pos, _)) => Some(*pos),
+        None => None,
+    }
+}
+
 impl Series {
     /// No hits.
     pub(crate) fn new(alloc: Global) -> Series
@@ -61,6 +90,7 @@ impl Series {
         Series {
             hits: BTreeMap::new(alloc),
             sums: [0, 0, 0],
+            first: None,
         }
     }
 
@@ -76,13 +106,7 @@ impl Series {
     pub(crate) fn first(&self) -> Option<Pos>
         ensures { result ≡ least_key (map.entries self.now) }
     {
-        if self.hits.len() == 0 {
-            return None;
-        }
-        match self.hits.first_key_value() {
-            Some((pos, _)) => Some(*pos),
-            None => None,
-        }
+        self.first
     }
 
     /// Its first hit after a place, or its first.
@@ -106,6 +130,7 @@ impl Series {
         ensures err { OnErr result (self.new ≡ self.old) }
     {
         self.hits.insert(pos, values)?;
+        self.first = first_with(self.first, pos);
         self.sums = [
             added(self.sums[0], values[0]),
             added(self.sums[1], values[1]),
@@ -136,6 +161,7 @@ impl Series {
         match self.hits.remove(&pos) {
             None => false,
             Some(values) => {
+                self.first = least(&self.hits);
                 self.sums = [
                     taken(self.sums[0], values[0]),
                     taken(self.sums[1], values[1]),

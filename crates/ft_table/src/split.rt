@@ -10,10 +10,12 @@ ghost use Rattle.ft_table.specs.Tabled.{order_of};
 ghost use Rattle.ft_table.specs.Moves.{order_with, order_without, order_before};
 ghost use Rattle.ft_table.specs.Moves.{with_more, with_less};
 ghost use Rattle.ft_table.specs.ByKey.{hits_in};
+ghost use Rattle.ft_table.specs.Marks.{mark_of};
 
-use crate::entry::{Entry, count_of, first_at, put_hit, take_hit};
+use crate::entry::{Entry, count_of, first_at, put_behind, put_hit, take_hit};
+use crate::hit::Hit;
 use crate::mark::Mark;
-use crate::order::place_of;
+use crate::order::{last_place_of, place_of};
 use ft_event::Pos;
 use ft_hist::Key;
 use std::alloc::{AllocError, Global};
@@ -107,7 +109,7 @@ fn enter(
     ensures split { IsSplit (hitcount (hits_in by_key.now)) size order.new.items
         split.new.hits split.new.dropped }
 {
-    let place = place_of(order, &mark);
+    let place = last_place_of(order, &mark);
     put_in(order, split, by_key, size, place, mark);
 }
 
@@ -167,22 +169,33 @@ pub(crate) fn settle(
     }
 }
 
-/// Counts a hit that came to a key whose first hit stands at a mark.
+/// Counts a hit that came to a key, whose first hit stands at a place.
 fn count_up(
     order: &[Mark],
     split: &mut Split,
     by_key: &BTreeMap<Key, Entry>,
     size: usize,
-    mark: Mark,
+    first: Pos,
+    key: &Key,
 )
-    requires order { order.now ≡ order_with (hits_in by_key.now) mark }
-    requires split { IsSplit (with_less (hitcount (hits_in by_key.now)) mark.key) size order.now
+    requires order { order.now
+        ≡ order_with (hits_in by_key.now) (record { pos = first; key = key.now }) }
+    requires split { IsSplit (with_less (hitcount (hits_in by_key.now)) key.now) size order.now
         split.old.hits split.old.dropped }
-    requires some { 0 < hitcount (hits_in by_key.now) mark.key }
+    requires some { 0 < hitcount (hits_in by_key.now) key.now }
     requires few { split.old.hits + split.old.dropped + 1 < 2 ^ 64 }
     ensures { IsSplit (hitcount (hits_in by_key.now)) size order.now
         split.new.hits split.new.dropped }
 {
+    // Where all keys are in, none need be looked for.
+    if order.len() <= size {
+        split.hits += 1;
+        return;
+    }
+    let mark = Mark {
+        pos: first,
+        key: *key,
+    };
     if place_of(order, &mark) < size {
         split.hits += 1;
     } else {
@@ -219,15 +232,15 @@ pub(crate) fn add_hit(
     order: &mut Vec<Mark>,
     split: &mut Split,
     size: usize,
-    mark: Mark,
-    values: [i64; 3],
+    hit: &Hit,
 ) -> Result<(), AllocError>
     requires some { 0 < size }
     requires order { order.old.items ≡ order_of (hits_in by_key.old) }
     requires split { IsSplit (hitcount (hits_in by_key.old)) size order.old.items
         split.old.hits split.old.dropped }
-    requires absent { map.get (hits_in by_key.old) mark ≡ None }
-    ensures hits { OnOk result (hits_in by_key.new ≡ map.insert (hits_in by_key.old) mark values) }
+    requires absent { map.get (hits_in by_key.old) (mark_of hit.now) ≡ None }
+    ensures hits { OnOk result (hits_in by_key.new ≡ map.insert (hits_in by_key.old) (mark_of hit.now)
+        hit.now.values) }
     ensures same_hits { OnErr result (hits_in by_key.new ≡ hits_in by_key.old) }
     ensures order { order.new.items ≡ order_of (hits_in by_key.new) }
     ensures split { IsSplit (hitcount (hits_in by_key.new)) size order.new.items
@@ -236,13 +249,52 @@ pub(crate) fn add_hit(
     if split.hits == u64::MAX - split.dropped {
         return Err(AllocError);
     }
+    // A hit behind its key's first leaves the order as it is.
+    match put_behind(alloc, by_key, hit)? {
+        Some(first) => {
+            count_up(order, split, by_key, size, first, &hit.key);
+            Ok(())
+        }
+        None => {
+            let mark = Mark {
+                pos: hit.pos,
+                key: hit.key,
+            };
+            add_and_settle(alloc, by_key, order, split, size, mark, hit.values)
+        }
+    }
+}
+
+/// Adds a hit where none stands, and moves its key to where its first hit stands then. Refused for
+/// memory, and then all is as it was.
+fn add_and_settle(
+    alloc: Global,
+    by_key: &mut BTreeMap<Key, Entry>,
+    order: &mut Vec<Mark>,
+    split: &mut Split,
+    size: usize,
+    mark: Mark,
+    values: [i64; 3],
+) -> Result<(), AllocError>
+    requires some { 0 < size }
+    requires order { order.old.items ≡ order_of (hits_in by_key.old) }
+    requires split { IsSplit (hitcount (hits_in by_key.old)) size order.old.items
+        split.old.hits split.old.dropped }
+    requires absent { map.get (hits_in by_key.old) mark ≡ None }
+    requires few { split.old.hits + split.old.dropped + 1 < 2 ^ 64 }
+    ensures hits { OnOk result (hits_in by_key.new ≡ map.insert (hits_in by_key.old) mark values) }
+    ensures same_hits { OnErr result (hits_in by_key.new ≡ hits_in by_key.old) }
+    ensures order { order.new.items ≡ order_of (hits_in by_key.new) }
+    ensures split { IsSplit (hitcount (hits_in by_key.new)) size order.new.items
+        split.new.hits split.new.dropped }
+{
     order.reserve(1)?;
     let before = first_at(by_key, &mark.key);
     put_hit(alloc, by_key, mark, values)?;
     match before {
         None => settle(order, split, by_key, size, mark.key, None),
         Some(pos) => {
-            count_up(order, split, by_key, size, Mark { pos, key: mark.key });
+            count_up(order, split, by_key, size, pos, &mark.key);
             settle(order, split, by_key, size, mark.key, Some(pos));
         }
     }

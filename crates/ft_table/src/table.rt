@@ -96,18 +96,13 @@ impl Table {
         ensures evals { work.new.evals ≡ work.old.evals }
     {
         work.tick_put();
-        let mark = Mark {
-            pos: hit.pos,
-            key: hit.key,
-        };
         add_hit(
             self.alloc,
             &mut self.by_key,
             &mut self.order,
             &mut self.split,
             self.size as usize,
-            mark,
-            hit.values,
+            &hit,
         )
     }
 

@@ -1,11 +1,11 @@
-//! Scripts over the plain board.
+//! Scripts over the boards.
 
 use super::streams::{Sink, Source};
-use crate::{PlainBoard, RunFault, Status, run, run_text};
+use crate::{KeptBoard, PlainBoard, Ran, RunFault, Status, run, run_text};
 use std::alloc::{AllocError, Global};
 use std::test::Fail;
 
-/// Runs a script over the plain board with one trace file.
+/// Runs a script over the kept board with one trace file.
 pub(super) fn ran_over(
     alloc: Global,
     trace: &[u8],
@@ -13,7 +13,7 @@ pub(super) fn ran_over(
     out: &mut Sink,
 ) -> Result<Result<Status, RunFault>, AllocError> {
     let files = one_file(alloc, trace)?;
-    Ok(run(alloc, PlainBoard::new(alloc), files.as_slice(), script, out))
+    Ok(run(alloc, KeptBoard::new(alloc), files.as_slice(), script, out))
 }
 
 /// The trace files of a run that has one.
@@ -33,11 +33,17 @@ pub(super) struct Example<'a> {
 }
 
 impl Example<'_> {
-    /// Whether the script prints that, and no more, and ends with that status.
+    /// Whether the script prints that, and no more, and ends with that status, over both boards.
     pub(super) fn holds(&self, alloc: Global) -> Result<bool, Fail> {
         let files = one_file(alloc, self.trace)?;
-        let ran = run_text(alloc, PlainBoard::new(alloc), files.as_slice(), self.script)?;
-        Ok(ran.status == self.status && ran.output.as_slice() == self.printed)
+        let plain = run_text(alloc, PlainBoard::new(alloc), files.as_slice(), self.script)?;
+        let kept = run_text(alloc, KeptBoard::new(alloc), files.as_slice(), self.script)?;
+        Ok(self.is(&plain) && self.is(&kept))
+    }
+
+    /// Whether a run printed that, and ended with that status.
+    fn is(&self, ran: &Ran) -> bool {
+        ran.status == self.status && ran.output.as_slice() == self.printed
     }
 }
 

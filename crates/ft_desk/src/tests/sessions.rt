@@ -1,16 +1,22 @@
-//! Scripts that edit and ask in turn, over the plain board.
+//! Scripts that edit and ask in turn, over both boards.
 
-use crate::{PlainBoard, Ran, Status, run_text};
+use crate::{KeptBoard, PlainBoard, Ran, Status, run_text};
 use std::alloc::{AllocError, Global};
 use std::test::*;
 
-/// Runs a script over the plain board with these trace files.
+/// Runs a script over both boards with these trace files. Where they don't print the same, what is
+/// answered is empty.
 pub(super) fn ran_with(alloc: Global, traces: &[&[u8]], script: &[u8]) -> Result<Ran, AllocError> {
     let mut files = Vec::new(alloc);
     for trace in traces {
         files.push(Vec::from_slice(alloc, trace)?)?;
     }
-    run_text(alloc, PlainBoard::new(alloc), &files, script)
+    let plain = run_text(alloc, PlainBoard::new(alloc), &files, script)?;
+    let mut kept = run_text(alloc, KeptBoard::new(alloc), &files, script)?;
+    if kept.status != plain.status || kept.output.as_slice() != plain.output.as_slice() {
+        kept.output.clear();
+    }
+    Ok(kept)
 }
 
 /// Comments, marks of lost events and blank lines are skipped; another event counts as a line.

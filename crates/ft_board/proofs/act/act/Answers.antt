@@ -6,8 +6,8 @@ use Rattle.std.specs.FinMap as map
 use Rattle.std.specs.FinMap.{nat_cmp-IsAntisymmetric}
 use Rattle.std.proofs.lemmas.Result.{on_ok_weaker}
 use Rattle.ft_maps.specs.Seen.{seen, get-seen, seen-found}
-use Rattle.ft_board.specs.Shelves.{Shelved, Shelves, Saved}
-use Rattle.ft_board.specs.Variables.{variable_cmp}
+use Rattle.ft_board.specs.OnShelves.{Shelved, Shelves, Saved}
+use Rattle.ft_kept.specs.Variables.{variable_cmp}
 use Rattle.ft_board.proofs.Shelving.{after_act-no_hit, after_act-no_shelf, after_act-hit}
 use Rattle.ft_board.proofs.act.act.Goals as goal
 

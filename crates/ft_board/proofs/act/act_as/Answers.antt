@@ -2,11 +2,11 @@
 use Rattle.std.proofs.Common.{◌≡◌, None, sym, ap, ◌∙◌}
 use Rattle.std.specs.FinMap as map
 use Rattle.ft_maps.specs.Seen.{seen}
-use Rattle.ft_board.specs.Replay.{values_at}
-use Rattle.ft_board.specs.Shelves.{Saved, after_hit}
-use Rattle.ft_board.specs.Variables.{variable_cmp, variable_cmp_total, variable_same}
-use Rattle.ft_board.specs.declared.role.Variable.{Variable}
-use Rattle.ft_board.specs.declared.role.Role.{Role}
+use Rattle.ft_kept.specs.Values.{values_at}
+use Rattle.ft_board.specs.OnShelves.{Saved, after_hit}
+use Rattle.ft_kept.specs.Variables.{variable_cmp, variable_cmp_total, variable_same}
+use Rattle.ft_kept.specs.declared.role.Variable.{Variable}
+use Rattle.ft_kept.specs.declared.role.Role.{Role}
 use Rattle.ft_board.proofs.Shelving.{remove_absent, after_hit-unset}
 use Rattle.ft_board.proofs.act.act_as.Goals as goal
 

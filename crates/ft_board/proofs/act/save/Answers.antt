@@ -1,4 +1,4 @@
-use Rattle.ft_board.specs.Variables.{variable_same}
+use Rattle.ft_kept.specs.Variables.{variable_same}
 use Rattle.ft_board.proofs.act.save.Goals as goal
 
 pub put-requires : goal.put-requires

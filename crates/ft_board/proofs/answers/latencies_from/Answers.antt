@@ -4,11 +4,11 @@ use Rattle.ft_hist.specs.Hist.{Hist}
 use Rattle.ft_maps.specs.Seen.{seen}
 use Rattle.ft_board.specs.declared.refused.Latency.{Latency}
 use Rattle.ft_board.specs.declared.refused.Refused.{Refused}
-use Rattle.ft_board.specs.declared.role.Pair.{Pair}
+use Rattle.ft_board.specs.declared.pair.Pair.{Pair}
 use Rattle.ft_board.specs.Answers.{tally_at, latency_of, latencies_as}
 use Rattle.ft_board.specs.Base.{Triggers, Events}
 use Rattle.ft_board.specs.Merged.{merged}
-use Rattle.ft_board.specs.Shelves.{tally_on, is_reader}
+use Rattle.ft_board.specs.OnShelves.{tally_on, is_reader}
 use Rattle.ft_board.proofs.Answering.{of_attached-some, latencies-reader}
 use Rattle.ft_board.proofs.Growing.{pairs-tally}
 use Rattle.ft_board.proofs.answers.latencies_from.Goals as goal

@@ -5,7 +5,7 @@ use Rattle.std.specs.Cmp.{nat_cmp_total}
 use Rattle.std.specs.FinMap as map
 use Rattle.ft_maps.specs.Seen.{seen, get-seen}
 use Rattle.ft_board.specs.Merged.{merged}
-use Rattle.ft_board.specs.Shelves.{Shelves}
+use Rattle.ft_board.specs.OnShelves.{Shelves}
 use Rattle.ft_board.proofs.Answering.{some_shelf, shelf_fits, shelf_tally}
 use Rattle.ft_board.proofs.answers.shelf_at.Goals as goal
 

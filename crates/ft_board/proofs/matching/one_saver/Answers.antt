@@ -1,6 +1,6 @@
 use Rattle.std.proofs.Common.{ap}
 use Rattle.std.specs.Prelude.{unwrap_or}
-use Rattle.ft_board.specs.declared.role.Role.TheVariants.{Reads}
+use Rattle.ft_kept.specs.declared.role.Role.TheVariants.{Reads}
 use Rattle.ft_board.proofs.OneSaver.{one_saver}
 use Rattle.ft_board.proofs.matching.one_saver.Goals as goal
 

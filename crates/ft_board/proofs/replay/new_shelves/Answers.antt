@@ -8,7 +8,7 @@ use Rattle.ft_hist.specs.Hist.{Hist}
 use Rattle.ft_maps.specs.Seen.{seen, seen-empty}
 use Rattle.ft_board.specs.Base.{Triggers}
 use Rattle.ft_board.specs.Roles.{role_of}
-use Rattle.ft_board.specs.Shelves.{Shelves, with_shelf, new_shelf}
+use Rattle.ft_board.specs.OnShelves.{Shelves, with_shelf, new_shelf}
 use Rattle.ft_board.proofs.Shelved.{new_shelves-fold}
 use Rattle.ft_board.proofs.replay.new_shelves.Goals as goal
 

@@ -2,7 +2,7 @@ use Rattle.std.proofs.Common.{◌≡◌}
 use Rattle.std.specs.Prelude.{fold}
 use Rattle.std.specs.Ordering.{nat_cmp}
 use Rattle.ft_maps.specs.Seen.{seen}
-use Rattle.ft_board.specs.Shelves.{with_shelf, new_shelves}
+use Rattle.ft_board.specs.OnShelves.{with_shelf, new_shelves}
 use Rattle.ft_board.proofs.replay.new_shelves.Given as goal
 
 -- the triggers that are left lead where all triggers lead

@@ -19,8 +19,8 @@ use Rattle.ft_board.specs.Base.{Triggers, Events}
 use Rattle.ft_board.specs.Merged.{merged}
 use Rattle.ft_board.specs.Named.{named}
 use Rattle.ft_board.specs.Replay.{State, step}
-use Rattle.ft_board.specs.Shelves.{state_on, new_shelves, AreShelved, AllBeforePlace}
-use Rattle.ft_board.specs.Variables.{variable_cmp}
+use Rattle.ft_board.specs.OnShelves.{state_on, new_shelves, AreShelved, AllBeforePlace}
+use Rattle.ft_kept.specs.Variables.{variable_cmp}
 use Rattle.ft_board.proofs.Earlier.{act_of, all_above}
 use Rattle.ft_board.proofs.Apart.{all_of}
 use Rattle.ft_board.proofs.Naming.{named_all, replay-named}

@@ -12,8 +12,8 @@ use Rattle.ft_maps.specs.Seen.{seen}
 use Rattle.ft_board.specs.Merged.{merged}
 use Rattle.ft_board.specs.Named.{named}
 use Rattle.ft_board.specs.Replay.{step, started}
-use Rattle.ft_board.specs.Shelves.{state_on, AreShelved, AllBeforePlace}
-use Rattle.ft_board.specs.Variables.{variable_cmp}
+use Rattle.ft_board.specs.OnShelves.{state_on, AreShelved, AllBeforePlace}
+use Rattle.ft_kept.specs.Variables.{variable_cmp}
 use Rattle.ft_board.proofs.replay.replayed.Given as goal
 
 -- the events that are left lead where all events lead; their places have their stamps, ascend, and stand behind all hits; each trigger has its shelf

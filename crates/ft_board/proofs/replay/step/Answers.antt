@@ -18,8 +18,8 @@ use Rattle.ft_maps.specs.Seen.{seen}
 use Rattle.ft_pairs.specs.declared.at.At.{At}
 use Rattle.ft_board.specs.Base.{Triggers}
 use Rattle.ft_board.specs.Replay.{State, act_at}
-use Rattle.ft_board.specs.Shelves.{Shelves, Saved, state_on, after_act, AreShelved, AllBefore}
-use Rattle.ft_board.specs.Variables.{variable_cmp}
+use Rattle.ft_board.specs.OnShelves.{Shelves, Saved, state_on, after_act, AreShelved, AllBefore}
+use Rattle.ft_kept.specs.Variables.{variable_cmp}
 use Rattle.ft_board.proofs.Earlier.{act_of, earlier_place, lower_id, all_above}
 use Rattle.ft_board.proofs.Apart.{all_of, entries_found}
 use Rattle.ft_board.proofs.Shelved.{after_act-acts, step-fold}

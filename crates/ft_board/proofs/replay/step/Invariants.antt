@@ -10,8 +10,8 @@ use Rattle.ft_event.specs.Places.{pos_cmp}
 use Rattle.ft_event.specs.declared.pos.Pos.{Pos}
 use Rattle.ft_maps.specs.Seen.{seen}
 use Rattle.ft_board.specs.Replay.{act_at}
-use Rattle.ft_board.specs.Shelves.{state_on, AreShelved, AllBefore, AllBeforePlace}
-use Rattle.ft_board.specs.Variables.{variable_cmp}
+use Rattle.ft_board.specs.OnShelves.{state_on, AreShelved, AllBefore, AllBeforePlace}
+use Rattle.ft_kept.specs.Variables.{variable_cmp}
 use Rattle.ft_board.proofs.Earlier.{act_of}
 use Rattle.ft_board.proofs.replay.step.Given as goal
 

@@ -1,63 +1,56 @@
--- The order and the counts, with the new hit but before its key was moved.
-use Rattle.std.proofs.Common.{◌≡◌, ℕ, false, List, sym, ap, subst, ◌∙◌, arith, Some, None, Option}
-use Rattle.std.specs.Prelude.{ℤ}
+-- A hit behind its key's first leaves the order as it is, and its key has one more.
+use Rattle.std.proofs.Common.{◌≡◌, ℕ, List, sym, ap, subst, ◌∙◌, arith, Some, Option}
+use Rattle.std.specs.Prelude.{IfSome, MatchOption}
+use Rattle.std.specs.declared.cmp.Ordering.TheVariants.{Less}
 use Rattle.std.specs.FinMap as map
 use Rattle.ft_event.specs.declared.pos.Pos.{Pos}
+use Rattle.ft_event.specs.Places.{pos_cmp}
 use Rattle.ft_hist.specs.declared.key.Part.{Part}
 use Rattle.ft_table.specs.declared.mark.Mark.{Mark}
 use Rattle.ft_table.specs.Split.{IsSplit}
 use Rattle.ft_table.specs.ByKey.{hits_in}
+use Rattle.ft_table.specs.Marks.{mark_of}
 use Rattle.ft_table.specs.Hits.{Hits, hitcount, first_place}
 use Rattle.ft_table.specs.Tabled.{order_of}
-use Rattle.ft_table.specs.Moves.{order_without, order_before, with_less}
-use Rattle.ft_table.proofs.Firsts.{order-none}
-use Rattle.ft_table.proofs.Changes.{insert-beside, count-insert, counts-insert, counts-less, order-before, order_before-beside, hitcount-none}
-use Rattle.ft_table.proofs.Counts.{split-without}
+use Rattle.ft_table.specs.Moves.{order_before, with_less}
+use Rattle.ft_table.proofs.Appends.{order-behind}
+use Rattle.ft_table.proofs.Changes.{count-insert, counts-less, order-before-insert}
 use Rattle.ft_table.proofs.split.add_hit.Goals as goal
 
--- the order before is the one but for the key's move
-before : (hits : Hits) (m : Mark) (v : List ℤ) (order : List Mark) (o : Option Pos) → order ≡ order_of hits → first_place hits m.key ≡ o → (after : Hits) → after ≡ map.insert hits m v → order ≡ order_before after m.key o
-before hits m v order o is first after e =
-    is ∙ order-before hits m.key o first ∙ sym (order_before-beside hits (map.insert hits m v) m.key o (insert-beside hits m v)) ∙ ap (λ (h : Hits). order_before h m.key o) (sym e)
+inserted : (A B : Type 0) (o : Option Pos) (pos : Pos) → o ≡ Some pos → MatchOption o A (λ _. B) → B
+inserted A B o pos is h = subst (λ (o : Option Pos). MatchOption o A (λ _. B)) is h
 
-pub settle-requires-clause-order : goal.settle-requires-clause-order
-settle-requires-clause-order c =
-    before (hits_in c.args.by_key.now) c.args.mark c.args.values c.reserve.new.self.items None (c.reserve.ensures.items ∙ c.requires.order) (sym c.first_at-before.ensures ∙ c.in-None.is) (hits_in c.put_hit.new.by_key) c.in_ok-put_hit.ensures.ok
-
-pub settle-requires-clause-split : goal.settle-requires-clause-split
-settle-requires-clause-split c =
-    let hits : Hits = hits_in c.args.by_key.now in
-    let key = c.args.mark.key in
-    let after : Hits = map.insert hits c.args.mark c.args.values in
-    let order : c.args.order.now.items ≡ order_without hits key = c.requires.order ∙ order-none hits key (sym c.first_at-before.ensures ∙ c.in-None.is) in
-    let old : IsSplit (hitcount hits) c.args.size (order_without hits key) c.args.split.now.hits c.args.split.now.dropped = subst (λ ms. IsSplit (hitcount hits) c.args.size ms c.args.split.now.hits c.args.split.now.dropped) order c.requires.split in
-    let new = split-without hits (hitcount hits) (hitcount after) key c.args.size c.args.split.now.hits c.args.split.now.dropped (λ q apart. counts-insert hits c.args.mark c.args.values c.requires.absent q false apart) old in
-    subst (λ (t : Hits × List Mark). IsSplit (hitcount t.0) c.args.size t.1 c.args.split.now.hits c.args.split.now.dropped) (λ i. (sym c.in_ok-put_hit.ensures.ok i, sym (c.reserve.ensures.items ∙ order) i)) new
-
-pub settle-requires-clause-few : goal.settle-requires-clause-few
-settle-requires-clause-few c _ =
-    let hits : Hits = hits_in c.args.by_key.now in
-    let one = ap (λ (h : Hits). hitcount h c.args.mark.key) c.in_ok-put_hit.ensures.ok ∙ count-insert hits c.args.mark c.args.values c.requires.absent in
-    let none = hitcount-none hits c.args.mark.key (sym c.first_at-before.ensures ∙ c.in-None.is) in
-    let fits = c.requires.split.fits in
-    omega (arith, one, none, fits, c.if-split.false)
+told : (P : Pos → Type 0) (o : Option Pos) (pos : Pos) → o ≡ Some pos → IfSome o P → P pos
+told P o pos is h = subst (λ (o : Option Pos). IfSome o P) is h
 
 pub count_up-requires-clause-order : goal.count_up-requires-clause-order
 count_up-requires-clause-order c =
-    before (hits_in c.args.by_key.now) c.args.mark c.args.values c.deref.result.now (Some c.in-Some.pos) (c.deref.ensures.value ∙ c.reserve.ensures.items ∙ c.requires.order) (sym c.first_at-before.ensures ∙ c.in-Some.is) (hits_in c.put_hit.new.by_key) c.in_ok-put_hit.ensures.ok
+    let hits : Hits = hits_in c.args.by_key.now in
+    let key = c.args.hit.now.key in
+    let after : hits_in c.put_behind.new.by_key ≡ map.insert hits (mark_of c.args.hit.now) c.args.hit.now.values = inserted _ _ c.in_ok-first.field-0 c.in-Some.first c.in-Some.is c.in_ok-first.ensures.ok in
+    let first = told (λ at. first_place hits key ≡ Some at) c.in_ok-first.field-0 c.in-Some.first c.in-Some.is c.in_ok-first.ensures.first in
+    c.deref.ensures.value ∙ c.requires.order ∙ order-before-insert hits (mark_of c.args.hit.now) c.args.hit.now.values (Some c.in-Some.first) first
+    ∙ ap (λ (h : Hits). order_before h key (Some c.in-Some.first)) (sym after)
 
 pub count_up-requires-clause-split : goal.count_up-requires-clause-split
 count_up-requires-clause-split c =
     let hits : Hits = hits_in c.args.by_key.now in
-    let counts : hitcount hits ≡ with_less (hitcount (hits_in c.put_hit.new.by_key)) c.args.mark.key =
-    counts-less hits c.args.mark c.args.values c.requires.absent ∙ ap (λ (h : Hits). with_less (hitcount h) c.args.mark.key) (sym c.in_ok-put_hit.ensures.ok) in
-    subst (λ (t : (List Part → ℕ) × List Mark). IsSplit t.0 c.args.size t.1 c.args.split.now.hits c.args.split.now.dropped) (λ i. (counts i, sym (c.deref.ensures.value ∙ c.reserve.ensures.items) i)) c.requires.split
+    let after : hits_in c.put_behind.new.by_key ≡ map.insert hits (mark_of c.args.hit.now) c.args.hit.now.values = inserted _ _ c.in_ok-first.field-0 c.in-Some.first c.in-Some.is c.in_ok-first.ensures.ok in
+    let counts : hitcount hits ≡ with_less (hitcount (hits_in c.put_behind.new.by_key)) c.args.hit.now.key =
+    counts-less hits (mark_of c.args.hit.now) c.args.hit.now.values c.requires.absent ∙ ap (λ (h : Hits). with_less (hitcount h) c.args.hit.now.key) (sym after) in
+    subst (λ (t : (List Part → ℕ) × List Mark). IsSplit t.0 c.args.size t.1 c.args.split.now.hits c.args.split.now.dropped) (λ i. (counts i, sym c.deref.ensures.value i)) c.requires.split
 
 pub count_up-requires-clause-some : goal.count_up-requires-clause-some
 count_up-requires-clause-some c =
-    let one = ap (λ (h : Hits). hitcount h c.args.mark.key) c.in_ok-put_hit.ensures.ok ∙ count-insert (hits_in c.args.by_key.now) c.args.mark c.args.values c.requires.absent in
+    let hits : Hits = hits_in c.args.by_key.now in
+    let after : hits_in c.put_behind.new.by_key ≡ map.insert hits (mark_of c.args.hit.now) c.args.hit.now.values = inserted _ _ c.in_ok-first.field-0 c.in-Some.first c.in-Some.is c.in_ok-first.ensures.ok in
+    let one = ap (λ (h : Hits). hitcount h c.args.hit.now.key) after ∙ count-insert hits (mark_of c.args.hit.now) c.args.hit.now.values c.requires.absent in
     omega (arith, one)
 
-pub settle-requires-in-Some-clause-order : goal.settle-requires-in-Some-clause-order
-settle-requires-in-Some-clause-order c =
-    before (hits_in c.args.by_key.now) c.args.mark c.args.values c.reserve.new.self.items (Some c.in-Some.pos) (c.reserve.ensures.items ∙ c.requires.order) (sym c.first_at-before.ensures ∙ c.in-Some.is) (hits_in c.put_hit.new.by_key) c.in_ok-put_hit.ensures.ok
+pub returns-in-Some-clause-order : goal.returns-in-Some-clause-order
+returns-in-Some-clause-order c =
+    let hits : Hits = hits_in c.args.by_key.now in
+    let after : hits_in c.put_behind.new.by_key ≡ map.insert hits (mark_of c.args.hit.now) c.args.hit.now.values = inserted _ _ c.in_ok-first.field-0 c.in-Some.first c.in-Some.is c.in_ok-first.ensures.ok in
+    let first = told (λ at. first_place hits c.args.hit.now.key ≡ Some at) c.in_ok-first.field-0 c.in-Some.first c.in-Some.is c.in_ok-first.ensures.first in
+    let behind = told (λ at. pos_cmp at c.args.hit.now.pos ≡ Less) c.in_ok-first.field-0 c.in-Some.first c.in-Some.is c.in_ok-first.ensures.behind in
+    c.requires.order ∙ sym (order-behind hits (mark_of c.args.hit.now) c.args.hit.now.values c.in-Some.first first behind) ∙ ap order_of (sym after)

@@ -9,12 +9,12 @@ use Rattle.ft_table.proofs.Sorted.{rises-keys}
 use Rattle.ft_table.proofs.Firsts.{order-enter}
 use Rattle.ft_table.proofs.split.enter.Goals as goal
 
-pub place_of-place-requires : goal.place_of-place-requires
-place_of-place-requires c = subst (Rises mark_cmp) (sym (c.deref.ensures.value ∙ c.requires.order)) (rises-keys (others (hits_in c.args.by_key.now) c.args.mark.key))
+pub last_place_of-place-requires : goal.last_place_of-place-requires
+last_place_of-place-requires c = subst (Rises mark_cmp) (sym (c.deref.ensures.value ∙ c.requires.order)) (rises-keys (others (hits_in c.args.by_key.now) c.args.mark.key))
 
 pub returns-clause-order : goal.returns-clause-order
 returns-clause-order c =
     let is = c.deref.ensures.value ∙ c.requires.order in
     c.put_in.ensures.order
-    ∙ ap (λ (ms : List Mark). insert ms c.place_of-place.result c.args.mark) c.requires.order
-    ∙ sym (order-enter (hits_in c.args.by_key.now) c.args.mark c.place_of-place.result (subst (λ ms. IsPlace mark_cmp ms c.args.mark c.place_of-place.result) is c.place_of-place.ensures))
+    ∙ ap (λ (ms : List Mark). insert ms c.last_place_of-place.result c.args.mark) c.requires.order
+    ∙ sym (order-enter (hits_in c.args.by_key.now) c.args.mark c.last_place_of-place.result (subst (λ ms. IsPlace mark_cmp ms c.args.mark c.last_place_of-place.result) is c.last_place_of-place.ensures))

@@ -1,12 +1,13 @@
 -- No values have no sums.
-use Rattle.std.proofs.Common.{ℕ, ◌%◌, ◌^◌, List, [], ◌∷◌, sym, ap, ◌∙◌}
+use Rattle.std.proofs.Common.{◌≡◌, ℕ, ◌%◌, ◌^◌, List, [], ◌∷◌, sym, ap, ◌∙◌}
 use Rattle.std.specs.Prelude.{ℤ}
 use Rattle.std.specs.List.{sum_by}
 use Rattle.std.specs.Map.{values_of}
+use Rattle.std.specs.FinMap as map
 use Rattle.ft_event.specs.declared.pos.Pos.{Pos}
 use Rattle.ft_event.specs.Places.{pos_cmp}
-use Rattle.ft_table.specs.Hits.{unsigned_at, sums_of}
-use Rattle.ft_maps.specs.Seen.{seen-empty}
+use Rattle.ft_table.specs.Hits.{EntryHits, unsigned_at, sums_of, least_key}
+use Rattle.ft_maps.specs.Seen.{seen, seen-empty}
 use Rattle.ft_maps.specs.Entries.{entries-empty}
 use Rattle.ft_table.proofs.series.Series.new.Goals as goal
 
@@ -15,4 +16,8 @@ total j es = sum_by (unsigned_at j) (values_of es) % 2 ^ 64
 
 pub invariant_of-result : goal.invariant_of-result
 invariant_of-result c =
-    sym (ap sums_of (seen-empty pos_cmp c.new.result c.new.ensures.empty) ∙ ap (λ (es : List (Pos × List ℤ)). total 0 es ∷ total 1 es ∷ total 2 es ∷ []) (entries-empty {X = List ℤ} pos_cmp))
+    let none : EntryHits = map.empty in
+    let empty : seen pos_cmp c.new.result ≡ none = seen-empty pos_cmp c.new.result c.new.ensures.empty in (
+      sym (ap sums_of empty ∙ ap (λ (es : List (Pos × List ℤ)). total 0 es ∷ total 1 es ∷ total 2 es ∷ []) (entries-empty {X = List ℤ} pos_cmp)),
+      sym (ap (λ (l : EntryHits). least_key (map.entries l)) empty ∙ ap least_key (entries-empty {X = List ℤ} pos_cmp)),
+    )

@@ -28,7 +28,7 @@ pub invariant_of-self-in-Some : goal.invariant_of-self-in-Some
 invariant_of-self-in-Some c =
     let entry : EntryHits = seen pos_cmp c.self.inside.hits in
     let v = c.in-Some.values in
-    let sums : c.self.inside.sums ≡ sums_of entry = c.self.invariant in
+    let sums : c.self.inside.sums ≡ sums_of entry = c.self.invariant.0 in
     let has : map.get entry c.args.pos ≡ Some v = get-seen pos_cmp_total c.self.inside.hits c.args.pos ∙ sym c.remove.ensures.value ∙ c.in-Some.is in
     let new : seen pos_cmp c.remove.new.self ≡ map.remove entry c.args.pos = seen-remove pos_cmp_total pos_same c.self.inside.hits c.remove.new.self c.args.pos c.remove.ensures.updates.0 in
     let rest : ℕ → ℕ = λ j. sum_by (unsigned_at j) (map.values (map.remove entry c.args.pos)) in
@@ -38,4 +38,4 @@ invariant_of-self-in-Some c =
     let a = c.taken.ensures (rest 0) (grind (arith, to_z-of_z, p0)) in
     let b = c.taken-in-Some.ensures (rest 1) (grind (arith, to_z-of_z, p1)) in
     let d = c.taken-in-Some-2.ensures (rest 2) (grind (arith, to_z-of_z, p2)) in
-    (λ i. a i ∷ b i ∷ d i ∷ []) ∙ ap sums_of (sym new)
+    ((λ i. a i ∷ b i ∷ d i ∷ []) ∙ ap sums_of (sym new), c.least-self-inside.ensures)

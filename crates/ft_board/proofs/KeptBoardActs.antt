@@ -1,0 +1,102 @@
+-- The acts at merged events: their events are held, and no other than those of named events are there.
+use Rattle.std.proofs.Common.{◌≡◌, ℕ, Bool, true, false, cond, List, [], ◌∷◌, refl, sym, ap, ◌∙◌, Option, Some, None, unwrap_or}
+use Rattle.std.specs.Prelude.{◌==◌, ◌&&◌, if◌then◌else◌, option_map, option_and_then}
+use Rattle.std.specs.List.{list_any}
+use Rattle.std.specs.Ordering.{nat_cmp, eq_by_cmp}
+use Rattle.std.specs.FinMap as map
+use Rattle.std.specs.FinMap.{get-entries}
+use Rattle.std.specs.FinMap.Entries as entries
+use Rattle.std.proofs.lemmas.Bool.{eqb-true, or_parts}
+use Rattle.std.proofs.lemmas.Map.Entries.{option_filter}
+use Rattle.ft_event.specs.Traced.{Traced, name_of}
+use Rattle.ft_event.specs.declared.pos.Pos.{Pos}
+use Rattle.ft_hist.specs.Hist.{Hist}
+use Rattle.ft_hist.specs.Hit.{hit, key_of, passes_filter, same_name}
+use Rattle.ft_hist.specs.declared.key.Part.{Part}
+use Rattle.ft_lanes.specs.Held.{Lanes, event_at}
+use Rattle.ft_kept.specs.Acts.{AreHeld, acts_of}
+use Rattle.ft_board.specs.Base.{Triggers, Events}
+use Rattle.ft_board.specs.Merged.{merged, held_at}
+use Rattle.ft_board.specs.Named.{is_on, is_named, named}
+use Rattle.ft_board.proofs.Placing.{get-named}
+use Rattle.ft_board.proofs.Places.{merged_at}
+
+-- ---- acts are held
+
+-- an event that is held at a place is its line's, with its stamp
+pub held_is : (lanes : Lanes) (pos : Pos) (event : Traced) → held_at lanes pos ≡ Some event → (event_at lanes pos.cpu pos.line ≡ Some event) × (event.stamp ≡ pos.stamp)
+held_is lanes pos event held =
+    elim (event_at lanes pos.cpu pos.line) as (λ (o : Option Traced). option_and_then (λ (e : Traced). if e.stamp == pos.stamp then Some e else None) o ≡ Some event → (o ≡ Some event) × (event.stamp ≡ pos.stamp)) [
+      | None ↦ λ is. let both : ◌≡◌ {A = Option Traced} None (Some event) = is in absurd cc
+      | Some e ↦ λ is. elim (e.stamp == pos.stamp) as (λ (b : Bool). (e.stamp == pos.stamp) ≡ b → (if b then Some e else None) ≡ Some event → (Some e ≡ Some event) × (event.stamp ≡ pos.stamp)) [
+        | true ↦ λ same found. (found, sym (ap (λ (o : Option Traced). (unwrap_or o e).stamp) found) ∙ eqb-true e.stamp pos.stamp same)
+        | false ↦ λ other found. let both : ◌≡◌ {A = Option Traced} None (Some event) = found in absurd cc
+      ] refl is
+    ] held
+
+-- all of some events are held
+abbrev pub AllHeld : Lanes → Events → Type 0
+AllHeld lanes events = (pos : Pos) (event : Traced) → map.get events pos ≡ Some event → held_at lanes pos ≡ Some event
+
+pub merged_held : (lanes : Lanes) → AllHeld lanes (merged lanes)
+merged_held lanes pos event is = sym (merged_at pos lanes) ∙ is
+
+abbrev pub with_event : Traced → Option (List Part) → Option (List Part × Traced)
+with_event event key = option_map (λ k. (k, event)) key
+
+abbrev pub act_in : Option Hist → Traced → Option (List Part × Traced)
+act_in hist event = option_and_then (λ (h : Hist). with_event event (hit h event)) hist
+
+act_event : (hist : Option Hist) (own : Traced) (key : List Part) (event : Traced) → act_in hist own ≡ Some (key, event) → own ≡ event
+act_event None own key event is = let both : ◌≡◌ {A = Option (List Part × Traced)} None (Some (key, event)) = is in absurd cc
+act_event (Some h) own key event is =
+    elim (hit h own) as (λ (o : Option (List Part)). with_event own o ≡ Some (key, event) → own ≡ event) [
+      | None ↦ λ e. let both : ◌≡◌ {A = Option (List Part × Traced)} None (Some (key, event)) = e in absurd cc
+      | Some k ↦ λ e. ap (λ (o : Option (List Part × Traced)). (unwrap_or o (key, own)).1) e
+    ] is
+
+pub acts_held : (triggers : Triggers) (lanes : Lanes) (events : Events) → AllHeld lanes events → AreHeld lanes (acts_of triggers events)
+unfolding acts_of
+acts_held triggers lanes events all at key event is =
+    elim (map.get events at.pos) as (λ (o : Option Traced). map.get events at.pos ≡ o → option_and_then (λ (e : Traced). act_in (map.get triggers at.trigger) e) o ≡ Some (key, event) → (event_at lanes at.pos.cpu at.pos.line ≡ Some event) × (event.stamp ≡ at.pos.stamp)) [
+      | None ↦ λ _ e. let both : ◌≡◌ {A = Option (List Part × Traced)} None (Some (key, event)) = e in absurd cc
+      | Some own ↦ λ there e. held_is lanes at.pos event (all at.pos event (there ∙ ap (λ (x : Traced). Some x) (act_event (map.get triggers at.trigger) own key event e)))
+    ] refl is
+
+-- ---- acts are of named events
+
+unasked : (test : ℕ × Hist → Bool) (es : List (ℕ × Hist)) (id : ℕ) (hist : Hist) → list_any test es ≡ false → entries.find nat_cmp id es ≡ Some hist → (k : ℕ) × (test (k, hist) ≡ false)
+unasked test [] id hist none found = let both : ◌≡◌ {A = Option Hist} None (Some hist) = found in absurd cc
+unasked test (e ∷ es) id hist none found =
+    let parts = or_parts (test e) (list_any test es) none in
+    elim (eq_by_cmp nat_cmp id e.0) as (λ (b : Bool). cond b (Some e.1) (entries.find nat_cmp id es) ≡ Some hist → (k : ℕ) × (test (k, hist) ≡ false)) [
+      | true ↦ λ here. (e.0, ap (λ (h : Hist). test (e.0, h)) (sym (ap (λ (o : Option Hist). unwrap_or o e.1) here)) ∙ parts.0)
+      | false ↦ λ later. unasked test es id hist parts.1 later
+    ] found
+
+no_hit : (hist : Hist) (event : Traced) → same_name hist.event (name_of event.body) ≡ false → hit hist event ≡ None
+no_hit hist event other = ap (λ (b : Bool). if b && passes_filter hist.filter event then key_of hist.keys event else None) other
+
+idle_in : (triggers : Triggers) (id : ℕ) (event : Traced) → is_named triggers event ≡ false → act_in (map.get triggers id) event ≡ None
+unfolding is_on
+idle_in triggers id event none =
+    elim (map.get triggers id) as (λ (o : Option Hist). map.get triggers id ≡ o → act_in o event ≡ None) [
+      | None ↦ λ _. refl
+      | Some hist ↦ λ there.
+          let other = unasked (λ attached. same_name attached.1.event (name_of event.body)) (map.entries triggers) id hist none (sym (get-entries triggers id) ∙ there) in
+          ap (with_event event) (no_hit hist event other.1)
+    ] refl
+
+named_at : (triggers : Triggers) (id : ℕ) (o : Option Traced) → option_and_then (λ (e : Traced). act_in (map.get triggers id) e) (option_filter (is_named triggers) o) ≡ option_and_then (λ (e : Traced). act_in (map.get triggers id) e) o
+named_at triggers id None = refl
+named_at triggers id (Some event) =
+    elim (is_named triggers event) as (λ (b : Bool). is_named triggers event ≡ b → option_and_then (λ (e : Traced). act_in (map.get triggers id) e) (cond b (Some event) None) ≡ act_in (map.get triggers id) event) [
+      | true ↦ λ _. refl
+      | false ↦ λ none. sym (idle_in triggers id event none)
+    ] refl
+
+pub named_acts : (triggers : Triggers) (events : Events) → acts_of triggers (named triggers events) ≡ acts_of triggers events
+unfolding acts_of
+named_acts triggers events i at =
+    (ap (λ (o : Option Traced). option_and_then (λ (e : Traced). act_in (map.get triggers at.trigger) e) o) (get-named triggers map.empty events at.pos)
+    ∙ named_at triggers at.trigger (map.get events at.pos)) i

@@ -1,0 +1,10 @@
+-- Empty tables are kept of the empty base.
+use Rattle.std.proofs.Common.{sym, subst}
+use Rattle.ft_board.specs.Base.{Base, empty_base}
+use Rattle.ft_board.specs.KeptBeside.{AreKeptOf}
+use Rattle.ft_board.proofs.KeptBoardBuilt.{empty_kept}
+use Rattle.ft_board.proofs.kept.KeptBoard.new.Goals as goal
+
+pub invariant_of-result : goal.invariant_of-result
+invariant_of-result c =
+    subst (λ (base : Base). AreKeptOf base c.new-2.result) (sym c.new.ensures) (subst (AreKeptOf empty_base) (sym c.new-2.ensures) empty_kept)

@@ -1,0 +1,44 @@
+use Rattle.std.proofs.Common.{◌≡◌, sym, ap, subst, ◌∙◌, Option, Some}
+use Rattle.std.specs.Option.{IfSome}
+use Rattle.ft_event.specs.Traced.{Traced}
+use Rattle.ft_event.specs.declared.pos.Pos.{Pos}
+use Rattle.ft_lanes.specs.Held.{Lanes, event_at}
+use Rattle.ft_kept.specs.Repairs as repairs
+use Rattle.ft_kept.specs.Repairs.{EventCanCome, EventHasCome}
+use Rattle.ft_kept.specs.Shelves.{Shelves}
+use Rattle.ft_board.specs.Base.{Base, Triggers}
+use Rattle.ft_board.specs.KeptBeside.{AreKeptWithout}
+use Rattle.ft_board.proofs.KeptBoardForms.{all_shelved}
+use Rattle.ft_board.proofs.KeptBoardRepair.{pos_at, come_can, come_kept}
+use Rattle.ft_board.proofs.repair.let_come.Goals as goal
+
+pub event_comes-requires-clause-shelved : goal.event_comes-requires-clause-shelved
+event_comes-requires-clause-shelved c =
+    let base : Base = c.args.content.now in
+    let kept : AreKeptWithout c.args.content.now c.args.place c.in-Some.tables = subst (λ (o : Option Shelves). IfSome o (AreKeptWithout c.args.content.now c.args.place)) (sym c.in-Some.ensures.value) c.requires in
+    subst (λ (triggers : Triggers). repairs.AreShelved triggers c.in-Some.tables) (sym c.triggers-triggers.ensures)
+    (all_shelved base.triggers c.in-Some.tables c.lanes-lanes.ensures.reachable.savers kept.kept.each)
+
+pub event_comes-requires-clause-can : goal.event_comes-requires-clause-can
+event_comes-requires-clause-can c =
+    let base : Base = c.args.content.now in
+    let event : Traced = c.in-Some-get.event.now in
+    let kept : AreKeptWithout c.args.content.now c.args.place c.in-Some.tables = subst (λ (o : Option Shelves). IfSome o (AreKeptWithout c.args.content.now c.args.place)) (sym c.in-Some.ensures.value) c.requires in
+    let there : event_at base.lanes c.args.place.cpu c.args.place.line ≡ Some event = ap (λ (lanes : Lanes). event_at lanes c.args.place.cpu c.args.place.line) (sym c.lanes-lanes.ensures.lanes) ∙ sym c.in-Some-get.ensures in
+    let stamp : c.event.inside.stamp ≡ event.stamp = ap (λ (e : Traced). e.stamp) c.event.view_is in
+    subst (λ (held : (Triggers × Lanes) × Pos). EventCanCome held.0.0 held.0.1 held.1 event c.in-Some.tables)
+    (λ i. ((sym c.triggers-triggers.ensures i, sym c.lanes-lanes.ensures.lanes i), record { stamp = sym stamp i; cpu = c.args.place.cpu; line = c.args.place.line }))
+    (come_can base c.args.place event there c.in-Some.tables kept)
+
+pub returns-in-Ok-clause-kept : goal.returns-in-Ok-clause-kept
+returns-in-Ok-clause-kept c =
+    let base : Base = c.args.content.now in
+    let event : Traced = c.in-Some-get.event.now in
+    let kept : AreKeptWithout c.args.content.now c.args.place c.in-Some.tables = subst (λ (o : Option Shelves). IfSome o (AreKeptWithout c.args.content.now c.args.place)) (sym c.in-Some.ensures.value) c.requires in
+    let there : event_at base.lanes c.args.place.cpu c.args.place.line ≡ Some event = ap (λ (lanes : Lanes). event_at lanes c.args.place.cpu c.args.place.line) (sym c.lanes-lanes.ensures.lanes) ∙ sym c.in-Some-get.ensures in
+    let stamp : c.event.inside.stamp ≡ event.stamp = ap (λ (e : Traced). e.stamp) c.event.view_is in
+    let right : EventHasCome base.triggers base.lanes (pos_at c.args.place event) event c.in-Some.tables c.event_comes.new.self =
+    subst (λ (held : (Triggers × Lanes) × Pos). EventHasCome held.0.0 held.0.1 held.1 event c.in-Some.tables c.event_comes.new.self)
+    (λ i. ((c.triggers-triggers.ensures i, c.lanes-lanes.ensures.lanes i), record { stamp = stamp i; cpu = c.args.place.cpu; line = c.args.place.line }))
+    c.in-Ok.ensures.right in
+    come_kept base c.args.place event there c.in-Some.tables kept c.event_comes.new.self c.in-Ok.ensures.forms right

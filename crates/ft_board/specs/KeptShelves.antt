@@ -1,0 +1,25 @@
+-- Shelves that are kept beside a base, so that no answer replays its events (our own choice).
+use Rattle.std.specs.Prelude.{◌≡◌, ℕ, Option, Some, None}
+use Rattle.std.specs.FinMap as map
+use Rattle.ft_hist.specs.Hist.{Hist}
+use Rattle.ft_kept.specs.Acts.{acts_of}
+use Rattle.ft_kept.specs.Entries.{IsKept}
+use Rattle.ft_kept.specs.Shelves.{Shelved, Shelves, admits_on, kept_on}
+use Rattle.ft_kept.specs.Values.{values_by}
+use Rattle.ft_board.specs.Base.{Triggers, Events}
+use Rattle.ft_board.specs.Roles.{role_of, role_at}
+
+-- a shelf has the role and the size of a trigger (our own choice)
+pub record IsShelfOf (triggers : Triggers) (hist : Hist) (shelf : Shelved) : Type 0 where
+  pub role : shelf.role ≡ role_of triggers hist.variable
+  pub size : shelf.table.size ≡ hist.size
+
+-- a trigger has its shelf, and without a trigger there is none (our own choice)
+abbrev pub HasItsShelf : Triggers → Option Hist → Option Shelved → Type 0
+HasItsShelf triggers None shelf = shelf ≡ None
+HasItsShelf triggers (Some hist) shelf = (its : Shelved) × ((shelf ≡ Some its) × IsShelfOf triggers hist its)
+
+-- each attached trigger has its shelf, and what the shelves keep is that of the triggers' acts at all events (our own choice)
+pub record AreKept (triggers : Triggers) (events : Events) (shelves : Shelves) : Type 0 where
+  pub each : (id : ℕ) → HasItsShelf triggers (map.get triggers id) (map.get shelves id)
+  pub kept : IsKept (role_at triggers) (values_by triggers) (admits_on shelves) (acts_of triggers events) (kept_on shelves)

@@ -1,0 +1,162 @@
+//! A board that keeps its tables: an edit repairs them, or they are built anew.
+
+ghost use Rattle.std.specs.Prelude.{◌≡◌, false};
+
+use crate::answers::{is_reader, table_text};
+use crate::board::Board;
+use crate::content::Content;
+use crate::rebuild::renew;
+use crate::refused::{Done, Latency, Place, Refused};
+use crate::repair::{let_come, let_go};
+use crate::told::{catch_up, latencies_in, shelf_in};
+use ft_event::{Event, Name};
+use ft_filter::Filter;
+use ft_hist::{Trigger, Work};
+use ft_kept::Tables;
+use ft_maps::get;
+use ft_table::Totals;
+use std::alloc::Global;
+use std::marker::Model;
+
+/// Lanes of events, attached triggers, and what is kept of them. Where memory ran out for that,
+/// there is nothing kept, and the next answer builds it anew.
+#[derive(Drop)]
+pub struct KeptBoard {
+    alloc: Global,
+    content: Content,
+    kept: Option<Tables>,
+    work: Work,
+}
+
+impl Model for KeptBoard {
+    ghost use Rattle.std.specs.Prelude.{IfSome};
+    ghost use Rattle.std.specs.Option.{is_none};
+    ghost use Rattle.ft_board.specs.Codes.{shown_code};
+    ghost use Rattle.ft_board.specs.KeptBeside.{AreKeptOf};
+    ghost use Rattle.ft_board.specs.Shown.{Shown};
+
+    ghost Value = { Shown };
+
+    ghost coded = { shown_code };
+
+    ghost view = { λ b. record { base = b.content; deferred = is_none b.kept } };
+
+    ghost invariant = { λ b. IfSome b.kept (AreKeptOf b.content) };
+}
+
+impl KeptBoard {
+    ghost use Rattle.ft_board.specs.Base.{empty_base};
+
+    /// A board that holds nothing and has no trigger. It takes no memory.
+    pub fn new(alloc: Global) -> KeptBoard
+        ensures { result ≡ record { base = empty_base; deferred = false } }
+    {
+        KeptBoard {
+            alloc,
+            content: Content::new(alloc),
+            kept: Some(Tables::new(alloc)),
+            work: Work::new(),
+        }
+    }
+}
+
+impl Board for KeptBoard {
+    ghost shown = { λ b. b };
+
+    fn load(&mut self, events: Vec<Event>) -> Result<Done<u64>, Refused> {
+        let value = self.content.load(events)?;
+        let kept = renew(&mut self.kept, self.alloc, &self.content, &mut self.work);
+        Ok(Done { value, kept })
+    }
+
+    fn unload(&mut self, cpu: u32) -> Result<Done<u64>, Refused> {
+        let value = self.content.unload(cpu)?;
+        let kept = renew(&mut self.kept, self.alloc, &self.content, &mut self.work);
+        Ok(Done { value, kept })
+    }
+
+    fn insert(&mut self, event: Event) -> Result<Done<Place>, Refused> {
+        let place = self.content.insert(event)?;
+        let kept = let_come(&mut self.kept, &self.content, place, &mut self.work);
+        Ok(Done { value: place, kept })
+    }
+
+    fn strike(&mut self, cpu: u32, line: u32) -> Result<Done<Place>, Refused> {
+        let place = self.content.place_of(cpu, line)?;
+        let kept = let_go(&mut self.kept, &self.content, place, &mut self.work);
+        self.content.strike(place);
+        Ok(Done { value: place, kept })
+    }
+
+    fn attach(&mut self, trigger: Trigger) -> Result<Done<u32>, Refused> {
+        let value = self.content.attach(trigger)?;
+        let kept = renew(&mut self.kept, self.alloc, &self.content, &mut self.work);
+        Ok(Done { value, kept })
+    }
+
+    fn refilter(&mut self, id: u32, filter: Option<Filter>) -> Result<Done<u32>, Refused> {
+        let value = self.content.refilter(id, filter)?;
+        let kept = renew(&mut self.kept, self.alloc, &self.content, &mut self.work);
+        Ok(Done { value, kept })
+    }
+
+    fn remove(&mut self, id: u32) -> Result<Done<u32>, Refused> {
+        let value = self.content.remove(id)?;
+        let kept = renew(&mut self.kept, self.alloc, &self.content, &mut self.work);
+        Ok(Done { value, kept })
+    }
+
+    fn name_of(&self, id: u32) -> Option<Name> {
+        self.content.name_of(id)
+    }
+
+    fn hist(&mut self, id: u32) -> Result<Vec<u8>, Refused> {
+        let Some(trigger) = get(self.content.triggers(), &id) else {
+            return Err(Refused::NoTrigger);
+        };
+        catch_up(&mut self.kept, self.alloc, &self.content, &mut self.work);
+        let Some(shelf) = shelf_in(&self.kept, id) else {
+            return Err(Refused::Memory);
+        };
+        match table_text(self.alloc, trigger, shelf.table()) {
+            Ok(text) => Ok(text),
+            Err(_) => Err(Refused::Memory),
+        }
+    }
+
+    fn totals(&mut self, id: u32) -> Result<Totals, Refused> {
+        let Some(_) = get(self.content.triggers(), &id) else {
+            return Err(Refused::NoTrigger);
+        };
+        catch_up(&mut self.kept, self.alloc, &self.content, &mut self.work);
+        let Some(shelf) = shelf_in(&self.kept, id) else {
+            return Err(Refused::Memory);
+        };
+        Ok(shelf.table().totals())
+    }
+
+    fn latencies(&mut self, id: u32) -> Result<Vec<Latency>, Refused> {
+        let Some(trigger) = get(self.content.triggers(), &id) else {
+            return Err(Refused::NoTrigger);
+        };
+        if !is_reader(trigger) {
+            return Err(Refused::NotReading);
+        }
+        catch_up(&mut self.kept, self.alloc, &self.content, &mut self.work);
+        let Some(shelf) = shelf_in(&self.kept, id) else {
+            return Err(Refused::Memory);
+        };
+        match latencies_in(self.alloc, shelf.readings()) {
+            Ok(latencies) => Ok(latencies),
+            Err(_) => Err(Refused::Memory),
+        }
+    }
+
+    fn list(&self, cpu: u32) -> Result<Vec<u8>, Refused> {
+        self.content.list(self.alloc, cpu)
+    }
+
+    fn is_deferred(&self) -> bool {
+        self.kept.is_none()
+    }
+}

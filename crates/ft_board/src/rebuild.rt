@@ -1,0 +1,92 @@
+//! Tables built anew from what is held and attached.
+
+ghost use Rattle.std.specs.Prelude.{◌≡◌, None, IfOk, IfSome};
+ghost use Rattle.std.specs.Option.{is_none};
+ghost use Rattle.std.specs.Ordering.{nat_cmp};
+ghost use Rattle.std.specs.FinMap as map;
+ghost use Rattle.ft_maps.specs.Seen.{seen};
+ghost use Rattle.ft_board.specs.Edited.{kept_of};
+ghost use Rattle.ft_board.specs.KeptBeside.{AreKeptOf, AreNew};
+ghost use Rattle.ft_board.specs.KeptShelves.{AreKept};
+ghost use Rattle.ft_board.specs.Merged.{merged};
+ghost use Rattle.ft_board.specs.Reachable.{HasSavers};
+
+use crate::content::Content;
+use crate::merge::merged_events;
+use crate::refused::Kept;
+use crate::roles::role_of;
+use ft_hist::{Trigger, Work};
+use ft_kept::Tables;
+use ft_lanes::Lanes;
+use ft_maps::entries;
+use std::alloc::{AllocError, Global};
+use std::collections::BTreeMap;
+
+/// What is kept of all attached triggers, from all held events. Refused for memory.
+pub(crate) fn rebuilt(
+    alloc: Global,
+    lanes: &Lanes,
+    triggers: &BTreeMap<u32, Trigger>,
+    work: &mut Work,
+) -> Result<Tables, AllocError>
+    requires { HasSavers (seen nat_cmp triggers.now) }
+    ensures { IfOk result (AreKept (seen nat_cmp triggers.now) (merged lanes.now)) }
+{
+    let merged = merged_events(alloc, lanes, triggers)?;
+    let mut tables = new_tables(alloc, triggers)?;
+    for (pos, event) in &merged {
+        tables.event_comes(triggers, lanes, *pos, event, work)?;
+    }
+    Ok(tables)
+}
+
+/// A shelf without hits for each attached trigger. Refused for memory.
+fn new_tables(alloc: Global, triggers: &BTreeMap<u32, Trigger>) -> Result<Tables, AllocError>
+    ensures { IfOk result (λ tables. AreNew (seen nat_cmp triggers.now) tables) }
+{
+    let mut tables = Tables::new(alloc);
+    for (id, attached) in entries(triggers) {
+        let role = role_of(triggers, attached.variable());
+        tables.add(*id, role, attached.size())?;
+    }
+    Ok(tables)
+}
+
+/// Gives the tables up, and builds them anew where there were some: whether there are some then.
+pub(crate) fn renew(
+    kept: &mut Option<Tables>,
+    alloc: Global,
+    content: &Content,
+    work: &mut Work,
+) -> Kept
+    ensures kept { IfSome kept.new (AreKeptOf content.now) }
+    ensures deferred { kept.old ≡ None → kept.new ≡ None }
+    ensures answer { result ≡ kept_of (is_none kept.new) }
+{
+    if kept.take().is_none() {
+        return Kept::Later;
+    }
+    restore(kept, alloc, content, work)
+}
+
+/// Builds the tables anew, in place of those that there are: whether there are some then.
+pub(crate) fn restore(
+    kept: &mut Option<Tables>,
+    alloc: Global,
+    content: &Content,
+    work: &mut Work,
+) -> Kept
+    ensures kept { IfSome kept.new (AreKeptOf content.now) }
+    ensures answer { result ≡ kept_of (is_none kept.new) }
+{
+    match rebuilt(alloc, content.lanes(), content.triggers(), work) {
+        Ok(tables) => {
+            *kept = Some(tables);
+            Kept::Now
+        }
+        Err(_) => {
+            *kept = None;
+            Kept::Later
+        }
+    }
+}

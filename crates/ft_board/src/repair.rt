@@ -1,0 +1,76 @@
+//! Tables repaired as one event comes or goes.
+
+ghost use Rattle.std.specs.Prelude.{◌≡◌, IfSome, None};
+ghost use Rattle.std.specs.Option.{is_none};
+ghost use Rattle.ft_board.specs.Edited.{kept_of};
+ghost use Rattle.ft_board.specs.KeptBeside.{AreKeptOf, AreKeptWithout};
+
+use crate::content::Content;
+use crate::refused::{Kept, Place};
+use ft_event::Pos;
+use ft_hist::Work;
+use ft_kept::Tables;
+
+/// The event of a place, which is held already, comes to the tables. Where memory runs out, the
+/// tables are given up.
+pub(crate) fn let_come(
+    kept: &mut Option<Tables>,
+    content: &Content,
+    place: Place,
+    work: &mut Work,
+) -> Kept
+    requires { IfSome kept.old (AreKeptWithout content.now place) }
+    ensures kept { IfSome kept.new (AreKeptOf content.now) }
+    ensures deferred { kept.old ≡ None → kept.new ≡ None }
+    ensures answer { result ≡ kept_of (is_none kept.new) }
+{
+    let Some(mut tables) = kept.take() else {
+        return Kept::Later;
+    };
+    let (lanes, triggers) = (content.lanes(), content.triggers());
+    let Place { cpu, line } = place;
+    let Some(event) = lanes.get(cpu, line) else {
+        return Kept::Later;
+    };
+    let stamp = event.stamp;
+    let pos = Pos { stamp, cpu, line };
+    match tables.event_comes(triggers, lanes, pos, event, work) {
+        Ok(()) => {
+            *kept = Some(tables);
+            Kept::Now
+        }
+        Err(_) => Kept::Later,
+    }
+}
+
+/// The event of a place, which is still held, goes from the tables. Where memory runs out, the
+/// tables are given up.
+pub(crate) fn let_go(
+    kept: &mut Option<Tables>,
+    content: &Content,
+    place: Place,
+    work: &mut Work,
+) -> Kept
+    requires { IfSome kept.old (AreKeptOf content.now) }
+    ensures kept { IfSome kept.new (AreKeptWithout content.now place) }
+    ensures deferred { kept.old ≡ None → kept.new ≡ None }
+    ensures answer { result ≡ kept_of (is_none kept.new) }
+{
+    let Some(mut tables) = kept.take() else {
+        return Kept::Later;
+    };
+    let (lanes, triggers) = (content.lanes(), content.triggers());
+    let Place { cpu, line } = place;
+    let Some(event) = lanes.get(cpu, line) else {
+        return Kept::Later;
+    };
+    let stamp = event.stamp;
+    let pos = Pos { stamp, cpu, line };
+    match tables.event_goes(triggers, lanes, pos, event, work) {
+        Ok(()) => {
+            *kept = Some(tables);
+            Kept::Now
+        }
+        Err(_) => Kept::Later,
+    }
+}

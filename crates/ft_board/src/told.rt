@@ -1,0 +1,68 @@
+//! What a board answers about an attached trigger, from what it keeps.
+
+ghost use Rattle.std.specs.Prelude.{◌≡◌, IfOk, IfSome, IsSome, Some, None, map as list_map};
+ghost use Rattle.std.specs.Option.{option_copied};
+ghost use Rattle.std.specs.FinMap as map;
+ghost use Rattle.ft_event.specs.Places.{pos_cmp};
+ghost use Rattle.ft_hist.specs.Hist.{Hist};
+ghost use Rattle.ft_maps.specs.Seen.{seen};
+ghost use Rattle.ft_board.specs.Answers.{latency_of};
+ghost use Rattle.ft_board.specs.Base.{Base};
+ghost use Rattle.ft_board.specs.Kept.{pairs_in};
+ghost use Rattle.ft_board.specs.KeptBeside.{AreKeptOf, Tells};
+
+use crate::answers::latency_of;
+use crate::content::Content;
+use crate::keeping::kept_shelves;
+use crate::pair::Pair;
+use crate::rebuild::restore;
+use crate::refused::Latency;
+use ft_event::Pos;
+use ft_hist::Work;
+use ft_kept::{Shelf, Tables};
+use ft_maps::{entries, len};
+use std::alloc::{AllocError, Global};
+use std::collections::BTreeMap;
+
+/// Builds the tables anew where there are none.
+pub(crate) fn catch_up(kept: &mut Option<Tables>, alloc: Global, content: &Content, work: &mut Work)
+    requires { IfSome kept.old (AreKeptOf content.now) }
+    ensures kept { IfSome kept.new (AreKeptOf content.now) }
+    ensures deferred { kept.new ≡ None → kept.old ≡ None }
+{
+    if kept.is_none() {
+        restore(kept, alloc, content, work);
+    }
+}
+
+/// What is kept of the trigger with an id, if there are tables and it is attached.
+pub(crate) fn shelf_in(kept: &Option<Tables>, id: u32) -> Option<&Shelf>
+    ensures tells { (base : Base) (hist : Hist) → IfSome kept.now (AreKeptOf base)
+        → map.get base.triggers id ≡ Some hist
+        → IfSome (option_copied result) (Tells base id hist) }
+    ensures there { IfSome result (λ _. IsSome kept.now) }
+{
+    kept_shelves();
+    match kept {
+        Some(tables) => tables.shelf(id),
+        None => None,
+    }
+}
+
+/// What readings found, as latencies in merged order of the reading. Refused for memory.
+pub(crate) fn latencies_in(
+    alloc: Global,
+    readings: &BTreeMap<Pos, Pos>,
+) -> Result<Vec<Latency>, AllocError>
+    ensures { IfOk result (λ latencies.
+        latencies.items ≡ list_map latency_of (pairs_in (seen pos_cmp readings.now))) }
+{
+    let mut latencies = Vec::with_capacity(alloc, len(readings))?;
+    for (read, saved) in entries(readings) {
+        latencies.push(latency_of(Pair {
+            saved: *saved,
+            read: *read,
+        }))?;
+    }
+    Ok(latencies)
+}

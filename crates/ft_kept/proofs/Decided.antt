@@ -1,0 +1,97 @@
+-- Places and variables are the same or not.
+use Rattle.std.proofs.Common.{◌≡◌, Bool, true, false, refl, sym, ap, subst, ◌∙◌, Some, None, Option, inl, inr}
+use Rattle.std.specs.Prelude.{◌⊎◌, ◌||◌, List, OnOk, IfOk, Result, Ok, Err}
+use Rattle.std.proofs.lemmas.Bool.{true≢false}
+use Rattle.std.specs.declared.cmp.Ordering.{Ordering}
+use Rattle.std.specs.declared.cmp.Ordering.TheVariants.{Less, Equal, Greater}
+use Rattle.std.specs.Ordering.{eq_by_cmp, is_eq}
+use Rattle.std.specs.Cmp.{IsTotalOrder, tied_itself, eq_by_cmp_equiv}
+use Rattle.std.specs.FinMap.{IsAntisymmetric}
+use Rattle.ft_hist.specs.Orders.{key_cmp_total}
+use Rattle.ft_hist.specs.Ties.{key_same}
+use Rattle.ft_hist.specs.declared.key.Part.{Part}
+use Rattle.ft_pairs.specs.Order.{at_cmp_total, at_same}
+use Rattle.ft_pairs.specs.declared.at.At.{At}
+use Rattle.ft_kept.specs.Variables.{variable_cmp_total, variable_same}
+use Rattle.ft_kept.specs.declared.role.Variable.{Variable}
+
+is_equal : (o : Ordering) → is_eq o ≡ true → o ≡ Equal
+is_equal Less e = absurd (true≢false (sym e))
+is_equal Equal e = refl
+is_equal Greater e = absurd (true≢false (sym e))
+
+module _ {K : Type 0} {R : K → K → Ordering} (total : IsTotalOrder R) where
+  -- nothing is below itself
+  pub not_below : (p : K) → R p p ≡ Less → ⊥
+  not_below p h = absurd (cc (tied_itself total p))
+
+  pub not_below_same : (p q : K) → p ≡ q → R p q ≡ Less → ⊥
+  not_below_same p q e h = not_below q (subst (λ x. R x q ≡ Less) e h)
+
+  -- each is itself
+  pub itself : (p : K) → eq_by_cmp R p p ≡ true
+  itself p = (eq_by_cmp_equiv total).refl p
+
+  module _ (same : IsAntisymmetric R) where
+    -- what ties is equal
+    pub tied : (p q : K) → eq_by_cmp R p q ≡ true → p ≡ q
+    tied p q e = same p q (is_equal (R p q) e)
+
+    -- what differs does not tie
+    pub untied : (p q : K) → (p ≡ q → ⊥) → eq_by_cmp R p q ≡ false
+    untied p q apart = elim (eq_by_cmp R p q) as (λ b. eq_by_cmp R p q ≡ b → b ≡ false) [
+      | true ↦ λ tie. absurd (apart (tied p q tie))
+      | false ↦ λ _. refl
+    ] refl
+
+    -- equal or not
+    pub decided : (p q : K) → (p ≡ q) ⊎ (p ≡ q → ⊥)
+    decided p q = elim (eq_by_cmp R p q) as (λ b. eq_by_cmp R p q ≡ b → (p ≡ q) ⊎ (p ≡ q → ⊥)) [
+      | true ↦ λ tie. inl (tied p q tie)
+      | false ↦ λ not_tied. inr (λ e. absurd (true≢false (sym (itself q) ∙ ap (λ x. eq_by_cmp R x q) (sym e) ∙ not_tied)))
+    ] refl
+
+pub at_decided : (p q : At) → (p ≡ q) ⊎ (p ≡ q → ⊥)
+at_decided = decided at_cmp_total at_same
+
+pub key_decided : (p q : List Part) → (p ≡ q) ⊎ (p ≡ q → ⊥)
+key_decided = decided key_cmp_total key_same
+
+pub variable_decided : (p q : Variable) → (p ≡ q) ⊎ (p ≡ q → ⊥)
+variable_decided = decided variable_cmp_total variable_same
+
+-- ---- truth values
+
+pub or_true : (a b : Bool) → b ≡ true → (a || b) ≡ true
+or_true true b e = refl
+or_true false b e = e
+
+pub or_left : (a b : Bool) → (a || b) ≡ false → a ≡ false
+or_left true b e = e
+or_left false b e = refl
+
+pub or_right : (a b : Bool) → (a || b) ≡ false → b ≡ false
+or_right true b e = absurd (true≢false e)
+or_right false b e = e
+
+pub none_not_some : {X : Type 0} (o : Option X) (x : X) → o ≡ None → o ≡ Some x → ⊥
+none_not_some o x none some = absurd (cc (sym none ∙ some))
+
+-- ---- results
+
+-- what two facts of a success tell together
+pub on_ok_both : {T E : Type 0} {P Q S : Type 0} (r : Result T E) → (P → Q → S) → OnOk r P → OnOk r Q → OnOk r S
+on_ok_both (Ok x) f p q = f p q
+on_ok_both (Err e) f p q = tt
+
+-- the same of an equal result
+pub on_ok_as : {T E : Type 0} (P : Type 0) (r s : Result T E) → r ≡ s → OnOk s P → OnOk r P
+on_ok_as P r s is h = subst (λ x. OnOk x P) (sym is) h
+
+-- what a fact of a success and one of its value tell together
+pub if_ok_both : {T E : Type 0} (P : Type 0) (Q S : T → Type 0) (r s : Result T E) → r ≡ s → ((x : T) → P → Q x → S x) → OnOk s P → IfOk s Q → IfOk r S
+if_ok_both {T = T} {E = E} P Q S r s is f p q = subst (λ x. IfOk x S) (sym is) (by s p q)
+  where
+    by : (x : Result T E) → OnOk x P → IfOk x Q → IfOk x S
+    by (Ok x) p q = f x p q
+    by (Err e) p q = tt

@@ -1,0 +1,151 @@
+-- A saver has a shelf; its hit is put there, and the shelf is written back.
+use Rattle.std.proofs.Common.{◌≡◌, ◌+◌, ◌≤◌, sym, ap, subst, ◌∙◌, Some, inl, inr}
+use Rattle.std.proofs.lemmas.Result.{on_ok_weaker}
+use Rattle.std.specs.Ordering.{nat_cmp}
+use Rattle.std.specs.Cmp.{nat_cmp_total}
+use Rattle.std.specs.FinMap as map
+use Rattle.std.specs.FinMap.{nat_cmp-IsAntisymmetric}
+use Rattle.ft_maps.specs.Seen.{seen, get-seen, seen-found}
+use Rattle.ft_pairs.specs.ByKey.{ops_of}
+use Rattle.ft_table.specs.Tabled.{is_in}
+use Rattle.ft_kept.specs.Shelves.{Shelves}
+use Rattle.ft_kept.specs.Switches.{HitFollows, MovesKeys}
+use Rattle.ft_kept.proofs.Decided.{on_ok_as, if_ok_both, on_ok_both}
+use Rattle.ft_kept.proofs.Putting.{written, unwritten, shelved_there}
+use Rattle.ft_kept.proofs.SaverHits.{saver_forms, saver_free, saver_has_moved, saver_moved, saver_outside, saver_owing, saver_unsaved}
+use Rattle.ft_kept.proofs.saver.put_saving.Goals as goal
+use Rattle.ft_kept.proofs.saver.put_saving.Goals.{in-Some, in-None}
+
+found : (c : goal.After-put_saver_hit-arg-1) → map.get c.args.tables.now c.args.at.trigger ≡ Some c.in-Some.shelf.now
+found c = ap (λ (t : Shelves). map.get t c.args.at.trigger) (sym c.tables.view_is) ∙ get-seen nat_cmp_total c.tables.inside.shelves c.args.at.trigger ∙ sym c.in-Some.ensures.value
+
+pub put_saver_hit-requires-clause-free : goal.put_saver_hit-requires-clause-free
+put_saver_hit-requires-clause-free c =
+    ap (λ hit. map.get c.in-Some.shelf.now.table.hits (record { pos = hit.pos; key = hit.key })) c.hit_with-hit.ensures
+    ∙ saver_free (seen nat_cmp c.args.triggers.now) c.args.lanes.now c.args.tables.now c.args.at c.in-Some.shelf.now (found c) c.args.key c.args.event.now c.requires.role c.requires.can
+
+pub put_saver_hit-requires-clause-unsaved : goal.put_saver_hit-requires-clause-unsaved
+put_saver_hit-requires-clause-unsaved c =
+    ap (λ hit. ops_of c.in-Some.shelf.now.ops hit.key (record { pos = hit.pos; trigger = c.args.at.trigger })) c.hit_with-hit.ensures
+    ∙ saver_unsaved (seen nat_cmp c.args.triggers.now) c.args.lanes.now c.args.tables.now c.args.at c.in-Some.shelf.now (found c) c.args.key c.args.event.now c.requires.role c.requires.can
+
+pub put_saver_hit-requires-clause-outside : goal.put_saver_hit-requires-clause-outside
+put_saver_hit-requires-clause-outside c =
+    saver_outside (seen nat_cmp c.args.triggers.now) c.args.lanes.now c.args.tables.now c.args.at c.in-Some.shelf.now (found c) c.args.key c.args.event.now c.requires.role c.requires.can
+
+pub returns-clause-forms : goal.returns-clause-forms
+returns-clause-forms c = elim c.match-get_mut.branch [
+  | in-Some w ↦
+      let id = c.args.at.trigger in
+      let old = c.args.tables.now in
+      let new = seen nat_cmp c.match-get_mut.tables-inside.shelves in
+      let shelf = w.in-Some.shelf.now in
+      let after = w.put_saver_hit.new.shelf in
+      let was : map.get old id ≡ Some shelf =
+      ap (λ (t : Shelves). map.get t id) (sym c.tables.view_is) ∙ get-seen nat_cmp_total c.tables.inside.shelves id ∙ sym w.in-Some.ensures.value in
+      let back : new ≡ map.insert old id after =
+      ap (λ t. seen nat_cmp t.shelves) w.tables-inside-is
+      ∙ seen-found nat_cmp_total nat_cmp-IsAntisymmetric c.tables.inside.shelves (c.get_mut.follows.lender after) id shelf after w.in-Some.ensures.value (c.get_mut.follows.holds after)
+      ∙ ap (λ (t : Shelves). map.insert t id after) c.tables.view_is in
+      let is = written old new id after back in
+      let others = unwritten old new id after back in
+      on_ok_as _ c.match-get_mut.result w.put_saver_hit.result w.result-is (on_ok_weaker w.put_saver_hit.result (λ e.
+      saver_forms (seen nat_cmp c.args.triggers.now) c.args.lanes.now old new c.args.at shelf after was is others c.args.key c.args.event.now c.args.trigger.now c.requires.attached c.requires.role
+      (subst (λ hit. HitFollows id (record { pos = hit.pos; key = hit.key }) hit.values shelf after) c.hit_with-hit.ensures e)) w.put_saver_hit.ensures.follows)
+  | in-None w ↦ absurd (shelved_there (seen nat_cmp c.args.triggers.now) c.args.tables.now c.args.at.trigger c.args.trigger.now c.requires.shelved c.requires.attached
+      (ap (λ (t : Shelves). map.get t c.args.at.trigger) (sym c.tables.view_is) ∙ get-seen nat_cmp_total c.tables.inside.shelves c.args.at.trigger ∙ sym w.in-None.ensures.value))
+]
+
+pub returns-clause-owing : goal.returns-clause-owing
+returns-clause-owing c = elim c.match-get_mut.branch [
+  | in-Some w ↦
+      let id = c.args.at.trigger in
+      let old = c.args.tables.now in
+      let new = seen nat_cmp c.match-get_mut.tables-inside.shelves in
+      let shelf = w.in-Some.shelf.now in
+      let after = w.put_saver_hit.new.shelf in
+      let was : map.get old id ≡ Some shelf =
+      ap (λ (t : Shelves). map.get t id) (sym c.tables.view_is) ∙ get-seen nat_cmp_total c.tables.inside.shelves id ∙ sym w.in-Some.ensures.value in
+      let back : new ≡ map.insert old id after =
+      ap (λ t. seen nat_cmp t.shelves) w.tables-inside-is
+      ∙ seen-found nat_cmp_total nat_cmp-IsAntisymmetric c.tables.inside.shelves (c.get_mut.follows.lender after) id shelf after w.in-Some.ensures.value (c.get_mut.follows.holds after)
+      ∙ ap (λ (t : Shelves). map.insert t id after) c.tables.view_is in
+      let is = written old new id after back in
+      let others = unwritten old new id after back in
+      on_ok_as _ c.match-get_mut.result w.put_saver_hit.result w.result-is (on_ok_weaker w.put_saver_hit.result (λ e.
+      saver_owing (seen nat_cmp c.args.triggers.now) c.args.lanes.now old new c.args.at shelf after was is others c.args.key c.args.event.now c.args.trigger.now c.requires.attached c.requires.role
+      (subst (λ hit. HitFollows id (record { pos = hit.pos; key = hit.key }) hit.values shelf after) c.hit_with-hit.ensures e)) w.put_saver_hit.ensures.follows)
+  | in-None w ↦ absurd (shelved_there (seen nat_cmp c.args.triggers.now) c.args.tables.now c.args.at.trigger c.args.trigger.now c.requires.shelved c.requires.attached
+      (ap (λ (t : Shelves). map.get t c.args.at.trigger) (sym c.tables.view_is) ∙ get-seen nat_cmp_total c.tables.inside.shelves c.args.at.trigger ∙ sym w.in-None.ensures.value))
+]
+
+pub returns-clause-others : goal.returns-clause-others
+returns-clause-others c = elim c.match-get_mut.branch [
+  | in-Some w ↦
+      let id = c.args.at.trigger in
+      let old = c.args.tables.now in
+      let new = seen nat_cmp c.match-get_mut.tables-inside.shelves in
+      let shelf = w.in-Some.shelf.now in
+      let after = w.put_saver_hit.new.shelf in
+      let was : map.get old id ≡ Some shelf =
+      ap (λ (t : Shelves). map.get t id) (sym c.tables.view_is) ∙ get-seen nat_cmp_total c.tables.inside.shelves id ∙ sym w.in-Some.ensures.value in
+      let back : new ≡ map.insert old id after =
+      ap (λ t. seen nat_cmp t.shelves) w.tables-inside-is
+      ∙ seen-found nat_cmp_total nat_cmp-IsAntisymmetric c.tables.inside.shelves (c.get_mut.follows.lender after) id shelf after w.in-Some.ensures.value (c.get_mut.follows.holds after)
+      ∙ ap (λ (t : Shelves). map.insert t id after) c.tables.view_is in
+      let is = written old new id after back in
+      let others = unwritten old new id after back in
+      on_ok_as _ c.match-get_mut.result w.put_saver_hit.result w.result-is (on_ok_weaker w.put_saver_hit.result (λ e. others) w.put_saver_hit.ensures.follows)
+  | in-None w ↦ absurd (shelved_there (seen nat_cmp c.args.triggers.now) c.args.tables.now c.args.at.trigger c.args.trigger.now c.requires.shelved c.requires.attached
+      (ap (λ (t : Shelves). map.get t c.args.at.trigger) (sym c.tables.view_is) ∙ get-seen nat_cmp_total c.tables.inside.shelves c.args.at.trigger ∙ sym w.in-None.ensures.value))
+]
+
+pub returns-clause-moved : goal.returns-clause-moved
+returns-clause-moved c = elim c.match-get_mut.branch [
+  | in-Some w ↦
+      let id = c.args.at.trigger in
+      let old = c.args.tables.now in
+      let new = seen nat_cmp c.match-get_mut.tables-inside.shelves in
+      let shelf = w.in-Some.shelf.now in
+      let after = w.put_saver_hit.new.shelf in
+      let was : map.get old id ≡ Some shelf =
+      ap (λ (t : Shelves). map.get t id) (sym c.tables.view_is) ∙ get-seen nat_cmp_total c.tables.inside.shelves id ∙ sym w.in-Some.ensures.value in
+      let back : new ≡ map.insert old id after =
+      ap (λ t. seen nat_cmp t.shelves) w.tables-inside-is
+      ∙ seen-found nat_cmp_total nat_cmp-IsAntisymmetric c.tables.inside.shelves (c.get_mut.follows.lender after) id shelf after w.in-Some.ensures.value (c.get_mut.follows.holds after)
+      ∙ ap (λ (t : Shelves). map.insert t id after) c.tables.view_is in
+      let is = written old new id after back in
+      let others = unwritten old new id after back in
+      if_ok_both _ _ _ c.match-get_mut.result w.put_saver_hit.result w.result-is (λ moves e h.
+      saver_moved (seen nat_cmp c.args.triggers.now) c.args.lanes.now old new c.args.at shelf after was is others c.args.key c.args.event.now c.args.trigger.now c.requires.attached c.requires.role
+      (subst (λ hit. HitFollows id (record { pos = hit.pos; key = hit.key }) hit.values shelf after) c.hit_with-hit.ensures e) moves
+      (subst (λ hit. MovesKeys hit.key moves (is_in shelf.table) (is_in after.table)) c.hit_with-hit.ensures h)) w.put_saver_hit.ensures.follows w.put_saver_hit.ensures.moved
+  | in-None w ↦ absurd (shelved_there (seen nat_cmp c.args.triggers.now) c.args.tables.now c.args.at.trigger c.args.trigger.now c.requires.shelved c.requires.attached
+      (ap (λ (t : Shelves). map.get t c.args.at.trigger) (sym c.tables.view_is) ∙ get-seen nat_cmp_total c.tables.inside.shelves c.args.at.trigger ∙ sym w.in-None.ensures.value))
+]
+
+pub returns-clause-puts : goal.returns-clause-puts
+returns-clause-puts c = elim c.match-get_mut.branch [
+  | in-Some w ↦
+      let id = c.args.at.trigger in
+      let old = c.args.tables.now in
+      let new = seen nat_cmp c.match-get_mut.tables-inside.shelves in
+      let shelf = w.in-Some.shelf.now in
+      let after = w.put_saver_hit.new.shelf in
+      let was : map.get old id ≡ Some shelf =
+      ap (λ (t : Shelves). map.get t id) (sym c.tables.view_is) ∙ get-seen nat_cmp_total c.tables.inside.shelves id ∙ sym w.in-Some.ensures.value in
+      let back : new ≡ map.insert old id after =
+      ap (λ t. seen nat_cmp t.shelves) w.tables-inside-is
+      ∙ seen-found nat_cmp_total nat_cmp-IsAntisymmetric c.tables.inside.shelves (c.get_mut.follows.lender after) id shelf after w.in-Some.ensures.value (c.get_mut.follows.holds after)
+      ∙ ap (λ (t : Shelves). map.insert t id after) c.tables.view_is in
+      let is = written old new id after back in
+      let others = unwritten old new id after back in
+      on_ok_as _ c.match-get_mut.result w.put_saver_hit.result w.result-is (on_ok_both w.put_saver_hit.result (λ e h.
+      elim h [
+        | inl few ↦ inl (subst (λ steps. steps.puts ≤ c.args.work.now.puts + 2) (sym w.work-is) few)
+        | inr moved ↦ inr (saver_has_moved (seen nat_cmp c.args.triggers.now) c.args.lanes.now old new c.args.at shelf after was is others c.args.key c.args.event.now c.args.trigger.now c.requires.attached c.requires.role
+            (subst (λ hit. HitFollows id (record { pos = hit.pos; key = hit.key }) hit.values shelf after) c.hit_with-hit.ensures e) moved)
+      ]) w.put_saver_hit.ensures.follows w.put_saver_hit.ensures.puts)
+  | in-None w ↦ absurd (shelved_there (seen nat_cmp c.args.triggers.now) c.args.tables.now c.args.at.trigger c.args.trigger.now c.requires.shelved c.requires.attached
+      (ap (λ (t : Shelves). map.get t c.args.at.trigger) (sym c.tables.view_is) ∙ get-seen nat_cmp_total c.tables.inside.shelves c.args.at.trigger ∙ sym w.in-None.ensures.value))
+]

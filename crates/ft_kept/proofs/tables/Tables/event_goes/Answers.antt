@@ -1,0 +1,96 @@
+use Rattle.std.proofs.Common.{◌≡◌, ℕ, ◌+◌, false, List, ◌∷◌, sym, ap, subst, ◌∙◌, Some, arith}
+use Rattle.std.specs.Ordering.{nat_cmp}
+use Rattle.std.specs.Cmp.{nat_cmp_total}
+use Rattle.std.specs.List.{AllByRecursion}
+use Rattle.std.specs.List.Sorted.{IsStrictlySortedBy}
+use Rattle.std.specs.Map.{keys_of}
+use Rattle.std.specs.FinMap as map
+use Rattle.std.specs.FinMap.{FinMap, entries_sorted}
+use Rattle.std.specs.Map.Iter.{deref_pair}
+use Rattle.std.proofs.lemmas.Map.Iter.{rest_more, rest_all}
+use Rattle.std.proofs.lemmas.Map.Keys.{sorted_head, sorted_tail}
+use Rattle.ft_hist.specs.Hist.{Hist}
+use Rattle.ft_maps.specs.Entries.{strictly_sorted}
+use Rattle.ft_maps.specs.Seen.{seen}
+use Rattle.ft_kept.specs.Acts.{IsDoneToo, acts_of, between}
+use Rattle.ft_kept.specs.Entries.{IsKept}
+use Rattle.ft_kept.specs.Shelves.{role_on, admits_on, kept_on}
+use Rattle.ft_kept.specs.Values.{values_by}
+use Rattle.ft_kept.proofs.Attached.{each_found}
+use Rattle.ft_kept.proofs.Between.{kept_alike, kept_in_role, all_but, done_too, asked_of, asked_more, going_begins, going_ends, going_held, going_step}
+use Rattle.ft_kept.proofs.Forms.{forms_refl, forms_trans, roles_stay, shelved_stay}
+use Rattle.ft_kept.proofs.tables.Tables.event_goes.Goals as goal
+
+pub loop-id-init : goal.loop-id-init
+loop-id-init c =
+    let triggers : FinMap nat_cmp Hist = seen nat_cmp c.args.triggers.now in
+    let all : c.into_iter-id-iterator.result ≡ map.entries triggers = c.into_iter-id-iterator.ensures.into_iter_gives ∙ c.entries-id-items.ensures.rest in
+    record {
+      sorted = subst (λ (es : List (ℕ × Hist)). IsStrictlySortedBy nat_cmp (keys_of es)) (sym all) (strictly_sorted nat_cmp (map.entries triggers) (entries_sorted triggers));
+      attached = subst (AllByRecursion (λ (e : ℕ × Hist). map.get triggers e.0 ≡ Some e.1)) (sym all) (each_found nat_cmp nat_cmp_total triggers);
+      shelved = c.requires.shelved;
+      forms = forms_refl c.args.self.now;
+      right = λ events present held kept. kept_alike (role_on c.args.self.now) (values_by triggers) (admits_on c.args.self.now) (acts_of triggers events) _ (kept_on c.args.self.now) (λ q. false)
+          (subst (λ (es : List (ℕ × Hist)). (q : _) → between (acts_of triggers events) (acts_of triggers (map.remove events c.args.pos)) c.args.pos (all_but es) q ≡ acts_of triggers events q)
+          (sym all) (going_begins triggers events c.args.pos)) kept;
+      evals = ap (λ (es : List (ℕ × Hist)). c.args.work.now.evals + asked_of c.args.event.now es) all;
+    }
+
+pub act_goes-requires-clause-can : goal.act_goes-requires-clause-can
+act_goes-requires-clause-can c =
+    let triggers : FinMap nat_cmp Hist = seen nat_cmp c.args.triggers.now in
+    let events = c.requires.can.events in
+    let e : ℕ × Hist = (c.in-Some.id.now, c.in-Some.trigger.now) in
+    let more : c.loop-id.id-iterator ≡ e ∷ c.next.new.self = rest_more (deref_pair {K = ℕ} {X = Hist}) _ _ _ _ c.in-Some.is c.next.ensures.steps in
+    let sorted : IsStrictlySortedBy nat_cmp (keys_of (e ∷ c.next.new.self)) = subst (λ (es : List (ℕ × Hist)). IsStrictlySortedBy nat_cmp (keys_of es)) more c.loop-id.invariant.sorted in
+    let attached : AllByRecursion (λ (e : ℕ × Hist). map.get triggers e.0 ≡ Some e.1) (e ∷ c.next.new.self) = subst (AllByRecursion (λ (e : ℕ × Hist). map.get triggers e.0 ≡ Some e.1)) more c.loop-id.invariant.attached in
+    let too : IsDoneToo e.0 (all_but c.loop-id.id-iterator) (all_but c.next.new.self) =
+    subst (λ (es : List (ℕ × Hist)). IsDoneToo e.0 (all_but es) (all_but c.next.new.self)) (sym more) (done_too e c.next.new.self (sorted_head nat_cmp e.0 (keys_of c.next.new.self) sorted)) in
+    record {
+      before = between (acts_of triggers events) (acts_of triggers (map.remove events c.args.pos)) c.args.pos (all_but c.loop-id.id-iterator);
+      after = between (acts_of triggers events) (acts_of triggers (map.remove events c.args.pos)) c.args.pos (all_but c.next.new.self);
+      goes = going_step triggers events c.args.pos c.args.event.now c.requires.can.present e.0 e.1 attached.0 (all_but c.loop-id.id-iterator) (all_but c.next.new.self) too;
+      held = going_held triggers events c.args.pos c.args.lanes.now c.requires.can.held (all_but c.loop-id.id-iterator);
+      kept = kept_in_role (role_on c.args.self.now) (role_on c.loop-id.self) (values_by triggers) (admits_on c.loop-id.self) _ (kept_on c.loop-id.self) (λ q. false)
+          (roles_stay c.args.self.now c.loop-id.self c.loop-id.invariant.forms)
+          (c.loop-id.invariant.right events c.requires.can.present c.requires.can.held c.requires.can.kept);
+    }
+
+pub loop-id-preserved : goal.loop-id-preserved
+loop-id-preserved c =
+    let triggers : FinMap nat_cmp Hist = seen nat_cmp c.args.triggers.now in
+    let e : ℕ × Hist = (c.in-Some.id.now, c.in-Some.trigger.now) in
+    let more : c.loop-id.id-iterator ≡ e ∷ c.next.new.self = rest_more (deref_pair {K = ℕ} {X = Hist}) _ _ _ _ c.in-Some.is c.next.ensures.steps in
+    let sorted : IsStrictlySortedBy nat_cmp (keys_of (e ∷ c.next.new.self)) = subst (λ (es : List (ℕ × Hist)). IsStrictlySortedBy nat_cmp (keys_of es)) more c.loop-id.invariant.sorted in
+    let attached : AllByRecursion (λ (e : ℕ × Hist). map.get triggers e.0 ≡ Some e.1) (e ∷ c.next.new.self) = subst (AllByRecursion (λ (e : ℕ × Hist). map.get triggers e.0 ≡ Some e.1)) more c.loop-id.invariant.attached in
+    let too : IsDoneToo e.0 (all_but c.loop-id.id-iterator) (all_but c.next.new.self) =
+    subst (λ (es : List (ℕ × Hist)). IsDoneToo e.0 (all_but es) (all_but c.next.new.self)) (sym more) (done_too e c.next.new.self (sorted_head nat_cmp e.0 (keys_of c.next.new.self) sorted)) in
+    let same = roles_stay c.args.self.now c.loop-id.self c.loop-id.invariant.forms in
+    record {
+      sorted = sorted_tail nat_cmp e.0 (keys_of c.next.new.self) sorted;
+      attached = attached.1;
+      shelved = shelved_stay triggers c.loop-id.self c.act_goes.new.tables c.in_ok-act_goes.ensures.forms c.loop-id.invariant.shelved;
+      forms = forms_trans c.args.self.now c.loop-id.self c.act_goes.new.tables c.loop-id.invariant.forms c.in_ok-act_goes.ensures.forms;
+      right = λ events present held kept.
+          kept_in_role (role_on c.loop-id.self) (role_on c.args.self.now) (values_by triggers) (admits_on c.act_goes.new.tables) _ (kept_on c.act_goes.new.tables) (λ q. false) (λ id. sym (same id))
+          (c.in_ok-act_goes.ensures.right
+          (between (acts_of triggers events) (acts_of triggers (map.remove events c.args.pos)) c.args.pos (all_but c.loop-id.id-iterator))
+          (between (acts_of triggers events) (acts_of triggers (map.remove events c.args.pos)) c.args.pos (all_but c.next.new.self))
+          (going_step triggers events c.args.pos c.args.event.now present e.0 e.1 attached.0 (all_but c.loop-id.id-iterator) (all_but c.next.new.self) too)
+          (going_held triggers events c.args.pos c.args.lanes.now held (all_but c.loop-id.id-iterator))
+          (kept_in_role (role_on c.args.self.now) (role_on c.loop-id.self) (values_by triggers) (admits_on c.loop-id.self) _ (kept_on c.loop-id.self) (λ q. false) same
+          (c.loop-id.invariant.right events present held kept)));
+      evals =
+          ap (λ n. n + asked_of c.args.event.now c.next.new.self) c.in_ok-act_goes.ensures.evals
+          ∙ omega (arith, asked_more c.args.event.now e c.next.new.self, ap (asked_of c.args.event.now) more, c.loop-id.invariant.evals);
+    }
+
+pub returns-clause-right : goal.returns-clause-right
+returns-clause-right c = λ events present held kept.
+    let triggers : FinMap nat_cmp Hist = seen nat_cmp c.args.triggers.now in
+    kept_alike (role_on c.args.self.now) (values_by triggers) (admits_on c.loop-id.self) _ (acts_of triggers (map.remove events c.args.pos)) (kept_on c.loop-id.self) (λ q. false)
+    (λ q. sym (going_ends triggers events c.args.pos q))
+    (subst (λ (es : List (ℕ × Hist)). IsKept (role_on c.args.self.now) (values_by triggers) (admits_on c.loop-id.self)
+    (between (acts_of triggers events) (acts_of triggers (map.remove events c.args.pos)) c.args.pos (all_but es)) (kept_on c.loop-id.self))
+    (rest_all (deref_pair {K = ℕ} {X = Hist}) _ _ _ c.in-None.is c.next.ensures.steps)
+    (c.loop-id.invariant.right events present held kept))

@@ -1,0 +1,8 @@
+-- How the logic stores what contracts see.
+use Rattle.std.specs.Coded.{Coded, coded_ℕ}
+use Rattle.std.specs.FinMap as map
+use Rattle.ft_kept.specs.Shelves.{Shelves, shelved_code}
+
+-- shelves, stored as a list by id (our own choice)
+abbrev pub shelves_code : Coded Shelves
+shelves_code = map.code coded_ℕ shelved_code

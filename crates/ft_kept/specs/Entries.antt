@@ -1,0 +1,70 @@
+-- What is kept of the acts, told place by place from the acts and the operations, and what is still owed while it is repaired.
+use Rattle.std.specs.Prelude.{◌≡◌, ◌⊎◌, ℕ, ℤ, Bool, true, false, List, Option, Some, None, option_map, if◌then◌else◌}
+use Rattle.ft_event.specs.Traced.{Traced}
+use Rattle.ft_event.specs.declared.pos.Pos.{Pos}
+use Rattle.ft_hist.specs.declared.key.Part.{Part}
+use Rattle.ft_pairs.specs.Source.{Ops, IsSource}
+use Rattle.ft_pairs.specs.declared.at.At.{At}
+use Rattle.ft_table.specs.Hits.{same_key}
+use Rattle.ft_kept.specs.Acts.{Acts, op_of}
+use Rattle.ft_kept.specs.Roles.{Admits}
+use Rattle.ft_kept.specs.Shelves.{Kept}
+use Rattle.ft_kept.specs.Values.{ValuesBy}
+use Rattle.ft_kept.specs.declared.role.Role.{Role}
+use Rattle.ft_kept.specs.declared.role.Role.TheVariants.{Plain, Saves, Reads}
+use Rattle.ft_kept.specs.declared.role.Variable.{Variable}
+
+-- the hits of a trigger at one place, by key (our own choice)
+abbrev pub HitsHere : Type 0
+HitsHere = List Part → Option (List ℤ)
+
+-- the hits of the trigger at a place, by key (our own choice)
+abbrev pub hits_here : Kept → At → HitsHere
+hits_here kept at key = kept.hits at.trigger (record { pos = at.pos; key = key })
+
+-- what the trigger's reading at a place found (our own choice)
+abbrev pub read_here : Kept → At → Option Pos
+read_here kept at = kept.read at.trigger at.pos
+
+-- what a reading at a place finds: the place of the saving (kernel: histogram.rst, inter-event hist triggers)
+abbrev pub Finds : Ops → At → Option Pos → Type 0
+Finds ops at read = (found : Option At) × (IsSource ops at found × (read ≡ option_map (λ saved. saved.pos) found))
+
+-- one hit of a key, or none (our own choice)
+abbrev pub one_hit : List Part → Option (List ℤ) → HitsHere
+one_hit own values key = if same_key key own then values else None
+
+-- what is kept of an act: a hit; of a reader's act what it found, and a hit where it found something; nothing where no trigger acts (kernel: histogram.rst, inter-event hist triggers)
+abbrev pub IsEntry : ValuesBy → (Variable → Ops) → At → Role → Option (List Part × Traced) → HitsHere → Option Pos → Type 0
+IsEntry values ops at role None hits read = (read ≡ None) × ((key : List Part) → hits key ≡ None)
+IsEntry values ops at Plain (Some act) hits read = (read ≡ None) × ((key : List Part) → hits key ≡ one_hit act.0 (Some (values at.trigger at.pos act.1 None)) key)
+IsEntry values ops at Saves (Some act) hits read = (read ≡ None) × ((key : List Part) → hits key ≡ one_hit act.0 (Some (values at.trigger at.pos act.1 None)) key)
+IsEntry values ops at (Reads saver) (Some act) hits read =
+    Finds (ops (record { saver = saver; key = act.0 })) at read
+    × ((key : List Part) → hits key ≡ one_hit act.0 (option_map (λ saved. values at.trigger at.pos act.1 (Some saved)) read) key)
+
+-- hits at a place stand under the key of the act there alone (our own choice)
+abbrev pub IsOwn : Option (List Part × Traced) → HitsHere → Type 0
+IsOwn act hits = (key : List Part) → (hits key ≡ None) ⊎ ((a : List Part × Traced) × ((act ≡ Some a) × (a.0 ≡ key)))
+
+-- hits and readings stay as they were but at one place (our own choice)
+abbrev pub StaysBut : At → Kept → Kept → Type 0
+StaysBut at old new = (q : At) → (q ≡ at → ⊥) → ((key : List Part) → hits_here new q key ≡ hits_here old q key) × (read_here new q ≡ read_here old q)
+
+-- operations stay as they were (our own choice)
+abbrev pub OpsStay : Kept → Kept → Type 0
+OpsStay old new = (variable : Variable) (q : At) → new.ops variable q ≡ old.ops variable q
+
+module _ (role : ℕ → Role) (values : ValuesBy) where
+  -- the place has what its act and the operations say (our own choice)
+  abbrev pub IsRight : Acts → Kept → At → Type 0
+  IsRight acts kept at = IsEntry values kept.ops at (role at.trigger) (acts at) (hits_here kept at) (read_here kept at)
+
+  -- the operations are those of the acts, and each place has what it should, but for some where that is still owed: there hits stand under the act's key alone (our own choice)
+  pub record IsKeptBut (admits : Admits) (acts : Acts) (kept : Kept) (owed : At → Bool) : Type 0 where
+    pub ops : (variable : Variable) (at : At) → kept.ops variable at ≡ op_of role admits acts variable at
+    pub entries : (at : At) → ((owed at ≡ true) × IsOwn (acts at) (hits_here kept at)) ⊎ IsRight acts kept at
+
+  -- nothing is owed (our own choice)
+  abbrev pub IsKept : Admits → Acts → Kept → Type 0
+  IsKept admits acts kept = IsKeptBut admits acts kept (λ at. false)

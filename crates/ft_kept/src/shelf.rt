@@ -1,0 +1,211 @@
+//! Shelves: what is kept of one attached trigger.
+
+ghost use Rattle.std.specs.Prelude.{◌≡◌, ◌+◌, ◌<◌, ◌≤◌, List, false, Some, None, OnOk, IfSome};
+ghost use Rattle.std.specs.FinMap as map;
+ghost use Rattle.ft_event.specs.Places.{pos_cmp};
+ghost use Rattle.ft_event.specs.declared.pos.Pos.{Pos};
+ghost use Rattle.ft_hist.specs.declared.key.Part.{Part};
+ghost use Rattle.ft_maps.specs.Seen.{seen};
+ghost use Rattle.ft_pairs.specs.ByKey.{ops_of, ops_left};
+ghost use Rattle.ft_pairs.specs.Edits.{with_op, without_op, reads_alone};
+ghost use Rattle.ft_pairs.specs.Next.{IsNext};
+ghost use Rattle.ft_pairs.specs.Source.{IsSource};
+ghost use Rattle.ft_pairs.specs.declared.at.At.{At};
+ghost use Rattle.ft_table.specs.Tabled.{is_in};
+ghost use Rattle.ft_kept.specs.Shelves.{IsNewShelf, OpsChange, with_hit_on, without_hit_on};
+ghost use Rattle.ft_kept.specs.Switches.{with_saves, switched};
+
+use crate::role::Role;
+use ft_event::Pos;
+use ft_hist::{Key, Work};
+use ft_maps::{put, take};
+use ft_pairs::{At, Op, Pairs};
+use ft_table::{Hit, Table};
+use std::alloc::{AllocError, Global};
+use std::collections::BTreeMap;
+use std::marker::Model;
+
+/// What is kept of one attached trigger: what it does with its variable, its hits, the operations
+/// on what it saves, and what its readings found.
+///
+/// Contracts see a record of the same fields.
+#[derive(Drop)]
+pub struct Shelf {
+    role: Role,
+    table: Table,
+    pairs: Pairs,
+    readings: BTreeMap<Pos, Pos>,
+}
+
+impl Model for Shelf {
+    ghost use Rattle.ft_event.specs.Places.{pos_cmp};
+    ghost use Rattle.ft_maps.specs.Seen.{seen};
+    ghost use Rattle.ft_kept.specs.Shelves.{Shelved, shelved_code};
+
+    ghost Value = { Shelved };
+
+    ghost coded = { shelved_code };
+
+    ghost view = { λ s. record {
+      role = s.role;
+      table = s.table;
+      ops = s.pairs;
+      readings = seen pos_cmp s.readings;
+    } };
+}
+
+impl Shelf {
+    /// A shelf without hits, with room for at least one key. It takes no memory.
+    pub(crate) fn new(alloc: Global, role: Role, size: u32) -> Shelf
+        requires { 0 < size }
+        ensures { IsNewShelf role size result }
+    {
+        Shelf {
+            role,
+            table: Table::new(alloc, size),
+            pairs: Pairs::new(alloc),
+            readings: BTreeMap::new(alloc),
+        }
+    }
+
+    /// What the trigger does with its variable.
+    pub fn role(&self) -> Role
+        ensures { result ≡ self.now.role }
+    {
+        self.role
+    }
+
+    /// Its hits.
+    pub fn table(&self) -> &Table
+        ensures { result.now ≡ self.now.table }
+    {
+        &self.table
+    }
+
+    /// What its readings found: the place of the saving, by the place of the reading.
+    pub fn readings(&self) -> &BTreeMap<Pos, Pos>
+        ensures { seen pos_cmp result.now ≡ self.now.readings }
+    {
+        &self.readings
+    }
+
+    /// What a reading of a key finds at a place: the saving, if the last operation before it is one.
+    pub(crate) fn source(&self, key: &Key, at: At) -> Option<At>
+        ensures { IsSource (ops_of self.now.ops key.now) at result }
+    {
+        self.pairs.source(key, at)
+    }
+
+    /// The first operation of a key behind a place, or its first of all.
+    pub(crate) fn next_op(&self, key: &Key, after: Option<At>) -> Option<(At, Op)>
+        ensures next { IsNext (ops_of self.now.ops key.now) after result }
+        ensures fewer { IfSome result (λ next.
+            ops_left self.now.ops key.now (Some next.0) < ops_left self.now.ops key.now after) }
+    {
+        self.pairs.next_op(key, after)
+    }
+
+    /// Puts a hit where none stands, and what it read, if it read. Refused for memory.
+    pub(crate) fn put_hit(
+        &mut self,
+        hit: Hit,
+        read: Option<Pos>,
+        work: &mut Work,
+    ) -> Result<(), AllocError>
+        requires { map.get self.old.table.hits (record { pos = hit.pos; key = hit.key }) ≡ None }
+        ensures ok { OnOk result (self.new
+            ≡ with_hit_on (record { pos = hit.pos; key = hit.key }) hit.values read self.old) }
+        ensures puts { work.new.puts ≤ work.old.puts + 1 }
+        ensures evals { work.new.evals ≡ work.old.evals }
+    {
+        if let Some(saved) = read {
+            put(&mut self.readings, hit.pos, saved)?;
+        }
+        self.table.insert(hit, work)
+    }
+
+    /// Takes what stands at a place: the hit under a key, and what the reading there found.
+    pub(crate) fn take_hit(&mut self, pos: Pos, key: Key)
+        ensures { self.new ≡ without_hit_on (record { pos = pos; key = key }) self.old }
+    {
+        self.table.remove(pos, key);
+        take(&mut self.readings, &pos);
+    }
+
+    /// Puts an operation of a key at a place, where none stands. Refused for memory.
+    pub(crate) fn put_op(
+        &mut self,
+        key: Key,
+        at: At,
+        op: Op,
+        work: &mut Work,
+    ) -> Result<(), AllocError>
+        requires { ops_of self.old.ops key at ≡ None }
+        ensures ok { OnOk result (OpsChange key (with_op at op) self.old self.new) }
+        ensures puts { work.new.puts ≡ work.old.puts + 1 }
+        ensures evals { work.new.evals ≡ work.old.evals }
+    {
+        self.pairs.insert(key, at, op, work)
+    }
+
+    /// Takes the operation of a key at a place away, if one stands there.
+    pub(crate) fn take_op(&mut self, key: &Key, at: At)
+        ensures { OpsChange key.now (without_op at) self.old self.new }
+    {
+        self.pairs.remove(key, at);
+    }
+
+    /// Takes the saves of a key away. Its reads stay.
+    pub(crate) fn drop_saves(&mut self, key: &Key)
+        ensures { OpsChange key.now reads_alone self.old self.new }
+    {
+        self.pairs.remove_key(key);
+    }
+
+    /// Lets the operations of a key of this saver follow its table, where the key was in it or
+    /// not: as it comes in, each hit of it saves, and as it goes out, none does. Refused for memory.
+    pub(crate) fn switch(
+        &mut self,
+        id: u32,
+        key: Key,
+        was_in: bool,
+        work: &mut Work,
+    ) -> Result<(), AllocError>
+        requires { was_in ≡ false → (pos : Pos)
+            → ops_of self.old.ops key (record { pos = pos; trigger = id }) ≡ None }
+        ensures ok { OnOk result (OpsChange key
+            (switched was_in (is_in self.old.table key) self.old.table.hits id key)
+            self.old self.new) }
+        ensures puts { was_in ≡ is_in self.old.table key → work.new.puts ≡ work.old.puts }
+        ensures evals { work.new.evals ≡ work.old.evals }
+    {
+        match (was_in, self.table.is_in(&key)) {
+            (false, true) => self.put_saves(id, key, work),
+            (true, false) => {
+                self.drop_saves(&key);
+                Ok(())
+            }
+            (true, true) | (false, false) => Ok(()),
+        }
+    }
+
+    /// Puts a save at each hit of a key, where none stands yet. Refused for memory.
+    fn put_saves(&mut self, id: u32, key: Key, work: &mut Work) -> Result<(), AllocError>
+        requires { (pos : Pos)
+            → ops_of self.old.ops key (record { pos = pos; trigger = id }) ≡ None }
+        ensures ok { OnOk result (OpsChange key
+            (with_saves self.old.table.hits id key) self.old self.new) }
+        ensures evals { work.new.evals ≡ work.old.evals }
+    {
+        let mut next = self.table.hit_after(&key, None);
+        while let Some(hit) = next {
+            let at = At {
+                pos: hit.pos,
+                trigger: id,
+            };
+            self.pairs.insert(key, at, Op::Save, work)?;
+            next = self.table.hit_after(&key, Some(hit.pos));
+        }
+        Ok(())
+    }
+}

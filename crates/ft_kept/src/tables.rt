@@ -1,0 +1,126 @@
+//! Tables: the shelves of all attached triggers.
+
+ghost use Rattle.std.specs.Prelude.{◌≡◌, ◌+◌, ◌<◌, ◌≤◌, OnOk, OnErr, IfSome, Some, None};
+ghost use Rattle.std.specs.FinMap as map;
+ghost use Rattle.std.specs.Option.{option_copied};
+ghost use Rattle.ft_pairs.specs.Edits.{with_op};
+ghost use Rattle.ft_pairs.specs.Next.{IsNext};
+ghost use Rattle.ft_pairs.specs.Source.{IsSource};
+ghost use Rattle.ft_pairs.specs.declared.at.Op.TheVariants.{Read};
+ghost use Rattle.ft_kept.specs.Shelves.{role_on, kept_on, left_on};
+ghost use Rattle.ft_kept.specs.Shelves.{AddsShelf, ChangesShelf, OpsChange};
+
+use crate::role::Role;
+use crate::shelf::Shelf;
+use ft_hist::{Key, Work};
+use ft_maps::{get, put};
+use ft_pairs::{At, Op};
+use std::alloc::{AllocError, Global};
+use std::collections::BTreeMap;
+use std::marker::Model;
+
+/// What is kept of all attached triggers, by their ids.
+///
+/// Contracts see a finite map of shelves.
+#[derive(Drop)]
+pub struct Tables {
+    alloc: Global,
+    pub(crate) shelves: BTreeMap<u32, Shelf>,
+}
+
+impl Model for Tables {
+    ghost use Rattle.std.specs.Ordering.{nat_cmp};
+    ghost use Rattle.ft_maps.specs.Seen.{seen};
+    ghost use Rattle.ft_kept.specs.Codes.{shelves_code};
+    ghost use Rattle.ft_kept.specs.Shelves.{Shelves};
+
+    ghost Value = { Shelves };
+
+    ghost coded = { shelves_code };
+
+    ghost view = { λ t. seen nat_cmp t.shelves };
+}
+
+impl Tables {
+    /// No shelves. It takes no memory.
+    pub fn new(alloc: Global) -> Tables
+        ensures { result ≡ map.empty }
+    {
+        Tables {
+            alloc,
+            shelves: BTreeMap::new(alloc),
+        }
+    }
+
+    /// Gives a trigger a shelf without hits, in place of any that it has. Refused for memory, and
+    /// then all is as it was.
+    pub fn add(&mut self, id: u32, role: Role, size: u32) -> Result<(), AllocError>
+        requires { 0 < size }
+        ensures ok { OnOk result (AddsShelf id role size self.old self.new) }
+        ensures err { OnErr result (self.new ≡ self.old) }
+    {
+        put(&mut self.shelves, id, Shelf::new(self.alloc, role, size))
+    }
+
+    /// The shelf of a trigger.
+    pub fn shelf(&self, id: u32) -> Option<&Shelf>
+        ensures { option_copied result ≡ map.get self.now id }
+    {
+        get(&self.shelves, &id)
+    }
+
+    /// What a trigger does with its variable; one without a shelf has none.
+    pub(crate) fn role(&self, id: u32) -> Role
+        ensures { result ≡ role_on self.now id }
+    {
+        match self.shelf(id) {
+            Some(shelf) => shelf.role(),
+            None => Role::Plain,
+        }
+    }
+
+    /// What a reading of a saver's variable finds at a place.
+    pub(crate) fn source(&self, saver: u32, key: &Key, at: At) -> Option<At>
+        ensures { IsSource ((kept_on self.now).ops (record { saver = saver; key = key.now })) at
+            result }
+    {
+        match self.shelf(saver) {
+            Some(shelf) => shelf.source(key, at),
+            None => None,
+        }
+    }
+
+    /// The first operation on a saver's variable behind a place, or the first of all. Behind it
+    /// fewer are left than behind that place, so that a walk ends.
+    pub(crate) fn next_op(&self, saver: u32, key: &Key, after: Option<At>) -> Option<(At, Op)>
+        ensures next { IsNext ((kept_on self.now).ops (record { saver = saver; key = key.now }))
+            after result }
+        ensures fewer { IfSome result (λ next.
+            left_on self.now saver key.now (Some next.0) < left_on self.now saver key.now after) }
+    {
+        match self.shelf(saver) {
+            Some(shelf) => shelf.next_op(key, after),
+            None => None,
+        }
+    }
+
+    /// Puts a read of a saver's variable at a place, where no operation stands. Refused for memory.
+    pub(crate) fn put_read(
+        &mut self,
+        saver: u32,
+        key: Key,
+        at: At,
+        work: &mut Work,
+    ) -> Result<(), AllocError>
+        requires free { (kept_on self.old).ops (record { saver = saver; key = key }) at ≡ None }
+        ensures ok { OnOk result (ChangesShelf saver (OpsChange key (with_op at Read))
+            self.old self.new) }
+        ensures puts { work.new.puts ≤ work.old.puts + 1 }
+        ensures evals { work.new.evals ≡ work.old.evals }
+    {
+        match self.shelves.get_mut(&saver) {
+            Some(shelf) => shelf.put_op(key, at, Op::Read, work),
+            None => Ok(()),
+        }
+    }
+}
