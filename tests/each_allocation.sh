@@ -9,19 +9,22 @@
 #   ft_lanes    what_is_refused_leaves_the_lanes, a_refused_rebuild_leaves_the_lanes
 #   ft_board    load_after_want_of_memory, attach_after_want_of_memory, answer_after_want_of_memory,
 #               edits_after_want_of_memory
-#   ft_desk     whole_output_or_that_of_the_commands_before
+#   ft_desk     whole_output_or_that_of_the_commands_before, session_after_want_of_memory,
+#               edits_in_a_row_after_want_of_memory
 #
 # A filter or a trigger that is read and written, a load, an inserted event, an attached trigger and the
 # latencies that it measured have the wanted text, value or fault, or answer want of memory with
 # everything as it was, so that they succeed when they are asked again. And a script through `run` prints
 # its whole output, or answers want of memory with the whole output of the commands before. A table, the
-# operations of a key and the lanes are as they were.
+# operations of a key and the lanes are as they were. Edits of a desk over the kept board, with answers
+# between them or after them all, tell and answer what they should, or want of memory and then what they
+# should; an accepted edit answers `Later` just where the desk is deferred, and the next answer ends that.
 #
 # `rt try`, which proves nothing, compiles a crate's tests anew for each allocation. That took half a
 # minute to three minutes on four processors that other work kept busy. The plain tests below make fewer
-# than 24 allocations in ft_filter, 30 in ft_trigger, and between 40 and 80 in ft_desk, so that these three
-# crates should take one to three hours, which nobody has timed, nor ft_pairs, ft_lanes and ft_board. The
-# one of ft_table makes 12: its 17 runs took 13 minutes beside other work.
+# than 24 allocations in ft_filter, 30 in ft_trigger, and between 100 and 115 in ft_desk, so that these
+# three crates should take two to ten hours, which nobody has timed, nor ft_pairs, ft_lanes and ft_board.
+# The one of ft_table makes 12: its 17 runs took 13 minutes beside other work.
 set -euo pipefail
 
 crates=$(dirname -- "$(realpath -- "${BASH_SOURCE[0]}")")/../crates
@@ -102,8 +105,10 @@ tests_of() {
                 tests::striking::edits_after_want_of_memory
             ;;
         ft_desk)
-            each ft_desk tests::examples::triggers_with_filters \
-                tests::examples::whole_output_or_that_of_the_commands_before
+            each ft_desk tests::kept_now::each_edit_of_a_session \
+                tests::examples::whole_output_or_that_of_the_commands_before \
+                tests::want_of_memory::session_after_want_of_memory \
+                tests::want_of_memory::edits_in_a_row_after_want_of_memory
             ;;
         *)
             echo "each_allocation.sh: no tests of $1"

@@ -122,6 +122,21 @@ strike-reachable base cpu line new place is answer =
       ] held
     ] (sym (after_strike-cases base cpu line) ∙ answer)
 
+-- the place that is struck is the one that was asked for
+pub strike-place : (base : Base) (cpu line : ℕ) (new : Base) (place : Place) → after_strike base cpu line ≡ Ok (new, place) → ◌≡◌ {A = Place} (record { cpu = cpu; line = line }) place
+strike-place base cpu line new place answer =
+    elim (map.get base.lanes cpu) as (λ o. struck base cpu line o ≡ Ok (new, place) → ◌≡◌ {A = Place} (record { cpu = cpu; line = line }) place) [
+      | None ↦ λ e. cc
+      | Some lane ↦ λ held. elim (map.get lane.events line) as (λ o. struck_event base cpu line o ≡ Ok (new, place) → ◌≡◌ {A = Place} (record { cpu = cpu; line = line }) place) [
+        | None ↦ λ e. cc
+        | Some event ↦ λ e. ap (place_in place) e
+      ] held
+    ] (sym (after_strike-cases base cpu line) ∙ answer)
+  where
+    place_in : Place → Result (Base × Place) Refused → Place
+    place_in other (Ok both) = both.1
+    place_in other (Err refused) = other
+
 -- ---- another filter, by the trigger
 
 abbrev refiltered : Base → ℕ → Option Tree → Option Hist → Result (Base × ℕ) Refused

@@ -74,7 +74,7 @@ unasked test (e ∷ es) id hist none found =
       | false ↦ λ later. unasked test es id hist parts.1 later
     ] found
 
-no_hit : (hist : Hist) (event : Traced) → same_name hist.event (name_of event.body) ≡ false → hit hist event ≡ None
+pub no_hit : (hist : Hist) (event : Traced) → same_name hist.event (name_of event.body) ≡ false → hit hist event ≡ None
 no_hit hist event other = ap (λ (b : Bool). if b && passes_filter hist.filter event then key_of hist.keys event else None) other
 
 idle_in : (triggers : Triggers) (id : ℕ) (event : Traced) → is_named triggers event ≡ false → act_in (map.get triggers id) event ≡ None

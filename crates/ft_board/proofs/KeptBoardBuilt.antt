@@ -134,7 +134,7 @@ module _ (triggers : Triggers) (lanes : Lanes) where
     pub absent : AllByRecursion (λ e. map.get events e.0 ≡ None) rest
     pub sorted : IsStrictlySortedBy pos_cmp (keys_of rest)
 
-  from_entries : (events : Events) → fold merged_with map.empty (map.entries events) ≡ events
+  pub from_entries : (events : Events) → fold merged_with map.empty (map.entries events) ≡ events
   from_entries events = same_map pos_cmp_total pos_same (fold merged_with map.empty (map.entries events)) events (λ q.
       get-inserted pos_cmp_total pos_same q map.empty (map.entries events) (IsDistinct-from_sorted pos_cmp (map.keys events) (strictly_sorted pos_cmp (map.entries events) (entries_sorted events)))
       ∙ ap (option_or (find pos_cmp q (map.entries events))) (get-empty {X = Traced} pos_cmp q)

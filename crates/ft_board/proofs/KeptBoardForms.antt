@@ -58,7 +58,7 @@ module _ (triggers : Triggers) (shelves : Shelves) (has : HaveShelves triggers s
 -- ---- a reader's saver has a shelf
 
 -- a variable that is read has its reader's role
-reads_of : (triggers : Triggers) (variable : Option Var) (saver : ℕ) → role_of triggers variable ≡ Reads saver
+pub reads_of : (triggers : Triggers) (variable : Option Var) (saver : ℕ) → role_of triggers variable ≡ Reads saver
     → (own : List ℕ) × ((source : List ℕ) × ((variable ≡ Some (vars.Reads own source)) × (unwrap_or (saver_of triggers source) 0 ≡ saver)))
 reads_of triggers None saver is = let both : ◌≡◌ {A = Role} Plain (Reads saver) = is in absurd cc
 reads_of triggers (Some (vars.Saves label)) saver is = let both : ◌≡◌ {A = Role} Saves (Reads saver) = is in absurd cc

@@ -4,6 +4,7 @@ use Rattle.std.specs.Prelude.{IsSome, map as list_map}
 use Rattle.std.specs.Option.{option_map_or, is_none}
 use Rattle.std.specs.FinMap as map
 use Rattle.ft_hist.specs.Hist.{Hist}
+use Rattle.ft_hist.specs.Steps.{Steps}
 use Rattle.ft_kept.specs.Shelves.{Shelves}
 use Rattle.ft_table.specs.declared.row.Totals.{Totals}
 use Rattle.ft_board.specs.declared.refused.Latency.{Latency}
@@ -16,6 +17,7 @@ use Rattle.ft_board.specs.Merged.{merged}
 use Rattle.ft_board.specs.OnShelves.{is_reader}
 use Rattle.ft_board.specs.Shown.{Shown}
 use Rattle.ft_board.specs.Tally.{Tally, totals_in}
+use Rattle.ft_board.proofs.AnswerSteps.{kept_shown}
 use Rattle.ft_board.proofs.Answering.{latencies-reader, latencies-other}
 
 -- the answer expected, or want of memory
@@ -31,10 +33,10 @@ told_keeps : {S T : Type 0} (view : S → T) (expected : Result T Refused) (answ
 told_keeps view expected (Ok answer) is old new now = now
 told_keeps view expected (Err refused) is old new now = (λ e. let both : ◌≡◌ {A = Bool} true false = sym e ∙ now in absurd cc, λ other. absurd (other is))
 
-pub told : {S T : Type 0} (view : S → T) (expected : Base → Result T Refused) (shown : Shown) (content : Base) (kept new : Option Shelves) (answer : Result S Refused)
-    → ◌≡◌ {A = Shown} (record { base = content; deferred = is_none kept }) shown → IsSome new → IsTold view (expected content) answer
+pub told : {S T : Type 0} (view : S → T) (expected : Base → Result T Refused) (shown : Shown) (content : Base) (kept new : Option Shelves) (work : Steps) (answer : Result S Refused)
+    → kept_shown content kept work ≡ shown → IsSome new → IsTold view (expected content) answer
     → (content ≡ shown.base) × AnswerIs view (expected shown.base) answer × AnswerKeeps shown.deferred (is_none new) answer
-told view expected shown content kept new answer is there tells = (
+told view expected shown content kept new work answer is there tells = (
   ap (λ (s : Shown). s.base) is,
   subst (λ (b : Base). AnswerIs view (expected b) answer) (ap (λ (s : Shown). s.base) is) (told_is view (expected content) answer tells),
   told_keeps view (expected content) answer tells shown.deferred (is_none new) (ap not there),

@@ -22,7 +22,7 @@ use Rattle.ft_table.specs.Tabled.{Tabled, is_in}
 use Rattle.ft_table.specs.declared.mark.Mark.{Mark}
 use Rattle.ft_board.specs.Base.{Triggers, Events}
 use Rattle.ft_board.specs.Counting.{table_for}
-use Rattle.ft_board.specs.Hits.{TriggerHit, hit_at}
+use Rattle.ft_board.specs.Hits.{TriggerHit, hit_at, hits_of}
 use Rattle.ft_board.specs.Kept.{values_found, saving_found, pairs_in}
 use Rattle.ft_board.specs.KeptShelves.{AreKept, HasItsShelf, IsShelfOf}
 use Rattle.ft_board.specs.Operations.{is_admitted}
@@ -93,6 +93,10 @@ module _ (rows : RowsGrow) (totals : TotalsGrow) (members : InGrows) (one : OneS
   module _ (id : ℕ) (hist : Hist) (shelf : Shelved) (attached : map.get triggers id ≡ Some hist) (there : map.get shelves id ≡ Some shelf) where
     hits-are : (mark : Mark) → map.get shelf.table.hits mark ≡ values_found triggers events id mark
     hits-are = hits-replayed id hist shelf attached there (replayed-at id hist attached)
+
+    -- a shelf's table is the one that replaying fills
+    pub table-of : shelf.table ≡ table_for hist (hits_of triggers events id)
+    table-of = sym (table-is id hist shelf attached there) ∙ ap (table_for hist) (values-are triggers events id shelf.table.hits hits-are)
 
     readings-are : (at : Pos) → map.get shelf.readings at ≡ saving_found triggers events id at
     readings-are at = sym (read-on id hist shelf attached there at) ∙ (replayed-at id hist attached at).read

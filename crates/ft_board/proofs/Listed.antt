@@ -95,7 +95,8 @@ module _ (g : Pos → Option TriggerHit) (here : (at : Pos) → IfSome (g at) (�
 abbrev pub values_under : List Part → Option TriggerHit → Option (List ℤ)
 values_under key found = option_and_then (λ found. if same_key key found.key then Some found.values else None) found
 
-tied_then : (a b : Ordering) → is_eq (ordering_then a b) ≡ cond (is_eq a) (is_eq b) false
+-- one order behind another ties where both do
+pub tied_then : (a b : Ordering) → is_eq (ordering_then a b) ≡ cond (is_eq a) (is_eq b) false
 tied_then Less b = refl
 tied_then Equal b = refl
 tied_then Greater b = refl

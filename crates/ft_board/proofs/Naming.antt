@@ -9,6 +9,7 @@ use Rattle.std.specs.FinMap as map
 use Rattle.std.specs.FinMap.{entries_sorted}
 use Rattle.std.specs.declared.cmp.Ordering.TheVariants.{Less}
 use Rattle.ft_event.specs.Traced.{Traced, name_of}
+use Rattle.ft_event.specs.declared.event.Name.{Name}
 use Rattle.ft_event.specs.declared.pos.Pos.{Pos}
 use Rattle.ft_event.specs.Places.{pos_cmp, pos_cmp_total}
 use Rattle.ft_hist.specs.declared.key.Part.{Part}
@@ -16,9 +17,45 @@ use Rattle.ft_hist.specs.Hist.{Hist}
 use Rattle.ft_hist.specs.Hit.{key_of, passes_filter, same_name}
 use Rattle.ft_maps.specs.Entries.{entries-from_entries, strictly_sorted}
 use Rattle.ft_board.specs.Base.{Triggers, Events}
-use Rattle.ft_board.specs.Named.{is_on, is_named, named}
+use Rattle.ft_board.specs.Named.{is_on, is_named, named, events_on}
 use Rattle.ft_board.specs.Replay.{State, act, growth_by, act_at, step, replay}
 use Rattle.ft_board.specs.Roles.{role_of}
+
+-- ---- the events of some names
+
+module _ (names : Name → Bool) where
+  -- an entry whose event has one of the names
+  abbrev pub has_one : Pos × Traced → Bool
+  has_one entry = names (name_of entry.1.body)
+
+  above_kept : (k : Pos) (es : List (Pos × Traced)) → AllByRecursion (λ q. pos_cmp k q ≡ Less) (keys_of es) → AllByRecursion (λ q. pos_cmp k q ≡ Less) (keys_of (filter has_one es))
+  above_kept k [] h = tt
+  above_kept k (e ∷ es) h =
+      let rest = above_kept k es h.1 in
+      elim (has_one e) as (λ b. AllByRecursion (λ q. pos_cmp k q ≡ Less) (keys_of (cond b (e ∷ filter has_one es) (filter has_one es)))) [ true ↦ (h.0, rest) | false ↦ rest ]
+
+  kept_sorted : (es : List (Pos × Traced)) → IsStrictlySortedBy pos_cmp (keys_of es) → IsStrictlySortedBy pos_cmp (keys_of (filter has_one es))
+  unfolding IsStrictlySortedBy
+  kept_sorted [] h = tt
+  kept_sorted (e ∷ es) h =
+      let rest = kept_sorted es h.1 in
+      elim (has_one e) as (λ b. IsStrictlySortedBy pos_cmp (keys_of (cond b (e ∷ filter has_one es) (filter has_one es)))) [ true ↦ (above_kept e.0 es h.0, rest) | false ↦ rest ]
+
+  pub entries-on : (events : Events) → map.entries (events_on names events) ≡ filter has_one (map.entries events)
+  unfolding events_on
+  entries-on events = entries-from_entries pos_cmp_total (filter has_one (map.entries events)) (kept_sorted (map.entries events) (strictly_sorted pos_cmp (map.entries events) (entries_sorted events)))
+
+  kept_all : (P : Pos × Traced → Type 0) (es : List (Pos × Traced)) → AllByRecursion P es → AllByRecursion P (filter has_one es)
+  kept_all P [] h = tt
+  kept_all P (e ∷ es) h =
+      let rest = kept_all P es h.1 in
+      elim (has_one e) as (λ b. AllByRecursion P (cond b (e ∷ filter has_one es) (filter has_one es))) [ true ↦ (h.0, rest) | false ↦ rest ]
+
+  -- what holds of all events holds of these
+  pub on_all : (P : Pos × Traced → Type 0) (events : Events) → AllByRecursion P (map.entries events) → AllByRecursion P (map.entries (events_on names events))
+  on_all P events h = subst (AllByRecursion P) (sym (entries-on events)) (kept_all P (map.entries events) h)
+
+-- ---- those on whose name some trigger is
 
 either-left : (a b : Bool) → (a || b) ≡ false → a ≡ false
 either-left true b h = h
@@ -61,32 +98,17 @@ module _ (triggers : Triggers) where
         | false ↦ λ is. some_named state es ∙ ap (λ (s : State). fold (step triggers) s es) (sym (unnamed_step state e is))
       ] refl
 
-  above_kept : (k : Pos) (es : List (Pos × Traced)) → AllByRecursion (λ q. pos_cmp k q ≡ Less) (keys_of es) → AllByRecursion (λ q. pos_cmp k q ≡ Less) (keys_of (filter is_kept es))
-  above_kept k [] h = tt
-  above_kept k (e ∷ es) h =
-      let rest = above_kept k es h.1 in
-      elim (is_kept e) as (λ b. AllByRecursion (λ q. pos_cmp k q ≡ Less) (keys_of (cond b (e ∷ filter is_kept es) (filter is_kept es)))) [ true ↦ (h.0, rest) | false ↦ rest ]
-
-  kept_sorted : (es : List (Pos × Traced)) → IsStrictlySortedBy pos_cmp (keys_of es) → IsStrictlySortedBy pos_cmp (keys_of (filter is_kept es))
-  unfolding IsStrictlySortedBy
-  kept_sorted [] h = tt
-  kept_sorted (e ∷ es) h =
-      let rest = kept_sorted es h.1 in
-      elim (is_kept e) as (λ b. IsStrictlySortedBy pos_cmp (keys_of (cond b (e ∷ filter is_kept es) (filter is_kept es)))) [ true ↦ (above_kept e.0 es h.0, rest) | false ↦ rest ]
+  -- they are the events of the names that some trigger is on
+  pub named-on : (events : Events) → named triggers events ≡ events_on (is_on triggers) events
+  unfolding named events_on
+  named-on events = refl
 
   pub entries-named : (events : Events) → map.entries (named triggers events) ≡ filter is_kept (map.entries events)
-  unfolding named
-  entries-named events = entries-from_entries pos_cmp_total (filter is_kept (map.entries events)) (kept_sorted (map.entries events) (strictly_sorted pos_cmp (map.entries events) (entries_sorted events)))
-
-  kept_all : (P : Pos × Traced → Type 0) (es : List (Pos × Traced)) → AllByRecursion P es → AllByRecursion P (filter is_kept es)
-  kept_all P [] h = tt
-  kept_all P (e ∷ es) h =
-      let rest = kept_all P es h.1 in
-      elim (is_kept e) as (λ b. AllByRecursion P (cond b (e ∷ filter is_kept es) (filter is_kept es))) [ true ↦ (h.0, rest) | false ↦ rest ]
+  entries-named events = ap (λ (m : Events). map.entries m) (named-on events) ∙ entries-on (is_on triggers) events
 
   -- what holds of all events holds of these
   pub named_all : (P : Pos × Traced → Type 0) (events : Events) → AllByRecursion P (map.entries events) → AllByRecursion P (map.entries (named triggers events))
-  named_all P events h = subst (AllByRecursion P) (sym (entries-named events)) (kept_all P (map.entries events) h)
+  named_all P events h = subst (λ (m : Events). AllByRecursion P (map.entries m)) (sym (named-on events)) (on_all (is_on triggers) P events h)
 
   pub replay-named : (events : Events) → replay triggers (named triggers events) ≡ replay triggers events
   unfolding replay

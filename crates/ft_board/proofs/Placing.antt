@@ -1,6 +1,6 @@
 -- Held events in order of their places are the entries of the merged events.
 use Rattle.std.proofs.Common.{◌≡◌, ◌<◌, ◌+◌, ℕ, Bool, true, false, cond, List, [], ◌∷◌, ◌++◌, length, get_or, map as list_map, refl, sym, ap, subst, ◌∙◌, arith, Some, None, Option, Ok, Err, Result}
-use Rattle.std.specs.Prelude.{◌&&◌, ⊤, fold, filter, OnOk, IsPermutation}
+use Rattle.std.specs.Prelude.{◌&&◌, ⊤, fold, filter, IfOk, OnOk, IsPermutation}
 use Rattle.std.specs.List.{AllByRecursion, IsDistinct, flat_map}
 use Rattle.std.specs.List.Sorted.{IsSortedByKey, IsStrictlySortedBy}
 use Rattle.std.specs.Option.{option_or}
@@ -17,7 +17,8 @@ use Rattle.std.proofs.lemmas.Map.Entries.{option_filter, lookup-filter-values, l
 use Rattle.std.proofs.lemmas.Map.Keys.{IsDistinct-from_sorted, IsDistinct-head, IsDistinct-tail, IsDistinct-IsPermutation, apart_from_distinct, sorted_from_all_adjacent}
 use Rattle.std.proofs.lemmas.Map.Made.{IsDistinct-keys_filter, keys_of-map_values}
 use Rattle.std.proofs.lemmas.Map.Views.{Contains-from_lookup, lookup-from_Contains}
-use Rattle.ft_event.specs.Traced.{Traced}
+use Rattle.ft_event.specs.Traced.{Traced, name_of}
+use Rattle.ft_event.specs.declared.event.Name.{Name}
 use Rattle.ft_event.specs.declared.pos.Pos.{Pos}
 use Rattle.ft_event.specs.Places.{pos_cmp, pos_cmp_total, pos_same}
 use Rattle.ft_maps.specs.Entries.{entries-from_entries, same_from_tie, strictly_sorted}
@@ -25,14 +26,18 @@ use Rattle.ft_maps.specs.Mapped.{entries_by}
 use Rattle.ft_lanes.specs.Held.{Lane, Lanes}
 use Rattle.ft_board.specs.Base.{Triggers, Events}
 use Rattle.ft_board.specs.Merged.{place_of, placed, merged}
-use Rattle.ft_board.specs.Named.{is_named, named}
+use Rattle.ft_board.specs.Named.{is_on, is_named, named, events_on}
 use Rattle.ft_board.proofs.Apart.{AreApart, entries_apart, all_of, all_map, all_append}
 use Rattle.ft_board.proofs.Places.{tied_then}
-use Rattle.ft_board.proofs.Naming.{is_kept, entries-named}
+use Rattle.ft_board.proofs.Naming.{has_one, entries-on, named-on}
 
 pub on_ok : {X E : Type 0} (r : Result X E) (P Q : Type 0) → (P → Q) → OnOk r P → OnOk r Q
 on_ok (Ok x) P Q f h = f h
 on_ok (Err e) P Q f h = tt
+
+pub if_ok : {X E : Type 0} (r : Result X E) (P Q : X → Type 0) → ((x : X) → P x → Q x) → IfOk r P → IfOk r Q
+if_ok (Ok x) P Q f h = f x h
+if_ok (Err e) P Q f h = tt
 
 less : (o : Ordering) → is_lt (ordering_reverse o) ≡ false → is_eq o ≡ false → o ≡ Less
 less Less up other = refl
@@ -172,13 +177,13 @@ lanes_differ (lane ∷ lanes) h =
     on_lanes (λ q. IsApart (place_of lane.0 e) q.0) lanes (all_map _ _ (λ other below.
     on_lines other.0 (λ q. IsApart (place_of lane.0 e) q.0) (map.entries other.1.events) (all_of _ (λ x. on_cpu (place_of lane.0 e) (place_of other.0 x) below) (map.entries other.1.events))) lanes h.0)) (map.entries lane.1.events)))
 
--- ---- those on whose name some trigger is
+-- ---- those of some names
 
 pub or_none : {X : Type 0} (o : Option X) → option_or o None ≡ o
 or_none None = refl
 or_none (Some x) = refl
 
-module _ (triggers : Triggers) (lanes : Lanes) where
+module _ (names : Name → Bool) (lanes : Lanes) where
   -- all held events, lane by lane
   abbrev by_lane : List (Pos × Traced)
   by_lane = flat_map placed (map.entries lanes)
@@ -193,26 +198,31 @@ module _ (triggers : Triggers) (lanes : Lanes) where
       ∙ ap (option_or (find pos_cmp q by_lane)) (get-empty {X = Traced} pos_cmp q)
       ∙ or_none (find pos_cmp q by_lane))
 
-  pub get-named : (events : Events) (q : Pos) → map.get (named triggers events) q ≡ option_filter (is_named triggers) (map.get events q)
-  get-named events q =
-      get-entries (named triggers events) q
-      ∙ ap (find pos_cmp q) (entries-named triggers events)
-      ∙ find-filter pos_cmp_total pos_same (is_named triggers) q (map.entries events) (IsDistinct-from_sorted pos_cmp (map.keys events) (strictly_sorted pos_cmp (map.entries events) (entries_sorted events)))
-      ∙ ap (option_filter (is_named triggers)) (sym (get-entries events q))
+  -- what the events of the names have at a place
+  pub get-on : (events : Events) (q : Pos) → map.get (events_on names events) q ≡ option_filter (λ event. names (name_of event.body)) (map.get events q)
+  get-on events q =
+      get-entries (events_on names events) q
+      ∙ ap (find pos_cmp q) (entries-on names events)
+      ∙ find-filter pos_cmp_total pos_same (λ event. names (name_of event.body)) q (map.entries events) (IsDistinct-from_sorted pos_cmp (map.keys events) (strictly_sorted pos_cmp (map.entries events) (entries_sorted events)))
+      ∙ ap (option_filter (λ event. names (name_of event.body))) (sym (get-entries events q))
 
-  find-kept : (q : Pos) → find pos_cmp q (filter (is_kept triggers) by_lane) ≡ map.get (named triggers (merged lanes)) q
+  find-kept : (q : Pos) → find pos_cmp q (filter (has_one names) by_lane) ≡ map.get (events_on names (merged lanes)) q
   find-kept q =
-      find-filter pos_cmp_total pos_same (is_named triggers) q by_lane all_distinct
-      ∙ ap (option_filter (is_named triggers)) (find-all q)
-      ∙ sym (get-named (merged lanes) q)
+      find-filter pos_cmp_total pos_same (λ event. names (name_of event.body)) q by_lane all_distinct
+      ∙ ap (option_filter (λ event. names (name_of event.body))) (find-all q)
+      ∙ sym (get-on (merged lanes) q)
 
   -- in order of their places they are the entries of the merged events
-  pub in_order : {Y : Type 0} (g : Y → Traced) (before after : List (Pos × Y)) → entries_by g before ≡ filter (is_kept triggers) by_lane
-      → IsPermutation before after → IsSortedByKey (λ e. e.0) pos_cmp after → entries_by g after ≡ map.entries (named triggers (merged lanes))
+  pub in_order : {Y : Type 0} (g : Y → Traced) (before after : List (Pos × Y)) → entries_by g before ≡ filter (has_one names) by_lane
+      → IsPermutation before after → IsSortedByKey (λ e. e.0) pos_cmp after → entries_by g after ≡ map.entries (events_on names (merged lanes))
   in_order g before after all moved up =
-      let kept : IsDistinct (eq_by_cmp pos_cmp) (keys_of (filter (is_kept triggers) by_lane)) = IsDistinct-keys_filter (eq_by_cmp pos_cmp) (is_kept triggers) by_lane all_distinct in
+      let kept : IsDistinct (eq_by_cmp pos_cmp) (keys_of (filter (has_one names) by_lane)) = IsDistinct-keys_filter (eq_by_cmp pos_cmp) (has_one names) by_lane all_distinct in
       let first : IsDistinct (eq_by_cmp pos_cmp) (keys_of before) = subst (IsDistinct (eq_by_cmp pos_cmp)) (sym (ap (λ (es : List (Pos × Traced)). keys_of es) all) ∙ keys_of-map_values g before) kept in
       let last : IsDistinct (eq_by_cmp pos_cmp) (keys_of after) = IsDistinct-IsPermutation (eq_by_cmp pos_cmp) (eq_by_cmp_equiv pos_cmp_total).symm (keys_of before) (keys_of after) (IsPermutation-map (λ e. e.0) before after moved) first in
-      entries-moved pos_cmp_total pos_same (named triggers (merged lanes)) (filter (is_kept triggers) by_lane) (entries_by g after) find-kept
+      entries-moved pos_cmp_total pos_same (events_on names (merged lanes)) (filter (has_one names) by_lane) (entries_by g after) find-kept
       (subst (λ (es : List (Pos × Traced)). IsPermutation es (entries_by g after)) all (IsPermutation-map (λ e. (e.0, g e.1)) before after moved)) kept
       (subst (IsStrictlySortedBy pos_cmp) (sym (keys_of-map_values g after)) (ascends pos_cmp_total pos_same after up last))
+
+-- what the events have at a place on whose name some trigger is
+pub get-named : (triggers : Triggers) (lanes : Lanes) (events : Events) (q : Pos) → map.get (named triggers events) q ≡ option_filter (is_named triggers) (map.get events q)
+get-named triggers lanes events q = ap (λ (m : Events). map.get m q) (named-on triggers events) ∙ get-on (is_on triggers) lanes events q

@@ -1,5 +1,6 @@
 -- What an edit or an answer of a board says, by what contracts see of the board before and after it.
 use Rattle.std.specs.Prelude.{◌≡◌, ◌≢◌, ◌⊎◌, ℕ, Bool, true, false, Result, Ok, Err}
+use Rattle.std.specs.FinMap as map
 use Rattle.ft_lanes.specs.Edits.{lanes_without}
 use Rattle.ft_board.specs.declared.refused.Place.{Place}
 use Rattle.ft_board.specs.declared.refused.Refused.{Refused}
@@ -7,7 +8,7 @@ use Rattle.ft_board.specs.declared.refused.Refused.TheVariants.{Memory}
 use Rattle.ft_board.specs.declared.refused.Done.{Done}
 use Rattle.ft_board.specs.declared.refused.Kept.{Kept}
 use Rattle.ft_board.specs.declared.refused.Kept.TheVariants.{Now, Later}
-use Rattle.ft_board.specs.After.{after_strike}
+use Rattle.ft_board.specs.After.{after_strike, after_remove}
 use Rattle.ft_board.specs.Base.{Base}
 use Rattle.ft_board.specs.Shown.{Shown}
 
@@ -30,6 +31,11 @@ BaseGives after old new (Err refused) = (new ≡ old) × ((refused ≡ Memory) �
 abbrev pub FindsToStrike : Base → ℕ → ℕ → Result Place Refused → Type 0
 FindsToStrike base cpu line (Ok place) = after_strike base cpu line ≡ Ok (record base { lanes = lanes_without base.lanes place.cpu place.line }, place)
 FindsToStrike base cpu line (Err refused) = after_strike base cpu line ≡ Err refused
+
+-- A trigger can be removed, or why it can't be (our own choice).
+abbrev pub FindsToRemove : Base → ℕ → Result Unit Refused → Type 0
+FindsToRemove base id (Ok done) = after_remove base id ≡ Ok (record base { triggers = map.remove base.triggers id }, id)
+FindsToRemove base id (Err refused) = after_remove base id ≡ Err refused
 
 -- An answer is the one expected, as view sees it, unless memory ran out (our own choice).
 abbrev pub AnswerIs : {S T : Type 0} → (S → T) → Result T Refused → Result S Refused → Type 0

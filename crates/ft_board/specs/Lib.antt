@@ -18,6 +18,8 @@ pub mod Answers
 pub mod OnShelves
 pub mod After
 pub mod Edited
+pub mod Costs
+pub mod OneTrigger
 pub mod Reachable
 pub use Rattle.ft_event.specs.Traced
 pub use Rattle.ft_event.specs.Places
@@ -25,6 +27,8 @@ pub use Rattle.ft_event.specs.Line
 pub use Rattle.ft_event.specs.LineFault
 pub use Rattle.ft_filter.specs.Tree
 pub use Rattle.ft_hist.specs.Hist
+pub use Rattle.ft_hist.specs.Steps
+pub use Rattle.ft_kept.specs.Bounds
 pub use Rattle.ft_kept.specs.Shelves
 pub use Rattle.ft_kept.specs.Values
 pub use Rattle.ft_kept.specs.Variables

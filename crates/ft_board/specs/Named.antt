@@ -21,6 +21,10 @@ is_named triggers event = is_on triggers (name_of event.body)
 unfoldable pub named : Triggers → Events → Events
 named triggers events = map.from_entries (filter (λ entry. is_named triggers entry.1) (map.entries events))
 
+-- the events of some names (our own choice)
+unfoldable pub events_on : (Name → Bool) → Events → Events
+events_on names events = map.from_entries (filter (λ entry. names (name_of entry.1.body)) (map.entries events))
+
 -- the name is one of these (our own choice)
 abbrev pub has_name : Names → Name → Bool
 has_name names kinds.Waking = names.waking

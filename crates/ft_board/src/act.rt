@@ -6,6 +6,7 @@ ghost use Rattle.std.specs.FinMap as map;
 ghost use Rattle.ft_event.specs.declared.pos.Pos.{Pos};
 ghost use Rattle.ft_maps.specs.Seen.{seen};
 ghost use Rattle.ft_table.specs.Tabled.{is_in};
+ghost use Rattle.ft_kept.specs.Bounds.{StepsGrow};
 ghost use Rattle.ft_kept.specs.Values.{values_at};
 ghost use Rattle.ft_board.specs.OnShelves.{after_hit, after_act, IsFree};
 ghost use Rattle.ft_kept.specs.Variables.{variable_cmp};
@@ -31,9 +32,10 @@ pub(crate) fn act(
 ) -> Result<(), AllocError>
     requires stamped { at.pos.stamp ≡ event.now.stamp }
     requires free { IsFree at (seen nat_cmp shelves.old) }
-    ensures { OnOk result ((seen nat_cmp shelves.new, seen variable_cmp saved.new)
+    ensures acts { OnOk result ((seen nat_cmp shelves.new, seen variable_cmp saved.new)
         ≡ after_act trigger.now event.now at
         (seen nat_cmp shelves.old, seen variable_cmp saved.old)) }
+    ensures grow { StepsGrow work.old work.new }
 {
     let Some(key) = trigger.hit_of(event, work) else {
         return Ok(());
@@ -56,9 +58,10 @@ fn act_as(
 ) -> Result<(), AllocError>
     requires stamped { at.pos.stamp ≡ event.now.stamp }
     requires free { map.get shelf.old.table.hits (record { pos = at.pos; key = key }) ≡ None }
-    ensures { OnOk result ((shelf.new, seen variable_cmp saved.new)
+    ensures acts { OnOk result ((shelf.new, seen variable_cmp saved.new)
         ≡ after_hit (values_at trigger.now at.pos event.now) shelf.old.role at key
         (shelf.old, seen variable_cmp saved.old)) }
+    ensures grow { StepsGrow work.old work.new }
 {
     match shelf.role() {
         Role::Plain => shelf.add(hit_with(trigger, event, at.pos, key, None), None, work),

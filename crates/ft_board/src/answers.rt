@@ -6,6 +6,7 @@ ghost use Rattle.std.specs.FinMap as map;
 ghost use Rattle.ft_hist.specs.Hist.{Hist};
 ghost use Rattle.ft_maps.specs.Seen.{seen};
 ghost use Rattle.ft_table.specs.Rows.{AllFit};
+ghost use Rattle.ft_kept.specs.Bounds.{StepsGrow};
 ghost use Rattle.ft_board.specs.Edited.{AnswerIs};
 ghost use Rattle.ft_board.specs.Answers.{heading, tally_at, tally_text, latency_of, line_at};
 ghost use Rattle.ft_board.specs.Answers.{hist_from, totals_from, latencies_from};
@@ -35,8 +36,9 @@ pub(crate) fn hist_from(
     id: u32,
     work: &mut Work,
 ) -> Result<Vec<u8>, Refused>
-    ensures { AnswerIs (λ text. text.items)
+    ensures gives { AnswerIs (λ text. text.items)
         (hist_from (seen nat_cmp triggers.now) (merged lanes.now) id) result }
+    ensures grow { StepsGrow work.old work.new }
 {
     let Some(trigger) = get(triggers, &id) else {
         return Err(Refused::NoTrigger);
@@ -58,8 +60,9 @@ pub(crate) fn totals_from(
     id: u32,
     work: &mut Work,
 ) -> Result<Totals, Refused>
-    ensures { AnswerIs (λ totals. totals)
+    ensures gives { AnswerIs (λ totals. totals)
         (totals_from (seen nat_cmp triggers.now) (merged lanes.now) id) result }
+    ensures grow { StepsGrow work.old work.new }
 {
     if get(triggers, &id).is_none() {
         return Err(Refused::NoTrigger);
@@ -79,8 +82,9 @@ pub(crate) fn latencies_from(
     id: u32,
     work: &mut Work,
 ) -> Result<Vec<Latency>, Refused>
-    ensures { AnswerIs (λ latencies. latencies.items)
+    ensures gives { AnswerIs (λ latencies. latencies.items)
         (latencies_from (seen nat_cmp triggers.now) (merged lanes.now) id) result }
+    ensures grow { StepsGrow work.old work.new }
 {
     let Some(trigger) = get(triggers, &id) else {
         return Err(Refused::NoTrigger);
@@ -110,6 +114,7 @@ fn shelf_at(
         ≡ tally_at (seen nat_cmp triggers.now) (merged lanes.now) id) }
     ensures fit { IfOk result (λ shelf. (hist : Hist)
         → map.get (seen nat_cmp triggers.now) id ≡ Some hist → AllFit shelf.table hist) }
+    ensures grow { StepsGrow work.old work.new }
 {
     let mut shelves = replayed(alloc, lanes, triggers, work)?;
     Ok(shelves.remove(&id).unwrap())

@@ -1,6 +1,6 @@
 //! What a desk holds and what is attached to it, however a board keeps its tables.
 
-ghost use Rattle.std.specs.Prelude.{◌≡◌, ◌≢◌, IfOk, IsSome, Some, Err, option_map};
+ghost use Rattle.std.specs.Prelude.{◌≡◌, ◌≢◌, IfOk, IsSome, Some, Ok, Err, option_map};
 ghost use Rattle.std.specs.Option.{ForSome};
 ghost use Rattle.std.specs.Ordering.{nat_cmp};
 ghost use Rattle.std.specs.FinMap as map;
@@ -10,10 +10,11 @@ ghost use Rattle.ft_lanes.specs.Held.{event_at};
 ghost use Rattle.ft_maps.specs.Seen.{seen};
 ghost use Rattle.ft_board.specs.declared.refused.Refused.TheVariants.{Memory};
 ghost use Rattle.ft_board.specs.After.{after_load, after_unload, after_insert};
-ghost use Rattle.ft_board.specs.After.{after_attach, after_refilter, after_remove};
+ghost use Rattle.ft_board.specs.After.{after_attach, after_refilter};
 ghost use Rattle.ft_board.specs.Answers.{list_text};
 ghost use Rattle.ft_board.specs.Base.{empty_base};
-ghost use Rattle.ft_board.specs.Edited.{BaseGives, FindsToStrike, AnswerIs};
+ghost use Rattle.ft_board.specs.Edited.{BaseGives, FindsToStrike, FindsToRemove, AnswerIs};
+ghost use Rattle.ft_board.specs.OneTrigger.{IsUnread, JoinsAs, base_without};
 ghost use Rattle.ft_board.specs.Reachable.{IsReachable};
 
 use crate::attach::variable_refused;
@@ -173,7 +174,8 @@ impl Content {
 
     /// Attaches a trigger: its id.
     pub(crate) fn attach(&mut self, trigger: Trigger) -> Result<u32, Refused>
-        ensures { BaseGives (after_attach self.old trigger) self.old self.new result }
+        ensures gives { BaseGives (after_attach self.old trigger) self.old self.new result }
+        ensures joins { IfOk result (λ id. JoinsAs id trigger self.old self.new) }
     {
         if len(&self.triggers) >= TRIGGER_LIMIT || self.next_id > ID_LIMIT {
             return Err(Refused::TooManyTriggers);
@@ -202,9 +204,11 @@ impl Content {
         Ok(id)
     }
 
-    /// Takes a trigger away that nobody needs: its id.
-    pub(crate) fn remove(&mut self, id: u32) -> Result<u32, Refused>
-        ensures gives { BaseGives (after_remove self.old id) self.old self.new result }
+    /// Whether a trigger can be taken away: refused where no trigger has the id, or where it saves
+    /// what another reads.
+    pub(crate) fn removable(&self, id: u32) -> Result<(), Refused>
+        ensures gives { FindsToRemove self.now id result }
+        ensures unread { IfOk result (λ _. IsUnread self.now.triggers id) }
         ensures memory { result ≢ Err Memory }
     {
         let Some(trigger) = get(&self.triggers, &id) else {
@@ -213,8 +217,15 @@ impl Content {
         if let Some(reader) = reader_on(&self.triggers, trigger.variable()) {
             return Err(Refused::InUse(reader));
         }
+        Ok(())
+    }
+
+    /// Takes a trigger away that can be.
+    pub(crate) fn remove(&mut self, id: u32)
+        requires { FindsToRemove self.old id (Ok tt) }
+        ensures { self.new ≡ base_without self.old id }
+    {
         take(&mut self.triggers, &id);
-        Ok(id)
     }
 
     /// The event that the trigger with an id is on.

@@ -1,10 +1,12 @@
 //! A board that keeps its tables: an edit repairs them, or they are built anew.
 
-ghost use Rattle.std.specs.Prelude.{◌≡◌, false};
+ghost use Rattle.std.specs.Prelude.{◌≡◌, true, false};
 
 use crate::answers::{is_reader, table_text};
 use crate::board::Board;
 use crate::content::Content;
+use crate::join::join;
+use crate::leave::leave;
 use crate::rebuild::renew;
 use crate::refused::{Done, Latency, Place, Refused};
 use crate::repair::{let_come, let_go};
@@ -29,7 +31,7 @@ pub struct KeptBoard {
 }
 
 impl Model for KeptBoard {
-    ghost use Rattle.std.specs.Prelude.{IfSome};
+    ghost use Rattle.std.specs.Prelude.{IfSome, true};
     ghost use Rattle.std.specs.Option.{is_none};
     ghost use Rattle.ft_board.specs.Codes.{shown_code};
     ghost use Rattle.ft_board.specs.KeptBeside.{AreKeptOf};
@@ -39,7 +41,12 @@ impl Model for KeptBoard {
 
     ghost coded = { shown_code };
 
-    ghost view = { λ b. record { base = b.content; deferred = is_none b.kept } };
+    ghost view = { λ b. record {
+      base = b.content;
+      deferred = is_none b.kept;
+      keeps = true;
+      steps = b.work;
+    } };
 
     ghost invariant = { λ b. IfSome b.kept (AreKeptOf b.content) };
 }
@@ -49,7 +56,12 @@ impl KeptBoard {
 
     /// A board that holds nothing and has no trigger. It takes no memory.
     pub fn new(alloc: Global) -> KeptBoard
-        ensures { result ≡ record { base = empty_base; deferred = false } }
+        ensures { result ≡ record {
+          base = empty_base;
+          deferred = false;
+          keeps = true;
+          steps = record { evals = 0; puts = 0 };
+        } }
     {
         KeptBoard {
             alloc,
@@ -89,9 +101,15 @@ impl Board for KeptBoard {
     }
 
     fn attach(&mut self, trigger: Trigger) -> Result<Done<u32>, Refused> {
-        let value = self.content.attach(trigger)?;
-        let kept = renew(&mut self.kept, self.alloc, &self.content, &mut self.work);
-        Ok(Done { value, kept })
+        let id = self.content.attach(trigger)?;
+        let kept = join(
+            &mut self.kept,
+            self.alloc,
+            &self.content,
+            id,
+            &mut self.work,
+        );
+        Ok(Done { value: id, kept })
     }
 
     fn refilter(&mut self, id: u32, filter: Option<Filter>) -> Result<Done<u32>, Refused> {
@@ -101,9 +119,16 @@ impl Board for KeptBoard {
     }
 
     fn remove(&mut self, id: u32) -> Result<Done<u32>, Refused> {
-        let value = self.content.remove(id)?;
-        let kept = renew(&mut self.kept, self.alloc, &self.content, &mut self.work);
-        Ok(Done { value, kept })
+        self.content.removable(id)?;
+        let kept = leave(
+            &mut self.kept,
+            self.alloc,
+            &self.content,
+            id,
+            &mut self.work,
+        );
+        self.content.remove(id);
+        Ok(Done { value: id, kept })
     }
 
     fn name_of(&self, id: u32) -> Option<Name> {
@@ -159,4 +184,12 @@ impl Board for KeptBoard {
     fn is_deferred(&self) -> bool {
         self.kept.is_none()
     }
+}
+
+/// A law: this board keeps tables.
+pub fn kept_board_keeps(board: &KeptBoard)
+    ensures { board.now.keeps ≡ true }
+{
+    // A look at a field, by which a proof sees what the board shows.
+    let _ = &board.work;
 }

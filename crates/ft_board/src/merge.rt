@@ -10,7 +10,7 @@ ghost use Rattle.ft_event.specs.Traced.{name_of};
 ghost use Rattle.ft_maps.specs.Mapped.{entries_by};
 ghost use Rattle.ft_maps.specs.Seen.{seen};
 ghost use Rattle.ft_board.specs.Merged.{merged, placed};
-ghost use Rattle.ft_board.specs.Named.{named, has_name};
+ghost use Rattle.ft_board.specs.Named.{named, events_on, has_name};
 
 use crate::names::Names;
 use ft_event::{Event, Pos};
@@ -29,7 +29,18 @@ pub(crate) fn merged_events<'a>(
     ensures { IfOk result (λ events. entries_by deref events.items
         ≡ map.entries (named (seen nat_cmp triggers.now) (merged lanes.now))) }
 {
-    let names = Names::of(triggers);
+    events_with(alloc, lanes, Names::of(triggers))
+}
+
+/// The events that have one of the names, with their places, in merged order. Refused for memory.
+pub(crate) fn events_with<'a>(
+    alloc: Global,
+    lanes: &'a Lanes,
+    names: Names,
+) -> Result<Vec<(Pos, &'a Event)>, AllocError>
+    ensures { IfOk result (λ events. entries_by deref events.items
+        ≡ map.entries (events_on (has_name names) (merged lanes.now))) }
+{
     let mut events = Vec::new(alloc);
     for (cpu, lane) in lanes.lanes() {
         push_lane(&mut events, cpu, &lane, names)?;

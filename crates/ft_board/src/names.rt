@@ -3,6 +3,7 @@
 ghost use Rattle.std.specs.Prelude.{◌≡◌, IsTrue, false};
 ghost use Rattle.std.specs.Ordering.{nat_cmp};
 ghost use Rattle.ft_event.specs.declared.event.Name.{Name};
+ghost use Rattle.ft_hist.specs.Hit.{same_name};
 ghost use Rattle.ft_maps.specs.Seen.{seen};
 ghost use Rattle.ft_board.specs.Named.{is_on, has_name};
 
@@ -32,6 +33,19 @@ impl Names {
             wakeup_new: is_on(triggers, Name::WakeupNew),
             switch: is_on(triggers, Name::Switch),
             other: is_on(triggers, Name::Other),
+        }
+    }
+
+    /// One name alone.
+    pub(crate) fn only(name: Name) -> Names
+        ensures { (other : Name) → has_name result other ≡ same_name name other }
+    {
+        Names {
+            waking: name == Name::Waking,
+            wakeup: name == Name::Wakeup,
+            wakeup_new: name == Name::WakeupNew,
+            switch: name == Name::Switch,
+            other: name == Name::Other,
         }
     }
 

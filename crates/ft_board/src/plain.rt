@@ -1,6 +1,6 @@
 //! A board that keeps no tables: each answer replays what is held.
 
-ghost use Rattle.std.specs.Prelude.{◌≡◌};
+ghost use Rattle.std.specs.Prelude.{◌≡◌, false};
 
 use crate::answers::{hist_from, latencies_from, totals_from};
 use crate::board::Board;
@@ -23,14 +23,20 @@ pub struct PlainBoard {
 }
 
 impl Model for PlainBoard {
-    ghost use Rattle.ft_board.specs.Base.{Base};
-    ghost use Rattle.ft_board.specs.Codes.{base_code};
+    ghost use Rattle.std.specs.Prelude.{false};
+    ghost use Rattle.ft_board.specs.Codes.{shown_code};
+    ghost use Rattle.ft_board.specs.Shown.{Shown};
 
-    ghost Value = { Base };
+    ghost Value = { Shown };
 
-    ghost coded = { base_code };
+    ghost coded = { shown_code };
 
-    ghost view = { λ b. b.content };
+    ghost view = { λ b. record {
+      base = b.content;
+      deferred = false;
+      keeps = false;
+      steps = b.work;
+    } };
 }
 
 impl PlainBoard {
@@ -38,7 +44,12 @@ impl PlainBoard {
 
     /// A board that holds nothing and has no trigger.
     pub fn new(alloc: Global) -> PlainBoard
-        ensures { result ≡ empty_base }
+        ensures { result ≡ record {
+          base = empty_base;
+          deferred = false;
+          keeps = false;
+          steps = record { evals = 0; puts = 0 };
+        } }
     {
         PlainBoard {
             alloc,
@@ -49,9 +60,7 @@ impl PlainBoard {
 }
 
 impl Board for PlainBoard {
-    ghost use Rattle.std.specs.Prelude.{false};
-
-    ghost shown = { λ b. record { base = b; deferred = false } };
+    ghost shown = { λ b. b };
 
     fn load(&mut self, events: Vec<Event>) -> Result<Done<u64>, Refused> {
         let count = self.content.load(events)?;
@@ -103,7 +112,8 @@ impl Board for PlainBoard {
     }
 
     fn remove(&mut self, id: u32) -> Result<Done<u32>, Refused> {
-        let id = self.content.remove(id)?;
+        self.content.removable(id)?;
+        self.content.remove(id);
         Ok(Done {
             value: id,
             kept: Kept::Now,
@@ -137,6 +147,17 @@ impl Board for PlainBoard {
     }
 
     fn is_deferred(&self) -> bool {
+        // A look at a field, by which a proof sees what the board shows.
+        let _ = &self.work;
         false
     }
+}
+
+/// A law: this board keeps no tables, so none lack an edit.
+pub fn plain_board_keeps_none(board: &PlainBoard)
+    ensures keeps { board.now.keeps ≡ false }
+    ensures deferred { board.now.deferred ≡ false }
+{
+    // A look at a field, by which a proof sees what the board shows.
+    let _ = &board.work;
 }

@@ -5,6 +5,7 @@ ghost use Rattle.std.specs.Option.{is_none};
 ghost use Rattle.std.specs.Ordering.{nat_cmp};
 ghost use Rattle.std.specs.FinMap as map;
 ghost use Rattle.ft_maps.specs.Seen.{seen};
+ghost use Rattle.ft_kept.specs.Bounds.{StepsGrow};
 ghost use Rattle.ft_board.specs.Edited.{kept_of};
 ghost use Rattle.ft_board.specs.KeptBeside.{AreKeptOf, AreNew};
 ghost use Rattle.ft_board.specs.KeptShelves.{AreKept};
@@ -30,7 +31,8 @@ pub(crate) fn rebuilt(
     work: &mut Work,
 ) -> Result<Tables, AllocError>
     requires { HasSavers (seen nat_cmp triggers.now) }
-    ensures { IfOk result (AreKept (seen nat_cmp triggers.now) (merged lanes.now)) }
+    ensures kept { IfOk result (AreKept (seen nat_cmp triggers.now) (merged lanes.now)) }
+    ensures grow { StepsGrow work.old work.new }
 {
     let merged = merged_events(alloc, lanes, triggers)?;
     let mut tables = new_tables(alloc, triggers)?;
@@ -62,6 +64,7 @@ pub(crate) fn renew(
     ensures kept { IfSome kept.new (AreKeptOf content.now) }
     ensures deferred { kept.old ≡ None → kept.new ≡ None }
     ensures answer { result ≡ kept_of (is_none kept.new) }
+    ensures grow { StepsGrow work.old work.new }
 {
     if kept.take().is_none() {
         return Kept::Later;
@@ -78,6 +81,7 @@ pub(crate) fn restore(
 ) -> Kept
     ensures kept { IfSome kept.new (AreKeptOf content.now) }
     ensures answer { result ≡ kept_of (is_none kept.new) }
+    ensures grow { StepsGrow work.old work.new }
 {
     match rebuilt(alloc, content.lanes(), content.triggers(), work) {
         Ok(tables) => {

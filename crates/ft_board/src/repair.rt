@@ -2,6 +2,8 @@
 
 ghost use Rattle.std.specs.Prelude.{◌≡◌, IfSome, None};
 ghost use Rattle.std.specs.Option.{is_none};
+ghost use Rattle.ft_kept.specs.Bounds.{StepsGrow};
+ghost use Rattle.ft_board.specs.Costs.{ComesAtCost, GoesAtCost};
 ghost use Rattle.ft_board.specs.Edited.{kept_of};
 ghost use Rattle.ft_board.specs.KeptBeside.{AreKeptOf, AreKeptWithout};
 
@@ -23,7 +25,13 @@ pub(crate) fn let_come(
     ensures kept { IfSome kept.new (AreKeptOf content.now) }
     ensures deferred { kept.old ≡ None → kept.new ≡ None }
     ensures answer { result ≡ kept_of (is_none kept.new) }
+    ensures costs { ComesAtCost content.now place work.old work.new }
+    ensures grow { StepsGrow work.old work.new }
 {
+    // How many steps it takes is told by the keys of savers in a replay, which these laws bind to
+    // those of the tables.
+    ft_table::one_more_hit();
+    ft_pairs::one_source();
     let Some(mut tables) = kept.take() else {
         return Kept::Later;
     };
@@ -55,7 +63,13 @@ pub(crate) fn let_go(
     ensures kept { IfSome kept.new (AreKeptWithout content.now place) }
     ensures deferred { kept.old ≡ None → kept.new ≡ None }
     ensures answer { result ≡ kept_of (is_none kept.new) }
+    ensures costs { GoesAtCost content.now place work.old work.new }
+    ensures grow { StepsGrow work.old work.new }
 {
+    // How many steps it takes is told by the keys of savers in a replay, which these laws bind to
+    // those of the tables.
+    ft_table::one_more_hit();
+    ft_pairs::one_source();
     let Some(mut tables) = kept.take() else {
         return Kept::Later;
     };

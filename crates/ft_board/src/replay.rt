@@ -7,6 +7,7 @@ ghost use Rattle.ft_event.specs.Places.{pos_cmp};
 ghost use Rattle.ft_event.specs.declared.pos.Pos.{Pos};
 ghost use Rattle.ft_maps.specs.Mapped.{map_by};
 ghost use Rattle.ft_maps.specs.Seen.{seen};
+ghost use Rattle.ft_kept.specs.Bounds.{StepsGrow};
 ghost use Rattle.ft_board.specs.Merged.{merged};
 ghost use Rattle.ft_board.specs.Replay.{step, replay};
 ghost use Rattle.ft_board.specs.OnShelves.{tally_on, state_on, new_shelves, AreShelved};
@@ -37,6 +38,7 @@ pub(crate) fn replayed(
         ≡ (replay (seen nat_cmp triggers.now) (merged lanes.now)).tallies) }
     ensures shelved { IfOk result (λ shelves.
         AreShelved (seen nat_cmp triggers.now) (seen nat_cmp shelves)) }
+    ensures grow { StepsGrow work.old work.new }
 {
     let merged = merged_events(alloc, lanes, triggers)?;
     let mut shelves = new_shelves(alloc, triggers)?;
@@ -83,6 +85,7 @@ fn step(
         (AreShelved (seen nat_cmp triggers.now) (seen nat_cmp shelves.new)) }
     ensures before { OnOk result ((next : Pos) → pos_cmp pos next ≡ Less
         → AllBeforePlace next (seen nat_cmp shelves.new)) }
+    ensures grow { StepsGrow work.old work.new }
 {
     ft_hist::fitting_parts();
     ft_table::one_more_hit();

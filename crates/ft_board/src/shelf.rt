@@ -2,6 +2,7 @@
 
 ghost use Rattle.std.specs.Prelude.{◌≡◌, ◌<◌, [], None, OnOk};
 ghost use Rattle.std.specs.FinMap as map;
+ghost use Rattle.ft_kept.specs.Bounds.{StepsGrow};
 ghost use Rattle.ft_board.specs.OnShelves.{shelf_with};
 
 use crate::pair::Pair;
@@ -77,8 +78,9 @@ impl Shelf {
         work: &mut Work,
     ) -> Result<(), AllocError>
         requires { map.get self.old.table.hits (record { pos = hit.pos; key = hit.key }) ≡ None }
-        ensures { OnOk result (self.new
+        ensures ok { OnOk result (self.new
             ≡ shelf_with (record { pos = hit.pos; key = hit.key }) read hit.values self.old) }
+        ensures grow { StepsGrow work.old work.new }
     {
         if let Some(saved) = read {
             self.pairs.push(Pair {

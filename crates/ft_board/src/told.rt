@@ -1,11 +1,12 @@
 //! What a board answers about an attached trigger, from what it keeps.
 
-ghost use Rattle.std.specs.Prelude.{◌≡◌, IfOk, IfSome, IsSome, Some, None, map as list_map};
-ghost use Rattle.std.specs.Option.{option_copied};
+ghost use Rattle.std.specs.Prelude.{◌≡◌, false, IfOk, IfSome, IsSome, Some, None, map as list_map};
+ghost use Rattle.std.specs.Option.{option_copied, is_none};
 ghost use Rattle.std.specs.FinMap as map;
 ghost use Rattle.ft_event.specs.Places.{pos_cmp};
 ghost use Rattle.ft_hist.specs.Hist.{Hist};
 ghost use Rattle.ft_maps.specs.Seen.{seen};
+ghost use Rattle.ft_kept.specs.Bounds.{StepsGrow};
 ghost use Rattle.ft_board.specs.Answers.{latency_of};
 ghost use Rattle.ft_board.specs.Base.{Base};
 ghost use Rattle.ft_board.specs.Kept.{pairs_in};
@@ -29,6 +30,8 @@ pub(crate) fn catch_up(kept: &mut Option<Tables>, alloc: Global, content: &Conte
     requires { IfSome kept.old (AreKeptOf content.now) }
     ensures kept { IfSome kept.new (AreKeptOf content.now) }
     ensures deferred { kept.new ≡ None → kept.old ≡ None }
+    ensures none { is_none kept.old ≡ false → work.new ≡ work.old }
+    ensures grow { StepsGrow work.old work.new }
 {
     if kept.is_none() {
         restore(kept, alloc, content, work);

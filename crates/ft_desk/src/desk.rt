@@ -36,14 +36,19 @@ impl<B: Board> Model for Desk<B> {
 }
 
 impl<B: Board> Desk<B> {
-    ghost use Rattle.std.specs.Prelude.{◌≡◌, ◌≢◌, Err};
+    ghost use Rattle.std.specs.Prelude.{◌≡◌, ◌≢◌, Some, Ok, Err};
     ghost use Rattle.std.specs.Option.{option_copied};
     ghost use Rattle.ft_board.specs.declared.refused.Refused.TheVariants.{Memory};
     ghost use Rattle.ft_board.specs.After.{after_unload, after_strike, after_remove};
+    ghost use Rattle.ft_event.specs.Line.{line_of};
+    ghost use Rattle.ft_event.specs.Traced.{Traced};
+    ghost use Rattle.ft_board.specs.Held.{event_at};
+    ghost use Rattle.ft_board.specs.Costs.{EditCounts, RepairCosts, AnswerCosts};
     ghost use Rattle.ft_board.specs.Edited.{EditGives, AnswersFrom, AnswerIs};
     ghost use Rattle.ft_board.specs.Answers.{hist_text, totals, latencies, list_text};
     ghost use Rattle.ft_desk.specs.Edits.{after_load_text, after_insert_text};
     ghost use Rattle.ft_desk.specs.Edits.{after_attach_text, after_refilter_text};
+    ghost use Rattle.ft_desk.specs.Edits.{event_or_refused};
 
     /// A desk over a board, as the board is.
     pub fn new(alloc: Global, board: B) -> Desk<B>
@@ -56,8 +61,9 @@ impl<B: Board> Desk<B> {
     /// first line that cannot be read, where a lane is held, where too many events would be, or for
     /// memory.
     pub fn load(&mut self, text: &[u8]) -> Result<Done<u64>, Refused>
-        ensures { EditGives (λ count. count) (after_load_text self.old.base text.now)
+        ensures gives { EditGives (λ count. count) (after_load_text self.old.base text.now)
             self.old self.new result }
+        ensures counts { EditCounts self.old self.new result }
     {
         let events = events_in(self.alloc, text)?;
         self.board.load(events)
@@ -68,6 +74,7 @@ impl<B: Board> Desk<B> {
         ensures gives { EditGives (λ count. count) (after_unload self.old.base cpu)
             self.old self.new result }
         ensures memory { result ≢ Err Memory }
+        ensures counts { EditCounts self.old self.new result }
     {
         self.board.unload(cpu)
     }
@@ -76,8 +83,11 @@ impl<B: Board> Desk<B> {
     /// the event's place. Refused where the line cannot be read or holds no event, where too many
     /// events would be or the lane's line numbers are used up, or for memory.
     pub fn insert(&mut self, line: &[u8]) -> Result<Done<Place>, Refused>
-        ensures { EditGives (λ place. place) (after_insert_text self.old.base line.now)
+        ensures gives { EditGives (λ place. place) (after_insert_text self.old.base line.now)
             self.old self.new result }
+        ensures counts { EditCounts self.old self.new result }
+        ensures repairs { (event : Traced) → event_or_refused (line_of line.now) ≡ Ok event
+            → RepairCosts event self.old self.new }
     {
         let event = event_in(line)?;
         self.board.insert(event)
@@ -89,6 +99,9 @@ impl<B: Board> Desk<B> {
         ensures gives { EditGives (λ place. place) (after_strike self.old.base cpu line)
             self.old self.new result }
         ensures memory { result ≢ Err Memory }
+        ensures counts { EditCounts self.old self.new result }
+        ensures repairs { (event : Traced) → event_at self.old.base.lanes cpu line ≡ Some event
+            → RepairCosts event self.old self.new }
     {
         self.board.strike(cpu, line)
     }
@@ -98,8 +111,9 @@ impl<B: Board> Desk<B> {
     /// ids are used up, where its variable's name is saved already, where nobody saves what it
     /// reads, where its keys don't match its saver's, or for memory.
     pub fn attach(&mut self, event: Name, text: &[u8]) -> Result<Done<u32>, Refused>
-        ensures { EditGives (λ id. id) (after_attach_text self.old.base event text.now)
+        ensures gives { EditGives (λ id. id) (after_attach_text self.old.base event text.now)
             self.old self.new result }
+        ensures counts { EditCounts self.old self.new result }
     {
         let trigger = read_trigger(self.alloc, event, text)?;
         self.board.attach(trigger)
@@ -109,9 +123,10 @@ impl<B: Board> Desk<B> {
     /// trigger's id. Refused where no trigger has the id, where the text cannot be read, or for
     /// memory.
     pub fn refilter(&mut self, id: u32, text: Option<&[u8]>) -> Result<Done<u32>, Refused>
-        ensures { EditGives (λ id. id)
+        ensures gives { EditGives (λ id. id)
             (after_refilter_text self.old.base id (option_copied text.entry))
             self.old self.new result }
+        ensures counts { EditCounts self.old self.new result }
     {
         let event = self.board.name_of(id).ok_or(Refused::NoTrigger)?;
         let filter = read_filter(self.alloc, event, text)?;
@@ -124,14 +139,16 @@ impl<B: Board> Desk<B> {
         ensures gives { EditGives (λ id. id) (after_remove self.old.base id)
             self.old self.new result }
         ensures memory { result ≢ Err Memory }
+        ensures counts { EditCounts self.old self.new result }
     {
         self.board.remove(id)
     }
 
     /// The text of a trigger's table. Refused where no trigger has the id, or for memory.
     pub fn hist(&mut self, id: u32) -> Result<Vec<u8>, Refused>
-        ensures { AnswersFrom (λ text. text.items) (hist_text self.old.base id)
+        ensures gives { AnswersFrom (λ text. text.items) (hist_text self.old.base id)
             self.old self.new result }
+        ensures steps { AnswerCosts self.old self.new }
     {
         self.board.hist(id)
     }
@@ -139,8 +156,9 @@ impl<B: Board> Desk<B> {
     /// What a trigger has counted: its hits, the keys in its table, and the hits that found no
     /// room. Refused where no trigger has the id, or for memory.
     pub fn totals(&mut self, id: u32) -> Result<Totals, Refused>
-        ensures { AnswersFrom (λ totals. totals) (totals self.old.base id)
+        ensures gives { AnswersFrom (λ totals. totals) (totals self.old.base id)
             self.old self.new result }
+        ensures steps { AnswerCosts self.old self.new }
     {
         self.board.totals(id)
     }
@@ -148,8 +166,9 @@ impl<B: Board> Desk<B> {
     /// What a reading trigger measured, in merged order of the reading, dropped hits too. Refused
     /// where no trigger has the id, where it reads no variable, or for memory.
     pub fn latencies(&mut self, id: u32) -> Result<Vec<Latency>, Refused>
-        ensures { AnswersFrom (λ latencies. latencies.items) (latencies self.old.base id)
+        ensures gives { AnswersFrom (λ latencies. latencies.items) (latencies self.old.base id)
             self.old self.new result }
+        ensures steps { AnswerCosts self.old self.new }
     {
         self.board.latencies(id)
     }

@@ -1,6 +1,7 @@
 mod edits;
 mod endings;
 mod examples;
+mod kept_now;
 mod keys;
 mod latencies;
 pub(crate) mod no_room;
@@ -8,3 +9,4 @@ mod scripts;
 mod sessions;
 mod streams;
 mod tables;
+mod want_of_memory;

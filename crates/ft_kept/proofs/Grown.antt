@@ -109,7 +109,7 @@ module _ (law : LastGoesOut) (id : ℕ) (m : Mark) (v : List ℤ) (old grown swi
   abbrev at : At
   at = record { pos = m.pos; trigger = id }
 
-  pub table_is : final.table ≡ after
+  table_is : final.table ≡ after
   table_is = drops_table o switch final drops ∙ switches.table ∙ grows.table
 
   own_kept : option_map_or (same_key m.key) o false ≡ false

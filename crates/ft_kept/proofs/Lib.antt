@@ -4,6 +4,7 @@ pub mod Between
 pub mod Both
 pub mod ComeIn
 pub mod Decided
+pub mod FewPuts
 pub mod Following
 pub mod Forms
 pub mod Gone
@@ -22,6 +23,7 @@ pub mod Reading
 pub mod ReadingGoes
 pub mod SaverGone
 pub mod SaverHits
+pub mod SaverTables
 pub mod Saving
 pub mod SavingGoes
 pub mod Settled

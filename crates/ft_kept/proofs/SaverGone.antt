@@ -28,7 +28,7 @@ use Rattle.ft_kept.specs.Entries.{HitsHere, IsEntry, IsKept, StaysBut, hits_here
 use Rattle.ft_kept.specs.Repairs.{CanGo, HasGoneOwing}
 use Rattle.ft_kept.specs.Roles.{Admits, variable_of}
 use Rattle.ft_kept.specs.Shelves.{ChangesShelf, FormsStay, Shelved, Shelves, TakesHit, admits_on, is_saver, kept_on, role_on, without_hit_on}
-use Rattle.ft_kept.specs.Switches.{HasMoved, HitLessFollows, Members, Moves, MovesKeys, followed_less, switched}
+use Rattle.ft_kept.specs.Switches.{HitLessFollows, Members, Moves, MovesKeys, followed_less, switched}
 use Rattle.ft_kept.specs.Values.{ValuesBy, values_by}
 use Rattle.ft_kept.specs.declared.role.Role.{Role}
 use Rattle.ft_kept.specs.declared.role.Role.TheVariants.{Saves}
@@ -142,9 +142,6 @@ module _ (triggers : FinMap nat_cmp Hist) (lanes : Lanes) (old new : Shelves) (a
   -- the keys of the table that moved are those that are admitted
   pub gone_moved : (moves : Moves) → MovesKeys key moves (is_in shelf.table) (is_in after.table) → MovesKeys key moves (admits_on old at.trigger) (admits_on new at.trigger)
   gone_moved moves h = subst (λ (p : Members × Members). MovesKeys key moves p.0 p.1) (λ i. (was_in i, now_in i)) h
-
-  pub gone_has_moved : HasMoved (is_in shelf.table) (is_in after.table) → HasMoved (admits_on old at.trigger) (admits_on new at.trigger)
-  gone_has_moved h = subst (λ (p : Members × Members). HasMoved p.0 p.1) (λ i. (was_in i, now_in i)) h
 
   -- hits and readings are those of the shelf without the hit
   abbrev mark : Mark

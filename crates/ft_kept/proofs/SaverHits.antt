@@ -23,7 +23,7 @@ use Rattle.ft_kept.specs.Entries.{HitsHere, IsEntry, IsKept, IsRight, hits_here,
 use Rattle.ft_kept.specs.Repairs.{CanCome, HasComeOwing}
 use Rattle.ft_kept.specs.Roles.{variable_of}
 use Rattle.ft_kept.specs.Shelves.{FormsStay, Shelved, Shelves, admits_on, is_saver, kept_on, role_on}
-use Rattle.ft_kept.specs.Switches.{HasMoved, HitFollows, Members, Moves, MovesKeys, followed, switched, switched_with}
+use Rattle.ft_kept.specs.Switches.{HitFollows, Members, Moves, MovesKeys, followed, switched, switched_with}
 use Rattle.ft_kept.specs.Values.{ValuesBy, values_at, values_by}
 use Rattle.ft_kept.specs.declared.role.Role.{Role}
 use Rattle.ft_kept.specs.declared.role.Role.TheVariants.{Saves}
@@ -92,9 +92,6 @@ module _ (triggers : FinMap nat_cmp Hist) (lanes : Lanes) (old new : Shelves) (a
   -- the keys of the table that moved are those that are admitted
   pub saver_moved : (moves : Moves) → MovesKeys key moves (is_in shelf.table) (is_in after.table) → MovesKeys key moves (admits_on old at.trigger) (admits_on new at.trigger)
   saver_moved moves h = subst (λ (p : Members × Members). MovesKeys key moves p.0 p.1) (λ i. (was_in i, now_in i)) h
-
-  pub saver_has_moved : HasMoved (is_in shelf.table) (is_in after.table) → HasMoved (admits_on old at.trigger) (admits_on new at.trigger)
-  saver_has_moved h = subst (λ (p : Members × Members). HasMoved p.0 p.1) (λ i. (was_in i, now_in i)) h
 
   module _ (before acts : Acts) (comes : Comes at (Some (key, event)) before acts) (kept : IsKept (role_on old) (values_by triggers) (admits_on old) before (kept_on old)) where
     none_here : (k : List Part) → hits_here (kept_on old) at k ≡ None

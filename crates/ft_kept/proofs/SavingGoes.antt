@@ -1,6 +1,6 @@
 -- What a saver's hit that goes made owed is what the readings of the keys that moved, and else the next reading, are.
-use Rattle.std.proofs.Common.{◌≡◌, ℕ, Bool, true, false, refl, sym, ap, ◌∙◌, Some, None, Option, inl, inr, ◌+◌, ◌≤◌, arith}
-use Rattle.std.specs.Prelude.{◌⊎◌, List}
+use Rattle.std.proofs.Common.{◌≡◌, ℕ, false, refl, sym, Some, Option}
+use Rattle.std.specs.Prelude.{List}
 use Rattle.std.specs.Ordering.{nat_cmp}
 use Rattle.std.specs.FinMap as map
 use Rattle.std.specs.FinMap.{FinMap}
@@ -13,7 +13,7 @@ use Rattle.ft_pairs.specs.declared.at.At.{At}
 use Rattle.ft_pairs.specs.declared.at.Op.{Op}
 use Rattle.ft_kept.specs.Repairs.{CanGo, HasGone, HasGoneOwing, IsPartly, Pays, owes_saver, without_moved}
 use Rattle.ft_kept.specs.Shelves.{FormsStay, ReadersChange, Shelves, admits_on, kept_on, role_on}
-use Rattle.ft_kept.specs.Switches.{HasMoved, Moves, MovesKeys, differ}
+use Rattle.ft_kept.specs.Switches.{Moves, MovesKeys}
 use Rattle.ft_kept.specs.Values.{values_by}
 use Rattle.ft_kept.proofs.Forms.{readers_admit, roles_stay}
 use Rattle.ft_kept.proofs.NextThere.{next_there}
@@ -52,21 +52,3 @@ module _ (triggers : FinMap nat_cmp Hist) (lanes : Lanes) (old mid : Shelves) (a
       (λ q. all_paid triggers old mid at key moves others moved after next.0 next.1 owed q)
       (pays next.0 next.1 (admits_on mid) after (owes_saver old mid after next.0) (gone_held lanes at (Some (key, event)) before after goes held)
       (kept_as (role_on old) (role_on mid) values (admits_on mid) (admits_on mid) after (kept_on mid) (owes_saver old mid after next.0) (roles_stay old mid forms) (λ id k. refl) owed)))
-
-  -- few puts, or a key moved
-  pub fewer_or_moved : (new : Shelves) (started halfway done : ℕ) → ReadersChange mid new
-      → (halfway ≤ started) ⊎ HasMoved (admits_on old at.trigger) (admits_on mid at.trigger)
-      → (moves.own ≡ false → moves.other ≡ None → done ≤ halfway + 1)
-      → (done ≤ started + 1) ⊎ HasMoved (admits_on old at.trigger) (admits_on new at.trigger)
-  fewer_or_moved new started halfway done readers first last = elim first [
-    | inr some ↦ inr (later some)
-    | inl few ↦ by few moves.own moves.other refl refl
-  ]
-    where
-      later : HasMoved (admits_on old at.trigger) (admits_on mid at.trigger) → HasMoved (admits_on old at.trigger) (admits_on new at.trigger)
-      later some = (some.0, ap (differ (admits_on old at.trigger some.0)) (readers_admit mid new readers at.trigger some.0) ∙ some.1)
-
-      by : halfway ≤ started → (own : Bool) (other : Option (List Part)) → moves.own ≡ own → moves.other ≡ other → (done ≤ started + 1) ⊎ HasMoved (admits_on old at.trigger) (admits_on new at.trigger)
-      by few true other is is_other = inr (later (key, sym moved.itself ∙ is))
-      by few false (Some k) is is_other = inr (later (k, moved.moved k is_other))
-      by few false None is is_other = let one : done ≤ halfway + 1 = last is is_other in inl (omega arith)

@@ -89,7 +89,7 @@ module _ (law : FirstComesIn) (outside : FirstIsOut) (id : ℕ) (m : Mark) (old 
   free_before unsaved k is q by_id = let moved = came_moved old.table m outside k is in rest k moved.1.1 q ∙ unsaved k moved.0 q by_id
 
   module _ (final : Shelved) (o : Option (List Part)) (is_came : o ≡ came old.table m) (brings : BringsIn id o switch final) where
-    pub table_is : final.table ≡ after
+    table_is : final.table ≡ after
     table_is = brings_table id switch final o brings ∙ switch_table
 
     own_kept : option_map_or (same_key m.key) o false ≡ false

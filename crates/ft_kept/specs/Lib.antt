@@ -1,4 +1,5 @@
 pub mod Acts
+pub mod Bounds
 pub mod Codes
 pub mod Entries
 pub mod Owed

@@ -1,10 +1,12 @@
 //! Acts that come: what is kept is repaired at one trigger, or at all triggers of an event.
 
-ghost use Rattle.std.specs.Prelude.{◌≡◌, ◌+◌, ◌≤◌, Some, OnOk, option_map};
+ghost use Rattle.std.specs.Prelude.{◌≡◌, ◌+◌, ◌*◌, ◌≤◌, ◌⊎◌, Some, OnOk, option_map};
 ghost use Rattle.std.specs.Ordering.{nat_cmp};
 ghost use Rattle.std.specs.FinMap as map;
 ghost use Rattle.ft_hist.specs.Hit.{hit};
 ghost use Rattle.ft_maps.specs.Seen.{seen};
+ghost use Rattle.ft_kept.specs.Bounds.{StepsGrow, SaverMoves, SomeSaverMoves, OtherSaversStay};
+ghost use Rattle.ft_kept.specs.Bounds.{with_hit_of};
 ghost use Rattle.ft_kept.specs.Repairs.{AreShelved, CanCome, HasCome, EventCanCome, EventHasCome};
 ghost use Rattle.ft_kept.specs.Repairs.{count_on, asked};
 ghost use Rattle.ft_kept.specs.Shelves.{FormsStay, role_on};
@@ -43,6 +45,10 @@ impl Tables {
             self.old self.new) }
         ensures evals { work.new.evals
             ≤ work.old.evals + count_on (seen nat_cmp triggers.now) event.now }
+        ensures puts { (work.new.puts
+            ≤ work.old.puts + 3 * count_on (seen nat_cmp triggers.now) event.now)
+            ⊎ SomeSaverMoves (with_hit_of pos event.now) (seen nat_cmp triggers.now) self.old }
+        ensures grow { StepsGrow work.old work.new }
     {
         for (id, trigger) in entries(triggers) {
             let at = At { pos, trigger: *id };
@@ -53,7 +59,7 @@ impl Tables {
 }
 
 /// An event comes to one attached trigger, where it is a hit of it. Refused for memory.
-fn act_comes(
+pub(crate) fn act_comes(
     tables: &mut Tables,
     triggers: &BTreeMap<u32, Trigger>,
     lanes: &Lanes,
@@ -70,7 +76,11 @@ fn act_comes(
     ensures forms { OnOk result (FormsStay tables.old tables.new) }
     ensures right { OnOk result (HasCome (seen nat_cmp triggers.now) lanes.now at
         (option_map (λ key. (key, event.now)) (hit trigger.now event.now)) tables.old tables.new) }
+    ensures savers { OnOk result (OtherSaversStay at.trigger tables.old tables.new) }
     ensures evals { work.new.evals ≡ work.old.evals + asked trigger.now event.now }
+    ensures puts { (work.new.puts ≤ work.old.puts + 3 * asked trigger.now event.now)
+        ⊎ SaverMoves (with_hit_of at.pos event.now) trigger.now tables.old at.trigger }
+    ensures grow { StepsGrow work.old work.new }
 {
     if trigger.event() != event.name() {
         return Ok(());
@@ -105,8 +115,10 @@ fn hit_comes(
     ensures forms { OnOk result (FormsStay tables.old tables.new) }
     ensures right { OnOk result (HasCome (seen nat_cmp triggers.now) lanes.now at
         (Some (key, event.now)) tables.old tables.new) }
+    ensures savers { OnOk result (OtherSaversStay at.trigger tables.old tables.new) }
     ensures puts { work.new.puts ≤ work.old.puts + 1 }
     ensures evals { work.new.evals ≡ work.old.evals }
+    ensures grow { StepsGrow work.old work.new }
 {
     let Some(shelf) = tables.shelves.get_mut(&at.trigger) else {
         return Ok(());
@@ -135,8 +147,10 @@ fn reading_comes(
     ensures forms { OnOk result (FormsStay tables.old tables.new) }
     ensures right { OnOk result (HasCome (seen nat_cmp triggers.now) lanes.now at
         (Some (key, event.now)) tables.old tables.new) }
+    ensures savers { OnOk result (OtherSaversStay at.trigger tables.old tables.new) }
     ensures puts { work.new.puts ≤ work.old.puts + 3 }
     ensures evals { work.new.evals ≡ work.old.evals }
+    ensures grow { StepsGrow work.old work.new }
 {
     tables.put_read(saver, key, at, work)?;
     settle(tables, triggers, saver, key, at, event, work)?;

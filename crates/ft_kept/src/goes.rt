@@ -1,6 +1,6 @@
 //! Acts that go: what is kept is repaired at one trigger, or at all triggers of an event.
 
-ghost use Rattle.std.specs.Prelude.{◌≡◌, ◌+◌, ◌≤◌, Some, OnOk, option_map};
+ghost use Rattle.std.specs.Prelude.{◌≡◌, ◌+◌, ◌*◌, ◌≤◌, ◌⊎◌, Some, OnOk, option_map};
 ghost use Rattle.std.specs.Ordering.{nat_cmp};
 ghost use Rattle.std.specs.FinMap as map;
 ghost use Rattle.std.specs.FinMap.{FinMap};
@@ -10,6 +10,8 @@ ghost use Rattle.ft_hist.specs.Hit.{hit};
 ghost use Rattle.ft_lanes.specs.Held.{Lanes};
 ghost use Rattle.ft_maps.specs.Seen.{seen};
 ghost use Rattle.ft_pairs.specs.Edits.{without_op};
+ghost use Rattle.ft_kept.specs.Bounds.{StepsGrow, SaverMoves, SomeSaverMoves, OtherSaversStay};
+ghost use Rattle.ft_kept.specs.Bounds.{without_hit_of};
 ghost use Rattle.ft_kept.specs.Repairs.{AreShelved, CanGo, HasGone, EventCanGo, EventHasGone};
 ghost use Rattle.ft_kept.specs.Repairs.{count_on, asked};
 ghost use Rattle.ft_kept.specs.Shelves.{ChangesShelf, OpsChange, TakesHit, FormsStay, role_on};
@@ -46,6 +48,10 @@ impl Tables {
             self.old self.new) }
         ensures evals { work.new.evals
             ≤ work.old.evals + count_on (seen nat_cmp triggers.now) event.now }
+        ensures puts { (work.new.puts
+            ≤ work.old.puts + 3 * count_on (seen nat_cmp triggers.now) event.now)
+            ⊎ SomeSaverMoves (without_hit_of pos event.now) (seen nat_cmp triggers.now) self.old }
+        ensures grow { StepsGrow work.old work.new }
     {
         for (id, trigger) in entries(triggers) {
             let at = At { pos, trigger: *id };
@@ -75,7 +81,7 @@ impl Tables {
 }
 
 /// An event goes from one attached trigger, where it is a hit of it. Refused for memory.
-fn act_goes(
+pub(crate) fn act_goes(
     tables: &mut Tables,
     triggers: &BTreeMap<u32, Trigger>,
     lanes: &Lanes,
@@ -90,7 +96,11 @@ fn act_goes(
     ensures forms { OnOk result (FormsStay tables.old tables.new) }
     ensures right { OnOk result (HasGone (seen nat_cmp triggers.now) lanes.now at
         (option_map (λ key. (key, event.now)) (hit trigger.now event.now)) tables.old tables.new) }
+    ensures savers { OnOk result (OtherSaversStay at.trigger tables.old tables.new) }
     ensures evals { work.new.evals ≡ work.old.evals + asked trigger.now event.now }
+    ensures puts { (work.new.puts ≤ work.old.puts + 3 * asked trigger.now event.now)
+        ⊎ SaverMoves (without_hit_of at.pos event.now) trigger.now tables.old at.trigger }
+    ensures grow { StepsGrow work.old work.new }
 {
     if trigger.event() != event.name() {
         return Ok(());
@@ -112,6 +122,7 @@ fn act_goes(
 fn hit_goes(tables: &mut Tables, key: Key, at: At)
     requires { role_on tables.old at.trigger ≡ Plain }
     ensures forms { FormsStay tables.old tables.new }
+    ensures savers { OtherSaversStay at.trigger tables.old tables.new }
     ensures right { (triggers : FinMap nat_cmp Hist) (lanes : Lanes) (event : Traced)
         → HasGone triggers lanes at (Some (key, event)) tables.old tables.new }
 {
@@ -136,8 +147,10 @@ fn reading_goes(
     ensures forms { OnOk result (FormsStay tables.old tables.new) }
     ensures right { OnOk result ((event : Traced) → HasGone (seen nat_cmp triggers.now) lanes.now at
         (Some (key, event)) tables.old tables.new) }
+    ensures savers { OnOk result (OtherSaversStay at.trigger tables.old tables.new) }
     ensures puts { work.new.puts ≤ work.old.puts + 1 }
     ensures evals { work.new.evals ≡ work.old.evals }
+    ensures grow { StepsGrow work.old work.new }
 {
     tables.take_hit(key, at);
     tables.take_op(saver, &key, at);

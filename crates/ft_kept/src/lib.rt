@@ -5,6 +5,7 @@
 
 mod comes;
 mod goes;
+mod one_trigger;
 mod role;
 mod saver;
 mod saver_goes;

@@ -1,6 +1,6 @@
 //! A saver's acts that come: the operations on what it saves follow the keys of its table.
 
-ghost use Rattle.std.specs.Prelude.{◌≡◌, ℕ, ◌+◌, ◌≤◌, ◌⊎◌, List, Option, false, Some, None, OnOk, IfOk, if◌then◌else◌};
+ghost use Rattle.std.specs.Prelude.{◌≡◌, ℕ, ◌+◌, ◌≤◌, ◌⊎◌, List, Option, false, Some, None, OnOk, IfOk, option_map, if◌then◌else◌};
 ghost use Rattle.std.specs.Ordering.{nat_cmp};
 ghost use Rattle.std.specs.FinMap as map;
 ghost use Rattle.ft_event.specs.declared.pos.Pos.{Pos};
@@ -10,11 +10,14 @@ ghost use Rattle.ft_pairs.specs.ByKey.{ops_of};
 ghost use Rattle.ft_pairs.specs.Next.{IsNext};
 ghost use Rattle.ft_pairs.specs.declared.at.At.{At};
 ghost use Rattle.ft_pairs.specs.declared.at.Op.{Op};
+ghost use Rattle.ft_table.specs.Growth.{with_hit};
 ghost use Rattle.ft_table.specs.Tabled.{is_in};
+ghost use Rattle.ft_kept.specs.Bounds.{StepsGrow, TableMoves, OtherSaversStay, table_on};
 ghost use Rattle.ft_kept.specs.Repairs.{AreShelved, IsPartly, Pays, CanCome, HasCome, HasComeOwing};
 ghost use Rattle.ft_kept.specs.Repairs.{without_moved};
 ghost use Rattle.ft_kept.specs.Shelves.{FormsStay, ReadersChange, role_on, admits_on, kept_on};
 ghost use Rattle.ft_kept.specs.Switches.{HitFollows, MovesKeys, HasMoved, last_is_out};
+ghost use Rattle.ft_kept.specs.Values.{values_at};
 ghost use Rattle.ft_kept.specs.declared.role.Role.TheVariants.{Saves};
 
 use crate::settle::{settle_key, settle_next};
@@ -71,9 +74,12 @@ pub(crate) fn saving_comes(
     ensures forms { OnOk result (FormsStay tables.old tables.new) }
     ensures right { OnOk result (HasCome (seen nat_cmp triggers.now) lanes.now at
         (Some (key, event.now)) tables.old tables.new) }
-    ensures puts { OnOk result ((work.new.puts ≤ work.old.puts + 3)
-        ⊎ HasMoved (admits_on tables.old at.trigger) (admits_on tables.new at.trigger)) }
+    ensures savers { OnOk result (OtherSaversStay at.trigger tables.old tables.new) }
+    ensures puts { (work.new.puts ≤ work.old.puts + 3)
+        ⊎ TableMoves (λ table. with_hit table (record { pos = at.pos; key = key })
+        (values_at trigger.now at.pos event.now None)) tables.old at.trigger }
     ensures evals { work.new.evals ≡ work.old.evals }
+    ensures grow { StepsGrow work.old work.new }
 {
     let moved = put_saving(tables, triggers, lanes, trigger, key, at, event, work)?;
     settle_moved(tables, triggers, lanes, key, at, moved, work)
@@ -102,11 +108,16 @@ fn put_saving(
         (Some (key, event.now)) (record { saver = at.trigger; key = key }) tables.old tables.new) }
     ensures others { OnOk result ((id : ℕ) → (id ≡ at.trigger → ⊥)
         → map.get tables.new id ≡ map.get tables.old id) }
+    ensures table { OnOk result (table_on tables.new at.trigger
+        ≡ option_map (λ table. with_hit table (record { pos = at.pos; key = key })
+        (values_at trigger.now at.pos event.now None)) (table_on tables.old at.trigger)) }
     ensures moved { IfOk result (λ moved. MovesKeys key moved
         (admits_on tables.old at.trigger) (admits_on tables.new at.trigger)) }
-    ensures puts { OnOk result ((work.new.puts ≤ work.old.puts + 2)
-        ⊎ HasMoved (admits_on tables.old at.trigger) (admits_on tables.new at.trigger)) }
+    ensures puts { (work.new.puts ≤ work.old.puts + 2)
+        ⊎ TableMoves (λ table. with_hit table (record { pos = at.pos; key = key })
+        (values_at trigger.now at.pos event.now None)) tables.old at.trigger }
     ensures evals { work.new.evals ≡ work.old.evals }
+    ensures grow { StepsGrow work.old work.new }
 {
     let hit = hit_with(trigger, event, at.pos, key, None);
     match tables.shelves.get_mut(&at.trigger) {
@@ -130,9 +141,11 @@ fn put_saver_hit(shelf: &mut Shelf, id: u32, hit: Hit, work: &mut Work) -> Resul
         shelf.old shelf.new) }
     ensures moved { IfOk result (λ moved. MovesKeys hit.key moved
         (is_in shelf.old.table) (is_in shelf.new.table)) }
-    ensures puts { OnOk result ((work.new.puts ≤ work.old.puts + 2)
-        ⊎ HasMoved (is_in shelf.old.table) (is_in shelf.new.table)) }
+    ensures puts { (work.new.puts ≤ work.old.puts + 2)
+        ⊎ HasMoved (is_in shelf.old.table) (is_in
+        (with_hit shelf.old.table (record { pos = hit.pos; key = hit.key }) hit.values)) }
     ensures evals { work.new.evals ≡ work.old.evals }
+    ensures grow { StepsGrow work.old work.new }
 {
     // Beside its own key only the last one in the table can move.
     one_key();
@@ -189,6 +202,7 @@ pub(crate) fn settle_moved(
         (without_moved tables.old at.trigger key moved next)) }
     ensures puts { moved.own ≡ false → moved.other ≡ None → work.new.puts ≤ work.old.puts + 1 }
     ensures evals { work.new.evals ≡ work.old.evals }
+    ensures grow { StepsGrow work.old work.new }
 {
     if let Some(other) = moved.other {
         settle_key(tables, triggers, lanes, at.trigger, other, work)?;

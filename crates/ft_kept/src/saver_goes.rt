@@ -1,6 +1,6 @@
 //! A saver's acts that go: the operations on what it saves follow the keys of its table.
 
-ghost use Rattle.std.specs.Prelude.{◌≡◌, ℕ, ◌+◌, ◌≤◌, ◌⊎◌, List, false, Some, None, OnOk, IfOk, if◌then◌else◌};
+ghost use Rattle.std.specs.Prelude.{◌≡◌, ℕ, ◌+◌, ◌≤◌, ◌⊎◌, List, false, Some, None, OnOk, IfOk, option_map, if◌then◌else◌};
 ghost use Rattle.std.specs.Ordering.{nat_cmp};
 ghost use Rattle.std.specs.FinMap as map;
 ghost use Rattle.ft_event.specs.Traced.{Traced};
@@ -8,7 +8,9 @@ ghost use Rattle.ft_event.specs.declared.pos.Pos.{Pos};
 ghost use Rattle.ft_hist.specs.declared.key.Part.{Part};
 ghost use Rattle.ft_maps.specs.Seen.{seen};
 ghost use Rattle.ft_pairs.specs.ByKey.{ops_of};
+ghost use Rattle.ft_table.specs.OneKey.{without_hit};
 ghost use Rattle.ft_table.specs.Tabled.{is_in};
+ghost use Rattle.ft_kept.specs.Bounds.{StepsGrow, TableMoves, OtherSaversStay, table_on};
 ghost use Rattle.ft_kept.specs.Repairs.{AreShelved, CanGo, HasGone, HasGoneOwing};
 ghost use Rattle.ft_kept.specs.Shelves.{FormsStay, role_on, admits_on};
 ghost use Rattle.ft_kept.specs.Switches.{HitLessFollows, MovesKeys, HasMoved, first_is_in};
@@ -40,9 +42,12 @@ pub(crate) fn saving_goes(
     ensures forms { OnOk result (FormsStay tables.old tables.new) }
     ensures right { OnOk result ((event : Traced) → HasGone (seen nat_cmp triggers.now) lanes.now at
         (Some (key, event)) tables.old tables.new) }
-    ensures puts { OnOk result ((work.new.puts ≤ work.old.puts + 1)
-        ⊎ HasMoved (admits_on tables.old at.trigger) (admits_on tables.new at.trigger)) }
+    ensures savers { OnOk result (OtherSaversStay at.trigger tables.old tables.new) }
+    ensures puts { (work.new.puts ≤ work.old.puts + 1)
+        ⊎ TableMoves (λ table. without_hit table (record { pos = at.pos; key = key }))
+        tables.old at.trigger }
     ensures evals { work.new.evals ≡ work.old.evals }
+    ensures grow { StepsGrow work.old work.new }
 {
     let moved = take_saving(tables, triggers, lanes, key, at, work)?;
     settle_moved(tables, triggers, lanes, key, at, moved, work)
@@ -67,11 +72,16 @@ fn take_saving(
         tables.old tables.new) }
     ensures others { OnOk result ((id : ℕ) → (id ≡ at.trigger → ⊥)
         → map.get tables.new id ≡ map.get tables.old id) }
+    ensures table { OnOk result (table_on tables.new at.trigger
+        ≡ option_map (λ table. without_hit table (record { pos = at.pos; key = key }))
+        (table_on tables.old at.trigger)) }
     ensures moved { IfOk result (λ moved. MovesKeys key moved
         (admits_on tables.old at.trigger) (admits_on tables.new at.trigger)) }
-    ensures puts { OnOk result ((work.new.puts ≤ work.old.puts)
-        ⊎ HasMoved (admits_on tables.old at.trigger) (admits_on tables.new at.trigger)) }
+    ensures puts { (work.new.puts ≤ work.old.puts)
+        ⊎ TableMoves (λ table. without_hit table (record { pos = at.pos; key = key }))
+        tables.old at.trigger }
     ensures evals { work.new.evals ≡ work.old.evals }
+    ensures grow { StepsGrow work.old work.new }
 {
     match tables.shelves.get_mut(&at.trigger) {
         Some(shelf) => take_saver_hit(shelf, key, at, work),
@@ -91,9 +101,11 @@ fn take_saver_hit(shelf: &mut Shelf, key: Key, at: At, work: &mut Work) -> Resul
         shelf.old shelf.new) }
     ensures moved { IfOk result (λ moved. MovesKeys key moved
         (is_in shelf.old.table) (is_in shelf.new.table)) }
-    ensures puts { OnOk result ((work.new.puts ≤ work.old.puts)
-        ⊎ HasMoved (is_in shelf.old.table) (is_in shelf.new.table)) }
+    ensures puts { (work.new.puts ≤ work.old.puts)
+        ⊎ HasMoved (is_in shelf.old.table)
+        (is_in (without_hit shelf.old.table (record { pos = at.pos; key = key }))) }
     ensures evals { work.new.evals ≡ work.old.evals }
+    ensures grow { StepsGrow work.old work.new }
 {
     // Beside its own key only the first one outside can move, and in.
     one_key();

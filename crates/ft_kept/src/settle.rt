@@ -6,6 +6,7 @@ ghost use Rattle.ft_maps.specs.Seen.{seen};
 ghost use Rattle.ft_pairs.specs.Next.{IsNext};
 ghost use Rattle.ft_pairs.specs.declared.at.At.{At};
 ghost use Rattle.ft_pairs.specs.declared.at.Op.{Op};
+ghost use Rattle.ft_kept.specs.Bounds.{StepsGrow};
 ghost use Rattle.ft_kept.specs.Entries.{IsEntry, IsOwn, StaysBut, hits_here, read_here};
 ghost use Rattle.ft_kept.specs.Repairs.{AreShelved, IsPartly, Pays};
 ghost use Rattle.ft_kept.specs.Repairs.{without_next_read, without_reads_of};
@@ -43,6 +44,7 @@ pub(crate) fn settle(
         (hits_here (kept_on tables.new) at) (read_here (kept_on tables.new) at)) }
     ensures puts { work.new.puts ≤ work.old.puts + 1 }
     ensures evals { work.new.evals ≡ work.old.evals }
+    ensures grow { StepsGrow work.old work.new }
 {
     let found = tables.source(saver, &key, at);
     let Some(trigger) = triggers.get(&at.trigger) else {
@@ -80,6 +82,7 @@ fn settle_op(
         tables.old tables.new (without_next_read (Some step))) }
     ensures puts { work.new.puts ≤ work.old.puts + 1 }
     ensures evals { work.new.evals ≡ work.old.evals }
+    ensures grow { StepsGrow work.old work.new }
 {
     let (at, op) = step;
     match op {
@@ -111,6 +114,7 @@ pub(crate) fn settle_next(
         (without_next_read next)) }
     ensures puts { work.new.puts ≤ work.old.puts + 1 }
     ensures evals { work.new.evals ≡ work.old.evals }
+    ensures grow { StepsGrow work.old work.new }
 {
     // There is one next operation at most, so the one found here is the one that callers mean.
     one_next();
@@ -136,6 +140,7 @@ pub(crate) fn settle_key(
         tables.old tables.new
         (without_reads_of tables.old (record { saver = saver; key = key }))) }
     ensures evals { work.new.evals ≡ work.old.evals }
+    ensures grow { StepsGrow work.old work.new }
 {
     let mut next = tables.next_op(saver, &key, None);
     while let Some(step) = next {

@@ -12,6 +12,7 @@ ghost use Rattle.ft_pairs.specs.Next.{IsNext};
 ghost use Rattle.ft_pairs.specs.Source.{IsSource};
 ghost use Rattle.ft_pairs.specs.declared.at.At.{At};
 ghost use Rattle.ft_table.specs.Tabled.{is_in};
+ghost use Rattle.ft_kept.specs.Bounds.{StepsGrow};
 ghost use Rattle.ft_kept.specs.Shelves.{IsNewShelf, OpsChange, with_hit_on, without_hit_on};
 ghost use Rattle.ft_kept.specs.Switches.{with_saves, switched};
 
@@ -117,6 +118,7 @@ impl Shelf {
             ≡ with_hit_on (record { pos = hit.pos; key = hit.key }) hit.values read self.old) }
         ensures puts { work.new.puts ≤ work.old.puts + 1 }
         ensures evals { work.new.evals ≡ work.old.evals }
+        ensures grow { StepsGrow work.old work.new }
     {
         if let Some(saved) = read {
             put(&mut self.readings, hit.pos, saved)?;
@@ -178,6 +180,7 @@ impl Shelf {
             self.old self.new) }
         ensures puts { was_in ≡ is_in self.old.table key → work.new.puts ≡ work.old.puts }
         ensures evals { work.new.evals ≡ work.old.evals }
+        ensures grow { StepsGrow work.old work.new }
     {
         match (was_in, self.table.is_in(&key)) {
             (false, true) => self.put_saves(id, key, work),
@@ -196,6 +199,7 @@ impl Shelf {
         ensures ok { OnOk result (OpsChange key
             (with_saves self.old.table.hits id key) self.old self.new) }
         ensures evals { work.new.evals ≡ work.old.evals }
+        ensures grow { StepsGrow work.old work.new }
     {
         let mut next = self.table.hit_after(&key, None);
         while let Some(hit) = next {

@@ -7,6 +7,7 @@ ghost use Rattle.ft_pairs.specs.Edits.{with_op};
 ghost use Rattle.ft_pairs.specs.Next.{IsNext};
 ghost use Rattle.ft_pairs.specs.Source.{IsSource};
 ghost use Rattle.ft_pairs.specs.declared.at.Op.TheVariants.{Read};
+ghost use Rattle.ft_kept.specs.Bounds.{StepsGrow};
 ghost use Rattle.ft_kept.specs.Shelves.{role_on, kept_on, left_on};
 ghost use Rattle.ft_kept.specs.Shelves.{AddsShelf, ChangesShelf, OpsChange};
 
@@ -117,6 +118,7 @@ impl Tables {
             self.old self.new) }
         ensures puts { work.new.puts ≤ work.old.puts + 1 }
         ensures evals { work.new.evals ≡ work.old.evals }
+        ensures grow { StepsGrow work.old work.new }
     {
         match self.shelves.get_mut(&saver) {
             Some(shelf) => shelf.put_op(key, at, Op::Read, work),

@@ -188,6 +188,13 @@ fn triggers_with_filters(rt: HostRuntime) -> Result<(), Fail> {
         (BAD_TAILS, Status::SomeRefused),
     ];
     for ((script, printed), status) in expected {
+        let example = Example {
+            trace: TWO_TASKS,
+            script,
+            printed,
+            status,
+        };
+        assert!(rt; example.holds(rt.alloc())?);
         let mut out = Sink::new(rt.alloc(), 4096);
         let mut source = Source::new(script, 4096);
         let ended = ran_over(rt.alloc(), TWO_TASKS, &mut source, &mut out)?;

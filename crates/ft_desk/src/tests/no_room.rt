@@ -14,7 +14,12 @@ use ft_trigger::Trigger;
 pub(crate) struct NoRoom;
 
 impl Board for NoRoom {
-    ghost shown = { λ _. record { base = empty_base; deferred = false } };
+    ghost shown = { λ _. record {
+      base = empty_base;
+      deferred = false;
+      keeps = false;
+      steps = record { evals = 0; puts = 0 };
+    } };
 
     fn load(&mut self, _events: Vec<Event>) -> Result<Done<u64>, Refused> {
         Err(Refused::Memory)

@@ -1,5 +1,6 @@
 //! Scripts over the boards.
 
+use super::kept_now::is_kept_by_line;
 use super::streams::{Sink, Source};
 use crate::{KeptBoard, PlainBoard, Ran, RunFault, Status, run, run_text};
 use std::alloc::{AllocError, Global};
@@ -33,12 +34,14 @@ pub(super) struct Example<'a> {
 }
 
 impl Example<'_> {
-    /// Whether the script prints that, and no more, and ends with that status, over both boards.
+    /// Whether the script prints that, and no more, and ends with that status, over both boards,
+    /// with no line after which one is deferred.
     pub(super) fn holds(&self, alloc: Global) -> Result<bool, Fail> {
         let files = one_file(alloc, self.trace)?;
         let plain = run_text(alloc, PlainBoard::new(alloc), files.as_slice(), self.script)?;
         let kept = run_text(alloc, KeptBoard::new(alloc), files.as_slice(), self.script)?;
-        Ok(self.is(&plain) && self.is(&kept))
+        let kept_by_line = is_kept_by_line(alloc, files.as_slice(), self.script)?;
+        Ok(self.is(&plain) && self.is(&kept) && kept_by_line)
     }
 
     /// Whether a run printed that, and ended with that status.

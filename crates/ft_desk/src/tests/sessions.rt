@@ -1,11 +1,12 @@
 //! Scripts that edit and ask in turn, over both boards.
 
+use super::kept_now::is_kept_by_line;
 use crate::{KeptBoard, PlainBoard, Ran, Status, run_text};
 use std::alloc::{AllocError, Global};
 use std::test::*;
 
-/// Runs a script over both boards with these trace files. Where they don't print the same, what is
-/// answered is empty.
+/// Runs a script over both boards with these trace files. Where they don't print the same, or one is
+/// deferred after a line, what is answered is empty.
 pub(super) fn ran_with(alloc: Global, traces: &[&[u8]], script: &[u8]) -> Result<Ran, AllocError> {
     let mut files = Vec::new(alloc);
     for trace in traces {
@@ -14,6 +15,9 @@ pub(super) fn ran_with(alloc: Global, traces: &[&[u8]], script: &[u8]) -> Result
     let plain = run_text(alloc, PlainBoard::new(alloc), &files, script)?;
     let mut kept = run_text(alloc, KeptBoard::new(alloc), &files, script)?;
     if kept.status != plain.status || kept.output.as_slice() != plain.output.as_slice() {
+        kept.output.clear();
+    }
+    if !is_kept_by_line(alloc, &files, script)? {
         kept.output.clear();
     }
     Ok(kept)

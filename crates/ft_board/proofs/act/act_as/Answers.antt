@@ -10,8 +10,8 @@ use Rattle.ft_kept.specs.declared.role.Role.{Role}
 use Rattle.ft_board.proofs.Shelving.{remove_absent, after_hit-unset}
 use Rattle.ft_board.proofs.act.act_as.Goals as goal
 
-pub returns-in_default : goal.returns-in_default
-returns-in_default c =
+pub returns-in_default-clause-acts : goal.returns-in_default-clause-acts
+returns-in_default-clause-acts c =
     let saved : Saved = seen variable_cmp c.args.saved.now in
     let variable : Variable = record { saver = c.in-Reads.saver; key = c.args.key } in
     let none : map.get saved variable ≡ None = sym c.in_default.ensures.value in

@@ -11,8 +11,8 @@ use Rattle.ft_board.specs.Tally.{tally_of}
 use Rattle.ft_board.proofs.Answering.{of_attached-some}
 use Rattle.ft_board.proofs.answers.hist_from.Goals as goal
 
-pub returns-in-Ok-table_text : goal.returns-in-Ok-table_text
-returns-in-Ok-table_text c =
+pub returns-in-Ok-table_text-clause-gives : goal.returns-in-Ok-table_text-clause-gives
+returns-in-Ok-table_text-clause-gives c =
     let triggers : Triggers = seen nat_cmp c.args.triggers.now in
     let events : Events = merged c.args.lanes.now in
     let hist : Hist = c.in-Some.trigger.now in

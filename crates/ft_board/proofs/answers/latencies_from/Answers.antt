@@ -13,8 +13,8 @@ use Rattle.ft_board.proofs.Answering.{of_attached-some, latencies-reader}
 use Rattle.ft_board.proofs.Growing.{pairs-tally}
 use Rattle.ft_board.proofs.answers.latencies_from.Goals as goal
 
-pub returns-in-Ok-latencies_of : goal.returns-in-Ok-latencies_of
-returns-in-Ok-latencies_of c =
+pub returns-in-Ok-latencies_of-clause-gives : goal.returns-in-Ok-latencies_of-clause-gives
+returns-in-Ok-latencies_of-clause-gives c =
     let triggers : Triggers = seen nat_cmp c.args.triggers.now in
     let events : Events = merged c.args.lanes.now in
     let hist : Hist = c.in-Some.trigger.now in

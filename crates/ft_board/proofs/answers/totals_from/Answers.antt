@@ -13,8 +13,8 @@ use Rattle.ft_board.proofs.Answering.{of_attached-known}
 use Rattle.ft_board.proofs.Shown.{totals-tally}
 use Rattle.ft_board.proofs.answers.totals_from.Goals as goal
 
-pub returns : goal.returns
-returns c =
+pub returns-clause-gives : goal.returns-clause-gives
+returns-clause-gives c =
     let triggers : Triggers = seen nat_cmp c.args.triggers.now in
     let events : Events = merged c.args.lanes.now in
     let shelf = c.in-Ok.shelf in

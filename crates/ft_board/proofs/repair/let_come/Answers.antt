@@ -8,6 +8,7 @@ use Rattle.ft_kept.specs.Repairs.{EventCanCome, EventHasCome}
 use Rattle.ft_kept.specs.Shelves.{Shelves}
 use Rattle.ft_board.specs.Base.{Base, Triggers}
 use Rattle.ft_board.specs.KeptBeside.{AreKeptWithout}
+use Rattle.ft_board.proofs.FewSteps.{come_cost}
 use Rattle.ft_board.proofs.KeptBoardForms.{all_shelved}
 use Rattle.ft_board.proofs.KeptBoardRepair.{pos_at, come_can, come_kept}
 use Rattle.ft_board.proofs.repair.let_come.Goals as goal
@@ -42,3 +43,23 @@ returns-in-Ok-clause-kept c =
     (λ i. ((c.triggers-triggers.ensures i, c.lanes-lanes.ensures.lanes i), record { stamp = stamp i; cpu = c.args.place.cpu; line = c.args.place.line }))
     c.in-Ok.ensures.right in
     come_kept base c.args.place event there c.in-Some.tables kept c.event_comes.new.self c.in-Ok.ensures.forms right
+
+pub returns-in-Ok-clause-costs : goal.returns-in-Ok-clause-costs
+returns-in-Ok-clause-costs c =
+    let base : Base = c.args.content.now in
+    let event : Traced = c.in-Some-get.event.now in
+    let kept : AreKeptWithout c.args.content.now c.args.place c.in-Some.tables = subst (λ (o : Option Shelves). IfSome o (AreKeptWithout c.args.content.now c.args.place)) (sym c.in-Some.ensures.value) c.requires in
+    let there : event_at base.lanes c.args.place.cpu c.args.place.line ≡ Some event = ap (λ (lanes : Lanes). event_at lanes c.args.place.cpu c.args.place.line) (sym c.lanes-lanes.ensures.lanes) ∙ sym c.in-Some-get.ensures in
+    let stamp : c.event.inside.stamp ≡ event.stamp = ap (λ (e : Traced). e.stamp) c.event.view_is in
+    come_cost base c.args.place event there c.one_more_hit.ensures.rows c.one_more_hit.ensures.totals c.one_more_hit.ensures.members c.one_source.ensures c.in-Some.tables c.args.work.now c.event_comes.new.work
+    _ (λ i. (c.triggers-triggers.ensures i, record { stamp = stamp i; cpu = c.args.place.cpu; line = c.args.place.line })) kept c.event_comes.ensures.evals c.event_comes.ensures.puts
+
+pub returns-in-Err-clause-costs : goal.returns-in-Err-clause-costs
+returns-in-Err-clause-costs c =
+    let base : Base = c.args.content.now in
+    let event : Traced = c.in-Some-get.event.now in
+    let kept : AreKeptWithout c.args.content.now c.args.place c.in-Some.tables = subst (λ (o : Option Shelves). IfSome o (AreKeptWithout c.args.content.now c.args.place)) (sym c.in-Some.ensures.value) c.requires in
+    let there : event_at base.lanes c.args.place.cpu c.args.place.line ≡ Some event = ap (λ (lanes : Lanes). event_at lanes c.args.place.cpu c.args.place.line) (sym c.lanes-lanes.ensures.lanes) ∙ sym c.in-Some-get.ensures in
+    let stamp : c.event.inside.stamp ≡ event.stamp = ap (λ (e : Traced). e.stamp) c.event.view_is in
+    come_cost base c.args.place event there c.one_more_hit.ensures.rows c.one_more_hit.ensures.totals c.one_more_hit.ensures.members c.one_source.ensures c.in-Some.tables c.args.work.now c.event_comes.new.work
+    _ (λ i. (c.triggers-triggers.ensures i, record { stamp = stamp i; cpu = c.args.place.cpu; line = c.args.place.line })) kept c.event_comes.ensures.evals c.event_comes.ensures.puts

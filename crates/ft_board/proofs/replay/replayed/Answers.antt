@@ -25,6 +25,7 @@ use Rattle.ft_board.proofs.Earlier.{act_of, all_above}
 use Rattle.ft_board.proofs.Apart.{all_of}
 use Rattle.ft_board.proofs.Naming.{named_all, replay-named}
 use Rattle.ft_board.proofs.Shelved.{replay-fold, new_shelves-started, new_shelves-shelved, new_shelves-before, merged_stamped}
+use Rattle.ft_board.proofs.Stepping.{grow_none, grow_more}
 use Rattle.ft_board.proofs.replay.replayed.Goals as goal
 
 -- the first of the events that are left
@@ -48,6 +49,7 @@ loop-pos-init c =
       shelved = subst (AreShelved triggers) (sym shelves) (new_shelves-shelved triggers);
       before = all_of (λ (e : Pos × Traced). AllBeforePlace e.0 (seen nat_cmp c.in_ok-shelves.shelves))
           (λ e. subst (AllBeforePlace e.0) (sym shelves) (λ id. new_shelves-before triggers (act_of e.0 id))) (entries_by deref items);
+      grow = grow_none _;
     }
 
 pub loop-pos-preserved : goal.loop-pos-preserved
@@ -67,6 +69,7 @@ loop-pos-preserved c =
       stamped = (subst (AllByRecursion (λ (x : Pos × Traced). x.0.stamp ≡ x.1.stamp)) more c.loop-pos.invariant.stamped).1;
       shelved = c.in_ok-step.ensures.shelved;
       before = all_above pos_cmp e.0 (λ pos. AllBeforePlace pos (seen nat_cmp c.step.new.shelves)) c.in_ok-step.ensures.before rest (sorted_head pos_cmp e.0 (keys_of rest) sorted);
+      grow = grow_more _ _ _ c.loop-pos.invariant.grow c.in_ok-step.ensures.grow;
     }
 
 pub step-requires-clause-stamped : goal.step-requires-clause-stamped

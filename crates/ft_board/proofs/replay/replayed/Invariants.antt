@@ -13,10 +13,11 @@ use Rattle.ft_board.specs.Merged.{merged}
 use Rattle.ft_board.specs.Named.{named}
 use Rattle.ft_board.specs.Replay.{step, started}
 use Rattle.ft_board.specs.OnShelves.{state_on, AreShelved, AllBeforePlace}
+use Rattle.ft_kept.specs.Bounds.{StepsGrow}
 use Rattle.ft_kept.specs.Variables.{variable_cmp}
 use Rattle.ft_board.proofs.replay.replayed.Given as goal
 
--- the events that are left lead where all events lead; their places have their stamps, ascend, and stand behind all hits; each trigger has its shelf
+-- the events that are left lead where all events lead; their places have their stamps, ascend, and stand behind all hits; each trigger has its shelf; no count of steps fell
 abbrev pub invariant-loop-pos : goal.invariant-loop-pos
 invariant-loop-pos l = record {
   rest : fold (step (seen nat_cmp l.triggers)) (state_on (seen nat_cmp l.shelves, seen variable_cmp l.saved)) (entries_by deref (drop l.pos-index l.pos-items))
@@ -25,4 +26,5 @@ invariant-loop-pos l = record {
   stamped : AllByRecursion (λ e. e.0.stamp ≡ e.1.stamp) (entries_by deref (drop l.pos-index l.pos-items));
   shelved : AreShelved (seen nat_cmp l.triggers) (seen nat_cmp l.shelves);
   before : AllByRecursion (λ e. AllBeforePlace e.0 (seen nat_cmp l.shelves)) (entries_by deref (drop l.pos-index l.pos-items));
+  grow : StepsGrow l.fn.work l.work;
 }

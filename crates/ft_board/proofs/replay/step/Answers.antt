@@ -24,6 +24,7 @@ use Rattle.ft_board.proofs.Earlier.{act_of, earlier_place, lower_id, all_above}
 use Rattle.ft_board.proofs.Apart.{all_of, entries_found}
 use Rattle.ft_board.proofs.Shelved.{after_act-acts, step-fold}
 use Rattle.ft_board.proofs.Standing.{free_before, before_later, after_act-before, after_act-shelved}
+use Rattle.ft_board.proofs.Stepping.{grow_none, grow_more}
 use Rattle.ft_board.proofs.replay.step.Goals as goal
 
 pub loop-id-init : goal.loop-id-init
@@ -38,6 +39,7 @@ loop-id-init c =
       shelved = c.requires.shelved;
       before = all_of (λ (e : ℕ × Hist). AllBefore (act_of c.args.pos e.0) shelves) (λ e. c.requires.before e.0) c.into_iter-id-iterator.result;
       later = λ next less id. before_later (act_of c.args.pos id) shelves (c.requires.before id) (act_of next id) (earlier_place c.args.pos next id id less);
+      grow = grow_none _;
     }
 
 pub act-requires-clause-free : goal.act-requires-clause-free
@@ -58,7 +60,7 @@ loop-id-preserved c =
     let sorted : IsStrictlySortedBy nat_cmp (keys_of (e ∷ c.next.new.self)) = subst (λ (es : List (ℕ × Hist)). IsStrictlySortedBy nat_cmp (keys_of es)) more c.loop-id.invariant.sorted in
     let attached : AllByRecursion (λ (e : ℕ × Hist). map.get triggers e.0 ≡ Some e.1) (e ∷ c.next.new.self) = subst (AllByRecursion (λ (e : ℕ × Hist). map.get triggers e.0 ≡ Some e.1)) more c.loop-id.invariant.attached in
     let before : AllBefore at shelves = (subst (AllByRecursion (λ (e : ℕ × Hist). AllBefore (act_of c.args.pos e.0) shelves)) more c.loop-id.invariant.before).0 in
-    let acted = c.in_ok-act.ensures in
+    let acted = c.in_ok-act.ensures.acts in
     let after : seen nat_cmp c.act.new.shelves ≡ (after_act e.1 entry.1 at (shelves, saved)).0 = ap (λ (p : Shelves × Saved). p.0) acted in
     record {
       rest =
@@ -75,6 +77,7 @@ loop-id-preserved c =
           (sorted_head nat_cmp e.0 (keys_of c.next.new.self) sorted));
       later = λ next less id. subst (AllBefore (act_of next id)) (sym after)
           (after_act-before at shelves before e.1 entry.1 saved (act_of next id) (earlier_place c.args.pos next e.0 id less));
+      grow = grow_more _ _ _ c.loop-id.invariant.grow c.in_ok-act.ensures.grow;
     }
 
 pub returns-clause-state : goal.returns-clause-state

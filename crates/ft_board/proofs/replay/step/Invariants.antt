@@ -11,11 +11,12 @@ use Rattle.ft_event.specs.declared.pos.Pos.{Pos}
 use Rattle.ft_maps.specs.Seen.{seen}
 use Rattle.ft_board.specs.Replay.{act_at}
 use Rattle.ft_board.specs.OnShelves.{state_on, AreShelved, AllBefore, AllBeforePlace}
+use Rattle.ft_kept.specs.Bounds.{StepsGrow}
 use Rattle.ft_kept.specs.Variables.{variable_cmp}
 use Rattle.ft_board.proofs.Earlier.{act_of}
 use Rattle.ft_board.proofs.replay.step.Given as goal
 
--- the triggers that are left lead where all triggers lead; each trigger has its shelf; all hits stand before what is left to act here, and before all that comes later
+-- the triggers that are left lead where all triggers lead; each trigger has its shelf; all hits stand before what is left to act here, and before all that comes later; no count of steps fell
 abbrev pub invariant-loop-id : goal.invariant-loop-id
 invariant-loop-id l = record {
   rest : fold (act_at (seen nat_cmp l.triggers) (l.pos, l.event)) (state_on (seen nat_cmp l.shelves, seen variable_cmp l.saved)) l.id-iterator
@@ -25,4 +26,5 @@ invariant-loop-id l = record {
   shelved : AreShelved (seen nat_cmp l.triggers) (seen nat_cmp l.shelves);
   before : AllByRecursion (λ e. AllBefore (act_of l.pos e.0) (seen nat_cmp l.shelves)) l.id-iterator;
   later : (next : Pos) → pos_cmp l.pos next ≡ Less → AllBeforePlace next (seen nat_cmp l.shelves);
+  grow : StepsGrow l.fn.work l.work;
 }

@@ -49,7 +49,7 @@ returns-in-Insert g c =
     let old = c.args.desk.now in
     let so = ap (outcome files old.base) (sym c.in-Insert.ensures) in
     let after = after_insert_text old.base c.in-Insert.line.now in
-    let shows = edit_shows (λ place. place) numbered old c.insert.new.self (codes "inserted ") after c.insert.result c.edited-in-Insert.result (outcome files old.base (asked_by c.args.line.now)) c.insert.ensures so c.edited-in-Insert.ensures.text c.edited-in-Insert.ensures.refused c.edited-in-Insert.ensures.memory in
+    let shows = edit_shows (λ place. place) numbered old c.insert.new.self (codes "inserted ") after c.insert.result c.edited-in-Insert.result (outcome files old.base (asked_by c.args.line.now)) c.insert.ensures.gives so c.edited-in-Insert.ensures.text c.edited-in-Insert.ensures.refused c.edited-in-Insert.ensures.memory in
     record { text = shows.text; refused = shows.refused; base = shows.base }
 
 pub returns-in-Strike : goal.returns-in-Strike
@@ -69,7 +69,7 @@ returns-in-Attach g c =
     let old = c.args.desk.now in
     let so = ap (outcome files old.base) (sym c.in-Attach.ensures) in
     let after = after_attach_text old.base c.in-Attach.event c.in-Attach.text.now in
-    let shows = edit_shows (λ id. id) decimal old c.attach.new.self (codes "attached ") after c.attach.result c.edited-in-Attach.result (outcome files old.base (asked_by c.args.line.now)) c.attach.ensures so c.edited-in-Attach.ensures.text c.edited-in-Attach.ensures.refused c.edited-in-Attach.ensures.memory in
+    let shows = edit_shows (λ id. id) decimal old c.attach.new.self (codes "attached ") after c.attach.result c.edited-in-Attach.result (outcome files old.base (asked_by c.args.line.now)) c.attach.ensures.gives so c.edited-in-Attach.ensures.text c.edited-in-Attach.ensures.refused c.edited-in-Attach.ensures.memory in
     record { text = shows.text; refused = shows.refused; base = shows.base }
 
 pub returns-in-Refilter : goal.returns-in-Refilter
@@ -79,7 +79,7 @@ returns-in-Refilter g c =
     let old = c.args.desk.now in
     let so = ap (outcome files old.base) (sym c.in-Refilter.ensures) in
     let after = after_refilter_text old.base c.in-Refilter.id (option_copied c.in-Refilter.text) in
-    let shows = edit_shows (λ id. id) decimal old c.refilter.new.self (codes "refiltered ") after c.refilter.result c.edited-in-Refilter.result (outcome files old.base (asked_by c.args.line.now)) c.refilter.ensures so c.edited-in-Refilter.ensures.text c.edited-in-Refilter.ensures.refused c.edited-in-Refilter.ensures.memory in
+    let shows = edit_shows (λ id. id) decimal old c.refilter.new.self (codes "refiltered ") after c.refilter.result c.edited-in-Refilter.result (outcome files old.base (asked_by c.args.line.now)) c.refilter.ensures.gives so c.edited-in-Refilter.ensures.text c.edited-in-Refilter.ensures.refused c.edited-in-Refilter.ensures.memory in
     record { text = shows.text; refused = shows.refused; base = shows.base }
 
 pub returns-in-Remove : goal.returns-in-Remove
@@ -98,7 +98,7 @@ returns-in-Hist g c =
     let files = texts_of c.args.files.now in
     let old = c.args.desk.now in
     let so = ap (outcome files old.base) (sym c.in-Hist.ensures) in
-    let shows = answer_shows (λ text. text.items) (λ text. text) old c.hist.new.self (hist_text old.base c.in-Hist.id) c.hist.result c.answered.result (outcome files old.base (asked_by c.args.line.now)) c.hist.ensures so c.answered.ensures.text c.answered.ensures.refused c.answered.ensures.memory in
+    let shows = answer_shows (λ text. text.items) (λ text. text) old c.hist.new.self (hist_text old.base c.in-Hist.id) c.hist.result c.answered.result (outcome files old.base (asked_by c.args.line.now)) c.hist.ensures.gives so c.answered.ensures.text c.answered.ensures.refused c.answered.ensures.memory in
     record { text = shows.text; refused = shows.refused; base = shows.base }
 
 pub returns-in-Totals : goal.returns-in-Totals
@@ -107,7 +107,7 @@ returns-in-Totals g c =
     let files = texts_of c.args.files.now in
     let old = c.args.desk.now in
     let so = ap (outcome files old.base) (sym c.in-Totals.ensures) in
-    let shows = answer_shows (λ totals. totals) totals_line old c.totals.new.self (totals old.base c.in-Totals.id) c.totals.result c.totalled.result (outcome files old.base (asked_by c.args.line.now)) c.totals.ensures so c.totalled.ensures.text c.totalled.ensures.refused c.totalled.ensures.memory in
+    let shows = answer_shows (λ totals. totals) totals_line old c.totals.new.self (totals old.base c.in-Totals.id) c.totals.result c.totalled.result (outcome files old.base (asked_by c.args.line.now)) c.totals.ensures.gives so c.totalled.ensures.text c.totalled.ensures.refused c.totalled.ensures.memory in
     record { text = shows.text; refused = shows.refused; base = shows.base }
 
 pub returns-in-Latencies : goal.returns-in-Latencies
@@ -116,7 +116,7 @@ returns-in-Latencies g c =
     let files = texts_of c.args.files.now in
     let old = c.args.desk.now in
     let so = ap (outcome files old.base) (sym c.in-Latencies.ensures) in
-    let shows = answer_shows (λ latencies. latencies.items) latency_lines old c.latencies.new.self (latencies old.base c.in-Latencies.id) c.latencies.result c.measured.result (outcome files old.base (asked_by c.args.line.now)) c.latencies.ensures so c.measured.ensures.text c.measured.ensures.refused c.measured.ensures.memory in
+    let shows = answer_shows (λ latencies. latencies.items) latency_lines old c.latencies.new.self (latencies old.base c.in-Latencies.id) c.latencies.result c.measured.result (outcome files old.base (asked_by c.args.line.now)) c.latencies.ensures.gives so c.measured.ensures.text c.measured.ensures.refused c.measured.ensures.memory in
     record { text = shows.text; refused = shows.refused; base = shows.base }
 
 pub returns-in-Lane : goal.returns-in-Lane

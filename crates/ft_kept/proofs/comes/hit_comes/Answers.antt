@@ -7,6 +7,7 @@ use Rattle.std.specs.FinMap as map
 use Rattle.std.specs.FinMap.{nat_cmp-IsAntisymmetric}
 use Rattle.ft_maps.specs.Seen.{seen, get-seen, seen-found}
 use Rattle.ft_kept.specs.Shelves.{Shelves, kept_on, with_hit_on}
+use Rattle.ft_kept.proofs.FewPuts.{savers_but}
 use Rattle.ft_kept.proofs.Forms.{hits_by}
 use Rattle.ft_kept.specs.Values.{values_at}
 use Rattle.ft_kept.proofs.Plainly.{plain_comes, plain_forms}
@@ -57,3 +58,8 @@ returns-clause-right c = on_ok_weaker c.put_hit.result (λ e.
     plain_comes (seen nat_cmp c.args.triggers.now) c.args.lanes.now c.args.tables.now new c.args.at c.in-Some.shelf.now c.put_hit.new.self (found c)
     (written c.args.tables.now new c.args.at.trigger c.put_hit.new.self (back c)) (unwritten c.args.tables.now new c.args.at.trigger c.put_hit.new.self (back c))
     c.args.key c.args.event.now c.args.trigger.now c.requires.attached (put_is c e) c.requires.role) c.put_hit.ensures.ok
+
+pub returns-clause-savers : goal.returns-clause-savers
+returns-clause-savers c = on_ok_weaker c.put_hit.result (λ e.
+    let new = seen nat_cmp (c.get_mut.follows.lender c.put_hit.new.self) in
+    savers_but c.args.at.trigger c.args.tables.now new (unwritten c.args.tables.now new c.args.at.trigger c.put_hit.new.self (back c))) c.put_hit.ensures.ok

@@ -3,6 +3,7 @@ use Rattle.std.proofs.lemmas.Result.{on_ok_weaker}
 use Rattle.std.specs.Ordering.{nat_cmp}
 use Rattle.ft_maps.specs.Seen.{seen}
 use Rattle.ft_kept.proofs.Reading.{reading_free, put_shelved, put_reads, put_own, settled_shelved, settled_forms, settled_partly, read_comes}
+use Rattle.ft_kept.proofs.FewPuts.{reading_savers}
 use Rattle.ft_kept.proofs.Forms.{forms_trans, readers_forms}
 use Rattle.ft_kept.proofs.Decided.{on_ok_both}
 use Rattle.ft_kept.proofs.comes.reading_comes.Goals as goal
@@ -34,3 +35,7 @@ pub returns-clause-right : goal.returns-clause-right
 returns-clause-right c = on_ok_both c.settle_next.result (λ last pays.
     read_comes (seen nat_cmp c.args.triggers.now) c.args.lanes.now c.args.tables.now c.put_read.new.self c.args.at c.args.saver c.args.key c.args.event.now c.requires.role c.requires.shelved c.in_ok-put_read.ensures.ok c.settle.new.tables c.in_ok-settle.ensures.readers c.in_ok-settle.ensures.others c.in_ok-settle.ensures.right
     c.settle_next.new.tables last pays) c.settle_next.ensures.readers c.settle_next.ensures.right
+
+pub returns-clause-savers : goal.returns-clause-savers
+returns-clause-savers c = on_ok_weaker c.settle_next.result (λ last.
+    reading_savers c.args.at.trigger c.args.saver c.args.key _ c.args.tables.now c.put_read.new.self c.settle.new.tables c.settle_next.new.tables c.in_ok-put_read.ensures.ok c.in_ok-settle.ensures.readers last) c.settle_next.ensures.readers

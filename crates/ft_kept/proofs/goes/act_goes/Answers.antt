@@ -1,12 +1,14 @@
-use Rattle.std.proofs.Common.{◌≡◌, false, Some, None, sym, ap, subst, ◌∙◌, rules}
+use Rattle.std.proofs.Common.{◌≡◌, false, Some, None, sym, ap, subst, ◌∙◌, rules, arith}
 use Rattle.std.specs.Prelude.{option_map, List}
 use Rattle.std.specs.Ordering.{nat_cmp}
 use Rattle.ft_event.specs.Traced.{name_of}
 use Rattle.ft_hist.specs.Hit.{same_name, hit}
 use Rattle.ft_hist.specs.declared.key.Part.{Part}
 use Rattle.ft_maps.specs.Seen.{seen}
+use Rattle.ft_table.specs.OneKey.{without_hit}
 use Rattle.ft_kept.specs.Repairs.{HasGone}
 use Rattle.ft_kept.proofs.Between.{none_went, other_name}
+use Rattle.ft_kept.proofs.FewPuts.{act_few}
 use Rattle.ft_kept.proofs.Forms.{forms_refl}
 use Rattle.ft_kept.proofs.goes.act_goes.Goals as goal
 
@@ -31,3 +33,10 @@ returns-in-Plain-clause-right c =
     let one : hit c.args.trigger.now c.args.event.now ≡ Some c.in-Some.key = sym c.hit_of.ensures.value ∙ c.in-Some.is in
     subst (λ o. HasGone (seen nat_cmp c.args.triggers.now) c.args.lanes.now c.args.at (option_map (λ (key : List Part). (key, c.args.event.now)) o) c.args.tables.now c.hit_goes.new.tables) (sym one)
     (c.hit_goes.ensures.right (seen nat_cmp c.args.triggers.now) c.args.lanes.now c.args.event.now)
+
+pub returns-in-Saves-clause-puts : goal.returns-in-Saves-clause-puts
+returns-in-Saves-clause-puts c =
+    let one : hit c.args.trigger.now c.args.event.now ≡ Some c.in-Some.key = sym c.hit_of.ensures.value ∙ c.in-Some.is in
+    act_few (λ key table. without_hit table (record { pos = c.args.at.pos; key = key }))
+    c.args.trigger.now c.args.event.now c.in-Some.key one c.args.tables.now c.args.at.trigger (sym c.role.ensures ∙ c.in-Saves.is)
+    c.args.work.now.puts c.hit_of.new.work.puts c.saving_goes.new.work.puts 1 (omega arith) c.hit_of.ensures.puts c.saving_goes.ensures.puts

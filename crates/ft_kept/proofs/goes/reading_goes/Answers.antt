@@ -3,6 +3,7 @@ use Rattle.std.proofs.lemmas.Result.{on_ok_weaker}
 use Rattle.std.specs.Ordering.{nat_cmp}
 use Rattle.ft_maps.specs.Seen.{seen}
 use Rattle.ft_kept.proofs.Decided.{on_ok_both}
+use Rattle.ft_kept.proofs.FewPuts.{reading_less_savers}
 use Rattle.ft_kept.proofs.ReadingGoes.{went_shelved, went_partly, read_goes, read_goes_forms}
 use Rattle.ft_kept.proofs.goes.reading_goes.Goals as goal
 
@@ -22,3 +23,7 @@ pub returns-clause-right : goal.returns-clause-right
 returns-clause-right c = on_ok_both c.settle_next.result (λ last pays.
     read_goes (seen nat_cmp c.args.triggers.now) c.args.lanes.now c.args.tables.now c.take_hit.new.self c.take_op.new.self c.args.at c.args.saver c.args.key c.requires.role c.requires.shelved c.take_hit.ensures c.take_op.ensures
     c.settle_next.new.tables last pays) c.settle_next.ensures.readers c.settle_next.ensures.right
+
+pub returns-clause-savers : goal.returns-clause-savers
+returns-clause-savers c = on_ok_weaker c.settle_next.result (λ last.
+    reading_less_savers c.args.at c.args.saver c.args.key _ c.args.tables.now c.take_hit.new.self c.take_op.new.self c.settle_next.new.tables c.take_hit.ensures c.take_op.ensures last) c.settle_next.ensures.readers

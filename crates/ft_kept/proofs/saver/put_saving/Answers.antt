@@ -1,18 +1,23 @@
 -- A saver has a shelf; its hit is put there, and the shelf is written back.
-use Rattle.std.proofs.Common.{◌≡◌, ◌+◌, ◌≤◌, sym, ap, subst, ◌∙◌, Some, inl, inr}
+use Rattle.std.proofs.Common.{◌≡◌, ◌+◌, ◌≤◌, ℤ, List, sym, ap, subst, ◌∙◌, Some, None, inl, inr}
 use Rattle.std.proofs.lemmas.Result.{on_ok_weaker}
 use Rattle.std.specs.Ordering.{nat_cmp}
 use Rattle.std.specs.Cmp.{nat_cmp_total}
 use Rattle.std.specs.FinMap as map
 use Rattle.std.specs.FinMap.{nat_cmp-IsAntisymmetric}
 use Rattle.ft_maps.specs.Seen.{seen, get-seen, seen-found}
+use Rattle.ft_hist.specs.declared.key.Part.{Part}
 use Rattle.ft_pairs.specs.ByKey.{ops_of}
-use Rattle.ft_table.specs.Tabled.{is_in}
+use Rattle.ft_pairs.specs.declared.at.At.{At}
+use Rattle.ft_table.specs.Growth.{with_hit}
+use Rattle.ft_table.specs.Tabled.{Tabled, is_in}
 use Rattle.ft_kept.specs.Shelves.{Shelves}
-use Rattle.ft_kept.specs.Switches.{HitFollows, MovesKeys}
-use Rattle.ft_kept.proofs.Decided.{on_ok_as, if_ok_both, on_ok_both}
+use Rattle.ft_kept.specs.Switches.{HasMoved, HitFollows, MovesKeys}
+use Rattle.ft_kept.specs.Values.{values_at}
+use Rattle.ft_kept.proofs.Decided.{on_ok_as, if_ok_both}
 use Rattle.ft_kept.proofs.Putting.{written, unwritten, shelved_there}
-use Rattle.ft_kept.proofs.SaverHits.{saver_forms, saver_free, saver_has_moved, saver_moved, saver_outside, saver_owing, saver_unsaved}
+use Rattle.ft_kept.proofs.SaverHits.{saver_forms, saver_free, saver_moved, saver_outside, saver_owing, saver_unsaved}
+use Rattle.ft_kept.proofs.SaverTables.{table_written, table_moves}
 use Rattle.ft_kept.proofs.saver.put_saving.Goals as goal
 use Rattle.ft_kept.proofs.saver.put_saving.Goals.{in-Some, in-None}
 
@@ -124,8 +129,12 @@ returns-clause-moved c = elim c.match-get_mut.branch [
       (ap (λ (t : Shelves). map.get t c.args.at.trigger) (sym c.tables.view_is) ∙ get-seen nat_cmp_total c.tables.inside.shelves c.args.at.trigger ∙ sym w.in-None.ensures.value))
 ]
 
-pub returns-clause-puts : goal.returns-clause-puts
-returns-clause-puts c = elim c.match-get_mut.branch [
+-- what becomes of the table
+abbrev edit : At → List Part → List ℤ → Tabled → Tabled
+edit at key values table = with_hit table (record { pos = at.pos; key = key }) values
+
+pub returns-clause-table : goal.returns-clause-table
+returns-clause-table c = elim c.match-get_mut.branch [
   | in-Some w ↦
       let id = c.args.at.trigger in
       let old = c.args.tables.now in
@@ -138,14 +147,26 @@ returns-clause-puts c = elim c.match-get_mut.branch [
       ap (λ t. seen nat_cmp t.shelves) w.tables-inside-is
       ∙ seen-found nat_cmp_total nat_cmp-IsAntisymmetric c.tables.inside.shelves (c.get_mut.follows.lender after) id shelf after w.in-Some.ensures.value (c.get_mut.follows.holds after)
       ∙ ap (λ (t : Shelves). map.insert t id after) c.tables.view_is in
-      let is = written old new id after back in
-      let others = unwritten old new id after back in
-      on_ok_as _ c.match-get_mut.result w.put_saver_hit.result w.result-is (on_ok_both w.put_saver_hit.result (λ e h.
-      elim h [
+      on_ok_as _ c.match-get_mut.result w.put_saver_hit.result w.result-is (on_ok_weaker w.put_saver_hit.result (λ e.
+      table_written (edit c.args.at c.args.key (values_at c.args.trigger.now c.args.at.pos c.args.event.now None)) old new id shelf after was (written old new id after back)
+      (subst (λ hit. after.table ≡ with_hit shelf.table (record { pos = hit.pos; key = hit.key }) hit.values) c.hit_with-hit.ensures e.table)) w.put_saver_hit.ensures.follows)
+  | in-None w ↦ absurd (shelved_there (seen nat_cmp c.args.triggers.now) c.args.tables.now c.args.at.trigger c.args.trigger.now c.requires.shelved c.requires.attached
+      (ap (λ (t : Shelves). map.get t c.args.at.trigger) (sym c.tables.view_is) ∙ get-seen nat_cmp_total c.tables.inside.shelves c.args.at.trigger ∙ sym w.in-None.ensures.value))
+]
+
+pub returns-clause-puts : goal.returns-clause-puts
+returns-clause-puts c = elim c.match-get_mut.branch [
+  | in-Some w ↦
+      let id = c.args.at.trigger in
+      let old = c.args.tables.now in
+      let shelf = w.in-Some.shelf.now in
+      let was : map.get old id ≡ Some shelf =
+      ap (λ (t : Shelves). map.get t id) (sym c.tables.view_is) ∙ get-seen nat_cmp_total c.tables.inside.shelves id ∙ sym w.in-Some.ensures.value in
+      elim w.put_saver_hit.ensures.puts [
         | inl few ↦ inl (subst (λ steps. steps.puts ≤ c.args.work.now.puts + 2) (sym w.work-is) few)
-        | inr moved ↦ inr (saver_has_moved (seen nat_cmp c.args.triggers.now) c.args.lanes.now old new c.args.at shelf after was is others c.args.key c.args.event.now c.args.trigger.now c.requires.attached c.requires.role
-            (subst (λ hit. HitFollows id (record { pos = hit.pos; key = hit.key }) hit.values shelf after) c.hit_with-hit.ensures e) moved)
-      ]) w.put_saver_hit.ensures.follows w.put_saver_hit.ensures.puts)
+        | inr moved ↦ inr (table_moves (edit c.args.at c.args.key (values_at c.args.trigger.now c.args.at.pos c.args.event.now None)) old id shelf was
+            (subst (λ hit. HasMoved (is_in shelf.table) (is_in (with_hit shelf.table (record { pos = hit.pos; key = hit.key }) hit.values))) c.hit_with-hit.ensures moved))
+      ]
   | in-None w ↦ absurd (shelved_there (seen nat_cmp c.args.triggers.now) c.args.tables.now c.args.at.trigger c.args.trigger.now c.requires.shelved c.requires.attached
       (ap (λ (t : Shelves). map.get t c.args.at.trigger) (sym c.tables.view_is) ∙ get-seen nat_cmp_total c.tables.inside.shelves c.args.at.trigger ∙ sym w.in-None.ensures.value))
 ]

@@ -1,4 +1,4 @@
-use Rattle.std.proofs.Common.{◌≡◌, Some, None, refl, subst, ◌∙◌}
+use Rattle.std.proofs.Common.{◌≡◌, Some, None, refl, subst, ◌∙◌, arith}
 use Rattle.std.specs.Ordering.{nat_cmp}
 use Rattle.ft_maps.specs.Seen.{seen}
 use Rattle.ft_pairs.specs.Next.{IsNext}
@@ -22,6 +22,7 @@ loop-next-init c =
           owes_less (role_on c.args.tables.now) (values_by (seen nat_cmp c.args.triggers.now)) admits acts (kept_on c.args.tables.now) owed (on_walk ops c.next_op-next.result owed)
           (λ q owes. walk_begins ops q c.next_op-next.result c.next_op-next.ensures.next owed owes) kept;
       evals = refl;
+      puts = omega arith;
     }
 
 pub settle_op-requires-clause-shelved : goal.settle_op-requires-clause-shelved
@@ -56,6 +57,7 @@ loop-next-preserved c =
           (pays_then (seen nat_cmp c.args.triggers.now) c.args.lanes.now first before (on_walk ops c.loop-next.next)
           (readers_forms first before c.loop-next.invariant.readers) c.loop-next.invariant.right after (without_next_read (Some c.in-Some.step)) c.in_ok-settle_op.ensures.right admits acts owed held kept));
       evals = c.settle_op.ensures.evals ∙ c.loop-next.invariant.evals;
+      puts = let before = c.loop-next.invariant.puts in let more = c.settle_op.ensures.grow.puts in omega (arith, before, more);
     }
 
 pub returns-clause-right : goal.returns-clause-right

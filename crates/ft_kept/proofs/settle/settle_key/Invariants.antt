@@ -1,4 +1,4 @@
-use Rattle.std.proofs.Common.{◌≡◌, suc, Some}
+use Rattle.std.proofs.Common.{◌≡◌, ◌≤◌, suc, Some}
 use Rattle.std.specs.Option.{option_map_or}
 use Rattle.std.specs.Ordering.{nat_cmp}
 use Rattle.ft_maps.specs.Seen.{seen}
@@ -15,6 +15,7 @@ invariant-loop-next l = record {
   there : (step : At × Op) → l.next ≡ Some step → (kept_on l.fn.tables).ops (record { saver = l.saver; key = l.key }) step.0 ≡ Some step.1;
   right : Pays (seen nat_cmp l.triggers) l.lanes l.fn.tables l.tables (on_walk ((kept_on l.fn.tables).ops (record { saver = l.saver; key = l.key })) l.next);
   evals : l.work.evals ≡ l.fn.work.evals;
+  puts : l.fn.work.puts ≤ l.work.puts;
 }
 
 abbrev pub decreases-loop-next : goal.decreases-loop-next

@@ -1,34 +1,15 @@
--- Each way through is a case of `after_remove` at the board's view.
-use Rattle.std.proofs.Common.{◌≡◌, refl, sym, ap, ◌∙◌, inr, None, Some, Ok}
+-- Taking a trigger away that can be keeps what all edits keep.
+use Rattle.std.proofs.Common.{◌≡◌, sym, subst, Ok}
+use Rattle.std.specs.FinMap as map
 use Rattle.ft_board.specs.contracts.content.Content.{the_view}
-use Rattle.ft_board.specs.After.{after_remove, reader_on}
-use Rattle.ft_board.proofs.Cases.{remove-none, remove-in_use, remove-ok}
-use Rattle.ft_board.proofs.TriggerEdits.{remove-IsReachable}
+use Rattle.ft_board.specs.After.{after_remove}
+use Rattle.ft_board.specs.Base.{Base}
+use Rattle.ft_board.proofs.Cases.{remove-reachable}
 use Rattle.ft_board.proofs.content.Content.remove.Goals as goal
-
-pub returns-in_default-clause-gives : goal.returns-in_default-clause-gives
-returns-in_default-clause-gives c = (
-  refl,
-  inr (ap (λ b. after_remove b c.args.id) (sym c.self.view_is) ∙ remove-none (the_view c.self.inside) c.args.id (sym c.in_default.ensures)),
-)
-
-pub returns-in-Some-reader_on-clause-gives : goal.returns-in-Some-reader_on-clause-gives
-returns-in-Some-reader_on-clause-gives c =
-    let base = the_view c.self.inside in
-    let hist = c.in-Some.trigger.now in
-    let reads : reader_on base.triggers hist.variable ≡ Some c.in-Some-reader_on.reader = sym (c.in-Some-reader_on.ensures ∙ ap (reader_on base.triggers) c.variable.ensures) in
-    (refl, inr (ap (λ b. after_remove b c.args.id) (sym c.self.view_is) ∙ remove-in_use base c.args.id hist c.in-Some-reader_on.reader (sym c.in-Some.ensures) reads))
 
 pub invariant_of-self : goal.invariant_of-self
 invariant_of-self c =
-    let base = the_view c.self.inside in
-    let hist = c.in-Some.trigger.now in
-    let unread : reader_on base.triggers hist.variable ≡ None = sym (c.in_default-reader_on.ensures ∙ ap (reader_on base.triggers) c.variable.ensures) in
-    rw (c.take.ensures) (remove-IsReachable base c.args.id hist c.self.invariant (sym c.in-Some.ensures) unread)
-
-pub returns-clause-gives : goal.returns-clause-gives
-returns-clause-gives c =
-    let base = the_view c.self.inside in
-    let hist = c.in-Some.trigger.now in
-    let unread : reader_on base.triggers hist.variable ≡ None = sym (c.in_default-reader_on.ensures ∙ ap (reader_on base.triggers) c.variable.ensures) in
-    ap (λ b. after_remove b c.args.id) (sym c.self.view_is) ∙ remove-ok base c.args.id hist (sym c.in-Some.ensures) unread ∙ (λ i. Ok (record base { triggers = sym c.take.ensures i }, c.args.id))
+    let base : Base = the_view c.self.inside in
+    let gives : after_remove base c.args.id ≡ Ok (record base { triggers = map.remove base.triggers c.args.id }, c.args.id) =
+    subst (λ (b : Base). after_remove b c.args.id ≡ Ok (record b { triggers = map.remove b.triggers c.args.id }, c.args.id)) (sym c.self.view_is) c.requires in
+    rw (c.take.ensures) (remove-reachable base c.args.id _ c.args.id c.self.invariant gives)

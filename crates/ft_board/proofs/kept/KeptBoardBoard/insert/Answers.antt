@@ -1,5 +1,18 @@
+use Rattle.std.proofs.Common.{subst}
+use Rattle.ft_board.specs.Base.{Base}
+use Rattle.ft_board.specs.Costs.{CostsOf}
+use Rattle.ft_board.specs.Merged.{merged}
+use Rattle.ft_board.specs.Shown.{Shown}
+use Rattle.ft_board.proofs.FewSteps.{inserted_costs}
 use Rattle.ft_board.proofs.KeptBoardRepair.{inserted_if}
 use Rattle.ft_board.proofs.kept.KeptBoardBoard.insert.Goals as goal
 
 pub let_come-kept-requires : goal.let_come-kept-requires
 let_come-kept-requires c = inserted_if c.self.inside.content c.insert.new.self c.args.event c.in_ok-place.place c.in_ok-place.ensures.reachable c.in_ok-place.ensures.gives c.self.inside.kept c.self.invariant
+
+pub returns-clause-repairs : goal.returns-clause-repairs
+returns-clause-repairs c up =
+    let base : Base = c.self.inside.content in
+    let new : Base = c.insert.new.self in
+    subst (λ (s : Shown). CostsOf s.base.triggers c.args.event (merged s.base.lanes) (merged new.lanes) s.steps c.let_come-kept.new.work) c.self.view_is
+    (inserted_costs base new c.args.event c.in_ok-place.place c.in_ok-place.ensures.reachable c.in_ok-place.ensures.gives c.self.inside.work c.let_come-kept.new.work c.let_come-kept.ensures.costs)

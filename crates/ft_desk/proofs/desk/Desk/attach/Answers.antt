@@ -3,11 +3,11 @@ use Rattle.std.proofs.lemmas.Result.{err_from_is_err_and}
 use Rattle.ft_desk.proofs.Edits.{attach-trigger, attach-refused}
 use Rattle.ft_desk.proofs.desk.Desk.attach.Goals as goal
 
-pub returns : goal.returns
-returns g c = rw (attach-trigger c.args.self.now.base c.args.event c.args.text.now _ c.in_ok-trigger.ensures.reads) (search rules)
+pub returns-clause-gives : goal.returns-clause-gives
+returns-clause-gives g c = rw (attach-trigger c.args.self.now.base c.args.event c.args.text.now _ c.in_ok-trigger.ensures.reads) (search rules)
 
-pub returns-in_err-trigger : goal.returns-in_err-trigger
-returns-in_err-trigger g c =
+pub returns-in_err-trigger-clause-gives : goal.returns-in_err-trigger-clause-gives
+returns-in_err-trigger-clause-gives g c =
     let same = err_from_is_err_and c.from_residual.result c.from_residual.ensures.1 in
     rw (same.1, same.2) (
       refl,

@@ -3,11 +3,11 @@ use Rattle.std.proofs.lemmas.Result.{err_from_is_err_and}
 use Rattle.ft_desk.proofs.Edits.{load-events, load-refused}
 use Rattle.ft_desk.proofs.desk.Desk.load.Goals as goal
 
-pub returns : goal.returns
-returns g c = rw (load-events c.args.self.now.base c.args.text.now _ c.in_ok-events.ensures) (search rules)
+pub returns-clause-gives : goal.returns-clause-gives
+returns-clause-gives g c = rw (load-events c.args.self.now.base c.args.text.now _ c.in_ok-events.ensures) (search rules)
 
-pub returns-in_err-events : goal.returns-in_err-events
-returns-in_err-events g c =
+pub returns-in_err-events-clause-gives : goal.returns-in_err-events-clause-gives
+returns-in_err-events-clause-gives g c =
     let same = err_from_is_err_and c.from_residual.result c.from_residual.ensures.1 in
     rw (same.1, same.2) (
       refl,

@@ -1,4 +1,4 @@
-use Rattle.std.proofs.Common.{◌≡◌, ◌<◌, refl, sym, ap, subst, ◌∙◌, Some, None, Option}
+use Rattle.std.proofs.Common.{◌≡◌, ◌<◌, refl, sym, ap, subst, ◌∙◌, Some, None, Option, arith}
 use Rattle.std.specs.Prelude.{is_some}
 use Rattle.ft_pairs.specs.ByKey.{ChangesKey, ops_of}
 use Rattle.ft_table.specs.Tabled.{Tabled}
@@ -20,6 +20,7 @@ loop-next-init c =
       there = λ hit is. ap is_some (next_there hits c.args.key None hit (sym c.hit_after-next.ensures ∙ is));
       saved = λ k at. ap (λ (s : Shelved). ops_of s.ops k at) c.self.view_is ∙ begun hits c.args.id c.args.key c.args.self.now.ops c.hit_after-next.result (sym c.hit_after-next.ensures) k at;
       evals = refl;
+      puts = omega arith;
     }
 
 pub loop-next-smaller : goal.loop-next-smaller
@@ -44,6 +45,7 @@ loop-next-preserved c =
       saved = one_further hits c.args.id key c.in-Some.hit c.hit_after-next-in-Some.result next (known.there c.in-Some.hit c.in-Some.is) old mid c.insert.new.self
           (subst (λ (n : Option Hit). ChangesKey key (with_saves_till hits c.args.id key n) old mid) c.in-Some.is known.saved) c.in_ok-insert.ensures.ok;
       evals = c.insert.ensures.evals ∙ known.evals;
+      puts = let before = known.puts in let one = c.insert.ensures.puts in omega (arith, before, one);
     }
 
 pub returns-clause-ok : goal.returns-clause-ok

@@ -1,4 +1,4 @@
-use Rattle.std.proofs.Common.{◌≡◌, true, Some}
+use Rattle.std.proofs.Common.{◌≡◌, ◌≤◌, true, Some}
 use Rattle.std.specs.Prelude.{is_some}
 use Rattle.std.specs.FinMap as map
 use Rattle.ft_event.specs.Places.{pos_cmp}
@@ -16,6 +16,7 @@ invariant-loop-next l = record {
   there : (hit : Hit) → l.next ≡ Some hit → is_some (map.get l.self-inside.table.hits (record { pos = hit.pos; key = l.key })) ≡ true;
   saved : ChangesKey l.key (with_saves_till l.self-inside.table.hits l.id l.key l.next) l.fn.self.ops l.self-inside.pairs;
   evals : l.work.evals ≡ l.fn.work.evals;
+  puts : l.fn.work.puts ≤ l.work.puts;
 }
 
 abbrev pub decreases-loop-next : goal.decreases-loop-next

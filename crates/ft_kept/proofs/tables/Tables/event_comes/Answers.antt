@@ -1,4 +1,4 @@
-use Rattle.std.proofs.Common.{◌≡◌, ℕ, ◌+◌, false, List, ◌∷◌, sym, ap, subst, ◌∙◌, Some, arith}
+use Rattle.std.proofs.Common.{◌≡◌, ℕ, ◌+◌, ◌*◌, false, List, ◌∷◌, sym, ap, subst, ◌∙◌, Some, arith}
 use Rattle.std.specs.Ordering.{nat_cmp}
 use Rattle.std.specs.Cmp.{nat_cmp_total}
 use Rattle.std.specs.List.{AllByRecursion}
@@ -13,11 +13,14 @@ use Rattle.ft_hist.specs.Hist.{Hist}
 use Rattle.ft_maps.specs.Entries.{strictly_sorted}
 use Rattle.ft_maps.specs.Seen.{seen}
 use Rattle.ft_kept.specs.Acts.{IsDoneToo, acts_of, between}
+use Rattle.ft_kept.specs.Bounds.{SomeSaverMoves, with_hit_of}
 use Rattle.ft_kept.specs.Entries.{IsKept}
+use Rattle.ft_kept.specs.Repairs.{asked, count_on}
 use Rattle.ft_kept.specs.Shelves.{role_on, admits_on, kept_on}
 use Rattle.ft_kept.specs.Values.{values_by}
 use Rattle.ft_kept.proofs.Attached.{each_found}
 use Rattle.ft_kept.proofs.Between.{kept_alike, kept_in_role, all_but, done_too, asked_of, asked_more, coming_begins, coming_ends, coming_held, coming_step}
+use Rattle.ft_kept.proofs.FewPuts.{Few, few_first, few_more, few_all, left_refl, left_step, some_moves, steps_refl, steps_trans}
 use Rattle.ft_kept.proofs.Forms.{forms_refl, forms_trans, roles_stay, shelved_stay}
 use Rattle.ft_kept.proofs.tables.Tables.event_comes.Goals as goal
 
@@ -34,6 +37,9 @@ loop-id-init c =
           (subst (λ (es : List (ℕ × Hist)). (q : _) → between (acts_of triggers events) (acts_of triggers (map.insert events c.args.pos c.args.event.now)) c.args.pos (all_but es) q ≡ acts_of triggers events q)
           (sym all) (coming_begins triggers events c.args.pos c.args.event.now)) kept;
       evals = ap (λ (es : List (ℕ × Hist)). c.args.work.now.evals + asked_of c.args.event.now es) all;
+      savers = left_refl (all_but c.into_iter-id-iterator.result) c.args.self.now;
+      puts = few_first c.args.work.now.puts _ _ (ap (asked_of c.args.event.now) all);
+      grow = steps_refl c.args.work.now;
     }
 
 pub act_comes-requires-clause-can : goal.act_comes-requires-clause-can
@@ -83,6 +89,12 @@ loop-id-preserved c =
       evals =
           ap (λ n. n + asked_of c.args.event.now c.next.new.self) c.in_ok-act_comes.ensures.evals
           ∙ omega (arith, asked_more c.args.event.now e c.next.new.self, ap (asked_of c.args.event.now) more, c.loop-id.invariant.evals);
+      savers = left_step e.0 (all_but c.loop-id.id-iterator) (all_but c.next.new.self) too c.args.self.now c.loop-id.self c.act_comes.new.tables c.loop-id.invariant.forms c.in_ok-act_comes.ensures.savers c.loop-id.invariant.savers;
+      puts = few_more c.loop-id.work.puts c.act_comes.new.work.puts (asked e.1 c.args.event.now) (asked_of c.args.event.now c.next.new.self) (c.args.work.now.puts + 3 * count_on triggers c.args.event.now)
+          (subst (λ n. Few (SomeSaverMoves (with_hit_of c.args.pos c.args.event.now) triggers c.args.self.now) c.loop-id.work.puts n (c.args.work.now.puts + 3 * count_on triggers c.args.event.now))
+          (ap (asked_of c.args.event.now) more ∙ asked_more c.args.event.now e c.next.new.self) c.loop-id.invariant.puts)
+          (some_moves (with_hit_of c.args.pos c.args.event.now) triggers c.args.self.now c.loop-id.self c.loop-id.invariant.forms e.0 e.1 attached.0 (c.loop-id.invariant.savers e.0 too.was) c.in_ok-act_comes.ensures.puts);
+      grow = steps_trans c.args.work.now c.loop-id.work c.act_comes.new.work c.loop-id.invariant.grow c.in_ok-act_comes.ensures.grow;
     }
 
 pub returns-clause-right : goal.returns-clause-right
@@ -94,3 +106,21 @@ returns-clause-right c = λ events absent held kept.
     (between (acts_of triggers events) (acts_of triggers (map.insert events c.args.pos c.args.event.now)) c.args.pos (all_but es)) (kept_on c.loop-id.self))
     (rest_all (deref_pair {K = ℕ} {X = Hist}) _ _ _ c.in-None.is c.next.ensures.steps)
     (c.loop-id.invariant.right events absent held kept))
+
+pub returns-in_err-act_comes-clause-puts : goal.returns-in_err-act_comes-clause-puts
+returns-in_err-act_comes-clause-puts c =
+    let triggers : FinMap nat_cmp Hist = seen nat_cmp c.args.triggers.now in
+    let e : ℕ × Hist = (c.in-Some.id.now, c.in-Some.trigger.now) in
+    let more : c.loop-id.id-iterator ≡ e ∷ c.next.new.self = rest_more (deref_pair {K = ℕ} {X = Hist}) _ _ _ _ c.in-Some.is c.next.ensures.steps in
+    let sorted : IsStrictlySortedBy nat_cmp (keys_of (e ∷ c.next.new.self)) = subst (λ (es : List (ℕ × Hist)). IsStrictlySortedBy nat_cmp (keys_of es)) more c.loop-id.invariant.sorted in
+    let attached : AllByRecursion (λ (e : ℕ × Hist). map.get triggers e.0 ≡ Some e.1) (e ∷ c.next.new.self) = subst (AllByRecursion (λ (e : ℕ × Hist). map.get triggers e.0 ≡ Some e.1)) more c.loop-id.invariant.attached in
+    let too : IsDoneToo e.0 (all_but c.loop-id.id-iterator) (all_but c.next.new.self) =
+    subst (λ (es : List (ℕ × Hist)). IsDoneToo e.0 (all_but es) (all_but c.next.new.self)) (sym more) (done_too e c.next.new.self (sorted_head nat_cmp e.0 (keys_of c.next.new.self) sorted)) in
+    few_all c.act_comes.new.work.puts (asked_of c.args.event.now c.next.new.self) (c.args.work.now.puts + 3 * count_on triggers c.args.event.now)
+    (few_more c.loop-id.work.puts c.act_comes.new.work.puts (asked e.1 c.args.event.now) (asked_of c.args.event.now c.next.new.self) (c.args.work.now.puts + 3 * count_on triggers c.args.event.now)
+    (subst (λ n. Few (SomeSaverMoves (with_hit_of c.args.pos c.args.event.now) triggers c.args.self.now) c.loop-id.work.puts n (c.args.work.now.puts + 3 * count_on triggers c.args.event.now))
+    (ap (asked_of c.args.event.now) more ∙ asked_more c.args.event.now e c.next.new.self) c.loop-id.invariant.puts)
+    (some_moves (with_hit_of c.args.pos c.args.event.now) triggers c.args.self.now c.loop-id.self c.loop-id.invariant.forms e.0 e.1 attached.0 (c.loop-id.invariant.savers e.0 too.was) c.act_comes.ensures.puts))
+
+pub returns-clause-puts : goal.returns-clause-puts
+returns-clause-puts c = few_all c.loop-id.work.puts (asked_of c.args.event.now c.loop-id.id-iterator) _ c.loop-id.invariant.puts

@@ -1,4 +1,4 @@
-use Rattle.std.proofs.Common.{◌≡◌, ◌+◌, Some, None}
+use Rattle.std.proofs.Common.{◌≡◌, ◌+◌, ◌*◌, Some, None}
 use Rattle.std.specs.Map.{keys_of}
 use Rattle.std.specs.List.{AllByRecursion}
 use Rattle.std.specs.List.Sorted.{IsStrictlySortedBy}
@@ -9,11 +9,13 @@ use Rattle.ft_event.specs.Places.{pos_cmp}
 use Rattle.ft_event.specs.Traced.{Traced}
 use Rattle.ft_maps.specs.Seen.{seen}
 use Rattle.ft_kept.specs.Acts.{AreHeld, acts_of, between}
+use Rattle.ft_kept.specs.Bounds.{StepsGrow, SomeSaverMoves, with_hit_of}
 use Rattle.ft_kept.specs.Entries.{IsKept}
 use Rattle.ft_kept.specs.Repairs.{AreShelved, count_on}
 use Rattle.ft_kept.specs.Shelves.{FormsStay, role_on, admits_on, kept_on}
 use Rattle.ft_kept.specs.Values.{values_by}
 use Rattle.ft_kept.proofs.Between.{all_but, asked_of}
+use Rattle.ft_kept.proofs.FewPuts.{Few, LeftStay}
 use Rattle.ft_kept.proofs.tables.Tables.event_comes.Given as goal
 
 -- at the event's place the triggers that are done act as with the event, those that are left as without it
@@ -30,4 +32,7 @@ invariant-loop-id l = record {
       (between (acts_of (seen nat_cmp l.triggers) events) (acts_of (seen nat_cmp l.triggers) (map.insert events l.pos l.event)) l.pos (all_but l.id-iterator))
       (kept_on l.self);
   evals : l.work.evals + asked_of l.event l.id-iterator ≡ l.fn.work.evals + count_on (seen nat_cmp l.triggers) l.event;
+  savers : LeftStay (all_but l.id-iterator) l.fn.self l.self;
+  puts : Few (SomeSaverMoves (with_hit_of l.pos l.event) (seen nat_cmp l.triggers) l.fn.self) l.work.puts (asked_of l.event l.id-iterator) (l.fn.work.puts + 3 * count_on (seen nat_cmp l.triggers) l.event);
+  grow : StepsGrow l.fn.work l.work;
 }

@@ -8,7 +8,7 @@ use Rattle.ft_event.specs.declared.pos.Pos.{Pos}
 use Rattle.ft_maps.specs.Mapped.{entries_by}
 use Rattle.ft_board.specs.Merged.{placed}
 use Rattle.ft_board.specs.Named.{has_name}
-use Rattle.ft_board.proofs.merge.merged_events.Given as goal
+use Rattle.ft_board.proofs.merge.events_with.Given as goal
 
 -- with those of the lanes that are left it is all
 abbrev pub invariant-loop-cpu : goal.invariant-loop-cpu

@@ -1,0 +1,305 @@
+-- Event by event the acts of one trigger come to what is kept, or go from it, while those of the others stay.
+use Rattle.std.proofs.Common.{◌≡◌, ◌+◌, ◌<◌, ℕ, Bool, true, false, cond, List, [], ◌∷◌, drop, get_or, length, Bor, refl, sym, ap, subst, ◌∙◌, Option, Some, None}
+use Rattle.std.specs.Prelude.{fold, option_and_then, if◌then◌else◌}
+use Rattle.std.specs.List.{AllByRecursion}
+use Rattle.std.specs.List.Sorted.{IsStrictlySortedBy}
+use Rattle.std.specs.Map.{keys_of, lookup}
+use Rattle.std.specs.Map.Iter.{deref}
+use Rattle.std.specs.Ordering.{nat_cmp, is_eq, eq_by_cmp}
+use Rattle.std.specs.Cmp.{eq_by_cmp_equiv, nat_cmp_total}
+use Rattle.std.specs.declared.cmp.Ordering.TheVariants.{Less}
+use Rattle.std.specs.FinMap as map
+use Rattle.std.specs.FinMap.{find, get-empty, get-entries, get-from_entries, get-insert, get-remove, entries_sorted, same_map, nat_cmp-IsAntisymmetric}
+use Rattle.std.proofs.lemmas.List.{drop_more}
+use Rattle.std.proofs.lemmas.Map.Entries.{option_filter, lookup-filter-values}
+use Rattle.std.proofs.lemmas.Map.Keys.{sorted_head, sorted_tail, IsDistinct-from_sorted}
+use Rattle.ft_event.specs.Places.{pos_cmp, pos_cmp_total, pos_same}
+use Rattle.ft_event.specs.Traced.{Traced, name_of}
+use Rattle.ft_event.specs.declared.event.Name.{Name}
+use Rattle.ft_event.specs.declared.pos.Pos.{Pos}
+use Rattle.ft_hist.specs.Hist.{Hist}
+use Rattle.ft_hist.specs.Hit.{hit, same_name}
+use Rattle.ft_hist.specs.declared.key.Part.{Part}
+use Rattle.ft_kept.specs.Acts.{Acts, AreHeld, Comes, acts_of}
+use Rattle.ft_kept.specs.Entries.{IsKept}
+use Rattle.ft_kept.specs.Repairs.{CanCome, HasCome, CanGo, HasGone}
+use Rattle.ft_kept.specs.Shelves.{Shelves, FormsStay, admits_on, kept_on}
+use Rattle.ft_kept.specs.Values.{values_by}
+use Rattle.ft_lanes.specs.Held.{Lanes, event_at}
+use Rattle.ft_maps.specs.Entries.{get-insert_same, get-insert_other, same_from_tie, strictly_sorted}
+use Rattle.ft_maps.specs.Mapped.{entries_by}
+use Rattle.ft_board.specs.Base.{Triggers, Events}
+use Rattle.ft_board.specs.KeptShelves.{AreKept}
+use Rattle.ft_board.specs.Merged.{merged, merged_with, held_at}
+use Rattle.ft_board.specs.Named.{events_on}
+use Rattle.ft_board.specs.Roles.{role_at}
+use Rattle.ft_board.proofs.Apart.{above-is, all_of, all_map, all_both, entries_found}
+use Rattle.ft_board.proofs.Earlier.{all_above}
+use Rattle.ft_board.proofs.KeptBoardActs.{AllHeld, act_in, with_event, merged_held, acts_held, no_hit}
+use Rattle.ft_board.proofs.KeptBoardBuilt.{from_entries, more_held}
+use Rattle.ft_board.proofs.KeptBoardForms.{HaveShelves, shelves_stay, by_shelves, by_triggers}
+
+abbrev Act : Type 0
+Act = List Part × Traced
+
+-- a trigger's act at the event of a place
+abbrev act_by : Option Hist → Option Traced → Option Act
+act_by hist own = option_and_then (λ (e : Traced). act_in hist e) own
+
+-- ---- events of some names
+
+-- the event has one of the names
+abbrev fits : (Name → Bool) → Traced → Bool
+fits names event = names (name_of event.body)
+
+found : (q : Pos) (es : List (Pos × Traced)) → find pos_cmp q es ≡ lookup (eq_by_cmp pos_cmp q) es
+found q [] = refl
+found q (e ∷ es) = ap (cond (eq_by_cmp pos_cmp q e.0) (Some e.1)) (found q es)
+
+-- the event of such a name at a place is the one there, if it has one
+get-events_on : (names : Name → Bool) (events : Events) (q : Pos) → map.get (events_on names events) q ≡ option_filter (fits names) (map.get events q)
+unfolding events_on
+get-events_on names events q =
+    get-from_entries pos_cmp_total _ q
+    ∙ found q _
+    ∙ lookup-filter-values (eq_by_cmp_equiv pos_cmp_total) (fits names) q (map.entries events) (IsDistinct-from_sorted pos_cmp (map.keys events) (strictly_sorted pos_cmp (map.entries events) (entries_sorted events)))
+    ∙ ap (option_filter (fits names)) (sym (found q (map.entries events)) ∙ sym (get-entries events q))
+
+passed : (p : Traced → Bool) (o : Option Traced) (event : Traced) → option_filter p o ≡ Some event → o ≡ Some event
+passed p None event is = is
+passed p (Some own) event is =
+    elim (p own) as (λ (b : Bool). cond b (Some own) None ≡ Some event → Some own ≡ Some event) [
+      | true ↦ λ e. e
+      | false ↦ λ e. let both : ◌≡◌ {A = Option Traced} None (Some event) = e in absurd cc
+    ] is
+
+-- events of some names are held, as all are
+on_held : (lanes : Lanes) (names : Name → Bool) → AllHeld lanes (events_on names (merged lanes))
+on_held lanes names pos event is = merged_held lanes pos event (passed (fits names) (map.get (merged lanes) pos) event (sym (get-events_on names (merged lanes) pos) ∙ is))
+
+all_held : (lanes : Lanes) (events : Events) → AllHeld lanes events → AllByRecursion (λ e. held_at lanes e.0 ≡ Some e.1) (map.entries events)
+all_held lanes events held = all_map _ _ (λ e is. held e.0 e.1 is) (map.entries events) (entries_found pos_cmp pos_cmp_total events)
+
+-- an event of another name is no hit
+on_name : (hist : Hist) (own : Option Traced) → act_by (Some hist) (option_filter (fits (same_name hist.event)) own) ≡ act_by (Some hist) own
+on_name hist None = refl
+on_name hist (Some event) =
+    elim (fits (same_name hist.event) event) as (λ (b : Bool). fits (same_name hist.event) event ≡ b → act_by (Some hist) (cond b (Some event) None) ≡ act_by (Some hist) (Some event)) [
+      | true ↦ λ _. refl
+      | false ↦ λ other. sym (ap (with_event event) (no_hit hist event other))
+    ] refl
+
+-- the held events on a trigger's name
+abbrev pub own_events : Lanes → Hist → Events
+own_events lanes hist = events_on (same_name hist.event) (merged lanes)
+
+-- events of a list
+abbrev pub events_of : List (Pos × Traced) → Events
+events_of es = map.from_entries es
+
+-- ---- acts on the way
+
+-- without a trigger there is no act
+no_trigger : (own : Option Traced) → act_by None own ≡ None
+no_trigger None = refl
+no_trigger (Some event) = refl
+
+-- at one trigger the acts are those at some events, and at all others those at all held events
+abbrev pub stage : Triggers → Lanes → ℕ → Events → Acts
+stage triggers lanes id events at = if eq_by_cmp nat_cmp at.trigger id then acts_of triggers events at else acts_of triggers (merged lanes) at
+
+module _ (triggers : Triggers) (lanes : Lanes) (id : ℕ) where
+  without_at : (tie : Bool) (hist : Option Hist) (own : Option Traced) (first : Option Act) → first ≡ None → cond tie first (act_by hist own) ≡ act_by (cond tie None hist) own
+  without_at true hist own first none = none ∙ sym (no_trigger own)
+  without_at false hist own first none = refl
+
+  -- at no events they are the acts without the trigger
+  pub stage_none : stage triggers lanes id map.empty ≡ acts_of (map.remove triggers id) (merged lanes)
+  unfolding acts_of
+  stage_none i at =
+      (without_at (eq_by_cmp nat_cmp at.trigger id) (map.get triggers at.trigger) (map.get (merged lanes) at.pos) (acts_of triggers map.empty at)
+      (ap (act_by (map.get triggers at.trigger)) (get-empty {X = Traced} pos_cmp at.pos))
+      ∙ ap (λ (hist : Option Hist). act_by hist (map.get (merged lanes) at.pos)) (sym (get-remove nat_cmp_total triggers id at.trigger))) i
+
+  -- what shelves keep is that of these acts
+  abbrev pub Keep : Shelves → Acts → Type 0
+  Keep shelves acts = IsKept (role_at triggers) (values_by triggers) (admits_on shelves) acts (kept_on shelves)
+
+  -- shelves are kept with some events of the trigger, which with the rest are all on its name
+  pub record IsJoined (hist : Hist) (shelves : Shelves) (rest : List (Pos × Traced)) : Type 0 where
+    pub events : Events
+    pub each : HaveShelves triggers shelves
+    pub kept : Keep shelves (stage triggers lanes id events)
+    pub all : fold merged_with events rest ≡ own_events lanes hist
+    pub held : AllHeld lanes events
+    pub rest_held : AllByRecursion (λ e. held_at lanes e.0 ≡ Some e.1) rest
+    pub absent : AllByRecursion (λ e. map.get events e.0 ≡ None) rest
+    pub sorted : IsStrictlySortedBy pos_cmp (keys_of rest)
+
+  -- shelves are kept with the events of the trigger that are left
+  pub record IsLeaving (shelves : Shelves) (rest : List (Pos × Traced)) : Type 0 where
+    pub each : HaveShelves triggers shelves
+    pub kept : Keep shelves (stage triggers lanes id (events_of rest))
+    pub held : AllHeld lanes (events_of rest)
+    pub sorted : IsStrictlySortedBy pos_cmp (keys_of rest)
+
+  -- their events are held
+  stage_held : (events : Events) → AllHeld lanes events → AreHeld lanes (stage triggers lanes id events)
+  stage_held events held at key event is =
+      elim (eq_by_cmp nat_cmp at.trigger id) as (λ (b : Bool). cond b (acts_of triggers events at) (acts_of triggers (merged lanes) at) ≡ Some (key, event) → (event_at lanes at.pos.cpu at.pos.line ≡ Some event) × (event.stamp ≡ at.pos.stamp)) [
+        | true ↦ λ here. acts_held triggers lanes events held at key event here
+        | false ↦ λ there. acts_held triggers lanes (merged lanes) (merged_held lanes) at key event there
+      ] is
+
+  module _ (hist : Hist) (attached : map.get triggers id ≡ Some hist) where
+    -- at all events on its name they are all acts
+    stage_all : stage triggers lanes id (own_events lanes hist) ≡ acts_of triggers (merged lanes)
+    unfolding acts_of
+    stage_all i at =
+        (elim (eq_by_cmp nat_cmp at.trigger id) as (λ (b : Bool). eq_by_cmp nat_cmp at.trigger id ≡ b → cond b (acts_of triggers (own_events lanes hist) at) (acts_of triggers (merged lanes) at) ≡ acts_of triggers (merged lanes) at) [
+          | true ↦ λ tie.
+              let its : map.get triggers at.trigger ≡ Some hist = ap (map.get triggers) (same_from_tie nat_cmp-IsAntisymmetric at.trigger id tie) ∙ attached in
+              (λ j. act_by (its j) (get-events_on (same_name hist.event) (merged lanes) at.pos j))
+              ∙ on_name hist (map.get (merged lanes) at.pos)
+              ∙ ap (λ (h : Option Hist). act_by h (map.get (merged lanes) at.pos)) (sym its)
+          | false ↦ λ _. refl
+        ] refl) i
+
+    -- an event more is an act more
+    one_act : (events : Events) (pos : Pos) (event : Traced) → map.get events pos ≡ None
+        → Comes (record { pos = pos; trigger = id }) (with_event event (hit hist event)) (stage triggers lanes id events) (stage triggers lanes id (map.insert events pos event))
+    unfolding acts_of
+    one_act events pos event absent =
+        let tie : eq_by_cmp nat_cmp id id ≡ true = (eq_by_cmp_equiv nat_cmp_total).refl id in
+        record {
+          elsewhere = λ q other. elim (eq_by_cmp nat_cmp q.trigger id) as (λ (b : Bool). eq_by_cmp nat_cmp q.trigger id ≡ b
+              → cond b (acts_of triggers (map.insert events pos event) q) (acts_of triggers (merged lanes) q) ≡ cond b (acts_of triggers events q) (acts_of triggers (merged lanes) q)) [
+                | true ↦ λ here. ap (act_by (map.get triggers q.trigger)) (get-insert_other pos_cmp_total pos_same events pos event q.pos (λ same.
+                    other (λ i. record { pos = same i; trigger = same_from_tie nat_cmp-IsAntisymmetric q.trigger id here i })))
+                | false ↦ λ _. refl
+              ] refl;
+          absent = ap (λ (b : Bool). cond b (act_by (map.get triggers id) (map.get events pos)) (act_by (map.get triggers id) (map.get (merged lanes) pos))) tie ∙ ap (act_by (map.get triggers id)) absent;
+          here = ap (λ (b : Bool). cond b (act_by (map.get triggers id) (map.get (map.insert events pos event) pos)) (act_by (map.get triggers id) (map.get (merged lanes) pos))) tie
+              ∙ (λ i. act_by (attached i) (get-insert_same pos_cmp_total events pos event i));
+        }
+
+    -- ---- events come one by one
+
+    -- at first none of its events has come
+    pub joined_none : (shelves : Shelves) → HaveShelves triggers shelves
+        → Keep shelves (acts_of (map.remove triggers id) (merged lanes))
+        → IsJoined hist shelves (map.entries (own_events lanes hist))
+    joined_none shelves each idle =
+        let events = own_events lanes hist in
+        record {
+          events = map.empty;
+          each = each;
+          kept = subst (Keep shelves) (sym stage_none) idle;
+          all = from_entries triggers lanes events;
+          held = λ pos event is. let both : ◌≡◌ {A = Option Traced} None (Some event) = sym (get-empty {X = Traced} pos_cmp pos) ∙ is in absurd cc;
+          rest_held = all_held lanes events (on_held lanes (same_name hist.event));
+          absent = all_of _ (λ e. get-empty {X = Traced} pos_cmp e.0) (map.entries events);
+          sorted = strictly_sorted pos_cmp (map.entries events) (entries_sorted events);
+        }
+
+    -- the next one can come
+    pub act_can_come : (shelves : Shelves) (e : Pos × Traced) (rest : List (Pos × Traced)) → IsJoined hist shelves (e ∷ rest)
+        → CanCome triggers lanes (record { pos = e.0; trigger = id }) (with_event e.1 (hit hist e.1)) shelves
+    act_can_come shelves e rest is = record {
+      before = stage triggers lanes id is.events;
+      after = stage triggers lanes id (map.insert is.events e.0 e.1);
+      comes = one_act is.events e.0 e.1 is.absent.0;
+      held = stage_held (map.insert is.events e.0 e.1) (more_held lanes is.events e.0 e.1 is.held is.rest_held.0);
+      kept = by_shelves triggers shelves is.each (admits_on shelves) (stage triggers lanes id is.events) (kept_on shelves) is.kept;
+    }
+
+    -- and then one more has come
+    pub joined_more : (old new : Shelves) (e : Pos × Traced) (rest : List (Pos × Traced)) → IsJoined hist old (e ∷ rest) → FormsStay old new
+        → HasCome triggers lanes (record { pos = e.0; trigger = id }) (with_event e.1 (hit hist e.1)) old new → IsJoined hist new rest
+    joined_more old new e rest is forms come =
+        let more = map.insert is.events e.0 e.1 in
+        let held = more_held lanes is.events e.0 e.1 is.held is.rest_held.0 in
+        let apart = all_above pos_cmp e.0 (λ q. eq_by_cmp pos_cmp q e.0 ≡ false) (λ q less. above-is pos_cmp pos_cmp_total e.0 q less) rest (sorted_head pos_cmp e.0 (keys_of rest) is.sorted) in
+        record {
+          events = more;
+          each = shelves_stay triggers old new is.each forms;
+          kept = by_triggers triggers old is.each (admits_on new) (stage triggers lanes id more) (kept_on new)
+              (come (stage triggers lanes id is.events) (stage triggers lanes id more) (one_act is.events e.0 e.1 is.absent.0) (stage_held more held)
+              (by_shelves triggers old is.each (admits_on old) (stage triggers lanes id is.events) (kept_on old) is.kept));
+          all = is.all;
+          held = held;
+          rest_held = is.rest_held.1;
+          absent = all_both _ _ _ (λ (x : Pos × Traced) none other. get-insert pos_cmp_total is.events e.0 e.1 x.0 ∙ ap (λ (b : Bool). cond b (Some e.1) (map.get is.events x.0)) other ∙ none) rest is.absent.1 apart;
+          sorted = sorted_tail pos_cmp e.0 (keys_of rest) is.sorted;
+        }
+
+    -- with all events on its name what is kept is that of all acts
+    pub joined_all : (shelves : Shelves) → IsJoined hist shelves [] → AreKept triggers (merged lanes) shelves
+    joined_all shelves is = record {
+      each = is.each;
+      kept = subst (Keep shelves) (ap (stage triggers lanes id) is.all ∙ stage_all) is.kept;
+    }
+
+    -- ---- events go one by one
+
+    of_entries : (events : Events) → events_of (map.entries events) ≡ events
+    of_entries events = same_map pos_cmp_total pos_same (events_of (map.entries events)) events (λ q. get-from_entries pos_cmp_total (map.entries events) q ∙ sym (get-entries events q))
+
+    -- at first all of its events are left
+    pub leaving_all : (shelves : Shelves) → AreKept triggers (merged lanes) shelves → IsLeaving shelves (map.entries (own_events lanes hist))
+    leaving_all shelves kept =
+        let events = own_events lanes hist in
+        record {
+          each = kept.each;
+          kept = subst (Keep shelves) (sym (ap (stage triggers lanes id) (of_entries events) ∙ stage_all)) kept.kept;
+          held = subst (AllHeld lanes) (sym (of_entries events)) (on_held lanes (same_name hist.event));
+          sorted = strictly_sorted pos_cmp (map.entries events) (entries_sorted events);
+        }
+
+    -- behind a place there is nothing at it
+    nothing_behind : (k : Pos) (rest : List (Pos × Traced)) → AllByRecursion (λ q. pos_cmp k q ≡ Less) (keys_of rest) → map.get (events_of rest) k ≡ None
+    nothing_behind k rest above = get-from_entries pos_cmp_total rest k ∙ none rest above
+      where
+        none : (es : List (Pos × Traced)) → AllByRecursion (λ q. pos_cmp k q ≡ Less) (keys_of es) → find pos_cmp k es ≡ None
+        none [] h = refl
+        none (e ∷ es) h = ap (λ (b : Bool). cond b (Some e.1) (find pos_cmp k es)) (ap is_eq h.0) ∙ none es h.1
+
+    -- the next one can go
+    pub act_can_go : (shelves : Shelves) (e : Pos × Traced) (rest : List (Pos × Traced)) → IsLeaving shelves (e ∷ rest)
+        → CanGo triggers lanes (record { pos = e.0; trigger = id }) (with_event e.1 (hit hist e.1)) shelves
+    act_can_go shelves e rest is = record {
+      before = stage triggers lanes id (events_of (e ∷ rest));
+      after = stage triggers lanes id (events_of rest);
+      goes = one_act (events_of rest) e.0 e.1 (nothing_behind e.0 rest (sorted_head pos_cmp e.0 (keys_of rest) is.sorted));
+      held = stage_held (events_of (e ∷ rest)) is.held;
+      kept = by_shelves triggers shelves is.each (admits_on shelves) (stage triggers lanes id (events_of (e ∷ rest))) (kept_on shelves) is.kept;
+    }
+
+    fewer_held : (e : Pos × Traced) (rest : List (Pos × Traced)) → IsStrictlySortedBy pos_cmp (keys_of (e ∷ rest)) → AllHeld lanes (events_of (e ∷ rest)) → AllHeld lanes (events_of rest)
+    fewer_held e rest sorted held pos event is =
+        let none = nothing_behind e.0 rest (sorted_head pos_cmp e.0 (keys_of rest) sorted) in
+        held pos event (get-insert_other pos_cmp_total pos_same (events_of rest) e.0 e.1 pos (λ same.
+        let both : ◌≡◌ {A = Option Traced} None (Some event) = sym none ∙ ap (map.get (events_of rest)) (sym same) ∙ is in absurd cc) ∙ is)
+
+    -- and then one fewer is left
+    pub leaving_fewer : (old new : Shelves) (e : Pos × Traced) (rest : List (Pos × Traced)) → IsLeaving old (e ∷ rest) → FormsStay old new
+        → HasGone triggers lanes (record { pos = e.0; trigger = id }) (with_event e.1 (hit hist e.1)) old new → IsLeaving new rest
+    leaving_fewer old new e rest is forms gone =
+        let before = events_of (e ∷ rest) in
+        let after = events_of rest in
+        record {
+          each = shelves_stay triggers old new is.each forms;
+          kept = by_triggers triggers old is.each (admits_on new) (stage triggers lanes id after) (kept_on new)
+              (gone (stage triggers lanes id before) (stage triggers lanes id after) (one_act after e.0 e.1 (nothing_behind e.0 rest (sorted_head pos_cmp e.0 (keys_of rest) is.sorted))) (stage_held before is.held)
+              (by_shelves triggers old is.each (admits_on old) (stage triggers lanes id before) (kept_on old) is.kept));
+          held = fewer_held e rest is.sorted is.held;
+          sorted = sorted_tail pos_cmp e.0 (keys_of rest) is.sorted;
+        }
+
+    -- with no events left what is kept is that of the others' acts
+    pub leaving_none : (shelves : Shelves) → IsLeaving shelves [] → Keep shelves (acts_of (map.remove triggers id) (merged lanes))
+    leaving_none shelves is = subst (Keep shelves) stage_none is.kept
+
+-- the first of the events that are left
+pub first_left : (es : List (Pos × Bor Traced)) (i : ℕ) (e : Pos × Bor Traced) → i < length es → e ≡ get_or es i e → entries_by deref (drop i es) ≡ (e.0, e.1.now) ∷ entries_by deref (drop (i + 1) es)
+first_left es i e within is = ap (entries_by deref) (drop_more es i e within ∙ ap (λ (x : Pos × Bor Traced). x ∷ drop (i + 1) es) (sym is))

@@ -1,0 +1,12 @@
+use Rattle.std.proofs.Common.{drop}
+use Rattle.std.specs.Map.Iter.{deref}
+use Rattle.std.specs.Ordering.{nat_cmp}
+use Rattle.ft_kept.specs.Bounds.{StepsGrow}
+use Rattle.ft_maps.specs.Mapped.{entries_by}
+use Rattle.ft_maps.specs.Seen.{seen}
+use Rattle.ft_board.proofs.OneTrigger.{IsLeaving}
+use Rattle.ft_board.proofs.leave.take_acts.Given as goal
+
+-- the tables are kept with the trigger's events that are left, and no count fell
+abbrev pub invariant-loop-pos : goal.invariant-loop-pos
+invariant-loop-pos l = IsLeaving (seen nat_cmp l.triggers) l.lanes l.id l.tables (entries_by deref (drop l.pos-index l.pos-items)) × StepsGrow l.fn.work l.work

@@ -1,0 +1,20 @@
+use Rattle.std.proofs.Common.{sym, subst, ◌∙◌}
+use Rattle.std.specs.FinMap as map
+use Rattle.ft_hist.specs.Hist.{Hist}
+use Rattle.ft_kept.specs.Shelves.{Shelves}
+use Rattle.ft_board.specs.Base.{Base}
+use Rattle.ft_board.specs.OneTrigger.{AreKeptBut}
+use Rattle.ft_board.proofs.Leaving.{idle_leaves, other_leaves}
+use Rattle.ft_board.proofs.leave.take_trigger.Goals as goal
+use Rattle.ft_board.proofs.leave.take_trigger.Goals.{then-is_reader+in_ok-take_acts, else-is_reader}
+
+pub returns-clause-but : goal.returns-clause-but
+returns-clause-but c =
+    let base : Base = c.args.content.now in
+    let hist : Hist = c.args.trigger.now in
+    let left : AreKeptBut c.args.id base (map.remove c.if-is_reader.tables c.args.id) = elim c.if-is_reader.branch [
+      | then-is_reader+in_ok-take_acts w ↦ subst (λ (s : Shelves). AreKeptBut c.args.id base (map.remove s c.args.id)) (sym w.tables-is) (idle_leaves base c.args.id c.requires.unread w.take_acts.new.tables w.in_ok-take_acts.ensures.idle)
+      | else-is_reader w ↦ subst (λ (s : Shelves). AreKeptBut c.args.id base (map.remove s c.args.id)) (sym w.tables-is)
+          (other_leaves base c.args.id c.requires.unread c.args.tables.now hist c.requires.attached (sym c.is_reader.ensures ∙ w.if-is_reader.false) c.requires.kept)
+    ] in
+    subst (AreKeptBut c.args.id base) (sym c.drop_shelf.ensures) left

@@ -1,0 +1,58 @@
+-- How many steps a repair takes.
+use Rattle.std.specs.Prelude.{◌≡◌, ℕ, ◌≤◌, Option, Some, None, option_map}
+use Rattle.std.specs.Option.{option_map_or}
+use Rattle.std.specs.Ordering.{nat_cmp}
+use Rattle.std.specs.FinMap as map
+use Rattle.std.specs.FinMap.{FinMap}
+use Rattle.ft_event.specs.Traced.{Traced}
+use Rattle.ft_event.specs.declared.pos.Pos.{Pos}
+use Rattle.ft_hist.specs.Hist.{Hist}
+use Rattle.ft_hist.specs.Hit.{hit}
+use Rattle.ft_hist.specs.Steps.{Steps}
+use Rattle.ft_table.specs.Growth.{with_hit}
+use Rattle.ft_table.specs.OneKey.{without_hit}
+use Rattle.ft_table.specs.Tabled.{Tabled, is_in}
+use Rattle.ft_kept.specs.Shelves.{Shelves, role_on}
+use Rattle.ft_kept.specs.Switches.{HasMoved}
+use Rattle.ft_kept.specs.Values.{values_at}
+use Rattle.ft_kept.specs.declared.role.Role.TheVariants.{Saves}
+
+-- no count of steps falls (our own choice)
+pub record StepsGrow (old new : Steps) : Type 0 where
+  pub evals : old.evals ≤ new.evals
+  pub puts : old.puts ≤ new.puts
+
+-- what becomes of a trigger's table (our own choice)
+abbrev pub TableEdit : Type 0
+TableEdit = Hist → Tabled → Tabled
+
+-- a saver's table as an event comes: with its hit, if it is one (kernel: histogram.rst, hist triggers)
+abbrev pub with_hit_of : Pos → Traced → TableEdit
+with_hit_of pos event hist table = option_map_or (λ key. with_hit table (record { pos = pos; key = key }) (values_at hist pos event None)) (hit hist event) table
+
+-- a table as an event goes: without its hit, if it was one (kernel: histogram.rst, hist triggers)
+abbrev pub without_hit_of : Pos → Traced → TableEdit
+without_hit_of pos event hist table = option_map_or (λ key. without_hit table (record { pos = pos; key = key })) (hit hist event) table
+
+-- a trigger's table, where it has a shelf (our own choice)
+abbrev pub table_on : Shelves → ℕ → Option Tabled
+table_on shelves id = option_map (λ shelf. shelf.table) (map.get shelves id)
+
+-- some key comes into a trigger's table or goes out, as the table changes so (our own choice)
+abbrev pub TableMoves : (Tabled → Tabled) → Shelves → ℕ → Type 0
+TableMoves edit shelves id = (table : Tabled) × ((table_on shelves id ≡ Some table) × HasMoved (is_in table) (is_in (edit table)))
+
+-- the trigger with an id saves, and some key comes into its table or goes out, as tables change so (our own choice)
+abbrev pub SaverMoves : TableEdit → Hist → Shelves → ℕ → Type 0
+SaverMoves edit hist shelves id = (role_on shelves id ≡ Saves) × TableMoves (edit hist) shelves id
+
+-- some key comes into an attached saver's table or goes out, as tables change so (our own choice)
+pub record SomeSaverMoves (edit : TableEdit) (triggers : FinMap nat_cmp Hist) (shelves : Shelves) : Type 0 where
+  pub id : ℕ
+  pub hist : Hist
+  pub attached : map.get triggers id ≡ Some hist
+  pub moves : SaverMoves edit hist shelves id
+
+-- the tables of all savers but one trigger stay (our own choice)
+abbrev pub OtherSaversStay : ℕ → Shelves → Shelves → Type 0
+OtherSaversStay id old new = (other : ℕ) → (other ≡ id → ⊥) → role_on old other ≡ Saves → table_on new other ≡ table_on old other
