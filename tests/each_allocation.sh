@@ -1,6 +1,7 @@
 #!/usr/bin/env bash
 # each_allocation.sh [CRATE]..: runs tests with each allocation refused in turn, of all crates below or
-# of these. Each of the tests must pass whichever allocation is refused:
+# of these. They ask a second time for what found no memory, which no run of the program does: it ends
+# there, and tests/growths.py shows how. Each of the tests must pass whichever allocation is refused:
 #
 #   ft_filter   old_bytes_after_want_of_memory
 #   ft_trigger  old_bytes_after_want_of_memory, answers_after_want_of_memory
@@ -9,16 +10,14 @@
 #   ft_lanes    what_is_refused_leaves_the_lanes, a_refused_rebuild_leaves_the_lanes
 #   ft_board    load_after_want_of_memory, attach_after_want_of_memory, answer_after_want_of_memory,
 #               edits_after_want_of_memory
-#   ft_desk     whole_output_or_that_of_the_commands_before, session_after_want_of_memory,
-#               edits_in_a_row_after_want_of_memory
+#   ft_desk     session_after_want_of_memory, edits_in_a_row_after_want_of_memory
 #
 # A filter or a trigger that is read and written, a load, an inserted event, an attached trigger and the
 # latencies that it measured have the wanted text, value or fault, or answer want of memory with
-# everything as it was, so that they succeed when they are asked again. And a script through `run` prints
-# its whole output, or answers want of memory with the whole output of the commands before. A table, the
-# operations of a key and the lanes are as they were. Edits of a desk over the kept board, with answers
-# between them or after them all, tell and answer what they should, or want of memory and then what they
-# should; an accepted edit answers `Later` just where the desk is deferred, and the next answer ends that.
+# everything as it was, so that they succeed when they are asked again. A table, the operations of a key
+# and the lanes are as they were. Edits of a desk over the kept board, with answers between them or after
+# them all, tell and answer what they should, or want of memory and then what they should; an accepted
+# edit answers `Later` just where the desk is deferred, and the next answer ends that.
 #
 # `rt try`, which proves nothing, compiles a crate's tests anew for each allocation. That took half a
 # minute to three minutes on four processors that other work kept busy. The plain tests below make fewer
@@ -106,7 +105,6 @@ tests_of() {
             ;;
         ft_desk)
             each ft_desk tests::kept_now::each_edit_of_a_session \
-                tests::examples::whole_output_or_that_of_the_commands_before \
                 tests::want_of_memory::session_after_want_of_memory \
                 tests::want_of_memory::edits_in_a_row_after_want_of_memory
             ;;

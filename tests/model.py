@@ -3,138 +3,25 @@
 
     model.py SCRIPT [TRACE]... > OUTPUT
 
-It knows what random_script.py writes, and no more: lines without faults, a few forms of triggers and of filters. It was
-written from docs/FORMAT.md and docs/MEANING.md, and shares nothing with the program.
+It was written from docs/FORMAT.md and docs/MEANING.md, and shares nothing with the program. Its other parts are
+model_line.py, model_filter.py and model_trigger.py. It knows nothing of what is planned there.
 """
 
 import re
 import sys
 
-MASK = (1 << 64) - 1
-LINE = re.compile(r"\s*(.*?)-(\d+)\s+\[(\d+)\] \S+ +(\d+)\.(\d{6}): (\w+): (.*)$")
-WAKE = re.compile(r"comm=(.*) pid=(-?\d+) prio=(-?\d+) target_cpu=(\d+)$")
-TURN = re.compile(
-    r"prev_comm=(.*) prev_pid=(-?\d+) prev_prio=(-?\d+) prev_state=(\S+) ==> next_comm=(.*) next_pid=(-?\d+) next_prio=(-?\d+)$"
-)
-TURN_FIELDS = ["prev_comm", "prev_pid", "prev_prio", "prev_state", "next_comm", "next_pid", "next_prio"]
-TEXTS = {"comm", "prev_comm", "prev_state", "next_comm"}
-OPERATORS = {
-    "==": lambda a, b: a == b,
-    "!=": lambda a, b: a != b,
-    "<": lambda a, b: a < b,
-    ">=": lambda a, b: a >= b,
-    "&": lambda a, b: (a & b) != 0,
-}
+# Nothing is written beside the sources.
+sys.dont_write_bytecode = True
+
+from model_filter import FilterFault, read_filter
+from model_line import EVENTS, LineFault, line_text, read_line
+from model_trigger import MASK, Trigger, TriggerFault, field_of
+
+MOST_EVENTS = 1048576
 
 
 class Refused(Exception):
     """A command is refused: its number and its detail."""
-
-
-def read_event(line):
-    task, pid, cpu, seconds, micros, name, payload = LINE.match(line).groups()
-    if name == "sched_switch":
-        said = dict(zip(TURN_FIELDS, TURN.match(payload).groups()))
-    else:
-        said = dict(zip(["comm", "pid", "prio", "target_cpu"], WAKE.match(payload).groups()))
-    for field in said:
-        if field not in TEXTS:
-            said[field] = int(said[field])
-    return {"task": task, "line_pid": int(pid), "cpu": int(cpu), "stamp": int(seconds) * 10**6 + int(micros), "name": name, "said": said}
-
-
-def event_text(event):
-    said, stamp = event["said"], event["stamp"]
-    fields = [f"{f}={said[f]:03}" if f == "target_cpu" else f"{f}={said[f]}" for f in said if not f.startswith("next_")]
-    if event["name"] == "sched_switch":
-        fields += ["==>"] + [f"{f}={said[f]}" for f in said if f.startswith("next_")]
-    payload = " ".join(fields)
-    return f"{event['task']}-{event['line_pid']} [{event['cpu']:03}] {stamp // 10**6}.{stamp % 10**6:06}: {event['name']}: {payload}"
-
-
-def field_of(event, field):
-    if field == "common_pid":
-        return event["line_pid"]
-    return event["cpu"] if field == "common_cpu" else event["said"][field]
-
-
-def read_filter(text):
-    """Comparisons of a field with a number, joined by `&&`."""
-    tests = []
-    for part in text.split(" && "):
-        field, operator, number = part.split()
-        tests.append((field, OPERATORS[operator], int(number)))
-    return lambda event: all(test(field_of(event, field), number) for field, test, number in tests)
-
-
-class Trigger:
-    """A trigger of the forms that are written: its parts, and its canonical text."""
-
-    def __init__(self, event, text):
-        head, _, self.condition = text.partition(" if ")
-        self.event, self.keys, self.values, self.sort, self.size = event, [], [], [("hitcount", False)], 2048
-        self.saves = self.reads = self.own = None
-        variable = ""
-        for part in head.split(":")[1:]:
-            word, _, rest = part.partition("=")
-            if word == "keys":
-                self.keys = [tuple((item + ".").split(".")[:2]) for item in rest.split(",")]
-            elif word == "vals":
-                self.values = rest.split(",")
-            elif word == "sort":
-                self.sort = [(item.split(".")[0], item.endswith(".descending")) for item in rest.split(",")]
-            elif word == "size":
-                self.size = 1 << (int(rest) - 1).bit_length()
-            else:
-                variable, self.own = f":{part}", word
-                self.reads = rest.partition("-$")[2] or None
-                self.saves = None if self.reads else word
-        keys = ",".join(field + ("." + mode if mode else "") for field, mode in self.keys)
-        values = "".join("," + value for value in self.values)
-        sort = ",".join(name + (".descending" if down else "") for name, down in self.sort)
-        self.head = f"hist:keys={keys}:vals=hitcount{values}{variable}:sort={sort}:size={self.size}"
-        self.filter_by(self.condition)
-
-    def filter_by(self, condition):
-        self.condition = condition
-        self.passes = read_filter(condition) if condition else lambda event: True
-        self.text = self.head + (f" if {condition}" if condition else "")
-
-    def kinds(self):
-        return [(field in TEXTS, mode if mode not in ("", "hex") else "") for field, mode in self.keys]
-
-    def key_of(self, event):
-        return tuple(component(field_of(event, field), mode) for field, mode in self.keys)
-
-
-def component(value, mode):
-    """A component of a key, with its kind in front, so that components are ordered as they should be."""
-    if isinstance(value, str):
-        return (3, value.encode())
-    if mode == "log2":
-        whole = value & MASK
-        return (1, 0 if whole == 0 else (whole - 1).bit_length())
-    if mode.startswith("buckets="):
-        whole, size = value & MASK, int(mode[8:])
-        return (2, whole - whole % size)
-    return (0, value)
-
-
-def key_text(trigger, key):
-    parts = []
-    for (field, mode), (_, value) in zip(trigger.keys, key):
-        if mode == "hex":
-            shown = f"{value & MASK:x}"
-        elif mode == "log2":
-            shown = f"~ 2^{value:<2}"
-        elif mode.startswith("buckets="):
-            shown = f"~ {value}-{min(value + int(mode[8:]) - 1, MASK)}"
-        elif isinstance(value, bytes):
-            shown = f"{value.decode():<50}"
-        else:
-            shown = f"{value & MASK:10}"
-        parts.append(f"{field}: {shown}")
-    return "{ " + ", ".join(parts) + " }"
 
 
 class Desk:
@@ -144,19 +31,45 @@ class Desk:
     # ---- edits
 
     def load(self, lines):
-        events = [read_event(line) for line in lines if line.strip() and not line.startswith("#")]
+        events = []
+        for number, line in enumerate(lines, 1):
+            event = read_or_refuse(line, number)
+            if event:
+                events.append(event)
         for event in events:
             if event["cpu"] in self.lanes:
                 raise Refused(f"4: cpu {event['cpu']}")
+        self.needs_room(len(events))
         for event in events:
             self.put(event)
         return f"loaded {len(events)}"
+
+    def insert(self, line):
+        event = read_or_refuse(line, 1)
+        if not event:
+            raise Refused("6")
+        self.needs_room(1)
+        return f"inserted {self.put(event)}"
+
+    def needs_room(self, count):
+        if sum(len(lane["events"]) for lane in self.lanes.values()) + count > MOST_EVENTS:
+            raise Refused("7")
 
     def put(self, event):
         lane = self.lanes.setdefault(event["cpu"], {"events": {}, "next": 1})
         lane["events"][lane["next"]] = event
         lane["next"] += 1
         return f"{event['cpu']}:{lane['next'] - 1}"
+
+    def strike(self, cpu, line):
+        if self.lane(cpu)["events"].pop(line, None) is None:
+            raise Refused("6")
+        return f"struck {cpu}:{line}"
+
+    def unload(self, cpu):
+        lane = self.lane(cpu)
+        del self.lanes[cpu]
+        return f"unloaded {len(lane['events'])}"
 
     def lane(self, cpu):
         if cpu not in self.lanes:
@@ -172,7 +85,10 @@ class Desk:
         return next((i for i, t in sorted(self.triggers.items()) if t.saves == name), None)
 
     def attach(self, event, text):
-        trigger = Trigger(event, text)
+        try:
+            trigger = Trigger(event, text)
+        except TriggerFault as fault:
+            raise Refused(f"8: {fault}")
         if len(self.triggers) == 64:
             raise Refused("15")
         if trigger.saves and self.saver_of(trigger.saves) is not None:
@@ -186,6 +102,15 @@ class Desk:
         self.triggers[self.next_id] = trigger
         self.next_id += 1
         return f"attached {self.next_id - 1}"
+
+    def refilter(self, number, text):
+        """With no text the trigger has no filter any more."""
+        trigger = self.trigger(number)
+        try:
+            trigger.filter = None if text is None else read_filter(text, trigger.fields)
+        except FilterFault as fault:
+            raise Refused(f"9: {fault.text()}")
+        return f"refiltered {number}"
 
     def remove(self, number):
         trigger = self.trigger(number)
@@ -204,7 +129,7 @@ class Desk:
         for pos in merged:
             event = self.lanes[pos[1]]["events"][pos[2]]
             for number, trigger in sorted(self.triggers.items()):
-                if trigger.event == event["name"] and trigger.passes(event):
+                if trigger.is_hit(event):
                     self.act(number, trigger, pos, event, state[number], variables)
         return state
 
@@ -247,10 +172,10 @@ class Desk:
     def hist(self, number):
         trigger = self.trigger(number)
         told = self.replay()[number]
-        lines = ["# event histogram", "#", f"# trigger info: {trigger.text} [active]", "#", ""]
+        lines = ["# event histogram", "#", f"# trigger info: {trigger.text()} [active]", "#", ""]
         for key, row in self.rows(trigger, told["table"]):
             sums = "".join(f"  {value.lstrip('$')}: {total:10}" for value, total in zip(trigger.values, row[1:]))
-            lines.append(f"{key_text(trigger, key)} hitcount: {row[0]:10}{sums}")
+            lines.append(f"{trigger.key_text(key)} hitcount: {row[0]:10}{sums}")
         hits, entries, dropped = self.counts(told)
         return "\n".join(lines + ["", "Totals:", f"    Hits: {hits}", f"    Entries: {entries}", f"    Dropped: {dropped}"])
 
@@ -267,47 +192,90 @@ class Desk:
 
     def list(self, cpu):
         lane = self.lane(cpu)["events"]
-        return "\n".join(f"{cpu}:{line} {event_text(event)}" for line, event in sorted(lane.items()))
+        return "\n".join(f"{cpu}:{line} {line_text(event)}" for line, event in sorted(lane.items()))
 
     # ---- commands
 
     def perform(self, line, traces):
-        word, _, rest = line.partition(" ")
-        if word == "load":
-            return self.load(traces[int(rest[1:]) - 1])
-        if word == "unload":
-            lane = self.lane(int(rest))
-            del self.lanes[int(rest)]
-            return f"unloaded {len(lane['events'])}"
-        if word == "insert":
-            return f"inserted {self.put(read_event(rest))}"
-        if word == "strike":
-            cpu, at = map(int, rest.split(":"))
-            if self.lane(cpu)["events"].pop(at, None) is None:
-                raise Refused("6")
-            return f"struck {rest}"
+        """The output of a script's line, without its last end of line."""
+        if len(line) > 8192:
+            raise Refused("16")
+        if not line.strip(" ") or line.startswith("#"):
+            return ""
+        if line == "insert" or line.startswith("insert "):
+            return self.insert(line[7:])
+        word, rest = split(line.strip(" "))
         if word == "attach":
-            return self.attach(*rest.split(" ", 1))
+            event, text = split(rest)
+            if event not in EVENTS:
+                raise Refused("16")
+            return self.attach(event, text)
+        if word == "load":
+            number = numbers("@", rest)[0]
+            if not 1 <= number <= len(traces):
+                raise Refused("2")
+            return self.load(traces[number - 1])
+        if word == "strike":
+            cpu, _, at = rest.partition(":")
+            return self.strike(*numbers("", cpu, at))
         if word == "filter":
-            number, how = rest.split(" ", 1)
-            self.trigger(int(number)).filter_by("" if how == "none" else how[3:])
-            return f"refiltered {number}"
-        if word == "remove":
-            return self.remove(int(rest))
-        return {"hist": self.hist, "totals": self.totals, "lat": self.latencies, "list": self.list}[word](int(rest))
+            return self.perform_filter(rest)
+        do = {"unload": self.unload, "remove": self.remove, "list": self.list}
+        do |= {"hist": self.hist, "totals": self.totals, "lat": self.latencies}
+        if word not in do:
+            raise Refused("16")
+        return do[word](*numbers("", rest))
+
+    def perform_filter(self, text):
+        number, rest = split(text)
+        how, text = split(rest)
+        (number,) = numbers("", number)
+        if how == "none" and not text:
+            return self.refilter(number, None)
+        if how != "if":
+            raise Refused("16")
+        return self.refilter(number, text)
+
+
+def split(text):
+    """The first word, and the rest behind the gap."""
+    word, _, rest = text.partition(" ")
+    return word, rest.lstrip(" ")
+
+
+def numbers(front, *texts):
+    """The numbers of a command, each behind the same front."""
+    for text in texts:
+        if not re.fullmatch(front + "[0-9]{1,10}", text) or int(text[len(front) :]) >= 2**32:
+            raise Refused("16")
+    return [int(text[len(front) :]) for text in texts]
+
+
+def read_or_refuse(line, number):
+    try:
+        return read_line(line)
+    except LineFault as fault:
+        raise Refused(f"3: line {number} fault {fault}")
+
+
+def lines_of(path):
+    """A file's lines, a character for each byte. A last piece that is not empty is a line too."""
+    with open(path, encoding="latin-1", newline="") as source:
+        lines = source.read().split("\n")
+    return lines if lines[-1] else lines[:-1]
 
 
 def main():
     script, *paths = sys.argv[1:]
-    traces = [open(path).read().split("\n") for path in paths]
+    traces = [lines_of(path) for path in paths]
     desk = Desk()
-    for line in open(script).read().splitlines():
+    for line in lines_of(script):
         try:
             text = desk.perform(line, traces)
         except Refused as refused:
             text = f"refused {refused}"
         if text:
-            print(text)
+            sys.stdout.buffer.write(text.encode("latin-1") + b"\n")
 
 
 main()

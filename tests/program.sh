@@ -1,11 +1,19 @@
 #!/usr/bin/env bash
-# program.sh [PROGRAM]: runs a program, or else the launcher, as a user would: the examples, words,
-# folders, full disks, limits of files, a script that is typed, and random scripts. It prints what went
+# program.sh [HISTDESK [PLAINDESK [CHECKROWS]]]: runs a program as a user would: the rows, the examples,
+# words, folders, full disks, limits of files, a script that is typed, growths of memory that are refused,
+# and random scripts. Where PLAINDESK is given, it runs the rows too, and so does CHECKROWS in its own
+# way. Without words, it runs the launcher and those of the other two that are built. It prints what went
 # wrong, and a last line with the counts.
+#
+# A row is a folder in tests/rows: a script, its traces, its whole output and its exit status.
 set -uo pipefail
 
 here=$(dirname -- "$(realpath -- "${BASH_SOURCE[0]}")")
-histdesk=$(realpath -- "${1:-$here/../histdesk}")
+launcher=$(realpath -- "$here/../histdesk")
+histdesk=$(realpath -- "${1:-$launcher}")
+plaindesk=${2:+$(realpath -- "$2")}
+checkrows=${3:+$(realpath -- "$3")}
+rows=("$here"/rows/*)
 examples=$here/../examples
 # A run that takes more seconds is ended, and fails.
 limit=120
@@ -53,6 +61,71 @@ says() {
     prints "$1" "$folder/line"
 }
 
+# row PROGRAM FOLDER: the program prints the row's whole output, ends with its status and says nothing else.
+row() {
+    local number=1 status traces=()
+    while [[ -e $2/trace$number ]]; do
+        traces+=("$2/trace$number")
+        number=$((number + 1))
+    done
+    timeout "$limit" "$1" "$2/script" "${traces[@]}" >"$folder/out" 2>"$folder/err" </dev/null
+    status=$?
+    if [[ $status != "$(<"$2/status")" || -s $folder/err ]]; then
+        fail "row ${2##*/}, ${1##*/}: status $status, $(<"$folder/err")"
+    elif cmp -s -- "$folder/out" "$2/expected"; then
+        pass
+    else
+        fail "row ${2##*/}, ${1##*/}: other output"
+    fi
+}
+
+# checks PROGRAM: the program, which is given all rows, says that all of them hold.
+checks() {
+    local told status
+    told=$(cd -- "$here/.." && timeout "$limit" "$1" tests/rows/* 2>&1 </dev/null)
+    status=$?
+    if [[ $status == 0 && ${told##*$'\n'} == "${#rows[@]} of ${#rows[@]} rows hold" ]]; then
+        pass
+    else
+        fail "checkrows: status $status, $told"
+    fi
+}
+
+# mixed_row SEED: a folder with a short random script is made a row, by a plain model in Python.
+mixed_row() {
+    local row=$folder/rows/mixed_$1
+    mkdir -p -- "$row"
+    python3 "$here/random_script.py" 60 60 "$1" "$row"
+    mv -- "$row/trace" "$row/trace1"
+    python3 "$here/model.py" "$row/script" "$row/trace1" >"$row/expected"
+    echo 0 >"$row/status"
+    if grep -q '^refused ' "$row/expected"; then
+        echo 1 >"$row/status"
+    fi
+}
+
+# growths PROGRAM ROW..: with each growth of its memory refused in turn, the program prints a row's whole
+# output, or that of its first commands and that memory ran out. Each row is a test.
+growths() {
+    local told good all
+    if ! cc -O2 -shared -fPIC -o "$folder/refuse_growth.so" "$here/refuse_growth.c" -ldl; then
+        fail "growths refused: not compiled"
+        return
+    fi
+    told=$(python3 "$here/growths.py" "$1" "$folder/refuse_growth.so" "${@:2}" 2>&1)
+    if ! [[ ${told##*$'\n'} =~ ^([0-9]+)' of '([0-9]+)' rows hold' ]]; then
+        fail "growths refused: $told"
+        return
+    fi
+    good=${BASH_REMATCH[1]}
+    all=${BASH_REMATCH[2]}
+    passed=$((passed + good))
+    failed=$((failed + all - good))
+    if ((good < all)); then
+        printf '%s\n' "${told%$'\n'*}"
+    fi
+}
+
 # mixed COMMANDS EVENTS SEED: a random script of edits and answers prints what a plain model in Python prints.
 mixed() {
     mkdir -p -- "$folder/mixed"
@@ -96,6 +169,18 @@ types() {
     fi
 }
 
+# built NAME: where the program of that crate is, if it is built.
+built() {
+    local program=$here/../crates/$1/out/$1
+    if [[ -x $program ]]; then
+        realpath -- "$program"
+    fi
+}
+
+if (($# == 0)); then
+    plaindesk=$(built plaindesk)
+    checkrows=$(built checkrows)
+fi
 # The launcher builds the program where it is stale, which no limit holds for.
 if ! "$histdesk" - </dev/null >/dev/null; then
     echo "not run: $histdesk"
@@ -105,6 +190,16 @@ fi
 : >"$folder/empty"
 printf 'load @1\n' >"$folder/load"
 mkdir "$folder/folder"
+
+for one in "${rows[@]}"; do
+    row "$histdesk" "$one"
+    if [[ -n $plaindesk ]]; then
+        row "$plaindesk" "$one"
+    fi
+done
+if [[ -n $checkrows ]]; then
+    checks "$checkrows"
+fi
 
 gives two_wakings 0 "" "$histdesk" "$examples/two-wakings.script" "$examples/two-wakings.trace"
 prints two_wakings "$examples/two-wakings.expected"
@@ -150,6 +245,15 @@ says one_line_more "refused 7"
 types
 mixed 1000 600 1
 mixed 1000 600 2
+
+# The launcher itself is a script that bash runs, whose growths are none of the program's.
+if [[ $histdesk == "$launcher" ]]; then
+    histdesk=$here/../crates/histdesk/out/histdesk
+fi
+for ((seed = 1; seed <= 10; seed++)); do
+    mixed_row "$seed"
+done
+growths "$histdesk" "${rows[@]}" "$folder"/rows/*
 
 echo "$passed passed, $failed failed"
 ((failed == 0))
