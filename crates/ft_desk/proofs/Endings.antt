@@ -10,8 +10,8 @@ use Rattle.ft_desk.specs.declared.pieces.Taken.TheVariants as takes
 use Rattle.ft_desk.specs.declared.running.Status.{Status}
 use Rattle.ft_desk.specs.declared.running.RunFault.{RunFault}
 use Rattle.ft_desk.specs.declared.running.RunFault.TheVariants as faults
-use Rattle.ft_desk.specs.Lines.{lines_of, ended_lines}
-use Rattle.ft_desk.specs.Script.{asked_by}
+use Rattle.ft_script.specs.Lines.{lines_of, ended_lines}
+use Rattle.ft_script.specs.Script.{asked_by}
 use Rattle.ft_desk.specs.Output.{outcome, output, output_of_lines}
 use Rattle.ft_desk.specs.Run.{status_of, WritesFront, RunEnds}
 use Rattle.ft_desk.specs.Steps.{TakingGives, LineGives, FlushGives}

@@ -3,8 +3,8 @@ use Rattle.std.proofs.Common.{◌≡◌, ℕ, Bool, false, List, [], ◌∷◌, 
 use Rattle.std.specs.Prelude.{◌||◌}
 use Rattle.std.proofs.Math.Bool.{or_assoc, or-false}
 use Rattle.ft_board.specs.Base.{Base, empty_base}
-use Rattle.ft_desk.specs.Lines.{lines_of}
-use Rattle.ft_desk.specs.Script.{asked_by}
+use Rattle.ft_script.specs.Lines.{lines_of}
+use Rattle.ft_script.specs.Script.{asked_by}
 use Rattle.ft_desk.specs.Output.{outcome, output, output_from}
 
 -- what was printed and what the rest prints are the whole output, and so with what was refused

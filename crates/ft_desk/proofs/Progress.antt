@@ -8,8 +8,8 @@ use Rattle.std.proofs.lemmas.Bool.{cases_lt}
 use Rattle.ft_board.specs.Base.{Base, empty_base}
 use Rattle.ft_desk.specs.declared.pieces.Taken.TheVariants as takes
 use Rattle.ft_desk.specs.declared.running.RunFault.{RunFault}
-use Rattle.ft_desk.specs.Lines.{lines_of, ended_lines}
-use Rattle.ft_desk.specs.Script.{asked_by}
+use Rattle.ft_script.specs.Lines.{lines_of, ended_lines}
+use Rattle.ft_script.specs.Script.{asked_by}
 use Rattle.ft_desk.specs.Output.{outcome, output_from, output_of_lines}
 use Rattle.ft_desk.specs.Run.{ReadsWhole, ReadsFront, ReadsLines}
 use Rattle.ft_desk.specs.Steps.{AddsPart, TakingGives, LineGives}

@@ -22,7 +22,7 @@ use Rattle.ft_board.specs.After.{after_load, after_insert, after_attach, after_r
 use Rattle.ft_board.specs.declared.refused.Place.{Place}
 use Rattle.ft_board.specs.declared.refused.Refused.{Refused}
 use Rattle.ft_board.specs.declared.refused.Refused.TheVariants.{Memory, BadLine, NoEvent, BadTrigger, BadFilter, NoTrigger, BadCommand}
-use Rattle.ft_desk.specs.Lines.{lines_of}
+use Rattle.ft_script.specs.Lines.{lines_of}
 
 -- a line's event in front of those of the lines behind it; a line that cannot be read is the fault of all
 abbrev pub line_in_front : ℕ → Result Line LineFault → Result (List Traced) Refused → Result (List Traced) Refused

@@ -1,7 +1,4 @@
-pub mod Lines
 pub mod Reading
-pub mod Script
-pub mod Command
 pub mod Answered
 pub mod Edits
 pub mod Refusals
@@ -9,8 +6,6 @@ pub mod Output
 pub mod Printed
 pub mod Run
 pub mod Steps
-pub mod Files
-pub mod Words
 pub mod Program
 pub use Rattle.ft_event.specs.Traced
 pub use Rattle.ft_event.specs.Line
@@ -29,3 +24,7 @@ pub use Rattle.ft_board.specs.After
 pub use Rattle.ft_board.specs.Edited
 pub use Rattle.ft_board.specs.Shown
 pub use Rattle.ft_board.specs.Answers
+pub use Rattle.ft_script.specs.Lines
+pub use Rattle.ft_script.specs.Script
+pub use Rattle.ft_words.specs.Files
+pub use Rattle.ft_words.specs.Words

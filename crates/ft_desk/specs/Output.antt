@@ -6,8 +6,8 @@ use Rattle.ft_board.specs.declared.refused.Refused.TheVariants.{NoFile, BadComma
 use Rattle.ft_board.specs.Base.{Base, empty_base}
 use Rattle.ft_board.specs.After.{after_unload, after_strike, after_remove}
 use Rattle.ft_board.specs.Answers.{hist_text, totals, latencies, list_text}
-use Rattle.ft_desk.specs.Lines.{lines_of}
-use Rattle.ft_desk.specs.Script.{Asked, asked_by}
+use Rattle.ft_script.specs.Lines.{lines_of}
+use Rattle.ft_script.specs.Script.{Asked, asked_by}
 use Rattle.ft_desk.specs.Answered.{totals_line, numbered, latency_lines}
 use Rattle.ft_desk.specs.Edits.{after_load_text, after_insert_text, after_attach_text, after_refilter_text}
 use Rattle.ft_desk.specs.Refusals.{refused_text}

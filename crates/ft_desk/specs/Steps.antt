@@ -7,7 +7,7 @@ use Rattle.ft_desk.specs.declared.running.Status.{Status}
 use Rattle.ft_desk.specs.declared.running.RunFault.{RunFault}
 use Rattle.ft_desk.specs.declared.running.RunFault.TheVariants as faults
 use Rattle.ft_board.specs.Base.{Base}
-use Rattle.ft_desk.specs.Script.{line_limit}
+use Rattle.ft_script.specs.Script.{line_limit}
 use Rattle.ft_desk.specs.Output.{Outcome}
 use Rattle.ft_desk.specs.Run.{WritesFront}
 

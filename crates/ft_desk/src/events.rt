@@ -8,9 +8,9 @@ ghost use Rattle.ft_board.specs.Edited.{AnswerIs};
 ghost use Rattle.ft_desk.specs.Edits.{events_of, line_in_front, event_or_refused};
 ghost use Rattle.ft_desk.specs.Reading.{in_front};
 
-use crate::lines::next_line;
 use ft_board::Refused;
 use ft_event::{Event, Line, read_cut_line, read_line};
+use ft_script::next_line;
 use std::alloc::Global;
 
 /// Reads every line of a trace text: its events in file order. Refused at the first line that

@@ -6,10 +6,10 @@ ghost use Rattle.ft_desk.specs.Output.{output};
 ghost use Rattle.ft_desk.specs.Run.{status_of};
 
 use crate::desk::Desk;
-use crate::lines::next_line;
 use crate::perform::perform;
 use crate::running::{Status, status_from};
 use ft_board::Board;
+use ft_script::next_line;
 use std::alloc::{AllocError, Global};
 
 /// What a script in memory printed, and how it ended.

@@ -2,16 +2,16 @@
 
 ghost use Rattle.std.specs.Prelude.{◌≡◌, ◌≢◌, ◌++◌, Err, true, codes, map, is_err, IfOk, OnOk, Some, None, MatchOption};
 ghost use Rattle.ft_board.specs.Edited.{EditGives};
-ghost use Rattle.ft_desk.specs.Script.{asked_by};
+ghost use Rattle.ft_script.specs.Script.{asked_by};
 ghost use Rattle.ft_desk.specs.Answered.{totals_line, latency_lines};
 ghost use Rattle.ft_desk.specs.Output.{outcome, file_at, after_load_file};
 ghost use Rattle.ft_desk.specs.Refusals.{refused_text};
 ghost use Rattle.ft_desk.specs.Printed.{printed};
 
 use crate::desk::Desk;
-use crate::script::{Command, read_command};
 use crate::text::{EditValue, done_line, latency_lines, refused_line, totals_line};
 use ft_board::{Board, Done, Latency, Refused};
+use ft_script::{Command, read_command};
 use ft_table::Totals;
 use std::alloc::{AllocError, Global};
 

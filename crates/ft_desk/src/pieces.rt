@@ -1,7 +1,7 @@
 //! Reading a script by pieces of its lines.
 
 ghost use Rattle.std.specs.Prelude.{◌≡◌, ◌≢◌, ◌++◌, ◌+◌, ◌≤◌, take, All, OnOk, vec_len};
-ghost use Rattle.ft_desk.specs.Script.{line_limit};
+ghost use Rattle.ft_script.specs.Script.{line_limit};
 ghost use Rattle.ft_desk.specs.Steps.{CutsAt, TakingGives};
 
 use crate::running::RunFault;

@@ -5,10 +5,9 @@ ghost use Rattle.ft_board.specs.Base.{empty_base};
 ghost use Rattle.ft_desk.specs.Program.{exit_status_of, told_of_words, told_of_run, told_of_file};
 ghost use Rattle.ft_desk.specs.declared.program.Fault.TheVariants.{Memory};
 
-use crate::files::{FileFault, read_file};
 use crate::running::{RunFault, Status, run};
-use crate::words::{WordsFault, read_words};
 use ft_board::Board;
+use ft_words::{FileFault, WordsFault, read_file, read_words};
 use std::alloc::{AllocError, AllocFailed, Global};
 use std::io::{BufReader, ErrorKind, Read};
 use std::rt::{Env, Files};

@@ -3,7 +3,7 @@
 ghost use Rattle.std.specs.Prelude.{◌≡◌, map};
 ghost use Rattle.std.specs.Io.KnownBytes.{Keeps};
 ghost use Rattle.ft_board.specs.Base.{empty_base};
-ghost use Rattle.ft_desk.specs.Script.{asked_by};
+ghost use Rattle.ft_script.specs.Script.{asked_by};
 ghost use Rattle.ft_desk.specs.Output.{outcome};
 ghost use Rattle.ft_desk.specs.Run.{status_of, RunEnds};
 ghost use Rattle.ft_desk.specs.Steps.{LineGives, FlushGives};

@@ -1,8 +1,8 @@
 //! While memory lasts, the kept tables have each edit as soon as it is answered.
 
-use crate::lines::next_line;
 use crate::perform::perform;
 use crate::{Desk, Done, Kept, KeptBoard, Latency, Name, Place, PlainBoard, Refused, Totals};
+use ft_script::next_line;
 use std::alloc::{AllocError, Global};
 use std::test::*;
 

@@ -1,6 +1,6 @@
 use Rattle.std.proofs.Common.{◌+◌, inl, inr, arith}
 use Rattle.std.proofs.lemmas.Result.{err_from_is_err_and}
-use Rattle.ft_desk.specs.Lines.{lines_of}
+use Rattle.ft_script.specs.Lines.{lines_of}
 use Rattle.ft_desk.specs.Edits.{events_from}
 use Rattle.ft_desk.proofs.Reading.{read_more, read_whole, read_refused}
 use Rattle.ft_desk.proofs.events.events_in.Goals as goal

@@ -1,5 +1,5 @@
 use Rattle.std.proofs.Common.{◌≡◌, ◌+◌, ◌≤◌, length}
-use Rattle.ft_desk.specs.Lines.{lines_of}
+use Rattle.ft_script.specs.Lines.{lines_of}
 use Rattle.ft_desk.specs.Edits.{events_of, events_from}
 use Rattle.ft_desk.specs.Reading.{in_front}
 use Rattle.ft_desk.proofs.events.events_in.Given as goal

@@ -1,6 +1,0 @@
-use Rattle.std.proofs.Common.{◌∙◌}
-use Rattle.ft_desk.proofs.WordLemmas.{first_at}
-use Rattle.ft_desk.proofs.script.word_len.Goals as goal
-
-pub returns : goal.returns
-returns c = c.unwrap_or.ensures ∙ first_at 32 c.args.text.now c.memchr.result c.memchr.ensures

@@ -1,0 +1,282 @@
+//! What a line of the script asks for.
+
+ghost use Rattle.std.specs.Prelude.{◌≡◌, ◌==◌, ◌||◌, reverse, slice_index, option_map};
+ghost use Rattle.std.specs.List.{list_all, prefix_len};
+ghost use Rattle.std.specs.Str.{bytes_eq};
+ghost use Rattle.ft_script.specs.Command.{asked};
+ghost use Rattle.ft_script.specs.Script.{asked_by, inserted, worded, numbered, is_space, is_in_word, drop_while, trimmed, first_word, after_word, number_in, load_in, strike_in, struck, attach_in, filter_in, refilter_in};
+
+use ft_event::Name;
+use memchr::memchr;
+
+/// The most bytes of a script line.
+const LINE_LIMIT: usize = 8192;
+
+/// The most digits of a number.
+const MOST_DIGITS: usize = 10;
+
+/// What a line of the script asks for.
+#[derive(Clone, Copy, Debug, PartialEq, Eq)]
+pub enum Command<'a> {
+    /// Nothing: the line is blank or a comment.
+    Nothing,
+    /// To load the trace file of this number, from 1.
+    Load(u32),
+    /// To unload the lane of this CPU.
+    Unload(u32),
+    /// To insert the event of this trace line.
+    Insert(&'a [u8]),
+    /// To strike the event of this CPU's line of this number.
+    Strike(u32, u32),
+    /// To attach the trigger of this text to an event.
+    Attach(Name, &'a [u8]),
+    /// To give the trigger with this id the filter of this text, or none.
+    Refilter(u32, Option<&'a [u8]>),
+    /// To remove the trigger with this id.
+    Remove(u32),
+    /// To print the table of the trigger with this id.
+    Hist(u32),
+    /// To print the totals of the trigger with this id.
+    Totals(u32),
+    /// To print the latencies of the trigger with this id.
+    Latencies(u32),
+    /// To print the lane of this CPU.
+    Lane(u32),
+    /// No command has the line's form.
+    NoForm,
+}
+
+/// Reads a line of the script.
+#[tactic(auto, unfolding(crate::specs::Script::asked_by))]
+pub fn read_command(line: &[u8]) -> Command<'_>
+    ensures { asked result ≡ asked_by line.now }
+{
+    if line.len() > LINE_LIMIT {
+        return Command::NoForm;
+    }
+    if is_silent(line) {
+        return Command::Nothing;
+    }
+    match inserted(line) {
+        Some(text) => Command::Insert(text),
+        None => worded(trim(line)),
+    }
+}
+
+/// The trace line behind `insert` and one space, where they begin the line: all its bytes as they
+/// stand.
+#[tactic(auto, unfolding(crate::specs::Script::inserted))]
+fn inserted(line: &[u8]) -> Option<&[u8]>
+    ensures { option_map (λ text. text.now) result ≡ inserted line.now }
+{
+    match line.strip_prefix(b"insert") {
+        Some([b' ', text @ ..]) => Some(text),
+        Some([]) => Some(&[]),
+        _ => None,
+    }
+}
+
+/// A command by its first word.
+#[tactic(auto, unfolding(crate::specs::Script::worded))]
+fn worded(text: &[u8]) -> Command<'_>
+    ensures { asked result ≡ worded text.now }
+{
+    let (word, rest) = split_word(text);
+    if is(word, b"load") {
+        load(rest)
+    } else if is(word, b"strike") {
+        strike(rest)
+    } else if is(word, b"attach") {
+        attach(rest)
+    } else if is(word, b"filter") {
+        filter(rest)
+    } else {
+        match number(rest) {
+            Some(number) => numbered(word, number),
+            None => Command::NoForm,
+        }
+    }
+}
+
+/// A command about one number, by its word.
+fn numbered<'a>(word: &[u8], number: u32) -> Command<'a>
+    ensures { asked result ≡ numbered word.now number }
+{
+    if is(word, b"unload") {
+        Command::Unload(number)
+    } else if is(word, b"remove") {
+        Command::Remove(number)
+    } else if is(word, b"hist") {
+        Command::Hist(number)
+    } else if is(word, b"totals") {
+        Command::Totals(number)
+    } else if is(word, b"lat") {
+        Command::Latencies(number)
+    } else if is(word, b"list") {
+        Command::Lane(number)
+    } else {
+        Command::NoForm
+    }
+}
+
+/// Whether a word is a text.
+fn is(word: &[u8], text: &[u8]) -> bool
+    ensures { result ≡ bytes_eq word.now text.now }
+{
+    word == text
+}
+
+/// Whether a line is of spaces alone, or a comment.
+fn is_silent(line: &[u8]) -> bool
+    ensures { result ≡ (list_all is_space line.now || slice_index line.now 0 == 35) }
+{
+    is_blank(line) || line.first() == Some(&b'#')
+}
+
+/// Whether a line is of spaces alone.
+fn is_blank(line: &[u8]) -> bool
+    ensures { result ≡ list_all is_space line.now }
+{
+    line.iter().all(|byte| *byte == b' ')
+}
+
+/// A text without spaces at both ends.
+#[tactic(auto, unfolding(crate::specs::Script::trimmed))]
+fn trim(text: &[u8]) -> &[u8]
+    ensures { result.now ≡ trimmed text.now }
+{
+    trim_end(trim_start(text))
+}
+
+/// A text without the spaces in front.
+fn trim_start(text: &[u8]) -> &[u8]
+    ensures { result.now ≡ drop_while is_space text.now }
+{
+    let mut rest = text;
+    while let [b' ', behind @ ..] = rest {
+        rest = behind;
+    }
+    rest
+}
+
+/// A text without the spaces behind.
+fn trim_end(text: &[u8]) -> &[u8]
+    ensures { result.now ≡ reverse (drop_while is_space (reverse text.now)) }
+{
+    let mut rest = text;
+    while let [before @ .., b' '] = rest {
+        rest = before;
+    }
+    rest
+}
+
+/// The first word of a text that no space begins, and what follows it and the spaces behind it.
+#[tactic(auto, unfolding(crate::specs::Script::first_word, crate::specs::Script::after_word))]
+fn split_word(text: &[u8]) -> (&[u8], &[u8])
+    ensures word { result.0.now ≡ first_word text.now }
+    ensures rest { result.1.now ≡ after_word text.now }
+{
+    let (word, rest) = text.split_at(word_len(text));
+    (word, trim_start(rest))
+}
+
+/// How many bytes are before the first space.
+fn word_len(text: &[u8]) -> usize
+    ensures { result ≡ prefix_len is_in_word text.now }
+{
+    memchr(b' ', text).unwrap_or(text.len())
+}
+
+/// Behind `load`: `@` and the number of a trace file.
+#[tactic(auto, unfolding(crate::specs::Script::load_in))]
+fn load(text: &[u8]) -> Command<'_>
+    ensures { asked result ≡ load_in text.now }
+{
+    match text.strip_prefix(b"@") {
+        Some(digits) => match number(digits) {
+            Some(number) => Command::Load(number),
+            None => Command::NoForm,
+        },
+        None => Command::NoForm,
+    }
+}
+
+/// Behind `attach`: an event's name, and a trigger's text.
+#[tactic(auto, unfolding(crate::specs::Script::attach_in))]
+fn attach(text: &[u8]) -> Command<'_>
+    ensures { asked result ≡ attach_in text.now }
+{
+    let (word, trigger) = split_word(text);
+    match Name::called(word) {
+        Some(name) => Command::Attach(name, trigger),
+        None => Command::NoForm,
+    }
+}
+
+/// Behind `strike`: a CPU's number, `:` and a line's number.
+#[tactic(auto, unfolding(crate::specs::Script::strike_in))]
+fn strike(text: &[u8]) -> Command<'_>
+    ensures { asked result ≡ strike_in text.now }
+{
+    match memchr(b':', text) {
+        Some(colon) => struck(number(&text[..colon]), number(&text[colon + 1..])),
+        None => Command::NoForm,
+    }
+}
+
+/// The event to strike, where its CPU and its line are numbers.
+fn struck<'a>(cpu: Option<u32>, line: Option<u32>) -> Command<'a>
+    ensures { asked result ≡ struck cpu line }
+{
+    match (cpu, line) {
+        (Some(cpu), Some(line)) => Command::Strike(cpu, line),
+        _ => Command::NoForm,
+    }
+}
+
+/// Behind `filter`: a trigger's id, and its new filter or none.
+#[tactic(auto, unfolding(crate::specs::Script::filter_in))]
+fn filter(text: &[u8]) -> Command<'_>
+    ensures { asked result ≡ filter_in text.now }
+{
+    let (word, rest) = split_word(text);
+    match number(word) {
+        Some(id) => refilter(id, rest),
+        None => Command::NoForm,
+    }
+}
+
+/// Behind a trigger's id: `if` and a filter's text, or `none` alone.
+#[tactic(auto, unfolding(crate::specs::Script::refilter_in))]
+fn refilter(id: u32, text: &[u8]) -> Command<'_>
+    ensures { asked result ≡ refilter_in id text.now }
+{
+    match text {
+        b"none" => Command::Refilter(id, None),
+        _ => match split_word(text) {
+            (b"if", filter) => Command::Refilter(id, Some(filter)),
+            _ => Command::NoForm,
+        },
+    }
+}
+
+/// A number of 1 to 10 digits, if it is at most 4,294,967,295.
+#[tactic(auto, unfolding(crate::specs::Script::number_in))]
+fn number(text: &[u8]) -> Option<u32>
+    ensures { result ≡ number_in text.now }
+{
+    if text.is_empty() || text.len() > MOST_DIGITS {
+        return None;
+    }
+    let mut value: u64 = 0;
+    for digit in text {
+        if !digit.is_ascii_digit() {
+            return None;
+        }
+        value = value * 10 + u64::from(*digit - b'0');
+    }
+    u32::try_from(value).ok()
+}
+
+#[cfg(test)]
+mod tests;
