@@ -7,7 +7,7 @@ ghost use Rattle.ft_desk.specs.Run.{status_of};
 
 use crate::desk::Desk;
 use crate::lines::next_line;
-use crate::perform::perform;
+use crate::performing::perform;
 use crate::running::{Status, status_from};
 use ft_board::Board;
 use std::alloc::{AllocError, Global};

@@ -1,7 +1,7 @@
 //! While memory lasts, the kept tables have each edit as soon as it is answered.
 
 use crate::lines::next_line;
-use crate::perform::perform;
+use crate::performing::perform;
 use crate::{Desk, Done, Kept, KeptBoard, Latency, Name, Place, PlainBoard, Refused, Totals};
 use std::alloc::{AllocError, Global};
 use std::test::*;
