@@ -1,63 +1,49 @@
-//! Lines of a script over a board without memory: what is refused before the board is asked, and
-//! that want of memory has no line.
+//! What lines of a script print, and that want of memory has no line.
 
 use super::perform;
 use crate::desk::Desk;
 use crate::tests::no_room::NoRoom;
-use std::test::Fail;
+use crate::{Board, KeptBoard};
+use std::alloc::Global;
 
-/// Lines that are refused, each with what it prints. The one trace file has a line without a task.
-fn refused() -> [(&'static [u8], &'static [u8]); 14] {
+/// Lines of a script, each with what it prints and whether it is refused.
+fn lines() -> [(&'static [u8], &'static [u8], bool); 4] {
     [
-        (b"frob", b"refused 16\n"),
-        (b"load @0", b"refused 2\n"),
-        (b"load @2", b"refused 2\n"),
-        (b"load @1", b"refused 3: line 1 fault 1\n"),
-        (b"unload 3", b"refused 5: cpu 3\n"),
-        (b"insert hello", b"refused 3: line 1 fault 1\n"),
-        (b"insert # x", b"refused 6\n"),
-        (b"strike 3:1", b"refused 5: cpu 3\n"),
-        (b"filter 1 if nope == 1", b"refused 10\n"),
-        (b"filter 1 none", b"refused 10\n"),
-        (b"remove 1", b"refused 10\n"),
-        (b"attach wakeup_latency hist:keys=pid", b"refused 16\n"),
-        (
-            b"attach sched_switch hist:keys=pid",
-            b"refused 8: fault 3\n",
-        ),
-        (
-            b"attach sched_waking hist:keys=",
-            b"refused 8: fault 2 at 10\n",
-        ),
+        (b"# hist 1", b"", false),
+        (b"attach sched_waking hist:keys=pid", b"attached 1\n", false),
+        (b"totals 1", b"hits 0 entries 0 dropped 0\n", false),
+        (b"hist 2", b"refused 10\n", true),
     ]
 }
 
-#[test]
-fn prints_refusals(rt: HostRuntime) -> Result<(), Fail> {
-    let mut desk = Desk::new(rt.alloc(), NoRoom);
-    let files = vec![in rt.alloc(); Vec::from_slice(rt.alloc(), b"x\n")?]?;
-    for (line, text) in refused() {
-        let done = perform(&mut desk, rt.alloc(), &files, line)?;
-        assert!(rt; done.refused);
-        assert_eq!(rt; done.text.as_slice(), text);
+/// Whether a line prints that, and is refused or not.
+fn prints<B: Board>(
+    desk: &mut Desk<B>,
+    alloc: Global,
+    line: &[u8],
+    text: &[u8],
+    refused: bool,
+) -> bool {
+    match perform(desk, alloc, &[], line) {
+        Ok(done) => done.text.as_slice() == text && done.refused == refused,
+        Err(_) => false,
     }
-    Ok(())
 }
 
 #[test]
-fn comment_prints_nothing(rt: HostRuntime) -> Result<(), Fail> {
-    let mut desk = Desk::new(rt.alloc(), NoRoom);
-    let files = Vec::new(rt.alloc());
-    let done = perform(&mut desk, rt.alloc(), &files, b"# x")?;
-    assert!(rt; !done.refused);
-    assert!(rt; done.text.is_empty());
-    Ok(())
+fn prints_what_a_line_does(rt: HostRuntime) {
+    let mut desk = Desk::new(rt.alloc(), KeptBoard::new(rt.alloc()));
+    for (line, text, refused) in lines() {
+        assert!(rt;
+            prints(&mut desk, rt.alloc(), line, text, refused),
+            "{line:?}"
+        );
+    }
 }
 
 #[test]
 fn want_of_memory_has_no_line(rt: HostRuntime) {
     let mut desk = Desk::new(rt.alloc(), NoRoom);
-    let files = Vec::new(rt.alloc());
     let lines: [&[u8]; 6] = [
         b"hist 1",
         b"totals 1",
@@ -67,6 +53,6 @@ fn want_of_memory_has_no_line(rt: HostRuntime) {
         b"attach sched_waking hist:keys=pid",
     ];
     for line in lines {
-        assert!(rt; perform(&mut desk, rt.alloc(), &files, line).is_err());
+        assert!(rt; perform(&mut desk, rt.alloc(), &[], line).is_err());
     }
 }
