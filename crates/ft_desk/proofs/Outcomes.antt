@@ -8,7 +8,7 @@ use Rattle.ft_board.specs.declared.refused.Refused.TheVariants.{Memory, BadComma
 use Rattle.ft_board.specs.Base.{Base}
 use Rattle.ft_board.specs.Shown.{Shown}
 use Rattle.ft_board.specs.Edited.{EditGives, AnswersFrom, AnswerIs}
-use Rattle.ft_desk.specs.declared.perform.Performed.{Performed}
+use Rattle.ft_desk.specs.declared.performing.Performed.{Performed}
 use Rattle.ft_desk.specs.Printed.{printed}
 use Rattle.ft_desk.specs.Refusals.{refused_text}
 use Rattle.ft_desk.specs.Output.{Outcome, edit_outcome, answer_outcome}

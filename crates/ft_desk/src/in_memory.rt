@@ -6,7 +6,7 @@ ghost use Rattle.ft_desk.specs.Output.{output};
 ghost use Rattle.ft_desk.specs.Run.{status_of};
 
 use crate::desk::Desk;
-use crate::perform::perform;
+use crate::performing::perform;
 use crate::running::{Status, status_from};
 use ft_board::Board;
 use ft_script::next_line;

@@ -5,7 +5,7 @@
 mod desk;
 mod events;
 mod in_memory;
-mod perform;
+mod performing;
 mod pieces;
 mod program;
 mod running;
@@ -20,6 +20,7 @@ pub use ft_table::Totals;
 pub use ft_trigger::TriggerFault;
 pub use ft_words::{FileFault, Words, WordsFault, read_file, read_whole, read_words};
 pub use in_memory::{Ran, run_text};
+pub use performing::{Performed, perform};
 pub use program::histdesk;
 pub use running::{RunFault, Status, run};
 

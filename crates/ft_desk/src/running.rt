@@ -9,7 +9,7 @@ ghost use Rattle.ft_desk.specs.Run.{status_of, RunEnds};
 ghost use Rattle.ft_desk.specs.Steps.{LineGives, FlushGives};
 
 use crate::desk::Desk;
-use crate::perform::perform;
+use crate::performing::perform;
 use crate::pieces::{Taken, take_part};
 use crate::sending::send;
 use ft_board::Board;

@@ -1,12 +1,6 @@
-mod edits;
 mod endings;
 mod examples;
 mod kept_now;
-mod keys;
-mod latencies;
 pub(crate) mod no_room;
-mod scripts;
-mod sessions;
 mod streams;
-mod tables;
 mod want_of_memory;

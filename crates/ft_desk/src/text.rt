@@ -182,6 +182,3 @@ fn add(line: &mut Vec<u8>, text: &[u8], number: u64) -> Result<(), AllocError>
     line.extend_from_slice(text)?;
     line.extend_from_slice(digits.format(number).as_bytes())
 }
-
-#[cfg(test)]
-mod tests;

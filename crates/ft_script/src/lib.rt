@@ -6,3 +6,6 @@ mod script;
 
 pub use lines::next_line;
 pub use script::{Command, read_command};
+
+#[cfg(test)]
+mod tests;

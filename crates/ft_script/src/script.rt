@@ -277,6 +277,3 @@ fn number(text: &[u8]) -> Option<u32>
     }
     u32::try_from(value).ok()
 }
-
-#[cfg(test)]
-mod tests;

@@ -7,6 +7,21 @@ use std::alloc::Global;
 use std::io::ErrorKind;
 use std::test::*;
 
+/// Two commands that are refused before the board is asked.
+const SCRIPT: &[u8] = b"lists\nload @0\n";
+
+/// What they print.
+const PRINTED: &[u8] = b"refused 16\nrefused 2\n";
+
+/// What is printed by the commands that end within the first bytes of the script.
+fn printed_by(bytes: usize) -> &'static [u8] {
+    match bytes {
+        0..=5 => b"",
+        6..=13 => b"refused 16\n",
+        _ => PRINTED,
+    }
+}
+
 /// Runs a script over a board without room and no files.
 fn ran(alloc: Global, script: &mut Source<'_>, out: &mut Sink) -> Result<Status, RunFault> {
     run(alloc, NoRoom, &[], script, out)
@@ -14,132 +29,71 @@ fn ran(alloc: Global, script: &mut Source<'_>, out: &mut Sink) -> Result<Status,
 
 #[test]
 fn prints_the_same_however_it_is_cut(rt: HostRuntime) {
-    for script in [
-        b"load @0\n# load @0\n\n   \nlists\n".as_slice(),
-        b"load @0\n#\n\n \nlists".as_slice(),
-    ] {
-        for step in [1, 2, 3, 7, 8, 9, 100] {
-            let mut out = Sink::new(rt.alloc(), step);
-            let answer = ran(rt.alloc(), &mut Source::new(script, step), &mut out);
-            assert!(rt; matches!(answer, Ok(Status::SomeRefused)), "at {step}");
-            assert_eq!(rt; out.bytes.as_slice(), b"refused 2\nrefused 16\n".as_slice());
-            assert_eq!(rt; out.flushes, 1);
-        }
+    for step in [1, 2, 9, 100] {
+        let mut script = Source::new(b"lists\n# lists\n\n   \nload @0", step);
+        let mut out = Sink::new(rt.alloc(), step);
+        let ended = ran(rt.alloc(), &mut script, &mut out);
+        assert!(rt; matches!(ended, Ok(Status::SomeRefused)), "by {step}");
+        assert!(rt; out.has(PRINTED, 1), "by {step}");
     }
-}
-
-#[test]
-fn accepts_lines_that_ask_for_nothing(rt: HostRuntime) {
-    for script in ["", "\n", "# load @0", "  \n\n#hist"] {
-        let mut out = Sink::new(rt.alloc(), 9);
-        let answer = ran(rt.alloc(), &mut Source::new(script.as_bytes(), 5), &mut out);
-        assert!(rt; matches!(answer, Ok(Status::AllAccepted)));
-        assert_eq!(rt; out.bytes.len(), 0);
-        assert_eq!(rt; out.flushes, 1);
-    }
-}
-
-#[test]
-fn reads_long_lines_to_their_end(rt: HostRuntime) -> Result<(), Fail> {
-    for (length, text) in [
-        (8192, b"".as_slice()),
-        (8193, b"refused 16\n"),
-        (20_000, b"refused 16\n"),
-    ] {
-        let mut script = vec![in rt.alloc(); b'#'; length]?;
-        script.extend_from_slice(b"\n#\n")?;
-        for step in [1, 4096, 8192, 8193, 30_000] {
-            let mut out = Sink::new(rt.alloc(), 4);
-            ran(rt.alloc(), &mut Source::new(&script, step), &mut out)?;
-            assert_eq!(rt; out.bytes.as_slice(), text, "{length} bytes by {step}");
-        }
-    }
-    Ok(())
 }
 
 #[test]
 fn ends_where_the_reader_fails(rt: HostRuntime) {
-    for kind in [ErrorKind::Other, ErrorKind::Interrupted] {
-        for (script, text) in [
-            ("", ""),
-            ("lists", ""),
-            ("lists\n", "refused 16\n"),
-            ("lists\nload @0", "refused 16\n"),
-        ] {
-            for broken_flush in [false, true] {
-                let mut out = Sink::new(rt.alloc(), 3);
-                out.broken_flush = broken_flush;
-                let mut script = Source::new(script.as_bytes(), 2);
-                script.end = Some(kind);
-                let answer = ran(rt.alloc(), &mut script, &mut out);
-                assert!(rt; matches!(answer, Err(RunFault::Read)));
-                assert_eq!(rt; out.bytes.as_slice(), text.as_bytes());
-                assert_eq!(rt; out.flushes, 1);
-            }
+    for (kind, broken_flush) in [(ErrorKind::Other, false), (ErrorKind::Interrupted, true)] {
+        for bytes in 0..SCRIPT.len() + 1 {
+            let mut script = Source::new(&SCRIPT[..bytes], 2);
+            script.end = Some(kind);
+            let mut out = Sink::new(rt.alloc(), 3);
+            out.broken_flush = broken_flush;
+            let ended = ran(rt.alloc(), &mut script, &mut out);
+            assert!(rt; matches!(ended, Err(RunFault::Read)), "after {bytes}");
+            assert!(rt; out.has(printed_by(bytes), 1), "after {bytes}");
         }
     }
 }
 
 #[test]
 fn ends_where_the_writer_fails(rt: HostRuntime) {
-    let whole = b"refused 16\nrefused 2\n";
     for full in [None, Some(ErrorKind::Other), Some(ErrorKind::Interrupted)] {
-        for room in [0, 1, 10, 11, 20] {
+        for room in 0..PRINTED.len() {
             let mut out = Sink::new(rt.alloc(), 4);
             out.room = room;
             out.full = full;
-            let answer = ran(
-                rt.alloc(),
-                &mut Source::new(b"lists\nload @0\n", 50),
-                &mut out,
-            );
-            assert!(rt; matches!(answer, Err(RunFault::Write)));
-            assert_eq!(rt; out.bytes.as_slice(), &whole[..room]);
-            assert_eq!(rt; out.flushes, 0);
+            let ended = ran(rt.alloc(), &mut Source::new(SCRIPT, 50), &mut out);
+            assert!(rt; matches!(ended, Err(RunFault::Write)), "after {room}");
+            assert!(rt; out.has(&PRINTED[..room], 0), "after {room}");
         }
+    }
+}
+
+#[test]
+fn fails_where_the_flush_does(rt: HostRuntime) {
+    for script in [b"".as_slice(), SCRIPT] {
+        let mut out = Sink::new(rt.alloc(), 50);
+        out.broken_flush = true;
+        let ended = ran(rt.alloc(), &mut Source::new(script, 50), &mut out);
+        assert!(rt; matches!(ended, Err(RunFault::Write)));
+        assert!(rt; out.has(printed_by(script.len()), 1));
     }
 }
 
 #[test]
 fn ends_where_a_command_finds_no_memory(rt: HostRuntime) {
     for broken_flush in [false, true] {
+        let mut script = Source::new(b"lists\nhist 1\nlists\n", 50);
         let mut out = Sink::new(rt.alloc(), 50);
         out.broken_flush = broken_flush;
-        let script = b"lists\nhist 1\nlists\n";
-        let answer = ran(rt.alloc(), &mut Source::new(script, 50), &mut out);
-        assert!(rt; matches!(answer, Err(RunFault::Memory)));
-        assert_eq!(rt; out.bytes.as_slice(), b"refused 16\n".as_slice());
-        assert_eq!(rt; out.flushes, 1);
+        let ended = ran(rt.alloc(), &mut script, &mut out);
+        assert!(rt; matches!(ended, Err(RunFault::Memory)));
+        assert!(rt; out.has(b"refused 16\n", 1));
     }
 }
 
 #[test]
-fn in_memory_a_command_finds_no_memory(rt: HostRuntime) {
-    for script in [b"hist 1".as_slice(), b"lists\nhist 1\nlists\n"] {
-        assert!(rt; run_text(rt.alloc(), NoRoom, &[], script).is_err());
-    }
-}
-
-#[test]
-fn in_memory_a_script_needs_no_room_for_nothing(rt: HostRuntime) -> Result<(), Fail> {
+fn in_memory_a_command_finds_no_memory(rt: HostRuntime) -> Result<(), Fail> {
+    assert!(rt; run_text(rt.alloc(), NoRoom, &[], b"lists\nhist 1\nlists\n").is_err());
     let ran = run_text(rt.alloc(), NoRoom, &[], b"# hist 1\n\n  ")?;
-    assert_eq!(rt; ran.status, Status::AllAccepted);
-    assert_eq!(rt; ran.output.len(), 0);
+    assert!(rt; ran.status == Status::AllAccepted && ran.output.is_empty());
     Ok(())
-}
-
-#[test]
-fn fails_where_the_flush_does(rt: HostRuntime) {
-    for (script, text) in [("#\n", ""), ("lists\n", "refused 16\n")] {
-        let mut out = Sink::new(rt.alloc(), 50);
-        out.broken_flush = true;
-        let answer = ran(
-            rt.alloc(),
-            &mut Source::new(script.as_bytes(), 50),
-            &mut out,
-        );
-        assert!(rt; matches!(answer, Err(RunFault::Write)));
-        assert_eq!(rt; out.bytes.as_slice(), text.as_bytes());
-        assert_eq!(rt; out.flushes, 1);
-    }
 }

@@ -1,35 +1,6 @@
 //! While memory lasts, the kept tables have each edit as soon as it is answered.
 
-use crate::perform::perform;
-use crate::{Desk, Done, Kept, KeptBoard, Latency, Name, Place, PlainBoard, Refused, Totals};
-use ft_script::next_line;
-use std::alloc::{AllocError, Global};
-use std::test::*;
-
-/// Whether each line of a script prints the same over both boards, and is refused by both or by
-/// none, and neither is deferred after it: so each edit that is accepted answers `Kept::Now`.
-pub(super) fn is_kept_by_line(
-    alloc: Global,
-    files: &[Vec<u8>],
-    script: &[u8],
-) -> Result<bool, AllocError> {
-    let mut plain = Desk::new(alloc, PlainBoard::new(alloc));
-    let mut kept = Desk::new(alloc, KeptBoard::new(alloc));
-    let mut rest = script;
-    while let Some((line, behind)) = next_line(rest) {
-        let by_plain = perform(&mut plain, alloc, files, line)?;
-        let by_kept = perform(&mut kept, alloc, files, line)?;
-        let same = by_plain.text.as_slice() == by_kept.text.as_slice();
-        if !same || by_plain.refused != by_kept.refused {
-            return Ok(false);
-        }
-        if plain.is_deferred() || kept.is_deferred() {
-            return Ok(false);
-        }
-        rest = behind;
-    }
-    Ok(true)
-}
+use crate::{Desk, Done, Kept, KeptBoard, Latency, Name, Place, Refused, Totals};
 
 /// An edit of a desk.
 #[derive(Clone, Copy)]
@@ -125,68 +96,70 @@ const FROM_FIRST: Latency = Latency {
 };
 
 /// Each kind of edit. The switch reads the last waking before it, which the edits change.
-pub(super) const SESSION: [Step<'static>; 10] = [
-    Step {
-        edit: Edit::Load(TRACE),
-        told: Told::Count(3),
-        hits: [None, None, None],
-        latency: None,
-    },
-    Step {
-        edit: Edit::Attach(Name::Waking, SAVER),
-        told: Told::Id(1),
-        hits: [Some(2), None, None],
-        latency: None,
-    },
-    Step {
-        edit: Edit::Attach(Name::Switch, READER),
-        told: Told::Id(2),
-        hits: [Some(2), Some(1), None],
-        latency: Some(STRUCK_READ),
-    },
-    Step {
-        edit: Edit::Attach(Name::Switch, COUNTER),
-        told: Told::Id(3),
-        hits: [Some(2), Some(1), Some(1)],
-        latency: Some(STRUCK_READ),
-    },
-    Step {
-        edit: Edit::Insert(SWITCH),
-        told: Told::At(Place { cpu: 0, line: 3 }),
-        hits: [Some(2), Some(1), Some(2)],
-        latency: Some(STRUCK_READ),
-    },
-    Step {
-        edit: Edit::Strike(0, 2),
-        told: Told::At(Place { cpu: 0, line: 2 }),
-        hits: [Some(2), Some(1), Some(1)],
-        latency: Some(FROM_OTHER_LANE),
-    },
-    Step {
-        edit: Edit::Insert(WAKING),
-        told: Told::At(Place { cpu: 0, line: 4 }),
-        hits: [Some(3), Some(1), Some(1)],
-        latency: Some(FROM_FILTERED),
-    },
-    Step {
-        edit: Edit::Refilter(1, b"prio == 120"),
-        told: Told::Id(1),
-        hits: [Some(2), Some(1), Some(1)],
-        latency: Some(FROM_OTHER_LANE),
-    },
-    Step {
-        edit: Edit::Remove(3),
-        told: Told::Id(3),
-        hits: [Some(2), Some(1), None],
-        latency: Some(FROM_OTHER_LANE),
-    },
-    Step {
-        edit: Edit::Unload(1),
-        told: Told::Count(1),
-        hits: [Some(1), Some(1), None],
-        latency: Some(FROM_FIRST),
-    },
-];
+pub(super) fn session() -> [Step<'static>; 10] {
+    [
+        Step {
+            edit: Edit::Load(TRACE),
+            told: Told::Count(3),
+            hits: [None, None, None],
+            latency: None,
+        },
+        Step {
+            edit: Edit::Attach(Name::Waking, SAVER),
+            told: Told::Id(1),
+            hits: [Some(2), None, None],
+            latency: None,
+        },
+        Step {
+            edit: Edit::Attach(Name::Switch, READER),
+            told: Told::Id(2),
+            hits: [Some(2), Some(1), None],
+            latency: Some(STRUCK_READ),
+        },
+        Step {
+            edit: Edit::Attach(Name::Switch, COUNTER),
+            told: Told::Id(3),
+            hits: [Some(2), Some(1), Some(1)],
+            latency: Some(STRUCK_READ),
+        },
+        Step {
+            edit: Edit::Insert(SWITCH),
+            told: Told::At(Place { cpu: 0, line: 3 }),
+            hits: [Some(2), Some(1), Some(2)],
+            latency: Some(STRUCK_READ),
+        },
+        Step {
+            edit: Edit::Strike(0, 2),
+            told: Told::At(Place { cpu: 0, line: 2 }),
+            hits: [Some(2), Some(1), Some(1)],
+            latency: Some(FROM_OTHER_LANE),
+        },
+        Step {
+            edit: Edit::Insert(WAKING),
+            told: Told::At(Place { cpu: 0, line: 4 }),
+            hits: [Some(3), Some(1), Some(1)],
+            latency: Some(FROM_FILTERED),
+        },
+        Step {
+            edit: Edit::Refilter(1, b"prio == 120"),
+            told: Told::Id(1),
+            hits: [Some(2), Some(1), Some(1)],
+            latency: Some(FROM_OTHER_LANE),
+        },
+        Step {
+            edit: Edit::Remove(3),
+            told: Told::Id(3),
+            hits: [Some(2), Some(1), None],
+            latency: Some(FROM_OTHER_LANE),
+        },
+        Step {
+            edit: Edit::Unload(1),
+            told: Told::Count(1),
+            hits: [Some(1), Some(1), None],
+            latency: Some(FROM_FIRST),
+        },
+    ]
+}
 
 /// What `hist` shows of trigger 2 after the session.
 pub(super) const TABLE: &[u8] = b"# event histogram
@@ -275,24 +248,37 @@ pub(super) fn is_measured(
     }
 }
 
-/// Each edit is in the tables when it is answered, and so are its answers.
-#[test]
-fn each_edit_of_a_session(rt: HostRuntime) -> Result<(), Fail> {
-    let mut desk = Desk::new(rt.alloc(), KeptBoard::new(rt.alloc()));
-    for step in SESSION {
-        let done = Done {
-            value: step.told,
-            kept: Kept::Now,
-        };
-        assert_eq!(rt; ask(&mut desk, step.edit), Ok(done));
-        assert!(rt; !desk.is_deferred());
-        let [saver, reader, counter] = step.hits;
-        assert_eq!(rt; desk.totals(1), totals_of(saver));
-        assert_eq!(rt; desk.totals(2), totals_of(reader));
-        assert_eq!(rt; desk.totals(3), totals_of(counter));
-        assert!(rt; is_measured(&desk.latencies(2), step.latency));
+/// Whether an edit is in the tables when it is answered.
+fn does(desk: &mut Desk<KeptBoard>, step: Step<'_>) -> bool {
+    let done = Done {
+        value: step.told,
+        kept: Kept::Now,
+    };
+    ask(desk, step.edit) == Ok(done) && !desk.is_deferred()
+}
+
+/// Whether the triggers answer as they should after a step.
+fn answers(desk: &mut Desk<KeptBoard>, step: Step<'_>) -> bool {
+    let [saver, reader, counter] = step.hits;
+    is_measured(&desk.latencies(2), step.latency)
+        && desk.totals(1) == totals_of(saver)
+        && desk.totals(2) == totals_of(reader)
+        && desk.totals(3) == totals_of(counter)
+}
+
+/// Whether trigger 2 shows the table of the session, and CPU 0 lists its lane.
+fn shows_and_lists(desk: &mut Desk<KeptBoard>) -> bool {
+    match (desk.hist(2), desk.list(0)) {
+        (Ok(table), Ok(lane)) => table.as_slice() == TABLE && lane.as_slice() == LANE,
+        _ => false,
     }
-    assert_eq!(rt; desk.hist(2)?.as_slice(), TABLE);
-    assert_eq!(rt; desk.list(0)?.as_slice(), LANE);
-    Ok(())
+}
+
+#[test]
+fn each_edit_of_a_session(rt: HostRuntime) {
+    let mut desk = Desk::new(rt.alloc(), KeptBoard::new(rt.alloc()));
+    for step in session() {
+        assert!(rt; does(&mut desk, step) && answers(&mut desk, step));
+    }
+    assert!(rt; shows_and_lists(&mut desk));
 }

@@ -68,6 +68,11 @@ impl Sink {
             flushes: 0,
         }
     }
+
+    /// Whether it has taken those bytes, and was flushed so often.
+    pub(super) fn has(&self, bytes: &[u8], flushes: u32) -> bool {
+        self.bytes.as_slice() == bytes && self.flushes == flushes
+    }
 }
 
 impl Write for Sink {

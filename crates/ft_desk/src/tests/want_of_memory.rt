@@ -1,9 +1,8 @@
 //! Edits and answers where memory runs out once: what was asked in vain is done when it is asked
 //! again. Each test passes whichever allocation is refused: `tests/each_allocation.sh`.
 
-use super::kept_now::{Edit, LANE, SESSION, Step, TABLE, Told, ask, is_measured, totals_of};
+use super::kept_now::{Edit, LANE, Step, TABLE, Told, ask, is_measured, session, totals_of};
 use crate::{Desk, Done, Kept, KeptBoard, Latency, Refused, Totals};
-use std::test::*;
 
 /// Whether the edit of a step tells what it should, and answers `Later` just where the desk is
 /// deferred. Where memory runs out for it, it is asked again, and then its tables have it.
@@ -88,26 +87,19 @@ fn answers(desk: &mut Desk<KeptBoard>, step: Step<'_>) -> bool {
 #[test]
 fn session_after_want_of_memory(rt: HostRuntime) {
     let mut desk = Desk::new(rt.alloc(), KeptBoard::new(rt.alloc()));
-    for step in SESSION {
-        assert!(rt; does(&mut desk, step));
-        assert!(rt; answers(&mut desk, step));
+    for step in session() {
+        assert!(rt; does(&mut desk, step) && answers(&mut desk, step));
     }
-    assert!(rt; shows(&mut desk));
-    assert!(rt; lists(&desk));
+    assert!(rt; shows(&mut desk) && lists(&desk));
 }
 
 /// Passes whichever allocation is refused: all edits, and what is answered after them.
 #[test]
 fn edits_in_a_row_after_want_of_memory(rt: HostRuntime) {
     let mut desk = Desk::new(rt.alloc(), KeptBoard::new(rt.alloc()));
-    let mut last = None;
-    for step in SESSION {
+    for step in session() {
         assert!(rt; does(&mut desk, step));
-        last = Some(step);
     }
-    assert!(rt; lists(&desk));
-    assert!(rt; shows(&mut desk));
-    if let Some(step) = last {
-        assert!(rt; answers(&mut desk, step));
-    }
+    let [.., last] = session();
+    assert!(rt; lists(&desk) && shows(&mut desk) && answers(&mut desk, last));
 }

@@ -1,4 +1,4 @@
-//! Files that fail in mid-stream, and the limits.
+//! Files that are read in pieces, or fail in mid-stream.
 
 use super::{FileFault, read_whole};
 use std::io;
@@ -26,13 +26,7 @@ impl Read for Source {
 
 #[test]
 fn reads_in_pieces(rt: HostRuntime) {
-    for (left, most, size) in [
-        (0, 1, 0),
-        (5, 1, 0),
-        (5, 2, 5),
-        (5, 9, 2),
-        (300_000, 100_000, 7),
-    ] {
+    for (left, most, size) in [(0, 1, 0), (5, 2, 9), (300_000, 100_000, 7)] {
         let mut file = Source {
             left,
             most,
@@ -59,15 +53,4 @@ fn fails_in_mid_stream(rt: HostRuntime) {
         let fault = read_whole(rt.alloc(), 9, &mut file).err();
         assert_eq!(rt; fault, Some(FileFault::Unreadable), "after {left}");
     }
-}
-
-#[test]
-fn limits_the_size(rt: HostRuntime) {
-    let mut file = Source {
-        left: 5,
-        most: 9,
-        fails: false,
-    };
-    let fault = read_whole(rt.alloc(), 1_073_741_825, &mut file).err();
-    assert_eq!(rt; fault, Some(FileFault::Unreadable));
 }

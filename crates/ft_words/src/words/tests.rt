@@ -1,92 +1,54 @@
 //! What lists of words name.
 
 use super::{WordsFault, read_words};
+use std::alloc::Global;
 
 /// The script, if it is no standard input, and the traces.
 type Named = (Option<&'static str>, &'static [&'static str]);
 
 /// Lists of words that are read, each with what it names.
-fn accepted() -> [(&'static [&'static str], Named); 21] {
+fn accepted() -> [(&'static [&'static str], Named); 5] {
     [
-        (&[], (None, &[])),
         (&["histdesk"], (None, &[])),
-        (&["histdesk", "--"], (None, &[])),
-        (&["histdesk", "-"], (None, &[])),
-        (&["histdesk", "a"], (Some("a"), &[])),
-        (&["histdesk", ""], (Some(""), &[])),
-        (&["histdesk", "a", "b"], (Some("a"), &["b"])),
-        (
-            &["histdesk", "a", "b", "c", "b"],
-            (Some("a"), &["b", "c", "b"]),
-        ),
         (&["histdesk", "-", "b"], (None, &["b"])),
-        (&["histdesk", "a", "-"], (Some("a"), &["-"])),
-        (
-            &["histdesk", "a", "b", "-", "c"],
-            (Some("a"), &["b", "-", "c"]),
-        ),
-        (&["histdesk", "-", "-"], (None, &["-"])),
-        (&["histdesk", "a", ""], (Some("a"), &[""])),
-        (&["histdesk", "a b", "c d"], (Some("a b"), &["c d"])),
-        (&["histdesk", "a", "b,c"], (Some("a"), &["b,c"])),
+        (&["histdesk", "a", "b", "-"], (Some("a"), &["b", "-"])),
         (&["histdesk", "--", "-"], (None, &[])),
-        (&["histdesk", "--", "-", "b"], (None, &["b"])),
         (
             &["histdesk", "--", "--help", "-x"],
             (Some("--help"), &["-x"]),
         ),
-        (
-            &["histdesk", "a", "--", "-x", "--"],
-            (Some("a"), &["-x", "--"]),
-        ),
-        (
-            &["histdesk", "a", "b", "--", "-", "c"],
-            (Some("a"), &["b", "-", "c"]),
-        ),
-        (&["histdesk", "--", "--"], (Some("--"), &[])),
     ]
+}
+
+/// Whether words are read, and name that.
+fn is_named(alloc: Global, words: &'static [&'static str], (script, traces): Named) -> bool {
+    match read_words(alloc, words) {
+        Ok(named) => named.script == script && named.traces.as_slice() == traces,
+        Err(_) => false,
+    }
 }
 
 #[test]
 fn names_script_and_traces(rt: HostRuntime) {
-    for (words, (script, traces)) in accepted() {
-        match read_words(rt.alloc(), words) {
-            Ok(named) => {
-                assert_eq!(rt; named.script, script, "of {words:?}");
-                assert_eq!(rt; named.traces.as_slice(), traces, "of {words:?}");
-            }
-            Err(fault) => panic!(rt; "{words:?} gave {fault:?}"),
-        }
+    for (words, named) in accepted() {
+        assert!(rt; is_named(rt.alloc(), words, named), "{words:?}");
     }
 }
 
 /// Lists of words that are refused: before `--` one looks like an option.
-fn refused() -> [&'static [&'static str]; 15] {
+fn refused() -> [&'static [&'static str]; 4] {
     [
         &["histdesk", "--help"],
-        &["histdesk", "-h"],
-        &["histdesk", "--version"],
-        &["histdesk", "-V"],
-        &["histdesk", "help", "-x"],
-        &["histdesk", "-x"],
-        &["histdesk", "a", "-x"],
-        &["histdesk", "a", "b", "-x"],
-        &["histdesk", "a", "b", "-x", "--", "c"],
-        &["histdesk", "-", "-1"],
         &["histdesk", "-1"],
-        &["histdesk", "---"],
-        &["histdesk", "--=a"],
+        &["histdesk", "a", "b", "-x", "--", "c"],
         &["histdesk", "a", "--SCRIPT=b"],
-        &["histdesk", "a", "-\u{e9}"],
     ]
 }
 
 #[test]
 fn refuses_options(rt: HostRuntime) {
     for words in refused() {
-        match read_words(rt.alloc(), words) {
-            Ok(_) => panic!(rt; "{words:?} was read"),
-            Err(fault) => assert_eq!(rt; fault, WordsFault::Refused, "of {words:?}"),
-        }
+        let fault = read_words(rt.alloc(), words).err();
+        assert!(rt; fault == Some(WordsFault::Refused), "{words:?}");
     }
 }

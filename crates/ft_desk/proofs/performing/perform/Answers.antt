@@ -7,7 +7,7 @@ use Rattle.ft_desk.specs.Answered.{totals_line, numbered, latency_lines}
 use Rattle.ft_desk.specs.Edits.{after_insert_text, after_attach_text, after_refilter_text}
 use Rattle.ft_desk.specs.Output.{outcome, after_load_file}
 use Rattle.ft_desk.proofs.Outcomes.{edit_shows, look_shows, answer_shows, bad_shows}
-use Rattle.ft_desk.proofs.perform.perform.Goals as goal
+use Rattle.ft_desk.proofs.performing.perform.Goals as goal
 
 abbrev texts_of : List (Vec ℕ Global) → List (List ℕ)
 texts_of files = map (λ f. f.items) files

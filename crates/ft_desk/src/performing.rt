@@ -17,15 +17,19 @@ use std::alloc::{AllocError, Global};
 
 /// What a line of a script prints, and whether it was refused.
 #[derive(Drop)]
-pub(crate) struct Performed {
-    /// What it prints: whole lines.
-    pub(crate) text: Vec<u8>,
+pub struct Performed {
+    /// What it prints: whole lines, or nothing.
+    pub text: Vec<u8>,
     /// Whether it was refused.
-    pub(crate) refused: bool,
+    pub refused: bool,
 }
 
-/// Does what a line of a script asks for. Only memory can fail.
-pub(crate) fn perform<B: Board>(
+/// Does what a line of a script asks of a desk. The line has no line break, and the Nth file is what
+/// `load @N` loads.
+///
+/// A line that is refused prints its refusal, and the desk holds what it held. Fails for memory alone,
+/// which has no line of its own; then the edit may have been made.
+pub fn perform<B: Board>(
     desk: &mut Desk<B>,
     alloc: Global,
     files: &[Vec<u8>],
