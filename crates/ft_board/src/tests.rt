@@ -1,11 +1,8 @@
 mod answers;
 mod attach;
-mod both;
 mod load;
 mod removing;
 mod striking;
-
-ghost use Rattle.std.specs.Prelude.{◌≤◌};
 
 use super::*;
 use Act::{Switch, Wake as Waking};
@@ -13,6 +10,7 @@ use ft_event::{Body, Comm, Event, Name, Turn, Wake};
 use ft_table::Totals;
 use ft_trigger::{TriggerFault, parse};
 use std::alloc::Global;
+use std::process::Abort;
 use std::test::*;
 
 /// Saves `ts0` by the PID of a waking.
@@ -71,8 +69,8 @@ fn event_of(line: Line) -> Result<Event, Refused> {
     })
 }
 
-/// The events of lines.
-fn events_of(alloc: Global, lines: &[Line]) -> Result<Vec<Event>, Refused> {
+/// Loads the events of lines: how many there are.
+fn load_lines<B: Board>(alloc: Global, board: &mut B, lines: &[Line]) -> Result<u64, Refused> {
     let mut events = Vec::new(alloc);
     for line in lines {
         let event = event_of(*line)?;
@@ -80,28 +78,7 @@ fn events_of(alloc: Global, lines: &[Line]) -> Result<Vec<Event>, Refused> {
             return Err(Refused::Memory);
         }
     }
-    Ok(events)
-}
-
-/// A waking of pid 42 on a CPU.
-fn waking(cpu: u16, stamp: u64) -> Result<Event, Refused>
-    requires cpu { cpu ≤ 8191 }
-    requires stamp { stamp ≤ 4294967295999999 }
-{
-    let task = Comm::of(b"sim").ok_or(Refused::BadCommand)?;
-    let comm = Comm::of(b"w").ok_or(Refused::BadCommand)?;
-    Ok(Event {
-        task,
-        pid: 1,
-        cpu,
-        stamp,
-        body: Body::Waking(Wake {
-            comm,
-            pid: 42,
-            prio: 120,
-            target_cpu: 0,
-        }),
-    })
+    Ok(board.load(events)?.value)
 }
 
 /// Attaches the trigger of a text: its id. Refused where nothing can be attached to the event.
@@ -121,64 +98,16 @@ fn attach_text<B: Board>(
     }
 }
 
-/// A board that holds the events of lines, with triggers that get the ids from 1.
-fn board_of(
+/// The board with the events of lines, and with triggers that get the ids from 1.
+fn board_with<B: Board>(
     alloc: Global,
+    mut board: B,
     lines: &[Line],
     triggers: &[(Name, &str)],
-) -> Result<PlainBoard, Refused> {
-    let mut board = PlainBoard::new(alloc);
-    board.load(events_of(alloc, lines)?)?;
+) -> Result<B, Refused> {
+    load_lines(alloc, &mut board, lines)?;
     for (event, text) in triggers {
         attach_text(alloc, &mut board, *event, text)?;
     }
     Ok(board)
-}
-
-/// Totals of these numbers.
-fn totals(hits: u64, entries: u64, dropped: u64) -> Totals {
-    Totals {
-        hits,
-        entries,
-        dropped,
-    }
-}
-
-/// Whether the trigger with an id has counted so much.
-fn counts(board: &mut PlainBoard, id: u32, want: Totals) -> bool {
-    match board.totals(id) {
-        Ok(totals) => totals == want,
-        Err(_) => false,
-    }
-}
-
-/// The time from one line on a CPU to another.
-fn latency(saved: (u16, u32), read: (u16, u32), micros: u64) -> Latency {
-    Latency {
-        saved: Place {
-            cpu: saved.0,
-            line: saved.1,
-        },
-        read: Place {
-            cpu: read.0,
-            line: read.1,
-        },
-        micros,
-    }
-}
-
-/// Whether the trigger with an id has measured these latencies, and nothing else.
-fn measures(board: &mut PlainBoard, id: u32, want: &[Latency]) -> bool {
-    match board.latencies(id) {
-        Ok(latencies) => latencies.as_slice() == want,
-        Err(_) => false,
-    }
-}
-
-/// Whether the text of the trigger with an id ends so.
-fn shows(board: &mut PlainBoard, id: u32, end: &[u8]) -> bool {
-    match board.hist(id) {
-        Ok(text) => text.ends_with(end),
-        Err(_) => false,
-    }
 }
