@@ -1,7 +1,6 @@
 //! Tests, and what they share.
 
 mod examples;
-mod searches;
 
 use super::*;
 use ft_event::Pos;
