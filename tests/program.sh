@@ -79,23 +79,24 @@ row() {
     fi
 }
 
-# checks PROGRAM: the program, which is given all rows, says that all of them hold.
+# checks PROGRAM ROW..: the program, which is given the rows, says that all of them hold.
 checks() {
-    local told status
-    told=$(cd -- "$here/.." && timeout "$limit" "$1" tests/rows/* 2>&1 </dev/null)
+    local told status count=$(($# - 1))
+    told=$(timeout "$limit" "$@" 2>&1 </dev/null)
     status=$?
-    if [[ $status == 0 && ${told##*$'\n'} == "${#rows[@]} of ${#rows[@]} rows hold" ]]; then
+    if [[ $status == 0 && ${told##*$'\n'} == "$count of $count rows hold" ]]; then
         pass
     else
         fail "checkrows: status $status, $told"
     fi
 }
 
-# mixed_row SEED: a folder with a short random script is made a row, by a plain model in Python.
+# mixed_row NAME COMMANDS EVENTS SEED: a folder with a random script of edits and answers is made a row, by a plain
+# model in Python.
 mixed_row() {
-    local row=$folder/rows/mixed_$1
+    local row=$folder/$1
     mkdir -p -- "$row"
-    python3 "$here/random_script.py" 60 60 "$1" "$row"
+    python3 "$here/random_script.py" "$2" "$3" "$4" "$row"
     mv -- "$row/trace" "$row/trace1"
     python3 "$here/model.py" "$row/script" "$row/trace1" >"$row/expected"
     echo 0 >"$row/status"
@@ -124,15 +125,6 @@ growths() {
     if ((good < all)); then
         printf '%s\n' "${told%$'\n'*}"
     fi
-}
-
-# mixed COMMANDS EVENTS SEED: a random script of edits and answers prints what a plain model in Python prints.
-mixed() {
-    mkdir -p -- "$folder/mixed"
-    python3 "$here/random_script.py" "$1" "$2" "$3" "$folder/mixed"
-    python3 "$here/model.py" "$folder/mixed/script" "$folder/mixed/trace" >"$folder/wanted"
-    gives "mixed_$3" 1 "" "$histdesk" "$folder/mixed/script" "$folder/mixed/trace"
-    prints "mixed_$3" "$folder/wanted"
 }
 
 # comes FILE LINE: whether the file holds that line alone, now or some seconds later.
@@ -191,14 +183,20 @@ fi
 printf 'load @1\n' >"$folder/load"
 mkdir "$folder/folder"
 
-for one in "${rows[@]}"; do
+for ((seed = 1; seed <= 10; seed++)); do
+    mixed_row "short/mixed_$seed" 60 60 "$seed"
+done
+mixed_row long/mixed_1000_1 1000 600 1
+mixed_row long/mixed_1000_2 1000 600 2
+all=("${rows[@]}" "$folder"/{short,long}/*)
+for one in "${all[@]}"; do
     row "$histdesk" "$one"
     if [[ -n $plaindesk ]]; then
         row "$plaindesk" "$one"
     fi
 done
 if [[ -n $checkrows ]]; then
-    checks "$checkrows"
+    checks "$checkrows" "${all[@]}"
 fi
 
 gives two_wakings 0 "" "$histdesk" "$examples/two-wakings.script" "$examples/two-wakings.trace"
@@ -243,17 +241,12 @@ echo 'a-1 [000] 1.000000:' >>"$folder/million"
 gives one_line_more 1 "" "$histdesk" "$folder/load" "$folder/million"
 says one_line_more "refused 7"
 types
-mixed 1000 600 1
-mixed 1000 600 2
 
 # The launcher itself is a script that bash runs, whose growths are none of the program's.
 if [[ $histdesk == "$launcher" ]]; then
     histdesk=$here/../crates/histdesk/out/histdesk
 fi
-for ((seed = 1; seed <= 10; seed++)); do
-    mixed_row "$seed"
-done
-growths "$histdesk" "${rows[@]}" "$folder"/rows/*
+growths "$histdesk" "${rows[@]}" "$folder"/short/*
 
 echo "$passed passed, $failed failed"
 ((failed == 0))
