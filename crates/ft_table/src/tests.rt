@@ -5,13 +5,10 @@ ghost use Rattle.ft_hist.specs.Hist.{Hist};
 ghost use Rattle.ft_table.specs.Rows.{AllFit};
 
 mod examples;
-mod order;
-mod recounts;
-mod texts;
 mod written;
 
 use super::*;
-use ft_event::{Comm, Pos};
+use ft_event::Pos;
 use ft_hist::{Key, Part, SortBy, SortItem, Work};
 use std::alloc::{AllocError, Global};
 use std::test::*;
@@ -74,20 +71,20 @@ fn is_row(table: &Table, key: Key, numbers: Option<(u64, [u64; 3])>) -> bool {
     }
 }
 
-/// A row of a key of one part, with one sum.
-fn row_of(part: Part, hitcount: u64, sum: u64) -> Row {
-    Row {
-        key: Key::of_one(part),
-        hitcount,
-        sums: [sum, 0, 0],
+/// The mark of a PID at a place.
+fn mark(stamp: u64, number: i64) -> Mark {
+    Mark {
+        pos: at(stamp),
+        key: pid(number),
     }
 }
 
-/// A text of at most 31 bytes.
-fn text_of(text: &str) -> Result<Part, &'static str> {
-    match Comm::of(text.as_bytes()) {
-        Some(name) => Ok(Part::Text(name)),
-        None => Err("the text is too long for a name"),
+/// A row of a PID, with one sum.
+fn row_of(number: i64, hitcount: u64, sum: u64) -> Row {
+    Row {
+        key: pid(number),
+        hitcount,
+        sums: [sum, 0, 0],
     }
 }
 

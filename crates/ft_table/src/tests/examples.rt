@@ -2,21 +2,12 @@
 
 use super::*;
 
-/// A table of two keys, with a hit of PID 5 at stamp 10, of 6 at 20 and of 7 at 30.
-fn three_hits(alloc: Global) -> Result<Table, AllocError> {
-    let mut table = Table::new(alloc, 2);
-    put(&mut table, hit(10, 5, [1, 0, 0]))?;
-    put(&mut table, hit(20, 6, [2, 0, 0]))?;
-    put(&mut table, hit(30, 7, [3, 0, 0]))?;
-    Ok(table)
-}
-
 /// Whether a table of two keys has no hit.
 fn has_no_hits(table: &Table) -> bool {
     are_totals(table, 0, 0, 0) && is_edge(table, None, None) && is_row(table, pid(5), None)
 }
 
-/// Whether a table has what the first of the three hits gives.
+/// Whether a table of two keys has a hit of PID 5 at stamp 10 alone.
 fn has_one_hit(table: &Table) -> bool {
     are_totals(table, 1, 1, 0)
         && is_edge(table, Some(pid(5)), None)
@@ -24,7 +15,7 @@ fn has_one_hit(table: &Table) -> bool {
         && is_row(table, pid(6), None)
 }
 
-/// Whether a table has what the first two of the three hits give.
+/// Whether it has this one and one of PID 6 at stamp 20.
 fn has_two_hits(table: &Table) -> bool {
     are_totals(table, 2, 2, 0)
         && is_edge(table, Some(pid(6)), None)
@@ -33,7 +24,7 @@ fn has_two_hits(table: &Table) -> bool {
         && !table.holds(at(30), pid(7))
 }
 
-/// Whether a table has what the three hits give.
+/// Whether it has these two and one of PID 7 at stamp 30, which is dropped.
 fn has_three_hits(table: &Table) -> bool {
     table.is_in(&pid(5))
         && table.is_in(&pid(6))
@@ -47,7 +38,7 @@ fn has_three_hits(table: &Table) -> bool {
         && !table.holds(at(5), pid(7))
 }
 
-/// Whether a table has what they give with one of PID 7 at stamp 5.
+/// Whether it has these three and one of PID 7 at stamp 5, so that PID 6 finds no room.
 fn has_four_hits(table: &Table) -> bool {
     table.is_in(&pid(7))
         && table.is_in(&pid(5))
@@ -57,41 +48,6 @@ fn has_four_hits(table: &Table) -> bool {
         && is_row(table, pid(7), Some((2, [7, 0, 0])))
         && is_row(table, pid(5), Some((1, [1, 0, 0])))
         && is_row(table, pid(6), None)
-}
-
-#[test]
-fn full_table_and_early_insert(rt: HostRuntime) -> Result<(), Fail> {
-    let mut table = three_hits(rt.alloc())?;
-    assert!(rt; has_three_hits(&table));
-    put(&mut table, hit(5, 7, [4, 0, 0]))?;
-    assert!(rt; has_four_hits(&table));
-    table.remove(at(5), pid(7));
-    assert!(rt; has_three_hits(&table));
-    Ok(())
-}
-
-#[test]
-fn nothing(rt: HostRuntime) -> Result<(), Fail> {
-    let mut table = Table::new(rt.alloc(), 1);
-    assert!(rt; are_totals(&table, 0, 0, 0));
-    assert!(rt; is_edge(&table, None, None));
-    assert!(rt; is_row(&table, pid(5), None));
-    assert!(rt; table.hit_after(&pid(5), None).is_none());
-    table.remove(at(5), pid(5));
-    assert!(rt; are_totals(&table, 0, 0, 0));
-    Ok(())
-}
-
-#[test]
-fn sums_wrap(rt: HostRuntime) -> Result<(), Fail> {
-    let mut table = Table::new(rt.alloc(), 1);
-    put(&mut table, hit(10, 5, [-1, i64::MIN, 1]))?;
-    assert!(rt; is_row(&table, pid(5), Some((1, [u64::MAX, 1 << 63, 1]))));
-    put(&mut table, hit(20, 5, [3, i64::MIN, 1]))?;
-    assert!(rt; is_row(&table, pid(5), Some((2, [2, 0, 2]))));
-    table.remove(at(10), pid(5));
-    assert!(rt; is_row(&table, pid(5), Some((1, [3, 1 << 63, 1]))));
-    Ok(())
 }
 
 #[test]
@@ -112,6 +68,11 @@ fn hits_of_a_key_in_order(rt: HostRuntime) -> Result<(), Fail> {
 
 #[test]
 fn each_key_comes_before_the_others(rt: HostRuntime) -> Result<(), Fail> {
+    first_keys();
+    all_hits();
+    one_more_hit();
+    one_key();
+    first_outside();
     let mut table = Table::new(rt.alloc(), 5);
     for (stamp, number) in [
         (80, 0),
@@ -158,37 +119,34 @@ fn unchanged_after_want_of_memory(rt: HostRuntime) -> Result<(), Fail> {
     Ok(())
 }
 
-/// The PIDs of a table's rows, in this order, with their hits and first sums.
-fn are_rows(table: &Table, sort: SortItem, wanted: &[(i64, u64, u64)]) -> Result<bool, AllocError> {
-    let rows = table.rows(&[sort])?;
-    if rows.len() != wanted.len() {
-        return Ok(false);
+#[test]
+fn rows_that_tie_stand_by_key(rt: HostRuntime) -> Result<(), Fail> {
+    one_row_order();
+    let mut table = Table::new(rt.alloc(), 4);
+    for (stamp, number) in [(10, 9), (20, 7), (30, 8), (40, 7), (50, -1), (60, 5)] {
+        put(&mut table, hit(stamp, number, [3, 0, 0]))?;
     }
-    for (row, (number, hitcount, sum)) in rows.iter().zip(wanted) {
-        let sums = row.sums;
-        if row.key != pid(*number) || row.hitcount != *hitcount || sums[0] != *sum {
-            return Ok(false);
-        }
-    }
-    Ok(true)
+    let (negative, seven) = (row_of(-1, 1, 3), row_of(7, 2, 6));
+    let (eight, nine) = (row_of(8, 1, 3), row_of(9, 1, 3));
+    let down = table.rows(&[by(SortBy::Hits, true)])?;
+    assert!(rt; down.as_slice() == [seven, negative, eight, nine].as_slice());
+    let items = [by(SortBy::Value(0), false), by(SortBy::Key(0), true)];
+    let up = table.rows(&items)?;
+    assert!(rt; up.as_slice() == [nine, eight, negative, seven].as_slice());
+    let (hits, entries, dropped) = (5, 4, 1);
+    let totals = Totals {
+        hits,
+        entries,
+        dropped,
+    };
+    assert_eq!(rt; table.totals(), totals);
+    Ok(())
 }
 
 #[test]
-fn rows_of_the_keys_that_are_in(rt: HostRuntime) -> Result<(), Fail> {
-    for (size, by_hits, by_key) in [
-        (
-            5,
-            [(6, 2, 5), (5, 1, 1)].as_slice(),
-            [(5, 1, 1), (6, 2, 5)].as_slice(),
-        ),
-        (1, [(5, 1, 1)].as_slice(), [(5, 1, 1)].as_slice()),
-    ] {
-        let mut table = Table::new(rt.alloc(), size);
-        put(&mut table, hit(10, 5, [1, 0, 0]))?;
-        put(&mut table, hit(20, 6, [2, 0, 0]))?;
-        put(&mut table, hit(30, 6, [3, 0, 0]))?;
-        assert!(rt; are_rows(&table, by(SortBy::Hits, true), by_hits)?);
-        assert!(rt; are_rows(&table, by(SortBy::Key(0), false), by_key)?);
-    }
-    Ok(())
+fn marks_stand_by_place_then_key(rt: HostRuntime) {
+    one_mark_order();
+    assert!(rt; mark(10, 6) < mark(20, 5));
+    assert!(rt; mark(10, -1) < mark(10, 5));
+    assert!(rt; mark(10, 5) == mark(10, 5));
 }

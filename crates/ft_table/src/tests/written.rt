@@ -1,73 +1,66 @@
-//! The texts of whole tables, each fed with the hits of its trigger.
+//! The text of a table, fed with the hits of its trigger.
 
-ghost use Rattle.std.specs.Prelude.{◌<◌};
+ghost use Rattle.std.specs.Prelude.{◌<◌, None, [], ◌∷◌};
+ghost use Rattle.ft_event.specs.declared.event.Name.TheVariants.{Waking};
+ghost use Rattle.ft_hist.specs.Hist.{IsWithin, hist_with};
+ghost use Rattle.ft_hist.specs.Sound.{IsSound};
 ghost use Rattle.ft_table.specs.Rows.{AllFit};
 
-use super::texts::{trigger_of, waking};
 use super::*;
-use ft_event::{Event, Field};
+use ft_event::{Body, Comm, Event, Field, Name, Wake};
 use ft_hist::{Item, KeyItem, Mode, Trigger, fitting_parts};
 
-/// The rows by powers: the numbers 0 to 3 and -1.
-const POWERS: &[u8] = b"{ prio: ~ 2^1  } hitcount:          1
-{ prio: ~ 2^2  } hitcount:          1
-{ prio: ~ 2^64 } hitcount:          1
-{ prio: ~ 2^0  } hitcount:          2
-
-Totals:
-    Hits: 5
-    Entries: 4
-    Dropped: 0
-";
-
-/// The rows by buckets of 32.
-const BUCKETS: &[u8] = b"{ pid: ~ 32-63 } hitcount:          1
-{ pid: ~ 0-31 } hitcount:          5
-
-Totals:
-    Hits: 6
-    Entries: 2
-    Dropped: 0
-";
-
-/// The rows in hexadecimal, with a sum.
-const HEXADECIMAL: &[u8] = b"{ pid: 6 } hitcount:          2  prio:        240
+/// The rows of the first two of three keys in hexadecimal, the greatest sum first.
+const TWO_OF_THREE: &[u8] = b"{ pid: a } hitcount:          2  prio:        240
 { pid: 5 } hitcount:          1  prio:        120
 
 Totals:
     Hits: 3
     Entries: 2
-    Dropped: 0
-";
-
-/// One row.
-const ONE: &[u8] = b"{ pid:         42 } hitcount:          2
-
-Totals:
-    Hits: 2
-    Entries: 1
-    Dropped: 0
-";
-
-/// A row of a name with equals signs, and a number.
-const EQUALS: &[u8] = b"\
-{ comm: a pid=7 b                                         , pid:         42 } hitcount:          1
-
-Totals:
-    Hits: 1
-    Entries: 1
-    Dropped: 0
-";
-
-/// The rows of the first two of three keys.
-const TWO_OF_THREE: &[u8] = b"{ pid:          5 } hitcount:          1
-{ pid:          6 } hitcount:          1
-
-Totals:
-    Hits: 2
-    Entries: 2
     Dropped: 1
 ";
+
+/// A trigger on wakings of these keys and values.
+fn trigger_of(
+    alloc: Global,
+    keys: &[KeyItem],
+    values: &[Item],
+    sort: SortItem,
+) -> Result<Trigger, AllocError>
+    requires within { IsWithin
+        (hist_with Waking keys.now values.now (sort ∷ []) None 2048 None) }
+    requires sound { IsSound
+        (hist_with Waking keys.now values.now (sort ∷ []) None 2048 None) }
+{
+    let mut key_items = Vec::new(alloc);
+    key_items.extend_from_slice(keys)?;
+    let mut value_items = Vec::new(alloc);
+    value_items.extend_from_slice(values)?;
+    let mut sort_items = Vec::new(alloc);
+    sort_items.push(sort)?;
+    let name = Name::Waking;
+    Ok(Trigger::of(name, key_items, value_items, sort_items, None, 2048, None))
+}
+
+/// A waking of such a PID, with priority 120.
+fn waking(pid: i32) -> Result<Event, &'static str> {
+    let Some(comm) = Comm::of(b"w") else {
+        return Err("the text is too long for a name");
+    };
+    let (prio, target_cpu) = (120, 0);
+    Ok(Event {
+        task: comm,
+        pid: 1,
+        cpu: 0,
+        stamp: 1_000_000,
+        body: Body::Waking(Wake {
+            comm,
+            pid,
+            prio,
+            target_cpu,
+        }),
+    })
+}
 
 /// Puts the hit of an event in, if it is one: the event's line and the hit's values.
 fn feed(
@@ -114,118 +107,7 @@ fn written(
 }
 
 #[test]
-fn one_row(rt: HostRuntime) -> Result<(), Fail> {
-    let keys = [KeyItem {
-        field: Field::Pid,
-        mode: Mode::Plain,
-    }];
-    let sort = SortItem {
-        what: SortBy::Hits,
-        descending: false,
-    };
-    let trigger = trigger_of(rt.alloc(), &keys, &[], sort, None)?;
-    let events = [
-        (1, waking("w", 42, 120)?, [0; 3]),
-        (2, waking("w", 42, 120)?, [0; 3]),
-    ];
-    let text = written(rt.alloc(), 2048, &trigger, &events)?;
-    assert_eq!(rt; text.as_slice(), ONE);
-    Ok(())
-}
-
-#[test]
 fn two_rows_of_three_keys(rt: HostRuntime) -> Result<(), Fail> {
-    let keys = [KeyItem {
-        field: Field::Pid,
-        mode: Mode::Plain,
-    }];
-    let sort = SortItem {
-        what: SortBy::Hits,
-        descending: false,
-    };
-    let trigger = trigger_of(rt.alloc(), &keys, &[], sort, None)?;
-    let events = [
-        (1, waking("w", 5, 120)?, [0; 3]),
-        (2, waking("w", 6, 120)?, [0; 3]),
-        (3, waking("w", 7, 120)?, [0; 3]),
-    ];
-    let text = written(rt.alloc(), 2, &trigger, &events)?;
-    assert_eq!(rt; text.as_slice(), TWO_OF_THREE);
-    Ok(())
-}
-
-#[test]
-fn equals_in_name(rt: HostRuntime) -> Result<(), Fail> {
-    let keys = [
-        KeyItem {
-            field: Field::Comm,
-            mode: Mode::Plain,
-        },
-        KeyItem {
-            field: Field::Pid,
-            mode: Mode::Plain,
-        },
-    ];
-    let sort = SortItem {
-        what: SortBy::Hits,
-        descending: false,
-    };
-    let trigger = trigger_of(rt.alloc(), &keys, &[], sort, None)?;
-    let events = [(1, waking("a pid=7 b", 42, 120)?, [0; 3])];
-    let text = written(rt.alloc(), 2048, &trigger, &events)?;
-    assert_eq!(rt; text.as_slice(), EQUALS);
-    Ok(())
-}
-
-#[test]
-fn powers_by_hits(rt: HostRuntime) -> Result<(), Fail> {
-    let keys = [KeyItem {
-        field: Field::Prio,
-        mode: Mode::Log2,
-    }];
-    let sort = SortItem {
-        what: SortBy::Hits,
-        descending: false,
-    };
-    let trigger = trigger_of(rt.alloc(), &keys, &[], sort, None)?;
-    let events = [
-        (1, waking("w", 31, 0)?, [0; 3]),
-        (2, waking("w", 31, 1)?, [0; 3]),
-        (3, waking("w", 31, 2)?, [0; 3]),
-        (4, waking("w", 31, 3)?, [0; 3]),
-        (5, waking("w", 31, -1)?, [0; 3]),
-    ];
-    let text = written(rt.alloc(), 2048, &trigger, &events)?;
-    assert_eq!(rt; text.as_slice(), POWERS);
-    Ok(())
-}
-
-#[test]
-fn buckets_by_hits(rt: HostRuntime) -> Result<(), Fail> {
-    let keys = [KeyItem {
-        field: Field::Pid,
-        mode: Mode::Buckets(32),
-    }];
-    let sort = SortItem {
-        what: SortBy::Hits,
-        descending: false,
-    };
-    let trigger = trigger_of(rt.alloc(), &keys, &[], sort, None)?;
-    let events = [
-        (1, waking("w", 31, 0)?, [0; 3]),
-        (2, waking("w", 31, 1)?, [0; 3]),
-        (3, waking("w", 31, 2)?, [0; 3]),
-        (4, waking("w", 31, 3)?, [0; 3]),
-        (5, waking("w", 31, -1)?, [0; 3]),
-        (6, waking("w", 32, 120)?, [0; 3]),
-    ];
-    let text = written(rt.alloc(), 2048, &trigger, &events)?;
-    assert_eq!(rt; text.as_slice(), BUCKETS);
-    Ok(())
-}
-
-#[test]
-fn hexadecimal_by_descending_sum(rt: HostRuntime) -> Result<(), Fail> {
     let keys = [KeyItem {
         field: Field::Pid,
         mode: Mode::Hex,
@@ -235,13 +117,14 @@ fn hexadecimal_by_descending_sum(rt: HostRuntime) -> Result<(), Fail> {
         what: SortBy::Value(0),
         descending: true,
     };
-    let trigger = trigger_of(rt.alloc(), &keys, &values, sort, None)?;
+    let trigger = trigger_of(rt.alloc(), &keys, &values, sort)?;
     let events = [
-        (1, waking("w", 5, 120)?, [120, 0, 0]),
-        (2, waking("w", 6, 120)?, [120, 0, 0]),
-        (3, waking("w", 6, 120)?, [120, 0, 0]),
+        (1, waking(5)?, [120, 0, 0]),
+        (2, waking(10)?, [120, 0, 0]),
+        (3, waking(10)?, [120, 0, 0]),
+        (4, waking(7)?, [120, 0, 0]),
     ];
-    let text = written(rt.alloc(), 2048, &trigger, &events)?;
-    assert_eq!(rt; text.as_slice(), HEXADECIMAL);
+    let text = written(rt.alloc(), 2, &trigger, &events)?;
+    assert_eq!(rt; text.as_slice(), TWO_OF_THREE);
     Ok(())
 }
