@@ -54,49 +54,20 @@ pub(super) fn trigger_of(
     Ok(Trigger::of(name, keys, value_items, sort, variable, 2048, None))
 }
 
-/// A variable that the stamps are saved under.
-fn saved(alloc: Global) -> Result<Var, AllocError> {
-    Ok(Var::Saves(Label::of(alloc, b"ts0")?))
-}
-
+/// Two fields and the trigger's own variable; an event of another name has no such field.
 #[test]
-fn values_of_a_switch(rt: HostRuntime) -> Result<(), Fail> {
+fn values_of_events(rt: HostRuntime) -> Result<(), Fail> {
     summed_fields();
     let alloc = rt.alloc();
-    let event = switch()?;
-    let priority = Item::Num(Field::NextPrio);
-    let pid = Item::Num(Field::PrevPid);
-    let first = trigger_of(alloc, &[priority, pid, Item::Own], Some(saved(alloc)?))?;
-    assert!(rt; first.values_of(&event, GREATEST_STAMP) == [-5, 2117, GREATEST_STAMP]);
-    assert!(rt; first.values_of(&event, -170) == [-5, 2117, -170]);
-    let second = trigger_of(alloc, &[Item::Own, priority, priority], Some(saved(alloc)?))?;
-    assert!(rt; second.values_of(&event, 20) == [20, -5, -5]);
-    Ok(())
-}
-
-#[test]
-fn fewer_values(rt: HostRuntime) -> Result<(), Fail> {
-    let alloc = rt.alloc();
-    let event = switch()?;
-    let priority = Item::Num(Field::NextPrio);
-    let two = trigger_of(alloc, &[Item::Num(Field::CommonPid), priority], None)?;
-    assert!(rt; two.values_of(&event, 20) == [7, -5, 0]);
-    let one = trigger_of(alloc, &[Item::Own], Some(saved(alloc)?))?;
-    assert!(rt; one.values_of(&event, 20) == [20, 0, 0]);
-    let none = trigger_of(alloc, &[], Some(saved(alloc)?))?;
-    assert!(rt; none.values_of(&event, 20) == [0, 0, 0]);
-    Ok(())
-}
-
-#[test]
-fn values_of_another_event(rt: HostRuntime) -> Result<(), Fail> {
-    let alloc = rt.alloc();
+    let label = Label::of(alloc, b"ts0")?;
+    assert!(rt; label.bytes() == b"ts0".as_slice());
     let values = [
-        Item::Num(Field::PrevPid),
-        Item::Num(Field::CommonCpu),
+        Item::Num(Field::NextPrio),
+        Item::Num(Field::CommonPid),
         Item::Own,
     ];
-    let trigger = trigger_of(alloc, &values, Some(saved(alloc)?))?;
-    assert!(rt; trigger.values_of(&waking(42, 120)?, 20) == [0, 3, 20]);
+    let trigger = trigger_of(alloc, &values, Some(Var::Saves(label)))?;
+    assert!(rt; trigger.values_of(&switch()?, GREATEST_STAMP) == [-5, 7, GREATEST_STAMP]);
+    assert!(rt; trigger.values_of(&waking(42, 120)?, -170) == [0, 7, -170]);
     Ok(())
 }
