@@ -1,5 +1,4 @@
 mod filters;
-mod hits;
 mod reading;
 
 use super::*;

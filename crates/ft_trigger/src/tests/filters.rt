@@ -4,7 +4,7 @@ ghost use Rattle.std.specs.Prelude.{◌≡◌, IfOk};
 ghost use Rattle.ft_event.specs.declared.event.Name.TheVariants.{Waking};
 
 use super::*;
-use crate::{parse, refiltered_reads_again};
+use crate::{parse, reads_again, refiltered_reads_again};
 use ft_filter::Filter;
 
 /// The filter of wakings with this text.
@@ -29,6 +29,7 @@ fn written_twice(alloc: Global, trigger: &Trigger) -> Result<Vec<u8>, Fail> {
 
 #[test]
 fn another_filter_is_written(rt: HostRuntime) -> Result<(), Fail> {
+    reads_again();
     refiltered_reads_again();
     let alloc = rt.alloc();
     let bare = b"hist:keys=pid:vals=hitcount,prio:sort=hitcount:size=256";

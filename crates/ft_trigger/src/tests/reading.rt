@@ -1,7 +1,6 @@
 //! What texts of triggers are read as.
 
 use super::*;
-use crate::{parse, reads_again};
 
 /// What a text is answered: the canonical text of the trigger that it gives, or the first fault.
 type Answer = Result<&'static str, TriggerFault>;
@@ -20,112 +19,9 @@ const BAD_GLOB: &str = "hist:keys=comm if comm ~ \"[a\"";
 /// What stands against it.
 const NO_GLOB: TriggerFault = TriggerFault::BadFilter(FilterFault::BadGlob(7));
 
-/// Texts on an event, and what each is answered.
-const ANSWERS: [(Name, &str, Answer); 21] = [
-    (
-        Name::Switch,
-        "hist:key=next_pid.log2:val=next_prio:sort=next_prio.ascending:size=129",
-        Ok("hist:keys=next_pid.log2:vals=hitcount,next_prio:sort=next_prio:size=256"),
-    ),
-    (
-        Name::Waking,
-        "hist:keys=pid:keys=prio",
-        Err(TriggerFault::Duplicate),
-    ),
-    (
-        Name::Waking,
-        "hist:keys=pid,prio,target_cpu,comm",
-        Err(TriggerFault::TooMany),
-    ),
-    (
-        Name::Waking,
-        "hist:keys=comm.hex",
-        Err(TriggerFault::BadModifier),
-    ),
-    (
-        Name::Waking,
-        "hist:keys=pid.execname",
-        Err(TriggerFault::LeftOut(10)),
-    ),
-    (
-        Name::Waking,
-        "hist:keys=pid:vals=comm",
-        Err(TriggerFault::NotNumeric),
-    ),
-    (
-        Name::Waking,
-        "hist:keys=pid:sort=prio",
-        Err(TriggerFault::BadSort),
-    ),
-    (
-        Name::Waking,
-        "hist:keys=next_pid",
-        Err(TriggerFault::NoField),
-    ),
-    (
-        Name::Waking,
-        "hist:vals=prio",
-        Err(TriggerFault::Syntax(14)),
-    ),
-    (
-        Name::Waking,
-        "hist:keys=pid  if",
-        Err(TriggerFault::Syntax(15)),
-    ),
-    (
-        Name::Waking,
-        "hist:keys=pid:size=0",
-        Err(TriggerFault::BadSize),
-    ),
-    (
-        Name::Waking,
-        "hist:keys=pid:size=64",
-        Err(TriggerFault::BadSize),
-    ),
-    (
-        Name::Waking,
-        "hist:keys=pid:size=65",
-        Ok("hist:keys=pid:vals=hitcount:sort=hitcount:size=128"),
-    ),
-    (
-        Name::Waking,
-        "hist:keys=pid:size=131072",
-        Ok("hist:keys=pid:vals=hitcount:sort=hitcount:size=131072"),
-    ),
-    (
-        Name::Waking,
-        "hist:keys=pid:size=131073",
-        Err(TriggerFault::BadSize),
-    ),
-    (
-        Name::Waking,
-        "hist:keys=pid:pause",
-        Err(TriggerFault::LeftOut(14)),
-    ),
-    (
-        Name::Waking,
-        "hist:keys=pid:ts0=common_timestamp.usecs",
-        Ok("hist:keys=pid:vals=hitcount:ts0=common_timestamp.usecs:sort=hitcount:size=2048"),
-    ),
-    (
-        Name::Switch,
-        "hist:keys=next_pid:vals=$lat:lat=common_timestamp.usecs-$ts0",
-        Ok(
-            "hist:keys=next_pid:vals=hitcount,$lat:lat=common_timestamp.usecs-$ts0:sort=hitcount:size=2048",
-        ),
-    ),
-    (Name::Waking, BAD_GLOB, Err(NO_GLOB)),
-    (
-        Name::Waking,
-        "hist:keys=pid if prio<100&&((comm~'cyc*'))",
-        Ok("hist:keys=pid:vals=hitcount:sort=hitcount:size=2048 if prio < 100 && comm ~ \"cyc*\""),
-    ),
-    (Name::Waking, RICH, Ok(RICH_WRITTEN)),
-];
-
-/// The text of the trigger that a text gives.
-fn written(alloc: Global, event: Name, text: &str) -> Result<Vec<u8>, TriggerFault> {
-    let trigger = parse(alloc, event, text.as_bytes())?;
+/// The text of the trigger that a text on wakings gives.
+fn written(alloc: Global, text: &str) -> Result<Vec<u8>, TriggerFault> {
+    let trigger = parse(alloc, Name::Waking, text.as_bytes())?;
     let mut line = Vec::new(alloc);
     match trigger.write(&mut line) {
         Ok(()) => Ok(line),
@@ -142,25 +38,29 @@ fn is_wanted(found: &Result<Vec<u8>, TriggerFault>, want: Answer) -> bool {
     }
 }
 
-/// Whether the text is answered so.
-fn is_answered(alloc: Global, event: Name, text: &str, want: Answer) -> bool {
-    is_wanted(&written(alloc, event, text), want)
+#[test]
+fn a_fault_has_a_number_and_may_have_a_place(rt: HostRuntime) {
+    one_answer();
+    let found = parse(rt.alloc(), Name::Waking, b"hist:keys=pid:pause").err();
+    assert!(rt; found == Some(TriggerFault::LeftOut(14)));
+    assert!(rt; TriggerFault::LeftOut(14).number() == 10);
+    assert!(rt; TriggerFault::LeftOut(14).place() == Some(14));
+    assert!(rt; NO_GLOB.number() == 11);
+    assert!(rt; NO_GLOB.place().is_none());
 }
 
-#[test]
-fn answers(rt: HostRuntime) {
-    one_answer();
-    reads_again();
-    for (event, text, want) in ANSWERS {
-        assert!(rt; is_answered(rt.alloc(), event, text, want), "{text}");
-        // What is written gives a trigger that is written alike.
-        if let Ok(canonical) = want {
-            assert!(rt;
-                is_answered(rt.alloc(), event, canonical, want),
-                "{canonical}"
-            );
-        }
-    }
+/// Calls the laws of what texts are read as, which do nothing as they run.
+fn laws() {
+    any_order();
+    cuts();
+    faults_stay();
+    heads_first();
+    one_list();
+    one_tail();
+    one_word();
+    shapes();
+    sizes();
+    sound_triggers();
 }
 
 /// Whether the variable reads under the name `w` what `ts0` saves.
@@ -183,6 +83,7 @@ fn filter_text(alloc: Global, trigger: &Trigger) -> Result<Vec<u8>, Fail> {
 
 #[test]
 fn parts_of_a_rich_text(rt: HostRuntime) -> Result<(), Fail> {
+    laws();
     let trigger = parse(rt.alloc(), Name::Waking, RICH.as_bytes())?;
     let keys = [
         item(Field::Pid, Mode::Hex),
@@ -217,61 +118,31 @@ fn key_of_rich(alloc: Global, pid: i32, prio: i32) -> Result<Option<Key>, Fail> 
     Ok(trigger.hit_of(&waking(pid, prio)?, &mut Work::new()))
 }
 
-/// What the trigger of a text on wakings sums and sorts by.
-fn sums_and_sort(
-    alloc: Global,
-    text: &str,
-    values: &[Item],
-    sort: &[SortItem],
-) -> Result<bool, TriggerFault> {
-    let trigger = parse(alloc, Name::Waking, text.as_bytes())?;
-    Ok(trigger.values() == values && trigger.sort() == sort)
-}
-
-#[test]
-fn sort_items_by_number(rt: HostRuntime) -> Result<(), Fail> {
-    let alloc = rt.alloc();
-    let own = SortItem {
-        what: SortBy::Value(1),
-        descending: true,
-    };
-    let key = |number| SortItem {
-        what: SortBy::Key(number),
-        descending: false,
-    };
-    assert!(rt;
-        sums_and_sort(
-            alloc,
-            "hist:keys=pid,prio:vals=hitcount,target_cpu,$v:v=common_timestamp.usecs:sort=$v.descending,prio",
-            &[Item::Num(Field::TargetCpu), Item::Own],
-            &[own, key(1)],
-        )?
-    );
-    // A name that is a key and a value is the key.
-    assert!(rt;
-        sums_and_sort(
-            alloc,
-            "hist:keys=pid:vals=pid:sort=pid",
-            &[Item::Num(Field::Pid)],
-            &[key(0)],
-        )?
-    );
-    Ok(())
+/// Whether the rich text's keys match those of a text on switches.
+fn keys_match(alloc: Global, saver: &str) -> Result<bool, TriggerFault> {
+    let reader = parse(alloc, Name::Waking, RICH.as_bytes())?;
+    let saver = parse(alloc, Name::Switch, saver.as_bytes())?;
+    Ok(reader.keys_match(&saver))
 }
 
 #[test]
 fn hits_of_a_rich_text(rt: HostRuntime) -> Result<(), Fail> {
+    asked_events();
     let name = Part::Text(comm_of("w")?);
     let key = Key::of_three(Part::Num(42), Part::Bucket(96), name);
     assert!(rt; key_of_rich(rt.alloc(), 42, 120)? == Some(key));
     assert!(rt; key_of_rich(rt.alloc(), 41, 120)?.is_none());
+    // Its keys are of the kinds of these fields, whether printed in hexadecimal or not.
+    let saver = "hist:keys=next_pid,next_prio.buckets=32,next_comm:ts0=common_timestamp.usecs";
+    assert!(rt; keys_match(rt.alloc(), saver)?);
+    assert!(rt; !keys_match(rt.alloc(), "hist:keys=next_pid")?);
     Ok(())
 }
 
 /// What a text on wakings is answered, when asked again where memory ran out.
 fn written_at_last(alloc: Global, text: &str) -> Result<Vec<u8>, TriggerFault> {
-    match written(alloc, Name::Waking, text) {
-        Err(TriggerFault::Memory) => written(alloc, Name::Waking, text),
+    match written(alloc, text) {
+        Err(TriggerFault::Memory) => written(alloc, text),
         other => other,
     }
 }
