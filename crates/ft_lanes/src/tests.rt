@@ -1,6 +1,3 @@
-ghost use Rattle.std.specs.Prelude.{◌≡◌, ◌++◌, [], fold, map as list_map, IfOk, OnOk};
-ghost use Rattle.std.specs.FinMap as map;
-
 use super::*;
 use ft_event::{Body, Comm, Event};
 use std::alloc::{AllocError, Global};
@@ -63,27 +60,14 @@ fn loaded(alloc: Global, lanes: &mut Lanes, places: &[(u16, u64)]) -> Option<boo
 }
 
 /// The events of all lanes, each with its CPU, line and stamp, lane by lane.
-fn walked(alloc: Global, lanes: &Lanes) -> Result<Vec<(u16, u32, u64)>, AllocError>
-    ensures { IfOk result (λ v. v.items ≡ fold
-        (λ all e. all ++ list_map (λ x. (e.0, x.0, x.1.stamp)) (map.entries e.1.events))
-        [] (map.entries lanes.now)) }
-{
+fn walked(alloc: Global, lanes: &Lanes) -> Result<Vec<(u16, u32, u64)>, AllocError> {
     let mut all = Vec::new(alloc);
     for (cpu, lane) in lanes.lanes() {
-        walk_lane(&mut all, cpu, &lane)?;
+        for (line, event) in lane.lines() {
+            all.push((cpu, line, event.stamp))?;
+        }
     }
     Ok(all)
-}
-
-/// Adds the events of a lane, by line.
-fn walk_lane(all: &mut Vec<(u16, u32, u64)>, cpu: u16, lane: &Lane<'_>) -> Result<(), AllocError>
-    ensures { OnOk result (all.new.items
-        ≡ all.old.items ++ list_map (λ x. (cpu, x.0, x.1.stamp)) (map.entries lane.now.events)) }
-{
-    for (line, event) in lane.lines() {
-        all.push((cpu, line, event.stamp))?;
-    }
-    Ok(())
 }
 
 #[test]
@@ -132,71 +116,6 @@ fn an_unloaded_lane_begins_anew(rt: HostRuntime) -> Result<(), Fail> {
     Ok(())
 }
 
-/// A held event as a plain list has it: its CPU, line and stamp.
-type Place = (u16, u32, u64);
-
-/// Whether the lanes hold just these events.
-fn holds(lanes: &Lanes, places: &[Place]) -> bool {
-    let mut same = lanes.len() == places.len() as u64;
-    for (cpu, line, stamp) in places {
-        same = same && stamp_at(lanes, *cpu, *line) == Some(*stamp);
-    }
-    same
-}
-
-/// Pushes an event to the CPU that is the stamp's remainder by three, here and in a plain list.
-fn push_next(lanes: &mut Lanes, places: &mut Vec<Place>, stamp: u64) -> Option<()> {
-    let cpu = (stamp % 3) as u16;
-    let line = pushed(lanes, event_at(cpu, stamp))?;
-    places.push((cpu, line, stamp)).ok()
-}
-
-/// Strikes the oldest event, if there is one, here and in a plain list: whether they agreed.
-fn strike_first(lanes: &mut Lanes, places: &mut Vec<Place>) -> bool {
-    if places.is_empty() {
-        return true;
-    }
-    let (cpu, line, stamp) = places.remove(0);
-    lanes.take(cpu, line).map(|event| event.stamp) == Some(stamp)
-}
-
-/// Pushes an event for each stamp below the end, and after each third one strikes the oldest that
-/// is held; beside the lanes a plain list is kept. Whether they agreed.
-fn agrees(alloc: Global, lanes: &mut Lanes, end: u16) -> Option<bool> {
-    let mut places: Vec<Place> = Vec::new(alloc);
-    let mut same = true;
-    for turn in 0..end {
-        push_next(lanes, &mut places, u64::from(turn))?;
-        if turn % 3 == 2 {
-            same = same && strike_first(lanes, &mut places);
-        }
-        same = same && holds(lanes, &places);
-    }
-    Some(same)
-}
-
-/// Pushes an event for each stamp below the end, and keeps the last five, so that nearly all of the
-/// store is dead again and again; beside the lanes a plain list is kept. Whether they agreed.
-fn agrees_on_the_last(alloc: Global, lanes: &mut Lanes, end: u16) -> Option<bool> {
-    let mut places: Vec<Place> = Vec::new(alloc);
-    let mut same = true;
-    for turn in 0..end {
-        push_next(lanes, &mut places, u64::from(turn))?;
-        if places.len() > 5 {
-            same = same && strike_first(lanes, &mut places);
-        }
-        same = same && holds(lanes, &places);
-    }
-    Some(same)
-}
-
-#[test]
-fn strikes_and_pushes_agree_with_a_plain_list(rt: HostRuntime) {
-    let mut lanes = Lanes::new(rt.alloc());
-    assert_eq!(rt; agrees(rt.alloc(), &mut lanes, 120), Some(true));
-    assert_eq!(rt; lanes.len(), 80);
-}
-
 #[test]
 fn what_is_refused_leaves_the_lanes(rt: HostRuntime) {
     let mut lanes = Lanes::new(rt.alloc());
@@ -210,33 +129,6 @@ fn what_is_refused_leaves_the_lanes(rt: HostRuntime) {
     assert!(rt; !first || has_lines(&lanes, 0, &[(1, 6)]));
     let third = pushed(&mut lanes, event_at(0, 12)).is_some();
     assert_eq!(rt; lanes.next_line(0), 1 + u64::from(first) + u64::from(third));
-}
-
-#[test]
-fn a_store_that_is_mostly_dead_is_rebuilt(rt: HostRuntime) -> Result<(), Fail> {
-    let mut lanes = Lanes::new(rt.alloc());
-    assert_eq!(rt; agrees_on_the_last(rt.alloc(), &mut lanes, 300), Some(true));
-    assert_eq!(rt; (lanes.len(), lanes.next_line(0)), (5, 101));
-    assert_eq!(rt;
-        loaded(rt.alloc(), &mut lanes, &[(7, 1), (5, 2), (7, 3)]),
-        Some(true)
-    );
-    let all = walked(rt.alloc(), &lanes)?;
-    assert_eq!(rt;
-        all.as_slice(),
-        [
-            (0, 100, 297),
-            (1, 99, 295),
-            (1, 100, 298),
-            (2, 99, 296),
-            (2, 100, 299),
-            (5, 1, 2),
-            (7, 1, 1),
-            (7, 2, 3)
-        ]
-        .as_slice()
-    );
-    Ok(())
 }
 
 #[test]

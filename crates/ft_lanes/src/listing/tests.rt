@@ -1,7 +1,7 @@
 //! Texts of lanes.
 
 use crate::Lanes;
-use ft_event::{Body, Comm, Event, Line, Wake, read_line};
+use ft_event::{Event, Line, read_line};
 use std::alloc::Global;
 use std::test::*;
 
@@ -40,22 +40,6 @@ fn lists(alloc: Global, lanes: &Lanes, cpu: u16, want: &[u8]) -> bool {
     }
 }
 
-/// A waking to a CPU below 0, as no trace line has it, on CPU 1023 at stamp 0.
-fn waking_below_zero() -> Option<Event> {
-    Some(Event {
-        task: Comm::of(b"a-b")?,
-        pid: 0,
-        cpu: 1023,
-        stamp: 0,
-        body: Body::WakeupNew(Wake {
-            comm: Comm::of(b"")?,
-            pid: -2_147_483_648,
-            prio: 120,
-            target_cpu: -7,
-        }),
-    })
-}
-
 /// An event of no named kind, on CPU 0.
 const OTHER: &[u8] = b"            bash-1994  [000] .... 152.583900: sys_open -> 3";
 
@@ -71,12 +55,7 @@ const SWITCH: &[u8] =
 const OTHER_LISTED: &[u8] = b"0:1 bash-1994 [000] 152.583900:
 ";
 
-/// What the list of CPU 3 shows of the waking.
-const WAKING_LISTED: &[u8] =
-    b"3:1 my-app 2-9 [003] 100.000001: sched_waking: comm=x pid=3 prio=-1 target_cpu=003
-";
-
-/// And of the waking and the switch.
+/// What the list of CPU 3 shows: the waking and the switch.
 const BOTH_LISTED: &[u8] =
     b"3:1 my-app 2-9 [003] 100.000001: sched_waking: comm=x pid=3 prio=-1 target_cpu=003
 3:2 <idle>-0 [003] 7.100000: sched_switch: prev_comm=swapper/3 prev_pid=0 prev_prio=120 prev_state=R+ ==> next_comm=my app next_pid=42 next_prio=-5
@@ -88,31 +67,5 @@ fn each_lane_has_its_lines(rt: HostRuntime) -> Result<(), Fail> {
     assert!(rt; lists(rt.alloc(), &lanes, 0, OTHER_LISTED));
     assert!(rt; lists(rt.alloc(), &lanes, 3, BOTH_LISTED));
     assert!(rt; matches!(lanes.list(rt.alloc(), 1), Ok(None)));
-    Ok(())
-}
-
-#[test]
-fn a_cpu_below_zero_has_its_sign_in_front(rt: HostRuntime) -> Result<(), Fail> {
-    let mut lanes = Lanes::new(rt.alloc());
-    let event = waking_below_zero().ok_or("no event")?;
-    assert_eq!(rt; pushed(&mut lanes, event), Some(1));
-    assert!(rt;
-        lists(
-            rt.alloc(),
-            &lanes,
-            1023,
-            b"1023:1 a-b-0 [1023] 0.000000: sched_wakeup_new: comm= pid=-2147483648 prio=120 target_cpu=-007\n",
-        )
-    );
-    Ok(())
-}
-
-#[test]
-fn struck_lines_are_not_listed(rt: HostRuntime) -> Result<(), Fail> {
-    let mut lanes = lanes_of(rt.alloc(), &[WAKING, SWITCH]).ok_or("no lanes")?;
-    assert!(rt; lanes.take(3, 2).is_some());
-    assert!(rt; lists(rt.alloc(), &lanes, 3, WAKING_LISTED));
-    assert!(rt; lanes.take(3, 1).is_some());
-    assert!(rt; lists(rt.alloc(), &lanes, 3, b""));
     Ok(())
 }
