@@ -5,9 +5,9 @@ ghost use Rattle.ft_desk.specs.Base.{empty_base};
 ghost use Rattle.checkrows.specs.declared.checks.Unheld.TheVariants.{Memory};
 
 use crate::row::Row;
+use ft_board::KeptBoard;
 use ft_desk::{
-    Board, Desk, FileFault, KeptBoard, Performed, PlainBoard, RunFault, Status, perform, run,
-    run_text,
+    Board, Desk, FileFault, Performed, PlainBoard, RunFault, Status, perform, run, run_text,
 };
 use std::alloc::{AllocError, Global};
 use std::fmt;

@@ -20,16 +20,16 @@ use Rattle.ft_pairs.specs.declared.at.Op.TheVariants.{Save, Read}
 use Rattle.ft_table.specs.Tabled.{is_in}
 use Rattle.ft_kept.specs.Acts.{Acts, acts_of, op_of}
 use Rattle.ft_kept.specs.Entries.{HitsHere, Finds, IsEntry, IsKept, IsRight, hits_here, one_hit, read_here}
-use Rattle.ft_kept.specs.Roles.{Admits, op_as}
+use Rattle.ft_pairs.specs.Roles.{Admits, op_as}
 use Rattle.ft_kept.specs.Shelves.{Shelved, Shelves, Kept, admits_on, is_saver, kept_on}
-use Rattle.ft_kept.specs.Values.{ValuesBy, values_at, values_by}
-use Rattle.ft_kept.specs.Variables.{variable_cmp, variable_same}
-use Rattle.ft_kept.specs.declared.role.Role.{Role}
-use Rattle.ft_kept.specs.declared.role.Role.TheVariants.{Plain, Saves, Reads}
-use Rattle.ft_kept.specs.declared.role.Variable.{Variable}
-use Rattle.ft_board.specs.Base.{Triggers, Events}
+use Rattle.ft_table.specs.Values.{ValuesBy, values_at, values_by}
+use Rattle.ft_pairs.specs.Variables.{variable_cmp, variable_same}
+use Rattle.ft_pairs.specs.declared.role.Role.{Role}
+use Rattle.ft_pairs.specs.declared.role.Role.TheVariants.{Plain, Saves, Reads}
+use Rattle.ft_pairs.specs.declared.role.Variable.{Variable}
+use Rattle.ft_replay.specs.Base.{Triggers, Events}
 use Rattle.ft_board.specs.KeptShelves.{HasItsShelf}
-use Rattle.ft_board.specs.Roles.{role_of, role_at}
+use Rattle.ft_replay.specs.Roles.{role_of, role_at}
 use Rattle.ft_board.proofs.KeptBoardActs.{act_in}
 
 -- ---- acts

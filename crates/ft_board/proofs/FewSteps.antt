@@ -8,20 +8,20 @@ use Rattle.ft_event.specs.Traced.{Traced}
 use Rattle.ft_event.specs.declared.pos.Pos.{Pos}
 use Rattle.ft_hist.specs.Steps.{Steps}
 use Rattle.ft_kept.specs.Bounds.{SomeSaverMoves, with_hit_of, without_hit_of}
-use Rattle.ft_kept.specs.Repairs.{count_on}
+use Rattle.ft_hist.specs.Tests.{count_on}
 use Rattle.ft_kept.specs.Shelves.{Shelves}
 use Rattle.ft_lanes.specs.Edits.{lane_or_new, lanes_with, lanes_without}
 use Rattle.ft_lanes.specs.Held.{event_at}
 use Rattle.ft_maps.specs.Entries.{get-remove_same}
 use Rattle.ft_table.specs.Growth.{InGrows, RowsGrow, TotalsGrow}
-use Rattle.ft_board.specs.declared.refused.Place.{Place}
-use Rattle.ft_board.specs.After.{after_insert}
-use Rattle.ft_board.specs.Base.{Base, Triggers, Events}
-use Rattle.ft_board.specs.Costs.{ComesAtCost, CostsOf, GoesAtCost, SaversStay, merged_without, pos_at}
+use Rattle.ft_replay.specs.declared.refused.Place.{Place}
+use Rattle.ft_replay.specs.After.{after_insert}
+use Rattle.ft_replay.specs.Base.{Base, Triggers, Events}
+use Rattle.ft_replay.specs.Costs.{ComesAtCost, CostsOf, GoesAtCost, SaversStay, merged_without, pos_at}
 use Rattle.ft_board.specs.KeptBeside.{AreKeptOf, AreKeptWithout}
-use Rattle.ft_board.specs.Merged.{merged}
-use Rattle.ft_board.specs.Reachable.{IsReachable}
-use Rattle.ft_board.proofs.Cases.{insert-gives}
+use Rattle.ft_replay.specs.Merged.{merged}
+use Rattle.ft_replay.specs.Reachable.{IsReachable}
+use Rattle.ft_replay.proofs.Cases.{insert-gives}
 use Rattle.ft_board.proofs.KeptBoardLanes.{absent_before, merged_one_more, placed_there, put_back, merged_one_less, new_line_has}
 use Rattle.ft_board.proofs.KeptEntries.{OneSource}
 use Rattle.ft_board.proofs.SaverHits.{taken_again}

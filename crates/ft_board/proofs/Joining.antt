@@ -16,13 +16,14 @@ use Rattle.ft_table.specs.Tabled.{Tabled}
 use Rattle.ft_kept.specs.Acts.{Acts, acts_of, op_of}
 use Rattle.ft_kept.specs.Entries.{IsRight, hits_here, read_here}
 use Rattle.ft_kept.specs.Shelves.{Shelved, Shelves, AddsShelf, admits_on, kept_on}
-use Rattle.ft_kept.specs.Values.{values_by}
-use Rattle.ft_kept.specs.declared.role.Variable.{Variable}
-use Rattle.ft_board.specs.Base.{Triggers, Base, Events}
+use Rattle.ft_table.specs.Values.{values_by}
+use Rattle.ft_pairs.specs.declared.role.Variable.{Variable}
+use Rattle.ft_replay.specs.Base.{Triggers, Base, Events}
 use Rattle.ft_board.specs.KeptShelves.{HasItsShelf}
-use Rattle.ft_board.specs.Merged.{merged}
-use Rattle.ft_board.specs.OneTrigger.{IsUnread, AreKeptBut, AreKeptIdle}
-use Rattle.ft_board.specs.Roles.{role_of, role_at}
+use Rattle.ft_replay.specs.Merged.{merged}
+use Rattle.ft_replay.specs.OneTrigger.{IsUnread}
+use Rattle.ft_board.specs.ButOne.{AreKeptBut, AreKeptIdle}
+use Rattle.ft_replay.specs.Roles.{role_of, role_at}
 use Rattle.ft_board.proofs.Alike.{rest, rest_same, rest_none, rest_no_act, same_ops, no_ops, op_same, no_op_there, right_moves, right_none, all_right, shelf_same}
 
 module _ (base : Base) (id : ℕ) (hist : Hist) (attached : map.get base.triggers id ≡ Some hist) (unread : IsUnread base.triggers id)

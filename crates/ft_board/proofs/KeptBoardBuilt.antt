@@ -18,30 +18,30 @@ use Rattle.ft_hist.specs.declared.key.Part.{Part}
 use Rattle.ft_kept.specs.Acts.{Acts, acts_of, op_of}
 use Rattle.ft_kept.specs.Entries.{IsEntry, IsKept, hits_here, read_here}
 use Rattle.ft_kept.specs.Repairs.{EventCanCome, EventHasCome}
-use Rattle.ft_kept.specs.Roles.{Admits, op_as}
+use Rattle.ft_pairs.specs.Roles.{Admits, op_as}
 use Rattle.ft_kept.specs.Shelves.{Shelved, Shelves, FormsStay, AddsShelf, admits_on, kept_on}
-use Rattle.ft_kept.specs.Values.{values_by}
-use Rattle.ft_kept.specs.declared.role.Role.{Role}
-use Rattle.ft_kept.specs.declared.role.Variable.{Variable}
+use Rattle.ft_table.specs.Values.{values_by}
+use Rattle.ft_pairs.specs.declared.role.Role.{Role}
+use Rattle.ft_pairs.specs.declared.role.Variable.{Variable}
 use Rattle.ft_lanes.specs.Held.{Lane, Lanes}
 use Rattle.ft_maps.specs.Entries.{strictly_sorted, same_from_tie}
 use Rattle.ft_pairs.specs.ByKey.{ops_of}
 use Rattle.ft_pairs.specs.declared.at.At.{At}
 use Rattle.ft_table.specs.Tabled.{Tabled}
 use Rattle.ft_table.specs.declared.mark.Mark.{Mark}
-use Rattle.ft_board.specs.Base.{Triggers, Events}
+use Rattle.ft_replay.specs.Base.{Triggers, Events}
 use Rattle.ft_board.specs.KeptBeside.{HasNewShelf, AreNew}
 use Rattle.ft_board.specs.KeptShelves.{HasItsShelf, AreKept}
-use Rattle.ft_board.specs.Merged.{merged, merged_with, held_at}
-use Rattle.ft_board.specs.Named.{named}
-use Rattle.ft_board.specs.Roles.{role_of, role_at}
-use Rattle.ft_board.proofs.Apart.{above-is, all_of, all_map, all_both, entries_found}
-use Rattle.ft_board.proofs.Earlier.{all_above}
+use Rattle.ft_replay.specs.Merged.{merged, merged_with, held_at}
+use Rattle.ft_replay.specs.Named.{named}
+use Rattle.ft_replay.specs.Roles.{role_of, role_at}
+use Rattle.ft_replay.proofs.Apart.{above-is, all_of, all_map, all_both, entries_found}
+use Rattle.ft_replay.proofs.Earlier.{all_above}
 use Rattle.ft_board.proofs.KeptBoardActs.{act_in, AllHeld, merged_held, acts_held, named_acts}
 use Rattle.ft_board.proofs.KeptBoardForms.{shelves_stay, by_shelves, by_triggers}
-use Rattle.ft_board.proofs.Naming.{named_all}
-use Rattle.ft_board.proofs.Places.{merged_at}
-use Rattle.ft_board.proofs.Placing.{get-inserted, or_none}
+use Rattle.ft_replay.proofs.Naming.{named_all}
+use Rattle.ft_replay.proofs.Places.{merged_at}
+use Rattle.ft_replay.proofs.Placing.{get-inserted, or_none}
 
 -- ---- new shelves
 

@@ -8,15 +8,16 @@ use Rattle.ft_hist.specs.declared.label.Var.TheVariants as vars
 use Rattle.ft_kept.specs.Acts.{Acts}
 use Rattle.ft_kept.specs.Entries.{IsKept}
 use Rattle.ft_kept.specs.Repairs as repairs
-use Rattle.ft_kept.specs.Roles.{Admits}
+use Rattle.ft_pairs.specs.Roles.{Admits}
 use Rattle.ft_kept.specs.Shelves.{Shelved, Shelves, Kept, FormStays, FormsStay, role_on}
-use Rattle.ft_kept.specs.Values.{values_by}
-use Rattle.ft_kept.specs.declared.role.Role.{Role}
-use Rattle.ft_kept.specs.declared.role.Role.TheVariants.{Plain, Saves, Reads}
-use Rattle.ft_board.specs.Base.{Triggers}
+use Rattle.ft_table.specs.Values.{values_by}
+use Rattle.ft_pairs.specs.declared.role.Role.{Role}
+use Rattle.ft_pairs.specs.declared.role.Role.TheVariants.{Plain, Saves, Reads}
+use Rattle.ft_replay.proofs.Savers.{reads_of}
+use Rattle.ft_replay.specs.Base.{Triggers}
 use Rattle.ft_board.specs.KeptShelves.{HasItsShelf}
-use Rattle.ft_board.specs.Reachable.{HasSaver, HasSavers}
-use Rattle.ft_board.specs.Roles.{role_of, role_at, saver_of}
+use Rattle.ft_replay.specs.Reachable.{HasSaver, HasSavers}
+use Rattle.ft_replay.specs.Roles.{role_of, role_at, saver_of}
 
 -- each attached trigger has its shelf
 abbrev pub HaveShelves : Triggers → Shelves → Type 0
@@ -56,18 +57,6 @@ module _ (triggers : Triggers) (shelves : Shelves) (has : HaveShelves triggers s
   by_triggers admits acts kept is = subst (λ (role : ℕ → Role). IsKept role (values_by triggers) admits acts kept) roles is
 
 -- ---- a reader's saver has a shelf
-
--- a variable that is read has its reader's role
-pub reads_of : (triggers : Triggers) (variable : Option Var) (saver : ℕ) → role_of triggers variable ≡ Reads saver
-    → (own : List ℕ) × ((source : List ℕ) × ((variable ≡ Some (vars.Reads own source)) × (unwrap_or (saver_of triggers source) 0 ≡ saver)))
-reads_of triggers None saver is = let both : ◌≡◌ {A = Role} Plain (Reads saver) = is in absurd cc
-reads_of triggers (Some (vars.Saves label)) saver is = let both : ◌≡◌ {A = Role} Saves (Reads saver) = is in absurd cc
-reads_of triggers (Some (vars.Reads own source)) saver is = (own, (source, (refl, ap saver_in is)))
-  where
-    saver_in : Role → ℕ
-    saver_in (Reads saver) = saver
-    saver_in Plain = 0
-    saver_in Saves = 0
 
 -- so the saver is attached
 saver_there : (triggers : Triggers) → HasSavers triggers → (id : ℕ) (hist : Hist) (saver : ℕ) → map.get triggers id ≡ Some hist → role_of triggers hist.variable ≡ Reads saver → is_some (map.get triggers saver) ≡ true

@@ -16,21 +16,21 @@ use Rattle.ft_pairs.specs.declared.at.Op.TheVariants.{Save}
 use Rattle.ft_table.specs.Hits.{same_key}
 use Rattle.ft_kept.specs.Acts.{acts_of, op_of}
 use Rattle.ft_kept.specs.Entries.{Finds, IsEntry, IsKept, hits_here, one_hit, read_here}
-use Rattle.ft_kept.specs.Roles.{Admits, op_as}
+use Rattle.ft_pairs.specs.Roles.{Admits, op_as}
 use Rattle.ft_kept.specs.Shelves.{Kept}
-use Rattle.ft_kept.specs.Values.{values_at, values_by}
-use Rattle.ft_kept.specs.Variables.{variable_cmp}
-use Rattle.ft_kept.specs.declared.role.Role.{Role}
-use Rattle.ft_kept.specs.declared.role.Role.TheVariants.{Plain, Saves, Reads}
-use Rattle.ft_kept.specs.declared.role.Variable.{Variable}
-use Rattle.ft_board.specs.Base.{Triggers, Events}
-use Rattle.ft_board.specs.Hits.{TriggerHit, found_at, hit_at}
-use Rattle.ft_board.specs.Kept.{values_found, saving_found}
-use Rattle.ft_board.specs.Operations.{is_admitted, ops_on}
-use Rattle.ft_board.specs.Replay.{replay}
-use Rattle.ft_board.specs.Roles.{role_of, role_at}
+use Rattle.ft_table.specs.Values.{values_at, values_by}
+use Rattle.ft_pairs.specs.Variables.{variable_cmp}
+use Rattle.ft_pairs.specs.declared.role.Role.{Role}
+use Rattle.ft_pairs.specs.declared.role.Role.TheVariants.{Plain, Saves, Reads}
+use Rattle.ft_pairs.specs.declared.role.Variable.{Variable}
+use Rattle.ft_replay.specs.Base.{Triggers, Events}
+use Rattle.ft_replay.specs.Hits.{TriggerHit, found_at, hit_at}
+use Rattle.ft_replay.specs.Kept.{values_found, saving_found}
+use Rattle.ft_replay.specs.Operations.{is_admitted, ops_on}
+use Rattle.ft_replay.specs.Replay.{replay}
+use Rattle.ft_replay.specs.Roles.{role_of, role_at}
 use Rattle.ft_board.proofs.ByRole.{hit_with, no_event, no_key, by_role}
-use Rattle.ft_board.proofs.Matched.{matched}
+use Rattle.ft_replay.proofs.Matched.{matched}
 
 -- what a reading finds is one thing
 abbrev pub OneSource : Type 0

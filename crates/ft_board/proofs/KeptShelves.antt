@@ -12,27 +12,27 @@ use Rattle.ft_hist.specs.Hit.{hit}
 use Rattle.ft_hist.specs.Ties.{key_same}
 use Rattle.ft_hist.specs.declared.key.Part.{Part}
 use Rattle.ft_kept.specs.Shelves.{Shelved, Shelves, admits_on, is_saver, kept_on}
-use Rattle.ft_kept.specs.declared.role.Role.{Role}
-use Rattle.ft_kept.specs.declared.role.Role.TheVariants.{Saves, Reads}
+use Rattle.ft_pairs.specs.declared.role.Role.{Role}
+use Rattle.ft_pairs.specs.declared.role.Role.TheVariants.{Saves, Reads}
 use Rattle.ft_maps.specs.Entries.{same_from_tie}
 use Rattle.ft_table.specs.Growth.{InGrows, RowsGrow, TotalsGrow}
 use Rattle.ft_table.specs.Hits.{Hits, same_key}
 use Rattle.ft_table.specs.Rows.{AllFit}
 use Rattle.ft_table.specs.Tabled.{Tabled, is_in}
 use Rattle.ft_table.specs.declared.mark.Mark.{Mark}
-use Rattle.ft_board.specs.Base.{Triggers, Events}
-use Rattle.ft_board.specs.Counting.{table_for}
-use Rattle.ft_board.specs.Hits.{TriggerHit, hit_at, hits_of}
-use Rattle.ft_board.specs.Kept.{values_found, saving_found, pairs_in}
+use Rattle.ft_replay.specs.Base.{Triggers, Events}
+use Rattle.ft_replay.specs.Counting.{table_for}
+use Rattle.ft_replay.specs.Hits.{TriggerHit, hit_at, hits_of}
+use Rattle.ft_replay.specs.Kept.{values_found, saving_found, pairs_in}
 use Rattle.ft_board.specs.KeptShelves.{AreKept, HasItsShelf, IsShelfOf}
-use Rattle.ft_board.specs.Operations.{is_admitted}
-use Rattle.ft_board.specs.Replay.{replay}
-use Rattle.ft_board.specs.Roles.{role_at}
-use Rattle.ft_board.specs.Tally.{tally_of}
+use Rattle.ft_replay.specs.Operations.{is_admitted}
+use Rattle.ft_replay.specs.Replay.{replay}
+use Rattle.ft_replay.specs.Roles.{role_at}
+use Rattle.ft_replay.specs.Tally.{tally_of}
 use Rattle.ft_board.proofs.ByRole.{key_fits}
 use Rattle.ft_board.proofs.KeptEntries.{OneSource, AdmitsAsReplayed, IsReplayedAt, role-is, ops-are, as-replayed}
-use Rattle.ft_board.proofs.KeptMaps.{values-are}
-use Rattle.ft_board.proofs.Replaying.{admitted-in, tally-kept}
+use Rattle.ft_replay.proofs.KeptMaps.{values-are}
+use Rattle.ft_replay.proofs.Replaying.{admitted-in, tally-kept}
 
 module _ (rows : RowsGrow) (totals : TotalsGrow) (members : InGrows) (one : OneSource) (triggers : Triggers) (events : Events) (shelves : Shelves) (kept : AreKept triggers events shelves) where
   -- an attached trigger has a shelf

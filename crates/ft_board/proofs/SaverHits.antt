@@ -15,21 +15,21 @@ use Rattle.ft_hist.specs.Hit.{hit}
 use Rattle.ft_hist.specs.Parts.{key_cmp}
 use Rattle.ft_hist.specs.declared.key.Part.{Part}
 use Rattle.ft_kept.specs.Bounds.{with_hit_of, without_hit_of}
-use Rattle.ft_kept.specs.Values.{values_at}
-use Rattle.ft_kept.specs.declared.role.Role.TheVariants.{Saves}
+use Rattle.ft_table.specs.Values.{values_at}
+use Rattle.ft_pairs.specs.declared.role.Role.TheVariants.{Saves}
 use Rattle.ft_maps.specs.Entries.{same_from_tie}
 use Rattle.ft_table.specs.Growth.{with_hit}
 use Rattle.ft_table.specs.Hits.{same_key}
 use Rattle.ft_table.specs.Marks.{mark_cmp_total, mark_same}
 use Rattle.ft_table.specs.OneKey.{without_hit}
 use Rattle.ft_table.specs.declared.mark.Mark.{Mark}
-use Rattle.ft_board.specs.Base.{Triggers, Events}
-use Rattle.ft_board.specs.Counting.{table_for}
-use Rattle.ft_board.specs.Hits.{hits_of}
-use Rattle.ft_board.specs.Kept.{values_found}
-use Rattle.ft_board.specs.Roles.{role_of}
+use Rattle.ft_replay.specs.Base.{Triggers, Events}
+use Rattle.ft_replay.specs.Counting.{table_for}
+use Rattle.ft_replay.specs.Hits.{hits_of}
+use Rattle.ft_replay.specs.Kept.{values_found}
+use Rattle.ft_replay.specs.Roles.{role_of}
 use Rattle.ft_board.proofs.ByRole.{no_event, no_key, by_role}
-use Rattle.ft_board.proofs.Listed.{get-hits_of, tied_then, values_under}
+use Rattle.ft_replay.proofs.Listed.{get-hits_of, tied_then, values_under}
 
 -- what was put in where nothing stood, and taken out again, changes nothing
 pub taken_again : {K X : Type 0} {R : K → K → Ordering} → IsTotalOrder R → IsAntisymmetric R → (m : FinMap R X) (k : K) (v : X) → map.get m k ≡ None → map.remove (map.insert m k v) k ≡ m

@@ -11,23 +11,23 @@ use Rattle.ft_hist.specs.declared.key.Part.{Part}
 use Rattle.ft_kept.specs.Bounds.{SomeSaverMoves, table_on, with_hit_of, without_hit_of}
 use Rattle.ft_kept.specs.Shelves.{Shelved, Shelves}
 use Rattle.ft_kept.specs.Switches.{differ}
-use Rattle.ft_kept.specs.declared.role.Role.TheVariants.{Saves}
+use Rattle.ft_pairs.specs.declared.role.Role.TheVariants.{Saves}
 use Rattle.ft_maps.specs.Entries.{get-remove_same}
 use Rattle.ft_table.specs.Growth.{InGrows, RowsGrow, TotalsGrow}
 use Rattle.ft_table.specs.Tabled.{Tabled, is_in}
-use Rattle.ft_board.specs.Base.{Triggers, Events}
-use Rattle.ft_board.specs.Costs.{SaversStay}
-use Rattle.ft_board.specs.Counting.{table_for}
-use Rattle.ft_board.specs.Hits.{hits_of}
+use Rattle.ft_replay.specs.Base.{Triggers, Events}
+use Rattle.ft_replay.specs.Costs.{SaversStay}
+use Rattle.ft_replay.specs.Counting.{table_for}
+use Rattle.ft_replay.specs.Hits.{hits_of}
 use Rattle.ft_board.specs.KeptShelves.{AreKept}
-use Rattle.ft_board.specs.Operations.{is_admitted}
-use Rattle.ft_board.specs.Replay.{replay}
-use Rattle.ft_board.specs.Roles.{role_at, role_of}
+use Rattle.ft_replay.specs.Operations.{is_admitted}
+use Rattle.ft_replay.specs.Replay.{replay}
+use Rattle.ft_replay.specs.Roles.{role_at, role_of}
 use Rattle.ft_board.proofs.KeptBoardForms.{shelves_role}
 use Rattle.ft_board.proofs.KeptBoardLanes.{put_back}
 use Rattle.ft_board.proofs.KeptEntries.{OneSource, role-is}
 use Rattle.ft_board.proofs.KeptShelves.{table-of}
-use Rattle.ft_board.proofs.Replaying.{admitted-in}
+use Rattle.ft_replay.proofs.Replaying.{admitted-in}
 use Rattle.ft_board.proofs.SaverHits.{table-with, table-without}
 
 -- what is the same does not differ

@@ -7,14 +7,14 @@ use Rattle.ft_hist.specs.Hist.{Hist}
 use Rattle.ft_kept.specs.Shelves.{Shelved, Shelves, IsNewShelf}
 use Rattle.ft_lanes.specs.Held.{event_at}
 use Rattle.ft_table.specs.Rows.{AllFit}
-use Rattle.ft_board.specs.declared.refused.Place.{Place}
-use Rattle.ft_board.specs.Answers.{tally_at}
-use Rattle.ft_board.specs.Base.{Triggers, Events, Base}
-use Rattle.ft_board.specs.Kept.{pairs_in}
+use Rattle.ft_replay.specs.declared.refused.Place.{Place}
+use Rattle.ft_replay.specs.Answers.{tally_at}
+use Rattle.ft_replay.specs.Base.{Triggers, Events, Base}
+use Rattle.ft_replay.specs.Kept.{pairs_in}
 use Rattle.ft_board.specs.KeptShelves.{AreKept}
-use Rattle.ft_board.specs.Merged.{merged}
-use Rattle.ft_board.specs.Roles.{role_of}
-use Rattle.ft_board.specs.Tally.{tally_of}
+use Rattle.ft_replay.specs.Merged.{merged}
+use Rattle.ft_replay.specs.Roles.{role_of}
+use Rattle.ft_replay.specs.Tally.{tally_of}
 
 -- the shelves are kept of a base's triggers and of all its events (our own choice)
 abbrev pub AreKeptOf : Base → Shelves → Type 0

@@ -5,9 +5,9 @@ use Rattle.ft_hist.specs.Hist.{Hist}
 use Rattle.ft_kept.specs.Acts.{acts_of}
 use Rattle.ft_kept.specs.Entries.{IsKept}
 use Rattle.ft_kept.specs.Shelves.{Shelved, Shelves, admits_on, kept_on}
-use Rattle.ft_kept.specs.Values.{values_by}
-use Rattle.ft_board.specs.Base.{Triggers, Events}
-use Rattle.ft_board.specs.Roles.{role_of, role_at}
+use Rattle.ft_table.specs.Values.{values_by}
+use Rattle.ft_replay.specs.Base.{Triggers, Events}
+use Rattle.ft_replay.specs.Roles.{role_of, role_at}
 
 -- a shelf has the role and the size of a trigger (our own choice)
 pub record IsShelfOf (triggers : Triggers) (hist : Hist) (shelf : Shelved) : Type 0 where

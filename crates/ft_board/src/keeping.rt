@@ -5,11 +5,11 @@ ghost use Rattle.std.specs.FinMap as map;
 ghost use Rattle.ft_hist.specs.Hist.{Hist};
 ghost use Rattle.ft_kept.specs.Shelves.{Shelved, Shelves};
 ghost use Rattle.ft_table.specs.Rows.{AllFit};
-ghost use Rattle.ft_board.specs.Base.{Triggers, Events};
-ghost use Rattle.ft_board.specs.Kept.{pairs_in};
+ghost use Rattle.ft_replay.specs.Base.{Triggers, Events};
+ghost use Rattle.ft_replay.specs.Kept.{pairs_in};
 ghost use Rattle.ft_board.specs.KeptShelves.{AreKept};
-ghost use Rattle.ft_board.specs.Replay.{replay};
-ghost use Rattle.ft_board.specs.Tally.{tally_of};
+ghost use Rattle.ft_replay.specs.Replay.{replay};
+ghost use Rattle.ft_replay.specs.Tally.{tally_of};
 
 /// A law: where shelves keep what the triggers' acts at events say, told place by place, a
 /// trigger's shelf gives the tally that replaying the events gives it, and the keys of its hits fit

@@ -2,13 +2,9 @@
 
 ghost use Rattle.std.specs.Prelude.{◌≡◌, true, false};
 
-use crate::answers::{is_reader, table_text};
-use crate::board::Board;
-use crate::content::Content;
 use crate::join::join;
 use crate::leave::leave;
 use crate::rebuild::renew;
-use crate::refused::{Done, Latency, Place, Refused};
 use crate::repair::{let_come, let_go};
 use crate::told::{catch_up, latencies_in, shelf_in};
 use ft_event::{Event, Name};
@@ -16,12 +12,13 @@ use ft_filter::Filter;
 use ft_hist::{Trigger, Work};
 use ft_kept::Tables;
 use ft_maps::get;
+use ft_replay::{Board, Content, Done, Latency, Place, Refused, is_reader, table_text};
 use ft_table::Totals;
 use std::alloc::Global;
 use std::marker::Model;
 
 /// Lanes of events, attached triggers, and what is kept of them. Where memory ran out for that,
-/// there is nothing kept, and the next answer builds it anew.
+/// there is nothing kept, and the next answer that reads it builds it anew.
 #[derive(Drop)]
 pub struct KeptBoard {
     alloc: Global,
@@ -33,9 +30,9 @@ pub struct KeptBoard {
 impl Model for KeptBoard {
     ghost use Rattle.std.specs.Prelude.{IfSome, true};
     ghost use Rattle.std.specs.Option.{is_none};
-    ghost use Rattle.ft_board.specs.Codes.{shown_code};
+    ghost use Rattle.ft_replay.specs.Codes.{shown_code};
     ghost use Rattle.ft_board.specs.KeptBeside.{AreKeptOf};
-    ghost use Rattle.ft_board.specs.Shown.{Shown};
+    ghost use Rattle.ft_replay.specs.Shown.{Shown};
 
     ghost Value = { Shown };
 
@@ -52,7 +49,7 @@ impl Model for KeptBoard {
 }
 
 impl KeptBoard {
-    ghost use Rattle.ft_board.specs.Base.{empty_base};
+    ghost use Rattle.ft_replay.specs.Base.{empty_base};
 
     /// A board that holds nothing and has no trigger. It takes no memory.
     pub fn new(alloc: Global) -> KeptBoard

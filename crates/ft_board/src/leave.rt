@@ -3,20 +3,17 @@
 ghost use Rattle.std.specs.Prelude.{◌≡◌, None, Some, IfSome, OnOk};
 ghost use Rattle.std.specs.Option.{is_none};
 ghost use Rattle.std.specs.FinMap as map;
-ghost use Rattle.ft_kept.specs.Bounds.{StepsGrow};
-ghost use Rattle.ft_board.specs.Edited.{kept_of};
+ghost use Rattle.ft_hist.specs.Steps.{StepsGrow};
+ghost use Rattle.ft_replay.specs.Edited.{kept_of};
 ghost use Rattle.ft_board.specs.KeptBeside.{AreKeptOf};
-ghost use Rattle.ft_board.specs.OneTrigger.{IsUnread, AreKeptBut, AreKeptIdle};
+ghost use Rattle.ft_replay.specs.OneTrigger.{IsUnread};
+ghost use Rattle.ft_board.specs.ButOne.{AreKeptBut, AreKeptIdle};
 
-use crate::answers::is_reader;
-use crate::content::Content;
-use crate::merge::events_with;
-use crate::names::Names;
-use crate::refused::Kept;
 use ft_hist::{Trigger, Work};
 use ft_kept::Tables;
 use ft_maps::get;
 use ft_pairs::At;
+use ft_replay::{Content, Kept, Names, events_with, is_reader};
 use std::alloc::{AllocError, Global};
 
 /// A trigger that is still attached, and that no other reads, leaves the tables. Where memory runs

@@ -5,21 +5,18 @@ ghost use Rattle.std.specs.Option.{is_none};
 ghost use Rattle.std.specs.Ordering.{nat_cmp};
 ghost use Rattle.std.specs.FinMap as map;
 ghost use Rattle.ft_maps.specs.Seen.{seen};
-ghost use Rattle.ft_kept.specs.Bounds.{StepsGrow};
-ghost use Rattle.ft_board.specs.Edited.{kept_of};
+ghost use Rattle.ft_hist.specs.Steps.{StepsGrow};
+ghost use Rattle.ft_replay.specs.Edited.{kept_of};
 ghost use Rattle.ft_board.specs.KeptBeside.{AreKeptOf, AreNew};
 ghost use Rattle.ft_board.specs.KeptShelves.{AreKept};
-ghost use Rattle.ft_board.specs.Merged.{merged};
-ghost use Rattle.ft_board.specs.Reachable.{HasSavers};
+ghost use Rattle.ft_replay.specs.Merged.{merged};
+ghost use Rattle.ft_replay.specs.Reachable.{HasSavers};
 
-use crate::content::Content;
-use crate::merge::merged_events;
-use crate::refused::Kept;
-use crate::roles::role_of;
 use ft_hist::{Trigger, Work};
 use ft_kept::Tables;
 use ft_lanes::Lanes;
 use ft_maps::entries;
+use ft_replay::{Content, Kept, merged_events, role_of};
 use std::alloc::{AllocError, Global};
 use std::collections::BTreeMap;
 

@@ -6,22 +6,19 @@ ghost use Rattle.std.specs.FinMap as map;
 ghost use Rattle.ft_event.specs.Places.{pos_cmp};
 ghost use Rattle.ft_hist.specs.Hist.{Hist};
 ghost use Rattle.ft_maps.specs.Seen.{seen};
-ghost use Rattle.ft_kept.specs.Bounds.{StepsGrow};
-ghost use Rattle.ft_board.specs.Answers.{latency_of};
-ghost use Rattle.ft_board.specs.Base.{Base};
-ghost use Rattle.ft_board.specs.Kept.{pairs_in};
+ghost use Rattle.ft_hist.specs.Steps.{StepsGrow};
+ghost use Rattle.ft_replay.specs.Answers.{latency_of};
+ghost use Rattle.ft_replay.specs.Base.{Base};
+ghost use Rattle.ft_replay.specs.Kept.{pairs_in};
 ghost use Rattle.ft_board.specs.KeptBeside.{AreKeptOf, Tells};
 
-use crate::answers::latency_of;
-use crate::content::Content;
 use crate::keeping::kept_shelves;
-use crate::pair::Pair;
 use crate::rebuild::restore;
-use crate::refused::Latency;
 use ft_event::Pos;
 use ft_hist::Work;
 use ft_kept::{Shelf, Tables};
 use ft_maps::{entries, len};
+use ft_replay::{Content, Latency, Pair, latency_of};
 use std::alloc::{AllocError, Global};
 use std::collections::BTreeMap;
 

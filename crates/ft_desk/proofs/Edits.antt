@@ -7,11 +7,11 @@ use Rattle.ft_event.specs.Traced.{Traced}
 use Rattle.ft_event.specs.declared.event.Name.{Name}
 use Rattle.ft_event.specs.Line.{line_of}
 use Rattle.ft_filter.specs.Tree.{Tree}
-use Rattle.ft_board.specs.declared.refused.Refused.{Refused}
-use Rattle.ft_board.specs.declared.refused.Refused.TheVariants.{NoTrigger}
+use Rattle.ft_replay.specs.declared.refused.Refused.{Refused}
+use Rattle.ft_replay.specs.declared.refused.Refused.TheVariants.{NoTrigger}
 use Rattle.ft_trigger.specs.Hist.{Hist}
-use Rattle.ft_board.specs.Base.{Base}
-use Rattle.ft_board.specs.After.{after_load, after_insert, after_attach, after_refilter}
+use Rattle.ft_replay.specs.Base.{Base}
+use Rattle.ft_replay.specs.After.{after_load, after_insert, after_attach, after_refilter}
 use Rattle.ft_desk.specs.Edits.{events_of, after_load_text, event_or_refused, after_insert_text, trigger_for, after_attach_text, filter_for, after_refilter_text, ◌>>=◌}
 
 -- a text whose lines can be read is loaded as its events

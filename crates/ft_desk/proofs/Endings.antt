@@ -5,7 +5,7 @@ use Rattle.std.specs.Io.{StartsWith}
 use Rattle.std.specs.Io.KnownBytes.{Keeps, Appends}
 use Rattle.std.proofs.KnownBytes.{Consumes-kept, Consumes-trans, Appends-trans, Appends-kept, starts_with_rest}
 use Rattle.std.proofs.Transfers.{starts_with_of_append, starts_with_of_eq}
-use Rattle.ft_board.specs.Base.{Base, empty_base}
+use Rattle.ft_replay.specs.Base.{Base, empty_base}
 use Rattle.ft_desk.specs.declared.pieces.Taken.TheVariants as takes
 use Rattle.ft_desk.specs.declared.running.Status.{Status}
 use Rattle.ft_desk.specs.declared.running.RunFault.{RunFault}

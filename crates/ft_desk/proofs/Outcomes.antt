@@ -2,12 +2,12 @@
 use Rattle.std.proofs.Common.{◌≡◌, ◌≢◌, ℕ, true, List, ◌++◌, Result, Ok, Err, refl, ap, sym, ◌∙◌, inl, inr}
 use Rattle.std.specs.Prelude.{codes, is_err, IfOk, OnOk}
 use Rattle.std.specs.declared.alloc.AllocError.{AllocError}
-use Rattle.ft_board.specs.declared.refused.Done.{Done}
-use Rattle.ft_board.specs.declared.refused.Refused.{Refused}
-use Rattle.ft_board.specs.declared.refused.Refused.TheVariants.{Memory, BadCommand}
-use Rattle.ft_board.specs.Base.{Base}
-use Rattle.ft_board.specs.Shown.{Shown}
-use Rattle.ft_board.specs.Edited.{EditGives, AnswersFrom, AnswerIs}
+use Rattle.ft_replay.specs.declared.refused.Done.{Done}
+use Rattle.ft_replay.specs.declared.refused.Refused.{Refused}
+use Rattle.ft_replay.specs.declared.refused.Refused.TheVariants.{Memory, BadCommand}
+use Rattle.ft_replay.specs.Base.{Base}
+use Rattle.ft_replay.specs.Shown.{Shown}
+use Rattle.ft_replay.specs.Edited.{EditGives, AnswersFrom, AnswerIs}
 use Rattle.ft_desk.specs.declared.performing.Performed.{Performed}
 use Rattle.ft_desk.specs.Printed.{printed}
 use Rattle.ft_desk.specs.Refusals.{refused_text}

@@ -2,16 +2,16 @@
 
 ghost use Rattle.std.specs.Prelude.{◌≡◌, ◌≢◌, option_map, IfOk};
 ghost use Rattle.std.specs.Option.{option_copied, ForSome};
-ghost use Rattle.ft_board.specs.Edited.{AnswerIs};
+ghost use Rattle.ft_replay.specs.Edited.{AnswerIs};
 ghost use Rattle.ft_filter.specs.Answers.{filter_of};
 ghost use Rattle.ft_trigger.specs.TriggerIs.{trigger_of};
 ghost use Rattle.ft_desk.specs.Edits.{trigger_for, trigger_or_refused, refused_for};
 ghost use Rattle.ft_desk.specs.Edits.{filter_for, filter_or_refused, filter_refused};
 
 use crate::events::{event_in, events_in};
-use ft_board::{Board, Done, Latency, Place, Refused};
 use ft_event::Name;
 use ft_filter::{Filter, FilterFault};
+use ft_replay::{Board, Done, Latency, Place, Refused};
 use ft_table::Totals;
 use ft_trigger::{Trigger, TriggerFault, parse};
 use std::alloc::Global;
@@ -25,8 +25,8 @@ pub struct Desk<B: Board> {
 }
 
 impl<B: Board> Model for Desk<B> {
-    ghost use Rattle.ft_board.specs.Codes.{shown_code};
-    ghost use Rattle.ft_board.specs.Shown.{Shown};
+    ghost use Rattle.ft_replay.specs.Codes.{shown_code};
+    ghost use Rattle.ft_replay.specs.Shown.{Shown};
 
     ghost Value = { Shown };
 
@@ -38,14 +38,14 @@ impl<B: Board> Model for Desk<B> {
 impl<B: Board> Desk<B> {
     ghost use Rattle.std.specs.Prelude.{◌≡◌, ◌≢◌, Some, Ok, Err};
     ghost use Rattle.std.specs.Option.{option_copied};
-    ghost use Rattle.ft_board.specs.declared.refused.Refused.TheVariants.{Memory};
-    ghost use Rattle.ft_board.specs.After.{after_unload, after_strike, after_remove};
+    ghost use Rattle.ft_replay.specs.declared.refused.Refused.TheVariants.{Memory};
+    ghost use Rattle.ft_replay.specs.After.{after_unload, after_strike, after_remove};
     ghost use Rattle.ft_event.specs.Line.{line_of};
     ghost use Rattle.ft_event.specs.Traced.{Traced};
-    ghost use Rattle.ft_board.specs.Held.{event_at};
-    ghost use Rattle.ft_board.specs.Costs.{EditCounts, RepairCosts, AnswerCosts};
-    ghost use Rattle.ft_board.specs.Edited.{EditGives, AnswersFrom, AnswerIs};
-    ghost use Rattle.ft_board.specs.Answers.{hist_text, totals, latencies, list_text};
+    ghost use Rattle.ft_replay.specs.Held.{event_at};
+    ghost use Rattle.ft_replay.specs.Costs.{EditCounts, RepairCosts, AnswerCosts};
+    ghost use Rattle.ft_replay.specs.Edited.{EditGives, AnswersFrom, AnswerIs};
+    ghost use Rattle.ft_replay.specs.Answers.{hist_text, totals, latencies, list_text};
     ghost use Rattle.ft_desk.specs.Edits.{after_load_text, after_insert_text};
     ghost use Rattle.ft_desk.specs.Edits.{after_attach_text, after_refilter_text};
     ghost use Rattle.ft_desk.specs.Edits.{event_or_refused};
@@ -180,8 +180,8 @@ impl<B: Board> Desk<B> {
         self.board.list(cpu)
     }
 
-    /// Whether the board is deferred: its kept tables lack an edit, and the next answer rebuilds
-    /// them.
+    /// Whether the board is deferred: its kept tables lack an edit, and the next table, totals or
+    /// latencies of an attached trigger rebuild them.
     pub fn is_deferred(&self) -> bool
         ensures { result ≡ self.now.deferred }
     {

@@ -13,9 +13,9 @@ mod sending;
 mod text;
 
 pub use desk::Desk;
-pub use ft_board::{Board, Done, Kept, KeptBoard, Latency, Place, PlainBoard, Refused};
 pub use ft_event::{LineFault, Name};
 pub use ft_filter::FilterFault;
+pub use ft_replay::{Board, Done, Kept, Latency, Place, PlainBoard, Refused};
 pub use ft_table::Totals;
 pub use ft_trigger::TriggerFault;
 pub use ft_words::{FileFault, Words, WordsFault, read_file, read_whole, read_words};
@@ -23,6 +23,3 @@ pub use in_memory::{Ran, run_text};
 pub use performing::{Performed, perform};
 pub use program::histdesk;
 pub use running::{RunFault, Status, run};
-
-#[cfg(test)]
-mod tests;

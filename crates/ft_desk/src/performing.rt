@@ -1,7 +1,7 @@
 //! One line of a script.
 
 ghost use Rattle.std.specs.Prelude.{◌≡◌, ◌≢◌, ◌++◌, Err, true, codes, map, is_err, IfOk, OnOk, Some, None, MatchOption};
-ghost use Rattle.ft_board.specs.Edited.{EditGives};
+ghost use Rattle.ft_replay.specs.Edited.{EditGives};
 ghost use Rattle.ft_script.specs.Script.{asked_by};
 ghost use Rattle.ft_desk.specs.Answered.{totals_line, latency_lines};
 ghost use Rattle.ft_desk.specs.Output.{outcome, file_at, after_load_file};
@@ -10,7 +10,7 @@ ghost use Rattle.ft_desk.specs.Printed.{printed};
 
 use crate::desk::Desk;
 use crate::text::{EditValue, done_line, latency_lines, refused_line, totals_line};
-use ft_board::{Board, Done, Latency, Refused};
+use ft_replay::{Board, Done, Latency, Refused};
 use ft_script::{Command, read_command};
 use ft_table::Totals;
 use std::alloc::{AllocError, Global};
@@ -168,6 +168,3 @@ fn refused(alloc: Global, reason: Refused) -> Result<Performed, AllocError>
         refused: true,
     })
 }
-
-#[cfg(test)]
-mod tests;

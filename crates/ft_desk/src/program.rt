@@ -1,12 +1,12 @@
 //! The program: its words, its files, the run of its script, and its exit status.
 
 ghost use Rattle.std.specs.Prelude.{◌≡◌, ◌≤◌, length, IfOk};
-ghost use Rattle.ft_board.specs.Base.{empty_base};
+ghost use Rattle.ft_replay.specs.Base.{empty_base};
 ghost use Rattle.ft_desk.specs.Program.{exit_status_of, told_of_words, told_of_run, told_of_file};
 ghost use Rattle.ft_desk.specs.declared.program.Fault.TheVariants.{Memory};
 
 use crate::running::{RunFault, Status, run};
-use ft_board::Board;
+use ft_replay::Board;
 use ft_words::{FileFault, WordsFault, read_file, read_words};
 use std::alloc::{AllocError, AllocFailed, Global};
 use std::io::{BufReader, ErrorKind, Read};
@@ -188,6 +188,3 @@ where
     let mut out = io::writer(rt);
     Ok(run(alloc, board, traces, &mut script, &mut out)?)
 }
-
-#[cfg(test)]
-mod tests;

@@ -4,7 +4,7 @@ ghost use Rattle.std.specs.Prelude.{◌≡◌, ◌++◌, codes, decimal, IfOk, O
 ghost use Rattle.ft_desk.specs.Answered.{totals_line, numbered, latency_line, latency_lines};
 ghost use Rattle.ft_desk.specs.Refusals.{detail, fault_detail, place_text, refused_text};
 
-use ft_board::{Latency, Place, Refused};
+use ft_replay::{Latency, Place, Refused};
 use ft_table::Totals;
 use ft_trigger::TriggerFault;
 use itoa::Buffer;

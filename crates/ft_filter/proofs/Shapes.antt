@@ -16,7 +16,7 @@ use Rattle.ft_filter.specs.Predicate.{is_match}
 use Rattle.ft_filter.specs.Shape.{CanBeQuoted, SuitsValue, IsPredOf, IsTreeOf, AreTreesOf, IsFilterOf}
 use Rattle.ft_filter.specs.Tree.{Tree, Trees, Any, All, Not, Test, End, More}
 use Rattle.ft_filter.proofs.Again.{canonical_read}
-use Rattle.ft_filter.proofs.Deciding.{is_glob-Decides}
+use Rattle.ft_glob.proofs.Deciding.{is_glob-Decides}
 use Rattle.ft_filter.proofs.Fits.{IsReadable, AreReadable, Fits, filter_fits}
 use Rattle.ft_filter.proofs.PredLaw.{suits-Decides, fits-Decides}
 use Rattle.ft_filter.proofs.Preds.{ValueFits, PredFits}

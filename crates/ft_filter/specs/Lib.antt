@@ -1,6 +1,3 @@
-pub mod Glob
-pub mod Walk
-pub mod Matching
 pub mod Tree
 pub mod Codes
 pub mod Holds
@@ -18,3 +15,5 @@ pub mod Words
 pub use Rattle.ft_event.specs.Fields
 pub use Rattle.ft_event.specs.LineIs
 pub use Rattle.ft_event.specs.Traced
+pub use Rattle.ft_glob.specs.Glob
+pub use Rattle.ft_glob.specs.Matching

@@ -12,7 +12,7 @@ use Rattle.ft_filter.specs.declared.tree.Op.TheVariants as ops
 use Rattle.ft_filter.specs.declared.tree.Literal.{Literal}
 use Rattle.ft_filter.specs.declared.tree.Literal.TheVariants as literals
 use Rattle.ft_filter.specs.declared.tree.Pred.{Pred}
-use Rattle.ft_filter.specs.Glob.{IsGlob}
+use Rattle.ft_glob.specs.Glob.{IsGlob}
 use Rattle.ft_filter.specs.Numbers.{IsNumber}
 use Rattle.ft_filter.specs.Predicate.{Read, Found, Stop, place}
 use Rattle.ft_filter.specs.Tokens.{is_gap, begins_name, is_in_name, text_of}

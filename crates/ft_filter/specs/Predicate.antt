@@ -12,7 +12,7 @@ use Rattle.ft_filter.specs.declared.tree.Literal.{Literal}
 use Rattle.ft_filter.specs.declared.tree.Literal.TheVariants as literals
 use Rattle.ft_filter.specs.declared.tree.Pred.{Pred}
 use Rattle.ft_filter.specs.Tokens.{skip, name_at, op_at, is_quote, quoted_at, number_at}
-use Rattle.ft_filter.specs.Matching.{is_glob}
+use Rattle.ft_glob.specs.Matching.{is_glob}
 
 -- what is read: a thing and the text behind it, or the first fault (our own choice)
 pub data Read (A : Type 0) : Type 0 where

@@ -1,11 +1,10 @@
 //! Filters of events, as they stand behind a trigger: reading them, writing them, and testing
-//! events. And globs, with which filters compare texts.
+//! events.
 #![tactic(auto)]
 
 mod fault;
 mod filter;
 mod passing;
-mod pattern;
 mod predicate;
 mod reading;
 mod tokens;
@@ -14,11 +13,7 @@ mod writing;
 
 pub use fault::FilterFault;
 pub use filter::Filter;
-pub use pattern::{glob, is_glob, one_reading, what_matches};
 pub use predicate::predicates_of_texts;
 pub use reading::{one_answer, parse, reads_again, trees_of_texts};
 pub use tokens::{is_gap, name_at, numbers_of_words, skip, words_of_texts};
 pub use tree::{Expr, Exprs, Literal, Op, Pattern, Pred, Text};
-
-#[cfg(test)]
-mod tests;

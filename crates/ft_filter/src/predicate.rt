@@ -2,16 +2,16 @@
 
 ghost use Rattle.std.specs.Prelude.{◌≡◌, ◌↔◌, ℕ, List, not, ◌||◌, IsTrue, IfOk};
 ghost use Rattle.ft_event.specs.Fields.{is_text};
-ghost use Rattle.ft_filter.specs.Matching.{is_glob};
+ghost use Rattle.ft_glob.specs.Matching.{is_glob};
 ghost use Rattle.ft_filter.specs.Predicate.{Read, place, pred_at, comparison_at, value_at, text_value, number_value, is_match, literal_of};
 ghost use Rattle.ft_filter.specs.PredIs.{PredIs};
 ghost use Rattle.ft_filter.specs.Given.{GivesPred, GivesValue};
 
 use crate::fault::FilterFault;
-use crate::pattern::is_glob;
 use crate::tokens::{Number, is_quote, name_at, number_at, op_at, quoted_at, skip};
 use crate::tree::{Literal, Op, Pattern, Pred, Text};
 use ft_event::{Field, Name, field_named};
+use ft_glob::is_glob;
 use std::alloc::{AllocError, Global};
 
 /// What a text is read for.

@@ -1,13 +1,13 @@
 //! Filters as trees.
 
 ghost use Rattle.std.specs.Prelude.{◌≡◌, ◌++◌, ◌∷◌, [], OnOk, OnErr, IfOk, IsTrue};
-ghost use Rattle.ft_filter.specs.Matching.{is_glob, matches};
+ghost use Rattle.ft_glob.specs.Matching.{is_glob, matches};
 ghost use Rattle.ft_filter.specs.Tokens.{text_of};
 ghost use Rattle.ft_filter.specs.Predicate.{suits};
 ghost use Rattle.ft_filter.specs.FilterIs.{text_of as joint_text};
 
-use crate::pattern::glob;
 use ft_event::Field;
+use ft_glob::glob;
 use std::alloc::{AllocError, Global};
 use std::marker::Model;
 
@@ -124,7 +124,7 @@ impl Text {
 
 impl Model for Pattern {
     ghost use Rattle.std.specs.Prelude.{ℕ, List, IsTrue};
-    ghost use Rattle.ft_filter.specs.Matching.{is_glob};
+    ghost use Rattle.ft_glob.specs.Matching.{is_glob};
 
     ghost Value = { List ℕ };
 

@@ -9,6 +9,7 @@ pub mod Parts
 pub mod Powers
 pub mod Sound
 pub mod Steps
+pub mod Tests
 pub mod Ties
 pub mod Triggers
 pub mod Values

@@ -1,5 +1,5 @@
 -- Counts of steps (our own choice).
-use Rattle.std.specs.Prelude.{ℕ, ◌+◌, Option, Some, None}
+use Rattle.std.specs.Prelude.{ℕ, ◌+◌, ◌≤◌, Option, Some, None}
 use Rattle.std.specs.declared.snapshot.Snapshot.{Snapshot}
 
 -- how often events were tested against triggers, and how often something was put into a map (our own choice)
@@ -11,3 +11,8 @@ pub record Steps : Type 0 where
 abbrev pub one_above : Option (Snapshot ℕ) → ℕ
 one_above None = 0
 one_above (Some seen) = seen.value + 1
+
+-- no count of steps falls (our own choice)
+pub record StepsGrow (old new : Steps) : Type 0 where
+  pub evals : old.evals ≤ new.evals
+  pub puts : old.puts ≤ new.puts

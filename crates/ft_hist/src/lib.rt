@@ -19,6 +19,3 @@ pub use label::{Label, Var};
 pub use trigger::Trigger;
 pub use values::summed_fields;
 pub use work::Work;
-
-#[cfg(test)]
-mod tests;

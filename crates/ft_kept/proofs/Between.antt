@@ -23,11 +23,12 @@ use Rattle.ft_pairs.specs.Order.{at_cmp_total, at_same}
 use Rattle.ft_pairs.specs.declared.at.At.{At}
 use Rattle.ft_kept.specs.Acts.{Acts, AreHeld, Comes, IsDoneToo, acts_of, between}
 use Rattle.ft_kept.specs.Entries.{IsKeptBut}
-use Rattle.ft_kept.specs.Repairs.{Owed, HasCome, HasGone, asked}
-use Rattle.ft_kept.specs.Roles.{Admits}
+use Rattle.ft_kept.specs.Repairs.{Owed, HasCome, HasGone}
+use Rattle.ft_hist.specs.Tests.{asked}
+use Rattle.ft_pairs.specs.Roles.{Admits}
 use Rattle.ft_kept.specs.Shelves.{Shelves, Kept, role_on, admits_on, kept_on}
-use Rattle.ft_kept.specs.Values.{ValuesBy, values_by}
-use Rattle.ft_kept.specs.declared.role.Role.{Role}
+use Rattle.ft_table.specs.Values.{ValuesBy, values_by}
+use Rattle.ft_pairs.specs.declared.role.Role.{Role}
 
 -- the place of a trigger's act at an event's place
 abbrev pub act_of : Pos → ℕ → At

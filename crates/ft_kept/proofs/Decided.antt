@@ -12,8 +12,8 @@ use Rattle.ft_hist.specs.Ties.{key_same}
 use Rattle.ft_hist.specs.declared.key.Part.{Part}
 use Rattle.ft_pairs.specs.Order.{at_cmp_total, at_same}
 use Rattle.ft_pairs.specs.declared.at.At.{At}
-use Rattle.ft_kept.specs.Variables.{variable_cmp_total, variable_same}
-use Rattle.ft_kept.specs.declared.role.Variable.{Variable}
+use Rattle.ft_pairs.specs.Variables.{variable_cmp_total, variable_same}
+use Rattle.ft_pairs.specs.declared.role.Variable.{Variable}
 
 is_equal : (o : Ordering) → is_eq o ≡ true → o ≡ Equal
 is_equal Less e = absurd (true≢false (sym e))

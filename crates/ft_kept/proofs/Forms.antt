@@ -23,9 +23,9 @@ use Rattle.ft_kept.specs.Entries.{OpsStay}
 use Rattle.ft_kept.specs.Repairs.{AreShelved}
 use Rattle.ft_kept.specs.Shelves.{Shelved, Shelves, KeepsForm, FormStays, FormsStay, ReaderChanges, ReadersChange, OpsChange, ChangesShelf}
 use Rattle.ft_kept.specs.Shelves.{is_saver, role_on, admits_on, kept_on}
-use Rattle.ft_kept.specs.declared.role.Role.{Role}
-use Rattle.ft_kept.specs.declared.role.Role.TheVariants.{Plain, Saves, Reads}
-use Rattle.ft_kept.specs.declared.role.Variable.{Variable}
+use Rattle.ft_pairs.specs.declared.role.Role.{Role}
+use Rattle.ft_pairs.specs.declared.role.Role.TheVariants.{Plain, Saves, Reads}
+use Rattle.ft_pairs.specs.declared.role.Variable.{Variable}
 
 -- ---- forms
 

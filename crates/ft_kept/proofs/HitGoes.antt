@@ -9,11 +9,11 @@ use Rattle.ft_hist.specs.declared.key.Part.{Part}
 use Rattle.ft_lanes.specs.Held.{Lanes}
 use Rattle.ft_pairs.specs.declared.at.At.{At}
 use Rattle.ft_kept.specs.Repairs.{HasGone}
-use Rattle.ft_kept.specs.Roles.{variable_of}
+use Rattle.ft_pairs.specs.Roles.{variable_of}
 use Rattle.ft_kept.specs.Shelves.{Shelves, ChangesShelf, TakesHit, role_on, admits_on, kept_on}
-use Rattle.ft_kept.specs.Values.{values_by}
-use Rattle.ft_kept.specs.declared.role.Role.TheVariants.{Plain}
-use Rattle.ft_kept.specs.declared.role.Variable.{Variable}
+use Rattle.ft_table.specs.Values.{values_by}
+use Rattle.ft_pairs.specs.declared.role.Role.TheVariants.{Plain}
+use Rattle.ft_pairs.specs.declared.role.Variable.{Variable}
 use Rattle.ft_kept.proofs.Decided.{none_not_some}
 use Rattle.ft_kept.proofs.Owing.{kept_as, one_act_right, owes_more}
 use Rattle.ft_kept.proofs.Putting.{never_switched}

@@ -13,7 +13,7 @@ use Rattle.ft_pairs.specs.Source.{Ops}
 use Rattle.ft_pairs.specs.declared.at.At.{At}
 use Rattle.ft_pairs.specs.declared.at.Op.{Op}
 use Rattle.ft_kept.specs.Shelves.{Shelved, Shelves, kept_on}
-use Rattle.ft_kept.specs.declared.role.Variable.{Variable}
+use Rattle.ft_pairs.specs.declared.role.Variable.{Variable}
 use Rattle.ft_kept.proofs.Decided.{itself, not_below_same, untied}
 
 -- there is a next operation, or it is said that there is none

@@ -20,12 +20,12 @@ use Rattle.ft_table.specs.Hits.{same_key}
 use Rattle.ft_kept.specs.Acts.{Acts}
 use Rattle.ft_kept.specs.Entries.{HitsHere, hits_here, read_here, one_hit, IsEntry, IsOwn, StaysBut, OpsStay, IsRight, IsKeptBut}
 use Rattle.ft_kept.specs.Repairs.{Owed, IsPartly, Pays}
-use Rattle.ft_kept.specs.Roles.{Admits}
+use Rattle.ft_pairs.specs.Roles.{Admits}
 use Rattle.ft_kept.specs.Shelves.{Kept, Shelves, FormsStay, role_on, kept_on}
-use Rattle.ft_kept.specs.Values.{ValuesBy, values_by}
-use Rattle.ft_kept.specs.declared.role.Role.{Role}
-use Rattle.ft_kept.specs.declared.role.Role.TheVariants.{Plain, Saves, Reads}
-use Rattle.ft_kept.specs.declared.role.Variable.{Variable}
+use Rattle.ft_table.specs.Values.{ValuesBy, values_by}
+use Rattle.ft_pairs.specs.declared.role.Role.{Role}
+use Rattle.ft_pairs.specs.declared.role.Role.TheVariants.{Plain, Saves, Reads}
+use Rattle.ft_pairs.specs.declared.role.Variable.{Variable}
 use Rattle.ft_kept.proofs.Forms.{roles_stay}
 
 -- ---- places

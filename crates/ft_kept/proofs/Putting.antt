@@ -22,12 +22,12 @@ use Rattle.ft_kept.specs.Acts.{Acts, Comes, IsOneAct}
 use Rattle.ft_kept.specs.Entries.{IsEntry, IsKept, StaysBut, hits_here, one_hit, read_here}
 use Rattle.ft_kept.specs.Owed.{is_switched, is_switched_as}
 use Rattle.ft_kept.specs.Repairs.{AreShelved}
-use Rattle.ft_kept.specs.Roles.{Admits}
+use Rattle.ft_pairs.specs.Roles.{Admits}
 use Rattle.ft_kept.specs.Shelves.{Kept, Shelved, Shelves, kept_on}
-use Rattle.ft_kept.specs.Values.{ValuesBy, values_at, values_by}
-use Rattle.ft_kept.specs.declared.role.Role.{Role}
-use Rattle.ft_kept.specs.declared.role.Role.TheVariants.{Plain, Saves, Reads}
-use Rattle.ft_kept.specs.declared.role.Variable.{Variable}
+use Rattle.ft_table.specs.Values.{ValuesBy, values_at, values_by}
+use Rattle.ft_pairs.specs.declared.role.Role.{Role}
+use Rattle.ft_pairs.specs.declared.role.Role.TheVariants.{Plain, Saves, Reads}
+use Rattle.ft_pairs.specs.declared.role.Variable.{Variable}
 use Rattle.ft_kept.proofs.Decided.{itself, untied, decided}
 use Rattle.ft_kept.proofs.Forms.{hits_by, read_by, same_hits, same_read}
 use Rattle.ft_kept.proofs.Owing.{same_differ}

@@ -17,12 +17,12 @@ use Rattle.ft_kept.specs.Acts.{Acts, Comes, op_of}
 use Rattle.ft_kept.specs.Entries.{IsEntry, IsKept, IsKeptBut, IsOwn, IsRight, StaysBut, hits_here, read_here}
 use Rattle.ft_kept.specs.Owed.{is_next_read, is_switched}
 use Rattle.ft_kept.specs.Repairs.{AreShelved, CanCome, HasCome, IsPartly, Pays, without_next_read}
-use Rattle.ft_kept.specs.Roles.{variable_of}
+use Rattle.ft_pairs.specs.Roles.{variable_of}
 use Rattle.ft_kept.specs.Shelves.{ChangesShelf, FormsStay, OpsChange, ReadersChange, Shelves, admits_on, kept_on, role_on}
-use Rattle.ft_kept.specs.Values.{values_by}
-use Rattle.ft_kept.specs.declared.role.Role.{Role}
-use Rattle.ft_kept.specs.declared.role.Role.TheVariants.{Reads}
-use Rattle.ft_kept.specs.declared.role.Variable.{Variable}
+use Rattle.ft_table.specs.Values.{values_by}
+use Rattle.ft_pairs.specs.declared.role.Role.{Role}
+use Rattle.ft_pairs.specs.declared.role.Role.TheVariants.{Reads}
+use Rattle.ft_pairs.specs.declared.role.Variable.{Variable}
 use Rattle.ft_kept.proofs.Decided.{at_decided, itself, untied, variable_decided}
 use Rattle.ft_kept.proofs.Forms.{forms_trans, read_admits, read_elsewhere, read_forms, read_hits, read_readings, readers_admit, readers_forms, readers_ops, roles_stay, shelved_stay}
 use Rattle.ft_kept.proofs.Forms.{read_here as read_op_here}

@@ -17,11 +17,11 @@ use Rattle.ft_kept.specs.Acts.{Acts, Comes}
 use Rattle.ft_kept.specs.Entries.{IsKept, IsKeptBut, StaysBut}
 use Rattle.ft_kept.specs.Owed.{is_next_read, is_switched}
 use Rattle.ft_kept.specs.Repairs.{AreShelved, CanGo, HasGone, IsPartly, Pays, without_next_read}
-use Rattle.ft_kept.specs.Roles.{variable_of}
+use Rattle.ft_pairs.specs.Roles.{variable_of}
 use Rattle.ft_kept.specs.Shelves.{Shelves, ChangesShelf, FormsStay, OpsChange, ReadersChange, TakesHit, admits_on, kept_on, role_on}
-use Rattle.ft_kept.specs.Values.{values_by}
-use Rattle.ft_kept.specs.declared.role.Role.TheVariants.{Reads}
-use Rattle.ft_kept.specs.declared.role.Variable.{Variable}
+use Rattle.ft_table.specs.Values.{values_by}
+use Rattle.ft_pairs.specs.declared.role.Role.TheVariants.{Reads}
+use Rattle.ft_pairs.specs.declared.role.Variable.{Variable}
 use Rattle.ft_kept.proofs.Decided.{itself, untied, variable_decided}
 use Rattle.ft_kept.proofs.Forms.{forms_trans, read_admits, read_elsewhere, read_forms, read_hits, read_readings, readers_admit, readers_forms, roles_stay, shelf_stays, shelved_stay}
 use Rattle.ft_kept.proofs.Forms.{read_here as read_op_here}

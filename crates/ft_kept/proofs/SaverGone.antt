@@ -26,13 +26,13 @@ use Rattle.ft_table.specs.declared.mark.Mark.{Mark}
 use Rattle.ft_kept.specs.Acts.{Acts, Comes, IsOneAct, op_of}
 use Rattle.ft_kept.specs.Entries.{HitsHere, IsEntry, IsKept, StaysBut, hits_here, one_hit, read_here}
 use Rattle.ft_kept.specs.Repairs.{CanGo, HasGoneOwing}
-use Rattle.ft_kept.specs.Roles.{Admits, variable_of}
+use Rattle.ft_pairs.specs.Roles.{Admits, variable_of}
 use Rattle.ft_kept.specs.Shelves.{ChangesShelf, FormsStay, Shelved, Shelves, TakesHit, admits_on, is_saver, kept_on, role_on, without_hit_on}
 use Rattle.ft_kept.specs.Switches.{HitLessFollows, Members, Moves, MovesKeys, followed_less, switched}
-use Rattle.ft_kept.specs.Values.{ValuesBy, values_by}
-use Rattle.ft_kept.specs.declared.role.Role.{Role}
-use Rattle.ft_kept.specs.declared.role.Role.TheVariants.{Saves}
-use Rattle.ft_kept.specs.declared.role.Variable.{Variable}
+use Rattle.ft_table.specs.Values.{ValuesBy, values_by}
+use Rattle.ft_pairs.specs.declared.role.Role.{Role}
+use Rattle.ft_pairs.specs.declared.role.Role.TheVariants.{Saves}
+use Rattle.ft_pairs.specs.declared.role.Variable.{Variable}
 use Rattle.ft_kept.proofs.Decided.{at_decided, decided, itself, key_decided, untied}
 use Rattle.ft_kept.proofs.Following.{comes_in, goes_out, none_outside, other_stays}
 use Rattle.ft_kept.proofs.Forms.{admits_by, by_id, edited, hits_by, ops_by, read_by, role_at, same_admits, same_hits, same_ops, same_read}

@@ -21,13 +21,13 @@ use Rattle.ft_table.specs.Tabled.{is_in}
 use Rattle.ft_kept.specs.Acts.{Acts, Comes, op_of}
 use Rattle.ft_kept.specs.Entries.{HitsHere, IsEntry, IsKept, IsRight, hits_here, one_hit, read_here}
 use Rattle.ft_kept.specs.Repairs.{CanCome, HasComeOwing}
-use Rattle.ft_kept.specs.Roles.{variable_of}
+use Rattle.ft_pairs.specs.Roles.{variable_of}
 use Rattle.ft_kept.specs.Shelves.{FormsStay, Shelved, Shelves, admits_on, is_saver, kept_on, role_on}
 use Rattle.ft_kept.specs.Switches.{HitFollows, Members, Moves, MovesKeys, followed, switched, switched_with}
-use Rattle.ft_kept.specs.Values.{ValuesBy, values_at, values_by}
-use Rattle.ft_kept.specs.declared.role.Role.{Role}
-use Rattle.ft_kept.specs.declared.role.Role.TheVariants.{Saves}
-use Rattle.ft_kept.specs.declared.role.Variable.{Variable}
+use Rattle.ft_table.specs.Values.{ValuesBy, values_at, values_by}
+use Rattle.ft_pairs.specs.declared.role.Role.{Role}
+use Rattle.ft_pairs.specs.declared.role.Role.TheVariants.{Saves}
+use Rattle.ft_pairs.specs.declared.role.Variable.{Variable}
 use Rattle.ft_kept.proofs.Decided.{at_decided, decided, itself, key_decided, untied}
 use Rattle.ft_kept.proofs.Following.{none_outside, other_follows, own_follows}
 use Rattle.ft_kept.proofs.Forms.{admits_by, edited, hits_by, ops_by, role_at, same_admits, same_ops}

@@ -9,7 +9,7 @@ use Rattle.ft_table.specs.Tabled.{Tabled, is_in}
 use Rattle.ft_kept.specs.Bounds.{OtherSaversStay, TableMoves, table_on}
 use Rattle.ft_kept.specs.Shelves.{FormsStay, ReaderChanges, ReadersChange, Shelved, Shelves, admits_on, is_saver, role_on}
 use Rattle.ft_kept.specs.Switches.{HasMoved, Moves, MovesKeys, differ}
-use Rattle.ft_kept.specs.declared.role.Role.TheVariants.{Plain, Saves}
+use Rattle.ft_pairs.specs.declared.role.Role.TheVariants.{Plain, Saves}
 use Rattle.ft_kept.proofs.Forms.{admits_by, role_at, roles_stay, same_role}
 
 -- the table on a shelf, if there is a shelf

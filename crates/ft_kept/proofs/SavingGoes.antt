@@ -14,7 +14,7 @@ use Rattle.ft_pairs.specs.declared.at.Op.{Op}
 use Rattle.ft_kept.specs.Repairs.{CanGo, HasGone, HasGoneOwing, IsPartly, Pays, owes_saver, without_moved}
 use Rattle.ft_kept.specs.Shelves.{FormsStay, ReadersChange, Shelves, admits_on, kept_on, role_on}
 use Rattle.ft_kept.specs.Switches.{Moves, MovesKeys}
-use Rattle.ft_kept.specs.Values.{values_by}
+use Rattle.ft_table.specs.Values.{values_by}
 use Rattle.ft_kept.proofs.Forms.{readers_admit, roles_stay}
 use Rattle.ft_kept.proofs.NextThere.{next_there}
 use Rattle.ft_kept.proofs.Owing.{kept_as, owes_more}

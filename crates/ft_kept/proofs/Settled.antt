@@ -25,9 +25,9 @@ use Rattle.ft_table.specs.declared.mark.Mark.{Mark}
 use Rattle.ft_kept.specs.Entries.{HitsHere, hits_here, read_here, one_hit, IsEntry, IsOwn, StaysBut}
 use Rattle.ft_kept.specs.Repairs.{AreShelved}
 use Rattle.ft_kept.specs.Shelves.{Shelved, Shelves, ReadersChange, role_on, kept_on, with_hit_on, without_hit_on}
-use Rattle.ft_kept.specs.Values.{ValuesBy, values_by, values_at}
-use Rattle.ft_kept.specs.declared.role.Role.TheVariants.{Reads}
-use Rattle.ft_kept.specs.declared.role.Variable.{Variable}
+use Rattle.ft_table.specs.Values.{ValuesBy, values_by, values_at}
+use Rattle.ft_pairs.specs.declared.role.Role.TheVariants.{Reads}
+use Rattle.ft_pairs.specs.declared.role.Variable.{Variable}
 use Rattle.ft_kept.proofs.Forms.{by_id, role_at, hits_by, read_by, same_hits, same_read, edited_reader, readers_ops}
 use Rattle.ft_kept.proofs.Paid.{own_same, agreed_source}
 

@@ -11,7 +11,7 @@ use Rattle.ft_pairs.specs.ByKey.{ByKey, ChangesKey}
 use Rattle.ft_pairs.specs.Source.{Ops}
 use Rattle.ft_table.specs.Tabled.{Tabled}
 use Rattle.ft_kept.specs.Shelves.{Shelved, Shelves, Readings, OpsChange, ChangesShelf}
-use Rattle.ft_kept.specs.declared.role.Role.{Role}
+use Rattle.ft_pairs.specs.declared.role.Role.{Role}
 
 -- one key's operations change, and nothing else
 pub ops_change : (key : List Part) (edit : Ops → Ops) (role : Role) (table : Tabled) (readings : Readings) (ops after : ByKey) (old : Shelved)

@@ -13,13 +13,13 @@ use Rattle.ft_kept.specs.Acts.{Acts, AreHeld, op_of}
 use Rattle.ft_kept.specs.Entries.{IsOwn, IsEntry, IsKeptBut, OpsStay, StaysBut, hits_here, read_here}
 use Rattle.ft_kept.specs.Owed.{is_read}
 use Rattle.ft_kept.specs.Repairs.{Owed, without_next_read}
-use Rattle.ft_kept.specs.Roles.{Admits, op_as}
+use Rattle.ft_pairs.specs.Roles.{Admits, op_as}
 use Rattle.ft_kept.specs.Shelves.{Kept}
-use Rattle.ft_kept.specs.Values.{ValuesBy}
-use Rattle.ft_kept.specs.Variables.{variable_cmp, variable_same}
-use Rattle.ft_kept.specs.declared.role.Role.{Role}
-use Rattle.ft_kept.specs.declared.role.Role.TheVariants.{Plain, Saves, Reads}
-use Rattle.ft_kept.specs.declared.role.Variable.{Variable}
+use Rattle.ft_table.specs.Values.{ValuesBy}
+use Rattle.ft_pairs.specs.Variables.{variable_cmp, variable_same}
+use Rattle.ft_pairs.specs.declared.role.Role.{Role}
+use Rattle.ft_pairs.specs.declared.role.Role.TheVariants.{Plain, Saves, Reads}
+use Rattle.ft_pairs.specs.declared.role.Variable.{Variable}
 use Rattle.ft_kept.proofs.Paid.{own_there, paid, still_owed, not_same_at}
 
 module _ (role : ℕ → Role) (admits : Admits) (acts : Acts) (variable : Variable) (q : At) where

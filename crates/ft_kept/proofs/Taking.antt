@@ -18,12 +18,12 @@ use Rattle.ft_table.specs.Tabled.{is_in}
 use Rattle.ft_table.specs.declared.mark.Mark.{Mark}
 use Rattle.ft_kept.specs.Acts.{Acts, AreHeld, Comes, IsOneAct, op_of}
 use Rattle.ft_kept.specs.Entries.{IsEntry, IsKept, IsOwn, IsRight, StaysBut, hits_here, read_here}
-use Rattle.ft_kept.specs.Roles.{Admits, variable_of}
+use Rattle.ft_pairs.specs.Roles.{Admits, variable_of}
 use Rattle.ft_kept.specs.Shelves.{Kept, Shelved, Shelves, ChangesShelf, FormStays, FormsStay, TakesHit, is_saver, role_on, admits_on, kept_on}
-use Rattle.ft_kept.specs.Values.{ValuesBy}
-use Rattle.ft_kept.specs.declared.role.Role.{Role}
-use Rattle.ft_kept.specs.declared.role.Role.TheVariants.{Plain, Saves, Reads}
-use Rattle.ft_kept.specs.declared.role.Variable.{Variable}
+use Rattle.ft_table.specs.Values.{ValuesBy}
+use Rattle.ft_pairs.specs.declared.role.Role.{Role}
+use Rattle.ft_pairs.specs.declared.role.Role.TheVariants.{Plain, Saves, Reads}
+use Rattle.ft_pairs.specs.declared.role.Variable.{Variable}
 use Rattle.ft_kept.proofs.Between.{held_fewer}
 use Rattle.ft_kept.proofs.Decided.{at_decided, decided, itself, untied, variable_decided}
 use Rattle.ft_kept.proofs.Forms.{admits_by, by_id, forms_refl, hits_by, ops_by, read_by, role_at, same_admits, same_hits, same_ops, same_read}

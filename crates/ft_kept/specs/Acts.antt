@@ -12,9 +12,9 @@ use Rattle.ft_hist.specs.declared.key.Part.{Part}
 use Rattle.ft_lanes.specs.Held.{Lanes, event_at}
 use Rattle.ft_pairs.specs.Source.{Ops}
 use Rattle.ft_pairs.specs.declared.at.At.{At}
-use Rattle.ft_kept.specs.declared.role.Role.{Role}
-use Rattle.ft_kept.specs.declared.role.Variable.{Variable}
-use Rattle.ft_kept.specs.Roles.{Admits, op_as}
+use Rattle.ft_pairs.specs.declared.role.Role.{Role}
+use Rattle.ft_pairs.specs.declared.role.Variable.{Variable}
+use Rattle.ft_pairs.specs.Roles.{Admits, op_as}
 
 -- the acts: at each place the key that the event there has at the trigger, and the event, where it has the trigger's name and passes its filter (our own choice)
 abbrev pub Acts : Type 0

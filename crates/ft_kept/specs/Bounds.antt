@@ -1,5 +1,5 @@
 -- How many steps a repair takes.
-use Rattle.std.specs.Prelude.{◌≡◌, ℕ, ◌≤◌, Option, Some, None, option_map}
+use Rattle.std.specs.Prelude.{◌≡◌, ℕ, Option, Some, None, option_map}
 use Rattle.std.specs.Option.{option_map_or}
 use Rattle.std.specs.Ordering.{nat_cmp}
 use Rattle.std.specs.FinMap as map
@@ -8,19 +8,13 @@ use Rattle.ft_event.specs.Traced.{Traced}
 use Rattle.ft_event.specs.declared.pos.Pos.{Pos}
 use Rattle.ft_hist.specs.Hist.{Hist}
 use Rattle.ft_hist.specs.Hit.{hit}
-use Rattle.ft_hist.specs.Steps.{Steps}
 use Rattle.ft_table.specs.Growth.{with_hit}
 use Rattle.ft_table.specs.OneKey.{without_hit}
 use Rattle.ft_table.specs.Tabled.{Tabled, is_in}
 use Rattle.ft_kept.specs.Shelves.{Shelves, role_on}
 use Rattle.ft_kept.specs.Switches.{HasMoved}
-use Rattle.ft_kept.specs.Values.{values_at}
-use Rattle.ft_kept.specs.declared.role.Role.TheVariants.{Saves}
-
--- no count of steps falls (our own choice)
-pub record StepsGrow (old new : Steps) : Type 0 where
-  pub evals : old.evals ≤ new.evals
-  pub puts : old.puts ≤ new.puts
+use Rattle.ft_table.specs.Values.{values_at}
+use Rattle.ft_pairs.specs.declared.role.Role.TheVariants.{Saves}
 
 -- what becomes of a trigger's table (our own choice)
 abbrev pub TableEdit : Type 0

@@ -7,12 +7,12 @@ use Rattle.ft_pairs.specs.Source.{Ops, IsSource}
 use Rattle.ft_pairs.specs.declared.at.At.{At}
 use Rattle.ft_table.specs.Hits.{same_key}
 use Rattle.ft_kept.specs.Acts.{Acts, op_of}
-use Rattle.ft_kept.specs.Roles.{Admits}
+use Rattle.ft_pairs.specs.Roles.{Admits}
 use Rattle.ft_kept.specs.Shelves.{Kept}
-use Rattle.ft_kept.specs.Values.{ValuesBy}
-use Rattle.ft_kept.specs.declared.role.Role.{Role}
-use Rattle.ft_kept.specs.declared.role.Role.TheVariants.{Plain, Saves, Reads}
-use Rattle.ft_kept.specs.declared.role.Variable.{Variable}
+use Rattle.ft_table.specs.Values.{ValuesBy}
+use Rattle.ft_pairs.specs.declared.role.Role.{Role}
+use Rattle.ft_pairs.specs.declared.role.Role.TheVariants.{Plain, Saves, Reads}
+use Rattle.ft_pairs.specs.declared.role.Variable.{Variable}
 
 -- the hits of a trigger at one place, by key (our own choice)
 abbrev pub HitsHere : Type 0

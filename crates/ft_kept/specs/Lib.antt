@@ -4,11 +4,8 @@ pub mod Codes
 pub mod Entries
 pub mod Owed
 pub mod Repairs
-pub mod Roles
 pub mod Shelves
 pub mod Switches
-pub mod Values
-pub mod Variables
 pub use Rattle.ft_event.specs.Places
 pub use Rattle.ft_event.specs.Traced
 pub use Rattle.ft_hist.specs.Hist

@@ -1,15 +1,13 @@
 -- What a repair of what is kept makes right.
-use Rattle.std.specs.Prelude.{◌≡◌, ℕ, ◌&&◌, ◌||◌, Bool, true, false, not, List, Option, Some, None, length, is_some, if◌then◌else◌}
-use Rattle.std.specs.List.{filter}
+use Rattle.std.specs.Prelude.{◌≡◌, ℕ, ◌&&◌, ◌||◌, Bool, true, false, not, List, Option, Some, None, is_some, if◌then◌else◌}
 use Rattle.std.specs.Option.{option_map_or}
 use Rattle.std.specs.Ordering.{nat_cmp}
 use Rattle.std.specs.FinMap as map
 use Rattle.std.specs.FinMap.{FinMap}
 use Rattle.ft_event.specs.Places.{pos_cmp}
-use Rattle.ft_event.specs.Traced.{Traced, name_of}
+use Rattle.ft_event.specs.Traced.{Traced}
 use Rattle.ft_event.specs.declared.pos.Pos.{Pos}
 use Rattle.ft_hist.specs.Hist.{Hist}
-use Rattle.ft_hist.specs.Hit.{same_name}
 use Rattle.ft_hist.specs.declared.key.Part.{Part}
 use Rattle.ft_lanes.specs.Held.{Lanes}
 use Rattle.ft_pairs.specs.Next.{IsNext}
@@ -18,12 +16,12 @@ use Rattle.ft_pairs.specs.declared.at.Op.{Op}
 use Rattle.ft_kept.specs.Acts.{Acts, AreHeld, Comes, acts_of}
 use Rattle.ft_kept.specs.Entries.{IsKeptBut, IsKept}
 use Rattle.ft_kept.specs.Owed.{reads_at, is_next_read, is_switched}
-use Rattle.ft_kept.specs.Roles.{Admits}
+use Rattle.ft_pairs.specs.Roles.{Admits}
 use Rattle.ft_kept.specs.Shelves.{Shelves, role_on, admits_on, kept_on}
 use Rattle.ft_kept.specs.Switches.{Moves}
-use Rattle.ft_kept.specs.Values.{values_by}
-use Rattle.ft_kept.specs.declared.role.Role.TheVariants.{Reads}
-use Rattle.ft_kept.specs.declared.role.Variable.{Variable}
+use Rattle.ft_table.specs.Values.{values_by}
+use Rattle.ft_pairs.specs.declared.role.Role.TheVariants.{Reads}
+use Rattle.ft_pairs.specs.declared.role.Variable.{Variable}
 
 -- each attached trigger has a shelf, each shelf its trigger, and each reader's saver a shelf (our own choice)
 pub record AreShelved (triggers : FinMap nat_cmp Hist) (shelves : Shelves) : Type 0 where
@@ -150,13 +148,3 @@ EventHasGone triggers lanes pos event old new =
     (events : FinMap pos_cmp Traced) → map.get events pos ≡ Some event → AreHeld lanes (acts_of triggers events)
     → IsKept (role_on old) (values_by triggers) (admits_on old) (acts_of triggers events) (kept_on old)
     → IsKept (role_on old) (values_by triggers) (admits_on new) (acts_of triggers (map.remove events pos)) (kept_on new)
-
--- ---- tests
-
--- how many attached triggers are on an event's name (kernel: histogram.rst, hist triggers)
-abbrev pub count_on : FinMap nat_cmp Hist → Traced → ℕ
-count_on triggers event = length (filter (λ attached. same_name attached.1.event (name_of event.body)) (map.entries triggers))
-
--- how many tests an event takes at a trigger: one, if the trigger is on its name (kernel: histogram.rst, hist triggers)
-abbrev pub asked : Hist → Traced → ℕ
-asked hist event = if same_name hist.event (name_of event.body) then 1 else 0

@@ -18,11 +18,11 @@ use Rattle.ft_table.specs.Growth.{with_hit}
 use Rattle.ft_table.specs.OneKey.{without_hit}
 use Rattle.ft_table.specs.Tabled.{Tabled, is_in}
 use Rattle.ft_table.specs.declared.mark.Mark.{Mark}
-use Rattle.ft_kept.specs.Roles.{Admits}
-use Rattle.ft_kept.specs.contracts.role.Role as role
-use Rattle.ft_kept.specs.declared.role.Role.{Role}
-use Rattle.ft_kept.specs.declared.role.Role.TheVariants.{Plain, Saves, Reads}
-use Rattle.ft_kept.specs.declared.role.Variable.{Variable}
+use Rattle.ft_pairs.specs.Roles.{Admits}
+use Rattle.ft_pairs.specs.contracts.role.Role as role
+use Rattle.ft_pairs.specs.declared.role.Role.{Role}
+use Rattle.ft_pairs.specs.declared.role.Role.TheVariants.{Plain, Saves, Reads}
+use Rattle.ft_pairs.specs.declared.role.Variable.{Variable}
 
 -- what readings found: by the place of the reading, the place of the saving (kernel: histogram.rst, inter-event hist triggers)
 abbrev pub Readings : Type 0

@@ -10,14 +10,14 @@ ghost use Rattle.ft_hist.specs.Hit.{hit};
 ghost use Rattle.ft_lanes.specs.Held.{Lanes};
 ghost use Rattle.ft_maps.specs.Seen.{seen};
 ghost use Rattle.ft_pairs.specs.Edits.{without_op};
-ghost use Rattle.ft_kept.specs.Bounds.{StepsGrow, SaverMoves, SomeSaverMoves, OtherSaversStay};
+ghost use Rattle.ft_kept.specs.Bounds.{SaverMoves, SomeSaverMoves, OtherSaversStay};
+ghost use Rattle.ft_hist.specs.Steps.{StepsGrow};
 ghost use Rattle.ft_kept.specs.Bounds.{without_hit_of};
 ghost use Rattle.ft_kept.specs.Repairs.{AreShelved, CanGo, HasGone, EventCanGo, EventHasGone};
-ghost use Rattle.ft_kept.specs.Repairs.{count_on, asked};
+ghost use Rattle.ft_hist.specs.Tests.{count_on, asked};
 ghost use Rattle.ft_kept.specs.Shelves.{ChangesShelf, OpsChange, TakesHit, FormsStay, role_on};
-ghost use Rattle.ft_kept.specs.declared.role.Role.TheVariants.{Plain, Reads};
+ghost use Rattle.ft_pairs.specs.declared.role.Role.TheVariants.{Plain, Reads};
 
-use crate::role::Role;
 use crate::saver_goes::saving_goes;
 use crate::settle::settle_next;
 use crate::tables::Tables;
@@ -25,7 +25,7 @@ use ft_event::{Event, Pos};
 use ft_hist::{Key, Trigger, Work};
 use ft_lanes::Lanes;
 use ft_maps::entries;
-use ft_pairs::At;
+use ft_pairs::{At, Role};
 use std::alloc::AllocError;
 use std::collections::BTreeMap;
 

@@ -6,18 +6,11 @@
 mod comes;
 mod goes;
 mod one_trigger;
-mod role;
 mod saver;
 mod saver_goes;
 mod settle;
 mod shelf;
 mod tables;
-mod values;
 
-pub use role::{Role, Variable};
 pub use shelf::Shelf;
 pub use tables::Tables;
-pub use values::hit_with;
-
-#[cfg(test)]
-mod tests;

@@ -5,8 +5,10 @@ ghost use Rattle.std.specs.Ordering.{nat_cmp};
 ghost use Rattle.std.specs.FinMap as map;
 ghost use Rattle.ft_hist.specs.Hit.{hit};
 ghost use Rattle.ft_maps.specs.Seen.{seen};
-ghost use Rattle.ft_kept.specs.Bounds.{StepsGrow, SaverMoves, with_hit_of, without_hit_of};
-ghost use Rattle.ft_kept.specs.Repairs.{AreShelved, CanCome, HasCome, CanGo, HasGone, asked};
+ghost use Rattle.ft_kept.specs.Bounds.{SaverMoves, with_hit_of, without_hit_of};
+ghost use Rattle.ft_hist.specs.Steps.{StepsGrow};
+ghost use Rattle.ft_kept.specs.Repairs.{AreShelved, CanCome, HasCome, CanGo, HasGone};
+ghost use Rattle.ft_hist.specs.Tests.{asked};
 ghost use Rattle.ft_kept.specs.Shelves.{FormsStay};
 
 use crate::comes::act_comes;

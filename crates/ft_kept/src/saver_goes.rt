@@ -10,11 +10,12 @@ ghost use Rattle.ft_maps.specs.Seen.{seen};
 ghost use Rattle.ft_pairs.specs.ByKey.{ops_of};
 ghost use Rattle.ft_table.specs.OneKey.{without_hit};
 ghost use Rattle.ft_table.specs.Tabled.{is_in};
-ghost use Rattle.ft_kept.specs.Bounds.{StepsGrow, TableMoves, OtherSaversStay, table_on};
+ghost use Rattle.ft_kept.specs.Bounds.{TableMoves, OtherSaversStay, table_on};
+ghost use Rattle.ft_hist.specs.Steps.{StepsGrow};
 ghost use Rattle.ft_kept.specs.Repairs.{AreShelved, CanGo, HasGone, HasGoneOwing};
 ghost use Rattle.ft_kept.specs.Shelves.{FormsStay, role_on, admits_on};
 ghost use Rattle.ft_kept.specs.Switches.{HitLessFollows, MovesKeys, HasMoved, first_is_in};
-ghost use Rattle.ft_kept.specs.declared.role.Role.TheVariants.{Saves};
+ghost use Rattle.ft_pairs.specs.declared.role.Role.TheVariants.{Saves};
 
 use crate::saver::{Moved, settle_moved};
 use crate::shelf::Shelf;

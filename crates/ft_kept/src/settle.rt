@@ -6,20 +6,20 @@ ghost use Rattle.ft_maps.specs.Seen.{seen};
 ghost use Rattle.ft_pairs.specs.Next.{IsNext};
 ghost use Rattle.ft_pairs.specs.declared.at.At.{At};
 ghost use Rattle.ft_pairs.specs.declared.at.Op.{Op};
-ghost use Rattle.ft_kept.specs.Bounds.{StepsGrow};
+ghost use Rattle.ft_hist.specs.Steps.{StepsGrow};
 ghost use Rattle.ft_kept.specs.Entries.{IsEntry, IsOwn, StaysBut, hits_here, read_here};
 ghost use Rattle.ft_kept.specs.Repairs.{AreShelved, IsPartly, Pays};
 ghost use Rattle.ft_kept.specs.Repairs.{without_next_read, without_reads_of};
 ghost use Rattle.ft_kept.specs.Shelves.{ReadersChange, role_on, kept_on};
-ghost use Rattle.ft_kept.specs.Values.{values_by};
-ghost use Rattle.ft_kept.specs.declared.role.Role.TheVariants.{Reads};
+ghost use Rattle.ft_table.specs.Values.{values_by};
+ghost use Rattle.ft_pairs.specs.declared.role.Role.TheVariants.{Reads};
 
 use crate::tables::Tables;
-use crate::values::hit_with;
 use ft_event::Event;
 use ft_hist::{Key, Trigger, Work};
 use ft_lanes::Lanes;
 use ft_pairs::{At, Op, one_next};
+use ft_table::hit_with;
 use std::alloc::AllocError;
 use std::collections::BTreeMap;
 

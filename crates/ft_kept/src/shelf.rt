@@ -12,15 +12,14 @@ ghost use Rattle.ft_pairs.specs.Next.{IsNext};
 ghost use Rattle.ft_pairs.specs.Source.{IsSource};
 ghost use Rattle.ft_pairs.specs.declared.at.At.{At};
 ghost use Rattle.ft_table.specs.Tabled.{is_in};
-ghost use Rattle.ft_kept.specs.Bounds.{StepsGrow};
+ghost use Rattle.ft_hist.specs.Steps.{StepsGrow};
 ghost use Rattle.ft_kept.specs.Shelves.{IsNewShelf, OpsChange, with_hit_on, without_hit_on};
 ghost use Rattle.ft_kept.specs.Switches.{with_saves, switched};
 
-use crate::role::Role;
 use ft_event::Pos;
 use ft_hist::{Key, Work};
 use ft_maps::{put, take};
-use ft_pairs::{At, Op, Pairs};
+use ft_pairs::{At, Op, Pairs, Role};
 use ft_table::{Hit, Table};
 use std::alloc::{AllocError, Global};
 use std::collections::BTreeMap;

@@ -7,15 +7,14 @@ ghost use Rattle.ft_pairs.specs.Edits.{with_op};
 ghost use Rattle.ft_pairs.specs.Next.{IsNext};
 ghost use Rattle.ft_pairs.specs.Source.{IsSource};
 ghost use Rattle.ft_pairs.specs.declared.at.Op.TheVariants.{Read};
-ghost use Rattle.ft_kept.specs.Bounds.{StepsGrow};
+ghost use Rattle.ft_hist.specs.Steps.{StepsGrow};
 ghost use Rattle.ft_kept.specs.Shelves.{role_on, kept_on, left_on};
 ghost use Rattle.ft_kept.specs.Shelves.{AddsShelf, ChangesShelf, OpsChange};
 
-use crate::role::Role;
 use crate::shelf::Shelf;
 use ft_hist::{Key, Work};
 use ft_maps::{get, put};
-use ft_pairs::{At, Op};
+use ft_pairs::{At, Op, Role};
 use std::alloc::{AllocError, Global};
 use std::collections::BTreeMap;
 use std::marker::Model;

@@ -13,6 +13,3 @@ mod walk;
 
 pub use lanes::Lanes;
 pub use walk::{ByCpu, Lane, Lines};
-
-#[cfg(test)]
-mod tests;

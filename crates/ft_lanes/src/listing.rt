@@ -203,6 +203,3 @@ fn add_zero_filled(text: &mut Vec<u8>, number: u64, width: usize) -> Result<(), 
     text.extend_from_slice(&ZEROS[..width.saturating_sub(digits.len())])?;
     text.extend_from_slice(digits)
 }
-
-#[cfg(test)]
-mod tests;

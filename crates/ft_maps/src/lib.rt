@@ -61,6 +61,3 @@ pub fn entries<K: Ord, V>(map: &BTreeMap<K, V>) -> Iter<'_, K, V>
 {
     map.iter()
 }
-
-#[cfg(test)]
-mod tests;

@@ -3,7 +3,9 @@ pub mod Codes
 pub mod Edits
 pub mod Next
 pub mod Order
+pub mod Roles
 pub mod Source
+pub mod Variables
 pub use Rattle.ft_event.specs.Places
 pub use Rattle.ft_hist.specs.Parts
 pub use Rattle.ft_hist.specs.Steps

@@ -1,9 +1,10 @@
-//! Saves and reads of variables, kept in order: which saving a reading finds.
+//! Variables, and the saves and reads of them, kept in order: which saving a reading finds.
 #![tactic(auto)]
 
 mod at;
 mod laws;
 mod pairs;
+mod role;
 mod sequence;
 
 pub use at::{At, Op, one_act_order};
@@ -12,6 +13,4 @@ pub use laws::{
     whole_walks,
 };
 pub use pairs::Pairs;
-
-#[cfg(test)]
-mod tests;
+pub use role::{Role, Variable};

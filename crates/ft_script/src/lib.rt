@@ -6,6 +6,3 @@ mod script;
 
 pub use lines::next_line;
 pub use script::{Command, read_command};
-
-#[cfg(test)]
-mod tests;

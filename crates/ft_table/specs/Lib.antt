@@ -17,6 +17,7 @@ pub mod Sorting
 pub mod Split
 pub mod Tabled
 pub mod Text
+pub mod Values
 pub use Rattle.ft_event.specs.Places
 pub use Rattle.ft_hist.specs.Fitting
 pub use Rattle.ft_hist.specs.Hist

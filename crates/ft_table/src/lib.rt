@@ -17,6 +17,7 @@ mod sorting;
 mod split;
 mod table;
 mod text;
+mod values;
 
 pub use hit::Hit;
 pub use laws::{all_hits, first_keys, first_outside, fitting_keys, one_key, one_more_hit};
@@ -24,6 +25,4 @@ pub use mark::{Mark, one_mark_order};
 pub use row::{Row, Totals};
 pub use sorting::one_row_order;
 pub use table::{Edge, Table};
-
-#[cfg(test)]
-mod tests;
+pub use values::hit_with;

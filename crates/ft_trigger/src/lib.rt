@@ -22,6 +22,3 @@ pub use laws::{
     refiltered_reads_again, shapes, sizes, sound_triggers,
 };
 pub use reading::{one_answer, parse, reads_again};
-
-#[cfg(test)]
-mod tests;

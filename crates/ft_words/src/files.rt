@@ -13,9 +13,6 @@ use std::io::{ErrorKind, Read};
 use std::rt::Files;
 use std::{fs, io};
 
-#[cfg(test)]
-mod tests;
-
 /// The most bytes of a trace file.
 const FILE_LIMIT: usize = 1_073_741_824;
 

@@ -11,9 +11,6 @@ use clap::{Arg, ArgAction, ArgMatches, Command, Error};
 use std::alloc::{AllocError, Global};
 use std::convert::AsStr;
 
-#[cfg(test)]
-mod tests;
-
 /// The name that stands for standard input, in SCRIPT's place.
 const STANDARD_INPUT: &str = "-";
 

@@ -1,7 +1,7 @@
 use Rattle.std.proofs.Common.{drop}
 use Rattle.std.specs.Map.Iter.{deref}
 use Rattle.std.specs.Ordering.{nat_cmp}
-use Rattle.ft_kept.specs.Bounds.{StepsGrow}
+use Rattle.ft_hist.specs.Steps.{StepsGrow}
 use Rattle.ft_maps.specs.Mapped.{entries_by}
 use Rattle.ft_maps.specs.Seen.{seen}
 use Rattle.ft_board.proofs.OneTrigger.{IsJoined}

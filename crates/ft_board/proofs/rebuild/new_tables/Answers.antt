@@ -5,10 +5,10 @@ use Rattle.std.specs.Map.Iter.{deref_pair}
 use Rattle.std.proofs.lemmas.Map.Iter.{rest_more, rest_all}
 use Rattle.ft_hist.specs.Hist.{Hist}
 use Rattle.ft_kept.specs.Shelves.{Shelves, AddsShelf}
-use Rattle.ft_kept.specs.declared.role.Role.{Role}
+use Rattle.ft_pairs.specs.declared.role.Role.{Role}
 use Rattle.ft_maps.specs.Seen.{seen}
-use Rattle.ft_board.specs.Base.{Triggers}
-use Rattle.ft_board.specs.Roles.{role_of}
+use Rattle.ft_replay.specs.Base.{Triggers}
+use Rattle.ft_replay.specs.Roles.{role_of}
 use Rattle.ft_board.proofs.KeptBoardBuilt.{AreNewBut, new_but_all, new_but_rest}
 use Rattle.ft_board.proofs.rebuild.new_tables.Goals as goal
 

@@ -7,13 +7,13 @@ use Rattle.ft_event.specs.Traced.{Traced}
 use Rattle.ft_event.specs.declared.pos.Pos.{Pos}
 use Rattle.ft_maps.specs.Mapped.{entries_by}
 use Rattle.ft_maps.specs.Seen.{seen}
-use Rattle.ft_board.specs.Base.{Triggers}
-use Rattle.ft_board.specs.Merged.{merged}
-use Rattle.ft_board.specs.Named.{named}
+use Rattle.ft_replay.specs.Base.{Triggers}
+use Rattle.ft_replay.specs.Merged.{merged}
+use Rattle.ft_replay.specs.Named.{named}
 use Rattle.ft_board.proofs.KeptBoardActs.{held_is}
 use Rattle.ft_board.proofs.KeptBoardBuilt.{IsBuilt, built_none, built_more, built_all, can_come}
 use Rattle.ft_board.proofs.KeptBoardForms.{all_shelved}
-use Rattle.ft_board.proofs.Stepping.{grow_none, grow_more}
+use Rattle.ft_replay.proofs.Stepping.{grow_none, grow_more}
 use Rattle.ft_board.proofs.rebuild.rebuilt.Goals as goal
 
 -- the first of the events that are left

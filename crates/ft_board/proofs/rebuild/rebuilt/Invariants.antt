@@ -3,7 +3,7 @@ use Rattle.std.specs.Map.Iter.{deref}
 use Rattle.std.specs.Ordering.{nat_cmp}
 use Rattle.ft_maps.specs.Mapped.{entries_by}
 use Rattle.ft_maps.specs.Seen.{seen}
-use Rattle.ft_kept.specs.Bounds.{StepsGrow}
+use Rattle.ft_hist.specs.Steps.{StepsGrow}
 use Rattle.ft_board.proofs.KeptBoardBuilt.{IsBuilt}
 use Rattle.ft_board.proofs.rebuild.rebuilt.Given as goal
 

@@ -6,7 +6,7 @@ use Rattle.ft_hist.specs.Hit.{same_name, hit}
 use Rattle.ft_hist.specs.declared.key.Part.{Part}
 use Rattle.ft_maps.specs.Seen.{seen}
 use Rattle.ft_table.specs.Growth.{with_hit}
-use Rattle.ft_kept.specs.Values.{values_at}
+use Rattle.ft_table.specs.Values.{values_at}
 use Rattle.ft_kept.proofs.Between.{none_came, other_name}
 use Rattle.ft_kept.proofs.FewPuts.{act_few}
 use Rattle.ft_kept.proofs.Forms.{forms_refl}

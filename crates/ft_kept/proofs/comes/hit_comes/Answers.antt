@@ -9,7 +9,7 @@ use Rattle.ft_maps.specs.Seen.{seen, get-seen, seen-found}
 use Rattle.ft_kept.specs.Shelves.{Shelves, kept_on, with_hit_on}
 use Rattle.ft_kept.proofs.FewPuts.{savers_but}
 use Rattle.ft_kept.proofs.Forms.{hits_by}
-use Rattle.ft_kept.specs.Values.{values_at}
+use Rattle.ft_table.specs.Values.{values_at}
 use Rattle.ft_kept.proofs.Plainly.{plain_comes, plain_forms}
 use Rattle.ft_kept.proofs.Putting.{written, unwritten, shelved_there, absent_hits}
 use Rattle.ft_kept.proofs.comes.hit_comes.Goals as goal

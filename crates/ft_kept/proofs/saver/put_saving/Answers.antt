@@ -13,7 +13,7 @@ use Rattle.ft_table.specs.Growth.{with_hit}
 use Rattle.ft_table.specs.Tabled.{Tabled, is_in}
 use Rattle.ft_kept.specs.Shelves.{Shelves}
 use Rattle.ft_kept.specs.Switches.{HasMoved, HitFollows, MovesKeys}
-use Rattle.ft_kept.specs.Values.{values_at}
+use Rattle.ft_table.specs.Values.{values_at}
 use Rattle.ft_kept.proofs.Decided.{on_ok_as, if_ok_both}
 use Rattle.ft_kept.proofs.Putting.{written, unwritten, shelved_there}
 use Rattle.ft_kept.proofs.SaverHits.{saver_forms, saver_free, saver_moved, saver_outside, saver_owing, saver_unsaved}

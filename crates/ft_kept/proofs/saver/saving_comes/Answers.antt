@@ -7,7 +7,7 @@ use Rattle.ft_hist.specs.declared.key.Part.{Part}
 use Rattle.ft_pairs.specs.declared.at.At.{At}
 use Rattle.ft_table.specs.Growth.{with_hit}
 use Rattle.ft_table.specs.Tabled.{Tabled}
-use Rattle.ft_kept.specs.Values.{values_at}
+use Rattle.ft_table.specs.Values.{values_at}
 use Rattle.ft_kept.proofs.Decided.{on_ok_both}
 use Rattle.ft_kept.proofs.Forms.{forms_trans, readers_forms, shelved_stay}
 use Rattle.ft_kept.proofs.MovedPaid.{saving_partly, saving_has_come}

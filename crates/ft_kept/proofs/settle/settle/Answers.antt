@@ -7,7 +7,7 @@ use Rattle.std.proofs.lemmas.Result.{on_ok_weaker}
 use Rattle.ft_maps.specs.Seen.{seen, get-seen, seen-found}
 use Rattle.ft_pairs.specs.Source.{IsSource}
 use Rattle.ft_kept.specs.Shelves.{Shelves, kept_on, with_hit_on}
-use Rattle.ft_kept.specs.Values.{values_at, values_by}
+use Rattle.ft_table.specs.Values.{values_at, values_by}
 use Rattle.ft_kept.specs.contracts.tables.Tables as tables
 use Rattle.ft_kept.proofs.Settled.{IsSettled, settled_unset, settled_set, reads_shelved, reads_attached, cleared, cleared_hit, shelf_own, values_there}
 use Rattle.ft_kept.proofs.settle.settle.Goals as goal

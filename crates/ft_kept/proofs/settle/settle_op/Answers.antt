@@ -4,7 +4,7 @@ use Rattle.ft_maps.specs.Seen.{seen}
 use Rattle.ft_kept.specs.Entries.{IsKeptBut}
 use Rattle.ft_kept.specs.Repairs.{without_next_read}
 use Rattle.ft_kept.specs.Shelves.{role_on, kept_on}
-use Rattle.ft_kept.specs.Values.{values_by}
+use Rattle.ft_table.specs.Values.{values_by}
 use Rattle.ft_kept.proofs.Forms.{readers_refl, readers_ops}
 use Rattle.ft_kept.proofs.Sources.{held_read, read_not_lost, read_stamped, read_own, read_paid}
 use Rattle.ft_kept.proofs.settle.settle_op.Goals as goal

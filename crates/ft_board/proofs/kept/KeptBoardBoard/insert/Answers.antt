@@ -1,8 +1,8 @@
 use Rattle.std.proofs.Common.{subst}
-use Rattle.ft_board.specs.Base.{Base}
-use Rattle.ft_board.specs.Costs.{CostsOf}
-use Rattle.ft_board.specs.Merged.{merged}
-use Rattle.ft_board.specs.Shown.{Shown}
+use Rattle.ft_replay.specs.Base.{Base}
+use Rattle.ft_replay.specs.Costs.{CostsOf}
+use Rattle.ft_replay.specs.Merged.{merged}
+use Rattle.ft_replay.specs.Shown.{Shown}
 use Rattle.ft_board.proofs.FewSteps.{inserted_costs}
 use Rattle.ft_board.proofs.KeptBoardRepair.{inserted_if}
 use Rattle.ft_board.proofs.kept.KeptBoardBoard.insert.Goals as goal

@@ -2,18 +2,18 @@ use Rattle.std.proofs.Common.{rules, ◌≡◌, true, false, refl, sym, ap, ◌�
 use Rattle.std.specs.FinMap as map
 use Rattle.ft_hist.specs.Hist.{Hist}
 use Rattle.ft_kept.specs.Shelves.{Readings}
-use Rattle.ft_board.specs.declared.pair.Pair.{Pair}
-use Rattle.ft_board.specs.declared.refused.Latency.{Latency}
-use Rattle.ft_board.specs.declared.refused.Refused.{Refused}
-use Rattle.ft_board.specs.Answers.{latencies, latency_of}
-use Rattle.ft_board.specs.Base.{Base, Triggers}
-use Rattle.ft_board.specs.Kept.{pairs_in}
+use Rattle.ft_replay.specs.declared.pair.Pair.{Pair}
+use Rattle.ft_replay.specs.declared.refused.Latency.{Latency}
+use Rattle.ft_replay.specs.declared.refused.Refused.{Refused}
+use Rattle.ft_replay.specs.Answers.{latencies, latency_of}
+use Rattle.ft_replay.specs.Base.{Base, Triggers}
+use Rattle.ft_replay.specs.Kept.{pairs_in}
 use Rattle.ft_board.specs.KeptBeside.{Tells}
-use Rattle.ft_board.specs.OnShelves.{is_reader}
-use Rattle.ft_board.specs.Shown.{Shown}
-use Rattle.ft_board.specs.Tally.{tally_of}
-use Rattle.ft_board.proofs.Growing.{pairs-tally}
-use Rattle.ft_board.proofs.AnswerSteps.{told_steps}
+use Rattle.ft_replay.specs.OnShelves.{is_reader}
+use Rattle.ft_replay.specs.Shown.{Shown}
+use Rattle.ft_replay.specs.Tally.{tally_of}
+use Rattle.ft_replay.proofs.Growing.{pairs-tally}
+use Rattle.ft_board.proofs.ToldSteps.{told_steps}
 use Rattle.ft_board.proofs.KeptBoardTold.{told, latencies-missing, latencies-unread, latencies-told}
 use Rattle.ft_board.proofs.kept.KeptBoardBoard.latencies.Goals as goal
 use Rattle.ft_board.proofs.kept.KeptBoardBoard.latencies.Goals.{in-Ok, in-Err}

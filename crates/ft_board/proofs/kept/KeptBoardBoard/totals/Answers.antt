@@ -4,16 +4,16 @@ use Rattle.ft_hist.specs.Hist.{Hist}
 use Rattle.ft_table.specs.Rows.{totals_of}
 use Rattle.ft_table.specs.Tabled.{Tabled}
 use Rattle.ft_table.specs.declared.row.Totals.{Totals}
-use Rattle.ft_board.specs.declared.refused.Refused.{Refused}
-use Rattle.ft_board.specs.Answers.{totals}
-use Rattle.ft_board.specs.Base.{Base, Triggers}
-use Rattle.ft_board.specs.Kept.{pairs_in}
+use Rattle.ft_replay.specs.declared.refused.Refused.{Refused}
+use Rattle.ft_replay.specs.Answers.{totals}
+use Rattle.ft_replay.specs.Base.{Base, Triggers}
+use Rattle.ft_replay.specs.Kept.{pairs_in}
 use Rattle.ft_board.specs.KeptBeside.{Tells}
-use Rattle.ft_board.specs.Shown.{Shown}
-use Rattle.ft_board.specs.Tally.{tally_of}
-use Rattle.ft_board.proofs.AnswerSteps.{told_steps}
+use Rattle.ft_replay.specs.Shown.{Shown}
+use Rattle.ft_replay.specs.Tally.{tally_of}
+use Rattle.ft_board.proofs.ToldSteps.{told_steps}
 use Rattle.ft_board.proofs.KeptBoardTold.{told, totals-missing, totals-told}
-use Rattle.ft_board.proofs.Shown.{totals-tally}
+use Rattle.ft_replay.proofs.Shown.{totals-tally}
 use Rattle.ft_board.proofs.kept.KeptBoardBoard.totals.Goals as goal
 
 pub returns-in_default-clause-gives : goal.returns-in_default-clause-gives

@@ -9,11 +9,13 @@ use Rattle.ft_event.specs.Places.{pos_cmp}
 use Rattle.ft_event.specs.Traced.{Traced}
 use Rattle.ft_maps.specs.Seen.{seen}
 use Rattle.ft_kept.specs.Acts.{AreHeld, acts_of, between}
-use Rattle.ft_kept.specs.Bounds.{StepsGrow, SomeSaverMoves, with_hit_of}
+use Rattle.ft_kept.specs.Bounds.{SomeSaverMoves, with_hit_of}
+use Rattle.ft_hist.specs.Steps.{StepsGrow}
 use Rattle.ft_kept.specs.Entries.{IsKept}
-use Rattle.ft_kept.specs.Repairs.{AreShelved, count_on}
+use Rattle.ft_kept.specs.Repairs.{AreShelved}
+use Rattle.ft_hist.specs.Tests.{count_on}
 use Rattle.ft_kept.specs.Shelves.{FormsStay, role_on, admits_on, kept_on}
-use Rattle.ft_kept.specs.Values.{values_by}
+use Rattle.ft_table.specs.Values.{values_by}
 use Rattle.ft_kept.proofs.Between.{all_but, asked_of}
 use Rattle.ft_kept.proofs.FewPuts.{Few, LeftStay}
 use Rattle.ft_kept.proofs.tables.Tables.event_comes.Given as goal

@@ -15,9 +15,9 @@ use Rattle.ft_maps.specs.Seen.{seen}
 use Rattle.ft_kept.specs.Acts.{IsDoneToo, acts_of, between}
 use Rattle.ft_kept.specs.Bounds.{SomeSaverMoves, without_hit_of}
 use Rattle.ft_kept.specs.Entries.{IsKept}
-use Rattle.ft_kept.specs.Repairs.{asked, count_on}
+use Rattle.ft_hist.specs.Tests.{asked, count_on}
 use Rattle.ft_kept.specs.Shelves.{role_on, admits_on, kept_on}
-use Rattle.ft_kept.specs.Values.{values_by}
+use Rattle.ft_table.specs.Values.{values_by}
 use Rattle.ft_kept.proofs.Attached.{each_found}
 use Rattle.ft_kept.proofs.Between.{kept_alike, kept_in_role, all_but, done_too, asked_of, asked_more, going_begins, going_ends, going_held, going_step}
 use Rattle.ft_kept.proofs.FewPuts.{Few, few_first, few_more, few_all, left_refl, left_step, some_moves, steps_refl, steps_trans}

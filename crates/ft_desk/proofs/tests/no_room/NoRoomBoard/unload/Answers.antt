@@ -1,8 +1,0 @@
-use Rattle.std.proofs.Common.{refl, inr}
-use Rattle.ft_board.specs.After.{after_unload}
-use Rattle.ft_desk.proofs.Empty.{no-lane}
-use Rattle.ft_desk.proofs.tests.no_room.NoRoomBoard.unload.Goals as goal
-
-pub returns-clause-gives : goal.returns-clause-gives
-unfolding after_unload
-returns-clause-gives c = (refl, refl, inr (rw (no-lane c.args.cpu) refl))

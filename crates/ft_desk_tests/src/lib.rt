@@ -1,0 +1,24 @@
+//! Tests of boards, desks and runs: each public call once, streams that fail, want of memory. They
+//! stand apart, so that no crate is proved a second time with its tests.
+#![tactic(auto)]
+
+#[cfg(test)]
+mod board;
+#[cfg(test)]
+mod endings;
+#[cfg(test)]
+mod examples;
+#[cfg(test)]
+mod faults;
+#[cfg(test)]
+mod kept_now;
+#[cfg(test)]
+mod merge;
+#[cfg(test)]
+mod no_room;
+#[cfg(test)]
+mod performing;
+#[cfg(test)]
+mod streams;
+#[cfg(test)]
+mod want_of_memory;

@@ -1,0 +1,3 @@
+pub mod Glob
+pub mod Walk
+pub mod Matching

@@ -1,0 +1,30 @@
+//! Tests of the crates below the boards: each public call once, and what no contract says. They
+//! stand apart, so that no crate is proved a second time with its tests.
+#![tactic(auto)]
+
+#[cfg(test)]
+mod event;
+#[cfg(test)]
+mod files;
+#[cfg(test)]
+mod filter;
+#[cfg(test)]
+mod glob;
+#[cfg(test)]
+mod hist;
+#[cfg(test)]
+mod kept;
+#[cfg(test)]
+mod lanes;
+#[cfg(test)]
+mod maps;
+#[cfg(test)]
+mod pairs;
+#[cfg(test)]
+mod script;
+#[cfg(test)]
+mod table;
+#[cfg(test)]
+mod trigger;
+#[cfg(test)]
+mod words;

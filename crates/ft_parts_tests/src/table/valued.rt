@@ -1,0 +1,69 @@
+//! Hits with their values.
+
+ghost use Rattle.std.specs.Prelude.{◌≡◌, ◌≤◌, IfOk};
+
+use ft_event::{Body, Comm, Event, Field, Name, Pos, Wake};
+use ft_hist::{Item, Key, KeyItem, Mode, Part, SortBy, SortItem, Trigger};
+use ft_table::hit_with;
+use std::alloc::{AllocError, Global};
+use std::test::*;
+
+/// The place of line 1 of CPU 0.
+fn at(stamp: u64) -> Pos
+    ensures { result.stamp ≡ stamp }
+{
+    Pos {
+        stamp,
+        cpu: 0,
+        line: 1,
+    }
+}
+
+/// A waking of `w` with pid 42 and priority 120.
+fn waking(stamp: u64) -> Result<Event, &'static str>
+    requires { stamp ≤ 4294967295999999 }
+    ensures { IfOk result (λ event. event.stamp ≡ stamp) }
+{
+    let comm = Comm::of(b"w").ok_or("the text is too long for a name")?;
+    Ok(Event {
+        task: comm,
+        pid: 1,
+        cpu: 0,
+        stamp,
+        body: Body::Waking(Wake {
+            comm,
+            pid: 42,
+            prio: 120,
+            target_cpu: 0,
+        }),
+    })
+}
+
+/// A trigger on wakings that counts by PID, and sums the priority and its own variable, if asked.
+fn by_pid(alloc: Global) -> Result<Trigger, AllocError> {
+    let mut keys = Vec::new(alloc);
+    keys.push(KeyItem {
+        field: Field::Pid,
+        mode: Mode::Plain,
+    })?;
+    let mut values = Vec::new(alloc);
+    values.push(Item::Num(Field::Prio))?;
+    let mut sort = Vec::new(alloc);
+    sort.push(SortItem {
+        what: SortBy::Hits,
+        descending: false,
+    })?;
+    Ok(Trigger::of(Name::Waking, keys, values, sort, None, 128, None))
+}
+
+#[test]
+fn a_hit_has_its_events_values(rt: HostRuntime) -> Result<(), Fail> {
+    let trigger = by_pid(rt.alloc())?;
+    let event = waking(1_000_100)?;
+    let key = Key::of_one(Part::Num(42));
+    let hit = hit_with(&trigger, &event, at(1_000_100), key, Some(at(1_000_000)));
+    assert_eq!(rt; hit.pos, at(1_000_100));
+    assert_eq!(rt; hit.key, key);
+    assert_eq!(rt; hit.values, [120, 0, 0]);
+    Ok(())
+}

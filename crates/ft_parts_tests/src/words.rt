@@ -1,0 +1,54 @@
+//! What lists of words name.
+
+use ft_words::{WordsFault, read_words};
+use std::alloc::Global;
+
+/// The script, if it is no standard input, and the traces.
+type Named = (Option<&'static str>, &'static [&'static str]);
+
+/// Lists of words that are read, each with what it names.
+fn accepted() -> [(&'static [&'static str], Named); 5] {
+    [
+        (&["histdesk"], (None, &[])),
+        (&["histdesk", "-", "b"], (None, &["b"])),
+        (&["histdesk", "a", "b", "-"], (Some("a"), &["b", "-"])),
+        (&["histdesk", "--", "-"], (None, &[])),
+        (
+            &["histdesk", "--", "--help", "-x"],
+            (Some("--help"), &["-x"]),
+        ),
+    ]
+}
+
+/// Whether words are read, and name that.
+fn is_named(alloc: Global, words: &'static [&'static str], (script, traces): Named) -> bool {
+    match read_words(alloc, words) {
+        Ok(named) => named.script == script && named.traces.as_slice() == traces,
+        Err(_) => false,
+    }
+}
+
+#[test]
+fn names_script_and_traces(rt: HostRuntime) {
+    for (words, named) in accepted() {
+        assert!(rt; is_named(rt.alloc(), words, named), "{words:?}");
+    }
+}
+
+/// Lists of words that are refused: before `--` one looks like an option.
+fn refused() -> [&'static [&'static str]; 4] {
+    [
+        &["histdesk", "--help"],
+        &["histdesk", "-1"],
+        &["histdesk", "a", "b", "-x", "--", "c"],
+        &["histdesk", "a", "--SCRIPT=b"],
+    ]
+}
+
+#[test]
+fn refuses_options(rt: HostRuntime) {
+    for words in refused() {
+        let fault = read_words(rt.alloc(), words).err();
+        assert!(rt; fault == Some(WordsFault::Refused), "{words:?}");
+    }
+}

@@ -1,0 +1,79 @@
+-- What a trigger answers, from its shelf.
+use Rattle.std.proofs.Common.{◌≡◌, ℕ, Bool, true, false, List, ◌++◌, refl, sym, ap, subst, ◌∙◌, append_assoc, Some, None, Option, Result, Ok, Err, OnOk, if◌then◌else◌}
+use Rattle.std.specs.Prelude.{IsSome, option_map, unwrap_or, map as list_map}
+use Rattle.std.specs.Option.{option_map_or}
+use Rattle.std.specs.Result.{is_ok}
+use Rattle.std.specs.Cmp.{nat_cmp_total}
+use Rattle.std.specs.FinMap as map
+use Rattle.ft_hist.specs.Hist.{Hist}
+use Rattle.ft_hist.specs.declared.label.Var.{Var}
+use Rattle.ft_hist.specs.declared.label.Var.TheVariants as vars
+use Rattle.ft_maps.specs.Mapped.{map_by, get-map_by}
+use Rattle.ft_table.specs.Rows.{AllFit}
+use Rattle.ft_replay.specs.declared.refused.Refused.{Refused}
+use Rattle.ft_replay.specs.declared.refused.Refused.TheVariants.{NoTrigger, NotReading}
+use Rattle.ft_replay.specs.Base.{Triggers, Events}
+use Rattle.ft_replay.specs.Answers.{tally_at, of_attached, latency_of, latencies_as}
+use Rattle.ft_replay.specs.Replay.{replay}
+use Rattle.ft_replay.specs.OnShelves.{Shelved, Shelves, tally_on, is_reader, HasShelf, AreShelved}
+use Rattle.ft_replay.specs.Tally.{Tally, empty_tally}
+
+-- ---- a trigger's shelf
+
+module _ (triggers : Triggers) (shelves : Shelves) (shelved : AreShelved triggers shelves) (id : ℕ) where
+  -- an attached trigger has a shelf
+  pub some_shelf : IsSome (map.get triggers id) → IsSome (map.get shelves id)
+  some_shelf attached =
+      elim (map.get triggers id) as (λ o. map.get triggers id ≡ o → IsSome o → IsSome (map.get shelves id)) [
+        | None ↦ λ is some. let both : ◌≡◌ {A = Bool} false true = some in absurd cc
+        | Some hist ↦ λ is some. let has : HasShelf triggers shelves id hist = shelved id hist is in subst IsSome (sym has.there) refl
+      ] refl attached
+
+  -- its keys fit the trigger
+  pub shelf_fits : (shelf : Shelved) → map.get shelves id ≡ Some shelf → (hist : Hist) → map.get triggers id ≡ Some hist → AllFit shelf.table hist
+  shelf_fits shelf there hist is =
+      let has : HasShelf triggers shelves id hist = shelved id hist is in
+      let same : has.shelf ≡ shelf = ap (λ (o : Option Shelved). unwrap_or o shelf) (sym has.there ∙ there) in
+      subst (λ (s : Shelved). AllFit s.table hist) same has.suits.fit
+
+-- its tally is that of the replay
+pub shelf_tally : (triggers : Triggers) (events : Events) (shelves : Shelves) (id : ℕ) (shelf : Shelved) → map_by tally_on shelves ≡ (replay triggers events).tallies → map.get shelves id ≡ Some shelf
+    → tally_on shelf ≡ tally_at triggers events id
+shelf_tally triggers events shelves id shelf is there =
+    sym (ap (λ (o : Option Tally). unwrap_or o empty_tally) (ap (λ tallies. map.get tallies id) (sym is) ∙ get-map_by tally_on nat_cmp_total shelves id ∙ ap (option_map tally_on) there))
+
+-- ---- answers
+
+module _ {T : Type 0} (triggers : Triggers) (id : ℕ) where
+  -- of an attached trigger
+  pub of_attached-some : (answer : Hist → Result T Refused) (hist : Hist) → map.get triggers id ≡ Some hist → of_attached triggers id answer ≡ answer hist
+  of_attached-some answer hist is = ap (λ o. option_map_or answer o (Err NoTrigger)) is
+
+  -- where the answer is the same for all
+  pub of_attached-known : (answer : Result T Refused) → IsSome (map.get triggers id) → of_attached triggers id (λ hist. answer) ≡ answer
+  of_attached-known answer attached =
+      elim (map.get triggers id) as (λ o. IsSome o → option_map_or (λ (hist : Hist). answer) o (Err NoTrigger) ≡ answer) [
+        | None ↦ λ some. let both : ◌≡◌ {A = Bool} false true = some in absurd cc
+        | Some hist ↦ λ some. refl
+      ] attached
+
+-- a reader has latencies, and no one else
+pub latencies-reader : (variable : Option Var) (tally : Tally) → is_reader variable ≡ true → latencies_as variable tally ≡ Ok (list_map latency_of tally.pairs)
+latencies-reader None tally is = let both : ◌≡◌ {A = Bool} false true = is in absurd cc
+latencies-reader (Some (vars.Saves label)) tally is = let both : ◌≡◌ {A = Bool} false true = is in absurd cc
+latencies-reader (Some (vars.Reads own source)) tally is = refl
+
+pub latencies-other : (variable : Option Var) (tally : Tally) → is_reader variable ≡ false → latencies_as variable tally ≡ Err NotReading
+latencies-other None tally is = refl
+latencies-other (Some (vars.Saves label)) tally is = refl
+latencies-other (Some (vars.Reads own source)) tally is = let both : ◌≡◌ {A = Bool} true false = is in absurd cc
+
+-- ---- texts that grow piece by piece
+
+pub added : (old now new one two : List ℕ) → now ≡ old ++ one → new ≡ now ++ two → new ≡ old ++ (one ++ two)
+added old now new one two first second = second ∙ ap (λ (t : List ℕ). t ++ two) first ∙ append_assoc old one two
+
+-- where the last call's result is the result
+pub last_added : {X E : Type 0} (r : Result X E) (old now new one two : List ℕ) → now ≡ old ++ one → new ≡ (if is_ok r then now ++ two else now) → OnOk r (new ≡ old ++ (one ++ two))
+last_added (Ok x) old now new one two first second = added old now new one two first second
+last_added (Err e) old now new one two first second = tt

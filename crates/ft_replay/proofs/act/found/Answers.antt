@@ -1,0 +1,5 @@
+use Rattle.ft_pairs.specs.Variables.{variable_same}
+use Rattle.ft_replay.proofs.act.found.Goals as goal
+
+pub take-requires : goal.take-requires
+take-requires c = variable_same

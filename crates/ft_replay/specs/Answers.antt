@@ -1,0 +1,80 @@
+-- What a desk answers: functions of what replaying its base gives.
+use Rattle.std.specs.Prelude.{ℕ, ◌-◌, List, ◌++◌, codes, unwrap_or, Option, Some, Result, Ok, Err, map as list_map}
+use Rattle.std.specs.Option.{option_map_or}
+use Rattle.std.specs.FinMap as map
+use Rattle.ft_event.specs.declared.pos.Pos.{Pos}
+use Rattle.ft_lanes.specs.Listing.{lane_text}
+use Rattle.ft_hist.specs.Canonical.{canonical}
+use Rattle.ft_hist.specs.Hist.{Hist}
+use Rattle.ft_hist.specs.declared.label.Var.{Var}
+use Rattle.ft_hist.specs.declared.label.Var.TheVariants as vars
+use Rattle.ft_table.specs.declared.row.Totals.{Totals}
+use Rattle.ft_table.specs.Text.{rows_text}
+use Rattle.ft_replay.specs.declared.refused.Latency.{Latency}
+use Rattle.ft_replay.specs.declared.refused.Place.{Place}
+use Rattle.ft_replay.specs.declared.refused.Refused.{Refused}
+use Rattle.ft_replay.specs.declared.refused.Refused.TheVariants.{NoLane, NoTrigger, NotReading}
+use Rattle.ft_replay.specs.declared.pair.Pair.{Pair}
+use Rattle.ft_replay.specs.Base.{Triggers, Events, Base}
+use Rattle.ft_replay.specs.Merged.{merged}
+use Rattle.ft_replay.specs.Replay.{replay}
+use Rattle.ft_replay.specs.Tally.{Tally, empty_tally, rows_in, totals_in}
+
+-- the tally of the trigger with an id, from replaying events (kernel: histogram.rst, hist triggers)
+abbrev pub tally_at : Triggers → Events → ℕ → Tally
+tally_at triggers events id = unwrap_or (map.get (replay triggers events).tallies id) empty_tally
+
+-- an answer about an attached trigger; none is attached: refused (our own choice)
+abbrev pub of_attached : {T : Type 0} → Triggers → ℕ → (Hist → Result T Refused) → Result T Refused
+of_attached triggers id answer = option_map_or answer (map.get triggers id) (Err NoTrigger)
+
+-- the lines above the rows (kernel: histogram.rst, the `hist` file; the layout is our own choice)
+unfoldable pub heading : Hist → List ℕ
+heading hist = codes "# event histogram\n#\n# trigger info: " ++ canonical hist ++ codes " [active]\n#\n\n"
+
+-- the text of a trigger with a tally (kernel: histogram.rst, the `hist` file; the layout is our own choice)
+unfoldable pub tally_text : Hist → Tally → List ℕ
+tally_text hist tally = heading hist ++ rows_text hist (rows_in hist.sort tally) (totals_in tally)
+
+-- the text of the table of the trigger with an id, from replaying events (kernel: histogram.rst, the `hist` file)
+abbrev pub hist_from : Triggers → Events → ℕ → Result (List ℕ) Refused
+hist_from triggers events id = of_attached triggers id (λ hist. Ok (tally_text hist (tally_at triggers events id)))
+
+-- the totals of the trigger with an id, from replaying events (kernel: histogram.rst, `Hits`, `Entries` and `Dropped`)
+abbrev pub totals_from : Triggers → Events → ℕ → Result Totals Refused
+totals_from triggers events id = of_attached triggers id (λ hist. Ok (totals_in (tally_at triggers events id)))
+
+-- the line that stands at a place in the merged order (our own choice)
+abbrev pub line_at : Pos → Place
+line_at at = record { cpu = at.cpu; line = at.line }
+
+-- a pair as a latency: the microseconds from the saving to the reading (kernel: histogram.rst, wakeup latencies)
+abbrev pub latency_of : Pair → Latency
+latency_of pair = record { saved = line_at pair.saved; read = line_at pair.read; micros = pair.read.stamp - pair.saved.stamp }
+
+-- the latencies of a trigger with a variable: one that saves, or has none, has no latencies (our own choice)
+abbrev pub latencies_as : Option Var → Tally → Result (List Latency) Refused
+latencies_as (Some (vars.Reads own source)) tally = Ok (list_map latency_of tally.pairs)
+latencies_as variable tally = Err NotReading
+
+-- the latencies of the trigger with an id, in merged order of the reading, from replaying events (kernel: histogram.rst, wakeup latencies)
+abbrev pub latencies_from : Triggers → Events → ℕ → Result (List Latency) Refused
+latencies_from triggers events id = of_attached triggers id (λ hist. latencies_as hist.variable (tally_at triggers events id))
+
+-- ---- of a base
+
+-- the text of a trigger's table (kernel: histogram.rst, the `hist` file)
+unfoldable pub hist_text : Base → ℕ → Result (List ℕ) Refused
+hist_text base = hist_from base.triggers (merged base.lanes)
+
+-- a trigger's totals (kernel: histogram.rst, `Hits`, `Entries` and `Dropped`)
+unfoldable pub totals : Base → ℕ → Result Totals Refused
+totals base = totals_from base.triggers (merged base.lanes)
+
+-- a trigger's latencies (kernel: histogram.rst, wakeup latencies)
+unfoldable pub latencies : Base → ℕ → Result (List Latency) Refused
+latencies base = latencies_from base.triggers (merged base.lanes)
+
+-- the text of a CPU's lane (our own choice)
+unfoldable pub list_text : Base → ℕ → Result (List ℕ) Refused
+list_text base cpu = option_map_or (λ lane. Ok (lane_text cpu lane)) (map.get base.lanes cpu) (Err (NoLane cpu))

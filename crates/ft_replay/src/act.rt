@@ -1,0 +1,114 @@
+//! One event at one attached trigger.
+
+ghost use Rattle.std.specs.Prelude.{◌≡◌, None, if◌then◌else◌, OnOk};
+ghost use Rattle.std.specs.Ordering.{nat_cmp};
+ghost use Rattle.std.specs.FinMap as map;
+ghost use Rattle.ft_event.specs.declared.pos.Pos.{Pos};
+ghost use Rattle.ft_maps.specs.Seen.{seen};
+ghost use Rattle.ft_table.specs.Tabled.{is_in};
+ghost use Rattle.ft_hist.specs.Steps.{StepsGrow};
+ghost use Rattle.ft_table.specs.Values.{values_at};
+ghost use Rattle.ft_replay.specs.OnShelves.{after_hit, after_act, IsFree};
+ghost use Rattle.ft_pairs.specs.Variables.{variable_cmp};
+
+use crate::shelf::Shelf;
+use ft_event::{Event, Pos};
+use ft_hist::{Key, Trigger, Work};
+use ft_maps::{get, put, take};
+use ft_pairs::{At, Role, Variable};
+use ft_table::hit_with;
+use std::alloc::AllocError;
+use std::collections::BTreeMap;
+
+/// One event at one attached trigger, whose shelf has no hit there yet: it acts where the event is
+/// a hit. Refused for memory.
+pub(crate) fn act(
+    trigger: &Trigger,
+    event: &Event,
+    at: At,
+    shelves: &mut BTreeMap<u32, Shelf>,
+    saved: &mut BTreeMap<Variable, Pos>,
+    work: &mut Work,
+) -> Result<(), AllocError>
+    requires stamped { at.pos.stamp ≡ event.now.stamp }
+    requires free { IsFree at (seen nat_cmp shelves.old) }
+    ensures acts { OnOk result ((seen nat_cmp shelves.new, seen variable_cmp saved.new)
+        ≡ after_act trigger.now event.now at
+        (seen nat_cmp shelves.old, seen variable_cmp saved.old)) }
+    ensures grow { StepsGrow work.old work.new }
+{
+    let Some(key) = trigger.hit_of(event, work) else {
+        return Ok(());
+    };
+    match shelves.get_mut(&at.trigger) {
+        Some(shelf) => act_as(trigger, event, at, key, shelf, saved, work),
+        None => Ok(()),
+    }
+}
+
+/// A hit of a key, on the trigger's shelf and on the variables.
+fn act_as(
+    trigger: &Trigger,
+    event: &Event,
+    at: At,
+    key: Key,
+    shelf: &mut Shelf,
+    saved: &mut BTreeMap<Variable, Pos>,
+    work: &mut Work,
+) -> Result<(), AllocError>
+    requires stamped { at.pos.stamp ≡ event.now.stamp }
+    requires free { map.get shelf.old.table.hits (record { pos = at.pos; key = key }) ≡ None }
+    ensures acts { OnOk result ((shelf.new, seen variable_cmp saved.new)
+        ≡ after_hit (values_at trigger.now at.pos event.now) shelf.old.role at key
+        (shelf.old, seen variable_cmp saved.old)) }
+    ensures grow { StepsGrow work.old work.new }
+{
+    match shelf.role() {
+        Role::Plain => shelf.add(hit_with(trigger, event, at.pos, key, None), None, work),
+        Role::Saves => {
+            shelf.add(hit_with(trigger, event, at.pos, key, None), None, work)?;
+            save(shelf, at, key, saved)
+        }
+        Role::Reads(saver) => {
+            let Some(place) = found(saved, Variable { saver, key }) else {
+                return Ok(());
+            };
+            let hit = hit_with(trigger, event, at.pos, key, Some(place));
+            shelf.add(hit, Some(place), work)
+        }
+    }
+}
+
+/// Sets the variable of a saver's hit that is on its shelf, where the key is in the table. Refused
+/// for memory.
+fn save(
+    shelf: &Shelf,
+    at: At,
+    key: Key,
+    saved: &mut BTreeMap<Variable, Pos>,
+) -> Result<(), AllocError>
+    ensures { OnOk result (seen variable_cmp saved.new
+        ≡ (if is_in shelf.now.table key
+        then map.insert (seen variable_cmp saved.old) (record { saver = at.trigger; key = key }) at.pos
+        else seen variable_cmp saved.old)) }
+{
+    if shelf.table().is_in(&key) {
+        let variable = Variable {
+            saver: at.trigger,
+            key,
+        };
+        return put(saved, variable, at.pos);
+    }
+    Ok(())
+}
+
+/// What a variable is set to. It is unset then.
+fn found(saved: &mut BTreeMap<Variable, Pos>, variable: Variable) -> Option<Pos>
+    ensures value { result ≡ map.get (seen variable_cmp saved.old) variable }
+    ensures unset { seen variable_cmp saved.new
+        ≡ map.remove (seen variable_cmp saved.old) variable }
+{
+    let place = get(saved, &variable).copied();
+    take(saved, &variable);
+    place
+}

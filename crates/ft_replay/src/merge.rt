@@ -1,0 +1,81 @@
+//! The merged order: held events by their places, as references into the lanes.
+
+ghost use Rattle.std.specs.Prelude.{◌≡◌, ◌++◌, IfOk, OnOk, IsPermutation, filter};
+ghost use Rattle.std.specs.List.Sorted.{IsSortedByKey};
+ghost use Rattle.std.specs.Ordering.{nat_cmp};
+ghost use Rattle.std.specs.FinMap as map;
+ghost use Rattle.std.specs.Map.Iter.{deref};
+ghost use Rattle.ft_event.specs.Places.{pos_cmp};
+ghost use Rattle.ft_event.specs.Traced.{name_of};
+ghost use Rattle.ft_maps.specs.Mapped.{entries_by};
+ghost use Rattle.ft_maps.specs.Seen.{seen};
+ghost use Rattle.ft_replay.specs.Merged.{merged, placed};
+ghost use Rattle.ft_replay.specs.Named.{named, events_on, has_name};
+
+use crate::names::Names;
+use ft_event::{Event, Pos};
+use ft_hist::Trigger;
+use ft_lanes::{Lane, Lanes};
+use std::alloc::{AllocError, Global};
+use std::collections::BTreeMap;
+
+/// The events on whose name some trigger is, with their places, in merged order. Refused for
+/// memory.
+pub fn merged_events<'a>(
+    alloc: Global,
+    lanes: &'a Lanes,
+    triggers: &BTreeMap<u32, Trigger>,
+) -> Result<Vec<(Pos, &'a Event)>, AllocError>
+    ensures { IfOk result (λ events. entries_by deref events.items
+        ≡ map.entries (named (seen nat_cmp triggers.now) (merged lanes.now))) }
+{
+    events_with(alloc, lanes, Names::of(triggers))
+}
+
+/// The events that have one of the names, with their places, in merged order. Refused for memory.
+pub fn events_with<'a>(
+    alloc: Global,
+    lanes: &'a Lanes,
+    names: Names,
+) -> Result<Vec<(Pos, &'a Event)>, AllocError>
+    ensures { IfOk result (λ events. entries_by deref events.items
+        ≡ map.entries (events_on (has_name names) (merged lanes.now))) }
+{
+    let mut events = Vec::new(alloc);
+    for (cpu, lane) in lanes.lanes() {
+        push_lane(&mut events, cpu, &lane, names)?;
+    }
+    sort_by_place(&mut events)?;
+    Ok(events)
+}
+
+/// Adds the events of a lane that have one of the names, with their places. What it added before a
+/// refusal for memory stays.
+fn push_lane<'a>(
+    events: &mut Vec<(Pos, &'a Event)>,
+    cpu: u16,
+    lane: &Lane<'a>,
+    names: Names,
+) -> Result<(), AllocError>
+    ensures { OnOk result (entries_by deref events.new.items ≡ entries_by deref events.old.items
+        ++ filter (λ entry. has_name names (name_of entry.1.body)) (placed (cpu, lane.now))) }
+{
+    if names.are_none() {
+        return Ok(());
+    }
+    for (line, event) in lane.lines() {
+        if names.has(event.name()) {
+            let stamp = event.stamp;
+            events.push((Pos { stamp, cpu, line }, event))?;
+        }
+    }
+    Ok(())
+}
+
+/// Puts events in order of their places. Refused for memory.
+fn sort_by_place(events: &mut Vec<(Pos, &Event)>) -> Result<(), AllocError>
+    ensures permutation { IsPermutation events.old.items events.new.items }
+    ensures sorted { OnOk result (IsSortedByKey (λ entry. entry.0) pos_cmp events.new.items) }
+{
+    events.sort_by_key(|entry| entry.0)
+}

@@ -1,0 +1,92 @@
+//! The names of the events that attached triggers are on.
+
+ghost use Rattle.std.specs.Prelude.{◌≡◌, IsTrue, false};
+ghost use Rattle.std.specs.Ordering.{nat_cmp};
+ghost use Rattle.ft_event.specs.declared.event.Name.{Name};
+ghost use Rattle.ft_hist.specs.Hit.{same_name};
+ghost use Rattle.ft_maps.specs.Seen.{seen};
+ghost use Rattle.ft_replay.specs.Named.{is_on, has_name};
+
+use ft_event::Name;
+use ft_hist::Trigger;
+use ft_maps::entries;
+use std::collections::BTreeMap;
+
+/// Names of events: for each whether it is among them.
+#[derive(Clone, Copy)]
+pub struct Names {
+    waking: bool,
+    wakeup: bool,
+    wakeup_new: bool,
+    switch: bool,
+    other: bool,
+}
+
+impl Names {
+    /// The names on which some trigger is.
+    pub fn of(triggers: &BTreeMap<u32, Trigger>) -> Names
+        ensures { (name : Name) → has_name result name ≡ is_on (seen nat_cmp triggers.now) name }
+    {
+        Names {
+            waking: is_on(triggers, Name::Waking),
+            wakeup: is_on(triggers, Name::Wakeup),
+            wakeup_new: is_on(triggers, Name::WakeupNew),
+            switch: is_on(triggers, Name::Switch),
+            other: is_on(triggers, Name::Other),
+        }
+    }
+
+    /// One name alone.
+    pub fn only(name: Name) -> Names
+        ensures { (other : Name) → has_name result other ≡ same_name name other }
+    {
+        Names {
+            waking: name == Name::Waking,
+            wakeup: name == Name::Wakeup,
+            wakeup_new: name == Name::WakeupNew,
+            switch: name == Name::Switch,
+            other: name == Name::Other,
+        }
+    }
+
+    /// Whether there is none.
+    pub fn are_none(self) -> bool
+        ensures { IsTrue result → (name : Name) → has_name self name ≡ false }
+    {
+        match (
+            self.waking,
+            self.wakeup,
+            self.wakeup_new,
+            self.switch,
+            self.other,
+        ) {
+            (false, false, false, false, false) => true,
+            _ => false,
+        }
+    }
+
+    /// Whether the name is among them.
+    pub fn has(self, name: Name) -> bool
+        ensures { result ≡ has_name self name }
+    {
+        match name {
+            Name::Waking => self.waking,
+            Name::Wakeup => self.wakeup,
+            Name::WakeupNew => self.wakeup_new,
+            Name::Switch => self.switch,
+            Name::Other => self.other,
+        }
+    }
+}
+
+/// Whether some trigger is on the events of a name.
+fn is_on(triggers: &BTreeMap<u32, Trigger>, name: Name) -> bool
+    ensures { result ≡ is_on (seen nat_cmp triggers.now) name }
+{
+    for (_, trigger) in entries(triggers) {
+        if trigger.event() == name {
+            return true;
+        }
+    }
+    false
+}

@@ -1,0 +1,39 @@
+//! What a hit adds to its trigger's sums.
+
+ghost use Rattle.std.specs.Prelude.{◌≡◌};
+ghost use Rattle.ft_event.specs.declared.pos.Pos.{Pos};
+ghost use Rattle.ft_table.specs.Values.{own_value, values_at};
+
+use crate::hit::Hit;
+use ft_event::{Event, Pos};
+use ft_hist::{Key, Trigger};
+
+/// The hit of a trigger at an event, with its values by the place of the saving that it read, if
+/// it read.
+pub fn hit_with(trigger: &Trigger, event: &Event, pos: Pos, key: Key, read: Option<Pos>) -> Hit
+    requires { pos.stamp ≡ event.now.stamp }
+    ensures { result ≡ record {
+      pos = pos;
+      key = key;
+      values = values_at trigger.now pos event.now read;
+    } }
+{
+    let own = own_value(event, read);
+    Hit {
+        pos,
+        key,
+        values: trigger.values_of(event, own),
+    }
+}
+
+/// The value of a trigger's own variable at an event, in microseconds: the stamp, or the time
+/// since the stamp that was read.
+fn own_value(event: &Event, read: Option<Pos>) -> i64
+    ensures { (pos : Pos) → pos.stamp ≡ event.now.stamp → result ≡ own_value pos read }
+{
+    let stamp = event.stamp;
+    match read {
+        None => stamp as i64,
+        Some(saved) => stamp.saturating_sub(saved.stamp) as i64,
+    }
+}
