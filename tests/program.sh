@@ -1,9 +1,9 @@
 #!/usr/bin/env bash
 # program.sh [HISTDESK [PLAINDESK [CHECKROWS]]]: runs a program as a user would: the rows, the examples,
 # words, folders, full disks, limits of files, a script that is typed, growths of memory that are refused,
-# and random scripts. Where PLAINDESK is given, it runs the rows too, and so does CHECKROWS in its own
-# way. Without words, it runs the launcher and those of the other two that are built. It prints what went
-# wrong, and a last line with the counts.
+# random scripts, and the tools around it (tools.sh). Where PLAINDESK is given, it runs the rows too, and so
+# does CHECKROWS in its own way. Without words, it runs the launcher and those of the other two that are
+# built. It prints what went wrong, and a last line with the counts.
 #
 # A row is a folder in tests/rows: a script, its traces, its whole output and its exit status.
 set -uo pipefail
@@ -127,6 +127,21 @@ growths() {
     fi
 }
 
+# The tools around the program: each of their tests is a test here.
+tools() {
+    local told
+    told=$("$here/tools.sh" "$histdesk" 2>&1)
+    if ! [[ ${told##*$'\n'} =~ ^([0-9]+)' passed, '([0-9]+)' failed'$ ]]; then
+        fail "tools: $told"
+        return
+    fi
+    passed=$((passed + BASH_REMATCH[1]))
+    failed=$((failed + BASH_REMATCH[2]))
+    if ((BASH_REMATCH[2] > 0)); then
+        printf '%s\n' "${told%$'\n'*}"
+    fi
+}
+
 # comes FILE LINE: whether the file holds that line alone, now or some seconds later.
 comes() {
     local end=$((SECONDS + 10))
@@ -166,6 +181,20 @@ built() {
     local program=$here/../crates/$1/out/$1
     if [[ -x $program ]]; then
         realpath -- "$program"
+    fi
+}
+
+# on_terminal WHAT STATUS LINE FRONT COMMAND: the command's status on a terminal, the first line that it says there, and
+# what a later line begins with.
+on_terminal() {
+    local status told
+    script -qec "$5" /dev/null </dev/null | tr -d '\r' >"$folder/told"
+    status=${PIPESTATUS[0]}
+    told=$(<"$folder/told")
+    if [[ $status == "$2" && ${told%%$'\n'*} == "$3" && $told == *$'\n'"$4"* ]]; then
+        pass
+    else
+        fail "$1 on a terminal: status $status, $told"
     fi
 }
 
@@ -242,11 +271,19 @@ gives one_line_more 1 "" "$histdesk" "$folder/load" "$folder/million"
 says one_line_more "refused 7"
 types
 
+# The launcher refuses these words by itself, before it builds anything; on a terminal the usage stands behind the line.
+for word in --help -h --version; do
+    gives "launcher $word" 2 "histdesk: bad words" "$launcher" "$word"
+    prints "launcher $word" "$folder/empty"
+    on_terminal "launcher $word" 2 "histdesk: bad words" "histdesk [SCRIPT [TRACE]...]: " "'$launcher' $word"
+done
+
 # The launcher itself is a script that bash runs, whose growths are none of the program's.
 if [[ $histdesk == "$launcher" ]]; then
     histdesk=$here/../crates/histdesk/out/histdesk
 fi
 growths "$histdesk" "${rows[@]}" "$folder"/short/*
+tools
 
 echo "$passed passed, $failed failed"
 ((failed == 0))

@@ -1,0 +1,172 @@
+#!/usr/bin/env python3
+"""Holds that `explain` has its words for each refusal and each fault that docs/FORMAT.md names.
+
+    explained.py EXPLAIN FOLDER > WHAT WENT WRONG
+
+A row is a command, the refusal that FORMAT gives it, some words of the explanation, and the text from the byte above
+the caret to the command's end, or None where no caret stands. All rows are one script, whose first commands are not
+refused. The last line says how many rows hold. FOLDER is for the script and its traces; HISTDESK names the program, as
+for explain.
+"""
+
+import os
+import subprocess
+import sys
+
+WAKE, TURN = "attach sched_waking hist:", "attach sched_switch hist:"
+FIRST = ["load @1", "# one saver, one reader, one without", WAKE + "keys=pid:ts0=common_timestamp.usecs", ""]
+FIRST += [TURN + "keys=next_pid:lat=common_timestamp.usecs-$ts0", "   ", WAKE + "keys=comm"]
+TRACES = {"good.trace": "a-1 [001] 1.000000:\n", "bad.trace": "# tracer: nop\na-1 [001] 1.000000:\nb-2 [001] 1.00\n"}
+LINE = "insert a-1 [000] 1.000000: "
+BAD_SWITCH = LINE + "sched_switch: bash:1 [120] S ==> idle:0 [120]"
+
+REFUSALS = [
+    ("load @3", "2", "no TRACE has that number: they are @1 to @2", None),
+    ("load @1", "4: cpu 1", "CPU 1 has a lane already", None),
+    ("list 2", "5: cpu 2", "CPU 2 has no lane", None),
+    ("strike 1:09", "6", "no line 9", None),
+    ("insert # x", "6", "holds no event", None),
+    ("hist 4", "10", "no trigger has that id; attached: 1, 2, 3", None),
+    ("remove 1", "11: trigger 2", "trigger 2 (line 5) reads the variable", None),
+    (WAKE + "keys=pid:ts0=common_timestamp.usecs", "12: trigger 1", "trigger 1 (line 3) saves a variable", None),
+    (TURN + "keys=next_pid:l=common_timestamp.usecs-$ts1", "13", "saves the variable ts1; did you mean ts0?", None),
+    (TURN + "keys=next_comm:l=common_timestamp.usecs-$ts0", "14", "don't match those of trigger 1 (line 3)", None),
+    ("lat 3", "17", "reads no variable", None),
+    ("lat 3 ", "17", "those that do: 2", None),
+]
+COMMANDS = [
+    ("hits 1", "16", "no such command; did you mean hist?", "hits 1"),
+    ("  # x", "16", "a comment begins at the line's first byte", None),
+    ("hist\t1", "16", "a tab is no gap", "\t1"),
+    ("hist 1\r", "16", "a carriage return ends the line", "\r"),
+    (" insert x", "16", "insert stands at the line's first byte", None),
+    ("x" * 8193, "16", "more than 8,192 bytes", None),
+    ("#" * 8193, "16", "more than 8,192 bytes", None),
+    ("attach sched_wakin hist:keys=pid", "16", "did you mean sched_waking?", "sched_wakin hist:keys=pid"),
+    ("attach  sched:sched_waking hist:", "16", "did you mean sched_waking?", "sched:sched_waking hist:"),
+    ("attach wakeup_new hist:keys=pid", "16", "did you mean sched_wakeup_new?", "wakeup_new hist:keys=pid"),
+    ("load bad.trace", "16", "did you mean load @2?", "bad.trace"),
+    ("load 1", "16", "did you mean load @1?", "1"),
+    ("list 4294967296", "16", "4,294,967,295 at most", "4294967296"),
+    ("strike 1 1", "16", "did you mean strike 1:1?", "1 1"),
+    ("filter 1 pid == 1", "16", "did you mean filter 1 if pid == 1?", "pid == 1"),
+    ("filter 1", "16", "filter ID if EXPR, or filter ID none", ""),
+    ("hist @1", "16", "did you mean hist 1?", "@1"),
+]
+LINES = [
+    ("load @2", "3: line 3 fault 3", "bad.trace, line 3: no stamp", None),
+    ("insert hello", "3: line 1 fault 1", "no TASK-PID [CPU]", None),
+    ("insert a 1 [000] 1.000000: sched:x: y", "3: line 1 fault 1", "tools/from-perf", None),
+    ("insert cpus=4", "3: line 1 fault 1", "tools/from-trace-cmd", None),
+    ("insert a-1 [8192] 1.000000:", "3: line 1 fault 2", "its CPU is above 8,191", None),
+    ("insert a-1 [000] 1.00000:", "3: line 1 fault 3", "no stamp", None),
+    ("insert a-1 [000] 1.000000000: x", "3: line 1 fault 3", "nine digits", None),
+    ("insert a-1 [000] 1.000000:\r", "3: line 1 fault 3", "carriage return", None),
+    (LINE + "sched_waking: comm=x", "3: line 1 fault 4", "comm pid prio target_cpu", None),
+    (BAD_SWITCH, "3: line 1 fault 4", "report with -N", None),
+    ("insert a-2147483648 [000] 1.000000:", "3: line 1 fault 5", "a number is out of its range", None),
+    ("insert " + "a" * 32 + "-1 [000] 1.000000:", "3: line 1 fault 6", "more than 31 bytes", None),
+    (LINE + " " * 4096, "3: line 1 fault 7", "more than 4,096 bytes", None),
+]
+# The filter, its fault and the rest, each tried behind `filter 1 if` and in a trigger.
+FILTERS = [
+    ("", "2 at 0", "the filter is empty", ""),
+    ("nope $", "3 at 0", "no such field of sched_waking; it has comm, pid", "nope $"),
+    ("pids == 1", "3 at 0", "did you mean pid?", "pids == 1"),
+    ("next_pid == 1", "3 at 0", "(sched_switch has it)", "next_pid == 1"),
+    ("pid = 1", "2 at 4", "did you mean ==?", "= 1"),
+    ("comm <", "4 at 5", "comm is a text, which takes == != ~", "<"),
+    ("pid ~ 1", "4 at 4", "pid is a number, which takes", "~ 1"),
+    ("comm == 5", "4 at 8", "a text in quotes is due", "5"),
+    ("pid == '1'", "4 at 7", "a number is due", "'1'"),
+    ("comm == bash", "2 at 8", 'did you mean "bash"?', "bash"),
+    ("comm == 'a", "2 at 8", "this quote is open", "'a"),
+    ("pid == 010", "2 at 7", "without zeros in front", "010"),
+    ("pid == 1 and prio == 2", "2 at 9", "did you mean &&?", "and prio == 2"),
+    ("pid == 1 | prio == 2", "2 at 9", "did you mean ||?", "| prio == 2"),
+    ("pid == 9223372036854775808", "6 at 7", "-2^63 to 2^63-1", "9223372036854775808"),
+    ('comm ~ "[a"', "5 at 7", "not a pattern: a class", '"[a"'),
+    ('comm ~ "!a"', "5 at 7", "not a pattern: it begins with !", '"!a"'),
+    ("(pid == 1", "2 at 9", "a ) is wanting", ""),
+    ("pid == 1)", "2 at 8", "no ( is open", ")"),
+    ("pid == 1 &&", "2 at 11", "ends where more is due", ""),
+    ("(" * 33 + "pid==1" + ")" * 33, "7", "where 32 are open", None),
+]
+TRIGGERS = [
+    ("attach sched_waking", "2 at 0", "it begins with hist:", ""),
+    ("attach sched_waking keys=prio", "2 at 0", "it begins with hist:", "keys=prio"),
+    (WAKE + "keys=pid:", "2 at 14", "an empty part", ""),
+    (WAKE + "keys=pid:szie", "2 at 14", "did you mean size=?", "szie"),
+    (WAKE + "keys=pid,", "2 at 14", "an item is a field", ""),
+    (WAKE + "vals=prio", "2 at 14", "it has no keys", ""),
+    (WAKE + "keys=pid  if", "2 at 15", "behind the head stands if and a filter", "if"),
+    (WAKE + "keys=comm,pids", "3", "no such field of sched_waking; did you mean pid?", "pids"),
+    (WAKE + "keys=next_pid", "3", "(sched_switch has it)", "next_pid"),
+    (WAKE + "keys=pid:vals=$lat", "3", "the trigger's own variable", "$lat"),
+    (WAKE + "keys=pid:vals=comm", "4", "this field is a text", "comm"),
+    (WAKE + "keys=pid,prio,target_cpu,comm", "5", "too many: 3 keys", "comm"),
+    (WAKE + "keys=pid:sort=pid,hitcount,prio", "5", "2 sort items", "prio"),
+    (WAKE + "keys=pid:keys=prio", "6", "the second part with keys", "keys=prio"),
+    (WAKE + "keys=pid:vals=prio,prio", "6", "it stands twice", "prio"),
+    (WAKE + "keys=pid:prio=common_timestamp.usecs", "6", "the name of a field", "prio=common_timestamp.usecs"),
+    (WAKE + "keys=pid:size=64", "7", "no number from 65 to 131,072", "64"),
+    (WAKE + "keys=pid:sort=prio", "8", "neither hitcount nor a key nor a value", "prio"),
+    (WAKE + "keys=pid:sort=pid.descend", "8", "did you mean descending?", "pid.descend"),
+    (WAKE + "keys=comm.hex", "9", "comm is a text, and a modifier needs a number", "comm.hex"),
+    (WAKE + "keys=pid.log", "9", "did you mean log2?", "pid.log"),
+    (WAKE + "keys=pid.buckets=0", "9", "a number from 1 to 4,294,967,295", "pid.buckets=0"),
+    (WAKE + "keys=pid.execname", "10 at 10", "the kernel has this form", "pid.execname"),
+    (WAKE + "keys=pid:pause", "10 at 14", "the kernel has this form", "pause"),
+    (WAKE + "kyes=pid", "10 at 5", "did you mean keys=?", "kyes=pid"),
+]
+
+
+def all_rows():
+    rows = REFUSALS + COMMANDS + LINES
+    for text, fault, words, rest in FILTERS:
+        rows.append((f"filter 1 if {text}", f"9: filter {fault}", words, rest))
+        if text:
+            rows.append((f"{WAKE}keys=pid  if  {text}", f"8: fault 11 filter {fault}", words, rest))
+    return rows + [(command, f"8: fault {fault}", words, rest) for command, fault, words, rest in TRIGGERS]
+
+
+def wrong_with(number, row, told):
+    """What is wrong with the lines told of a row, or None."""
+    command, refusal, words, rest = row
+    if told[:1] != [f"refused {refusal}"]:
+        return f"{told[:1]}"
+    front, text = f"  line {number}: ", command.strip(" ")
+    if not told[1:] or not told[1].startswith(front) or words not in told[1]:
+        return f"{told[1:]}"
+    if rest is None:
+        return None if not told[2:3] or not told[2].strip(" ") == "^" else "a caret"
+    column = len(front) + len(text) - len(rest)
+    return None if told[2:] == [" " * column + "^"] else f"{told[1:]}"
+
+
+def main():
+    explain, folder = sys.argv[1:]
+    if not os.environ.get("HISTDESK"):
+        raise SystemExit("explained: HISTDESK names no program")
+    rows = all_rows()
+    os.chdir(folder)
+    for name, text in TRACES.items():
+        with open(name, "w") as file:
+            file.write(text)
+    with open("script", "w", newline="") as file:
+        file.write("\n".join(FIRST + [row[0] for row in rows]))
+    done = subprocess.run([explain, "script", *TRACES], capture_output=True)
+    told = done.stdout.decode("latin-1").split("\n")[:-1]
+    starts = [at for at, line in enumerate(told) if line.startswith("refused ")] + [len(told)]
+    good = 0
+    for at, row in enumerate(rows):
+        lines = told[starts[at] : starts[at + 1]] if at + 1 < len(starts) else []
+        wrong = wrong_with(len(FIRST) + 1 + at, row, lines)
+        if wrong:
+            print(f"explained {row[0][:80]!r}: {wrong}")
+        else:
+            good += 1
+    print(f"{good} of {len(rows)} rows hold")
+
+
+main()

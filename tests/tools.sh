@@ -1,0 +1,226 @@
+#!/usr/bin/env bash
+# tools.sh [HISTDESK]: runs the scripts of tools/ as a user would: explain over the rows and over a table of refusals
+# and faults, the others on short texts and on a folder that stands for tracefs. Without a word, it runs the launcher.
+# It prints what went wrong, and a last line with the counts.
+set -uo pipefail
+
+here=$(dirname -- "$(realpath -- "${BASH_SOURCE[0]}")")
+HISTDESK=$(realpath -- "${1:-$here/../histdesk}")
+export HISTDESK
+tools=$(realpath -- "$here/../tools")
+examples=$(realpath -- "$here/../examples")
+. "$here/tools_common.sh"
+
+mkdir -- "$folder/bin" "$folder/table"
+
+# ---- explain
+
+holds "$here/explained.py" "$tools/explain" "$folder/table"
+holds "$here/explain_rows.py" "$tools/explain" "$here"/rows/*
+
+gives nothing_refused 0 "" "$tools/explain" "$examples/wakeups.script" "$examples/wakeups.trace"
+prints nothing_refused "$(<"$examples/wakeups.expected")"
+printf 'hist 7\n' >"$folder/asked"
+told=$'refused 10\n  line 1: hist 7: no trigger has that id; none is attached'
+gives without_words 1 "" "$tools/explain" <"$folder/asked"
+prints without_words "$told"
+gives standard_input 1 "" "$tools/explain" - <"$folder/asked"
+prints standard_input "$told"
+gives script_from_a_pipe 1 "" "$tools/explain" <(cat "$folder/asked")
+prints script_from_a_pipe "$told"
+gives usage 0 "" "$tools/explain" --help
+printf '%s\n' 'insert a-1 [001] 1.000000:' 'strike 1:1' 'list 1' 'list 1' '' 'list 2' 'insert a-1 [001] 1.000000:' 'list 1' \
+    'list 01' 'totals 5' >"$folder/lists"
+gives empty_lists 1 "" "$tools/explain" "$folder/lists"
+prints empty_lists 'inserted 1:1
+struck 1:1
+refused 5: cpu 2
+  line 6: list 2: CPU 2 has no lane: no event of it was loaded or inserted, or it was unloaded
+inserted 1:2
+1:2 a-1 [001] 1.000000:
+1:2 a-1 [001] 1.000000:
+refused 10
+  line 10: totals 5: no trigger has that id; none is attached'
+
+# Programs that stand for the desk, where it would take long or never print it.
+script full 'echo "refused 7"; echo "refused 15"; echo "refused 1"' 'echo told >&2' 'exit 3'
+printf '%s\n' '# full' 'insert x' 'attach sched_switch hist:keys=next_pid' 'load @1' >"$folder/asked"
+HISTDESK=$folder/bin/full gives full 3 told "$tools/explain" "$folder/asked"
+prints full 'refused 7
+  line 2: insert x: no room: over 1,048,576 events would be held, or a line number would pass 4,294,967,295
+refused 15
+  line 3: attach sched_switch hist:keys=next_pid: no more triggers: 64 are attached, or the next id would pass 4,294,967,295
+refused 1
+  line 4: load @1: memory ran out'
+script other 'echo "removed 2"; echo "refused 10"'
+lost='explain: line 1 of the output is no answer to the command on line 2; nothing behind it is explained'
+HISTDESK=$folder/bin/other gives other_output 0 "$lost" "$tools/explain" "$folder/asked"
+prints other_output $'removed 2\nrefused 10'
+script killed 'kill -KILL $$'
+HISTDESK=$folder/bin/killed gives killed 137 "" "$tools/explain" "$folder/asked"
+HISTDESK=$folder/bin/none gives no_program 2 "explain: cannot run *" "$tools/explain" "$folder/asked"
+script desk 'while read -r line; do echo "refused 10"; done' 'exit 1'
+mkfifo "$folder/typed"
+: >"$folder/seen"
+HISTDESK=$folder/bin/desk timeout "$limit" "$tools/explain" <"$folder/typed" >"$folder/seen" &
+exec 3<>"$folder/typed"
+echo 'lat 3' >&3
+for ((try = 0; try < 500; try++)); do
+    [[ $(<"$folder/seen") != *'line 1: lat 3: no trigger'* ]] || break
+    sleep 0.02
+done
+exec 3>&-
+wait "$!"
+if [[ $? == 1 && $try -lt 500 ]]; then
+    pass
+else
+    fail "explained as it is typed: $(<"$folder/seen")"
+fi
+
+# ---- from-perf and from-trace-cmd
+
+cat >"$folder/perf" <<'END'
+# a comment
+
+            perf 25692 [000]  3752.816363499:     sched:sched_waking: comm=migration/0 pid=18 prio=0 target_cpu=000
+     my app-2 [x  9/10 [003]     1.000000500:     sched:sched_wakeup: comm=a: b pid=3 prio=-1 target_cpu=001
+         swapper     0 [001]     4.999999500: sched:sched_wakeup_new: comm=w pid=3 prio=120 target_cpu=001
+       a 7 [001]  100 [001]  3752.816400: sched:sched_switch: prev_comm=p q prev_pid=1 prev_prio=2 prev_state=R+ ==> next_comm=c next_pid=3 next_prio=4
+    bash 12 [002] 7.000001: probe:sched_waking: (ffffffff81000000)
+END
+listed='loaded 5
+0:1 perf-25692 [000] 3752.816363: sched_waking: comm=migration/0 pid=18 prio=0 target_cpu=000
+1:1 swapper-0 [001] 5.000000: sched_wakeup_new: comm=w pid=3 prio=120 target_cpu=001
+1:2 a 7 [001]-100 [001] 3752.816400: sched_switch: prev_comm=p q prev_pid=1 prev_prio=2 prev_state=R+ ==> next_comm=c next_pid=3 next_prio=4
+2:1 bash-12 [002] 7.000001:
+3:1 my app-2 [x-10 [003] 1.000001: sched_wakeup: comm=a: b pid=3 prio=-1 target_cpu=001'
+loads from_perf 0 "" "$listed" "$tools/from-perf" "$folder/perf"
+loads from_perf_by_standard_input 0 "" "$listed" "$tools/from-perf" <"$folder/perf"
+cat >"$folder/trace-cmd" <<'END'
+cpus=4
+version = 6
+CPU 2 is empty
+            perf-25692 [000]  3752.816363499: sched_waking:         comm=migration/0 pid=18 prio=0 target_cpu=000
+     my app-2 [x-10    [003]     1.000000500: sched_wakeup:         comm=a: b pid=3 prio=-1 target_cpu=001
+CPU:1 [7 EVENTS DROPPED]
+CPU:1 [EVENTS DROPPED]
+         swapper-0     [001] d..2.     4.999999500: sched_wakeup_new:     comm=w pid=3 prio=120 target_cpu=001
+       a 7 [001]-100   [001]  3752.816400: sched_switch:         prev_comm=p q prev_pid=1 prev_prio=2 prev_state=R+ ==> next_comm=c next_pid=3 next_prio=4
+            bash-12    [002]  7.000001: irq_handler_entry:    irq=1 name=x
+END
+loads from_trace_cmd 0 "" "$listed" "$tools/from-trace-cmd" "$folder/trace-cmd"
+loads from_trace_cmd_by_standard_input 0 "" "$listed" "$tools/from-trace-cmd" - <"$folder/trace-cmd"
+if grep -qx 'CPU:1 \[LOST 7 EVENTS\]' "$folder/trace" && grep -qx 'CPU:1 \[LOST EVENTS\]' "$folder/trace"; then
+    pass
+else
+    fail "lost events are not told"
+fi
+kept='loaded 1
+0:1 a-1 [000] 1.000000:
+refused 5: cpu 1
+refused 5: cpu 2
+refused 5: cpu 3'
+printf '%s\n' 'a 1 [000] 1.000000: x:' 'hello' >"$folder/bad"
+loads bad_perf 1 'from-perf: line 2: *: hello' "$kept" "$tools/from-perf" "$folder/bad"
+printf '%s\n' 'a-1 [000] 1.000000: x:' 'b-2 [000] 1.000000: sched_switch: b:2 [120] S ==> c:3 [120]' >"$folder/bad"
+loads bad_trace_cmd 1 'from-trace-cmd: line 2: the fields of sched_switch *report it with -N: b-2 *' "$kept" \
+    "$tools/from-trace-cmd" "$folder/bad"
+gives from_perf_usage 0 "" "$tools/from-perf" --help
+gives from_trace_cmd_usage 0 "" "$tools/from-trace-cmd" --help
+gives no_text 1 'from-perf: /none: No such file or directory' "$tools/from-perf" /none
+
+# Recordings, and programs that stand for perf and trace-cmd.
+printf 'PERFILE2 and more' >"$folder/perf.data"
+printf '\x17\x08\x44tracing6' >"$folder/trace.dat"
+python=$(python3 -c 'import sys; print(sys.executable)')
+for name in perf:perf.data trace-cmd:trace.dat; do
+    tool=${name%:*}
+    data=$folder/${name#*:}
+    gives "no_$tool" 1 "from-$tool: $data is a recording, and $tool is not installed, which reads it" \
+        env "PATH=$folder/none" "$python" "$tools/from-$tool" "$data"
+    script "$tool" "[[ \${*: -1} == '$data' ]] && cat '$folder/$tool'"
+    PATH=$folder/bin:$PATH loads "calls_$tool" 0 "" "$listed" "$tools/from-$tool" "$data"
+    script "$tool" 'echo torn >&2' 'exit 1'
+    PATH=$folder/bin:$PATH gives "failed_$tool" 1 $'torn\n'"from-$tool: $tool failed on $data" "$tools/from-$tool" "$data"
+done
+
+# ---- record: a folder stands for tracefs, and its instance is made and taken away by programs of these names.
+
+tracefs=$folder/tracefs
+model=$folder/instance
+mkdir -p -- "$tracefs/instances" "$model"/{options,per_cpu/cpu0,per_cpu/cpu1}
+for event in waking wakeup wakeup_new switch; do
+    mkdir -p -- {"$tracefs","$model"}/events/sched/"sched_$event"
+    echo 0 | tee -- {"$tracefs","$model"}/events/sched/"sched_$event/enable" >/dev/null
+done
+echo 1 | tee -- "$model"/{tracing_on,trace_clock,buffer_size_kb} >/dev/null
+echo 1 | tee -- "$model"/options/{latency-format,stacktrace,verbose} >/dev/null
+echo 0 >"$model/options/context-info"
+printf 'a-1 [000] 1.000000: x\n' >"$model/trace"
+printf '%s\n' 'entries: 3' 'overrun: 2' 'commit overrun: 0' 'bytes: 99' 'dropped events: 0' 'read events: 9' \
+    >"$model/per_cpu/cpu0/stats"
+printf '%s\n' 'entries: 4' 'overrun: 0' 'commit overrun: 1' 'bytes: 99' 'dropped events: 5' 'read events: 9' \
+    >"$model/per_cpu/cpu1/stats"
+script mkdir "cp -r -- '$model' \"\$2\""
+script rmdir "rm -rf -- '$folder/gone'" "mv -- \"\$2\" '$folder/gone'"
+
+# records WHAT STATUS ERROR WORD..: record's status and standard error, and its instance is not there any more.
+records() {
+    PATH=$folder/bin:$PATH gives "${@:1:3}" "$tools/record" --tracefs "$tracefs" "${@:4}"
+    is_away "$1"
+}
+
+is_away() {
+    if [[ -z $(ls -- "$tracefs/instances") ]]; then
+        pass
+    else
+        fail "$1: an instance stays"
+    fi
+}
+
+# settings WHAT BUFFER: what the instance was set to.
+settings() {
+    local file told=
+    for file in tracing_on trace_clock buffer_size_kb options/{latency-format,stacktrace,verbose,context-info} \
+        events/sched/sched_{waking,wakeup,wakeup_new,switch}/enable; do
+        told+="$(<"$folder/gone/$file") "
+    done
+    if [[ $told == "0 local $2 0 0 0 1 1 1 1 1 " ]]; then
+        pass
+    else
+        fail "$1: settings $told"
+    fi
+}
+
+records record 0 'record: 7 events, 8 lost' 0.1
+prints record 'a-1 [000] 1.000000: x'
+settings record 16384
+records less_room 0 'record: 7 events, 8 lost' --buffer 64 0.1
+settings less_room 64
+gives record_usage 0 "" "$tools/record" --help
+records no_number 2 'record: SECONDS is not a number above 0: x' x
+records no_time 2 'record: SECONDS is not a number above 0: 0.0' 0.0
+records no_seconds 2 'record: wants one word, SECONDS; *'
+records bad_room 2 'record: KIB is not a number above 0: 1M' --buffer 1M 1
+records bad_option 2 'record: no such option: --all; *' --all 1
+gives no_tracefs 1 "record: no*" "$tools/record" --tracefs "$folder/table" 1
+PATH=$folder/bin:$PATH timeout "$limit" "$tools/record" --tracefs "$tracefs" 60 >"$folder/out" &
+run=$!
+for ((try = 0; try < 500; try++)); do
+    [[ $(cat -- "$tracefs"/instances/*/events/sched/sched_switch/enable 2>/dev/null) != 1 ]] || break
+    sleep 0.02
+done
+kill -TERM "$run"
+wait "$run"
+is_away ended
+settings ended 16384
+rm -- "$model/buffer_size_kb"
+/bin/mkdir -- "$model/buffer_size_kb"
+records no_setting 1 'record: cannot write 16384 to */buffer_size_kb' 1
+rm -r -- "$tracefs/events/sched/sched_waking"
+records no_event 1 'record: this kernel lacks the event sched_waking' 1
+rm -r -- "$tracefs/instances"
+PATH=$folder/bin:$PATH gives no_instances 1 'record: no instances in *' "$tools/record" --tracefs "$tracefs" 1
+
+echo "$passed passed, $failed failed"
+((failed == 0))

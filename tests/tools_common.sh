@@ -1,0 +1,75 @@
+# What tools.sh tests with, read by it: counts, checks, programs that stand for others. HISTDESK is the desk.
+
+# A run that takes more seconds is ended, and fails.
+limit=120
+passed=0
+failed=0
+
+folder=$(mktemp -d)
+trap 'rm -rf -- "$folder"' EXIT
+
+pass() {
+    passed=$((passed + 1))
+}
+
+fail() {
+    failed=$((failed + 1))
+    printf '%s\n' "$1"
+}
+
+# gives WHAT STATUS ERROR COMMAND..: the command's status, and a pattern of all that it says on standard error.
+gives() {
+    local what=$1 want=$2 error=$3 status told
+    shift 3
+    timeout "$limit" "$@" >"$folder/out" 2>"$folder/err"
+    status=$?
+    told=$(<"$folder/err")
+    if [[ $status == "$want" && $told == $error ]]; then
+        pass
+    else
+        fail "$what: status $status, $told"
+    fi
+}
+
+# prints WHAT TEXT: the last command's output is that text and an end of line, or nothing.
+prints() {
+    if [[ $(<"$folder/out") == "$2" ]]; then
+        pass
+    else
+        fail "$1: other output: $(<"$folder/out")"
+    fi
+}
+
+# holds COMMAND..: a program that tests many rows, and ends with how many of them hold. Each row is a test.
+holds() {
+    local told good all
+    told=$("$@" 2>&1 </dev/null)
+    if ! [[ ${told##*$'\n'} =~ ^([0-9]+)' of '([0-9]+)' rows hold'$ ]]; then
+        fail "${1##*/}: $told"
+        return
+    fi
+    good=${BASH_REMATCH[1]}
+    all=${BASH_REMATCH[2]}
+    passed=$((passed + good))
+    failed=$((failed + all - good))
+    if ((good < all)); then
+        printf '%s\n' "${told%$'\n'*}"
+    fi
+}
+
+# script NAME LINE..: a program of that name in bash.
+script() {
+    printf '%s\n' '#!/usr/bin/env bash' "${@:2}" >"$folder/bin/$1"
+    chmod +x "$folder/bin/$1"
+}
+
+# loads WHAT STATUS ERROR TEXT COMMAND..: the command's status and standard error; and the desk, which is given its
+# output, lists the lanes of CPU 0 to 3 as that text.
+loads() {
+    gives "${@:1:3}" "${@:5}"
+    mv -- "$folder/out" "$folder/trace"
+    printf '%s\n' 'insert a-1 [000] 0.000000:' 'strike 0:1' 'unload 0' 'load @1' 'list 0' 'list 1' 'list 2' 'list 3' \
+        >"$folder/lanes"
+    "$HISTDESK" "$folder/lanes" "$folder/trace" </dev/null 2>&1 | tail -n +4 >"$folder/out"
+    prints "$1, loaded" "$4"
+}

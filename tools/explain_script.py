@@ -1,0 +1,245 @@
+"""Script and output of the program, side by side: which command a printed line belongs to, and what a refusal means.
+Texts are Latin-1, a character for each byte."""
+
+import os
+import re
+from collections import deque
+
+from explain_command import bad_command, filter_start, numbers_of, split_command, trigger_start, variable_of
+from explain_faults import filter_fault, line_fault, trigger_fault
+from explain_texts import near, shown, with_caret
+
+LONGEST = 8192
+LATENCY = re.compile(r"[0-9]+:[0-9]+ -> [0-9]+:[0-9]+: [0-9]+ us")
+LISTED = re.compile(r"([0-9]+):([0-9]+) .*", re.DOTALL)
+# How the accepted answer of a command begins, but for `list`.
+BEGINS = {
+    "load": "loaded ",
+    "attach": "attached ",
+    "hist": "# event histogram",
+    "totals": "hits ",
+    "unload": "unloaded ",
+    "insert": "inserted ",
+    "strike": "struck ",
+    "filter": "refiltered ",
+    "remove": "removed ",
+}
+
+
+class Script:
+    """The script's lines, which may come while the program runs."""
+
+    def __init__(self):
+        self.lines, self.rest, self.number = deque(), b"", 0
+
+    def add(self, data):
+        *lines, self.rest = (self.rest + data).split(b"\n")
+        self.lines.extend(lines)
+
+    def next_command(self):
+        """The next line that prints something, its number first, or None where there is none."""
+        while self.lines or self.rest:
+            if self.lines:
+                line = self.lines.popleft()
+            else:
+                # The last piece, which no end of line follows: the program answers it at the script's end.
+                line, self.rest = self.rest, b""
+            self.number += 1
+            text = line.decode("latin-1")
+            if len(text) > LONGEST or text.strip(" ") and not text.startswith("#"):
+                return self.number, text
+        return None
+
+
+class Walk:
+    """Goes through the output line by line, and takes commands from the script as they are answered."""
+
+    def __init__(self, script, traces):
+        self.script, self.traces = script, traces
+        # What the answer that is being printed ends with, or the lane and line that were listed last.
+        self.end = self.listed = None
+        # Attached triggers by id: the script's line, the event and the text.
+        self.triggers = {}
+        # Why lines can't be told apart any more.
+        self.lost = None
+        self.count = 0
+
+    def take(self, line):
+        """The texts to be printed behind a line of the output."""
+        self.count += 1
+        text = line.removesuffix(b"\n").decode("latin-1")
+        if self.lost or self.goes_on(text):
+            return []
+        while command := self.script.next_command():
+            number, asked = command
+            if self.is_silent_list(asked, text):
+                continue
+            if text.startswith("refused "):
+                return self.explained(number, asked, text)
+            if self.answers(asked, text):
+                return []
+            break
+        where = f"the command on line {command[0]}" if command else "any command that is left"
+        self.lost = f"line {self.count} of the output is no answer to {where}"
+        return []
+
+    def goes_on(self, text):
+        """Whether the line belongs to the answer that is being printed."""
+        if self.end:
+            if text.startswith(self.end):
+                self.end = None
+            return True
+        if self.listed:
+            found = LISTED.fullmatch(text)
+            cpu, line = self.listed
+            if found and not LATENCY.fullmatch(text) and int(found[1]) == cpu and int(found[2]) > line:
+                self.listed = cpu, int(found[2])
+                return True
+            self.listed = None
+        return False
+
+    def is_silent_list(self, asked, text):
+        """Whether the command lists a lane without events, so that it prints nothing. If not, it may list one."""
+        word, rest = split_command(asked)
+        numbers = numbers_of(rest)
+        if word != "list" or len(asked) > LONGEST or not numbers:
+            return False
+        if text == f"refused 5: cpu {numbers[0]}":
+            return False
+        self.listed = numbers[0], -1
+        if self.goes_on(text):
+            return False
+        return True
+
+    def answers(self, asked, text):
+        """Whether the line answers the command, as an accepted one; what goes on behind it is then expected."""
+        word, rest = split_command(asked)
+        if word == "list":
+            return self.listed is not None
+        if word == "lat":
+            if LATENCY.fullmatch(text):
+                self.end = "Latencies: "
+            return bool(self.end) or text.startswith("Latencies: ")
+        if word not in BEGINS or not text.startswith(BEGINS[word]):
+            return False
+        if word == "hist":
+            self.end = "    Dropped: "
+        elif word == "attach":
+            event, trigger = split_command(rest)
+            self.triggers[int(text.split()[1])] = (self.script.number, event, trigger)
+        elif word == "remove":
+            self.triggers.pop(int(text.split()[1]), None)
+        return True
+
+    def explained(self, number, asked, text):
+        """What a refusal means: the command with its meaning, and more lines that show the place."""
+        word, rest = split_command(asked)
+        refused = [int(digits) for digits in re.findall("[0-9]+", text)]
+        place, behind = None, []
+        if refused[0] == 3:
+            meaning, behind = self.bad_line(word, rest, asked, refused)
+        elif refused[0] == 8:
+            event, trigger = split_command(rest)
+            meaning, place = trigger_fault(event, trigger, refused[1:], " at " in text)
+            place = None if place is None else trigger_start(asked) + place
+        elif refused[0] == 9:
+            trigger = self.triggers.get(numbers_of(split_command(rest)[0])[0])
+            start = filter_start(asked)
+            at = refused[2] if " at " in text else None
+            meaning, place = filter_fault(trigger[1] if trigger else None, asked.strip(" ")[start:], refused[1], at)
+            place = None if place is None else start + place
+        elif refused[0] == 16:
+            meaning, place = bad_command(asked, self.traces)
+        else:
+            meaning = self.meaning(refused, word, rest)
+        return with_caret(f"  line {number}: ", asked.strip(" "), place, meaning) + behind
+
+    def bad_line(self, word, rest, asked, refused):
+        _, line, fault = refused
+        if word == "insert":
+            return line_fault(fault, asked[7:]), []
+        path = self.traces[int(rest[1:]) - 1]
+        found = line_of(path, line)
+        if found is None:
+            return f"{path}, line {line}: {line_fault(fault, '')}", []
+        return f"{path}, line {line}: {line_fault(fault, found)}", [f"    {shown(found)[0]}"]
+
+    def meaning(self, refused, word, rest):
+        """What is meant by the refusals that hang on what is held and attached."""
+        number, *more = refused
+        if number == 2:
+            return f"no TRACE has that number: {self.traces_named()}"
+        if number == 4:
+            return f"CPU {more[0]} has a lane already; unload {more[0]} takes it away"
+        if number == 5:
+            return f"CPU {more[0]} has no lane: no event of it was loaded or inserted, or it was unloaded"
+        if number == 6 and word == "insert":
+            return "that line holds no event: an empty line, a comment or a lost-events line is skipped in a trace"
+        if number == 6:
+            return f"the lane of that CPU has no line {rest.partition(':')[2].lstrip('0') or '0'}, or it was struck"
+        if number == 7:
+            return "no room: over 1,048,576 events would be held, or a line number would pass 4,294,967,295"
+        if number == 10:
+            return f"no trigger has that id; {self.attached()}"
+        if number == 11:
+            return f"trigger {more[0]}{self.line_of_trigger(more[0])} reads the variable that it saves"
+        if number == 12:
+            return f"trigger {more[0]}{self.line_of_trigger(more[0])} saves a variable of that name already"
+        if number in (13, 14):
+            return self.unmatched(number, variable_of(split_command(rest)[1])[1])
+        if number == 15:
+            return "no more triggers: 64 are attached, or the next id would pass 4,294,967,295"
+        if number == 17:
+            return f"that trigger reads no variable, so it measures no latencies{self.readers()}"
+        if number == 1:
+            return "memory ran out"
+        return "a refusal that docs/FORMAT.md doesn't name"
+
+    def traces_named(self):
+        if not self.traces:
+            return "none is named behind the script"
+        count = len(self.traces)
+        return "the only one is @1" if count == 1 else f"they are @1 to @{count}"
+
+    def attached(self):
+        if not self.triggers:
+            return "none is attached"
+        return f"attached: {', '.join(str(id) for id in sorted(self.triggers))}"
+
+    def line_of_trigger(self, id):
+        return f" (line {self.triggers[id][0]})" if id in self.triggers else ""
+
+    def readers(self):
+        found = [str(id) for id, (_, _, text) in sorted(self.triggers.items()) if variable_of(text)[1]]
+        return f"; those that do: {', '.join(found)}" if found else ""
+
+    def unmatched(self, number, read):
+        savers = {}
+        for id, (_, _, text) in sorted(self.triggers.items()):
+            own, other = variable_of(text)
+            if own and not other:
+                savers[own] = id
+        if number == 13:
+            return f"no attached trigger saves the variable {shown(read or '')[0]}{near(read, savers)}"
+        id = savers.get(read)
+        if id is None:
+            return "its keys don't match those of the trigger that saves the variable"
+        keys = re.search(r":keys?=([^: \t]*)", self.triggers[id][2])
+        return (
+            f"its keys don't match those of trigger {id}{self.line_of_trigger(id)}, which saves {read}: "
+            f"{keys[1] if keys else ''}; as many are wanted, in turn text or number and with the same modifier"
+        )
+
+
+def line_of(path, number):
+    """A line of a trace, or None where it can't be read again."""
+    if not os.path.isfile(path):
+        return None
+    try:
+        with open(path, "rb") as source:
+            for at, line in enumerate(source, 1):
+                if at == number:
+                    return line.removesuffix(b"\n").decode("latin-1")
+    except OSError:
+        pass
+    return None

@@ -1,0 +1,73 @@
+"""How explain shows a text and a place in it, and finds what was near a mistyped word; and the names of the desk."""
+
+import difflib
+import re
+
+EVENTS = ["sched_waking", "sched_wakeup", "sched_wakeup_new", "sched_switch"]
+COMMON = ["common_pid", "common_cpu"]
+TEXT_FIELDS = {"comm", "prev_comm", "prev_state", "next_comm"}
+WAKE_FIELDS = ["comm", "pid", "prio", "target_cpu", *COMMON]
+SWITCH_FIELDS = ["prev_comm", "prev_pid", "prev_prio", "prev_state", "next_comm", "next_pid", "next_prio", *COMMON]
+
+# What is shown of a long text.
+MOST_SHOWN = 300
+
+
+def fields_of(event):
+    return SWITCH_FIELDS if event == "sched_switch" else WAKE_FIELDS
+
+
+def shown(text, place=None):
+    """The text on one line of printable ASCII, and the column of a place in it. A long text is cut around the place."""
+    start, end, dots = 0, len(text), ("", "")
+    if len(text) > MOST_SHOWN:
+        start = max(0, min((place or 0) - MOST_SHOWN // 2, len(text) - MOST_SHOWN))
+        end = start + MOST_SHOWN
+        dots = (".." if start else "", ".." if end < len(text) else "")
+    column = None if place is None else len(dots[0] + escaped(text[start:place]))
+    return dots[0] + escaped(text[start:end]) + dots[1], column
+
+
+def escaped(text):
+    return re.sub(r"[^ -~]", lambda byte: {"\t": "\\t", "\r": "\\r"}.get(byte[0], f"\\x{ord(byte[0]):02x}"), text)
+
+
+def with_caret(front, text, place, meaning):
+    """The lines that show a text with its meaning, and a caret under the place, if there is one."""
+    line, column = shown(text, place)
+    lines = [f"{front}{line}: {meaning}"]
+    if column is not None:
+        lines.append(" " * (len(front) + column) + "^")
+    return lines
+
+
+def nearest(word, choices):
+    """The choice that is close to a word, or None: a few letters off, or one begins the other."""
+    found = difflib.get_close_matches(word.lower(), choices, 1, 0.6)
+    if found:
+        return found[0]
+    if len(word) >= 3:
+        for choice in choices:
+            if word.lower().startswith(choice) or choice.startswith(word.lower()):
+                return choice
+    return None
+
+
+def near(word, choices):
+    """The question behind a meaning, whether that choice was meant; nothing where none is close."""
+    found = nearest(word, list(choices))
+    return f"; did you mean {found}?" if found and found != word else ""
+
+
+def field_meant(word, event):
+    """What is said behind an unknown field of an event."""
+    if event is None:
+        return ""
+    found = near(word, fields_of(event))
+    if not found:
+        found = f"; it has {', '.join(fields_of(event))}"
+    for other in ("sched_switch", "sched_waking"):
+        if word in fields_of(other):
+            # All wake events have the same fields.
+            return f" ({'the wake events have' if other != 'sched_switch' else 'sched_switch has'} it){found}"
+    return found

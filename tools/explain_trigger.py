@@ -1,0 +1,112 @@
+"""Where a fault of a trigger lies of which the desk names no place, for explain: the first part or item that has it, in
+the order of docs/FORMAT.md, 3.2. Each test asks for its own fault alone: what comes before is known to be good."""
+
+import re
+
+from explain_command import VARIABLE, variable_of
+from explain_texts import TEXT_FIELDS, field_meant, fields_of, near
+
+KINDS = {"keys": "keys", "key": "keys", "values": "vals", "vals": "vals", "val": "vals", "sort": "sort", "size": "size"}
+LEFT_OUT = ["execname", "sym", "sym-offset", "syscall", "percent", "graph", "stacktrace"]
+MODIFIERS = ["hex", "log2", "buckets=N"]
+
+
+def offender(event, text, fault):
+    """The place and what is said of it, or None."""
+    head = re.match("[^ \t]*", text)[0]
+    seen, at = {}, 5
+    for part in head[5:].split(":"):
+        found = in_part(event, part, fault, seen)
+        if found:
+            return at + found[0], found[1]
+        at += len(part) + 1
+    return behind_parts(head, fault)
+
+
+def in_part(event, part, fault, seen):
+    word, sign, rest = part.partition("=")
+    kind = KINDS.get(word) if sign else None
+    if not kind:
+        variable = VARIABLE.fullmatch(part)
+        if fault == 6 and variable and (variable[1] in ["hitcount", *fields_of(event)] or variable[1] == variable[2]):
+            return 0, ": the variable has the name of a field, of hitcount or of what it reads"
+        return None
+    if kind in seen and fault == 6:
+        return 0, f": this is the second part with {kind}"
+    seen[kind] = items = []
+    if kind == "size":
+        return (len(word) + 1, "") if fault == 7 else None
+    at = len(word) + 1
+    for item in rest.split(","):
+        said = in_item(event, kind, item, fault, items)
+        if said is not None:
+            return at, said
+        at += len(item) + 1
+        items.append(item)
+    return None
+
+
+def in_item(event, kind, item, fault, before):
+    """What is said of an item that has the fault, or None."""
+    name, _, modifier = item.partition(".")
+    names = [other.partition(".")[0] for other in before]
+    if fault == 5:
+        count = len(before) if kind != "vals" else len([other for other in before if other != "hitcount"])
+        is_counted = kind != "vals" or name != "hitcount"
+        return "" if is_counted and count == (2 if kind == "sort" else 3) else None
+    if fault == 6:
+        return "" if (name in names if kind != "vals" else item in before) else None
+    if kind == "sort":
+        if fault == 8 and modifier not in ("", "ascending", "descending"):
+            return f": behind the name stands .ascending or .descending{near(modifier, ['ascending', 'descending'])}"
+        return None
+    is_unknown = not name.startswith("$") and name not in fields_of(event) and name != "hitcount" * (kind == "vals")
+    if fault == 3 and is_unknown:
+        return field_meant(name, event)
+    if fault == 4 and kind == "vals" and name in TEXT_FIELDS:
+        return ""
+    if fault == 9 and modifier and modifier not in LEFT_OUT:
+        return bad_modifier(kind, name, modifier)
+    return None
+
+
+def bad_modifier(kind, name, modifier):
+    """What is said of a modifier that may not stand there, or None."""
+    if kind == "vals":
+        return ": a value has none"
+    if name in TEXT_FIELDS:
+        return f": {name} is a text, and a modifier needs a number"
+    if modifier in ("hex", "log2"):
+        return None
+    if modifier.startswith("buckets="):
+        digits = modifier[8:]
+        is_good = re.fullmatch("[0-9]+", digits) and 1 <= int(digits[:30]) < 2**32
+        return None if is_good else ": buckets= takes a number from 1 to 4,294,967,295"
+    found = near(modifier, MODIFIERS)
+    return found or f": a key has .{', .'.join(MODIFIERS)} or none"
+
+
+def behind_parts(head, fault):
+    """The faults that are found where all parts have been read."""
+    own, _ = variable_of(head)
+    names, sorts, values, at = ["hitcount"], [], [], 5
+    for part in head[5:].split(":"):
+        word, sign, rest = part.partition("=")
+        kind = KINDS.get(word) if sign else None
+        place = at + len(word) + 1
+        for item in rest.split(",") if kind in ("keys", "vals", "sort") else []:
+            name = item.partition(".")[0]
+            {"keys": names, "vals": values, "sort": sorts}[kind].append(name if kind == "keys" else (place, name))
+            place += len(item) + 1
+        at += len(part) + 1
+    if fault == 3:
+        for place, name in values:
+            if name.startswith("$") and name[1:] != own:
+                meant = near(name, [f"${own}"] if own else [])
+                return place, f": a value with a $ is the trigger's own variable{meant}"
+    names += [name for _, name in values]
+    if fault == 8:
+        for place, name in sorts:
+            if name not in names:
+                return place, f": it is neither hitcount nor a key nor a value{near(name, names)}"
+    return None
