@@ -15,22 +15,7 @@ plaindesk=${2:+$(realpath -- "$2")}
 checkrows=${3:+$(realpath -- "$3")}
 rows=("$here"/rows/*)
 examples=$here/../examples
-# A run that takes more seconds is ended, and fails.
-limit=120
-passed=0
-failed=0
-
-folder=$(mktemp -d)
-trap 'rm -rf -- "$folder"' EXIT
-
-pass() {
-    passed=$((passed + 1))
-}
-
-fail() {
-    failed=$((failed + 1))
-    printf '%s\n' "$1"
-}
+. "$here/counts.sh"
 
 # gives WHAT STATUS ERROR COMMAND..: the command's status, and all that it says on standard error.
 gives() {

@@ -9,6 +9,7 @@ HISTDESK=$(realpath -- "${1:-$here/../histdesk}")
 export HISTDESK
 tools=$(realpath -- "$here/../tools")
 examples=$(realpath -- "$here/../examples")
+. "$here/counts.sh"
 . "$here/tools_common.sh"
 
 mkdir -- "$folder/bin" "$folder/table"

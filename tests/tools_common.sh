@@ -1,21 +1,4 @@
-# What tools.sh tests with, read by it: counts, checks, programs that stand for others. HISTDESK is the desk.
-
-# A run that takes more seconds is ended, and fails.
-limit=120
-passed=0
-failed=0
-
-folder=$(mktemp -d)
-trap 'rm -rf -- "$folder"' EXIT
-
-pass() {
-    passed=$((passed + 1))
-}
-
-fail() {
-    failed=$((failed + 1))
-    printf '%s\n' "$1"
-}
+# What tools.sh tests with, read by it behind counts.sh: checks, programs that stand for others. HISTDESK is the desk.
 
 # gives WHAT STATUS ERROR COMMAND..: the command's status, and a pattern of all that it says on standard error.
 gives() {
