@@ -73,23 +73,6 @@ fn walked(alloc: Global, lanes: &Lanes) -> Result<Vec<(u16, u32, u64)>, AllocErr
 }
 
 #[test]
-fn a_struck_line_is_not_given_again(rt: HostRuntime) {
-    let mut lanes = Lanes::new(rt.alloc());
-    assert_eq!(rt; pushed(&mut lanes, event_at(3, 10)), Some(1));
-    assert_eq!(rt; pushed(&mut lanes, event_at(3, 20)), Some(2));
-    assert_eq!(rt; pushed(&mut lanes, event_at(0, 30)), Some(1));
-    assert_eq!(rt; lanes.take(3, 2).map(|event| event.stamp), Some(20));
-    assert_eq!(rt; lanes.take(3, 2).map(|event| event.stamp), None);
-    assert_eq!(rt; pushed(&mut lanes, event_at(3, 40)), Some(3));
-    assert!(rt; has_lines(&lanes, 3, &[(1, 10), (3, 40)]));
-    assert_eq!(rt;
-        (stamp_at(&lanes, 3, 2), stamp_at(&lanes, 0, 1)),
-        (None, Some(30))
-    );
-    assert_eq!(rt; lanes.len(), 3);
-}
-
-#[test]
 fn an_unloaded_lane_begins_anew(rt: HostRuntime) -> Result<(), Fail> {
     let mut lanes = Lanes::new(rt.alloc());
     assert_eq!(rt;

@@ -46,7 +46,10 @@ fn keys_in_order(rt: HostRuntime) -> Result<(), Fail> {
 fn part_of_prio(alloc: Global, text: &[u8], prio: i32) -> Option<Part> {
     let trigger = parse(alloc, Name::Waking, text).ok()?;
     let event = waking(0, prio).ok()?;
-    trigger.hit_of(&event, &mut Work::new())?.part(0)
+    let mut work = Work::new();
+    // Contracts alone see what it counts.
+    work.tick_put();
+    trigger.hit_of(&event, &mut work)?.part(0)
 }
 
 #[test]

@@ -1,6 +1,6 @@
 //! What events add to the sums of triggers.
 
-ghost use Rattle.std.specs.Prelude.{◌≡◌, ◌≤◌, length, IsTrue, IfOk};
+ghost use Rattle.std.specs.Prelude.{◌≤◌, length, IsTrue};
 ghost use Rattle.std.specs.List.{list_all};
 ghost use Rattle.ft_event.specs.declared.event.Name.TheVariants.{Switch};
 ghost use Rattle.ft_hist.specs.Sound.{value_suits};
@@ -12,7 +12,7 @@ use ft_event::Turn;
 const GREATEST_STAMP: i64 = 4_294_967_295_999_999;
 
 /// A switch from the task 2117, of priority 120, to 4000, of priority -5.
-pub(super) fn switch() -> Result<Event, &'static str> {
+fn switch() -> Result<Event, &'static str> {
     let body = Body::Switch(Turn {
         prev_comm: comm_of("bash")?,
         prev_pid: 2117,
@@ -29,14 +29,13 @@ pub(super) fn switch() -> Result<Event, &'static str> {
 }
 
 /// A trigger on switches of these values, by CPU.
-pub(super) fn trigger_of(
+fn trigger_of(
     alloc: Global,
     values: &[Item],
     variable: Option<Var>,
 ) -> Result<Trigger, AllocError>
     requires few { length values.now ≤ 3 }
     requires sound { IsTrue (list_all (value_suits Switch variable) values.now) }
-    ensures { IfOk result (λ trigger. trigger.event ≡ Switch) }
 {
     let mut keys = Vec::new(alloc);
     keys.push(KeyItem {
