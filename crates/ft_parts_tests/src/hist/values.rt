@@ -29,11 +29,7 @@ fn switch() -> Result<Event, &'static str> {
 }
 
 /// A trigger on switches of these values, by CPU.
-fn trigger_of(
-    alloc: Global,
-    values: &[Item],
-    variable: Option<Var>,
-) -> Result<Trigger, AllocError>
+fn trigger_of(alloc: Global, values: &[Item], variable: Option<Var>) -> Result<Trigger, AllocError>
     requires few { length values.now ≤ 3 }
     requires sound { IsTrue (list_all (value_suits Switch variable) values.now) }
 {
