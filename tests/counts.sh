@@ -16,3 +16,20 @@ fail() {
     failed=$((failed + 1))
     printf '%s\n' "$1"
 }
+
+# holds COMMAND..: a program that tests by itself; its last line says how many of how many things hold.
+holds() {
+    local told good all
+    told=$("$@" 2>&1 </dev/null)
+    if ! [[ ${told##*$'\n'} =~ ^([0-9]+)' of '([0-9]+)' '[a-z]+' hold' ]]; then
+        fail "${1##*/}: $told"
+        return
+    fi
+    good=${BASH_REMATCH[1]}
+    all=${BASH_REMATCH[2]}
+    passed=$((passed + good))
+    failed=$((failed + all - good))
+    if ((good < all)); then
+        printf '%s\n' "${told%$'\n'*}"
+    fi
+}

@@ -93,23 +93,11 @@ mixed_row() {
 # growths PROGRAM ROW..: with each growth of its memory refused in turn, the program prints a row's whole
 # output, or that of its first commands and that memory ran out. Each row is a test.
 growths() {
-    local told good all
     if ! cc -O2 -shared -fPIC -o "$folder/refuse_growth.so" "$here/refuse_growth.c" -ldl; then
         fail "growths refused: not compiled"
         return
     fi
-    told=$(python3 "$here/growths.py" "$1" "$folder/refuse_growth.so" "${@:2}" 2>&1)
-    if ! [[ ${told##*$'\n'} =~ ^([0-9]+)' of '([0-9]+)' rows hold' ]]; then
-        fail "growths refused: $told"
-        return
-    fi
-    good=${BASH_REMATCH[1]}
-    all=${BASH_REMATCH[2]}
-    passed=$((passed + good))
-    failed=$((failed + all - good))
-    if ((good < all)); then
-        printf '%s\n' "${told%$'\n'*}"
-    fi
+    holds "$here/growths.py" "$1" "$folder/refuse_growth.so" "${@:2}"
 }
 
 # The tools around the program: each of their tests is a test here.
@@ -269,6 +257,7 @@ if [[ $histdesk == "$launcher" ]]; then
 fi
 growths "$histdesk" "${rows[@]}" "$folder"/short/*
 tools
+holds "$here/documents.py"
 
 echo "$passed passed, $failed failed"
 ((failed == 0))

@@ -23,23 +23,6 @@ prints() {
     fi
 }
 
-# holds COMMAND..: a program that tests many rows, and ends with how many of them hold. Each row is a test.
-holds() {
-    local told good all
-    told=$("$@" 2>&1 </dev/null)
-    if ! [[ ${told##*$'\n'} =~ ^([0-9]+)' of '([0-9]+)' rows hold'$ ]]; then
-        fail "${1##*/}: $told"
-        return
-    fi
-    good=${BASH_REMATCH[1]}
-    all=${BASH_REMATCH[2]}
-    passed=$((passed + good))
-    failed=$((failed + all - good))
-    if ((good < all)); then
-        printf '%s\n' "${told%$'\n'*}"
-    fi
-}
-
 # script NAME LINE..: a program of that name in bash.
 script() {
     printf '%s\n' '#!/usr/bin/env bash' "${@:2}" >"$folder/bin/$1"
