@@ -31,7 +31,7 @@ tab=$(printf '\t')
 while IFS=$tab read -r number file text; do
     : >error_log
     if ! printf '%s\n' "$text" 2>/dev/null >>"$file"; then
-        printf '%s\t%s\n' "$number" "$(sed -n 's/.*error: //p' error_log | tr '\n\t' '  ')" >>/out/refused
+        printf "%s\t%s\t%s\n" "$number" "$file" "$(sed -n 's/.*error: //p' error_log | tr '\n\t' '  ')" >>/out/refused
     fi
 done </cases
 
