@@ -172,8 +172,10 @@ def table_lines(kernel, desk, sort, with_totals):
 def compares(case, trigger, group, events, cpus):
     """One case that both sides took."""
     kernel, desk = read_table(case["block"], trigger.keys), read_table(case["answer"], trigger.keys)
-    own = [value for value in trigger.values if value.startswith("$")]
-    plain = [value for value in trigger.values if value not in own]
+    own = [value for value in trigger.values if value.startswith("$") and trigger.reads]
+    plain = [value.lstrip("$") for value in trigger.values if value not in own]
+    if trigger.saves:
+        kernel.saves(trigger.saves)
     sort = [] if any(name in own for name, _ in trigger.sort) else trigger.sort
     told = table_lines(kernel, desk.only(plain), sort, True)
     if not told[0] and "synthetic" in case:
@@ -235,11 +237,13 @@ def compares_case(case, group, events, cpus):
     told = [f"{side}: {case[side]}" for side in refused]
     if "synthetic refused" in case:
         fails(case, "synthetic event refused", [case["synthetic refused"]])
+    elif known == "both refuse" and len(refused) == 2:
+        passes()
     elif refused == [known]:
         is_known(case, known, case["why"], told)
     elif refused:
         fails(case, " and ".join(refused), told)
-    elif known.endswith("refuses"):
+    elif "refuse" in known:
         fails(case, f"not as known: {known}: {case['why']}", ["both sides take it"])
     else:
         trigger = Trigger(case["event"], case["text"])

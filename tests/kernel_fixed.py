@@ -7,6 +7,7 @@ difference, and lists it. `known` is one of
     desk refuses     the desk refuses it, the kernel takes it
     rows             both take it, and the rows differ
     order            the rows are the same, and stand in another order
+    both refuse      neither takes it: no difference
 """
 
 JOB, TO, FROM = ' if comm ~ "job*"', ' if next_comm ~ "job*"', ' if prev_comm ~ "job*"'
@@ -16,7 +17,7 @@ ALIKE = [
     [(WAKING, "hist:keys=comm" + JOB)],
     [(WAKING, "hist:keys=pid:vals=prio,target_cpu:sort=prio.descending,pid" + JOB)],
     [(WAKING, "hist:keys=prio.log2:sort=prio" + JOB)],
-    [(WAKING, "hist:keys=pid.buckets=32:vals=hitcount,pid:sort=pid.descending" + JOB)],
+    [(WAKING, "hist:keys=pid.buckets=32:vals=hitcount,prio:sort=pid.descending" + JOB)],
     [(WAKING, "hist:keys=comm,prio,pid:sort=comm,pid.descending" + JOB)],
     [(WAKING, 'hist:keys=common_pid.hex,common_cpu if comm ~ "job k*" && (pid & 1 || prio != 120)')],
     [(WAKEUP, "hist:key=prio.hex:val=pid,prio:sort=pid.descending" + JOB)],
@@ -32,6 +33,8 @@ ALIKE = [
     [(WAKING, 'hist:keys=prio:vals=prio:sort=hitcount.descending if comm == "dline" || comm ~ "job*"')],
     [(WAKING, 'hist:keys=prio.hex,comm:sort=prio,comm if prio < 0 && comm == "dline" || comm ~ "job*"')],
     [(WAKING, 'hist:keys=prio.log2,pid if comm == "dline"')],
+    # The sum of the stamps that a saver saves.
+    [(WAKEUP, "hist:keys=prio.buckets=3:vals=$at,pid:at=common_timestamp.usecs:sort=prio" + JOB)],
     # Latencies: from the waking to the switch, from it to the wakeup, and off the CPU. One event may set two variables.
     [
         (WAKING, "hist:keys=pid:ts=common_timestamp.usecs" + JOB),
@@ -68,7 +71,6 @@ ON_ONE_CPU = [
 ]
 
 KNOWN = [
-    ("kernel refuses", "`vals=$own` of the trigger's own variable", WAKING, "hist:keys=pid:vals=$own1:own1=common_timestamp.usecs" + JOB),
     ("kernel refuses", "three values besides hitcount", WAKING, "hist:keys=comm:vals=pid,prio,target_cpu" + JOB),
     ("kernel refuses", "a size in octal has no 8", WAKING, "hist:keys=comm,pid:size=0128" + JOB),
     ("kernel refuses", "an equal trigger is attached", WAKING, "hist:keys=comm" + JOB),
@@ -76,7 +78,12 @@ KNOWN = [
     ("desk refuses", "a field is a key twice", WAKING, "hist:keys=pid,pid" + JOB),
     ("desk refuses", "a field is a value twice", WAKING, "hist:keys=comm:vals=prio,prio" + JOB),
     ("desk refuses", "a number in octal", WAKING, "hist:keys=prio" + JOB + " && pid > 0144"),
-    ("desk refuses", "a text without quotes", WAKING, "hist:keys=prio if comm == dline"),
+    ("desk refuses", "a text is a value", WAKING, "hist:keys=pid:vals=comm" + JOB),
+    ("desk refuses", "a modifier on a text", WAKING, "hist:keys=comm.log2" + JOB),
+    ("desk refuses", "a modifier on a text", WAKING, "hist:keys=comm.buckets=4" + JOB),
+    ("desk refuses", "a modifier on a text", WAKING, "hist:keys=comm.hex" + JOB),
+    ("desk refuses", "two parts of one kind", WAKING, "hist:keys=pid:vals=prio:vals=target_cpu" + JOB),
+    ("desk refuses", "two parts of one kind", WAKING, "hist:keys=pid:keys=prio" + JOB),
     ("rows", "a glob of one star in front is compared with the end of the field's 16 bytes", WAKING, 'hist:keys=comm if comm ~ "*b"'),
     ("rows", "a glob with a digit in front is compared as it stands", WAKING, 'hist:keys=comm if comm ~ "7*"'),
     ("rows", "a class with `!` takes the byte 0 behind the name", WAKING, 'hist:keys=comm if comm ~ "job kid 1[!x]"'),
@@ -87,6 +94,33 @@ KNOWN = [
     ("order", "a name that is a key and a value sorts by the value", WAKING, "hist:keys=prio:vals=prio:sort=prio" + JOB),
 ]
 
+# Refused by both sides.
+FAULTS = [
+    (WAKING, "hist:keys=nope" + JOB),
+    (WAKING, "hist:keys=next_pid" + JOB),
+    (WAKING, "hist:vals=pid" + JOB),
+    (WAKING, "hist:keys=pid,prio,comm,target_cpu" + JOB),
+    (WAKING, "hist:keys=pid:sort=prio" + JOB),
+    (WAKING, "hist:keys=pid:sort=pid.upward" + JOB),
+    (WAKING, "hist:keys=pid:size=64" + JOB),
+    (WAKING, "hist:keys=pid:size=131073" + JOB),
+    (WAKING, "hist:keys=pid.buckets=0" + JOB),
+    (WAKING, "hist:keys=pid.log3" + JOB),
+    (WAKING, "hist:keys=pid.hex.log2" + JOB),
+    (WAKING, "hist:keys=pid:lost=common_timestamp.usecs-$nowhere" + JOB),
+    (WAKING, "hist:keys=pid if comm == dline"),
+    (WAKING, "hist:keys=pid if pid = 1"),
+    (WAKING, "hist:keys=pid if comm < 'job'"),
+    (WAKING, "hist:keys=pid if comm == 5"),
+    (WAKING, "hist:keys=pid if pid == 'job'"),
+    (WAKING, "hist:keys=pid if (pid == 1"),
+    (WAKING, "hist:keys=pid if pid == 1 pid == 2"),
+    (WAKING, "hist:keys=pid if next_pid == 1"),
+    (WAKING, "hist:keys=pid if pid == 1 &&"),
+    (WAKING, "hist:keys=pid if"),
+    (WAKING, "hist:keys=pid:" + JOB),
+]
+
 
 def fixed(cpus):
     """All fixed groups, as lists of cases."""
@@ -94,3 +128,5 @@ def fixed(cpus):
         yield [dict(zip(("event", "text", "saver"), case)) for case in group]
     for known, why, event, text in KNOWN:
         yield [{"event": event, "text": text, "known": known, "why": why}]
+    for event, text in FAULTS:
+        yield [{"event": event, "text": text, "known": "both refuse", "why": ""}]

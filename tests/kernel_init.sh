@@ -15,7 +15,7 @@ mount -t tracefs none "$tracefs"
 seed=$(sed -n 's/.*hd_seed=\([0-9]*\).*/\1/p' /proc/cmdline)
 events='sched_waking sched_wakeup sched_wakeup_new sched_switch'
 
-cd "$tracefs"
+cd "$tracefs" || poweroff -f
 echo 0 >tracing_on
 # The clock that a trigger with a stamp sets by itself: one order for all CPUs. No setting of a clock comes later, since
 # it would empty the buffers.
@@ -31,7 +31,7 @@ tab=$(printf '\t')
 while IFS=$tab read -r number file text; do
     : >error_log
     if ! printf '%s\n' "$text" 2>/dev/null >>"$file"; then
-        printf "%s\t%s\t%s\n" "$number" "$file" "$(sed -n 's/.*error: //p' error_log | tr '\n\t' '  ')" >>/out/refused
+        printf '%s\t%s\t%s\n' "$number" "$file" "$(sed -n 's/.*error: //p' error_log | tr '\n\t' '  ')" >>/out/refused
     fi
 done </cases
 

@@ -121,7 +121,7 @@ def pair(draw, cpus, count):
     name, own = f"v{count}", f"w{count}"
     left, right = (",".join(side + item for item in keys.split(",")) for side in (front, behind))
     fields = [item.split(".")[0] for item in right.split(",")]
-    first = f"hist:keys={left}{size(draw, cpus)}:{name}=common_timestamp.usecs" + tail(draw, saver, front)
+    first = f"hist:keys={left}{size(draw, cpus)}{draw.choice(['', f':vals=${name}'])}:{name}=common_timestamp.usecs" + tail(draw, saver, front)
     order = draw.choice(["", f":sort=${own}.descending", ":sort=hitcount.descending", f":sort={fields[0]}", f":sort=hitcount,${own}"])
     more = "".join(f",{behind}{field}" for field in draw.choice([[], ["prio"], ["pid"]]) if behind + field not in fields)
     second = f"hist:keys={right}:vals=${own}{more}:{own}=common_timestamp.usecs-${name}{order}{size(draw, cpus)}" + tail(draw, reader, behind)
