@@ -20,6 +20,7 @@ from kernel_tables import blocks, key_of, read_table, read_trace, replayed
 from model_trigger import Trigger
 
 MOST_SHOWN = 3
+TIE = "stamps of two CPUs tie, and the desk goes by CPU"
 LOST = ["overrun", "commit overrun", "dropped events"]
 counts = {"passed": 0, "failed": 0, "known": 0, "loaded": 0}
 
@@ -190,7 +191,7 @@ def compares(case, trigger, group, events, cpus):
         else:
             fails(case, f"not as known: {case['known']}: {case['why']}", told[1] or ["both sides are the same"])
     elif told[0] and cpus > 1 and kernel_is_replayed(case, kernel, plain, group, events):
-        is_known(case, told[0], "stamps of two CPUs tie, and the desk goes by CPU", told[1])
+        is_known(case, told[0], TIE, told[1])
     elif told[0]:
         fails(case, told[0], told[1])
     else:
@@ -204,10 +205,11 @@ def kernel_is_replayed(case, kernel, plain, group, events):
 
 
 def compares_latencies(case, trigger, group, events, cpus):
-    """The kernel's synthetic events, one for each latency, beside the desk's list. What a full table has dropped makes no
-    event; the desk lists it."""
+    """The kernel's synthetic events, one for each latency, beside the desk's list, CPU by CPU: between two CPUs they may
+    stand in another order than the switches that made them, since each has a stamp of its own. What a full table has
+    dropped makes no event; the desk lists it."""
     form = re.compile(rf"\[(\d+)\] .*: {case['synthetic']}: lat=(\d+) ")
-    kernel = [(int(found[1]), int(found[2])) for found in (form.search(event["text"] + " ") for event in events) if found]
+    kernel = by_cpu((int(found[1]), int(found[2])) for found in (form.search(event["text"] + " ") for event in events) if found)
     places = {(event["cpu"], event["line"]): event for event in events}
     kept = {key for key, _ in read_table(case["answer"], trigger.keys).rows}
     desk, dropped = [], 0
@@ -217,6 +219,7 @@ def compares_latencies(case, trigger, group, events, cpus):
             desk.append((cpu, latency))
         else:
             dropped += 1
+    desk = by_cpu(desk)
     if kernel == desk:
         if dropped:
             is_known(case, "latencies", f"the desk lists {dropped} more, of dropped hits", [])
@@ -226,10 +229,15 @@ def compares_latencies(case, trigger, group, events, cpus):
     at = next((i for i, (left, right) in enumerate(zip(kernel, desk)) if left != right), min(len(kernel), len(desk)))
     lines = [f"{len(kernel)} and {len(desk)} latencies; number {at + 1}, CPU and microseconds:"]
     lines += [f"{side}: {found[at : at + 1]}" for side, found in (("kernel", kernel), ("desk  ", desk))]
-    if cpus > 1 and replayed(group, events)[group.index(case)][1] == kernel:
-        is_known(case, "latencies", "stamps of two CPUs tie, and the desk goes by CPU", lines)
+    if cpus > 1 and by_cpu(replayed(group, events)[group.index(case)][1]) == kernel:
+        is_known(case, "latencies", TIE, lines)
     else:
         fails(case, "latencies", lines)
+
+
+def by_cpu(latencies):
+    """In the order of the CPUs, and on each in the order given."""
+    return sorted(latencies, key=lambda latency: latency[0])
 
 
 def compares_case(case, group, events, cpus):

@@ -94,6 +94,11 @@ KNOWN = [
     ("order", "a name that is a key and a value sorts by the value", WAKING, "hist:keys=prio:vals=prio:sort=prio" + JOB),
 ]
 
+# With several CPUs; the number of the only one is 0.
+KNOWN_ON_MORE = [
+    ("rows", "`common_cpu & N` never holds", WAKING, "hist:keys=common_cpu" + JOB + " && common_cpu & 1"),
+]
+
 # Refused by both sides.
 FAULTS = [
     (WAKING, "hist:keys=nope" + JOB),
@@ -126,7 +131,7 @@ def fixed(cpus):
     """All fixed groups, as lists of cases."""
     for group in ALIKE + (ON_ONE_CPU if cpus == 1 else []):
         yield [dict(zip(("event", "text", "saver"), case)) for case in group]
-    for known, why, event, text in KNOWN:
+    for known, why, event, text in KNOWN + (KNOWN_ON_MORE if cpus > 1 else []):
         yield [{"event": event, "text": text, "known": known, "why": why}]
     for event, text in FAULTS:
         yield [{"event": event, "text": text, "known": "both refuse", "why": ""}]

@@ -1,7 +1,7 @@
 #!/bin/busybox sh
 # The first process of the guest that tests/kernel.sh boots. It attaches the triggers of /cases, runs the workload, and
 # writes what the kernel then shows to the second serial line, as the base64 of a tar. Its words come from the kernel's
-# command line: hd_seed=SEED.
+# command line: hd_seed=SEED and hd_clock=CLOCK.
 #
 # A line of /cases is a number, a file of tracefs and a text, with tabs between them. The text is appended to the file:
 # a file that is opened to be written anew loses all its triggers first.
@@ -13,13 +13,13 @@ mount -t devtmpfs none /dev
 tracefs=/sys/kernel/tracing
 mount -t tracefs none "$tracefs"
 seed=$(sed -n 's/.*hd_seed=\([0-9]*\).*/\1/p' /proc/cmdline)
+clock=$(sed -n 's/.*hd_clock=\([a-z]*\).*/\1/p' /proc/cmdline)
 events='sched_waking sched_wakeup sched_wakeup_new sched_switch'
 
 cd "$tracefs" || poweroff -f
 echo 0 >tracing_on
-# The clock that a trigger with a stamp sets by itself: one order for all CPUs. No setting of a clock comes later, since
-# it would empty the buffers.
-echo global >trace_clock
+# The clock that the triggers with a stamp set, too.
+echo "$clock" >trace_clock
 echo 65536 >buffer_size_kb
 echo 8192 >saved_cmdlines_size
 for event in $events; do

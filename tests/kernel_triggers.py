@@ -55,7 +55,7 @@ def atom(draw, event):
             return f"{field} ~ {quote}{draw.choice(GLOBS)}{quote}"
         return f"{field} {draw.choice(['==', '!='])} {quote}{draw.choice(NAMES)}{quote}"
     value = draw.choice([str, hex])(number(draw, field))
-    if draw.random() < 0.2:
+    if draw.random() < 0.2 and field != "common_cpu":
         return f"{field} & {draw.choice(['1', '2', '3', '0x40', '0x1f'])}"
     return f"{field}{draw.choice(['', ' '])}{draw.choice(['==', '!=', '<', '<=', '>', '>='])} {value}"
 
@@ -69,18 +69,18 @@ def condition(draw, event, depth):
     return draw.choice([" && ", " || "]).join(condition(draw, event, depth - 1) for _ in range(2))
 
 
-def tail(draw, event, side=None):
+def tail(draw, event, side):
     """A filter that lets none pass but events of the workload's tasks."""
-    if side is None:
-        side = draw.choice(["prev_", "next_"]) if event == "sched_switch" else ""
     base = f'{side}comm ~ "job*"'
     return f" if {base}" + (f" && ({condition(draw, event, 3)})" if draw.random() < 0.6 else "")
 
 
-def modified(draw, field):
+def modified(draw, field, side):
+    """No buckets for the priority of the other task, which may be -1: see kernel_fixed.py."""
     if field in TEXTS:
         return field
-    return field + draw.choice(["", "", "", ".hex", ".log2", f".buckets={draw.choice([1, 2, 3, 7, 10, 16, 100])}"])
+    buckets = f".buckets={draw.choice([1, 2, 3, 7, 10, 16, 100])}" if field.startswith(side) or "prio" not in field else ""
+    return field + draw.choice(["", "", "", ".hex", ".log2", buckets])
 
 
 def size(draw, cpus):
@@ -98,13 +98,14 @@ def sort(draw, keys, values):
 
 def plain(draw, cpus):
     event = draw.choice(WAKES[:2] + WAKES[:2] + WAKES[2:] + ["sched_switch"] * 3)
+    side = draw.choice(["prev_", "next_"]) if event == "sched_switch" else ""
     fields = draw.sample(FIELDS[event], draw.randint(1, 3))
     values = draw.sample([field for field in FIELDS[event] if field not in TEXTS], draw.randrange(3))
-    keys = draw.choice(["key", "keys"]) + "=" + ",".join(modified(draw, field) for field in fields)
+    keys = draw.choice(["key", "keys"]) + "=" + ",".join(modified(draw, field, side) for field in fields)
     parts = [draw.choice([":val=", ":vals=", ":values=", ":vals=hitcount,"]) + ",".join(values) if values else ""]
     parts += [sort(draw, fields, values), size(draw, cpus)]
     draw.shuffle(parts)
-    return [{"event": event, "text": f"hist:{keys}{''.join(parts)}" + tail(draw, event)}]
+    return [{"event": event, "text": f"hist:{keys}{''.join(parts)}" + tail(draw, event, side)}]
 
 
 def pair(draw, cpus, count):
@@ -155,6 +156,13 @@ def reader(case, name):
     ]
 
 
+def with_clock(cpus, text):
+    """A trigger with a stamp sets the clock: to `global`, if it names none. On several CPUs that one stands still where a
+    CPU's clock is behind, so that many events have one stamp."""
+    head, _, rest = text.partition(" if ")
+    return f"{head}:clock=mono if {rest}" if cpus > 1 and "=common_timestamp" in head else text
+
+
 def same_to_the_kernel(case):
     """The kernel takes no second trigger that differs in its size or the sizes of its buckets alone."""
     return case["event"], re.sub(r":size=\d+|=\d+", "", case["text"].partition(" if ")[0]), case["text"].partition(" if ")[2]
@@ -180,12 +188,12 @@ def main():
     cases, lines = cases_of(cpus, seed, count), []
     for number, case in enumerate(cases, 1):
         case["number"] = number
-        if "saver" in case and "kernel" not in case:
+        if "saver" in case:
             told = reader(case, f"hd{number}")
         else:
-            case.setdefault("kernel", case["text"])
+            case["kernel"] = case["text"]
             told = [(f"events/sched/{case['event']}/trigger", case["kernel"])]
-        lines += [f"{number}\t{file}\t{text}\n" for file, text in told]
+        lines += [f"{number}\t{file}\t{with_clock(cpus, text)}\n" for file, text in told]
     with open(f"{folder}/cases", "w") as file:
         file.writelines(lines)
     with open(f"{folder}/cases.json", "w") as file:
