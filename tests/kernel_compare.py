@@ -159,49 +159,55 @@ def row_text(key, sums):
 
 def table_lines(kernel, desk, sort, with_totals):
     """How two tables differ, in the rows, in their order or in the totals."""
-    if sorted(kernel.rows, key=repr) != sorted(desk.rows, key=repr):
+    if len(kernel.rows) != len(desk.rows) or dict(kernel.rows) != dict(desk.rows):
         return "rows", row_lines(kernel, desk)
     if with_totals and kernel.totals != desk.totals:
-        return "totals", [f"{side}: hits {t[0]} entries {t[1]} dropped {t[2]}" for side, t in (("kernel", kernel.totals), ("desk  ", desk.totals))]
+        told = ["hits {} entries {} dropped {}".format(*table.totals) for table in (kernel, desk)]
+        return "totals", [f"kernel: {told[0]}", f"desk  : {told[1]}"]
     left, right = kernel.order(sort), desk.order(sort)
-    if left != right:
+    if left != right and desk.head:
         at = next(i for i in range(len(left)) if left[i] != right[i])
         return "order", [f"row {at + 1}, by {sort}", f"kernel: {left[at]}", f"desk  : {right[at]}"]
     return None, []
 
 
+def differs(case, trigger, desk):
+    """How the kernel's table differs from this one: what, and the lines that show it. A reader's own variable is summed
+    by its synthetic event's trigger."""
+    kernel, own = read_table(case["block"], trigger.keys), []
+    if trigger.saves:
+        kernel = kernel.renamed("common_timestamp", trigger.saves)
+    if trigger.reads:
+        own = [value for value in trigger.values if value.startswith("$")]
+    plain = [value.lstrip("$") for value in trigger.values if value not in own]
+    told = table_lines(kernel, desk.only(plain), trigger.sort if not own else [], True)
+    if not told[0] and own:
+        summed = read_table(case["summed"], trigger.keys).renamed("lat", own[0][1:])
+        told = table_lines(summed, desk.only([own[0][1:]]), trigger.sort, False)
+    if not told[0] and desk.head and not own and kernel.head != desk.head:
+        told = "head", [f"kernel: {kernel.head}", f"desk  : {desk.head}"]
+    return told
+
+
 def compares(case, trigger, group, events, cpus):
     """One case that both sides took."""
-    kernel, desk = read_table(case["block"], trigger.keys), read_table(case["answer"], trigger.keys)
-    own = [value for value in trigger.values if value.startswith("$") and trigger.reads]
-    plain = [value.lstrip("$") for value in trigger.values if value not in own]
-    if trigger.saves:
-        kernel.saves(trigger.saves)
-    sort = [] if any(name in own for name, _ in trigger.sort) else trigger.sort
-    told = table_lines(kernel, desk.only(plain), sort, True)
-    if not told[0] and "synthetic" in case:
-        summed, mine = read_table(case["summed"], trigger.keys), desk.only([own[0][1:]])
-        summed.rows = [(key, {own[0][1:] if name == "lat" else name: total for name, total in sums.items()}) for key, sums in summed.rows]
-        told = table_lines(summed, mine, trigger.sort if all(name in ("hitcount", *own, *dict(trigger.keys)) for name, _ in trigger.sort) else [], False)
-    if not told[0] and "known" not in case and "synthetic" not in case and kernel.head != desk.head:
-        told = "head", [f"kernel: {kernel.head}", f"desk  : {desk.head}"]
-    if "known" in case:
-        if told[0] == case["known"]:
-            is_known(case, told[0], case["why"], told[1])
-        else:
-            fails(case, f"not as known: {case['known']}: {case['why']}", told[1] or ["both sides are the same"])
-    elif told[0] and cpus > 1 and kernel_is_replayed(case, kernel, plain, group, events):
-        is_known(case, told[0], TIE, told[1])
-    elif told[0]:
-        fails(case, told[0], told[1])
+    what, lines = differs(case, trigger, read_table(case["answer"], trigger.keys))
+    if "known" in case and what == case["known"]:
+        is_known(case, what, case["why"], lines)
+    elif "known" in case:
+        fails(case, f"not as known: {case['known']}: {case['why']}", lines or ["both sides are the same"])
+    elif what and cpus > 1 and not differs(case, trigger, in_line_order(case, group, events)[0])[0]:
+        is_known(case, what, TIE, lines)
+    elif what:
+        fails(case, what, lines)
     else:
         passes()
 
 
-def kernel_is_replayed(case, kernel, plain, group, events):
-    """Whether the kernel's table is that of the order of the trace's lines, which only ties turn."""
-    table, _ = replayed(group, events)[group.index(case)]
-    return table_lines(kernel, table.only(plain), [], True)[0] is None
+def in_line_order(case, group, events):
+    """The case's table and latencies of a replay in the order of the trace's lines, from which only ties turn the desk's.
+    Its rows have no order."""
+    return replayed(group, events)[group.index(case)]
 
 
 def compares_latencies(case, trigger, group, events, cpus):
@@ -209,7 +215,8 @@ def compares_latencies(case, trigger, group, events, cpus):
     stand in another order than the switches that made them, since each has a stamp of its own. What a full table has
     dropped makes no event; the desk lists it."""
     form = re.compile(rf"\[(\d+)\] .*: {case['synthetic']}: lat=(\d+) ")
-    kernel = by_cpu((int(found[1]), int(found[2])) for found in (form.search(event["text"] + " ") for event in events) if found)
+    found = [form.search(event["text"] + " ") for event in events]
+    kernel = by_cpu((int(one[1]), int(one[2])) for one in found if one)
     places = {(event["cpu"], event["line"]): event for event in events}
     kept = {key for key, _ in read_table(case["answer"], trigger.keys).rows}
     desk, dropped = [], 0
@@ -229,7 +236,7 @@ def compares_latencies(case, trigger, group, events, cpus):
     at = next((i for i, (left, right) in enumerate(zip(kernel, desk)) if left != right), min(len(kernel), len(desk)))
     lines = [f"{len(kernel)} and {len(desk)} latencies; number {at + 1}, CPU and microseconds:"]
     lines += [f"{side}: {found[at : at + 1]}" for side, found in (("kernel", kernel), ("desk  ", desk))]
-    if cpus > 1 and by_cpu(replayed(group, events)[group.index(case)][1]) == kernel:
+    if cpus > 1 and by_cpu(in_line_order(case, group, events)[1]) == kernel:
         is_known(case, "latencies", TIE, lines)
     else:
         fails(case, "latencies", lines)

@@ -25,7 +25,7 @@ ALIKE = [
     [(WAKEUP, "hist:keys=pid.log2,comm:size=500:sort=comm.descending,hitcount" + JOB)],
     [(NEW, "hist:keys=comm:values=pid,prio" + JOB)],
     [(NEW, "hist:keys=pid.log2,prio:sort=hitcount.descending,pid" + JOB)],
-    [(SWITCH, 'hist:keys=prev_comm,next_comm:sort=hitcount.descending,prev_comm if prev_comm ~ "job*" || next_comm ~ "job*"')],
+    [(SWITCH, "hist:keys=prev_comm,next_comm:sort=hitcount.descending,prev_comm" + FROM + ' || next_comm ~ "job*"')],
     [(SWITCH, "hist:keys=next_prio.buckets=10:vals=next_pid,prev_pid:sort=next_pid.descending" + TO)],
     [(SWITCH, "hist:keys=prev_prio,next_prio,common_cpu:sort=prev_prio,next_prio.descending" + FROM)],
     [(SWITCH, "hist:keys=next_comm:vals=prev_prio if next_comm ~ 'job [!a-m]*' && prev_comm != 'job boss'")],
@@ -46,7 +46,7 @@ ALIKE = [
     ],
     [
         (SWITCH, "hist:keys=prev_pid:out=common_timestamp.usecs" + FROM),
-        (SWITCH, "hist:keys=next_pid:vals=$off,next_prio:off=common_timestamp.usecs-$out:sort=hitcount.descending,$off" + TO, SWITCH),
+        (SWITCH, "hist:keys=next_pid:vals=$off,prev_prio:off=common_timestamp.usecs-$out:sort=hitcount,$off" + TO, SWITCH),
     ],
     # Whichever reads first unsets the variable.
     [
@@ -56,13 +56,18 @@ ALIKE = [
     ],
 ]
 
-# With one CPU: tables that overflow. Many tasks share a key of the last pair, so the order of all events tells there.
+# With one CPU: tables that overflow, a plain one, a saver's and a reader's. Many tasks share a key of the last pair, so
+# there the order of all events tells.
 ON_ONE_CPU = [
     [(WAKING, "hist:keys=pid:size=128:sort=pid" + JOB)],
     [(SWITCH, "hist:keys=prev_pid,next_comm:vals=next_prio:size=65:sort=hitcount.descending" + FROM)],
     [
         (WAKING, "hist:keys=pid:few=common_timestamp.usecs:size=128" + JOB),
         (SWITCH, "hist:keys=next_pid:vals=$got:got=common_timestamp.usecs-$few" + TO, WAKING),
+    ],
+    [
+        (WAKING, "hist:keys=pid,prio:all=common_timestamp.usecs" + JOB),
+        (SWITCH, "hist:keys=next_pid,next_prio:vals=$some:some=common_timestamp.usecs-$all:size=128" + TO, WAKING),
     ],
     [
         (SWITCH, "hist:keys=prev_prio:gone=common_timestamp.usecs" + FROM),
@@ -84,11 +89,11 @@ KNOWN = [
     ("desk refuses", "a modifier on a text", WAKING, "hist:keys=comm.hex" + JOB),
     ("desk refuses", "two parts of one kind", WAKING, "hist:keys=pid:vals=prio:vals=target_cpu" + JOB),
     ("desk refuses", "two parts of one kind", WAKING, "hist:keys=pid:keys=prio" + JOB),
-    ("rows", "a glob of one star in front is compared with the end of the field's 16 bytes", WAKING, 'hist:keys=comm if comm ~ "*b"'),
+    ("rows", "a glob of one star in front asks for the end of 16 bytes", WAKING, 'hist:keys=comm if comm ~ "*b"'),
     ("rows", "a glob with a digit in front is compared as it stands", WAKING, 'hist:keys=comm if comm ~ "7*"'),
     ("rows", "a class with `!` takes the byte 0 behind the name", WAKING, 'hist:keys=comm if comm ~ "job kid 1[!x]"'),
-    ("rows", "numbers are compared by the 32 bits of the field", WAKING, "hist:keys=comm:vals=prio" + JOB + " && pid < 4294967296"),
-    ("rows", "the bucket of -1 is printed with its end modulo 2^64", WAKING, 'hist:keys=prio.buckets=10 if comm == "dline"'),
+    ("rows", "a number is cut to the 32 bits of the field", WAKING, "hist:keys=comm" + JOB + " && pid < 4294967296"),
+    ("rows", "the end of the bucket of -1 is modulo 2^64", WAKING, 'hist:keys=prio.buckets=10 if comm == "dline"'),
     ("rows", "prev_state is a number", SWITCH, "hist:keys=prev_state" + FROM),
     ("rows", "the size of buckets in octal", WAKING, "hist:keys=pid.buckets=010,prio" + JOB),
     ("order", "a name that is a key and a value sorts by the value", WAKING, "hist:keys=prio:vals=prio:sort=prio" + JOB),

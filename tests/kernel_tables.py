@@ -2,8 +2,8 @@
 of a replay in the order of the trace's lines.
 
 What is normalised: the padding of keys, counts and sums; numbers are numbers, a `.hex` component too; of the head
-`clock=`, the action of a reader, its filter and modifiers in `sort=` are left out. The sum of a saver's variable, which
-the kernel calls by what is saved, is called by the variable's name. The order of rows is kept only as the
+`clock=`, the filter and modifiers in `sort=` are left out. The sum of a saver's variable, which the kernel calls by what
+is saved, has the variable's name. The order of rows is kept only as the
 list of what they are sorted by, since rows that are equal in that may stand in any order.
 """
 
@@ -27,12 +27,14 @@ class Table:
 
     def only(self, names):
         """The same with these sums alone."""
-        return Table(self.head, [(key, {name: sums[name] for name in ["hitcount", *names]}) for key, sums in self.rows], self.totals)
+        rows = [(key, {name: sums[name] for name in ["hitcount", *names]}) for key, sums in self.rows]
+        return Table(self.head, rows, self.totals)
 
-    def saves(self, name):
-        """The kernel calls the sum of a saver's variable by what is saved."""
-        self.head = self.head.replace("common_timestamp.usecs", f"${name}", self.head.count("common_timestamp.usecs") - 1)
-        self.rows = [(key, {name if title == "common_timestamp" else title: sum for title, sum in sums.items()}) for key, sums in self.rows]
+    def renamed(self, title, name):
+        """The same with another title of one sum. In the head it is the value of a saver."""
+        head = self.head.replace(f",{title}.usecs", f",${name}")
+        rows = [(key, {name if old == title else old: total for old, total in sums.items()}) for key, sums in self.rows]
+        return Table(head, rows, self.totals)
 
     def order(self, sort):
         """What the rows are sorted by, row by row."""

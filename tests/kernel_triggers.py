@@ -24,6 +24,7 @@ sys.dont_write_bytecode = True
 
 from kernel_fixed import fixed
 from model_line import TEXTS
+from model_trigger import Trigger
 
 WAKES = ["sched_waking", "sched_wakeup", "sched_wakeup_new"]
 FIELDS = {name: ["pid", "prio", "target_cpu", "comm", "common_pid", "common_cpu"] for name in WAKES}
@@ -85,7 +86,7 @@ def modified(draw, field, side):
 
 def size(draw, cpus):
     """On several CPUs no table overflows: which keys fit hangs on an order that the stamps don't show."""
-    return draw.choice(["", "", ":size=128", ":size=65", ":size=200", ":size=1000"] if cpus == 1 else [":size=8192", ":size=5000"])
+    return draw.choice(["", "", ":size=128", ":size=65", ":size=200"] if cpus == 1 else [":size=8192", ":size=5000"])
 
 
 def sort(draw, keys, values):
@@ -113,7 +114,7 @@ def pair(draw, cpus, count):
     if cpus == 1:
         ends = [(name, "") for name in WAKES] + [("sched_switch", "prev_"), ("sched_switch", "next_")]
         (saver, front), (reader, behind) = draw.choice(ends), draw.choice(ends)
-        keys = draw.choice(["pid", "pid", "comm", "prio", "prio,pid", "comm,pid", "prio.log2", "pid.buckets=16", "comm,prio.log2"])
+        keys = draw.choice(["pid", "comm", "prio", "prio,pid", "comm,pid", "prio.log2", "pid.buckets=16", "comm,prio.log2"])
     else:
         (saver, front), (reader, behind) = draw.choice(BEHIND), ("sched_switch", "next_")
         if saver == "sched_waking" and draw.random() < 0.3:
@@ -122,10 +123,12 @@ def pair(draw, cpus, count):
     name, own = f"v{count}", f"w{count}"
     left, right = (",".join(side + item for item in keys.split(",")) for side in (front, behind))
     fields = [item.split(".")[0] for item in right.split(",")]
-    first = f"hist:keys={left}{size(draw, cpus)}{draw.choice(['', f':vals=${name}'])}:{name}=common_timestamp.usecs" + tail(draw, saver, front)
-    order = draw.choice(["", f":sort=${own}.descending", ":sort=hitcount.descending", f":sort={fields[0]}", f":sort=hitcount,${own}"])
+    order = draw.choice(["", f"${own}.descending", "hitcount.descending", fields[0], f"hitcount,${own}"])
     more = "".join(f",{behind}{field}" for field in draw.choice([[], ["prio"], ["pid"]]) if behind + field not in fields)
-    second = f"hist:keys={right}:vals=${own}{more}:{own}=common_timestamp.usecs-${name}{order}{size(draw, cpus)}" + tail(draw, reader, behind)
+    first = f"hist:keys={left}{size(draw, cpus)}{draw.choice(['', f':vals=${name}'])}:{name}=common_timestamp.usecs"
+    second = f"hist:keys={right}:vals=${own}{more}:{own}=common_timestamp.usecs-${name}"
+    second += (f":sort={order}" if order else "") + size(draw, cpus)
+    first, second = first + tail(draw, saver, front), second + tail(draw, reader, behind)
     return [{"event": saver, "text": first}, {"event": reader, "text": second, "saver": saver}]
 
 
@@ -144,7 +147,6 @@ def reader(case, name):
     kept.append(f"onmatch(sched.{case['saver']}).{name}(${own},{','.join(fields)})")
     kinds = [TYPES[re.sub("prev_|next_", "", field)] + f" {field}" + ("[16]" if field in TEXTS else "") for field in fields]
     summed = f"hist:keys={found['keys']}:vals=lat"
-    # The order of the sums is that of the reader, unless it is by a value that the synthetic event doesn't have.
     summed += f":sort={found['sort'].replace('$' + own, 'lat')}" if "sort" in found else ""
     summed += f":size={found['size']}" if "size" in found else ""
     case["synthetic"], case["kernel"] = name, f"hist:{':'.join(kept)} if {rest}"
@@ -164,8 +166,10 @@ def with_clock(cpus, text):
 
 
 def same_to_the_kernel(case):
-    """The kernel takes no second trigger that differs in its size or the sizes of its buckets alone."""
-    return case["event"], re.sub(r":size=\d+|=\d+", "", case["text"].partition(" if ")[0]), case["text"].partition(" if ")[2]
+    """What tells two triggers apart for the kernel, which takes no equal one: not the size, nor that of buckets."""
+    trigger = Trigger(case["event"], case["text"])
+    keys = [(field, mode.split("=")[0]) for field, mode in trigger.keys]
+    return repr((case["event"], keys, trigger.values, trigger.variable, trigger.sort, case["text"].partition(" if ")[2]))
 
 
 def cases_of(cpus, seed, count):
@@ -173,11 +177,12 @@ def cases_of(cpus, seed, count):
     for group in fixed(cpus):
         groups += 1
         cases += [case | {"group": groups} for case in group]
+        seen |= {same_to_the_kernel(case) for case in group if "known" not in case}
     while count > 0:
         group = pair(draw, cpus, count) if count > 1 and draw.random() < 0.25 else plain(draw, cpus)
-        if same_to_the_kernel(group[0]) in seen:
+        if seen & {same_to_the_kernel(case) for case in group}:
             continue
-        seen.add(same_to_the_kernel(group[0]))
+        seen |= {same_to_the_kernel(case) for case in group}
         groups, count = groups + 1, count - len(group)
         cases += [case | {"group": groups} for case in group]
     return cases

@@ -92,7 +92,8 @@ static void answer(int from, int to, int rounds, int nice) {
 }
 
 static void pair(int number) {
-    static const char *const names[][2] = {{"job ping a", "job pong a"}, {"job-b,left", "job-b: right"}, {"job c pid=7 x", "job pong c"}};
+    static const char *const names[][2] = {
+        {"job ping a", "job pong a"}, {"job-b,left", "job-b: right"}, {"job c pid=7 x", "job pong c"}};
     int there[2], back[2], rounds = 100 + draw(60), nice[2] = {draw(20), (int)draw(31) - 15};
     if (pipe(there) || pipe(back) || write(there[1], "", 1) != 1)
         fail("pipe");
@@ -139,7 +140,8 @@ static void fixed(const char *name, int policy, int priority, int rounds) {
 }
 
 static void with_deadline(void) {
-    struct deadline wanted = {.size = sizeof wanted, .policy = 6, .runtime = 4000000, .deadline = 20000000, .period = 20000000};
+    struct deadline wanted = {.size = sizeof wanted, .policy = 6, .runtime = 4000000};
+    wanted.deadline = wanted.period = 20000000;
     if (begin("dline", 90) != 0)
         return;
     if (syscall(SYS_sched_setattr, 0, &wanted, 0))
