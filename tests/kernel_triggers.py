@@ -177,7 +177,7 @@ def cases_of(cpus, seed, count):
     for group in fixed(cpus):
         groups += 1
         cases += [case | {"group": groups} for case in group]
-        seen |= {same_to_the_kernel(case) for case in group if "known" not in case}
+        seen |= {same_to_the_kernel(case) for case in group if "refuse" not in case.get("known", "")}
     while count > 0:
         group = pair(draw, cpus, count) if count > 1 and draw.random() < 0.25 else plain(draw, cpus)
         if seen & {same_to_the_kernel(case) for case in group}:
