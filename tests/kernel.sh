@@ -106,7 +106,7 @@ initrd() {
     local root=$folder/root
     mkdir -p -- "$root/bin"
     cp -- "$(command -v busybox)" "$root/bin/busybox"
-    if ! "$root/bin/busybox" --list | grep -qx base64 || ldd "$root/bin/busybox" >/dev/null 2>&1; then
+    if ! "$root/bin/busybox" --list | grep -x base64 >/dev/null || ldd "$root/bin/busybox" >/dev/null 2>&1; then
         stop "busybox is not the static one: apt-get install busybox-static"
     fi
     cp -- "$here/kernel_init.sh" "$root/init"

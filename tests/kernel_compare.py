@@ -8,7 +8,7 @@ with what it printed. A test is a trigger's table (its head, its rows, their ord
 a refusal. Prints each difference with its trigger and both rows, the known differences apart, and the counts at the end.
 """
 
-import itertools
+import collections
 import json
 import re
 import subprocess
@@ -16,13 +16,13 @@ import sys
 
 sys.dont_write_bytecode = True
 
-from kernel_tables import blocks, key_of, read_table, read_trace, replayed
+from kernel_shown import desk_runs, kernel_blocks, refusals, text_of, what_is_lost
+from kernel_tables import key_of, read_table, read_trace, replayed
 from model_trigger import Trigger
 
 MOST_SHOWN = 3
 TIE = "stamps of two CPUs tie, and the desk goes by CPU"
-LOST = ["overrun", "commit overrun", "dropped events"]
-counts = {"passed": 0, "failed": 0, "known": 0, "loaded": 0}
+counts = collections.Counter()
 
 
 def passes():
@@ -40,105 +40,8 @@ def is_known(case, what, why, lines):
     counts["known"] += 1
     passes()
     print(f"known: {what}: {case['event']} {case['text']}: {why}")
-    print("\n".join(f"    {line}" for line in lines[: 2 * MOST_SHOWN]))
-
-
-# ---- what was shown
-
-
-def text_of(path):
-    with open(path, encoding="latin-1", newline="") as file:
-        return file.read()
-
-
-def has_all_events(out):
-    """Whether no event was lost, and the workload ended well."""
-    lost = [line for line in text_of(f"{out}/stats").split("\n") if line.split(":")[0] in LOST and not line.endswith(": 0")]
-    if lost:
-        print(f"events were lost: {', '.join(lost)}")
-    status = text_of(f"{out}/status").strip()
-    if status != "0":
-        print(f"the workload ended with status {status}")
-    return not lost and status == "0"
-
-
-def refusals(cases, out):
-    """Gives each case what the kernel refused of it."""
-    by_number = {case["number"]: case for case in cases}
-    for line in text_of(f"{out}/refused").split("\n")[:-1]:
-        number, file, error = line.split("\t")
-        case = by_number[int(number)]
-        case["kernel refuses" if file.startswith("events/sched/") else "synthetic refused"] = error or "without a message"
-
-
-def kernel_blocks(cases, out):
-    """Gives each case that the kernel took its part of the `hist` file, and that of its synthetic event."""
-    left = {}
-    for case in cases:
-        if "kernel refuses" in case:
-            continue
-        name = case["event"]
-        if name not in left:
-            left[name] = blocks(text_of(f"{out}/{name}.hist"))
-        case["block"] = left[name].pop(0)
-        if "synthetic" in case and "synthetic refused" not in case:
-            (case["summed"],) = blocks(text_of(f"{out}/{case['synthetic']}.hist"))
-    if any(left.values()):
-        raise ValueError("a hist file shows more triggers than were attached")
-
-
-def desk_runs(cases, folder, program):
-    """Gives each case what the desk answers. A desk has 64 triggers at most; one that it may refuse is alone there."""
-    runs = [[]]
-    for group in {case["group"]: None for case in cases}:
-        members = [case for case in cases if case["group"] == group]
-        if len(runs[-1]) + len(members) > 64 or "known" in members[0]:
-            runs.append([])
-        runs[-1] += members
-        if "known" in members[0]:
-            runs.append([])
-    for number, run in enumerate(filter(None, runs), 1):
-        while run:
-            desk_run(run, f"{folder}/desk{number}", f"{folder}/out/trace", program)
-            bad = {case["group"] for case in run if "desk refuses" in case}
-            run = [case for case in run if case["group"] not in bad] if bad else []
-
-
-def desk_run(run, path, trace, program):
-    lines = ["load @1"] + [f"attach {case['event']} {case['text']}" for case in run]
-    for number, case in enumerate(run, 1):
-        lines += [f"hist {number}", f"totals {number}"] + [f"lat {number}"] * ("synthetic" in case)
-    with open(f"{path}.script", "w", encoding="latin-1") as script:
-        script.write("\n".join(lines) + "\n")
-    ended = subprocess.run([program, f"{path}.script", trace], capture_output=True, timeout=300)
-    with open(f"{path}.output", "wb") as output:
-        output.write(ended.stdout)
-    told = iter(ended.stdout.decode("latin-1").split("\n"))
-    loaded = next(told)
-    if ended.returncode not in (0, 1) or ended.stderr or not loaded.startswith("loaded "):
-        raise ValueError(f"the desk ended with status {ended.returncode}: {loaded} {ended.stderr.decode('latin-1')}")
-    counts["loaded"] = int(loaded.split()[1])
-    for case, line in zip(run, list(itertools.islice(told, len(run)))):
-        if line.startswith("refused "):
-            case["desk refuses"] = line
-    if any("desk refuses" in case for case in run):
-        return
-    for case in run:
-        case["answer"] = up_to(told, "    Dropped: ")
-        case["totals"] = next(told)
-        if "synthetic" in case:
-            case["lat"] = up_to(told, "Latencies: ")[:-1]
-
-
-def up_to(lines, front):
-    """The next lines, up to the one that begins so."""
-    taken = []
-    while not taken or not taken[-1].startswith(front):
-        taken.append(next(lines))
-    return taken
-
-
-# ---- comparing
+    for line in lines[: 2 * MOST_SHOWN]:
+        print(f"    {line}")
 
 
 def row_lines(kernel, desk):
@@ -191,7 +94,11 @@ def differs(case, trigger, desk):
 
 def compares(case, trigger, group, events, cpus):
     """One case that both sides took."""
-    what, lines = differs(case, trigger, read_table(case["answer"], trigger.keys))
+    desk = read_table(case["answer"], trigger.keys)
+    counts.update(tables=1, rows=len(desk.rows), empty=not desk.rows)
+    what, lines = differs(case, trigger, desk)
+    if case["totals"] != "hits {} entries {} dropped {}".format(*desk.totals):
+        what, lines = "totals", [f"desk's hist  : {desk.totals}", f"desk's totals: {case['totals']}"]
     if "known" in case and what == case["known"]:
         is_known(case, what, case["why"], lines)
     elif "known" in case:
@@ -227,6 +134,7 @@ def compares_latencies(case, trigger, group, events, cpus):
         else:
             dropped += 1
     desk = by_cpu(desk)
+    counts.update(lists=1, latencies=len(kernel))
     if kernel == desk:
         if dropped:
             is_known(case, "latencies", f"the desk lists {dropped} more, of dropped hits", [])
@@ -249,6 +157,7 @@ def by_cpu(latencies):
 
 def compares_case(case, group, events, cpus):
     known, refused = case.get("known", ""), [side for side in ("kernel refuses", "desk refuses") if side in case]
+    counts.update(refusals=bool(refused))
     told = [f"{side}: {case[side]}" for side in refused]
     if "synthetic refused" in case:
         fails(case, "synthetic event refused", [case["synthetic refused"]])
@@ -267,36 +176,41 @@ def compares_case(case, group, events, cpus):
             compares_latencies(case, trigger, group, events, cpus)
 
 
-def has_whole_trace(out, events):
-    """Whether the trace has each event that its buffers held, in the order of their stamps, and the desk has read all."""
-    held = sum(int(line.split(": ")[1]) for line in text_of(f"{out}/stats").split("\n") if line.startswith("entries: "))
-    told = f"{held} events held, {len(events)} lines in the trace, {counts['loaded']} events loaded"
-    print(told)
+def has_whole_trace(out, events, loaded):
+    """Whether no event was lost, the trace has each that the buffers held, in the order of their stamps, and the desk has
+    read all; and whether the workload ended well."""
+    lost, held = what_is_lost(out)
+    print("".join(f"{line}\n" for line in lost), end="")
+    print(f"{held} events held, {len(events)} lines in the trace, {loaded} events loaded")
     stamps = [event["stamp"] for event in events]
     if stamps != sorted(stamps):
         print("the lines of the trace don't stand by their stamps")
-    return held == len(events) == counts["loaded"] and stamps == sorted(stamps)
+    return not lost and held == len(events) == loaded and stamps == sorted(stamps)
 
 
-def main():
-    cpus, folder, program = int(sys.argv[1]), sys.argv[2], sys.argv[3]
+def compares_all(cpus, folder, program):
     out = f"{folder}/out"
     with open(f"{folder}/cases.json") as file:
         cases = json.load(file)
     print(f"kernel {text_of(f'{out}/version').strip()}, {cpus} CPUs, {len(cases)} triggers")
-    whole = has_all_events(out)
     events = read_trace(text_of(f"{out}/trace").split("\n"))
     refusals(cases, out)
     kernel_blocks(cases, out)
-    desk_runs(cases, folder, program)
-    if has_whole_trace(out, events) and whole:
-        passes()
-    else:
-        counts["failed"] += 1
+    loaded = desk_runs(cases, folder, program)
+    counts["passed" if has_whole_trace(out, events, loaded) else "failed"] += 1
     for case in cases:
         compares_case(case, [other for other in cases if other["group"] == case["group"]], events, cpus)
-    empty = sum(1 for case in cases if case.get("totals", "").startswith("hits 0 "))
-    print(f"{empty} tables without a hit, {counts['known']} known differences")
+    print("{tables} tables ({empty} without a row) with {rows} rows,".format_map(counts), end=" ")
+    print("{lists} lists with {latencies} latencies, {refusals} refusals;".format_map(counts), end=" ")
+    print(f"{counts['known']} known differences")
+
+
+def main():
+    try:
+        compares_all(int(sys.argv[1]), sys.argv[2], sys.argv[3])
+    except (OSError, ValueError, subprocess.TimeoutExpired) as error:
+        counts["failed"] += 1
+        print(f"not compared: {error}")
     print(f"{counts['passed']} passed, {counts['failed']} failed")
     return counts["failed"] > 0
 
