@@ -96,6 +96,9 @@ def compares(case, trigger, group, events, cpus):
     """One case that both sides took."""
     desk = read_table(case["answer"], trigger.keys)
     counts.update(tables=1, rows=len(desk.rows), empty=not desk.rows)
+    if not trigger.own:
+        lines = [{line for line in side if line.startswith("{ ")} for side in (case["block"], case["answer"])]
+        counts.update(plain=len(lines[1]), same=len(lines[0] & lines[1]))
     what, lines = differs(case, trigger, desk)
     if case["totals"] != "hits {} entries {} dropped {}".format(*desk.totals):
         what, lines = "totals", [f"desk's hist  : {desk.totals}", f"desk's totals: {case['totals']}"]
@@ -203,6 +206,7 @@ def compares_all(cpus, folder, program):
     print("{tables} tables ({empty} without a row) with {rows} rows,".format_map(counts), end=" ")
     print("{lists} lists with {latencies} latencies, {refusals} refusals;".format_map(counts), end=" ")
     print(f"{counts['known']} known differences")
+    print("{same} of {plain} rows of triggers without a variable are the same byte by byte".format_map(counts))
 
 
 def main():
