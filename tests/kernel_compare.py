@@ -96,7 +96,7 @@ def compares(case, trigger, group, events, cpus):
     """One case that both sides took."""
     desk = read_table(case["answer"], trigger.keys)
     counts.update(tables=1, rows=len(desk.rows), empty=not desk.rows)
-    if not trigger.own:
+    if not trigger.own and "known" not in case:
         lines = [{line for line in side if line.startswith("{ ")} for side in (case["block"], case["answer"])]
         counts.update(plain=len(lines[1]), same=len(lines[0] & lines[1]))
     what, lines = differs(case, trigger, desk)
