@@ -99,6 +99,13 @@ KNOWN = [
     ("order", "a name that is a key and a value sorts by the value", WAKING, "hist:keys=prio:vals=prio:sort=prio" + JOB),
 ]
 
+# The kernel finds no variable of the trigger itself that is made by an expression.
+READER = [
+    {"event": WAKING, "text": "hist:keys=pid:tv=common_timestamp.usecs" + JOB},
+    {"event": SWITCH, "text": "hist:keys=next_pid:vals=$own:own=common_timestamp.usecs-$tv" + TO},
+]
+READER[1] |= {"known": "kernel refuses", "why": "`vals=$own` of a reader"}
+
 # With several CPUs; the number of the only one is 0.
 KNOWN_ON_MORE = [
     ("rows", "`common_cpu & N` never holds", WAKING, "hist:keys=common_cpu" + JOB + " && common_cpu & 1"),
@@ -138,5 +145,6 @@ def fixed(cpus):
         yield [dict(zip(("event", "text", "saver"), case)) for case in group]
     for known, why, event, text in KNOWN + (KNOWN_ON_MORE if cpus > 1 else []):
         yield [{"event": event, "text": text, "known": known, "why": why}]
+    yield READER
     for event, text in FAULTS:
         yield [{"event": event, "text": text, "known": "both refuse", "why": ""}]
