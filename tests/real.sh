@@ -137,7 +137,6 @@ compare() {
 import sys
 
 
-
 def parts(name):
     """The outputs of the commands, each as a list of lines."""
     told = [[]]

@@ -123,6 +123,12 @@ refused 5: cpu 2
 refused 5: cpu 3'
 printf '%s\n' 'a 1 [000] 1.000000: x:' 'hello' >"$folder/bad"
 loads bad_perf 1 'from-perf: line 2: *: hello' "$kept" "$tools/from-perf" "$folder/bad"
+# Of a task that is gone perf has no name and no number; its last switch has both.
+switch='sched_switch: prev_comm=gone a prev_pid=529 prev_prio=115 prev_state=X ==> next_comm=c next_pid=3 next_prio=4'
+printf '%s\n' "             :-1    -1 [000]     8.000000499:     sched:$switch" >"$folder/gone"
+loads gone_task 0 "" "${kept/a-1 \[000\] 1.000000:/gone a-529 [000] 8.000000: $switch}" "$tools/from-perf" "$folder/gone"
+printf '%s\n' 'a 1 [000] 1.000000: x:' ':-1 -1 [000] 1.000000: y: z=1' >"$folder/bad"
+loads gone_perf 1 'from-perf: line 2: perf knows no task of this event: :-1 *' "$kept" "$tools/from-perf" "$folder/bad"
 printf '%s\n' 'a-1 [000] 1.000000: x:' 'b-2 [000] 1.000000: sched_switch: b:2 [120] S ==> c:3 [120]' >"$folder/bad"
 loads bad_trace_cmd 1 'from-trace-cmd: line 2: the fields of sched_switch *report it with -N: b-2 *' "$kept" \
     "$tools/from-trace-cmd" "$folder/bad"
