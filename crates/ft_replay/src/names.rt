@@ -24,7 +24,7 @@ pub struct Names {
 
 impl Names {
     /// The names on which some trigger is.
-    pub fn of(triggers: &BTreeMap<u32, Trigger>) -> Names
+    pub(crate) fn of(triggers: &BTreeMap<u32, Trigger>) -> Names
         ensures { (name : Name) → has_name result name ≡ is_on (seen nat_cmp triggers.now) name }
     {
         Names {
@@ -50,7 +50,7 @@ impl Names {
     }
 
     /// Whether there is none.
-    pub fn are_none(self) -> bool
+    pub(crate) fn are_none(self) -> bool
         ensures { IsTrue result → (name : Name) → has_name self name ≡ false }
     {
         match (
@@ -66,7 +66,7 @@ impl Names {
     }
 
     /// Whether the name is among them.
-    pub fn has(self, name: Name) -> bool
+    pub(crate) fn has(self, name: Name) -> bool
         ensures { result ≡ has_name self name }
     {
         match name {
