@@ -1,5 +1,5 @@
 use Rattle.ft_filter.proofs.NumberForms.{number_forms, number_tokens}
-use Rattle.ft_filter.proofs.tokens.numbers_of_words.Goals as goal
+use Rattle.ft_filter.proofs.laws.numbers_of_words.Goals as goal
 
 pub returns-clause-word : goal.returns-clause-word
 returns-clause-word c = number_forms

@@ -1,5 +1,5 @@
 -- What the steps of reading give: an answer, or want of memory (our own choice).
-use Rattle.std.specs.Prelude.{◌≡◌, ◌⊎◌, List, ℕ, Result, Ok, Err, take, length}
+use Rattle.std.specs.Prelude.{◌≡◌, ◌⊎◌, List, ℕ, Result, Ok, Err}
 use Rattle.ft_event.specs.declared.event.Name.{Name}
 use Rattle.ft_filter.specs.declared.fault.FilterFault.{FilterFault}
 use Rattle.ft_filter.specs.declared.fault.FilterFault.TheVariants.{Memory}
@@ -31,7 +31,3 @@ GivesTree R (Err fault) = (fault ≡ Memory) ⊎ R (Stop fault)
 -- a first operand with those behind it (our own choice)
 abbrev pub GoesOn : Name → ℕ → Joint → ℕ → Tree → List ℕ → Read Tree → Type 0
 GoesOn event whole joint room tree rest read = (more : Read Trees) × Goes event whole joint room rest more × (read ≡ made (joined joint tree) more)
-
--- the text begins with the front (our own choice)
-abbrev pub IsFront : List ℕ → List ℕ → Type 0
-IsFront front text = take (length front) text ≡ front

@@ -1,5 +1,5 @@
 use Rattle.ft_filter.proofs.WordCuts.{gaps, names, operators, quoted_texts}
-use Rattle.ft_filter.proofs.tokens.words_of_texts.Goals as goal
+use Rattle.ft_filter.proofs.laws.words_of_texts.Goals as goal
 
 pub returns-clause-gap : goal.returns-clause-gap
 returns-clause-gap c = gaps
