@@ -1,5 +1,5 @@
 use Rattle.ft_hist.proofs.PowerLemmas.{log2_of_reached, log2_of_least}
-use Rattle.ft_hist.proofs.hitting.powers.Goals as goal
+use Rattle.ft_hist.proofs.laws.powers.Goals as goal
 
 pub returns-clause-reached : goal.returns-clause-reached
 returns-clause-reached c = log2_of_reached
