@@ -1,2 +1,4 @@
--- Words of private functions, which nobody needs who believes the public clauses.
-pub mod Rows
+-- Words of private functions, beside what the public clauses say.
+pub mod Fronts
+pub mod Steps
+pub mod Texts

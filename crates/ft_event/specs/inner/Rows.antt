@@ -1,7 +1,0 @@
--- Rows of the table of fields, as the code holds them (our own choice).
-use Rattle.ft_event.specs.Fields.{Row}
-use Rattle.ft_event.specs.declared.field.Row as declared_row
-
--- the row that a `Row` of the code says (our own choice)
-abbrev pub row_text : declared_row.Row → Row
-row_text r = record { name = r.name.now; owner = r.owner; kind = r.kind }
