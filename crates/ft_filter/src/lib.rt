@@ -1,9 +1,9 @@
 //! Filters of events, as they stand behind a trigger: reading them, writing them, and testing
 //! events.
 //!
-//! A filter compares fields of one event with numbers, texts and globs, joined by `&&`, `||`, `!` and
-//! parentheses. What its text is read as, its first fault and where it is, and which events pass, are
-//! functions of the text and of the tree; its canonical text reads as the same tree again.
+//! A filter compares fields of one event with numbers, texts and globs, joined by `&&`, `||`, `!`
+//! and parentheses. What its text is read as, its first fault and where it is, and which events
+//! pass, are functions of the text and of the tree; its canonical text reads as the same tree.
 //!
 //! ```ignore
 //! let text = b"prio < 100 && comm ~ \"kworker*\"";

@@ -1,8 +1,8 @@
 //! Globs: patterns with `*`, `?` and classes of bytes, and which texts they match.
 //!
-//! `*` matches any run of bytes, `?` one byte, a class such as `[a-c]` or `[!a-c]` one byte that it has
-//! or has not, and any other byte itself; a glob matches a whole text or not at all. Which patterns
-//! are globs, and what each matches, is said by the items that a pattern reads as.
+//! `*` matches any run of bytes, `?` one byte, a class such as `[a-c]` or `[!a-c]` one byte that
+//! it has or has not, and any other byte itself; a glob matches a whole text or not at all. Which
+//! patterns are globs, and what each matches, is said by the items that a pattern reads as.
 //!
 //! ```ignore
 //! let pattern = b"a[!b-d]*";

@@ -1,10 +1,10 @@
 //! Hist triggers: their parts, their canonical text, what they count events under, and whether the
 //! keys of two match. Reading their texts stands above.
 //!
-//! A trigger belongs to one event name. It has one to three keys, which are fields of the event with
-//! or without modifiers, up to three values, at most one variable, one or two sort items, a size and
-//! perhaps a filter. An event is a hit if it has the name and passes the filter; its key is the list
-//! of the key fields' values after their modifiers.
+//! A trigger belongs to one event name. It has one to three keys, which are fields of the event
+//! with or without modifiers, up to three values, at most one variable, one or two sort items, a
+//! size and perhaps a filter. An event is a hit if it has the name and passes the filter; its key
+//! is the list of the key fields' values after their modifiers.
 //!
 //! ```ignore
 //! let mut work = Work::new();

@@ -46,10 +46,10 @@ impl Trigger {
     /// A trigger of these parts.
     ///
     /// `ft_trigger::parse` makes triggers of texts by it, and tests make them of parts written out.
-    /// It asks for what makes the parts one trigger: they are within the limits, their items are the
-    /// event's and the trigger's own, and the filter is for the event. There is no test of that to
-    /// call before: a reader has found out all of it part by part, since each fault has its own number
-    /// and place, and could do nothing with a second answer here.
+    /// What it asks for is what makes the parts one trigger: they are within the limits, their
+    /// items are the event's and the trigger's own, and the filter is for the event. No test of
+    /// that is offered: whoever reads a text has found it out part by part, each with a fault and a
+    /// place of its own, and would have no answer left to give here.
     pub fn of(
         event: Name,
         keys: Vec<KeyItem>,
