@@ -5,14 +5,14 @@ use Rattle.std.proofs.lemmas.Option.{none-some}
 use Rattle.std.specs.Result.{result_ok}
 use Rattle.std.specs.Prelude.{codes, if◌then◌else◌}
 use Rattle.ft_event.specs.declared.event.Name.{Name}
-use Rattle.ft_trigger.specs.declared.fault.TriggerFault.{TriggerFault}
-use Rattle.ft_trigger.specs.declared.fault.TriggerFault.TheVariants.{NoField, BadSort}
+use Rattle.ft_head.specs.declared.fault.TriggerFault.{TriggerFault}
+use Rattle.ft_head.specs.declared.fault.TriggerFault.TheVariants.{NoField, BadSort}
 use Rattle.ft_hist.specs.declared.item.KeyItem.{KeyItem}
 use Rattle.ft_hist.specs.declared.item.Item.{Item}
 use Rattle.ft_hist.specs.declared.item.SortBy.{SortBy}
 use Rattle.ft_hist.specs.declared.item.SortItem.{SortItem}
-use Rattle.ft_trigger.specs.Words.{Word}
-use Rattle.ft_trigger.specs.Draft.{◌>>=◌, given_or, is_word, besides_hitcount}
+use Rattle.ft_head.specs.Words.{Word}
+use Rattle.ft_head.specs.Draft.{◌>>=◌, given_or, is_word, besides_hitcount}
 use Rattle.ft_trigger.specs.TriggerIs.{value_item, value_items, sort_by, sorts_of, is_descending}
 
 -- what is still to be read, behind what is read already
