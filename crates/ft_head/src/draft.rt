@@ -52,9 +52,9 @@ pub struct Draft<'a> {
     pub variable: Option<Var>,
 }
 
-/// The kinds of parts, but for variables.
+/// The kinds of parts, but for variables. What a part adds to a draft is defined kind by kind.
 #[derive(Clone, Copy)]
-enum Kind {
+pub enum Kind {
     /// `keys=`
     Keys,
     /// `values=`

@@ -21,7 +21,7 @@ mod lists;
 mod pieces;
 mod words;
 
-pub use draft::{Draft, parts_of};
+pub use draft::{Draft, Kind, parts_of};
 pub use fault::TriggerFault;
 pub use laws::{one_list, one_word, sizes};
 pub use words::Word;

@@ -27,8 +27,8 @@ pub fn reads_again()
     ensures { (event : Name) (text : List ℕ) (hist : Hist) → TriggerIs event text (Ok hist)
         → TriggerIs event (canonical hist) (Ok hist) }
 {
-    ft_filter::one_answer();
-    ft_filter::reads_again();
+    ft_filter::laws::one_answer();
+    ft_filter::laws::reads_again();
 }
 
 /// A law: a trigger that some text gives is of the event that the text is read on, within the
@@ -53,8 +53,8 @@ pub fn refiltered_reads_again()
         → TriggerIs event text (Ok hist)
         → TriggerIs event (canonical (with_filter hist None)) (Ok (with_filter hist None)) }
 {
-    ft_filter::one_answer();
-    ft_filter::reads_again();
+    ft_filter::laws::one_answer();
+    ft_filter::laws::reads_again();
 }
 
 /// A law: every text is a head, and then nothing, or a gap and a tail.
@@ -68,7 +68,7 @@ pub fn one_tail()
         (answer : Result (Option Tree) TriggerFault)
         → TailIs event place tail answer ↔ (filter_in event place tail ≡ answer) }
 {
-    ft_filter::one_answer();
+    ft_filter::laws::one_answer();
 }
 
 /// A law: what a text is, its head tells first. It has each fault of its head, whatever its tail
@@ -83,7 +83,7 @@ pub fn heads_first()
         → TailIs event (length head + length gap) tail answer
         → TriggerIs event text (with_tail hist answer) }
 {
-    ft_filter::one_answer();
+    ft_filter::laws::one_answer();
 }
 
 /// A law: the text of a trigger is a head that begins with `hist:` and is the trigger without its
@@ -92,7 +92,7 @@ pub fn shapes()
     ensures { (event : Name) (text : List ℕ) (hist : Hist) → TriggerIs event text (Ok hist)
         → IsShaped event text hist }
 {
-    ft_filter::one_answer();
+    ft_filter::laws::one_answer();
 }
 
 /// A law: a fault of parts stays, whatever is behind them; a text has it with every tail, and has

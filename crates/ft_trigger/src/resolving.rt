@@ -18,15 +18,12 @@ use ft_hist::{Item, KeyItem, SortBy, SortItem, Var};
 use ft_text::is_same;
 use std::alloc::Global;
 
-/// The own name of a trigger's variable.
+/// The own name of a trigger's variable, where there is one.
+#[tactic(auto, using(crate::proofs::ResolveLemmas::own_named))]
 pub(crate) fn own_name(variable: &Option<Var>) -> Option<&[u8]>
     ensures { option_copied result ≡ own_name variable.now }
 {
-    match variable {
-        Some(Var::Saves(name)) => Some(name.bytes()),
-        Some(Var::Reads { own, source: _ }) => Some(own.bytes()),
-        None => None,
-    }
+    variable.as_ref().map(Var::own_name)
 }
 
 /// What the words of values name, in order, without `hitcount`. A `$name` that is not the
