@@ -35,7 +35,7 @@ impl Model for Trigger {
 
     ghost coded = { hist_code };
 
-    ghost use Rattle.ft_hist.specs.Triggers.{hist_of, IsWhole};
+    ghost use Rattle.ft_hist.specs.inner.Triggers.{hist_of, IsWhole};
 
     ghost view = { hist_of };
 
@@ -44,6 +44,12 @@ impl Model for Trigger {
 
 impl Trigger {
     /// A trigger of these parts.
+    ///
+    /// `ft_trigger::parse` makes triggers of texts by it, and tests make them of parts written out.
+    /// It asks for what makes the parts one trigger: they are within the limits, their items are the
+    /// event's and the trigger's own, and the filter is for the event. There is no test of that to
+    /// call before: a reader has found out all of it part by part, since each fault has its own number
+    /// and place, and could do nothing with a second answer here.
     pub fn of(
         event: Name,
         keys: Vec<KeyItem>,
