@@ -1,5 +1,5 @@
 -- What a line gives, from what its columns say and what was traced (our own choice).
-use Rattle.std.specs.Prelude.{ℕ, Bool, true, false, List, Result, Ok, Err}
+use Rattle.std.specs.Prelude.{ℕ, List, Result, Ok, Err}
 use Rattle.ft_event.specs.declared.event.Body.{Body}
 use Rattle.ft_event.specs.declared.fault.Line.{Line}
 use Rattle.ft_event.specs.declared.fault.Line.TheVariants as lines
@@ -20,12 +20,6 @@ line_behind front body = line_with (body >>= λ b. Ok (traced_with front b))
 -- the switch of these columns with this payload, or else what is wrong with it (our own choice)
 abbrev pub switch_behind : Front → List ℕ → Result Line LineFault
 switch_behind front payload = line_behind front (turn_from payload >>= λ turn. Ok (bodies.Switch turn))
-
--- what a line gives, from whether it holds an event, and that event (our own choice)
-abbrev pub line_given : Result Bool LineFault → Traced → Result Line LineFault
-line_given (Ok true) event = Ok (lines.Event event)
-line_given (Ok false) event = Ok lines.Skip
-line_given (Err fault) event = Err fault
 
 -- what a line with an event gives, from whether it can be read, and that event (our own choice)
 abbrev pub line_put : Result (Unit {0}) LineFault → Traced → Result Line LineFault
