@@ -10,7 +10,7 @@ use Rattle.ft_filter.specs.Canonical.{is_any, is_joined}
 use Rattle.ft_filter.specs.FilterIs.{Rule, Joined, Operand, below, made, closed, joined, most_open, whole_of, Reads, first, first_fails, negated, enclosed, deep, compared, Goes, ended, another, another_fails, FilterIs}
 use Rattle.ft_filter.specs.Shape.{HasTwo, level_if, levels, most_levels}
 use Rattle.ft_filter.specs.Predicate.{Read, Found, Stop, place, pred_at}
-use Rattle.ft_filter.specs.Tokens.{skip}
+use Rattle.ft_tokens.specs.Tokens.{skip}
 use Rattle.ft_filter.specs.Tree.{Tree, Trees, Any, All, Not, Test, End, More}
 use Rattle.ft_filter.proofs.Preds.{PredFits, pred_fits}
 

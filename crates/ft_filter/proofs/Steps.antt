@@ -9,7 +9,7 @@ use Rattle.ft_filter.specs.declared.fault.FilterFault.TheVariants.{Memory, Synta
 use Rattle.ft_filter.specs.declared.tree.Joint.{Joint}
 use Rattle.ft_filter.specs.declared.tree.Joint.TheVariants as joints
 use Rattle.ft_filter.specs.declared.reading.Parsed.{Parsed}
-use Rattle.ft_filter.specs.Tokens.{skip}
+use Rattle.ft_tokens.specs.Tokens.{skip}
 use Rattle.ft_filter.specs.Predicate.{Read, Found, Stop, place, pred_at}
 use Rattle.ft_filter.specs.FilterIs.{whole_of, Reads, Goes, Joined, Operand, below, behind_joint, both, made, closed, first, negated, enclosed, deep, compared, ended, another, another_fails}
 use Rattle.ft_filter.specs.inner.Given.{GivesTree, GoesOn}

@@ -15,7 +15,8 @@ use Rattle.ft_filter.specs.declared.tree.Pred.{Pred}
 use Rattle.ft_glob.specs.Glob.{IsGlob}
 use Rattle.ft_filter.specs.Numbers.{IsNumber}
 use Rattle.ft_filter.specs.Predicate.{Read, Found, Stop, place}
-use Rattle.ft_filter.specs.Tokens.{is_gap, begins_name, is_in_name, text_of}
+use Rattle.ft_filter.specs.Operators.{text_of}
+use Rattle.ft_tokens.specs.Tokens.{is_gap, begins_name, is_in_name}
 
 -- ---- words
 
