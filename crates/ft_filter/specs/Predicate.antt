@@ -4,6 +4,8 @@ use Rattle.std.specs.List.{find}
 use Rattle.ft_event.specs.declared.event.Name.{Name}
 use Rattle.ft_event.specs.declared.field.Field.{Field}
 use Rattle.ft_event.specs.Fields.{is_named, all_fields, is_text}
+use Rattle.ft_tokens.specs.Ranged.{fits}
+use Rattle.ft_tokens.specs.Tokens.{skip, name_at, is_quote, quoted_at, number_at}
 use Rattle.ft_filter.specs.declared.fault.FilterFault.{FilterFault}
 use Rattle.ft_filter.specs.declared.fault.FilterFault.TheVariants.{Syntax, NoField, WrongKind, BadGlob, NumberRange}
 use Rattle.ft_filter.specs.declared.tree.Op.{Op}
@@ -12,9 +14,7 @@ use Rattle.ft_filter.specs.declared.tree.Literal.{Literal}
 use Rattle.ft_filter.specs.declared.tree.Literal.TheVariants as literals
 use Rattle.ft_filter.specs.declared.tree.Pred.{Pred}
 use Rattle.ft_filter.specs.Operators.{op_at}
-use Rattle.ft_tokens.specs.Tokens.{skip, name_at, is_quote, quoted_at, number_at}
 use Rattle.ft_glob.specs.Matching.{is_glob}
-use Rattle.ft_tokens.specs.Ranged.{fits}
 
 -- what is read: a thing and the text behind it, or the first fault (our own choice)
 pub data Read (A : Type 0) : Type 0 where
