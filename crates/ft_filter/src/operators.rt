@@ -3,9 +3,9 @@
 ghost use Rattle.std.specs.Prelude.{◌≡◌, Some};
 ghost use Rattle.std.specs.Option.{option_map};
 ghost use Rattle.std.specs.List.{find};
+ghost use Rattle.ft_filter.specs.Operators.{op_at, begins, all_ops};
 
 use crate::tree::Op;
-ghost use Rattle.ft_filter.specs.Operators.{op_at, begins, all_ops};
 
 /// Every operator, the longer ones first.
 const OPS: [Op; 8] = [
