@@ -17,9 +17,9 @@ use crate::lists::{keys_of, sort_of, value_words};
 use crate::pieces::{Piece, Pieces};
 use crate::words::{Word, is_name, number_in};
 use ft_event::{Name, field_named};
-use ft_filter::name_at;
 use ft_hist::{KeyItem, Label, Var};
 use ft_text::is_same;
+use ft_tokens::name_at;
 use std::alloc::Global;
 use std::marker::Model;
 

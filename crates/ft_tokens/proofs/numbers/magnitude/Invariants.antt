@@ -1,6 +1,6 @@
 use Rattle.std.proofs.Common.{◌≡◌, ◌≤◌, take}
 use Rattle.std.specs.Str.Parse.{digits_value}
-use Rattle.ft_filter.proofs.tokens.magnitude.Given as goal
+use Rattle.ft_tokens.proofs.numbers.magnitude.Given as goal
 
 abbrev pub invariant-loop-byte : goal.invariant-loop-byte
 invariant-loop-byte l = record {

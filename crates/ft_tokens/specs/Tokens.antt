@@ -1,10 +1,8 @@
--- The words of a filter's text: fields, operators, numbers, quoted texts (kernel: events.rst, event filtering).
+-- The words of filters and triggers: gaps, names, quoted texts, numbers (kernel: events.rst, event filtering).
 use Rattle.std.specs.Prelude.{ℕ, ◌+◌, Bool, not, ◌&&◌, ◌||◌, ◌==◌, List, [], ◌∷◌, length, take, drop, slice_index, Option, Some, None, option_map, if◌then◌else◌, codes, ℤ, pos, neg_ℤ}
 use Rattle.std.specs.Char.{is_ascii_alphabetic, is_ascii_alphanumeric, is_ascii_digit, is_ascii_hexdigit}
-use Rattle.std.specs.List.{prefix_len, list_all, starts_with, find}
+use Rattle.std.specs.List.{prefix_len, list_all, starts_with}
 use Rattle.std.specs.Str.Parse.{digits_value}
-use Rattle.ft_filter.specs.declared.tree.Op.{Op}
-use Rattle.ft_filter.specs.declared.tree.Op.TheVariants as ops
 
 -- a space or a tab (our own choice)
 abbrev pub is_gap : ℕ → Bool
@@ -29,31 +27,6 @@ run_at test text = (take (prefix_len test text) text, drop (prefix_len test text
 -- the name that the text begins with, and what is behind it (kernel: events.rst, event filtering)
 unfoldable pub name_at : List ℕ → Option (List ℕ × List ℕ)
 name_at text = if begins_name (slice_index text 0) then Some (run_at is_in_name text) else None
-
--- how a filter writes the operator (kernel: events.rst, event filtering)
-abbrev pub text_of : Op → List ℕ
-text_of ops.Eq = codes "=="
-text_of ops.Ne = codes "!="
-text_of ops.Le = codes "<="
-text_of ops.Ge = codes ">="
-text_of ops.Lt = codes "<"
-text_of ops.Gt = codes ">"
-text_of ops.Bits = codes "&"
-text_of ops.Glob = codes "~"
-
--- the operators, the longer ones first (our own choice)
-abbrev pub all_ops : List Op
-all_ops = ops.Eq ∷ ops.Ne ∷ ops.Le ∷ ops.Ge ∷ ops.Lt ∷ ops.Gt ∷ ops.Bits ∷ ops.Glob ∷ []
-
--- the text begins with the operator (our own choice)
-abbrev pub begins : List ℕ → Op → Bool
-begins text op = starts_with ◌==◌ text (text_of op)
-
--- the longest operator that the text begins with, and what is behind it; a `&` before a `&` is none (kernel: events.rst, event filtering; the `&` is our own choice)
-unfoldable pub op_at : List ℕ → Option (Op × List ℕ)
-op_at text =
-    if starts_with ◌==◌ text (codes "&&") then None
-    else option_map (λ op. (op, drop (length (text_of op)) text)) (find (begins text) all_ops)
 
 -- `"` or `'` (kernel: events.rst, event filtering)
 abbrev pub is_quote : ℕ → Bool

@@ -4,7 +4,7 @@ use Rattle.std.proofs.lemmas.Bool.{eq-eqb, ne_eqb}
 use Rattle.std.proofs.lemmas.List.{drop-drop, length-drop}
 use Rattle.std.specs.Prelude.{◌==◌}
 use Rattle.std.specs.List.{prefix_len}
-use Rattle.ft_filter.specs.Tokens.{cut_at}
+use Rattle.ft_tokens.specs.Tokens.{cut_at}
 
 -- the byte stands behind the front, or nowhere
 pub cut_at-some : (mark : ℕ) (text : List ℕ) (n : ℕ) → n ≡ prefix_len (λ byte. not (byte == mark)) text → n ≤ length text → (n ≡ length text → ⊥)

@@ -1,7 +1,7 @@
 use Rattle.std.proofs.Common.{◌≡◌, ◌+◌, ◌-◌, length, drop, take, Some, arith, sym, ap, ◌∙◌}
 use Rattle.std.proofs.lemmas.List.{take_all, length-drop}
-use Rattle.ft_filter.proofs.Quotes.{cut_at-some}
-use Rattle.ft_filter.proofs.tokens.cut_at.Goals as goal
+use Rattle.ft_tokens.proofs.Quotes.{cut_at-some}
+use Rattle.ft_tokens.proofs.words.cut_at.Goals as goal
 
 pub returns : goal.returns
 returns c =

@@ -1,6 +1,6 @@
 use Rattle.std.proofs.Common.{sym, ◌∙◌}
-use Rattle.ft_filter.proofs.Numbers.{decimal_is_hex}
-use Rattle.ft_filter.proofs.tokens.number_of.Goals as goal
+use Rattle.ft_tokens.proofs.Reach.{decimal_is_hex}
+use Rattle.ft_tokens.proofs.numbers.number_of.Goals as goal
 
 pub magnitude-requires-clause-digits : goal.magnitude-requires-clause-digits
 magnitude-requires-clause-digits c = decimal_is_hex c.args.word.now (sym c.is_decimal.ensures ∙ c.if-is_decimal.true)

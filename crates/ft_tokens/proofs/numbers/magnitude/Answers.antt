@@ -1,8 +1,8 @@
 use Rattle.std.proofs.Common.{◌≡◌, ◌+◌, ◌*◌, ◌∙◌, take, arith, sym, ap₂}
 use Rattle.std.proofs.lemmas.Int.Digits.{digits_value_more}
 use Rattle.std.specs.Str.Parse.{digits_value}
-use Rattle.ft_filter.proofs.Numbers.{out_of_reach}
-use Rattle.ft_filter.proofs.tokens.magnitude.Goals as goal
+use Rattle.ft_tokens.proofs.Reach.{out_of_reach}
+use Rattle.ft_tokens.proofs.numbers.magnitude.Goals as goal
 
 pub returns-then-number-from : goal.returns-then-number-from
 returns-then-number-from c =
