@@ -8,12 +8,14 @@ use Rattle.ft_table.specs.Growth.{with_hit}
 use Rattle.ft_table.specs.Tabled.{Tabled, is_in, last_in}
 use Rattle.ft_table.specs.declared.hit.Hit.{Hit}
 use Rattle.ft_table.specs.declared.mark.Mark.{Mark}
-use Rattle.ft_kept.specs.Shelves.{Shelved, OpsChange}
-use Rattle.ft_kept.specs.Switches.{last_is_out, differ, switched, MovesKeys, HasMoved}
+use Rattle.ft_kept.specs.Shelves.{Shelved}
+use Rattle.ft_kept.specs.inner.Edits.{OpsChange}
+use Rattle.ft_kept.specs.inner.Following.{last_is_out, switched, MovesKeys}
+use Rattle.ft_kept.specs.Switches.{differ, HasMoved}
 use Rattle.ft_kept.proofs.Gone.{gone}
 use Rattle.ft_kept.proofs.Grown.{IsGrown, Drops, grown_with, grown_without, hit_follows, keys_moved}
-use Rattle.ft_kept.proofs.saver.put_saver_hit.Goals as goal
-use Rattle.ft_kept.proofs.saver.put_saver_hit.Goals.{Joined-was_in, in-Some, in_default, then-was_in+then-is_in+in_ok-put_op, else-was_in, else-was_in-via-then-was_in+else-is_in, else-was_in-via-else-was_in}
+use Rattle.ft_kept.proofs.saver_comes.put_saver_hit.Goals as goal
+use Rattle.ft_kept.proofs.saver_comes.put_saver_hit.Goals.{Joined-was_in, in-Some, in_default, then-was_in+then-is_in+in_ok-put_op, else-was_in, else-was_in-via-then-was_in+else-is_in, else-was_in-via-else-was_in}
 
 -- where a hit stands
 abbrev mark : Hit → Mark
