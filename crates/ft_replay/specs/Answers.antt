@@ -8,7 +8,7 @@ use Rattle.ft_hist.specs.Canonical.{canonical}
 use Rattle.ft_hist.specs.Hist.{Hist}
 use Rattle.ft_hist.specs.declared.label.Var.{Var}
 use Rattle.ft_hist.specs.declared.label.Var.TheVariants as vars
-use Rattle.ft_table.specs.declared.row.Totals.{Totals}
+use Rattle.ft_rows.specs.declared.row.Totals.{Totals}
 use Rattle.ft_table.specs.Text.{rows_text}
 use Rattle.ft_replay.specs.declared.refused.Latency.{Latency}
 use Rattle.ft_replay.specs.declared.refused.Place.{Place}
