@@ -3,14 +3,15 @@
 ghost use Rattle.std.specs.Prelude.{◌≡◌, IfSome, None};
 ghost use Rattle.std.specs.Option.{is_none};
 ghost use Rattle.ft_hist.specs.Steps.{StepsGrow};
-ghost use Rattle.ft_replay.specs.Costs.{ComesAtCost, GoesAtCost};
+ghost use Rattle.ft_board.specs.inner.ButOneEvent.{ComesAtCost, GoesAtCost, AreKeptWithout};
 ghost use Rattle.ft_replay.specs.Edited.{kept_of};
-ghost use Rattle.ft_board.specs.KeptBeside.{AreKeptOf, AreKeptWithout};
+ghost use Rattle.ft_board.specs.KeptShelves.{AreKeptOf};
 
+use ft_base::{Content, Place};
 use ft_event::Pos;
 use ft_hist::Work;
 use ft_kept::Tables;
-use ft_replay::{Content, Kept, Place};
+use ft_replay::Kept;
 
 /// The event of a place, which is held already, comes to the tables. Where memory runs out, the
 /// tables are given up.

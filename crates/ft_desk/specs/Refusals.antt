@@ -6,8 +6,8 @@ use Rattle.ft_trigger.specs.TriggerFault.{number_of as trigger_number, place_of 
 use Rattle.ft_trigger.specs.declared.fault.TriggerFault.{TriggerFault}
 use Rattle.ft_trigger.specs.declared.fault.TriggerFault.TheVariants as faults
 use Rattle.ft_replay.specs.Refused.{number_of}
-use Rattle.ft_replay.specs.declared.refused.Refused.{Refused}
-use Rattle.ft_replay.specs.declared.refused.Refused.TheVariants.{Memory, NoFile, BadLine, LaneHeld, NoLane, NoEvent, Full, BadTrigger, BadFilter, NoTrigger, InUse, NameTaken, NoVariable, KeyMismatch, TooManyTriggers, BadCommand, NotReading}
+use Rattle.ft_base.specs.declared.refused.Refused.{Refused}
+use Rattle.ft_base.specs.declared.refused.Refused.TheVariants.{Memory, NoFile, BadLine, LaneHeld, NoLane, NoEvent, Full, BadTrigger, BadFilter, NoTrigger, InUse, NameTaken, NoVariable, KeyMismatch, TooManyTriggers, BadCommand, NotReading}
 
 -- where a fault is, in a refusal's line
 abbrev pub place_text : Option ℕ → List ℕ

@@ -2,10 +2,10 @@ use Rattle.std.proofs.Common.{◌≡◌, Option, None, sym, subst, ◌∙◌, ap
 use Rattle.std.specs.FinMap as map
 use Rattle.std.specs.Option.{IfSome}
 use Rattle.ft_kept.specs.Shelves.{Shelves}
-use Rattle.ft_replay.specs.Base.{Base, Triggers}
+use Rattle.ft_base.specs.Base.{Base, Triggers}
 use Rattle.ft_board.specs.KeptShelves.{AreKept}
 use Rattle.ft_replay.specs.Merged.{merged}
-use Rattle.ft_board.specs.ButOne.{AreKeptBut}
+use Rattle.ft_board.specs.inner.ButOneTrigger.{AreKeptBut}
 use Rattle.ft_board.proofs.Alike.{rest_all}
 use Rattle.ft_board.proofs.join.join.Goals as goal
 

@@ -2,9 +2,8 @@ use Rattle.std.proofs.Common.{◌≡◌, Option, None, sym, subst, ◌∙◌, ap
 use Rattle.std.specs.FinMap as map
 use Rattle.std.specs.Option.{IfSome}
 use Rattle.ft_kept.specs.Shelves.{Shelves}
-use Rattle.ft_replay.specs.Base.{Base, Triggers}
-use Rattle.ft_board.specs.KeptBeside.{AreKeptOf}
-use Rattle.ft_board.specs.KeptShelves.{AreKept}
+use Rattle.ft_base.specs.Base.{Base, Triggers}
+use Rattle.ft_board.specs.KeptShelves.{AreKeptOf, AreKept}
 use Rattle.ft_replay.specs.Merged.{merged}
 use Rattle.ft_board.proofs.Alike.{rest_all}
 use Rattle.ft_board.proofs.leave.leave.Goals as goal

@@ -6,8 +6,8 @@ use Rattle.ft_lanes.specs.Held.{Lanes, event_at}
 use Rattle.ft_kept.specs.Repairs as repairs
 use Rattle.ft_kept.specs.Repairs.{EventCanGo, EventHasGone}
 use Rattle.ft_kept.specs.Shelves.{Shelves}
-use Rattle.ft_replay.specs.Base.{Base, Triggers}
-use Rattle.ft_board.specs.KeptBeside.{AreKeptOf}
+use Rattle.ft_base.specs.Base.{Base, Triggers}
+use Rattle.ft_board.specs.KeptShelves.{AreKeptOf}
 use Rattle.ft_board.proofs.FewSteps.{go_cost}
 use Rattle.ft_board.proofs.KeptBoardForms.{all_shelved}
 use Rattle.ft_board.proofs.KeptBoardRepair.{pos_at, go_can, go_kept}
