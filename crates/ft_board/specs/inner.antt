@@ -2,4 +2,5 @@
 pub mod Built
 pub mod ButOneEvent
 pub mod ButOneTrigger
+pub mod Repaired
 pub mod Told

@@ -9,6 +9,7 @@ ghost use Rattle.ft_board.specs.KeptShelves.{AreKeptOf};
 ghost use Rattle.ft_base.specs.OneTrigger.{IsUnread};
 ghost use Rattle.ft_board.specs.inner.ButOneTrigger.{AreKeptBut, AreKeptIdle};
 
+use crate::repair::put_back;
 use ft_base::{Content, role_of};
 use ft_hist::{Trigger, Work};
 use ft_kept::Tables;
@@ -40,13 +41,8 @@ pub(crate) fn join(
         *kept = Some(tables);
         return Kept::Now;
     };
-    match add_trigger(&mut tables, alloc, content, id, trigger, work) {
-        Ok(()) => {
-            *kept = Some(tables);
-            Kept::Now
-        }
-        Err(_) => Kept::Later,
-    }
+    let repaired = add_trigger(&mut tables, alloc, content, id, trigger, work);
+    put_back(kept, tables, repaired)
 }
 
 /// Gives a trigger a shelf, and lets the events come to it. Refused for memory, and then the tables

@@ -9,6 +9,7 @@ ghost use Rattle.ft_board.specs.KeptShelves.{AreKeptOf};
 ghost use Rattle.ft_base.specs.OneTrigger.{IsUnread};
 ghost use Rattle.ft_board.specs.inner.ButOneTrigger.{AreKeptBut, AreKeptIdle};
 
+use crate::repair::put_back;
 use ft_base::{Content, is_reader};
 use ft_hist::{Trigger, Work};
 use ft_kept::Tables;
@@ -40,13 +41,8 @@ pub(crate) fn leave(
         *kept = Some(tables);
         return Kept::Now;
     };
-    match take_trigger(&mut tables, alloc, content, id, trigger, work) {
-        Ok(()) => {
-            *kept = Some(tables);
-            Kept::Now
-        }
-        Err(_) => Kept::Later,
-    }
+    let repaired = take_trigger(&mut tables, alloc, content, id, trigger, work);
+    put_back(kept, tables, repaired)
 }
 
 /// Takes the shelf of a trigger away. From a reader its events go before, since what it read stands
