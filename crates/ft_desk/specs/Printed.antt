@@ -1,6 +1,6 @@
 -- What an accepted or refused command prints. All of it is our own choice.
 use Rattle.std.specs.Prelude.{List, ℕ, Result, Ok, Err}
-use Rattle.ft_replay.specs.declared.refused.Refused.{Refused}
+use Rattle.ft_base.specs.declared.refused.Refused.{Refused}
 use Rattle.ft_desk.specs.Refusals.{refused_text}
 
 -- what an accepted command gives, as text shows it; or the line of its refusal

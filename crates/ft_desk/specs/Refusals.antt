@@ -5,9 +5,9 @@ use Rattle.ft_filter.specs.FilterFault.{number_of as filter_number, place_of as 
 use Rattle.ft_trigger.specs.TriggerFault.{number_of as trigger_number, place_of as trigger_place}
 use Rattle.ft_head.specs.declared.fault.TriggerFault.{TriggerFault}
 use Rattle.ft_head.specs.declared.fault.TriggerFault.TheVariants as faults
-use Rattle.ft_replay.specs.Refused.{number_of}
-use Rattle.ft_replay.specs.declared.refused.Refused.{Refused}
-use Rattle.ft_replay.specs.declared.refused.Refused.TheVariants.{Memory, NoFile, BadLine, LaneHeld, NoLane, NoEvent, Full, BadTrigger, BadFilter, NoTrigger, InUse, NameTaken, NoVariable, KeyMismatch, TooManyTriggers, BadCommand, NotReading}
+use Rattle.ft_base.specs.Refused.{number_of}
+use Rattle.ft_base.specs.declared.refused.Refused.{Refused}
+use Rattle.ft_base.specs.declared.refused.Refused.TheVariants.{Memory, NoFile, BadLine, LaneHeld, NoLane, NoEvent, Full, BadTrigger, BadFilter, NoTrigger, InUse, NameTaken, NoVariable, KeyMismatch, TooManyTriggers, BadCommand, NotReading}
 
 -- where a fault is, in a refusal's line
 abbrev pub place_text : Option ℕ → List ℕ
