@@ -11,5 +11,5 @@ use Rattle.ft_rows.proofs.sorting.sort_rows.Goals as goal
 pub returns : goal.returns
 returns c =
     let sort = c.args.sort.now in
-    in_order-alone sort c.args.rows.now.items c.sort_unstable_by.new.self.now c.requires c.sort_unstable_by.ensures.permutation
+    in_order-alone sort c.args.rows.now.items c.sort_unstable_by.new.self.items c.requires c.sort_unstable_by.ensures.permutation
     (c.sort_unstable_by.ensures.sorted (λ (a b : Counted). is_lt (row_cmp sort a b)) (ranks_by (row_cmp_total sort) (λ (row : Counted). row)) (always_returns_same _ (λ a r. is_lt r ≡ is_lt (row_cmp sort a.0.now a.1.0.now)) _ (λ a r q k. search rules)))
