@@ -56,7 +56,11 @@ pub(crate) fn settle(
         None => Ok(()),
         Some(saved) => {
             let read = Some(saved.pos);
-            shelf.put_hit(hit_with(trigger, event, at.pos, variable.key, read), read, work)
+            shelf.put_hit(
+                hit_with(trigger, event, at.pos, variable.key, read),
+                read,
+                work,
+            )
         }
     }
 }
