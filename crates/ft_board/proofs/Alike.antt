@@ -27,9 +27,10 @@ use Rattle.ft_pairs.specs.Variables.{variable_cmp, variable_same}
 use Rattle.ft_pairs.specs.declared.role.Role.{Role}
 use Rattle.ft_pairs.specs.declared.role.Role.TheVariants.{Plain, Saves, Reads}
 use Rattle.ft_pairs.specs.declared.role.Variable.{Variable}
-use Rattle.ft_replay.specs.Base.{Triggers, Events}
+use Rattle.ft_base.specs.Base.{Triggers}
+use Rattle.ft_replay.specs.Merged.{Events}
 use Rattle.ft_board.specs.KeptShelves.{HasItsShelf}
-use Rattle.ft_replay.specs.Roles.{role_of, role_at}
+use Rattle.ft_base.specs.Roles.{role_of, role_at}
 use Rattle.ft_board.proofs.KeptBoardActs.{act_in}
 
 -- ---- acts

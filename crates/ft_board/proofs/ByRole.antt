@@ -10,9 +10,10 @@ use Rattle.ft_hist.specs.Hit.{hit}
 use Rattle.ft_hist.specs.declared.key.Part.{Part}
 use Rattle.ft_table.specs.Values.{values_at}
 use Rattle.ft_pairs.specs.declared.role.Role.{Role}
-use Rattle.ft_replay.specs.Base.{Triggers, Events}
+use Rattle.ft_base.specs.Base.{Triggers}
+use Rattle.ft_replay.specs.Merged.{Events}
 use Rattle.ft_replay.specs.Hits.{TriggerHit, found_at, hit_at, read_as}
-use Rattle.ft_replay.specs.Roles.{role_of}
+use Rattle.ft_base.specs.Roles.{role_of}
 
 module _ (triggers : Triggers) (events : Events) (id : ℕ) (at : Pos) where
   -- a hit of the trigger there, with what it read

@@ -14,14 +14,15 @@ use Rattle.ft_lanes.specs.Edits.{lane_or_new, lanes_with, lanes_without}
 use Rattle.ft_lanes.specs.Held.{event_at}
 use Rattle.ft_maps.specs.Entries.{get-remove_same}
 use Rattle.ft_table.specs.Growth.{InGrows, RowsGrow, TotalsGrow}
-use Rattle.ft_replay.specs.declared.refused.Place.{Place}
-use Rattle.ft_replay.specs.After.{after_insert}
-use Rattle.ft_replay.specs.Base.{Base, Triggers, Events}
-use Rattle.ft_replay.specs.Costs.{ComesAtCost, CostsOf, GoesAtCost, SaversStay, merged_without, pos_at}
-use Rattle.ft_board.specs.KeptBeside.{AreKeptOf, AreKeptWithout}
-use Rattle.ft_replay.specs.Merged.{merged}
-use Rattle.ft_replay.specs.Reachable.{IsReachable}
-use Rattle.ft_replay.proofs.Cases.{insert-gives}
+use Rattle.ft_base.specs.declared.refused.Place.{Place}
+use Rattle.ft_base.specs.After.{after_insert}
+use Rattle.ft_base.specs.Base.{Base, Triggers}
+use Rattle.ft_board.specs.inner.ButOneEvent.{ComesAtCost, GoesAtCost, merged_without, pos_at, AreKeptWithout}
+use Rattle.ft_replay.specs.Costs.{CostsOf, SaversStay}
+use Rattle.ft_board.specs.KeptShelves.{AreKeptOf}
+use Rattle.ft_replay.specs.Merged.{Events, merged}
+use Rattle.ft_base.specs.Reachable.{IsReachable}
+use Rattle.ft_base.proofs.Cases.{insert-gives}
 use Rattle.ft_board.proofs.KeptBoardLanes.{absent_before, merged_one_more, placed_there, put_back, merged_one_less, new_line_has}
 use Rattle.ft_board.proofs.KeptEntries.{OneSource}
 use Rattle.ft_board.proofs.SaverHits.{taken_again}

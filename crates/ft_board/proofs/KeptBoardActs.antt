@@ -15,8 +15,8 @@ use Rattle.ft_hist.specs.Hit.{hit, key_of, passes_filter, same_name}
 use Rattle.ft_hist.specs.declared.key.Part.{Part}
 use Rattle.ft_lanes.specs.Held.{Lanes, event_at}
 use Rattle.ft_kept.specs.Acts.{AreHeld, acts_of}
-use Rattle.ft_replay.specs.Base.{Triggers, Events}
-use Rattle.ft_replay.specs.Merged.{merged, held_at}
+use Rattle.ft_base.specs.Base.{Triggers}
+use Rattle.ft_replay.specs.Merged.{Events, merged, held_at}
 use Rattle.ft_replay.specs.Named.{is_on, is_named, named}
 use Rattle.ft_replay.proofs.Placing.{get-named}
 use Rattle.ft_replay.proofs.Places.{merged_at}

@@ -29,13 +29,13 @@ use Rattle.ft_pairs.specs.ByKey.{ops_of}
 use Rattle.ft_pairs.specs.declared.at.At.{At}
 use Rattle.ft_table.specs.Tabled.{Tabled}
 use Rattle.ft_table.specs.declared.mark.Mark.{Mark}
-use Rattle.ft_replay.specs.Base.{Triggers, Events}
-use Rattle.ft_board.specs.KeptBeside.{HasNewShelf, AreNew}
+use Rattle.ft_base.specs.Base.{Triggers}
+use Rattle.ft_board.specs.inner.Built.{HasNewShelf, AreNew}
 use Rattle.ft_board.specs.KeptShelves.{HasItsShelf, AreKept}
-use Rattle.ft_replay.specs.Merged.{merged, merged_with, held_at}
+use Rattle.ft_replay.specs.Merged.{Events, merged, merged_with, held_at}
 use Rattle.ft_replay.specs.Named.{named}
-use Rattle.ft_replay.specs.Roles.{role_of, role_at}
-use Rattle.ft_replay.proofs.Apart.{above-is, all_of, all_map, all_both, entries_found}
+use Rattle.ft_base.specs.Roles.{role_of, role_at}
+use Rattle.ft_base.proofs.Apart.{above-is, all_of, all_map, all_both, entries_found}
 use Rattle.ft_replay.proofs.Earlier.{all_above}
 use Rattle.ft_board.proofs.KeptBoardActs.{act_in, AllHeld, merged_held, acts_held, named_acts}
 use Rattle.ft_board.proofs.KeptBoardForms.{shelves_stay, by_shelves, by_triggers}

@@ -13,11 +13,11 @@ use Rattle.ft_kept.specs.Shelves.{Shelved, Shelves, Kept, FormStays, FormsStay, 
 use Rattle.ft_table.specs.Values.{values_by}
 use Rattle.ft_pairs.specs.declared.role.Role.{Role}
 use Rattle.ft_pairs.specs.declared.role.Role.TheVariants.{Plain, Saves, Reads}
-use Rattle.ft_replay.proofs.Savers.{reads_of}
-use Rattle.ft_replay.specs.Base.{Triggers}
+use Rattle.ft_base.proofs.Savers.{reads_of}
+use Rattle.ft_base.specs.Base.{Triggers}
 use Rattle.ft_board.specs.KeptShelves.{HasItsShelf}
-use Rattle.ft_replay.specs.Reachable.{HasSaver, HasSavers}
-use Rattle.ft_replay.specs.Roles.{role_of, role_at, saver_of}
+use Rattle.ft_base.specs.Reachable.{HasSaver, HasSavers}
+use Rattle.ft_base.specs.Roles.{role_of, role_at, saver_of}
 
 -- each attached trigger has its shelf
 abbrev pub HaveShelves : Triggers → Shelves → Type 0

@@ -13,9 +13,9 @@ use Rattle.ft_event.specs.declared.pos.Pos.{Pos}
 use Rattle.ft_lanes.specs.Edits.{new_lane, lane_or_new, lane_with, lanes_with, lane_without, lanes_without}
 use Rattle.ft_lanes.specs.Held.{Lane, Lanes, event_at}
 use Rattle.ft_maps.specs.Entries.{same_from_tie}
-use Rattle.ft_replay.specs.Base.{Base, Events}
-use Rattle.ft_replay.specs.Merged.{merged, held_at}
-use Rattle.ft_replay.specs.Reachable.{IsReachable}
+use Rattle.ft_base.specs.Base.{Base}
+use Rattle.ft_replay.specs.Merged.{Events, merged, held_at}
+use Rattle.ft_base.specs.Reachable.{IsReachable}
 use Rattle.ft_replay.proofs.Places.{merged_at, tied_then}
 
 tie_nat : (a b : ℕ) → eq_by_cmp nat_cmp a b ≡ true → a ≡ b

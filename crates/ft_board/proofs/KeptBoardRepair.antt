@@ -14,14 +14,14 @@ use Rattle.ft_table.specs.Values.{values_by}
 use Rattle.ft_lanes.specs.Edits.{lane_or_new, lanes_with, lanes_without}
 use Rattle.ft_lanes.specs.Held.{event_at}
 use Rattle.ft_maps.specs.Entries.{get-remove_same}
-use Rattle.ft_replay.specs.declared.refused.Place.{Place}
-use Rattle.ft_replay.specs.After.{after_insert}
-use Rattle.ft_replay.specs.Base.{Base, Events}
-use Rattle.ft_board.specs.KeptBeside.{AreKeptOf, AreKeptWithout}
-use Rattle.ft_board.specs.KeptShelves.{AreKept}
-use Rattle.ft_replay.specs.Merged.{merged}
-use Rattle.ft_replay.specs.Reachable.{IsReachable}
-use Rattle.ft_replay.proofs.Cases.{insert-gives}
+use Rattle.ft_base.specs.declared.refused.Place.{Place}
+use Rattle.ft_base.specs.After.{after_insert}
+use Rattle.ft_base.specs.Base.{Base}
+use Rattle.ft_board.specs.KeptShelves.{AreKeptOf, AreKept}
+use Rattle.ft_board.specs.inner.ButOneEvent.{AreKeptWithout}
+use Rattle.ft_replay.specs.Merged.{Events, merged}
+use Rattle.ft_base.specs.Reachable.{IsReachable}
+use Rattle.ft_base.proofs.Cases.{insert-gives}
 use Rattle.ft_board.proofs.KeptBoardActs.{AllHeld, merged_held, acts_held}
 use Rattle.ft_board.proofs.KeptBoardBuilt.{kept_with}
 use Rattle.ft_board.proofs.KeptBoardForms.{shelves_stay, by_shelves, by_triggers}

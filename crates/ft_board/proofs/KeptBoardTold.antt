@@ -6,15 +6,15 @@ use Rattle.std.specs.FinMap as map
 use Rattle.ft_hist.specs.Hist.{Hist}
 use Rattle.ft_hist.specs.Steps.{Steps}
 use Rattle.ft_kept.specs.Shelves.{Shelves}
-use Rattle.ft_table.specs.declared.row.Totals.{Totals}
-use Rattle.ft_replay.specs.declared.refused.Latency.{Latency}
-use Rattle.ft_replay.specs.declared.refused.Refused.{Refused}
-use Rattle.ft_replay.specs.declared.refused.Refused.TheVariants.{Memory, NoTrigger, NotReading}
+use Rattle.ft_rows.specs.declared.row.Totals.{Totals}
+use Rattle.ft_replay.specs.declared.pair.Latency.{Latency}
+use Rattle.ft_base.specs.declared.refused.Refused.{Refused}
+use Rattle.ft_base.specs.declared.refused.Refused.TheVariants.{Memory, NoTrigger, NotReading}
 use Rattle.ft_replay.specs.Answers.{hist_text, totals, latencies, tally_at, tally_text, latency_of, latencies_as}
-use Rattle.ft_replay.specs.Base.{Base}
+use Rattle.ft_base.specs.Base.{Base}
 use Rattle.ft_replay.specs.Edited.{AnswerIs, AnswerKeeps}
 use Rattle.ft_replay.specs.Merged.{merged}
-use Rattle.ft_replay.specs.OnShelves.{is_reader}
+use Rattle.ft_base.specs.Roles.{is_reader}
 use Rattle.ft_replay.specs.Shown.{Shown}
 use Rattle.ft_replay.specs.Tally.{Tally, totals_in}
 use Rattle.ft_board.proofs.ToldSteps.{kept_shown}

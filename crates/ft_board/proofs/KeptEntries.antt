@@ -23,12 +23,13 @@ use Rattle.ft_pairs.specs.Variables.{variable_cmp}
 use Rattle.ft_pairs.specs.declared.role.Role.{Role}
 use Rattle.ft_pairs.specs.declared.role.Role.TheVariants.{Plain, Saves, Reads}
 use Rattle.ft_pairs.specs.declared.role.Variable.{Variable}
-use Rattle.ft_replay.specs.Base.{Triggers, Events}
+use Rattle.ft_base.specs.Base.{Triggers}
+use Rattle.ft_replay.specs.Merged.{Events}
 use Rattle.ft_replay.specs.Hits.{TriggerHit, found_at, hit_at}
-use Rattle.ft_replay.specs.Kept.{values_found, saving_found}
+use Rattle.ft_replay.specs.Found.{values_found, saving_found}
 use Rattle.ft_replay.specs.Operations.{is_admitted, ops_on}
 use Rattle.ft_replay.specs.Replay.{replay}
-use Rattle.ft_replay.specs.Roles.{role_of, role_at}
+use Rattle.ft_base.specs.Roles.{role_of, role_at}
 use Rattle.ft_board.proofs.ByRole.{hit_with, no_event, no_key, by_role}
 use Rattle.ft_replay.proofs.Matched.{matched}
 

@@ -20,14 +20,14 @@ use Rattle.ft_table.specs.Hits.{Hits, same_key}
 use Rattle.ft_table.specs.Rows.{AllFit}
 use Rattle.ft_table.specs.Tabled.{Tabled, is_in}
 use Rattle.ft_table.specs.declared.mark.Mark.{Mark}
-use Rattle.ft_replay.specs.Base.{Triggers, Events}
-use Rattle.ft_replay.specs.Counting.{table_for}
-use Rattle.ft_replay.specs.Hits.{TriggerHit, hit_at, hits_of}
-use Rattle.ft_replay.specs.Kept.{values_found, saving_found, pairs_in}
+use Rattle.ft_base.specs.Base.{Triggers}
+use Rattle.ft_replay.specs.Merged.{Events}
+use Rattle.ft_replay.specs.Hits.{TriggerHit, hit_at, hits_of, table_for}
+use Rattle.ft_replay.specs.Found.{values_found, saving_found, pairs_in}
 use Rattle.ft_board.specs.KeptShelves.{AreKept, HasItsShelf, IsShelfOf}
 use Rattle.ft_replay.specs.Operations.{is_admitted}
 use Rattle.ft_replay.specs.Replay.{replay}
-use Rattle.ft_replay.specs.Roles.{role_at}
+use Rattle.ft_base.specs.Roles.{role_at}
 use Rattle.ft_replay.specs.Tally.{tally_of}
 use Rattle.ft_board.proofs.ByRole.{key_fits}
 use Rattle.ft_board.proofs.KeptEntries.{OneSource, AdmitsAsReplayed, IsReplayedAt, role-is, ops-are, as-replayed}

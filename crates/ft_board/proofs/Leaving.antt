@@ -18,14 +18,13 @@ use Rattle.ft_table.specs.Values.{values_by}
 use Rattle.ft_pairs.specs.declared.role.Role.{Role}
 use Rattle.ft_pairs.specs.declared.role.Role.TheVariants.{Plain, Saves, Reads}
 use Rattle.ft_pairs.specs.declared.role.Variable.{Variable}
-use Rattle.ft_replay.specs.Base.{Triggers, Base, Events}
-use Rattle.ft_board.specs.KeptBeside.{AreKeptOf}
-use Rattle.ft_board.specs.KeptShelves.{HasItsShelf}
-use Rattle.ft_replay.specs.Merged.{merged}
-use Rattle.ft_replay.specs.OnShelves.{is_reader}
-use Rattle.ft_replay.specs.OneTrigger.{IsUnread}
-use Rattle.ft_board.specs.ButOne.{AreKeptBut, AreKeptIdle}
-use Rattle.ft_replay.specs.Roles.{role_of, role_at}
+use Rattle.ft_base.specs.Base.{Triggers, Base}
+use Rattle.ft_board.specs.KeptShelves.{AreKeptOf, HasItsShelf}
+use Rattle.ft_replay.specs.Merged.{Events, merged}
+use Rattle.ft_base.specs.Roles.{is_reader}
+use Rattle.ft_base.specs.OneTrigger.{IsUnread}
+use Rattle.ft_board.specs.inner.ButOneTrigger.{AreKeptBut, AreKeptIdle}
+use Rattle.ft_base.specs.Roles.{role_of, role_at}
 use Rattle.ft_board.proofs.Alike.{rest, rest_same, rest_none, rest_no_act, rest_act, same_ops, no_hits, no_read, no_ops, op_same, no_op_there, no_op_of, right_moves, right_none, all_right, shelf_same}
 
 module _ (base : Base) (id : ℕ) (unread : IsUnread base.triggers id) (old : Shelves) where

@@ -15,3 +15,4 @@ pub mod SaverHits
 pub mod SaverKeys
 pub mod FewSteps
 pub mod ToldSteps
+pub mod Repaired

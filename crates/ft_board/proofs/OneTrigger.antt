@@ -28,12 +28,12 @@ use Rattle.ft_table.specs.Values.{values_by}
 use Rattle.ft_lanes.specs.Held.{Lanes, event_at}
 use Rattle.ft_maps.specs.Entries.{get-insert_same, get-insert_other, same_from_tie, strictly_sorted}
 use Rattle.ft_maps.specs.Mapped.{entries_by}
-use Rattle.ft_replay.specs.Base.{Triggers, Events}
+use Rattle.ft_base.specs.Base.{Triggers}
 use Rattle.ft_board.specs.KeptShelves.{AreKept}
-use Rattle.ft_replay.specs.Merged.{merged, merged_with, held_at}
+use Rattle.ft_replay.specs.Merged.{Events, merged, merged_with, held_at}
 use Rattle.ft_replay.specs.Named.{events_on}
-use Rattle.ft_replay.specs.Roles.{role_at}
-use Rattle.ft_replay.proofs.Apart.{above-is, all_of, all_map, all_both, entries_found}
+use Rattle.ft_base.specs.Roles.{role_at}
+use Rattle.ft_base.proofs.Apart.{above-is, all_of, all_map, all_both, entries_found}
 use Rattle.ft_replay.proofs.Earlier.{all_above}
 use Rattle.ft_board.proofs.KeptBoardActs.{AllHeld, act_in, with_event, merged_held, acts_held, no_hit}
 use Rattle.ft_board.proofs.KeptBoardBuilt.{from_entries, more_held}

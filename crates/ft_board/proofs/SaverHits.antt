@@ -23,11 +23,11 @@ use Rattle.ft_table.specs.Hits.{same_key}
 use Rattle.ft_table.specs.Marks.{mark_cmp_total, mark_same}
 use Rattle.ft_table.specs.OneKey.{without_hit}
 use Rattle.ft_table.specs.declared.mark.Mark.{Mark}
-use Rattle.ft_replay.specs.Base.{Triggers, Events}
-use Rattle.ft_replay.specs.Counting.{table_for}
-use Rattle.ft_replay.specs.Hits.{hits_of}
-use Rattle.ft_replay.specs.Kept.{values_found}
-use Rattle.ft_replay.specs.Roles.{role_of}
+use Rattle.ft_base.specs.Base.{Triggers}
+use Rattle.ft_replay.specs.Merged.{Events}
+use Rattle.ft_replay.specs.Hits.{hits_of, table_for}
+use Rattle.ft_replay.specs.Found.{values_found}
+use Rattle.ft_base.specs.Roles.{role_of}
 use Rattle.ft_board.proofs.ByRole.{no_event, no_key, by_role}
 use Rattle.ft_replay.proofs.Listed.{get-hits_of, tied_then, values_under}
 

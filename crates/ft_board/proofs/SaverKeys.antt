@@ -15,14 +15,14 @@ use Rattle.ft_pairs.specs.declared.role.Role.TheVariants.{Saves}
 use Rattle.ft_maps.specs.Entries.{get-remove_same}
 use Rattle.ft_table.specs.Growth.{InGrows, RowsGrow, TotalsGrow}
 use Rattle.ft_table.specs.Tabled.{Tabled, is_in}
-use Rattle.ft_replay.specs.Base.{Triggers, Events}
+use Rattle.ft_base.specs.Base.{Triggers}
+use Rattle.ft_replay.specs.Merged.{Events}
 use Rattle.ft_replay.specs.Costs.{SaversStay}
-use Rattle.ft_replay.specs.Counting.{table_for}
-use Rattle.ft_replay.specs.Hits.{hits_of}
+use Rattle.ft_replay.specs.Hits.{hits_of, table_for}
 use Rattle.ft_board.specs.KeptShelves.{AreKept}
 use Rattle.ft_replay.specs.Operations.{is_admitted}
 use Rattle.ft_replay.specs.Replay.{replay}
-use Rattle.ft_replay.specs.Roles.{role_at, role_of}
+use Rattle.ft_base.specs.Roles.{role_at, role_of}
 use Rattle.ft_board.proofs.KeptBoardForms.{shelves_role}
 use Rattle.ft_board.proofs.KeptBoardLanes.{put_back}
 use Rattle.ft_board.proofs.KeptEntries.{OneSource, role-is}

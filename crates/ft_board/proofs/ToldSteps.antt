@@ -3,7 +3,7 @@ use Rattle.std.proofs.Common.{◌≡◌, true, false, refl, subst, Option}
 use Rattle.std.specs.Option.{is_none}
 use Rattle.ft_hist.specs.Steps.{Steps, StepsGrow}
 use Rattle.ft_kept.specs.Shelves.{Shelves}
-use Rattle.ft_replay.specs.Base.{Base}
+use Rattle.ft_base.specs.Base.{Base}
 use Rattle.ft_replay.specs.Costs.{AnswerCosts}
 use Rattle.ft_replay.specs.Shown.{Shown}
 

@@ -6,8 +6,9 @@ use Rattle.ft_kept.specs.Acts.{acts_of}
 use Rattle.ft_kept.specs.Entries.{IsKept}
 use Rattle.ft_kept.specs.Shelves.{Shelved, Shelves, admits_on, kept_on}
 use Rattle.ft_table.specs.Values.{values_by}
-use Rattle.ft_replay.specs.Base.{Triggers, Events}
-use Rattle.ft_replay.specs.Roles.{role_of, role_at}
+use Rattle.ft_base.specs.Base.{Base, Triggers}
+use Rattle.ft_replay.specs.Merged.{Events, merged}
+use Rattle.ft_base.specs.Roles.{role_of, role_at}
 
 -- a shelf has the role and the size of a trigger (our own choice)
 pub record IsShelfOf (triggers : Triggers) (hist : Hist) (shelf : Shelved) : Type 0 where
@@ -23,3 +24,7 @@ HasItsShelf triggers (Some hist) shelf = (its : Shelved) × ((shelf ≡ Some its
 pub record AreKept (triggers : Triggers) (events : Events) (shelves : Shelves) : Type 0 where
   pub each : (id : ℕ) → HasItsShelf triggers (map.get triggers id) (map.get shelves id)
   pub kept : IsKept (role_at triggers) (values_by triggers) (admits_on shelves) (acts_of triggers events) (kept_on shelves)
+
+-- the shelves are kept of a base's triggers and of all its events (our own choice)
+abbrev pub AreKeptOf : Base → Shelves → Type 0
+AreKeptOf base shelves = AreKept base.triggers (merged base.lanes) shelves

@@ -1,10 +1,9 @@
 pub mod KeptShelves
-pub mod KeptBeside
-pub mod ButOne
+pub mod inner
 pub use Rattle.ft_kept.specs.Shelves
 pub use Rattle.ft_replay.specs.Shown
-pub use Rattle.ft_replay.specs.OneTrigger
+pub use Rattle.ft_base.specs.OneTrigger
 pub use Rattle.ft_replay.specs.Edited
 pub use Rattle.ft_replay.specs.Costs
 pub use Rattle.ft_replay.specs.Answers
-pub use Rattle.ft_replay.specs.Base
+pub use Rattle.ft_base.specs.Base

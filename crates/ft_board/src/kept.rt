@@ -7,12 +7,13 @@ use crate::leave::leave;
 use crate::rebuild::renew;
 use crate::repair::{let_come, let_go};
 use crate::told::{catch_up, latencies_in, shelf_in};
+use ft_base::{Content, Place, Refused, is_reader};
 use ft_event::{Event, Name};
 use ft_filter::Filter;
 use ft_hist::{Trigger, Work};
 use ft_kept::Tables;
 use ft_maps::get;
-use ft_replay::{Board, Content, Done, Latency, Place, Refused, is_reader, table_text};
+use ft_replay::{Board, Done, Latency, table_text};
 use ft_table::Totals;
 use std::alloc::Global;
 use std::marker::Model;
@@ -31,7 +32,7 @@ impl Model for KeptBoard {
     ghost use Rattle.std.specs.Prelude.{IfSome, true};
     ghost use Rattle.std.specs.Option.{is_none};
     ghost use Rattle.ft_replay.specs.Codes.{shown_code};
-    ghost use Rattle.ft_board.specs.KeptBeside.{AreKeptOf};
+    ghost use Rattle.ft_board.specs.KeptShelves.{AreKeptOf};
     ghost use Rattle.ft_replay.specs.Shown.{Shown};
 
     ghost Value = { Shown };
@@ -49,7 +50,7 @@ impl Model for KeptBoard {
 }
 
 impl KeptBoard {
-    ghost use Rattle.ft_replay.specs.Base.{empty_base};
+    ghost use Rattle.ft_base.specs.Base.{empty_base};
 
     /// A board that holds nothing and has no trigger. It takes no memory.
     pub fn new(alloc: Global) -> KeptBoard

@@ -5,15 +5,17 @@ ghost use Rattle.std.specs.Option.{is_none};
 ghost use Rattle.std.specs.FinMap as map;
 ghost use Rattle.ft_hist.specs.Steps.{StepsGrow};
 ghost use Rattle.ft_replay.specs.Edited.{kept_of};
-ghost use Rattle.ft_board.specs.KeptBeside.{AreKeptOf};
-ghost use Rattle.ft_replay.specs.OneTrigger.{IsUnread};
-ghost use Rattle.ft_board.specs.ButOne.{AreKeptBut, AreKeptIdle};
+ghost use Rattle.ft_board.specs.KeptShelves.{AreKeptOf};
+ghost use Rattle.ft_base.specs.OneTrigger.{IsUnread};
+ghost use Rattle.ft_board.specs.inner.ButOneTrigger.{AreKeptBut, AreKeptIdle};
 
+use crate::repair::put_back;
+use ft_base::{Content, is_reader};
 use ft_hist::{Trigger, Work};
 use ft_kept::Tables;
 use ft_maps::get;
 use ft_pairs::At;
-use ft_replay::{Content, Kept, Names, events_with, is_reader};
+use ft_replay::{Kept, Names, events_with};
 use std::alloc::{AllocError, Global};
 
 /// A trigger that is still attached, and that no other reads, leaves the tables. Where memory runs
@@ -39,13 +41,8 @@ pub(crate) fn leave(
         *kept = Some(tables);
         return Kept::Now;
     };
-    match take_trigger(&mut tables, alloc, content, id, trigger, work) {
-        Ok(()) => {
-            *kept = Some(tables);
-            Kept::Now
-        }
-        Err(_) => Kept::Later,
-    }
+    let repaired = take_trigger(&mut tables, alloc, content, id, trigger, work);
+    put_back(kept, tables, repaired)
 }
 
 /// Takes the shelf of a trigger away. From a reader its events go before, since what it read stands

@@ -1,14 +1,29 @@
 //! A board that keeps tables beside what it holds, and repairs them as it is edited, so that no
 //! answer replays the events.
+//!
+//! One event more or less changes a few entries. A trigger that is attached or removed leaves the
+//! tables of the others as they are; after other edits all are built anew. Where memory runs out for
+//! that, the edit stands, and the next answer builds them.
+//!
+//! ```ignore
+//! let mut board = KeptBoard::new(rt.alloc());
+//! board.load(events)?;
+//! let id = board.attach(trigger)?.value;
+//! let Done { value: place, kept } = board.insert(event)?;
+//! assert!(rt; board.is_deferred() == (kept == Kept::Later));
+//! // Read off the tables: no event is tested, where they have the edit.
+//! let totals = board.totals(id)?;
+//! assert!(rt; !board.is_deferred());
+//! ```
 #![tactic(auto)]
 
 mod join;
-mod keeping;
 mod kept;
+pub mod laws;
 mod leave;
 mod rebuild;
 mod repair;
 mod told;
 
-pub use keeping::kept_shelves;
-pub use kept::{KeptBoard, kept_board_keeps};
+pub use kept::KeptBoard;
+pub use laws::{kept_board_keeps, kept_shelves};

@@ -7,16 +7,17 @@ ghost use Rattle.std.specs.FinMap as map;
 ghost use Rattle.ft_maps.specs.Seen.{seen};
 ghost use Rattle.ft_hist.specs.Steps.{StepsGrow};
 ghost use Rattle.ft_replay.specs.Edited.{kept_of};
-ghost use Rattle.ft_board.specs.KeptBeside.{AreKeptOf, AreNew};
-ghost use Rattle.ft_board.specs.KeptShelves.{AreKept};
+ghost use Rattle.ft_board.specs.KeptShelves.{AreKeptOf, AreKept};
+ghost use Rattle.ft_board.specs.inner.Built.{AreNew};
 ghost use Rattle.ft_replay.specs.Merged.{merged};
-ghost use Rattle.ft_replay.specs.Reachable.{HasSavers};
+ghost use Rattle.ft_base.specs.Reachable.{HasSavers};
 
+use ft_base::{Content, role_of};
 use ft_hist::{Trigger, Work};
 use ft_kept::Tables;
 use ft_lanes::Lanes;
 use ft_maps::entries;
-use ft_replay::{Content, Kept, merged_events, role_of};
+use ft_replay::{Kept, merged_events};
 use std::alloc::{AllocError, Global};
 use std::collections::BTreeMap;
 

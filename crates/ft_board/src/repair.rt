@@ -3,14 +3,17 @@
 ghost use Rattle.std.specs.Prelude.{◌≡◌, IfSome, None};
 ghost use Rattle.std.specs.Option.{is_none};
 ghost use Rattle.ft_hist.specs.Steps.{StepsGrow};
-ghost use Rattle.ft_replay.specs.Costs.{ComesAtCost, GoesAtCost};
 ghost use Rattle.ft_replay.specs.Edited.{kept_of};
-ghost use Rattle.ft_board.specs.KeptBeside.{AreKeptOf, AreKeptWithout};
+ghost use Rattle.ft_board.specs.KeptShelves.{AreKeptOf};
+ghost use Rattle.ft_board.specs.inner.ButOneEvent.{ComesAtCost, GoesAtCost, AreKeptWithout};
+ghost use Rattle.ft_board.specs.inner.Repaired.{if_ok};
 
+use ft_base::{Content, Place};
 use ft_event::Pos;
 use ft_hist::Work;
 use ft_kept::Tables;
-use ft_replay::{Content, Kept, Place};
+use ft_replay::Kept;
+use std::alloc::AllocError;
 
 /// The event of a place, which is held already, comes to the tables. Where memory runs out, the
 /// tables are given up.
@@ -41,13 +44,8 @@ pub(crate) fn let_come(
     };
     let stamp = event.stamp;
     let pos = Pos { stamp, cpu, line };
-    match tables.event_comes(triggers, lanes, pos, event, work) {
-        Ok(()) => {
-            *kept = Some(tables);
-            Kept::Now
-        }
-        Err(_) => Kept::Later,
-    }
+    let repaired = tables.event_comes(triggers, lanes, pos, event, work);
+    put_back(kept, tables, repaired)
 }
 
 /// The event of a place, which is still held, goes from the tables. Where memory runs out, the
@@ -79,7 +77,21 @@ pub(crate) fn let_go(
     };
     let stamp = event.stamp;
     let pos = Pos { stamp, cpu, line };
-    match tables.event_goes(triggers, lanes, pos, event, work) {
+    let repaired = tables.event_goes(triggers, lanes, pos, event, work);
+    put_back(kept, tables, repaired)
+}
+
+/// Puts tables back where their repair went through. Where memory ran out, they are given up.
+pub(crate) fn put_back(
+    kept: &mut Option<Tables>,
+    tables: Tables,
+    repaired: Result<(), AllocError>,
+) -> Kept
+    requires { kept.old ≡ None }
+    ensures kept { kept.new ≡ if_ok tables repaired }
+    ensures answer { result ≡ kept_of (is_none kept.new) }
+{
+    match repaired {
         Ok(()) => {
             *kept = Some(tables);
             Kept::Now

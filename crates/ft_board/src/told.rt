@@ -8,17 +8,19 @@ ghost use Rattle.ft_hist.specs.Hist.{Hist};
 ghost use Rattle.ft_maps.specs.Seen.{seen};
 ghost use Rattle.ft_hist.specs.Steps.{StepsGrow};
 ghost use Rattle.ft_replay.specs.Answers.{latency_of};
-ghost use Rattle.ft_replay.specs.Base.{Base};
-ghost use Rattle.ft_replay.specs.Kept.{pairs_in};
-ghost use Rattle.ft_board.specs.KeptBeside.{AreKeptOf, Tells};
+ghost use Rattle.ft_base.specs.Base.{Base};
+ghost use Rattle.ft_replay.specs.Found.{pairs_in};
+ghost use Rattle.ft_board.specs.KeptShelves.{AreKeptOf};
+ghost use Rattle.ft_board.specs.inner.Told.{Tells};
 
-use crate::keeping::kept_shelves;
+use crate::laws;
 use crate::rebuild::restore;
+use ft_base::Content;
 use ft_event::Pos;
 use ft_hist::Work;
 use ft_kept::{Shelf, Tables};
 use ft_maps::{entries, len};
-use ft_replay::{Content, Latency, Pair, latency_of};
+use ft_replay::{Latency, Pair, latency_of};
 use std::alloc::{AllocError, Global};
 use std::collections::BTreeMap;
 
@@ -42,7 +44,7 @@ pub(crate) fn shelf_in(kept: &Option<Tables>, id: u32) -> Option<&Shelf>
         → IfSome (option_copied result) (Tells base id hist) }
     ensures there { IfSome result (λ _. IsSome kept.now) }
 {
-    kept_shelves();
+    laws::kept_shelves();
     match kept {
         Some(tables) => tables.shelf(id),
         None => None,

@@ -7,8 +7,8 @@ use Rattle.ft_event.specs.Traced.{Traced}
 use Rattle.ft_event.specs.declared.event.Name.{Name}
 use Rattle.ft_event.specs.Line.{line_of}
 use Rattle.ft_filter.specs.Tree.{Tree}
-use Rattle.ft_replay.specs.declared.refused.Refused.{Refused}
-use Rattle.ft_replay.specs.declared.refused.Refused.TheVariants.{NoTrigger}
+use Rattle.ft_base.specs.declared.refused.Refused.{Refused}
+use Rattle.ft_base.specs.declared.refused.Refused.TheVariants.{NoTrigger}
 use Rattle.ft_trigger.specs.Hist.{Hist}
 use Rattle.ft_replay.specs.Base.{Base}
 use Rattle.ft_replay.specs.After.{after_load, after_insert, after_attach, after_refilter}

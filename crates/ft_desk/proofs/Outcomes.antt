@@ -2,9 +2,9 @@
 use Rattle.std.proofs.Common.{◌≡◌, ◌≢◌, ℕ, true, List, ◌++◌, Result, Ok, Err, refl, ap, sym, ◌∙◌, inl, inr}
 use Rattle.std.specs.Prelude.{codes, is_err, IfOk}
 use Rattle.std.specs.declared.alloc.AllocError.{AllocError}
-use Rattle.ft_replay.specs.declared.refused.Done.{Done}
-use Rattle.ft_replay.specs.declared.refused.Refused.{Refused}
-use Rattle.ft_replay.specs.declared.refused.Refused.TheVariants.{Memory, BadCommand}
+use Rattle.ft_replay.specs.declared.done.Done.{Done}
+use Rattle.ft_base.specs.declared.refused.Refused.{Refused}
+use Rattle.ft_base.specs.declared.refused.Refused.TheVariants.{Memory, BadCommand}
 use Rattle.ft_replay.specs.Base.{Base}
 use Rattle.ft_replay.specs.Shown.{Shown}
 use Rattle.ft_replay.specs.Edited.{EditGives, AnswersFrom, AnswerIs}

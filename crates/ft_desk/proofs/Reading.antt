@@ -2,7 +2,7 @@
 use Rattle.std.proofs.Common.{◌≡◌, ℕ, ◌+◌, List, [], ◌∷◌, Ok, Err, sym, ap, ◌∙◌, append-nil}
 use Rattle.ft_event.specs.Traced.{Traced}
 use Rattle.ft_event.specs.Line.{line_of}
-use Rattle.ft_replay.specs.declared.refused.Refused.{Refused}
+use Rattle.ft_base.specs.declared.refused.Refused.{Refused}
 use Rattle.ft_script.specs.Lines.{lines_of}
 use Rattle.ft_desk.specs.Edits.{events_of, events_from, line_in_front}
 use Rattle.ft_desk.specs.inner.Reading.{in_front}

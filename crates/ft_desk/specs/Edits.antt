@@ -15,13 +15,13 @@ use Rattle.ft_filter.specs.declared.fault.FilterFault.{FilterFault}
 use Rattle.ft_filter.specs.declared.fault.FilterFault.TheVariants as filter_faults
 use Rattle.ft_trigger.specs.Hist.{Hist}
 use Rattle.ft_trigger.specs.TriggerIs.{trigger_of}
-use Rattle.ft_trigger.specs.declared.fault.TriggerFault.{TriggerFault}
-use Rattle.ft_trigger.specs.declared.fault.TriggerFault.TheVariants as faults
+use Rattle.ft_head.specs.declared.fault.TriggerFault.{TriggerFault}
+use Rattle.ft_head.specs.declared.fault.TriggerFault.TheVariants as faults
 use Rattle.ft_replay.specs.Base.{Base}
 use Rattle.ft_replay.specs.After.{after_load, after_insert, after_attach, after_refilter}
-use Rattle.ft_replay.specs.declared.refused.Place.{Place}
-use Rattle.ft_replay.specs.declared.refused.Refused.{Refused}
-use Rattle.ft_replay.specs.declared.refused.Refused.TheVariants.{Memory, BadLine, NoEvent, BadTrigger, BadFilter, NoTrigger, BadCommand}
+use Rattle.ft_base.specs.declared.refused.Place.{Place}
+use Rattle.ft_base.specs.declared.refused.Refused.{Refused}
+use Rattle.ft_base.specs.declared.refused.Refused.TheVariants.{Memory, BadLine, NoEvent, BadTrigger, BadFilter, NoTrigger, BadCommand}
 use Rattle.ft_script.specs.Lines.{lines_of}
 
 -- a line's event in front of those of the lines behind it; a line that cannot be read is the fault of all

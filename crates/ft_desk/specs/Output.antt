@@ -1,8 +1,8 @@
 -- What a script prints. All of it is our own choice.
 use Rattle.std.specs.Prelude.{ℕ, ◌-◌, Bool, true, false, ◌||◌, List, [], ◌∷◌, ◌++◌, Option, None, Result, Ok, Err, ◌==◌, if◌then◌else◌, codes, decimal, slice_get}
 use Rattle.std.specs.Option.{option_map_or}
-use Rattle.ft_replay.specs.declared.refused.Refused.{Refused}
-use Rattle.ft_replay.specs.declared.refused.Refused.TheVariants.{NoFile, BadCommand}
+use Rattle.ft_base.specs.declared.refused.Refused.{Refused}
+use Rattle.ft_base.specs.declared.refused.Refused.TheVariants.{NoFile, BadCommand}
 use Rattle.ft_replay.specs.Base.{Base, empty_base}
 use Rattle.ft_replay.specs.After.{after_unload, after_strike, after_remove}
 use Rattle.ft_replay.specs.Answers.{hist_text, totals, latencies, list_text}

@@ -38,7 +38,7 @@ impl<B: Board> Model for Desk<B> {
 impl<B: Board> Desk<B> {
     ghost use Rattle.std.specs.Prelude.{◌≡◌, ◌≢◌, Some, Ok, Err};
     ghost use Rattle.std.specs.Option.{option_copied};
-    ghost use Rattle.ft_replay.specs.declared.refused.Refused.TheVariants.{Memory};
+    ghost use Rattle.ft_base.specs.declared.refused.Refused.TheVariants.{Memory};
     ghost use Rattle.ft_replay.specs.After.{after_unload, after_strike, after_remove};
     ghost use Rattle.ft_event.specs.Line.{line_of};
     ghost use Rattle.ft_event.specs.Traced.{Traced};

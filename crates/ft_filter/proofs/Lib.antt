@@ -2,13 +2,10 @@ mod Again
 mod Examples
 mod Existence
 mod Fits
-mod Fronts
 mod NumberForms
-mod Numbers
 mod Operands
 mod PredLaw
 mod Preds
-mod Quotes
 mod Runs
 mod Shapes
 mod Shorter

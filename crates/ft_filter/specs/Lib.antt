@@ -2,7 +2,7 @@ pub mod Tree
 pub mod Codes
 pub mod Holds
 pub mod FilterFault
-pub mod Tokens
+pub mod Operators
 pub mod Numbers
 pub mod Predicate
 pub mod PredIs
@@ -10,10 +10,11 @@ pub mod FilterIs
 pub mod Answers
 pub mod Canonical
 pub mod Shape
-pub mod Given
-pub mod Words
+pub mod inner
 pub use Rattle.ft_event.specs.Fields
 pub use Rattle.ft_event.specs.LineIs
 pub use Rattle.ft_event.specs.Traced
 pub use Rattle.ft_glob.specs.Glob
 pub use Rattle.ft_glob.specs.Matching
+pub use Rattle.ft_tokens.specs.Ranged
+pub use Rattle.ft_tokens.specs.Tokens

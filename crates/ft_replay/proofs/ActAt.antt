@@ -17,9 +17,10 @@ use Rattle.ft_hist.specs.Hit.{hit}
 use Rattle.ft_maps.specs.Entries.{same_from_tie}
 use Rattle.ft_pairs.specs.declared.at.At.{At}
 use Rattle.ft_pairs.specs.Order.{at_cmp}
-use Rattle.ft_replay.specs.Base.{Triggers, Events}
+use Rattle.ft_base.specs.Base.{Triggers}
+use Rattle.ft_replay.specs.Merged.{Events}
 use Rattle.ft_replay.proofs.Acts.{Act, made, act_of, acts_at, acts_in}
-use Rattle.ft_replay.proofs.Apart.{AreApart, entries_apart}
+use Rattle.ft_base.proofs.Apart.{AreApart, entries_apart}
 
 -- acts by where they stand
 abbrev pub by_place : List Act → List (At × Act)

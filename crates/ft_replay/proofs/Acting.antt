@@ -19,12 +19,13 @@ use Rattle.ft_hist.specs.Hit.{hit}
 use Rattle.ft_pairs.specs.Order.{at_cmp}
 use Rattle.ft_table.specs.Growth.{empty_row}
 use Rattle.ft_pairs.specs.declared.role.Role.TheVariants.{Plain}
-use Rattle.ft_replay.specs.Base.{Triggers, Events}
-use Rattle.ft_replay.specs.Roles.{role_of, role_at}
+use Rattle.ft_base.specs.Base.{Triggers}
+use Rattle.ft_replay.specs.Merged.{Events}
+use Rattle.ft_base.specs.Roles.{role_of, role_at}
 use Rattle.ft_replay.specs.Tally.{empty_tally}
 use Rattle.ft_replay.specs.Replay.{Tallies, State, act, growth_by, act_at, step, started, replay}
 use Rattle.ft_replay.proofs.Acts.{Act, made, act_of, acts_at, acts_in, size_at, growth_at, run}
-use Rattle.ft_replay.proofs.Apart.{AreApart, entries_apart, entries_found, all_of, all_map, all_append}
+use Rattle.ft_base.proofs.Apart.{AreApart, entries_apart, entries_found, all_of, all_map, all_append}
 
 module _ (triggers : Triggers) where
   abbrev pub go : State → List Act → State

@@ -16,7 +16,8 @@ use Rattle.ft_table.specs.Growth.{empty_row}
 use Rattle.ft_pairs.specs.declared.role.Role.{Role}
 use Rattle.ft_pairs.specs.declared.role.Role.TheVariants.{Plain, Saves, Reads}
 use Rattle.ft_pairs.specs.declared.role.Variable.{Variable}
-use Rattle.ft_replay.specs.Base.{Triggers, Events}
+use Rattle.ft_base.specs.Base.{Triggers}
+use Rattle.ft_replay.specs.Merged.{Events}
 use Rattle.ft_replay.specs.Hits.{read_as}
 use Rattle.ft_replay.specs.Replay.{State, act, growth_by}
 use Rattle.ft_replay.specs.Tally.{Tally, RowGrowth, empty_tally, tell}

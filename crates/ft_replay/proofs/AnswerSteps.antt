@@ -1,8 +1,10 @@
--- What an answer takes of a board that keeps no tables.
-use Rattle.std.proofs.Common.{◌≡◌, Bool, true, false, refl, subst}
+-- What an answer says and takes of a board that keeps no tables.
+use Rattle.std.proofs.Common.{◌≡◌, Bool, true, false, refl, subst, Result, Ok, Err}
 use Rattle.ft_hist.specs.Steps.{Steps, StepsGrow}
-use Rattle.ft_replay.specs.Base.{Base}
+use Rattle.ft_base.specs.declared.refused.Refused.{Refused}
+use Rattle.ft_base.specs.Base.{Base}
 use Rattle.ft_replay.specs.Costs.{AnswerCosts}
+use Rattle.ft_replay.specs.Edited.{AnswerKeeps}
 use Rattle.ft_replay.specs.Shown.{Shown}
 
 -- a board that keeps no tables, with its steps
@@ -16,3 +18,8 @@ replayed_steps base work more shown is grow = subst (λ (s : Shown). AnswerCosts
   grow = grow;
   none = λ up. let never : ◌≡◌ {A = Bool} false true = up.keeps in absurd cc;
 })
+
+-- its tables are never deferred
+pub never-deferred : {S : Type 0} (answer : Result S Refused) → AnswerKeeps false false answer
+never-deferred (Ok answer) = refl
+never-deferred (Err refused) = (λ e. e, λ _. refl)

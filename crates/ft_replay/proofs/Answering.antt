@@ -1,4 +1,4 @@
--- What a trigger answers, from its shelf.
+-- What a trigger answers, from its counter.
 use Rattle.std.proofs.Common.{◌≡◌, ℕ, Bool, true, false, List, ◌++◌, refl, sym, ap, subst, ◌∙◌, append_assoc, Some, None, Option, Result, Ok, Err, OnOk, if◌then◌else◌}
 use Rattle.std.specs.Prelude.{IsSome, option_map, unwrap_or, map as list_map}
 use Rattle.std.specs.Option.{option_map_or}
@@ -10,37 +10,39 @@ use Rattle.ft_hist.specs.declared.label.Var.{Var}
 use Rattle.ft_hist.specs.declared.label.Var.TheVariants as vars
 use Rattle.ft_maps.specs.Mapped.{map_by, get-map_by}
 use Rattle.ft_table.specs.Rows.{AllFit}
-use Rattle.ft_replay.specs.declared.refused.Refused.{Refused}
-use Rattle.ft_replay.specs.declared.refused.Refused.TheVariants.{NoTrigger, NotReading}
-use Rattle.ft_replay.specs.Base.{Triggers, Events}
+use Rattle.ft_base.specs.declared.refused.Refused.{Refused}
+use Rattle.ft_base.specs.declared.refused.Refused.TheVariants.{NoTrigger, NotReading}
+use Rattle.ft_base.specs.Base.{Triggers}
+use Rattle.ft_replay.specs.Merged.{Events}
 use Rattle.ft_replay.specs.Answers.{tally_at, of_attached, latency_of, latencies_as}
 use Rattle.ft_replay.specs.Replay.{replay}
-use Rattle.ft_replay.specs.OnShelves.{Shelved, Shelves, tally_on, is_reader, HasShelf, AreShelved}
+use Rattle.ft_replay.specs.inner.Counters.{Counting, Counters, tally_in, HasCounter, HaveCounters}
+use Rattle.ft_base.specs.Roles.{is_reader}
 use Rattle.ft_replay.specs.Tally.{Tally, empty_tally}
 
--- ---- a trigger's shelf
+-- ---- a trigger's counter
 
-module _ (triggers : Triggers) (shelves : Shelves) (shelved : AreShelved triggers shelves) (id : ℕ) where
-  -- an attached trigger has a shelf
-  pub some_shelf : IsSome (map.get triggers id) → IsSome (map.get shelves id)
-  some_shelf attached =
-      elim (map.get triggers id) as (λ o. map.get triggers id ≡ o → IsSome o → IsSome (map.get shelves id)) [
+module _ (triggers : Triggers) (counters : Counters) (complete : HaveCounters triggers counters) (id : ℕ) where
+  -- an attached trigger has a counter
+  pub some_counter : IsSome (map.get triggers id) → IsSome (map.get counters id)
+  some_counter attached =
+      elim (map.get triggers id) as (λ o. map.get triggers id ≡ o → IsSome o → IsSome (map.get counters id)) [
         | None ↦ λ is some. let both : ◌≡◌ {A = Bool} false true = some in absurd cc
-        | Some hist ↦ λ is some. let has : HasShelf triggers shelves id hist = shelved id hist is in subst IsSome (sym has.there) refl
+        | Some hist ↦ λ is some. let has : HasCounter triggers counters id hist = complete id hist is in subst IsSome (sym has.there) refl
       ] refl attached
 
   -- its keys fit the trigger
-  pub shelf_fits : (shelf : Shelved) → map.get shelves id ≡ Some shelf → (hist : Hist) → map.get triggers id ≡ Some hist → AllFit shelf.table hist
-  shelf_fits shelf there hist is =
-      let has : HasShelf triggers shelves id hist = shelved id hist is in
-      let same : has.shelf ≡ shelf = ap (λ (o : Option Shelved). unwrap_or o shelf) (sym has.there ∙ there) in
-      subst (λ (s : Shelved). AllFit s.table hist) same has.suits.fit
+  pub counter_fits : (counter : Counting) → map.get counters id ≡ Some counter → (hist : Hist) → map.get triggers id ≡ Some hist → AllFit counter.table hist
+  counter_fits counter there hist is =
+      let has : HasCounter triggers counters id hist = complete id hist is in
+      let same : has.counter ≡ counter = ap (λ (o : Option Counting). unwrap_or o counter) (sym has.there ∙ there) in
+      subst (λ (s : Counting). AllFit s.table hist) same has.suits.fit
 
 -- its tally is that of the replay
-pub shelf_tally : (triggers : Triggers) (events : Events) (shelves : Shelves) (id : ℕ) (shelf : Shelved) → map_by tally_on shelves ≡ (replay triggers events).tallies → map.get shelves id ≡ Some shelf
-    → tally_on shelf ≡ tally_at triggers events id
-shelf_tally triggers events shelves id shelf is there =
-    sym (ap (λ (o : Option Tally). unwrap_or o empty_tally) (ap (λ tallies. map.get tallies id) (sym is) ∙ get-map_by tally_on nat_cmp_total shelves id ∙ ap (option_map tally_on) there))
+pub counter_tally : (triggers : Triggers) (events : Events) (counters : Counters) (id : ℕ) (counter : Counting) → map_by tally_in counters ≡ (replay triggers events).tallies → map.get counters id ≡ Some counter
+    → tally_in counter ≡ tally_at triggers events id
+counter_tally triggers events counters id counter is there =
+    sym (ap (λ (o : Option Tally). unwrap_or o empty_tally) (ap (λ tallies. map.get tallies id) (sym is) ∙ get-map_by tally_in nat_cmp_total counters id ∙ ap (option_map tally_in) there))
 
 -- ---- answers
 

@@ -18,14 +18,15 @@ use Rattle.ft_pairs.specs.Source.{Ops, IsSource}
 use Rattle.ft_pairs.specs.declared.role.Role.{Role}
 use Rattle.ft_pairs.specs.declared.role.Role.TheVariants.{Plain, Saves, Reads}
 use Rattle.ft_pairs.specs.declared.role.Variable.{Variable}
-use Rattle.ft_replay.specs.Base.{Triggers, Events}
+use Rattle.ft_base.specs.Base.{Triggers}
+use Rattle.ft_replay.specs.Merged.{Events}
 use Rattle.ft_replay.specs.Elsewhere.{IsSameAct, FindsTheSame, AdmitsTheSame}
 use Rattle.ft_replay.specs.Hits.{TriggerHit, found_at, read_as, hit_at}
 use Rattle.ft_replay.specs.Operations.{is_admitted, ops_on}
 use Rattle.ft_pairs.specs.Roles.{op_as}
 use Rattle.ft_replay.specs.Replay.{replay}
 use Rattle.ft_table.specs.Values.{values_at}
-use Rattle.ft_replay.specs.Roles.{role_of, role_at}
+use Rattle.ft_base.specs.Roles.{role_of, role_at}
 use Rattle.ft_pairs.specs.Variables.{variable_cmp, variable_cmp_total, variable_same}
 use Rattle.ft_replay.proofs.Matched.{matched}
 

@@ -12,7 +12,7 @@ use Rattle.ft_hist.specs.Orders.{key_cmp_total}
 use Rattle.ft_hist.specs.Ties.{key_same}
 use Rattle.ft_maps.specs.Entries.{same_from_tie, entries-empty}
 use Rattle.ft_table.specs.declared.mark.Mark.{Mark}
-use Rattle.ft_table.specs.declared.row.Totals.{Totals}
+use Rattle.ft_rows.specs.declared.row.Totals.{Totals}
 use Rattle.ft_table.specs.Counted.{Counted}
 use Rattle.ft_table.specs.Growth.{ComesLast, with_hit, has_room, is_counted, empty_row, grown, InGrows, RowsGrow, TotalsGrow}
 use Rattle.ft_table.specs.Hits.{Hits, same_key, hitcount}
@@ -21,7 +21,7 @@ use Rattle.ft_table.specs.Rows.{row_of, row_at, totals_of}
 use Rattle.ft_table.specs.Tabled.{Tabled, is_first, first_hits, order_of, keys_in, is_in}
 use Rattle.ft_replay.specs.declared.pair.Pair.{Pair}
 use Rattle.ft_replay.specs.Tally.{Counts, Tally, empty_tally, has_place, count, with_pair, tally_of}
-pub use Rattle.ft_replay.specs.OnShelves.{pairs_with}
+pub use Rattle.ft_replay.specs.inner.Counters.{pairs_with}
 use Rattle.ft_replay.proofs.Counted.{grow}
 use Rattle.ft_replay.proofs.KeysApart.{get-first_hits, keys_distinct}
 

@@ -16,9 +16,10 @@ use Rattle.ft_table.specs.declared.mark.Mark.{Mark}
 use Rattle.ft_table.specs.Hits.{Hits}
 use Rattle.ft_table.specs.Marks.{mark_cmp_total, mark_same}
 use Rattle.ft_replay.specs.declared.pair.Pair.{Pair}
-use Rattle.ft_replay.specs.Base.{Triggers, Events}
+use Rattle.ft_base.specs.Base.{Triggers}
+use Rattle.ft_replay.specs.Merged.{Events}
 use Rattle.ft_replay.specs.Hits.{TriggerHit, trigger_hits, hits_of, pair_of, pairs_of}
-use Rattle.ft_replay.specs.Kept.{values_found, saving_found, pairs_in}
+use Rattle.ft_replay.specs.Found.{values_found, saving_found, pairs_in}
 use Rattle.ft_replay.proofs.Listed.{Ascend, AreBehind, place_of, hit_in, none_in, trigger_hits_ascend, hit_in-trigger_hits, get-hits_of}
 
 -- the place of a hit with that of the saving that it read, if it read

@@ -18,7 +18,7 @@ use Rattle.ft_table.specs.declared.mark.Mark.{Mark}
 use Rattle.ft_table.specs.Hits.{Hits, same_key, first_place}
 use Rattle.ft_table.specs.Marks.{mark_cmp, mark_cmp_total, mark_same}
 use Rattle.ft_table.specs.Tabled.{Tabled, is_first, first_hits, order_of, keys_in}
-use Rattle.ft_replay.proofs.Apart.{all_map, entries_found}
+use Rattle.ft_base.proofs.Apart.{all_map, entries_found}
 
 -- a first hit is a hit
 pub get-first_hits : (hits : Hits) (m : Mark) → map.get (first_hits hits) m ≡ cond (is_first hits m) (map.get hits m) None

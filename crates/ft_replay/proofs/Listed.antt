@@ -20,11 +20,12 @@ use Rattle.ft_maps.specs.Entries.{strictly_sorted, same_from_tie}
 use Rattle.ft_table.specs.declared.mark.Mark.{Mark}
 use Rattle.ft_table.specs.Hits.{same_key}
 use Rattle.ft_table.specs.Marks.{mark_cmp, mark_cmp_total}
-use Rattle.ft_replay.specs.Base.{Triggers, Events}
+use Rattle.ft_base.specs.Base.{Triggers}
+use Rattle.ft_replay.specs.Merged.{Events}
 use Rattle.ft_replay.specs.Hits.{TriggerHit, found_at, hit_at, trigger_hits, entry_of, hits_of, read_as}
-use Rattle.ft_replay.specs.Kept.{values_found}
+use Rattle.ft_replay.specs.Found.{values_found}
 use Rattle.ft_table.specs.Values.{values_at}
-use Rattle.ft_replay.specs.Roles.{role_of}
+use Rattle.ft_base.specs.Roles.{role_of}
 
 abbrev pub place_of : TriggerHit → Pos
 place_of found = found.pos

@@ -24,13 +24,14 @@ use Rattle.ft_replay.specs.declared.pair.Pair.{Pair}
 use Rattle.ft_pairs.specs.declared.role.Role.{Role}
 use Rattle.ft_pairs.specs.declared.role.Role.TheVariants.{Plain, Saves, Reads}
 use Rattle.ft_pairs.specs.declared.role.Variable.{Variable}
-use Rattle.ft_replay.specs.Base.{Triggers, Events}
+use Rattle.ft_base.specs.Base.{Triggers}
+use Rattle.ft_replay.specs.Merged.{Events}
 use Rattle.ft_replay.specs.Hits.{TriggerHit, found_at, read_as, hit_at, trigger_hits, pair_of, pairs_of}
 use Rattle.ft_replay.specs.Operations.{is_admitted, ops_on}
 use Rattle.ft_pairs.specs.Roles.{op_as}
 use Rattle.ft_replay.specs.Replay.{replay}
 use Rattle.ft_table.specs.Values.{values_at}
-use Rattle.ft_replay.specs.Roles.{role_of, role_at}
+use Rattle.ft_base.specs.Roles.{role_of, role_at}
 use Rattle.ft_replay.specs.Tally.{Tally, empty_tally}
 use Rattle.ft_pairs.specs.Variables.{variable_cmp, variable_same}
 use Rattle.ft_replay.proofs.Acts.{Act, made, act_of, acts_in, is_before, size_at, growth_at, admits, left_as, left, left_before}

@@ -16,10 +16,11 @@ use Rattle.ft_hist.specs.declared.key.Part.{Part}
 use Rattle.ft_hist.specs.Hist.{Hist}
 use Rattle.ft_hist.specs.Hit.{key_of, passes_filter, same_name}
 use Rattle.ft_maps.specs.Entries.{entries-from_entries, strictly_sorted}
-use Rattle.ft_replay.specs.Base.{Triggers, Events}
+use Rattle.ft_base.specs.Base.{Triggers}
+use Rattle.ft_replay.specs.Merged.{Events}
 use Rattle.ft_replay.specs.Named.{is_on, is_named, named, events_on}
 use Rattle.ft_replay.specs.Replay.{State, act, growth_by, act_at, step, replay}
-use Rattle.ft_replay.specs.Roles.{role_of}
+use Rattle.ft_base.specs.Roles.{role_of}
 
 -- ---- the events of some names
 

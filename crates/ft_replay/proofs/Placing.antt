@@ -24,10 +24,10 @@ use Rattle.ft_event.specs.Places.{pos_cmp, pos_cmp_total, pos_same}
 use Rattle.ft_maps.specs.Entries.{entries-from_entries, same_from_tie, strictly_sorted}
 use Rattle.ft_maps.specs.Mapped.{entries_by}
 use Rattle.ft_lanes.specs.Held.{Lane, Lanes}
-use Rattle.ft_replay.specs.Base.{Triggers, Events}
-use Rattle.ft_replay.specs.Merged.{place_of, placed, merged}
+use Rattle.ft_base.specs.Base.{Triggers}
+use Rattle.ft_replay.specs.Merged.{Events, place_of, placed, merged}
 use Rattle.ft_replay.specs.Named.{is_on, is_named, named, events_on}
-use Rattle.ft_replay.proofs.Apart.{AreApart, entries_apart, all_of, all_map, all_append}
+use Rattle.ft_base.proofs.Apart.{AreApart, entries_apart, all_of, all_map, all_append}
 use Rattle.ft_replay.proofs.Places.{tied_then}
 use Rattle.ft_replay.proofs.Naming.{has_one, entries-on, named-on}
 

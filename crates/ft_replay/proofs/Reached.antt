@@ -23,12 +23,13 @@ use Rattle.ft_hist.specs.Hit.{hit}
 use Rattle.ft_pairs.specs.declared.at.At.{At}
 use Rattle.ft_pairs.specs.Order.{at_cmp, at_cmp_total, at_same}
 use Rattle.ft_pairs.specs.declared.role.Variable.{Variable}
-use Rattle.ft_replay.specs.Base.{Triggers, Events}
+use Rattle.ft_base.specs.Base.{Triggers}
+use Rattle.ft_replay.specs.Merged.{Events}
 use Rattle.ft_replay.specs.Hits.{state_before, found_at}
 use Rattle.ft_replay.specs.Replay.{State, act_at, started}
-use Rattle.ft_replay.specs.Roles.{role_at}
+use Rattle.ft_base.specs.Roles.{role_at}
 use Rattle.ft_replay.proofs.Acts.{Act, made, act_of, acts_at, acts_in, is_before, size_at, growth_at, left_before}
-use Rattle.ft_replay.proofs.Apart.{AreApart, entries_apart, entries_found, all_map}
+use Rattle.ft_base.proofs.Apart.{AreApart, entries_apart, entries_found, all_map}
 use Rattle.ft_replay.proofs.Acting.{go, one_event, replay-acts, each_at, acts_there, acts_sorted}
 use Rattle.ft_replay.proofs.Telling.{places, none_before, all_told}
 

@@ -21,15 +21,16 @@ use Rattle.ft_maps.specs.Entries.{same_from_tie}
 use Rattle.ft_table.specs.Growth.{empty_row}
 use Rattle.ft_pairs.specs.declared.role.Role.TheVariants.{Plain}
 use Rattle.ft_pairs.specs.declared.role.Variable.{Variable}
-use Rattle.ft_replay.specs.Base.{Triggers, Events}
+use Rattle.ft_base.specs.Base.{Triggers}
+use Rattle.ft_replay.specs.Merged.{Events}
 use Rattle.ft_replay.specs.Hits.{TriggerHit, found_at, read_as, hit_at, trigger_hits}
 use Rattle.ft_replay.specs.Replay.{Tallies, State, growth_by, started, replay}
 use Rattle.ft_table.specs.Values.{values_at}
-use Rattle.ft_replay.specs.Roles.{role_of, role_at}
+use Rattle.ft_base.specs.Roles.{role_of, role_at}
 use Rattle.ft_replay.specs.Tally.{Tally, empty_tally, tell}
 use Rattle.ft_replay.proofs.Counted.{counted, counted_all}
 use Rattle.ft_replay.proofs.Acts.{Act, made, act_of, acts_at, acts_in, size_at, growth_at, tell_act, left_before, told}
-use Rattle.ft_replay.proofs.Apart.{AreApart, entries_apart, entries_found}
+use Rattle.ft_base.proofs.Apart.{AreApart, entries_apart, entries_found}
 use Rattle.ft_replay.proofs.Acting.{replay-acts, acts_there, acts_sorted}
 use Rattle.ft_replay.proofs.Telling.{all_told}
 use Rattle.ft_replay.proofs.Reached.{found_at-is}

@@ -13,10 +13,10 @@ use Rattle.ft_table.specs.Admission.{InByRank, IsAmongFirst}
 use Rattle.ft_table.specs.Growth.{InGrows, RowsGrow, TotalsGrow}
 use Rattle.ft_table.specs.Hits.{Hits}
 use Rattle.ft_table.specs.Tabled.{is_in}
-use Rattle.ft_replay.specs.Base.{Triggers, Events}
-use Rattle.ft_replay.specs.Counting.{table_for}
-use Rattle.ft_replay.specs.Hits.{trigger_hits, hits_of, pairs_of}
-use Rattle.ft_replay.specs.Kept.{values_found, saving_found, pairs_in}
+use Rattle.ft_base.specs.Base.{Triggers}
+use Rattle.ft_replay.specs.Merged.{Events}
+use Rattle.ft_replay.specs.Hits.{trigger_hits, hits_of, pairs_of, table_for}
+use Rattle.ft_replay.specs.Found.{values_found, saving_found, pairs_in}
 use Rattle.ft_replay.specs.Operations.{is_admitted}
 use Rattle.ft_replay.specs.Replay.{replay}
 use Rattle.ft_replay.specs.Tally.{Tally, tally_of}

@@ -18,7 +18,7 @@ use Rattle.ft_pairs.specs.Order.{at_cmp, at_cmp_total, at_same}
 use Rattle.ft_pairs.specs.Source.{Ops, HasNoneBefore, IsLastBefore, IsSource}
 use Rattle.ft_replay.proofs.Acts.{Act, is_before}
 use Rattle.ft_replay.proofs.ActAt.{by_place}
-use Rattle.ft_replay.proofs.Apart.{above-is}
+use Rattle.ft_base.proofs.Apart.{above-is}
 use Rattle.ft_replay.proofs.Telling.{places}
 
 -- what an operation leaves: the place of a save, or nothing

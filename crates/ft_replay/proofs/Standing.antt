@@ -20,12 +20,12 @@ use Rattle.ft_table.specs.Growth.{ComesLast}
 use Rattle.ft_table.specs.Hits.{Hits}
 use Rattle.ft_table.specs.Marks.{mark_cmp, mark_cmp_total, mark_same}
 use Rattle.ft_table.specs.declared.mark.Mark.{Mark}
-use Rattle.ft_replay.specs.Base.{Triggers}
+use Rattle.ft_base.specs.Base.{Triggers}
 use Rattle.ft_table.specs.Values.{values_at}
-use Rattle.ft_replay.specs.OnShelves.{Shelved, Shelves, Saved, shelf_with, after_hit, after_act, IsFree, Suits, HasShelf, AreShelved, StandBefore, AllBefore}
+use Rattle.ft_replay.specs.inner.Counters.{Counting, Counters, Saved, counter_with, after_hit, after_act, IsFree, Suits, HasCounter, HaveCounters, StandBefore, AllBefore}
 use Rattle.ft_pairs.specs.declared.role.Role.{Role}
 use Rattle.ft_pairs.specs.declared.role.Role.TheVariants.{Plain, Saves, Reads}
-use Rattle.ft_replay.proofs.Shelving.{after_act-no_hit, after_act-no_shelf, after_act-hit}
+use Rattle.ft_replay.proofs.Counting.{after_act-no_hit, after_act-no_counter, after_act-hit}
 use Rattle.ft_replay.proofs.Earlier.{act_of, never_before, place_before}
 
 -- ---- one by one
@@ -38,31 +38,31 @@ each_hit P hits mark v all own m there =
       | false ↦ λ apart. all m (subst IsSome (get-insert mark_cmp_total hits mark v m ∙ ap (λ b. cond b (Some v) (map.get hits m)) apart) there)
     ] refl
 
--- what holds of each shelf holds with another one put in, where it holds of that one
-pub each_shelf : (P : ℕ → Shelved → Type 0) (shelves : Shelves) (id : ℕ) (new : Shelved) → ((q : ℕ) (s : Shelved) → map.get shelves q ≡ Some s → P q s) → P id new
-    → (q : ℕ) (s : Shelved) → map.get (map.insert shelves id new) q ≡ Some s → P q s
-each_shelf P shelves id new all own q s there =
+-- what holds of each counter holds with another one put in, where it holds of that one
+pub each_counter : (P : ℕ → Counting → Type 0) (counters : Counters) (id : ℕ) (new : Counting) → ((q : ℕ) (s : Counting) → map.get counters q ≡ Some s → P q s) → P id new
+    → (q : ℕ) (s : Counting) → map.get (map.insert counters id new) q ≡ Some s → P q s
+each_counter P counters id new all own q s there =
     elim (eq_by_cmp nat_cmp q id) as (λ b. eq_by_cmp nat_cmp q id ≡ b → P q s) [
       | true ↦ λ at.
-          let is : new ≡ s = ap (λ (o : Option Shelved). unwrap_or o new) (sym (get-insert nat_cmp_total shelves id new q ∙ ap (λ b. cond b (Some new) (map.get shelves q)) at) ∙ there) in
+          let is : new ≡ s = ap (λ (o : Option Counting). unwrap_or o new) (sym (get-insert nat_cmp_total counters id new q ∙ ap (λ b. cond b (Some new) (map.get counters q)) at) ∙ there) in
           subst (P q) is (subst (λ i. P i new) (sym (same_from_tie nat_cmp-IsAntisymmetric q id at)) own)
-      | false ↦ λ apart. all q s (sym (get-insert nat_cmp_total shelves id new q ∙ ap (λ b. cond b (Some new) (map.get shelves q)) apart) ∙ there)
+      | false ↦ λ apart. all q s (sym (get-insert nat_cmp_total counters id new q ∙ ap (λ b. cond b (Some new) (map.get counters q)) apart) ∙ there)
     ] refl
 
--- a hit leaves its trigger's shelf, or one with a hit more
-pub hit_or_not : (P : Shelved → Type 0) (values : Option Pos → List ℤ) (role : Role) (at : At) (key : List Part) (shelf : Shelved) (saved : Saved)
-    → P shelf → ((read : Option Pos) → P (shelf_with (record { pos = at.pos; key = key }) read (values read) shelf)) → P (after_hit values role at key (shelf, saved)).0
-hit_or_not P values Plain at key shelf saved none one = one None
-hit_or_not P values Saves at key shelf saved none one = one None
-hit_or_not P values (Reads saver) at key shelf saved none one =
-    elim (map.get saved (record { saver = saver; key = key })) as (λ o. map.get saved (record { saver = saver; key = key }) ≡ o → P (after_hit values (Reads saver) at key (shelf, saved)).0) [
+-- a hit leaves its trigger's counter, or one with a hit more
+pub hit_or_not : (P : Counting → Type 0) (values : Option Pos → List ℤ) (role : Role) (at : At) (key : List Part) (counter : Counting) (saved : Saved)
+    → P counter → ((read : Option Pos) → P (counter_with (record { pos = at.pos; key = key }) read (values read) counter)) → P (after_hit values role at key (counter, saved)).0
+hit_or_not P values Plain at key counter saved none one = one None
+hit_or_not P values Saves at key counter saved none one = one None
+hit_or_not P values (Reads saver) at key counter saved none one =
+    elim (map.get saved (record { saver = saver; key = key })) as (λ o. map.get saved (record { saver = saver; key = key }) ≡ o → P (after_hit values (Reads saver) at key (counter, saved)).0) [
       | None ↦ λ is. rw is none
       | Some place ↦ λ is. rw is (one (Some place))
     ] refl
 
 -- ---- the hits stand before what comes
 
-module _ (at : At) (shelves : Shelves) (before : AllBefore at shelves) where
+module _ (at : At) (counters : Counters) (before : AllBefore at counters) where
   not_there : (hits : Hits) (mark : Mark) → ((m : Mark) → IsSome (map.get hits m) → m ≡ mark → ⊥) → map.get hits mark ≡ None
   not_there hits mark none = elim (map.get hits mark) as (λ o. map.get hits mark ≡ o → o ≡ None) [
     | None ↦ λ is. refl
@@ -70,84 +70,84 @@ module _ (at : At) (shelves : Shelves) (before : AllBefore at shelves) where
   ] refl
 
   -- no hit stands where the trigger acts
-  pub free_before : IsFree at shelves
-  free_before shelf key there =
-      not_there shelf.table.hits (record { pos = at.pos; key = key }) (λ m is same.
-      never_before at_cmp_total at (subst (λ (q : Mark). at_cmp (act_of q.pos at.trigger) at ≡ Less) same (before at.trigger shelf there m is)))
+  pub free_before : IsFree at counters
+  free_before counter key there =
+      not_there counter.table.hits (record { pos = at.pos; key = key }) (λ m is same.
+      never_before at_cmp_total at (subst (λ (q : Mark). at_cmp (act_of q.pos at.trigger) at ≡ Less) same (before at.trigger counter there m is)))
 
   -- a hit there comes last
-  pub comes_last : (shelf : Shelved) (key : List Part) → map.get shelves at.trigger ≡ Some shelf → ComesLast shelf.table (record { pos = at.pos; key = key })
-  comes_last shelf key there = record {
-    absent = free_before shelf key there;
-    last = λ q is. ap (λ o. ordering_then o (key_cmp q.key key)) (place_before q.pos at.pos at.trigger (before at.trigger shelf there q is));
+  pub comes_last : (counter : Counting) (key : List Part) → map.get counters at.trigger ≡ Some counter → ComesLast counter.table (record { pos = at.pos; key = key })
+  comes_last counter key there = record {
+    absent = free_before counter key there;
+    last = λ q is. ap (λ o. ordering_then o (key_cmp q.key key)) (place_before q.pos at.pos at.trigger (before at.trigger counter there q is));
   }
 
   -- all hits stand before a later act
-  pub before_later : (next : At) → at_cmp at next ≡ Less → AllBefore next shelves
-  before_later next less id shelf there m is = at_cmp_total.trans (act_of m.pos id) at next (before id shelf there m is) less
+  pub before_later : (next : At) → at_cmp at next ≡ Less → AllBefore next counters
+  before_later next less id counter there m is = at_cmp_total.trans (act_of m.pos id) at next (before id counter there m is) less
 
   -- and still after an event at the trigger
-  pub after_act-before : (hist : Hist) (event : Traced) (saved : Saved) (next : At) → at_cmp at next ≡ Less → AllBefore next (after_act hist event at (shelves, saved)).0
+  pub after_act-before : (hist : Hist) (event : Traced) (saved : Saved) (next : At) → at_cmp at next ≡ Less → AllBefore next (after_act hist event at (counters, saved)).0
   after_act-before hist event saved next less =
-      elim (hit hist event) as (λ h. hit hist event ≡ h → AllBefore next (after_act hist event at (shelves, saved)).0) [
-        | None ↦ λ none. subst (λ (p : Shelves × Saved). AllBefore next p.0) (sym (after_act-no_hit hist event at shelves saved none)) (before_later next less)
-        | Some key ↦ λ is. elim (map.get shelves at.trigger) as (λ o. map.get shelves at.trigger ≡ o → AllBefore next (after_act hist event at (shelves, saved)).0) [
-          | None ↦ λ none. subst (λ (p : Shelves × Saved). AllBefore next p.0) (sym (after_act-no_shelf hist event at shelves saved key is none)) (before_later next less)
-          | Some shelf ↦ λ there.
-              let old : StandBefore next at.trigger shelf = before_later next less at.trigger shelf there in
-              let new : StandBefore next at.trigger (after_hit (values_at hist at.pos event) shelf.role at key (shelf, saved)).0 =
-              hit_or_not (StandBefore next at.trigger) (values_at hist at.pos event) shelf.role at key shelf saved old (λ read.
-              each_hit (λ m. at_cmp (act_of m.pos at.trigger) next ≡ Less) shelf.table.hits (record { pos = at.pos; key = key }) (values_at hist at.pos event read) old less) in
-              subst (λ (p : Shelves × Saved). AllBefore next p.0) (sym (after_act-hit hist event at shelves saved key shelf is there))
-              (each_shelf (StandBefore next) shelves at.trigger _ (before_later next less) new)
+      elim (hit hist event) as (λ h. hit hist event ≡ h → AllBefore next (after_act hist event at (counters, saved)).0) [
+        | None ↦ λ none. subst (λ (p : Counters × Saved). AllBefore next p.0) (sym (after_act-no_hit hist event at counters saved none)) (before_later next less)
+        | Some key ↦ λ is. elim (map.get counters at.trigger) as (λ o. map.get counters at.trigger ≡ o → AllBefore next (after_act hist event at (counters, saved)).0) [
+          | None ↦ λ none. subst (λ (p : Counters × Saved). AllBefore next p.0) (sym (after_act-no_counter hist event at counters saved key is none)) (before_later next less)
+          | Some counter ↦ λ there.
+              let old : StandBefore next at.trigger counter = before_later next less at.trigger counter there in
+              let new : StandBefore next at.trigger (after_hit (values_at hist at.pos event) counter.role at key (counter, saved)).0 =
+              hit_or_not (StandBefore next at.trigger) (values_at hist at.pos event) counter.role at key counter saved old (λ read.
+              each_hit (λ m. at_cmp (act_of m.pos at.trigger) next ≡ Less) counter.table.hits (record { pos = at.pos; key = key }) (values_at hist at.pos event read) old less) in
+              subst (λ (p : Counters × Saved). AllBefore next p.0) (sym (after_act-hit hist event at counters saved key counter is there))
+              (each_counter (StandBefore next) counters at.trigger _ (before_later next less) new)
         ] refl
       ] refl
 
--- ---- each trigger keeps its shelf
+-- ---- each trigger keeps its counter
 
-module _ (fits : (hist : Hist) (event : Traced) (parts : List Part) → hit hist event ≡ Some parts → KeyFits hist.keys parts) (triggers : Triggers) (shelves : Shelves) (shelved : AreShelved triggers shelves) where
-  suits_after : (hist : Hist) (event : Traced) (at : At) (saved : Saved) (key : List Part) (shelf : Shelved) → hit hist event ≡ Some key → Suits triggers hist shelf
-      → Suits triggers hist (after_hit (values_at hist at.pos event) shelf.role at key (shelf, saved)).0
-  suits_after hist event at saved key shelf is suits =
-      hit_or_not (Suits triggers hist) (values_at hist at.pos event) shelf.role at key shelf saved suits (λ read. record {
+module _ (fits : (hist : Hist) (event : Traced) (parts : List Part) → hit hist event ≡ Some parts → KeyFits hist.keys parts) (triggers : Triggers) (counters : Counters) (complete : HaveCounters triggers counters) where
+  suits_after : (hist : Hist) (event : Traced) (at : At) (saved : Saved) (key : List Part) (counter : Counting) → hit hist event ≡ Some key → Suits triggers hist counter
+      → Suits triggers hist (after_hit (values_at hist at.pos event) counter.role at key (counter, saved)).0
+  suits_after hist event at saved key counter is suits =
+      hit_or_not (Suits triggers hist) (values_at hist at.pos event) counter.role at key counter saved suits (λ read. record {
         role = suits.role;
         size = suits.size;
-        fit = each_hit (λ m. KeyFits hist.keys m.key) shelf.table.hits (record { pos = at.pos; key = key }) (values_at hist at.pos event read) suits.fit (fits hist event key is);
+        fit = each_hit (λ m. KeyFits hist.keys m.key) counter.table.hits (record { pos = at.pos; key = key }) (values_at hist at.pos event read) suits.fit (fits hist event key is);
       })
 
-  -- a trigger has its shelf as another one takes that of its own
-  with_own : (id : ℕ) (hist : Hist) (new : Shelved) → map.get triggers id ≡ Some hist → Suits triggers hist new → AreShelved triggers (map.insert shelves id new)
+  -- a trigger has its counter as another one takes that of its own
+  with_own : (id : ℕ) (hist : Hist) (new : Counting) → map.get triggers id ≡ Some hist → Suits triggers hist new → HaveCounters triggers (map.insert counters id new)
   with_own id hist new attached suits q h is =
-      elim (eq_by_cmp nat_cmp q id) as (λ b. eq_by_cmp nat_cmp q id ≡ b → HasShelf triggers (map.insert shelves id new) q h) [
+      elim (eq_by_cmp nat_cmp q id) as (λ b. eq_by_cmp nat_cmp q id ≡ b → HasCounter triggers (map.insert counters id new) q h) [
         | true ↦ λ at.
             let same : hist ≡ h = ap (λ (o : Option Hist). unwrap_or o hist) (sym attached ∙ sym (ap (map.get triggers) (same_from_tie nat_cmp-IsAntisymmetric q id at)) ∙ is) in
             record {
-              shelf = new;
-              there = get-insert nat_cmp_total shelves id new q ∙ ap (λ b. cond b (Some new) (map.get shelves q)) at;
+              counter = new;
+              there = get-insert nat_cmp_total counters id new q ∙ ap (λ b. cond b (Some new) (map.get counters q)) at;
               suits = subst (λ (x : Hist). Suits triggers x new) same suits;
             }
         | false ↦ λ apart.
-            let has : HasShelf triggers shelves q h = shelved q h is in
+            let has : HasCounter triggers counters q h = complete q h is in
             record {
-              shelf = has.shelf;
-              there = get-insert nat_cmp_total shelves id new q ∙ ap (λ b. cond b (Some new) (map.get shelves q)) apart ∙ has.there;
+              counter = has.counter;
+              there = get-insert nat_cmp_total counters id new q ∙ ap (λ b. cond b (Some new) (map.get counters q)) apart ∙ has.there;
               suits = has.suits;
             }
       ] refl
 
-  pub after_act-shelved : (hist : Hist) (event : Traced) (at : At) (saved : Saved) → map.get triggers at.trigger ≡ Some hist → AreShelved triggers (after_act hist event at (shelves, saved)).0
-  after_act-shelved hist event at saved attached =
-      let has : HasShelf triggers shelves at.trigger hist = shelved at.trigger hist attached in
-      elim (hit hist event) as (λ h. hit hist event ≡ h → AreShelved triggers (after_act hist event at (shelves, saved)).0) [
-        | None ↦ λ none. subst (λ (p : Shelves × Saved). AreShelved triggers p.0) (sym (after_act-no_hit hist event at shelves saved none)) shelved
+  pub after_act-complete : (hist : Hist) (event : Traced) (at : At) (saved : Saved) → map.get triggers at.trigger ≡ Some hist → HaveCounters triggers (after_act hist event at (counters, saved)).0
+  after_act-complete hist event at saved attached =
+      let has : HasCounter triggers counters at.trigger hist = complete at.trigger hist attached in
+      elim (hit hist event) as (λ h. hit hist event ≡ h → HaveCounters triggers (after_act hist event at (counters, saved)).0) [
+        | None ↦ λ none. subst (λ (p : Counters × Saved). HaveCounters triggers p.0) (sym (after_act-no_hit hist event at counters saved none)) complete
         | Some key ↦ λ is.
-            subst (λ (p : Shelves × Saved). AreShelved triggers p.0) (sym (after_act-hit hist event at shelves saved key has.shelf is has.there))
-            (with_own at.trigger hist _ attached (suits_after hist event at saved key has.shelf is has.suits))
+            subst (λ (p : Counters × Saved). HaveCounters triggers p.0) (sym (after_act-hit hist event at counters saved key has.counter is has.there))
+            (with_own at.trigger hist _ attached (suits_after hist event at saved key has.counter is has.suits))
       ] refl
 
 -- ---- at the start
 
 -- an empty table has no hits
-pub none_before : (at : At) (shelf : Shelved) (id : ℕ) → shelf.table.hits ≡ map.empty → StandBefore at id shelf
-none_before at shelf id empty m is =
+pub none_before : (at : At) (counter : Counting) (id : ℕ) → counter.table.hits ≡ map.empty → StandBefore at id counter
+none_before at counter id empty m is =
     let none : ◌≡◌ {A = Bool} false true = subst IsSome (ap (λ (hits : Hits). map.get hits m) empty ∙ get-empty mark_cmp m) is in cc

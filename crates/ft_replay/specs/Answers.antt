@@ -3,20 +3,20 @@ use Rattle.std.specs.Prelude.{ℕ, ◌-◌, List, ◌++◌, codes, unwrap_or, Op
 use Rattle.std.specs.Option.{option_map_or}
 use Rattle.std.specs.FinMap as map
 use Rattle.ft_event.specs.declared.pos.Pos.{Pos}
-use Rattle.ft_lanes.specs.Listing.{lane_text}
 use Rattle.ft_hist.specs.Canonical.{canonical}
 use Rattle.ft_hist.specs.Hist.{Hist}
 use Rattle.ft_hist.specs.declared.label.Var.{Var}
 use Rattle.ft_hist.specs.declared.label.Var.TheVariants as vars
-use Rattle.ft_table.specs.declared.row.Totals.{Totals}
+use Rattle.ft_rows.specs.declared.row.Totals.{Totals}
 use Rattle.ft_table.specs.Text.{rows_text}
-use Rattle.ft_replay.specs.declared.refused.Latency.{Latency}
-use Rattle.ft_replay.specs.declared.refused.Place.{Place}
-use Rattle.ft_replay.specs.declared.refused.Refused.{Refused}
-use Rattle.ft_replay.specs.declared.refused.Refused.TheVariants.{NoLane, NoTrigger, NotReading}
+use Rattle.ft_replay.specs.declared.pair.Latency.{Latency}
+use Rattle.ft_base.specs.declared.refused.Place.{Place}
+use Rattle.ft_base.specs.declared.refused.Refused.{Refused}
+use Rattle.ft_base.specs.declared.refused.Refused.TheVariants.{NoTrigger, NotReading}
 use Rattle.ft_replay.specs.declared.pair.Pair.{Pair}
-use Rattle.ft_replay.specs.Base.{Triggers, Events, Base}
-use Rattle.ft_replay.specs.Merged.{merged}
+pub use Rattle.ft_base.specs.Answers.{list_text}
+use Rattle.ft_base.specs.Base.{Triggers, Base}
+use Rattle.ft_replay.specs.Merged.{Events, merged}
 use Rattle.ft_replay.specs.Replay.{replay}
 use Rattle.ft_replay.specs.Tally.{Tally, empty_tally, rows_in, totals_in}
 
@@ -74,7 +74,3 @@ totals base = totals_from base.triggers (merged base.lanes)
 -- a trigger's latencies (kernel: histogram.rst, wakeup latencies)
 unfoldable pub latencies : Base → ℕ → Result (List Latency) Refused
 latencies base = latencies_from base.triggers (merged base.lanes)
-
--- the text of a CPU's lane (our own choice)
-unfoldable pub list_text : Base → ℕ → Result (List ℕ) Refused
-list_text base cpu = option_map_or (λ lane. Ok (lane_text cpu lane)) (map.get base.lanes cpu) (Err (NoLane cpu))

@@ -1,19 +1,10 @@
--- How a proof tells bases and boards apart: by what they hold.
+-- How a proof tells boards apart: by what they show.
 use Rattle.std.specs.Prelude.{ℕ, Bool, refl}
 use Rattle.std.specs.Coded.{Coded, code_by, coded×, coded_ℕ, coded_bool}
-use Rattle.std.specs.FinMap as map
-use Rattle.ft_hist.specs.Codes.{hist_code}
 use Rattle.ft_hist.specs.Steps.{Steps}
-use Rattle.ft_lanes.specs.Codes.{lanes_code}
-use Rattle.ft_lanes.specs.Held.{Lanes}
-use Rattle.ft_replay.specs.Base.{Triggers, Base}
+use Rattle.ft_base.specs.Base.{Base}
+use Rattle.ft_base.specs.Codes.{base_code}
 use Rattle.ft_replay.specs.Shown.{Shown}
-
--- a base, stored as its lanes, its triggers and its next id (our own choice)
-abbrev pub base_code : Coded Base
-base_code = code_by
-    (Lanes × (Triggers × ℕ)) (coded× lanes_code (coded× (map.code coded_ℕ hist_code) coded_ℕ))
-    (λ base. (base.lanes, (base.triggers, base.next_id))) (λ p. record { lanes = p.0; triggers = p.1.0; next_id = p.1.1 }) (λ _. refl)
 
 -- counts of steps, stored as two numbers (our own choice)
 abbrev pub steps_code : Coded Steps

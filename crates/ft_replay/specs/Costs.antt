@@ -1,20 +1,16 @@
 -- What edits and answers cost, in steps (our own choice).
-use Rattle.std.specs.Prelude.{◌≡◌, ℕ, ◌+◌, ◌*◌, ◌≤◌, true, false, List, Some, Result, Ok, Err}
-use Rattle.std.specs.FinMap as map
+use Rattle.std.specs.Prelude.{◌≡◌, ℕ, ◌+◌, ◌*◌, ◌≤◌, true, false, List, Result, Ok, Err}
 use Rattle.ft_event.specs.Traced.{Traced}
-use Rattle.ft_event.specs.declared.pos.Pos.{Pos}
 use Rattle.ft_hist.specs.Steps.{Steps, StepsGrow}
 use Rattle.ft_hist.specs.declared.key.Part.{Part}
 use Rattle.ft_hist.specs.Tests.{count_on}
 use Rattle.ft_pairs.specs.declared.role.Role.TheVariants.{Saves}
-use Rattle.ft_lanes.specs.Held.{event_at}
-use Rattle.ft_replay.specs.declared.refused.Place.{Place}
-use Rattle.ft_replay.specs.declared.refused.Refused.{Refused}
-use Rattle.ft_replay.specs.Base.{Triggers, Events, Base}
-use Rattle.ft_replay.specs.Merged.{merged}
+use Rattle.ft_base.specs.declared.refused.Refused.{Refused}
+use Rattle.ft_base.specs.Base.{Triggers, Base}
+use Rattle.ft_replay.specs.Merged.{Events, merged}
 use Rattle.ft_replay.specs.Operations.{is_admitted}
 use Rattle.ft_replay.specs.Replay.{replay}
-use Rattle.ft_replay.specs.Roles.{role_at}
+use Rattle.ft_base.specs.Roles.{role_at}
 use Rattle.ft_replay.specs.Shown.{Shown}
 
 -- a board keeps tables after an edit just where it did before, and no count falls; a refused edit takes no step (our own choice)
@@ -45,23 +41,3 @@ pub record AnswerCosts (old new : Shown) : Type 0 where
   pub keeps : new.keeps ≡ old.keeps
   pub grow : StepsGrow old.steps new.steps
   pub none : IsUpToDate old → new.steps ≡ old.steps
-
--- the place of an event of a line in the merged order (our own choice)
-abbrev pub pos_at : Place → Traced → Pos
-pos_at place event = record { stamp = event.stamp; cpu = place.cpu; line = place.line }
-
--- a base's events but the one of a line (our own choice)
-abbrev pub merged_without : Base → Place → Traced → Events
-merged_without base place event = map.remove (merged base.lanes) (pos_at place event)
-
--- what it costs that the event of a line, which the base holds, comes to tables (our own choice)
-abbrev pub ComesAtCost : Base → Place → Steps → Steps → Type 0
-ComesAtCost base place old new =
-    (event : Traced) → event_at base.lanes place.cpu place.line ≡ Some event
-    → CostsOf base.triggers event (merged_without base place event) (merged base.lanes) old new
-
--- what it costs that the event of a line, which the base holds, goes from tables (our own choice)
-abbrev pub GoesAtCost : Base → Place → Steps → Steps → Type 0
-GoesAtCost base place old new =
-    (event : Traced) → event_at base.lanes place.cpu place.line ≡ Some event
-    → CostsOf base.triggers event (merged base.lanes) (merged_without base place event) old new

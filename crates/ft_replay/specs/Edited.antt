@@ -1,15 +1,12 @@
 -- What an edit or an answer of a board says, by what contracts see of the board before and after it.
 use Rattle.std.specs.Prelude.{◌≡◌, ◌≢◌, ◌⊎◌, ℕ, Bool, true, false, Result, Ok, Err}
-use Rattle.std.specs.FinMap as map
-use Rattle.ft_lanes.specs.Edits.{lanes_without}
-use Rattle.ft_replay.specs.declared.refused.Place.{Place}
-use Rattle.ft_replay.specs.declared.refused.Refused.{Refused}
-use Rattle.ft_replay.specs.declared.refused.Refused.TheVariants.{Memory}
-use Rattle.ft_replay.specs.declared.refused.Done.{Done}
-use Rattle.ft_replay.specs.declared.refused.Kept.{Kept}
-use Rattle.ft_replay.specs.declared.refused.Kept.TheVariants.{Now, Later}
-use Rattle.ft_replay.specs.After.{after_strike, after_remove}
-use Rattle.ft_replay.specs.Base.{Base}
+use Rattle.ft_base.specs.declared.refused.Refused.{Refused}
+use Rattle.ft_base.specs.declared.refused.Refused.TheVariants.{Memory}
+use Rattle.ft_replay.specs.declared.done.Done.{Done}
+use Rattle.ft_replay.specs.declared.done.Kept.{Kept}
+use Rattle.ft_replay.specs.declared.done.Kept.TheVariants.{Now, Later}
+pub use Rattle.ft_base.specs.Answers.{AnswerIs}
+use Rattle.ft_base.specs.Base.{Base}
 use Rattle.ft_replay.specs.Shown.{Shown}
 
 -- `Later` just where the tables are deferred (our own choice)
@@ -21,26 +18,6 @@ kept_of false = Now
 abbrev pub EditGives : {S T : Type 0} → (S → T) → Result (Base × T) Refused → Shown → Shown → Result (Done S) Refused → Type 0
 EditGives view after old new (Ok done) = (after ≡ Ok (new.base, view done.value)) × (done.kept ≡ kept_of new.deferred) × (old.deferred ≡ true → new.deferred ≡ true)
 EditGives view after old new (Err refused) = (new.base ≡ old.base) × (new.deferred ≡ old.deferred) × ((refused ≡ Memory) ⊎ (after ≡ Err refused))
-
--- An edit of a base did what after says: the new base and the value, or its refusal and nothing changed. Want of memory may stand in place of any answer, and changes nothing either (our own choice).
-abbrev pub BaseGives : {T : Type 0} → Result (Base × T) Refused → Base → Base → Result T Refused → Type 0
-BaseGives after old new (Ok value) = after ≡ Ok (new, value)
-BaseGives after old new (Err refused) = (new ≡ old) × ((refused ≡ Memory) ⊎ (after ≡ Err refused))
-
--- The place of a CPU's line that can be struck, or why it can't be (our own choice).
-abbrev pub FindsToStrike : Base → ℕ → ℕ → Result Place Refused → Type 0
-FindsToStrike base cpu line (Ok place) = after_strike base cpu line ≡ Ok (record base { lanes = lanes_without base.lanes place.cpu place.line }, place)
-FindsToStrike base cpu line (Err refused) = after_strike base cpu line ≡ Err refused
-
--- A trigger can be removed, or why it can't be (our own choice).
-abbrev pub FindsToRemove : Base → ℕ → Result Unit Refused → Type 0
-FindsToRemove base id (Ok done) = after_remove base id ≡ Ok (record base { triggers = map.remove base.triggers id }, id)
-FindsToRemove base id (Err refused) = after_remove base id ≡ Err refused
-
--- An answer is the one expected, as view sees it, unless memory ran out (our own choice).
-abbrev pub AnswerIs : {S T : Type 0} → (S → T) → Result T Refused → Result S Refused → Type 0
-AnswerIs view expected (Ok answer) = expected ≡ Ok (view answer)
-AnswerIs view expected (Err refused) = (refused ≡ Memory) ⊎ (expected ≡ Err refused)
 
 -- After an accepted answer the tables are not deferred. Want of memory doesn't make them so, and another refusal leaves the flag as it was (our own choice).
 abbrev pub AnswerKeeps : {S : Type 0} → Bool → Bool → Result S Refused → Type 0

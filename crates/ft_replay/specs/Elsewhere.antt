@@ -4,11 +4,12 @@ use Rattle.std.specs.FinMap as map
 use Rattle.ft_pairs.specs.declared.at.At.{At}
 use Rattle.ft_pairs.specs.declared.at.Op.TheVariants.{Read}
 use Rattle.ft_pairs.specs.declared.role.Variable.{Variable}
-use Rattle.ft_replay.specs.Base.{Triggers, Events}
+use Rattle.ft_base.specs.Base.{Triggers}
+use Rattle.ft_replay.specs.Merged.{Events}
 use Rattle.ft_replay.specs.Hits.{found_at}
 use Rattle.ft_replay.specs.Operations.{is_admitted, ops_on}
 use Rattle.ft_replay.specs.Replay.{replay}
-use Rattle.ft_replay.specs.Roles.{role_at}
+use Rattle.ft_base.specs.Roles.{role_at}
 
 -- the place has one event in both replays, and one trigger, which does the same with its variable (our own choice)
 pub record IsSameAct (triggers others : Triggers) (events more : Events) (at : At) : Type 0 where

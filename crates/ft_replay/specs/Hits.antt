@@ -6,18 +6,21 @@ use Rattle.std.specs.FinMap as map
 use Rattle.ft_event.specs.declared.pos.Pos.{Pos}
 use Rattle.ft_event.specs.Places.{pos_cmp}
 use Rattle.ft_hist.specs.declared.key.Part.{Part}
+use Rattle.ft_hist.specs.Hist.{Hist}
 use Rattle.ft_hist.specs.Hit.{hit}
 use Rattle.ft_pairs.specs.declared.at.At.{At}
 use Rattle.ft_table.specs.declared.mark.Mark.{Mark}
 use Rattle.ft_table.specs.Hits.{Hits}
+use Rattle.ft_table.specs.Tabled.{Tabled}
 use Rattle.ft_replay.specs.declared.pair.Pair.{Pair}
 use Rattle.ft_pairs.specs.declared.role.Role.{Role}
 use Rattle.ft_pairs.specs.declared.role.Role.TheVariants.{Plain, Saves, Reads}
 use Rattle.ft_pairs.specs.declared.role.Variable.{Variable}
-use Rattle.ft_replay.specs.Base.{Triggers, Events}
+use Rattle.ft_base.specs.Base.{Triggers}
+use Rattle.ft_replay.specs.Merged.{Events}
 use Rattle.ft_replay.specs.Replay.{State, act_at, replay}
 use Rattle.ft_table.specs.Values.{values_at}
-use Rattle.ft_replay.specs.Roles.{role_of}
+use Rattle.ft_base.specs.Roles.{role_of}
 
 -- what replaying has come to as a trigger comes to act at a place: all events before have gone past, and the triggers before have acted there (our own choice)
 unfoldable pub state_before : Triggers → Events → At → State
@@ -62,6 +65,10 @@ entry_of found = (record { pos = found.pos; key = found.key }, found.values)
 -- the map of hits that the table of a trigger is made of (our own choice)
 unfoldable pub hits_of : Triggers → Events → ℕ → Hits
 hits_of triggers events id = map.from_entries (list_map entry_of (trigger_hits triggers events id))
+
+-- a trigger's table with these hits (kernel: histogram.rst, `size`)
+abbrev pub table_for : Hist → Hits → Tabled
+table_for hist hits = record { hits = hits; size = hist.size }
 
 -- the pair of a hit, where it read (our own choice)
 abbrev pub pair_of : TriggerHit → Option Pair

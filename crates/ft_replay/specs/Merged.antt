@@ -2,10 +2,15 @@
 use Rattle.std.specs.Prelude.{ℕ, List, Option, Some, None, ◌==◌, if◌then◌else◌, option_and_then, map as list_map, fold}
 use Rattle.std.specs.List.{flat_map}
 use Rattle.std.specs.FinMap as map
+use Rattle.std.specs.FinMap.{FinMap}
 use Rattle.ft_event.specs.Traced.{Traced}
+use Rattle.ft_event.specs.Places.{pos_cmp}
 use Rattle.ft_event.specs.declared.pos.Pos.{Pos}
 use Rattle.ft_lanes.specs.Held.{Lane, Lanes, event_at}
-use Rattle.ft_replay.specs.Base.{Events}
+
+-- events by place, and so in merged order (our own choice)
+abbrev pub Events : Type 0
+Events = FinMap pos_cmp Traced
 
 -- the place of a CPU's line with this event (our own choice)
 abbrev pub place_of : ℕ → ℕ × Traced → Pos

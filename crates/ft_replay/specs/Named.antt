@@ -7,7 +7,8 @@ use Rattle.ft_event.specs.declared.event.Name.{Name}
 use Rattle.ft_event.specs.declared.event.Name.TheVariants as kinds
 use Rattle.ft_hist.specs.Hit.{same_name}
 use Rattle.ft_replay.specs.declared.names.Names.{Names}
-use Rattle.ft_replay.specs.Base.{Triggers, Events}
+use Rattle.ft_base.specs.Base.{Triggers}
+use Rattle.ft_replay.specs.Merged.{Events}
 
 -- some attached trigger is on the events of a name (kernel: histogram.rst, hist triggers)
 unfoldable pub is_on : Triggers → Name → Bool

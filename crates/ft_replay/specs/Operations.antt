@@ -6,9 +6,10 @@ use Rattle.ft_hist.specs.declared.key.Part.{Part}
 use Rattle.ft_hist.specs.Hit.{hit}
 use Rattle.ft_pairs.specs.Source.{Ops}
 use Rattle.ft_pairs.specs.declared.role.Variable.{Variable}
-use Rattle.ft_replay.specs.Base.{Triggers, Events}
+use Rattle.ft_base.specs.Base.{Triggers}
+use Rattle.ft_replay.specs.Merged.{Events}
 use Rattle.ft_replay.specs.Replay.{State, replay}
-use Rattle.ft_replay.specs.Roles.{role_at}
+use Rattle.ft_base.specs.Roles.{role_at}
 use Rattle.ft_pairs.specs.Roles.{op_as}
 
 -- the key is in the table of the trigger with the id (kernel: histogram.rst, `size`)

@@ -13,8 +13,9 @@ use Rattle.ft_pairs.specs.declared.at.At.{At}
 use Rattle.ft_table.specs.Growth.{grown, empty_row}
 use Rattle.ft_pairs.specs.declared.role.Role.{Role}
 use Rattle.ft_pairs.specs.declared.role.Role.TheVariants.{Plain, Saves, Reads}
-use Rattle.ft_replay.specs.Base.{Triggers, Events}
-use Rattle.ft_replay.specs.Roles.{role_of}
+use Rattle.ft_base.specs.Base.{Triggers}
+use Rattle.ft_replay.specs.Merged.{Events}
+use Rattle.ft_base.specs.Roles.{role_of}
 use Rattle.ft_replay.specs.Tally.{Tally, RowGrowth, empty_tally, has_place, tell}
 use Rattle.ft_table.specs.Values.{values_at}
 use Rattle.ft_pairs.specs.Variables.{variable_cmp}

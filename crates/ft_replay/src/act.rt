@@ -8,10 +8,10 @@ ghost use Rattle.ft_maps.specs.Seen.{seen};
 ghost use Rattle.ft_table.specs.Tabled.{is_in};
 ghost use Rattle.ft_hist.specs.Steps.{StepsGrow};
 ghost use Rattle.ft_table.specs.Values.{values_at};
-ghost use Rattle.ft_replay.specs.OnShelves.{after_hit, after_act, IsFree};
+ghost use Rattle.ft_replay.specs.inner.Counters.{after_hit, after_act, IsFree};
 ghost use Rattle.ft_pairs.specs.Variables.{variable_cmp};
 
-use crate::shelf::Shelf;
+use crate::counter::Counter;
 use ft_event::{Event, Pos};
 use ft_hist::{Key, Trigger, Work};
 use ft_maps::{get, put, take};
@@ -20,79 +20,79 @@ use ft_table::hit_with;
 use std::alloc::AllocError;
 use std::collections::BTreeMap;
 
-/// One event at one attached trigger, whose shelf has no hit there yet: it acts where the event is
-/// a hit. Refused for memory.
+/// One event at one attached trigger, whose counter has no hit there yet: it acts where the event
+/// is a hit. Refused for memory.
 pub(crate) fn act(
     trigger: &Trigger,
     event: &Event,
     at: At,
-    shelves: &mut BTreeMap<u32, Shelf>,
+    counters: &mut BTreeMap<u32, Counter>,
     saved: &mut BTreeMap<Variable, Pos>,
     work: &mut Work,
 ) -> Result<(), AllocError>
     requires stamped { at.pos.stamp ≡ event.now.stamp }
-    requires free { IsFree at (seen nat_cmp shelves.old) }
-    ensures acts { OnOk result ((seen nat_cmp shelves.new, seen variable_cmp saved.new)
+    requires free { IsFree at (seen nat_cmp counters.old) }
+    ensures acts { OnOk result ((seen nat_cmp counters.new, seen variable_cmp saved.new)
         ≡ after_act trigger.now event.now at
-        (seen nat_cmp shelves.old, seen variable_cmp saved.old)) }
+        (seen nat_cmp counters.old, seen variable_cmp saved.old)) }
     ensures grow { StepsGrow work.old work.new }
 {
     let Some(key) = trigger.hit_of(event, work) else {
         return Ok(());
     };
-    match shelves.get_mut(&at.trigger) {
-        Some(shelf) => act_as(trigger, event, at, key, shelf, saved, work),
+    match counters.get_mut(&at.trigger) {
+        Some(counter) => act_as(trigger, event, at, key, counter, saved, work),
         None => Ok(()),
     }
 }
 
-/// A hit of a key, on the trigger's shelf and on the variables.
+/// A hit of a key, in the trigger's counter and on the variables.
 fn act_as(
     trigger: &Trigger,
     event: &Event,
     at: At,
     key: Key,
-    shelf: &mut Shelf,
+    counter: &mut Counter,
     saved: &mut BTreeMap<Variable, Pos>,
     work: &mut Work,
 ) -> Result<(), AllocError>
     requires stamped { at.pos.stamp ≡ event.now.stamp }
-    requires free { map.get shelf.old.table.hits (record { pos = at.pos; key = key }) ≡ None }
-    ensures acts { OnOk result ((shelf.new, seen variable_cmp saved.new)
-        ≡ after_hit (values_at trigger.now at.pos event.now) shelf.old.role at key
-        (shelf.old, seen variable_cmp saved.old)) }
+    requires free { map.get counter.old.table.hits (record { pos = at.pos; key = key }) ≡ None }
+    ensures acts { OnOk result ((counter.new, seen variable_cmp saved.new)
+        ≡ after_hit (values_at trigger.now at.pos event.now) counter.old.role at key
+        (counter.old, seen variable_cmp saved.old)) }
     ensures grow { StepsGrow work.old work.new }
 {
-    match shelf.role() {
-        Role::Plain => shelf.add(hit_with(trigger, event, at.pos, key, None), None, work),
+    match counter.role() {
+        Role::Plain => counter.add(hit_with(trigger, event, at.pos, key, None), None, work),
         Role::Saves => {
-            shelf.add(hit_with(trigger, event, at.pos, key, None), None, work)?;
-            save(shelf, at, key, saved)
+            counter.add(hit_with(trigger, event, at.pos, key, None), None, work)?;
+            save(counter, at, key, saved)
         }
         Role::Reads(saver) => {
             let Some(place) = found(saved, Variable { saver, key }) else {
                 return Ok(());
             };
             let hit = hit_with(trigger, event, at.pos, key, Some(place));
-            shelf.add(hit, Some(place), work)
+            counter.add(hit, Some(place), work)
         }
     }
 }
 
-/// Sets the variable of a saver's hit that is on its shelf, where the key is in the table. Refused
-/// for memory.
+/// Sets the variable of a saver's hit that is in its counter, where the key is in the table.
+/// Refused for memory.
 fn save(
-    shelf: &Shelf,
+    counter: &Counter,
     at: At,
     key: Key,
     saved: &mut BTreeMap<Variable, Pos>,
 ) -> Result<(), AllocError>
     ensures { OnOk result (seen variable_cmp saved.new
-        ≡ (if is_in shelf.now.table key
+        ≡ (if is_in counter.now.table key
         then map.insert (seen variable_cmp saved.old) (record { saver = at.trigger; key = key }) at.pos
         else seen variable_cmp saved.old)) }
 {
-    if shelf.table().is_in(&key) {
+    if counter.table().is_in(&key) {
         let variable = Variable {
             saver: at.trigger,
             key,

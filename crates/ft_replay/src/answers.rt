@@ -8,19 +8,18 @@ ghost use Rattle.ft_maps.specs.Seen.{seen};
 ghost use Rattle.ft_table.specs.Rows.{AllFit};
 ghost use Rattle.ft_hist.specs.Steps.{StepsGrow};
 ghost use Rattle.ft_replay.specs.Edited.{AnswerIs};
-ghost use Rattle.ft_replay.specs.Answers.{heading, tally_at, tally_text, latency_of, line_at};
+ghost use Rattle.ft_replay.specs.Answers.{heading, tally_at, tally_text, latency_of};
 ghost use Rattle.ft_replay.specs.Answers.{hist_from, totals_from, latencies_from};
 ghost use Rattle.ft_replay.specs.Merged.{merged};
-ghost use Rattle.ft_replay.specs.OnShelves.{tally_on, is_reader};
+ghost use Rattle.ft_replay.specs.inner.Counters.{tally_in};
 ghost use Rattle.ft_replay.specs.Tally.{tally_of};
 ghost use Rattle.ft_replay.specs.declared.pair.Pair.{Pair};
 
-use crate::pair::Pair;
-use crate::refused::{Latency, Place, Refused};
+use crate::counter::Counter;
+use crate::pair::{Latency, Pair, latency_of};
 use crate::replay::replayed;
-use crate::shelf::Shelf;
-use ft_event::Pos;
-use ft_hist::{Trigger, Var, Work};
+use ft_base::{Refused, is_reader};
+use ft_hist::{Trigger, Work};
 use ft_lanes::Lanes;
 use ft_maps::get;
 use ft_table::{Table, Totals};
@@ -43,10 +42,10 @@ pub(crate) fn hist_from(
     let Some(trigger) = get(triggers, &id) else {
         return Err(Refused::NoTrigger);
     };
-    let Ok(shelf) = shelf_at(alloc, lanes, triggers, id, work) else {
+    let Ok(counter) = counter_at(alloc, lanes, triggers, id, work) else {
         return Err(Refused::Memory);
     };
-    match table_text(alloc, trigger, shelf.table()) {
+    match table_text(alloc, trigger, counter.table()) {
         Ok(text) => Ok(text),
         Err(_) => Err(Refused::Memory),
     }
@@ -67,10 +66,10 @@ pub(crate) fn totals_from(
     if get(triggers, &id).is_none() {
         return Err(Refused::NoTrigger);
     }
-    let Ok(shelf) = shelf_at(alloc, lanes, triggers, id, work) else {
+    let Ok(counter) = counter_at(alloc, lanes, triggers, id, work) else {
         return Err(Refused::Memory);
     };
-    Ok(shelf.table().totals())
+    Ok(counter.table().totals())
 }
 
 /// The latencies of the trigger with an id. Refused where no trigger has the id, where it reads no
@@ -92,32 +91,32 @@ pub(crate) fn latencies_from(
     if !is_reader(trigger) {
         return Err(Refused::NotReading);
     }
-    let Ok(shelf) = shelf_at(alloc, lanes, triggers, id, work) else {
+    let Ok(counter) = counter_at(alloc, lanes, triggers, id, work) else {
         return Err(Refused::Memory);
     };
-    match latencies_of(alloc, shelf.pairs()) {
+    match latencies_of(alloc, counter.pairs()) {
         Ok(latencies) => Ok(latencies),
         Err(_) => Err(Refused::Memory),
     }
 }
 
-/// The shelf of an attached trigger after all held events. Refused for memory.
-fn shelf_at(
+/// The counter of an attached trigger after all held events. Refused for memory.
+fn counter_at(
     alloc: Global,
     lanes: &Lanes,
     triggers: &BTreeMap<u32, Trigger>,
     id: u32,
     work: &mut Work,
-) -> Result<Shelf, AllocError>
+) -> Result<Counter, AllocError>
     requires { IsSome (map.get (seen nat_cmp triggers.now) id) }
-    ensures tally { IfOk result (λ shelf. tally_on shelf
+    ensures tally { IfOk result (λ counter. tally_in counter
         ≡ tally_at (seen nat_cmp triggers.now) (merged lanes.now) id) }
-    ensures fit { IfOk result (λ shelf. (hist : Hist)
-        → map.get (seen nat_cmp triggers.now) id ≡ Some hist → AllFit shelf.table hist) }
+    ensures fit { IfOk result (λ counter. (hist : Hist)
+        → map.get (seen nat_cmp triggers.now) id ≡ Some hist → AllFit counter.table hist) }
     ensures grow { StepsGrow work.old work.new }
 {
-    let mut shelves = replayed(alloc, lanes, triggers, work)?;
-    Ok(shelves.remove(&id).unwrap())
+    let mut counters = replayed(alloc, lanes, triggers, work)?;
+    Ok(counters.remove(&id).unwrap())
 }
 
 /// The text of a trigger with this table. Refused for memory.
@@ -143,16 +142,6 @@ fn write_heading(trigger: &Trigger, text: &mut Vec<u8>) -> Result<(), AllocError
     text.extend_from_slice(b" [active]\n#\n\n")
 }
 
-/// Whether a trigger reads a variable.
-pub fn is_reader(trigger: &Trigger) -> bool
-    ensures { result ≡ is_reader trigger.now.variable }
-{
-    match trigger.variable() {
-        Some(Var::Reads { .. }) => true,
-        Some(Var::Saves(_)) | None => false,
-    }
-}
-
 /// Pairs as latencies, in the same order. Refused for memory.
 fn latencies_of(alloc: Global, pairs: &[Pair]) -> Result<Vec<Latency>, AllocError>
     ensures { IfOk result (λ latencies. latencies.items ≡ list_map latency_of pairs.now) }
@@ -162,25 +151,4 @@ fn latencies_of(alloc: Global, pairs: &[Pair]) -> Result<Vec<Latency>, AllocErro
         latencies.push(latency_of(*pair))?;
     }
     Ok(latencies)
-}
-
-/// A pair as a latency.
-pub fn latency_of(pair: Pair) -> Latency
-    ensures { result ≡ latency_of pair }
-{
-    Latency {
-        saved: line_at(pair.saved),
-        read: line_at(pair.read),
-        micros: pair.read.stamp.saturating_sub(pair.saved.stamp),
-    }
-}
-
-/// The line that stands at a place in the merged order.
-fn line_at(pos: Pos) -> Place
-    ensures { result ≡ line_at pos }
-{
-    Place {
-        cpu: pos.cpu,
-        line: pos.line,
-    }
 }

@@ -1,6 +1,8 @@
 //! What a board is, however it keeps its tables.
 
-use crate::refused::{Done, Latency, Place, Refused};
+use crate::done::Done;
+use crate::pair::Latency;
+use ft_base::{Place, Refused};
 use ft_event::{Event, Name};
 use ft_filter::Filter;
 use ft_hist::Trigger;
@@ -20,9 +22,9 @@ pub trait Board: Drop {
     ghost use Rattle.ft_event.specs.Traced.{Traced};
     ghost use Rattle.ft_hist.specs.Hist.{Hist};
     ghost use Rattle.ft_lanes.specs.Held.{event_at};
-    ghost use Rattle.ft_replay.specs.declared.refused.Refused.TheVariants.{Memory};
-    ghost use Rattle.ft_replay.specs.After.{after_load, after_unload, after_insert, after_strike};
-    ghost use Rattle.ft_replay.specs.After.{after_attach, after_refilter, after_remove};
+    ghost use Rattle.ft_base.specs.declared.refused.Refused.TheVariants.{Memory};
+    ghost use Rattle.ft_base.specs.After.{after_load, after_unload, after_insert, after_strike};
+    ghost use Rattle.ft_base.specs.After.{after_attach, after_refilter, after_remove};
     ghost use Rattle.ft_replay.specs.Answers.{hist_text, totals, latencies, list_text};
     ghost use Rattle.ft_replay.specs.Costs.{EditCounts, RepairCosts, AnswerCosts};
     ghost use Rattle.ft_replay.specs.Edited.{EditGives, AnswersFrom, AnswerIs};

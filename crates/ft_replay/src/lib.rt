@@ -1,36 +1,44 @@
-//! What the desk holds and what is attached to it: lanes of events, triggers, and what replaying
-//! the events gives.
+//! Replaying: what the attached triggers count if all held events go past them in order, now.
+//!
+//! All held events stand in one merged order: by stamp, then by CPU, then by line. At each the
+//! triggers act in order of id: a hit is counted, and may save a variable or read one. What a
+//! `Board` answers is a function of that, however it keeps its tables. `PlainBoard` keeps none, and
+//! replays at each answer.
+//!
+//! ```ignore
+//! let mut board = PlainBoard::new(rt.alloc());
+//! board.load(events)?;
+//! let id = board.attach(trigger)?.value;
+//! let totals = board.totals(id)?;
+//! let Place { cpu, line } = board.insert(event)?.value;
+//! let text = board.hist(id)?;
+//! board.strike(u32::from(cpu), line)?;
+//! // An answer depends on what is held and attached, and on nothing else.
+//! assert!(rt; board.totals(id)? == totals);
+//! ```
 #![tactic(auto)]
 
 mod act;
 mod answers;
-mod attach;
 mod board;
-mod content;
-mod counting;
-mod edits;
-mod laws;
-mod matching;
+mod counter;
+mod done;
+pub mod laws;
 mod merge;
 mod names;
-mod order;
 mod pair;
 mod plain;
-mod refused;
 mod replay;
-mod roles;
-mod shelf;
 
-pub use answers::{is_reader, latency_of, table_text};
+pub use answers::table_text;
 pub use board::Board;
-pub use content::Content;
-pub use counting::{counted_hits, kept_maps};
-pub use laws::reachable_bases;
-pub use matching::{matched_readings, one_saver, same_elsewhere};
+pub use done::{Done, Kept};
+pub use ft_base::{Content, Place, Refused, is_reader, one_saver, reachable_bases, role_of};
+pub use laws::{
+    counted_hits, kept_maps, matched_readings, merged_order, named_events, plain_board_keeps_none,
+    same_elsewhere,
+};
 pub use merge::{events_with, merged_events};
 pub use names::Names;
-pub use order::{merged_order, named_events};
-pub use pair::Pair;
-pub use plain::{PlainBoard, plain_board_keeps_none};
-pub use refused::{Done, Kept, Latency, Place, Refused};
-pub use roles::role_of;
+pub use pair::{Latency, Pair, latency_of};
+pub use plain::PlainBoard;

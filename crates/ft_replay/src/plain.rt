@@ -4,8 +4,9 @@ ghost use Rattle.std.specs.Prelude.{◌≡◌, false};
 
 use crate::answers::{hist_from, latencies_from, totals_from};
 use crate::board::Board;
-use crate::content::Content;
-use crate::refused::{Done, Kept, Latency, Place, Refused};
+use crate::done::{Done, Kept};
+use crate::pair::Latency;
+use ft_base::{Content, Place, Refused};
 use ft_event::{Event, Name};
 use ft_filter::Filter;
 use ft_hist::{Trigger, Work};
@@ -40,7 +41,7 @@ impl Model for PlainBoard {
 }
 
 impl PlainBoard {
-    ghost use Rattle.ft_replay.specs.Base.{empty_base};
+    ghost use Rattle.ft_base.specs.Base.{empty_base};
 
     /// A board that holds nothing and has no trigger.
     pub fn new(alloc: Global) -> PlainBoard

@@ -10,14 +10,14 @@ ghost use Rattle.ft_maps.specs.Seen.{seen};
 ghost use Rattle.ft_hist.specs.Steps.{StepsGrow};
 ghost use Rattle.ft_replay.specs.Merged.{merged};
 ghost use Rattle.ft_replay.specs.Replay.{step, replay};
-ghost use Rattle.ft_replay.specs.OnShelves.{tally_on, state_on, new_shelves, AreShelved};
-ghost use Rattle.ft_replay.specs.OnShelves.{AllBeforePlace};
+ghost use Rattle.ft_replay.specs.inner.Counters.{tally_in, state_in, new_counters, HaveCounters};
+ghost use Rattle.ft_replay.specs.inner.Counters.{AllBeforePlace};
 ghost use Rattle.ft_pairs.specs.Variables.{variable_cmp};
 
 use crate::act::act;
+use crate::counter::Counter;
 use crate::merge::merged_events;
-use crate::roles::role_of;
-use crate::shelf::Shelf;
+use ft_base::role_of;
 use ft_event::{Event, Pos};
 use ft_hist::{Trigger, Work};
 use ft_lanes::Lanes;
@@ -26,42 +26,46 @@ use ft_pairs::{At, Variable};
 use std::alloc::{AllocError, Global};
 use std::collections::BTreeMap;
 
-/// The shelf of each attached trigger after all held events. Refused for memory.
+/// The counter of each attached trigger after all held events. Refused for memory.
 pub(crate) fn replayed(
     alloc: Global,
     lanes: &Lanes,
     triggers: &BTreeMap<u32, Trigger>,
     work: &mut Work,
-) -> Result<BTreeMap<u32, Shelf>, AllocError>
-    ensures tallies { IfOk result (λ shelves. map_by tally_on (seen nat_cmp shelves)
+) -> Result<BTreeMap<u32, Counter>, AllocError>
+    ensures tallies { IfOk result (λ counters. map_by tally_in (seen nat_cmp counters)
         ≡ (replay (seen nat_cmp triggers.now) (merged lanes.now)).tallies) }
-    ensures shelved { IfOk result (λ shelves.
-        AreShelved (seen nat_cmp triggers.now) (seen nat_cmp shelves)) }
+    ensures complete { IfOk result (λ counters.
+        HaveCounters (seen nat_cmp triggers.now) (seen nat_cmp counters)) }
     ensures grow { StepsGrow work.old work.new }
 {
     let merged = merged_events(alloc, lanes, triggers)?;
-    let mut shelves = new_shelves(alloc, triggers)?;
+    let mut counters = new_counters(alloc, triggers)?;
     let mut saved = BTreeMap::new(alloc);
     for (pos, event) in &merged {
-        step(triggers, *pos, event, &mut shelves, &mut saved, work)?;
+        step(triggers, *pos, event, &mut counters, &mut saved, work)?;
     }
-    Ok(shelves)
+    Ok(counters)
 }
 
-/// A shelf without hits for each attached trigger. Refused for memory.
-fn new_shelves(
+/// A counter without hits for each attached trigger. Refused for memory.
+fn new_counters(
     alloc: Global,
     triggers: &BTreeMap<u32, Trigger>,
-) -> Result<BTreeMap<u32, Shelf>, AllocError>
-    ensures { IfOk result (λ shelves.
-        seen nat_cmp shelves ≡ new_shelves (seen nat_cmp triggers.now)) }
+) -> Result<BTreeMap<u32, Counter>, AllocError>
+    ensures { IfOk result (λ counters.
+        seen nat_cmp counters ≡ new_counters (seen nat_cmp triggers.now)) }
 {
-    let mut shelves = BTreeMap::new(alloc);
+    let mut counters = BTreeMap::new(alloc);
     for (id, attached) in entries(triggers) {
         let role = role_of(triggers, attached.variable());
-        put(&mut shelves, *id, Shelf::new(alloc, role, attached.size()))?;
+        put(
+            &mut counters,
+            *id,
+            Counter::new(alloc, role, attached.size()),
+        )?;
     }
-    Ok(shelves)
+    Ok(counters)
 }
 
 /// One event, whose place is behind all hits: the attached triggers act in order of id. Refused for
@@ -70,20 +74,20 @@ fn step(
     triggers: &BTreeMap<u32, Trigger>,
     pos: Pos,
     event: &Event,
-    shelves: &mut BTreeMap<u32, Shelf>,
+    counters: &mut BTreeMap<u32, Counter>,
     saved: &mut BTreeMap<Variable, Pos>,
     work: &mut Work,
 ) -> Result<(), AllocError>
     requires stamped { pos.stamp ≡ event.now.stamp }
-    requires shelved { AreShelved (seen nat_cmp triggers.now) (seen nat_cmp shelves.old) }
-    requires before { AllBeforePlace pos (seen nat_cmp shelves.old) }
-    ensures state { OnOk result (state_on (seen nat_cmp shelves.new, seen variable_cmp saved.new)
+    requires complete { HaveCounters (seen nat_cmp triggers.now) (seen nat_cmp counters.old) }
+    requires before { AllBeforePlace pos (seen nat_cmp counters.old) }
+    ensures state { OnOk result (state_in (seen nat_cmp counters.new, seen variable_cmp saved.new)
         ≡ step (seen nat_cmp triggers.now)
-        (state_on (seen nat_cmp shelves.old, seen variable_cmp saved.old)) (pos, event.now)) }
-    ensures shelved { OnOk result
-        (AreShelved (seen nat_cmp triggers.now) (seen nat_cmp shelves.new)) }
+        (state_in (seen nat_cmp counters.old, seen variable_cmp saved.old)) (pos, event.now)) }
+    ensures complete { OnOk result
+        (HaveCounters (seen nat_cmp triggers.now) (seen nat_cmp counters.new)) }
     ensures before { OnOk result ((next : Pos) → pos_cmp pos next ≡ Less
-        → AllBeforePlace next (seen nat_cmp shelves.new)) }
+        → AllBeforePlace next (seen nat_cmp counters.new)) }
     ensures grow { StepsGrow work.old work.new }
 {
     ft_hist::fitting_parts();
@@ -93,7 +97,7 @@ fn step(
             trigger,
             event,
             At { pos, trigger: *id },
-            shelves,
+            counters,
             saved,
             work,
         )?;

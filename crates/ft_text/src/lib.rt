@@ -7,9 +7,9 @@
 //! ```ignore
 //! let mut text = Vec::from_slice(alloc, b"cpu ")?;
 //! write_right(2, 3, b'0', &mut text)?;
-//! assert_eq!(text.as_slice(), b"cpu 002");
-//! assert_eq!(number_within(&text[4..], 4095), Some(2));
-//! assert_eq!(number_within(b"4096", 4095), None);
+//! assert_eq!(rt; text.as_slice(), b"cpu 002".as_slice());
+//! assert!(rt; number_within(&text[4..], 4095) == Some(2));
+//! assert!(rt; number_within(b"4096", 4095).is_none());
 //! ```
 #![tactic(auto)]
 

@@ -27,8 +27,8 @@ pub fn write_signed(number: i64, text: &mut Vec<u8>) -> Result<(), AllocError>
     text.extend_from_slice(digits.format(number).as_bytes())
 }
 
-/// Adds a number in decimal digits at the right of a column: behind as many of the byte as the
-/// column is wider.
+/// Adds a number in decimal digits, behind as many of the byte as fill a column of this width with
+/// it. A longer number stands as it is.
 pub fn write_right(number: u64, width: u8, fill: u8, text: &mut Vec<u8>) -> Result<(), AllocError>
     ensures ok { OnOk result (text.new.items ≡ text.old.items
         ++ (replicate (width - length (decimal number)) fill ++ decimal number)) }
@@ -40,7 +40,7 @@ pub fn write_right(number: u64, width: u8, fill: u8, text: &mut Vec<u8>) -> Resu
     text.extend_from_slice(digits)
 }
 
-/// Adds the byte as often as a column is wider than what has this length.
+/// Adds as many of the byte as fill a column of this width with what has this length.
 #[inline]
 pub fn write_fill(len: usize, width: u8, fill: u8, text: &mut Vec<u8>) -> Result<(), AllocError>
     ensures ok { OnOk result (text.new.items ≡ text.old.items ++ replicate (width - len) fill) }

@@ -1,7 +1,7 @@
 -- Reading a trace text line by line. All of it is our own choice.
 use Rattle.std.specs.Prelude.{List, ◌++◌, Result, Ok, Err}
 use Rattle.ft_event.specs.Traced.{Traced}
-use Rattle.ft_replay.specs.declared.refused.Refused.{Refused}
+use Rattle.ft_base.specs.declared.refused.Refused.{Refused}
 
 -- events that were read already, in front of those of the lines behind
 abbrev pub in_front : List Traced → Result (List Traced) Refused → Result (List Traced) Refused

@@ -3,8 +3,8 @@ use Rattle.std.specs.Option.{option_copied}
 use Rattle.ft_hist.specs.Hist.{Hist}
 use Rattle.ft_kept.specs.Shelves.{AddsShelf}
 use Rattle.ft_pairs.specs.declared.role.Role.{Role}
-use Rattle.ft_replay.specs.Base.{Base, Triggers}
-use Rattle.ft_replay.specs.Roles.{role_of}
+use Rattle.ft_base.specs.Base.{Base, Triggers}
+use Rattle.ft_base.specs.Roles.{role_of}
 use Rattle.ft_board.proofs.Joining.{joins_idle}
 use Rattle.ft_board.proofs.join.add_trigger.Goals as goal
 

@@ -11,12 +11,12 @@ use Rattle.ft_hist.specs.Hit.{same_name}
 use Rattle.ft_lanes.specs.Held.{Lanes}
 use Rattle.ft_maps.specs.Mapped.{entries_by}
 use Rattle.ft_maps.specs.Seen.{seen}
-use Rattle.ft_replay.specs.Base.{Triggers}
+use Rattle.ft_base.specs.Base.{Triggers}
 use Rattle.ft_board.specs.KeptShelves.{AreKept}
 use Rattle.ft_replay.specs.Merged.{merged}
 use Rattle.ft_replay.specs.Named.{events_on, has_name}
-use Rattle.ft_board.specs.ButOne.{AreKeptIdle}
-use Rattle.ft_replay.specs.Reachable.{HasSavers}
+use Rattle.ft_board.specs.inner.ButOneTrigger.{AreKeptIdle}
+use Rattle.ft_base.specs.Reachable.{HasSavers}
 use Rattle.ft_board.proofs.KeptBoardForms.{all_shelved}
 use Rattle.ft_board.proofs.OneTrigger.{IsLeaving, own_events, leaving_all, act_can_go, leaving_fewer, leaving_none, first_left}
 use Rattle.ft_board.proofs.leave.take_acts.Goals as goal

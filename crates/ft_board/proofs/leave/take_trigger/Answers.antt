@@ -2,8 +2,8 @@ use Rattle.std.proofs.Common.{sym, subst, ◌∙◌}
 use Rattle.std.specs.FinMap as map
 use Rattle.ft_hist.specs.Hist.{Hist}
 use Rattle.ft_kept.specs.Shelves.{Shelves}
-use Rattle.ft_replay.specs.Base.{Base}
-use Rattle.ft_board.specs.ButOne.{AreKeptBut}
+use Rattle.ft_base.specs.Base.{Base}
+use Rattle.ft_board.specs.inner.ButOneTrigger.{AreKeptBut}
 use Rattle.ft_board.proofs.Leaving.{idle_leaves, other_leaves}
 use Rattle.ft_board.proofs.leave.take_trigger.Goals as goal
 use Rattle.ft_board.proofs.leave.take_trigger.Goals.{then-is_reader+in_ok-take_acts, else-is_reader}

@@ -7,8 +7,8 @@ use Rattle.ft_hist.specs.Hist.{Hist}
 use Rattle.ft_kept.specs.Shelves.{Shelves, AddsShelf}
 use Rattle.ft_pairs.specs.declared.role.Role.{Role}
 use Rattle.ft_maps.specs.Seen.{seen}
-use Rattle.ft_replay.specs.Base.{Triggers}
-use Rattle.ft_replay.specs.Roles.{role_of}
+use Rattle.ft_base.specs.Base.{Triggers}
+use Rattle.ft_base.specs.Roles.{role_of}
 use Rattle.ft_board.proofs.KeptBoardBuilt.{AreNewBut, new_but_all, new_but_rest}
 use Rattle.ft_board.proofs.rebuild.new_tables.Goals as goal
 

@@ -7,7 +7,7 @@ use Rattle.ft_event.specs.Traced.{Traced}
 use Rattle.ft_event.specs.declared.pos.Pos.{Pos}
 use Rattle.ft_maps.specs.Mapped.{entries_by}
 use Rattle.ft_maps.specs.Seen.{seen}
-use Rattle.ft_replay.specs.Base.{Triggers}
+use Rattle.ft_base.specs.Base.{Triggers}
 use Rattle.ft_replay.specs.Merged.{merged}
 use Rattle.ft_replay.specs.Named.{named}
 use Rattle.ft_board.proofs.KeptBoardActs.{held_is}

@@ -1,5 +1,5 @@
 use Rattle.std.proofs.Common.{sym, subst}
-use Rattle.ft_replay.specs.Reachable.{HasSavers}
+use Rattle.ft_base.specs.Reachable.{HasSavers}
 use Rattle.ft_board.proofs.rebuild.restore.Goals as goal
 
 pub rebuilt-requires : goal.rebuilt-requires

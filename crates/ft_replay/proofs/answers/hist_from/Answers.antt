@@ -3,10 +3,10 @@ use Rattle.std.specs.Ordering.{nat_cmp}
 use Rattle.ft_hist.specs.Hist.{Hist}
 use Rattle.ft_maps.specs.Seen.{seen}
 use Rattle.ft_table.specs.Tabled.{Tabled}
-use Rattle.ft_replay.specs.declared.refused.Refused.{Refused}
+use Rattle.ft_base.specs.declared.refused.Refused.{Refused}
 use Rattle.ft_replay.specs.Answers.{tally_at, tally_text}
-use Rattle.ft_replay.specs.Base.{Triggers, Events}
-use Rattle.ft_replay.specs.Merged.{merged}
+use Rattle.ft_base.specs.Base.{Triggers}
+use Rattle.ft_replay.specs.Merged.{Events, merged}
 use Rattle.ft_replay.specs.Tally.{tally_of}
 use Rattle.ft_replay.proofs.Answering.{of_attached-some}
 use Rattle.ft_replay.proofs.answers.hist_from.Goals as goal
@@ -17,4 +17,4 @@ returns-in-Ok-table_text-clause-gives c =
     let events : Events = merged c.args.lanes.now in
     let hist : Hist = c.in-Some.trigger.now in
     of_attached-some triggers c.args.id (λ (h : Hist). Ok (tally_text h (tally_at triggers events c.args.id))) hist (sym c.in-Some.ensures)
-    ∙ ap (λ (text : List ℕ). let answer : Result (List ℕ) Refused = Ok text in answer) (ap (tally_text hist) (sym c.in-Ok.ensures.tally ∙ ap (λ (t : Tabled). tally_of t c.in-Ok.shelf.pairs) (sym c.table.ensures)) ∙ sym (c.in-Ok-table_text.ensures c.in-Ok.shelf.pairs))
+    ∙ ap (λ (text : List ℕ). let answer : Result (List ℕ) Refused = Ok text in answer) (ap (tally_text hist) (sym c.in-Ok.ensures.tally ∙ ap (λ (t : Tabled). tally_of t c.in-Ok.counter.pairs) (sym c.table.ensures)) ∙ sym (c.in-Ok-table_text.ensures c.in-Ok.counter.pairs))

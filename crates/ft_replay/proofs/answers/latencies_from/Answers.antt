@@ -2,13 +2,14 @@ use Rattle.std.proofs.Common.{rules, ◌≡◌, true, List, Result, Ok, map as l
 use Rattle.std.specs.Ordering.{nat_cmp}
 use Rattle.ft_hist.specs.Hist.{Hist}
 use Rattle.ft_maps.specs.Seen.{seen}
-use Rattle.ft_replay.specs.declared.refused.Latency.{Latency}
-use Rattle.ft_replay.specs.declared.refused.Refused.{Refused}
+use Rattle.ft_replay.specs.declared.pair.Latency.{Latency}
+use Rattle.ft_base.specs.declared.refused.Refused.{Refused}
 use Rattle.ft_replay.specs.declared.pair.Pair.{Pair}
 use Rattle.ft_replay.specs.Answers.{tally_at, latency_of, latencies_as}
-use Rattle.ft_replay.specs.Base.{Triggers, Events}
-use Rattle.ft_replay.specs.Merged.{merged}
-use Rattle.ft_replay.specs.OnShelves.{tally_on, is_reader}
+use Rattle.ft_base.specs.Base.{Triggers}
+use Rattle.ft_replay.specs.Merged.{Events, merged}
+use Rattle.ft_base.specs.Roles.{is_reader}
+use Rattle.ft_replay.specs.inner.Counters.{tally_in}
 use Rattle.ft_replay.proofs.Answering.{of_attached-some, latencies-reader}
 use Rattle.ft_replay.proofs.Growing.{pairs-tally}
 use Rattle.ft_replay.proofs.answers.latencies_from.Goals as goal
@@ -18,10 +19,10 @@ returns-in-Ok-latencies_of-clause-gives c =
     let triggers : Triggers = seen nat_cmp c.args.triggers.now in
     let events : Events = merged c.args.lanes.now in
     let hist : Hist = c.in-Some.trigger.now in
-    let shelf = c.in-Ok.shelf in
+    let counter = c.in-Ok.counter in
     let reads : is_reader hist.variable ≡ true = search rules in
     of_attached-some triggers c.args.id (λ (h : Hist). latencies_as h.variable (tally_at triggers events c.args.id)) hist (sym c.in-Some.ensures)
     ∙ ap (latencies_as hist.variable) (sym c.in-Ok.ensures.tally)
-    ∙ latencies-reader hist.variable (tally_on shelf) reads
-    ∙ ap (λ (pairs : List Pair). let answer : Result (List Latency) Refused = Ok (list_map latency_of pairs) in answer) (pairs-tally shelf.table shelf.pairs ∙ sym c.pairs.ensures)
+    ∙ latencies-reader hist.variable (tally_in counter) reads
+    ∙ ap (λ (pairs : List Pair). let answer : Result (List Latency) Refused = Ok (list_map latency_of pairs) in answer) (pairs-tally counter.table counter.pairs ∙ sym c.pairs.ensures)
     ∙ ap (λ (latencies : List Latency). let answer : Result (List Latency) Refused = Ok latencies in answer) (sym c.in-Ok-latencies_of.ensures)

@@ -5,8 +5,8 @@ use Rattle.std.specs.Map.Iter.{deref}
 use Rattle.ft_event.specs.declared.event.Name.{Name}
 use Rattle.ft_maps.specs.Mapped.{entries_by}
 use Rattle.ft_maps.specs.Seen.{seen}
-use Rattle.ft_replay.specs.Base.{Events, Triggers}
-use Rattle.ft_replay.specs.Merged.{merged}
+use Rattle.ft_base.specs.Base.{Triggers}
+use Rattle.ft_replay.specs.Merged.{Events, merged}
 use Rattle.ft_replay.specs.Named.{named, events_on, has_name}
 use Rattle.ft_replay.proofs.Naming.{named-on}
 use Rattle.ft_replay.proofs.Placing.{if_ok}

@@ -15,16 +15,16 @@ use Rattle.ft_event.specs.declared.pos.Pos.{Pos}
 use Rattle.ft_maps.specs.Entries.{strictly_sorted}
 use Rattle.ft_maps.specs.Mapped.{entries_by}
 use Rattle.ft_maps.specs.Seen.{seen, seen-empty}
-use Rattle.ft_replay.specs.Base.{Triggers, Events}
-use Rattle.ft_replay.specs.Merged.{merged}
+use Rattle.ft_base.specs.Base.{Triggers}
+use Rattle.ft_replay.specs.Merged.{Events, merged}
 use Rattle.ft_replay.specs.Named.{named}
 use Rattle.ft_replay.specs.Replay.{State, step}
-use Rattle.ft_replay.specs.OnShelves.{state_on, new_shelves, AreShelved, AllBeforePlace}
+use Rattle.ft_replay.specs.inner.Counters.{state_in, new_counters, HaveCounters, AllBeforePlace}
 use Rattle.ft_pairs.specs.Variables.{variable_cmp}
 use Rattle.ft_replay.proofs.Earlier.{act_of, all_above}
-use Rattle.ft_replay.proofs.Apart.{all_of}
+use Rattle.ft_base.proofs.Apart.{all_of}
 use Rattle.ft_replay.proofs.Naming.{named_all, replay-named}
-use Rattle.ft_replay.proofs.Shelved.{replay-fold, new_shelves-started, new_shelves-shelved, new_shelves-before, merged_stamped}
+use Rattle.ft_replay.proofs.Counters.{replay-fold, new_counters-started, new_counters-complete, new_counters-before, merged_stamped}
 use Rattle.ft_replay.proofs.Stepping.{grow_none, grow_more}
 use Rattle.ft_replay.proofs.replay.replayed.Goals as goal
 
@@ -38,17 +38,17 @@ loop-pos-init c =
     let events : Events = named triggers (merged c.args.lanes.now) in
     let items : List (Pos × Bor Traced) = c.deref-pos-items.result.now in
     let all : entries_by deref items ≡ map.entries events = ap (entries_by deref) c.deref-pos-items.ensures.value ∙ c.in_ok-merged.ensures in
-    let shelves : seen nat_cmp c.in_ok-shelves.shelves ≡ new_shelves triggers = c.in_ok-shelves.ensures in
+    let counters : seen nat_cmp c.in_ok-counters.counters ≡ new_counters triggers = c.in_ok-counters.ensures in
     let saved : seen variable_cmp c.new-saved.result ≡ map.empty = seen-empty variable_cmp c.new-saved.result c.new-saved.ensures.empty in
     record {
       rest =
-          (λ i. fold (step triggers) (state_on (shelves i, saved i)) (all i))
-          ∙ ap (λ tallies. fold (step triggers) (record { tallies = tallies; variables = map.empty }) (map.entries events)) (new_shelves-started triggers);
+          (λ i. fold (step triggers) (state_in (counters i, saved i)) (all i))
+          ∙ ap (λ tallies. fold (step triggers) (record { tallies = tallies; variables = map.empty }) (map.entries events)) (new_counters-started triggers);
       sorted = subst (λ (es : List (Pos × Traced)). IsStrictlySortedBy pos_cmp (keys_of es)) (sym all) (strictly_sorted pos_cmp (map.entries events) (entries_sorted events));
       stamped = subst (AllByRecursion (λ (e : Pos × Traced). e.0.stamp ≡ e.1.stamp)) (sym all) (named_all triggers (λ e. e.0.stamp ≡ e.1.stamp) (merged c.args.lanes.now) (merged_stamped c.args.lanes.now));
-      shelved = subst (AreShelved triggers) (sym shelves) (new_shelves-shelved triggers);
-      before = all_of (λ (e : Pos × Traced). AllBeforePlace e.0 (seen nat_cmp c.in_ok-shelves.shelves))
-          (λ e. subst (AllBeforePlace e.0) (sym shelves) (λ id. new_shelves-before triggers (act_of e.0 id))) (entries_by deref items);
+      complete = subst (HaveCounters triggers) (sym counters) (new_counters-complete triggers);
+      before = all_of (λ (e : Pos × Traced). AllBeforePlace e.0 (seen nat_cmp c.in_ok-counters.counters))
+          (λ e. subst (AllBeforePlace e.0) (sym counters) (λ id. new_counters-before triggers (act_of e.0 id))) (entries_by deref items);
       grow = grow_none _;
     }
 
@@ -64,11 +64,11 @@ loop-pos-preserved c =
     record {
       rest =
           ap (λ (s : State). fold (step triggers) s rest) c.in_ok-step.ensures.state
-          ∙ sym (ap (fold (step triggers) (state_on (seen nat_cmp c.loop-pos.shelves, seen variable_cmp c.loop-pos.saved))) more) ∙ c.loop-pos.invariant.rest;
+          ∙ sym (ap (fold (step triggers) (state_in (seen nat_cmp c.loop-pos.counters, seen variable_cmp c.loop-pos.saved))) more) ∙ c.loop-pos.invariant.rest;
       sorted = sorted_tail pos_cmp e.0 (keys_of rest) sorted;
       stamped = (subst (AllByRecursion (λ (x : Pos × Traced). x.0.stamp ≡ x.1.stamp)) more c.loop-pos.invariant.stamped).1;
-      shelved = c.in_ok-step.ensures.shelved;
-      before = all_above pos_cmp e.0 (λ pos. AllBeforePlace pos (seen nat_cmp c.step.new.shelves)) c.in_ok-step.ensures.before rest (sorted_head pos_cmp e.0 (keys_of rest) sorted);
+      complete = c.in_ok-step.ensures.complete;
+      before = all_above pos_cmp e.0 (λ pos. AllBeforePlace pos (seen nat_cmp c.step.new.counters)) c.in_ok-step.ensures.before rest (sorted_head pos_cmp e.0 (keys_of rest) sorted);
       grow = grow_more _ _ _ c.loop-pos.invariant.grow c.in_ok-step.ensures.grow;
     }
 
@@ -80,7 +80,7 @@ step-requires-clause-stamped c =
 pub step-requires-clause-before : goal.step-requires-clause-before
 step-requires-clause-before c =
     let more = first c.deref-pos-items.result.now c.loop-pos.pos-index c.loop-pos-item.result c.loop-pos-test.true c.loop-pos-item.is in
-    (subst (AllByRecursion (λ (x : Pos × Traced). AllBeforePlace x.0 (seen nat_cmp c.loop-pos.shelves))) more c.loop-pos.invariant.before).0
+    (subst (AllByRecursion (λ (x : Pos × Traced). AllBeforePlace x.0 (seen nat_cmp c.loop-pos.counters))) more c.loop-pos.invariant.before).0
 
 pub returns-clause-tallies : goal.returns-clause-tallies
 returns-clause-tallies c =
@@ -88,7 +88,7 @@ returns-clause-tallies c =
     let events : Events = named triggers (merged c.args.lanes.now) in
     let items : List (Pos × Bor Traced) = c.deref-pos-items.result.now in
     ap (λ (s : State). s.tallies)
-    (sym (ap (λ (es : List (Pos × Bor Traced)). fold (step triggers) (state_on (seen nat_cmp c.loop-pos.shelves, seen variable_cmp c.loop-pos.saved)) (entries_by deref es)) (drop_all c.loop-pos.pos-index items c.loop-pos-test.false))
+    (sym (ap (λ (es : List (Pos × Bor Traced)). fold (step triggers) (state_in (seen nat_cmp c.loop-pos.counters, seen variable_cmp c.loop-pos.saved)) (entries_by deref es)) (drop_all c.loop-pos.pos-index items c.loop-pos-test.false))
     ∙ c.loop-pos.invariant.rest
     ∙ replay-fold triggers events events refl
     ∙ replay-named triggers (merged c.args.lanes.now))

@@ -12,19 +12,19 @@ use Rattle.ft_maps.specs.Seen.{seen}
 use Rattle.ft_replay.specs.Merged.{merged}
 use Rattle.ft_replay.specs.Named.{named}
 use Rattle.ft_replay.specs.Replay.{step, started}
-use Rattle.ft_replay.specs.OnShelves.{state_on, AreShelved, AllBeforePlace}
+use Rattle.ft_replay.specs.inner.Counters.{state_in, HaveCounters, AllBeforePlace}
 use Rattle.ft_hist.specs.Steps.{StepsGrow}
 use Rattle.ft_pairs.specs.Variables.{variable_cmp}
 use Rattle.ft_replay.proofs.replay.replayed.Given as goal
 
--- the events that are left lead where all events lead; their places have their stamps, ascend, and stand behind all hits; each trigger has its shelf; no count of steps fell
+-- the events that are left lead where all events lead; their places have their stamps, ascend, and stand behind all hits; each trigger has its counter; no count of steps fell
 abbrev pub invariant-loop-pos : goal.invariant-loop-pos
 invariant-loop-pos l = record {
-  rest : fold (step (seen nat_cmp l.triggers)) (state_on (seen nat_cmp l.shelves, seen variable_cmp l.saved)) (entries_by deref (drop l.pos-index l.pos-items))
+  rest : fold (step (seen nat_cmp l.triggers)) (state_in (seen nat_cmp l.counters, seen variable_cmp l.saved)) (entries_by deref (drop l.pos-index l.pos-items))
       ≡ fold (step (seen nat_cmp l.triggers)) (record { tallies = started (seen nat_cmp l.triggers); variables = map.empty }) (map.entries (named (seen nat_cmp l.triggers) (merged l.lanes)));
   sorted : IsStrictlySortedBy pos_cmp (keys_of (entries_by deref (drop l.pos-index l.pos-items)));
   stamped : AllByRecursion (λ e. e.0.stamp ≡ e.1.stamp) (entries_by deref (drop l.pos-index l.pos-items));
-  shelved : AreShelved (seen nat_cmp l.triggers) (seen nat_cmp l.shelves);
-  before : AllByRecursion (λ e. AllBeforePlace e.0 (seen nat_cmp l.shelves)) (entries_by deref (drop l.pos-index l.pos-items));
+  complete : HaveCounters (seen nat_cmp l.triggers) (seen nat_cmp l.counters);
+  before : AllByRecursion (λ e. AllBeforePlace e.0 (seen nat_cmp l.counters)) (entries_by deref (drop l.pos-index l.pos-items));
   grow : StepsGrow l.fn.work l.work;
 }

@@ -1,7 +1,7 @@
 -- Empty tables are kept of the empty base.
 use Rattle.std.proofs.Common.{sym, subst}
-use Rattle.ft_replay.specs.Base.{Base, empty_base}
-use Rattle.ft_board.specs.KeptBeside.{AreKeptOf}
+use Rattle.ft_base.specs.Base.{Base, empty_base}
+use Rattle.ft_board.specs.KeptShelves.{AreKeptOf}
 use Rattle.ft_board.proofs.KeptBoardBuilt.{empty_kept}
 use Rattle.ft_board.proofs.kept.KeptBoard.new.Goals as goal
 

@@ -1,5 +1,5 @@
 use Rattle.std.proofs.Common.{subst}
-use Rattle.ft_replay.specs.Base.{Base}
+use Rattle.ft_base.specs.Base.{Base}
 use Rattle.ft_replay.specs.Costs.{CostsOf}
 use Rattle.ft_replay.specs.Merged.{merged}
 use Rattle.ft_replay.specs.Shown.{Shown}

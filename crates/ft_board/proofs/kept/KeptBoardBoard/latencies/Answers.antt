@@ -3,13 +3,13 @@ use Rattle.std.specs.FinMap as map
 use Rattle.ft_hist.specs.Hist.{Hist}
 use Rattle.ft_kept.specs.Shelves.{Readings}
 use Rattle.ft_replay.specs.declared.pair.Pair.{Pair}
-use Rattle.ft_replay.specs.declared.refused.Latency.{Latency}
-use Rattle.ft_replay.specs.declared.refused.Refused.{Refused}
+use Rattle.ft_replay.specs.declared.pair.Latency.{Latency}
+use Rattle.ft_base.specs.declared.refused.Refused.{Refused}
 use Rattle.ft_replay.specs.Answers.{latencies, latency_of}
-use Rattle.ft_replay.specs.Base.{Base, Triggers}
-use Rattle.ft_replay.specs.Kept.{pairs_in}
-use Rattle.ft_board.specs.KeptBeside.{Tells}
-use Rattle.ft_replay.specs.OnShelves.{is_reader}
+use Rattle.ft_base.specs.Base.{Base, Triggers}
+use Rattle.ft_replay.specs.Found.{pairs_in}
+use Rattle.ft_board.specs.inner.Told.{Tells}
+use Rattle.ft_base.specs.Roles.{is_reader}
 use Rattle.ft_replay.specs.Shown.{Shown}
 use Rattle.ft_replay.specs.Tally.{tally_of}
 use Rattle.ft_replay.proofs.Growing.{pairs-tally}

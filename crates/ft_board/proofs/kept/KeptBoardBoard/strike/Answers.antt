@@ -1,13 +1,13 @@
 use Rattle.std.proofs.Common.{◌≡◌, Some, sym, ap, subst, ◌∙◌}
 use Rattle.std.specs.Option.{IfSome}
 use Rattle.ft_lanes.specs.Held.{event_at}
-use Rattle.ft_replay.specs.declared.refused.Place.{Place}
-use Rattle.ft_replay.specs.Base.{Base}
+use Rattle.ft_base.specs.declared.refused.Place.{Place}
+use Rattle.ft_base.specs.Base.{Base}
 use Rattle.ft_replay.specs.Costs.{CostsOf}
-use Rattle.ft_board.specs.KeptBeside.{AreKeptOf}
+use Rattle.ft_board.specs.KeptShelves.{AreKeptOf}
 use Rattle.ft_replay.specs.Merged.{merged}
 use Rattle.ft_replay.specs.Shown.{Shown}
-use Rattle.ft_replay.proofs.Cases.{strike-place}
+use Rattle.ft_base.proofs.Cases.{strike-place}
 use Rattle.ft_board.proofs.FewSteps.{struck_costs}
 use Rattle.ft_board.proofs.KeptBoardRepair.{struck_if}
 use Rattle.ft_board.proofs.kept.KeptBoardBoard.strike.Goals as goal

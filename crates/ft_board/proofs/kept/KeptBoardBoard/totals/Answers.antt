@@ -3,12 +3,12 @@ use Rattle.std.specs.FinMap as map
 use Rattle.ft_hist.specs.Hist.{Hist}
 use Rattle.ft_table.specs.Rows.{totals_of}
 use Rattle.ft_table.specs.Tabled.{Tabled}
-use Rattle.ft_table.specs.declared.row.Totals.{Totals}
-use Rattle.ft_replay.specs.declared.refused.Refused.{Refused}
+use Rattle.ft_rows.specs.declared.row.Totals.{Totals}
+use Rattle.ft_base.specs.declared.refused.Refused.{Refused}
 use Rattle.ft_replay.specs.Answers.{totals}
-use Rattle.ft_replay.specs.Base.{Base, Triggers}
-use Rattle.ft_replay.specs.Kept.{pairs_in}
-use Rattle.ft_board.specs.KeptBeside.{Tells}
+use Rattle.ft_base.specs.Base.{Base, Triggers}
+use Rattle.ft_replay.specs.Found.{pairs_in}
+use Rattle.ft_board.specs.inner.Told.{Tells}
 use Rattle.ft_replay.specs.Shown.{Shown}
 use Rattle.ft_replay.specs.Tally.{tally_of}
 use Rattle.ft_board.proofs.ToldSteps.{told_steps}

@@ -1,13 +1,12 @@
 -- The board is left as it is, and the answer is that of its base.
 use Rattle.std.proofs.Common.{false, ap, subst}
 use Rattle.ft_lanes.specs.Held.{Lanes}
-use Rattle.ft_replay.specs.Base.{Triggers}
+use Rattle.ft_base.specs.Base.{Triggers}
 use Rattle.ft_replay.specs.Edited.{AnswerIs, AnswerKeeps}
 use Rattle.ft_replay.specs.Answers.{totals, totals_from}
 use Rattle.ft_replay.specs.Merged.{merged}
 use Rattle.ft_replay.specs.Shown.{Shown}
-use Rattle.ft_replay.proofs.After.{never-deferred}
-use Rattle.ft_replay.proofs.AnswerSteps.{replayed_steps}
+use Rattle.ft_replay.proofs.AnswerSteps.{never-deferred, replayed_steps}
 use Rattle.ft_replay.proofs.plain.PlainBoardBoard.totals.Goals as goal
 
 pub returns-clause-gives : goal.returns-clause-gives

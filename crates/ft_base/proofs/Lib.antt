@@ -1,0 +1,14 @@
+pub mod Loading
+pub mod Held
+pub mod Reachable
+pub mod LaneEdits
+pub mod Attaching
+pub mod TriggerEdits
+pub mod After
+pub mod Cases
+pub mod HeldLanes
+pub mod Refilters
+pub mod Savers
+pub mod Apart
+pub mod OneSaver
+pub mod Unread

@@ -1,0 +1,37 @@
+-- Each way through is a case of `after_refilter` at the board's view.
+use Rattle.std.proofs.Common.{◌≡◌, sym, ap, ◌∙◌, inr, true, false, Ok}
+use Rattle.std.specs.Prelude.{option_map}
+use Rattle.std.specs.FinMap as map
+use Rattle.ft_base.specs.contracts.content.Content.{the_view}
+use Rattle.ft_base.specs.After.{after_refilter}
+use Rattle.ft_base.proofs.Refilters.{refilter-missing, refilter-there}
+use Rattle.ft_base.proofs.content.Content.refilter.Goals as goal
+
+pub refilter_in-requires : goal.refilter_in-requires
+refilter_in-requires c = λ hist at. c.requires hist (ap (λ b. map.get b.triggers c.args.id) (sym c.self.view_is) ∙ at)
+
+pub returns-then-not-refilter_in : goal.returns-then-not-refilter_in
+returns-then-not-refilter_in c =
+    let base = the_view c.self.inside in
+    let missing : map.contains_key base.triggers c.args.id ≡ false = sym c.refilter_in.ensures.there ∙ c.if-not-refilter_in.true in
+    let cases = refilter-missing base c.args.id (option_map (λ f. f.tree) c.args.filter) missing in
+    ((λ i. record base { triggers = (c.refilter_in.ensures.rest ∙ cases.0) i }) ∙ c.self.view_is, inr (ap (λ b. after_refilter b c.args.id (option_map (λ f. f.tree) c.args.filter)) (sym c.self.view_is) ∙ cases.1))
+
+pub invariant_of-self : goal.invariant_of-self
+invariant_of-self c =
+    let base = the_view c.self.inside in
+    let missing : map.contains_key base.triggers c.args.id ≡ false = sym c.refilter_in.ensures.there ∙ c.if-not-refilter_in.true in
+    rw (c.refilter_in.ensures.rest, (refilter-missing base c.args.id (option_map (λ f. f.tree) c.args.filter) missing).0) c.self.invariant
+
+pub invariant_of-self-2 : goal.invariant_of-self-2
+invariant_of-self-2 c =
+    let base = the_view c.self.inside in
+    let there : map.contains_key base.triggers c.args.id ≡ true = sym c.refilter_in.ensures.there ∙ c.if-not-refilter_in.false in
+    rw (c.refilter_in.ensures.rest) (refilter-there base c.args.id (option_map (λ f. f.tree) c.args.filter) there c.self.invariant).1
+
+pub returns : goal.returns
+returns c =
+    let base = the_view c.self.inside in
+    let there : map.contains_key base.triggers c.args.id ≡ true = sym c.refilter_in.ensures.there ∙ c.if-not-refilter_in.false in
+    let cases = refilter-there base c.args.id (option_map (λ f. f.tree) c.args.filter) there c.self.invariant in
+    ap (λ b. after_refilter b c.args.id (option_map (λ f. f.tree) c.args.filter)) (sym c.self.view_is) ∙ cases.0 ∙ (λ i. Ok (record base { triggers = sym c.refilter_in.ensures.rest i }, c.args.id))

@@ -1,0 +1,17 @@
+-- What is answered from a base as it stands.
+use Rattle.std.specs.Prelude.{◌≡◌, ◌⊎◌, ℕ, List, Result, Ok, Err}
+use Rattle.std.specs.Option.{option_map_or}
+use Rattle.std.specs.FinMap as map
+use Rattle.ft_lanes.specs.Listing.{lane_text}
+use Rattle.ft_base.specs.declared.refused.Refused.{Refused}
+use Rattle.ft_base.specs.declared.refused.Refused.TheVariants.{Memory, NoLane}
+use Rattle.ft_base.specs.Base.{Base}
+
+-- An answer is the one expected, as view sees it, unless memory ran out (our own choice).
+abbrev pub AnswerIs : {S T : Type 0} → (S → T) → Result T Refused → Result S Refused → Type 0
+AnswerIs view expected (Ok answer) = expected ≡ Ok (view answer)
+AnswerIs view expected (Err refused) = (refused ≡ Memory) ⊎ (expected ≡ Err refused)
+
+-- the text of a CPU's lane (our own choice)
+unfoldable pub list_text : Base → ℕ → Result (List ℕ) Refused
+list_text base cpu = option_map_or (λ lane. Ok (lane_text cpu lane)) (map.get base.lanes cpu) (Err (NoLane cpu))

@@ -1,0 +1,251 @@
+//! What a desk holds and what is attached to it, however a board keeps its tables.
+
+ghost use Rattle.std.specs.Prelude.{◌≡◌, ◌≢◌, IfOk, IsSome, Some, Ok, Err, option_map};
+ghost use Rattle.std.specs.Option.{ForSome};
+ghost use Rattle.std.specs.Ordering.{nat_cmp};
+ghost use Rattle.std.specs.FinMap as map;
+ghost use Rattle.ft_hist.specs.Hist.{Hist};
+ghost use Rattle.ft_lanes.specs.Edits.{lanes_without};
+ghost use Rattle.ft_lanes.specs.Held.{event_at};
+ghost use Rattle.ft_maps.specs.Seen.{seen};
+ghost use Rattle.ft_base.specs.declared.refused.Refused.TheVariants.{Memory};
+ghost use Rattle.ft_base.specs.After.{after_load, after_unload, after_insert};
+ghost use Rattle.ft_base.specs.After.{after_attach, after_refilter};
+ghost use Rattle.ft_base.specs.Answers.{AnswerIs, list_text};
+ghost use Rattle.ft_base.specs.Base.{empty_base};
+ghost use Rattle.ft_base.specs.Edited.{BaseGives, FindsToStrike, FindsToRemove};
+ghost use Rattle.ft_base.specs.OneTrigger.{IsUnread, JoinsAs, base_without};
+ghost use Rattle.ft_base.specs.Reachable.{IsReachable};
+
+use crate::attach::variable_refused;
+use crate::edits::{held_lane, refilter_in};
+use crate::refused::{Place, Refused};
+use crate::roles::reader_on;
+use ft_event::{Event, Name};
+use ft_filter::Filter;
+use ft_hist::Trigger;
+use ft_lanes::Lanes;
+use ft_maps::{get, len, put, take};
+use std::alloc::Global;
+use std::collections::BTreeMap;
+use std::marker::Model;
+
+/// The most events that are held.
+const EVENT_LIMIT: u64 = 1_048_576;
+
+/// The greatest line number of a lane.
+const LINE_LIMIT: u64 = 4_294_967_295;
+
+/// The most triggers that are attached.
+const TRIGGER_LIMIT: usize = 64;
+
+/// The greatest id of a trigger.
+const ID_LIMIT: u64 = 4_294_967_295;
+
+/// Lanes of events, attached triggers, and the next id.
+///
+/// Contracts see the base. A refused edit changes nothing, and drops what was handed in.
+#[derive(Drop)]
+pub struct Content {
+    lanes: Lanes,
+    triggers: BTreeMap<u32, Trigger>,
+    next_id: u64,
+}
+
+impl Model for Content {
+    ghost use Rattle.std.specs.Ordering.{nat_cmp};
+    ghost use Rattle.ft_base.specs.Base.{Base};
+    ghost use Rattle.ft_base.specs.Codes.{base_code};
+    ghost use Rattle.ft_base.specs.Reachable.{IsReachable};
+    ghost use Rattle.ft_maps.specs.Seen.{seen};
+
+    ghost Value = { Base };
+
+    ghost coded = { base_code };
+
+    ghost view = { λ b. record {
+      lanes = b.lanes;
+      triggers = seen nat_cmp b.triggers;
+      next_id = b.next_id;
+    } };
+
+    ghost invariant = { λ b. IsReachable (record {
+      lanes = b.lanes;
+      triggers = seen nat_cmp b.triggers;
+      next_id = b.next_id;
+    }) };
+}
+
+impl Content {
+    /// Nothing held, and no trigger. It takes no memory.
+    pub fn new(alloc: Global) -> Content
+        ensures { result ≡ empty_base }
+    {
+        Content {
+            lanes: Lanes::new(alloc),
+            triggers: BTreeMap::new(alloc),
+            next_id: 1,
+        }
+    }
+
+    /// The lanes.
+    pub fn lanes(&self) -> &Lanes
+        ensures lanes { result.now ≡ self.now.lanes }
+        // What all edits keep.
+        ensures reachable { IsReachable self.now }
+    {
+        &self.lanes
+    }
+
+    /// The attached triggers by id.
+    pub fn triggers(&self) -> &BTreeMap<u32, Trigger>
+        ensures { seen nat_cmp result.now ≡ self.now.triggers }
+    {
+        &self.triggers
+    }
+
+    /// Loads events in file order, a lane for each of their CPUs: how many were loaded.
+    pub fn load(&mut self, events: Vec<Event>) -> Result<u64, Refused>
+        ensures { BaseGives (after_load self.old events.items) self.old self.new result }
+    {
+        if let Some(cpu) = self.lanes.held_cpu(&events) {
+            return Err(Refused::LaneHeld(u32::from(cpu)));
+        }
+        let count = events.len() as u64;
+        if self.lanes.len() + count > EVENT_LIMIT {
+            return Err(Refused::Full);
+        }
+        if self.lanes.load(events).is_err() {
+            return Err(Refused::Memory);
+        }
+        Ok(count)
+    }
+
+    /// Takes the lane of a CPU away: how many events it had.
+    pub fn unload(&mut self, cpu: u32) -> Result<u64, Refused>
+        ensures gives { BaseGives (after_unload self.old cpu) self.old self.new result }
+        ensures memory { result ≢ Err Memory }
+    {
+        let Some(lane) = held_lane(&self.lanes, cpu) else {
+            return Err(Refused::NoLane(cpu));
+        };
+        let count = self.lanes.take_lane(lane).unwrap_or(0);
+        Ok(count)
+    }
+
+    /// Adds an event at the next line of its CPU's lane: its place.
+    pub fn insert(&mut self, event: Event) -> Result<Place, Refused>
+        ensures gives { BaseGives (after_insert self.old event) self.old self.new result }
+        ensures reachable { IsReachable self.old }
+    {
+        let cpu = event.cpu;
+        if self.lanes.len() >= EVENT_LIMIT || self.lanes.next_line(cpu) > LINE_LIMIT {
+            return Err(Refused::Full);
+        }
+        let Ok(line) = self.lanes.push(event) else {
+            return Err(Refused::Memory);
+        };
+        Ok(Place { cpu, line })
+    }
+
+    /// The place of a CPU's line that can be struck.
+    pub fn place_of(&self, cpu: u32, line: u32) -> Result<Place, Refused>
+        ensures gives { FindsToStrike self.now cpu line result }
+        ensures held { IfOk result (λ place.
+            IsSome (event_at self.now.lanes place.cpu place.line)) }
+        ensures memory { result ≢ Err Memory }
+    {
+        let Some(lane) = held_lane(&self.lanes, cpu) else {
+            return Err(Refused::NoLane(cpu));
+        };
+        let Some(_) = self.lanes.get(lane, line) else {
+            return Err(Refused::NoEvent);
+        };
+        Ok(Place { cpu: lane, line })
+    }
+
+    /// Takes the event of a place away, if there is one.
+    pub fn strike(&mut self, place: Place)
+        ensures { self.new
+            ≡ record self.old { lanes = lanes_without self.old.lanes place.cpu place.line } }
+    {
+        self.lanes.take(place.cpu, place.line);
+    }
+
+    /// Attaches a trigger: its id.
+    pub fn attach(&mut self, trigger: Trigger) -> Result<u32, Refused>
+        ensures gives { BaseGives (after_attach self.old trigger) self.old self.new result }
+        ensures joins { IfOk result (λ id. JoinsAs id trigger self.old self.new) }
+    {
+        if len(&self.triggers) >= TRIGGER_LIMIT || self.next_id > ID_LIMIT {
+            return Err(Refused::TooManyTriggers);
+        }
+        if let Some(refused) = variable_refused(&self.triggers, &trigger) {
+            return Err(refused);
+        }
+        let id = self.next_id as u32;
+        if put(&mut self.triggers, id, trigger).is_err() {
+            return Err(Refused::Memory);
+        }
+        self.next_id += 1;
+        Ok(id)
+    }
+
+    /// Gives a trigger another filter, which is for the trigger's event, or none: its id.
+    pub fn refilter(&mut self, id: u32, filter: Option<Filter>) -> Result<u32, Refused>
+        requires { (hist : Hist) → map.get self.old.triggers id ≡ Some hist
+            → ForSome filter (λ f. f.event ≡ hist.event) }
+        ensures { BaseGives (after_refilter self.old id (option_map (λ f. f.tree) filter))
+            self.old self.new result }
+    {
+        if !refilter_in(&mut self.triggers, id, filter) {
+            return Err(Refused::NoTrigger);
+        }
+        Ok(id)
+    }
+
+    /// Whether a trigger can be taken away: refused where no trigger has the id, or where it saves
+    /// what another reads.
+    pub fn removable(&self, id: u32) -> Result<(), Refused>
+        ensures gives { FindsToRemove self.now id result }
+        ensures unread { IfOk result (λ _. IsUnread self.now.triggers id) }
+        ensures memory { result ≢ Err Memory }
+    {
+        let Some(trigger) = get(&self.triggers, &id) else {
+            return Err(Refused::NoTrigger);
+        };
+        if let Some(reader) = reader_on(&self.triggers, trigger.variable()) {
+            return Err(Refused::InUse(reader));
+        }
+        Ok(())
+    }
+
+    /// Takes a trigger away that can be.
+    pub fn remove(&mut self, id: u32)
+        requires { FindsToRemove self.old id (Ok tt) }
+        ensures { self.new ≡ base_without self.old id }
+    {
+        take(&mut self.triggers, &id);
+    }
+
+    /// The event that the trigger with an id is on.
+    pub fn name_of(&self, id: u32) -> Option<Name>
+        ensures { result ≡ option_map (λ hist. hist.event) (map.get self.now.triggers id) }
+    {
+        get(&self.triggers, &id).map(|trigger| trigger.event())
+    }
+
+    /// The text of a CPU's lane.
+    pub fn list(&self, alloc: Global, cpu: u32) -> Result<Vec<u8>, Refused>
+        ensures { AnswerIs (λ text. text.items) (list_text self.now cpu) result }
+    {
+        let Some(lane) = held_lane(&self.lanes, cpu) else {
+            return Err(Refused::NoLane(cpu));
+        };
+        match self.lanes.list(alloc, lane) {
+            Ok(Some(text)) => Ok(text),
+            Ok(None) => Err(Refused::NoLane(cpu)),
+            Err(_) => Err(Refused::Memory),
+        }
+    }
+}

@@ -1,0 +1,83 @@
+//! What an edit of one event answers, and why an edit or an answer is refused.
+
+use ft_event::LineFault;
+use ft_filter::FilterFault;
+use ft_trigger::TriggerFault;
+
+/// Where an event stands: its lane, and its line number there.
+#[derive(Clone, Copy, Debug, PartialEq, Eq)]
+pub struct Place {
+    /// The CPU of the lane.
+    pub cpu: u16,
+    /// The line number, from 1.
+    pub line: u32,
+}
+
+/// Why an edit or an answer is refused. Nothing held has changed then.
+#[derive(Clone, Copy, Debug, PartialEq, Eq)]
+pub enum Refused {
+    /// Memory ran out.
+    Memory,
+    /// The script has no trace file with that number.
+    NoFile,
+    /// A line cannot be read: the first such line, counted from 1, and what is wrong with it.
+    BadLine(u64, LineFault),
+    /// The CPU's lane is held already.
+    LaneHeld(u32),
+    /// No lane of the CPU is held.
+    NoLane(u32),
+    /// The lane has no such line, or the line to insert is one that is skipped.
+    NoEvent,
+    /// More than 1,048,576 events would be held, or a line number would pass 4,294,967,295.
+    Full,
+    /// The trigger's text cannot be read.
+    BadTrigger(TriggerFault),
+    /// The filter's text cannot be read.
+    BadFilter(FilterFault),
+    /// No trigger with that id is attached.
+    NoTrigger,
+    /// The trigger saves a variable that the trigger with this id reads, the first by id.
+    InUse(u32),
+    /// The trigger saves a variable of a name that the trigger with this id saves already.
+    NameTaken(u32),
+    /// The trigger reads a variable that no attached trigger saves.
+    NoVariable,
+    /// The keys of a reader and of the trigger that saves what it reads don't match.
+    KeyMismatch,
+    /// 64 triggers are attached, or the ids are used up.
+    TooManyTriggers,
+    /// The command or its event has no such form.
+    BadCommand,
+    /// The trigger reads no variable, so it has no latencies.
+    NotReading,
+}
+
+impl Refused {
+    ghost use Rattle.std.specs.Prelude.{◌≡◌};
+    ghost use Rattle.ft_base.specs.Refused.{number_of};
+
+    /// Its number in the desk's texts.
+    pub fn number(self) -> u8
+        ensures { result ≡ number_of self }
+    {
+        match self {
+            Refused::Memory => 1,
+            Refused::NoFile => 2,
+            Refused::BadLine(_, _) => 3,
+            Refused::LaneHeld(_) => 4,
+            Refused::NoLane(_) => 5,
+            Refused::NoEvent => 6,
+            Refused::Full => 7,
+            Refused::BadTrigger(_) => 8,
+            Refused::BadFilter(_) => 9,
+            Refused::NoTrigger => 10,
+            Refused::InUse(_) => 11,
+            Refused::NameTaken(_) => 12,
+            Refused::NoVariable => 13,
+            Refused::KeyMismatch => 14,
+            Refused::TooManyTriggers => 15,
+            Refused::BadCommand => 16,
+            Refused::NotReading => 17,
+        }
+    }
+}

@@ -1,0 +1,89 @@
+//! Which attached trigger saves a name or reads it, and what a trigger does with its variable.
+
+ghost use Rattle.std.specs.Prelude.{◌≡◌};
+ghost use Rattle.std.specs.Ordering.{nat_cmp};
+ghost use Rattle.std.specs.Option.{option_copied};
+ghost use Rattle.ft_maps.specs.Seen.{seen};
+ghost use Rattle.ft_base.specs.After.{reader_on};
+ghost use Rattle.ft_base.specs.Roles.{saves_name, reads_name, saver_of, reader_of};
+ghost use Rattle.ft_base.specs.Roles.{is_reader, role_of};
+
+use ft_hist::{Trigger, Var};
+use ft_maps::entries;
+use ft_pairs::Role;
+use std::collections::BTreeMap;
+
+/// Whether a variable is saved under a name.
+fn saves_name(variable: Option<&Var>, name: &[u8]) -> bool
+    ensures { result ≡ saves_name name.now (option_copied variable.entry) }
+{
+    match variable {
+        Some(Var::Saves(label)) => label.bytes() == name,
+        Some(Var::Reads { .. }) | None => false,
+    }
+}
+
+/// The id of the attached trigger that saves a name, the first by id.
+pub(crate) fn saver_of(triggers: &BTreeMap<u32, Trigger>, name: &[u8]) -> Option<u32>
+    ensures { result ≡ saver_of (seen nat_cmp triggers.now) name.now }
+{
+    for (id, trigger) in entries(triggers) {
+        if saves_name(trigger.variable(), name) {
+            return Some(*id);
+        }
+    }
+    None
+}
+
+/// Whether a variable reads one that is saved under a name.
+fn reads_name(variable: Option<&Var>, name: &[u8]) -> bool
+    ensures { result ≡ reads_name name.now (option_copied variable.entry) }
+{
+    match variable {
+        Some(Var::Reads { source, .. }) => source.bytes() == name,
+        Some(Var::Saves(_)) | None => false,
+    }
+}
+
+/// The id of an attached trigger that reads a name, the first by id.
+fn reader_of(triggers: &BTreeMap<u32, Trigger>, name: &[u8]) -> Option<u32>
+    ensures { result ≡ reader_of (seen nat_cmp triggers.now) name.now }
+{
+    for (id, trigger) in entries(triggers) {
+        if reads_name(trigger.variable(), name) {
+            return Some(*id);
+        }
+    }
+    None
+}
+
+/// The id of an attached trigger that reads what a trigger with this variable saves, the first by
+/// id.
+pub(crate) fn reader_on(triggers: &BTreeMap<u32, Trigger>, variable: Option<&Var>) -> Option<u32>
+    ensures { result ≡ reader_on (seen nat_cmp triggers.now) (option_copied variable.entry) }
+{
+    match variable {
+        Some(Var::Saves(label)) => reader_of(triggers, label.bytes()),
+        Some(Var::Reads { .. }) | None => None,
+    }
+}
+
+/// What a trigger with a variable does with it.
+pub fn role_of(triggers: &BTreeMap<u32, Trigger>, variable: Option<&Var>) -> Role
+    ensures { result ≡ role_of (seen nat_cmp triggers.now) (option_copied variable.entry) }
+{
+    match variable {
+        None => Role::Plain,
+        Some(Var::Saves(_)) => Role::Saves,
+        Some(Var::Reads { source, .. }) => {
+            Role::Reads(saver_of(triggers, source.bytes()).unwrap_or(0))
+        }
+    }
+}
+
+/// Whether a trigger reads a variable.
+pub fn is_reader(trigger: &Trigger) -> bool
+    ensures { result ≡ is_reader trigger.now.variable }
+{
+    matches!(trigger.variable(), Some(Var::Reads { .. }))
+}

@@ -1,0 +1,34 @@
+//! Laws: functions that do nothing, whose clauses are proved.
+
+ghost use Rattle.std.specs.Prelude.{◌≡◌, ℕ, Some};
+ghost use Rattle.std.specs.FinMap as map;
+ghost use Rattle.ft_hist.specs.Hist.{Hist};
+ghost use Rattle.ft_kept.specs.Shelves.{Shelved, Shelves};
+ghost use Rattle.ft_table.specs.Rows.{AllFit};
+ghost use Rattle.ft_base.specs.Base.{Triggers};
+ghost use Rattle.ft_replay.specs.Merged.{Events};
+ghost use Rattle.ft_replay.specs.Found.{pairs_in};
+ghost use Rattle.ft_board.specs.KeptShelves.{AreKept};
+ghost use Rattle.ft_replay.specs.Replay.{replay};
+ghost use Rattle.ft_replay.specs.Tally.{tally_of};
+
+/// A law: where shelves keep what the triggers' acts at events say, told place by place, a
+/// trigger's shelf gives the tally that replaying the events gives it, and the keys of its hits fit
+/// the trigger's key items.
+pub fn kept_shelves()
+    ensures tally { (triggers : Triggers) (events : Events) (shelves : Shelves)
+        → AreKept triggers events shelves → (id : ℕ) (hist : Hist) (shelf : Shelved)
+        → map.get triggers id ≡ Some hist → map.get shelves id ≡ Some shelf
+        → map.get (replay triggers events).tallies id
+        ≡ Some (tally_of shelf.table (pairs_in shelf.readings)) }
+    ensures fit { (triggers : Triggers) (events : Events) (shelves : Shelves)
+        → AreKept triggers events shelves → (id : ℕ) (hist : Hist) (shelf : Shelved)
+        → map.get triggers id ≡ Some hist → map.get shelves id ≡ Some shelf
+        → AllFit shelf.table hist }
+{
+    ft_hist::fitting_parts();
+    ft_table::one_more_hit();
+    ft_pairs::one_source();
+}
+
+pub use crate::kept::kept_board_keeps;

@@ -1,0 +1,10 @@
+use Rattle.std.proofs.Common.{◌≡◌}
+use Rattle.std.specs.Prelude.{fold}
+use Rattle.std.specs.Ordering.{nat_cmp}
+use Rattle.ft_maps.specs.Seen.{seen}
+use Rattle.ft_replay.specs.inner.Counters.{with_counter, new_counters}
+use Rattle.ft_replay.proofs.replay.new_counters.Given as goal
+
+-- the triggers that are left lead where all triggers lead
+abbrev pub invariant-loop-id : goal.invariant-loop-id
+invariant-loop-id l = fold (with_counter (seen nat_cmp l.triggers)) (seen nat_cmp l.counters) l.id-iterator ≡ new_counters (seen nat_cmp l.triggers)

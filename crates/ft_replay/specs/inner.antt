@@ -1,0 +1,2 @@
+-- Words of private functions: what replaying holds of each trigger.
+pub mod Counters
