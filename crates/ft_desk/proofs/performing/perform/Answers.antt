@@ -2,7 +2,6 @@ use Rattle.std.proofs.Common.{map, List, Vec, Global, ℕ, codes, decimal, refl,
 use Rattle.std.specs.Option.{option_copied}
 use Rattle.ft_replay.specs.After.{after_unload, after_strike, after_remove}
 use Rattle.ft_replay.specs.Answers.{hist_text, totals, latencies, list_text}
-use Rattle.ft_script.specs.Script.{asked_by}
 use Rattle.ft_desk.specs.Answered.{totals_line, numbered, latency_lines}
 use Rattle.ft_desk.specs.Edits.{after_insert_text, after_attach_text, after_refilter_text}
 use Rattle.ft_desk.specs.Output.{outcome, after_load_file}
