@@ -4,21 +4,23 @@ ghost use Rattle.std.specs.Prelude.{◌≡◌, ℕ, ◌≤◌, None, Some, IfSom
 ghost use Rattle.std.specs.Option.{ForSome, option_map_or};
 ghost use Rattle.std.specs.Ordering.{nat_cmp};
 ghost use Rattle.std.specs.FinMap as map;
+ghost use Rattle.ft_event.specs.Traced.{last_cpu};
 ghost use Rattle.ft_hist.specs.Hist.{Hist, with_filter};
 ghost use Rattle.ft_lanes.specs.Held.{Lane};
 ghost use Rattle.ft_maps.specs.Seen.{seen};
 
+use ft_event::Event;
 use ft_filter::Filter;
 use ft_hist::Trigger;
 use ft_lanes::Lanes;
 use std::collections::BTreeMap;
 
-/// The greatest CPU.
-const CPU_LIMIT: u32 = 8191;
+/// The last CPU that an event can have.
+const CPU_LIMIT: u32 = Event::LAST_CPU;
 
 /// A CPU as lanes name it, if its lane is held.
 pub(crate) fn held_lane(lanes: &Lanes, cpu: u32) -> Option<u16>
-    requires { (held : ℕ) (lane : Lane) → map.get lanes.now held ≡ Some lane → held ≤ 8191 }
+    requires { (held : ℕ) (lane : Lane) → map.get lanes.now held ≡ Some lane → held ≤ last_cpu }
     ensures none { result ≡ None → map.get lanes.now cpu ≡ None }
     ensures same { IfSome result (λ lane. lane ≡ cpu) }
     ensures held { IfSome result (λ _. IsSome (map.get lanes.now cpu)) }
