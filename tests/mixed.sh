@@ -12,9 +12,9 @@ folder=$(mktemp -d)
 trap 'rm -rf -- "$folder"' EXIT
 for ((seed = 1; seed <= seeds; seed++)); do
     python3 "$here/random_script.py" "$commands" "$events" "$seed" "$folder"
-    python3 "$here/model.py" "$folder/script" "$folder/trace" >"$folder/wanted"
+    python3 "$here/model.py" "$folder/script" "$folder"/trace? >"$folder/wanted"
     status=0
-    "$here/../histdesk" "$folder/script" "$folder/trace" >"$folder/printed" || status=$?
+    "$here/../histdesk" "$folder/script" "$folder"/trace? >"$folder/printed" || status=$?
     if ((status > 1)) || ! cmp -- "$folder/wanted" "$folder/printed"; then
         echo "seed $seed: the program and the model differ"
         exit 1

@@ -18,6 +18,7 @@ from model_line import EVENTS, LineFault, line_text, read_line
 from model_trigger import MASK, Trigger, TriggerFault, field_of
 
 MOST_EVENTS = 1048576
+ANSWERS = ["hist", "totals", "lat", "list"]
 
 
 class Refused(Exception):
@@ -27,6 +28,8 @@ class Refused(Exception):
 class Desk:
     def __init__(self):
         self.lanes, self.triggers, self.next_id = {}, {}, 1
+        # What replaying told, where no edit came behind.
+        self.told = None
 
     # ---- edits
 
@@ -123,6 +126,11 @@ class Desk:
     # ---- answers
 
     def replay(self):
+        if self.told is None:
+            self.told = self.replayed()
+        return self.told
+
+    def replayed(self):
         merged = sorted((e["stamp"], cpu, line) for cpu, lane in self.lanes.items() for line, e in lane["events"].items())
         state = {i: {"table": {}, "dropped": 0, "pairs": []} for i in self.triggers}
         variables = {}
@@ -202,9 +210,11 @@ class Desk:
             raise Refused("16")
         if not line.strip(" ") or line.startswith("#"):
             return ""
+        word, rest = split(line.strip(" "))
+        if word not in ANSWERS:
+            self.told = None
         if line == "insert" or line.startswith("insert "):
             return self.insert(line[7:])
-        word, rest = split(line.strip(" "))
         if word == "attach":
             event, text = split(rest)
             if event not in EVENTS:
@@ -278,4 +288,5 @@ def main():
             sys.stdout.buffer.write(text.encode("latin-1") + b"\n")
 
 
-main()
+if __name__ == "__main__":
+    main()

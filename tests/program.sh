@@ -82,12 +82,16 @@ mixed_row() {
     local row=$folder/$1
     mkdir -p -- "$row"
     python3 "$here/random_script.py" "$2" "$3" "$4" "$row"
-    mv -- "$row/trace" "$row/trace1"
-    python3 "$here/model.py" "$row/script" "$row/trace1" >"$row/expected"
+    python3 "$here/model.py" "$row/script" "$row"/trace? >"$row/expected"
     echo 0 >"$row/status"
     if grep -q '^refused ' "$row/expected"; then
         echo 1 >"$row/status"
     fi
+}
+
+# crowded_row NAME EDITS SEED: a folder with edits over tables that are full is made a row, by the plain model.
+crowded_row() {
+    echo "$1: $(python3 "$here/crowded_script.py" "$2" "$3" "$folder/$1")"
 }
 
 # growths PROGRAM ROW..: with each growth of its memory refused in turn, the program prints a row's whole
@@ -190,6 +194,7 @@ for ((seed = 1; seed <= 10; seed++)); do
 done
 mixed_row long/mixed_1000_1 1000 600 1
 mixed_row long/mixed_1000_2 1000 600 2
+crowded_row long/crowded 1000 1
 all=("${rows[@]}" "$folder"/{short,long}/*)
 for one in "${all[@]}"; do
     row "$histdesk" "$one"

@@ -1,10 +1,11 @@
 #!/usr/bin/env python3
-"""Writes a random script of edits and answers, and the trace that it loads, for comparing with model.py.
+"""Writes a random script of edits and answers, and the traces that it loads, for comparing with model.py.
 
     random_script.py COMMANDS EVENTS SEED FOLDER
 
-writes FOLDER/script and FOLDER/trace. Tables of the least size fill up, since keys are many; triggers save and read
-variables, and each kind of edit comes, some of them refused.
+writes FOLDER/script and FOLDER/trace1 and on, one for each CPU, of so many events together. Tables of the least size fill
+up, since keys are many; triggers save and read variables, lanes go and come again, and each kind of edit comes, some of
+them refused.
 """
 
 import random
@@ -12,10 +13,11 @@ import sys
 
 NAMES = ["sched_waking", "sched_wakeup", "sched_wakeup_new", "sched_switch"]
 COMMS = ["cyclictest", "my app 2", "kworker/0:1", "sh"]
+CPUS, STAMPS = 3, 3 * 10**6
 
 
-def line(draw, cpus, stamps):
-    cpu, stamp, pid = draw.randrange(cpus), draw.randrange(stamps), draw.randrange(160)
+def line(draw, cpu):
+    stamp, pid = draw.randrange(STAMPS), draw.randrange(160)
     comm, prio, name = draw.choice(COMMS), draw.randrange(-2, 140), draw.choice(NAMES)
     head = f" sim-{draw.randrange(9)} [{cpu:03}] d.h.. {stamp // 10**6}.{stamp % 10**6:06}: {name}: "
     if name == "sched_switch":
@@ -48,13 +50,13 @@ def condition(draw):
     return draw.choice(["common_pid < 6", "common_cpu == 0", "common_cpu != 1 && common_pid & 3", "common_pid >= 2"])
 
 
-def command(draw, cpus, lines, ids):
+def command(draw, lines, ids):
     kind = draw.randrange(1000) / 10
     number = draw.randrange(1, max(2, 2 + ids[0] // 2))
     if kind < 30:
-        return "insert" + " " + line(draw, cpus, 3 * 10**6)
+        return "insert " + line(draw, draw.randrange(CPUS))
     if kind < 55:
-        return f"strike {draw.randrange(cpus)}:{draw.randrange(1, lines)}"
+        return f"strike {draw.randrange(CPUS)}:{draw.randrange(1, lines)}"
     if kind < 62:
         ids[0] += 1
         return trigger(draw)
@@ -62,27 +64,31 @@ def command(draw, cpus, lines, ids):
         return f"filter {number} " + draw.choice(["none", "if " + condition(draw)])
     if kind < 73:
         return f"remove {number}"
-    if kind < 73.2:
-        return f"unload {draw.randrange(cpus)}"
-    if kind < 73.6:
-        return "load @1"
-    if kind < 78:
-        return f"list {draw.randrange(cpus)}"
+    if kind < 75:
+        cpu = draw.randrange(CPUS)
+        # An insert makes the lane anew, so a load is accepted only soon behind.
+        return f"unload {cpu}" + draw.choice(["", f"\nload @{cpu + 1}"])
+    if kind < 77:
+        return f"load @{draw.randrange(1, CPUS + 1)}"
+    if kind < 80:
+        return f"list {draw.randrange(CPUS)}"
     return draw.choice(["hist", "totals", "totals", "lat", "lat"]) + f" {number}"
 
 
 def main():
     commands, events, seed, folder = int(sys.argv[1]), int(sys.argv[2]), int(sys.argv[3]), sys.argv[4]
-    draw, cpus, ids = random.Random(seed), 3, [2]
-    with open(f"{folder}/trace", "w") as trace:
-        for _ in range(events):
-            trace.write(line(draw, cpus, 3 * 10**6) + "\n")
+    draw, ids = random.Random(seed), [2]
+    for cpu in range(CPUS):
+        with open(f"{folder}/trace{cpu + 1}", "w") as trace:
+            for _ in range(events // CPUS):
+                trace.write(line(draw, cpu) + "\n")
     with open(f"{folder}/script", "w") as script:
-        script.write("load @1\n")
+        for cpu in range(CPUS):
+            script.write(f"load @{cpu + 1}\n")
         script.write("attach sched_waking hist:keys=pid:a=common_timestamp.usecs:size=128\n")
         script.write("attach sched_switch hist:keys=next_pid:vals=$lat:lat=common_timestamp.usecs-$a:size=128\n")
         for _ in range(commands):
-            script.write(command(draw, cpus, 2 * events // cpus, ids) + "\n")
+            script.write(command(draw, 2 * events // CPUS, ids) + "\n")
 
 
 main()

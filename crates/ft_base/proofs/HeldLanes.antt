@@ -3,6 +3,7 @@ use Rattle.std.proofs.Common.{◌≡◌, ℕ, ◌<◌, ◌≤◌, refl, sym, ap,
 use Rattle.std.specs.Prelude.{IsSome, option_map, option_and_then}
 use Rattle.std.specs.Option.{option_map_or}
 use Rattle.std.specs.FinMap as map
+use Rattle.ft_event.specs.Traced.{last_cpu}
 use Rattle.ft_lanes.specs.Held.{Lane, Lanes, event_at}
 use Rattle.ft_lanes.specs.Edits.{lanes_without}
 use Rattle.ft_lanes.specs.Listing.{lane_text}
@@ -14,7 +15,7 @@ use Rattle.ft_base.specs.After.{after_unload, after_strike}
 use Rattle.ft_base.proofs.Cases.{unload-ok, strike-no_event, strike-ok}
 
 -- a CPU above all that may be held has no lane
-pub no_lane-beyond : (lanes : Lanes) (cpu : ℕ) → ((held : ℕ) (lane : Lane) → map.get lanes held ≡ Some lane → held ≤ 8191) → 8191 < cpu → map.get lanes cpu ≡ None
+pub no_lane-beyond : (lanes : Lanes) (cpu : ℕ) → ((held : ℕ) (lane : Lane) → map.get lanes held ≡ Some lane → held ≤ last_cpu) → last_cpu < cpu → map.get lanes cpu ≡ None
 no_lane-beyond lanes cpu low high =
     elim (map.get lanes cpu) as (λ o. map.get lanes cpu ≡ o → o ≡ None) [
       | None ↦ λ _. refl

@@ -7,7 +7,7 @@ use Rattle.std.specs.Cmp.{nat_cmp_total}
 use Rattle.std.specs.FinMap as map
 use Rattle.std.specs.FinMap.{get-empty, len-empty, len-insert, nat_cmp-IsAntisymmetric}
 use Rattle.std.proofs.lemmas.Bool.{cases_eq}
-use Rattle.ft_event.specs.Traced.{Traced}
+use Rattle.ft_event.specs.Traced.{Traced, last_cpu}
 use Rattle.ft_hist.specs.Hist.{Hist}
 use Rattle.ft_lanes.specs.Held.{Lane, Lanes, number_limit, event_limit, held_in}
 use Rattle.ft_base.specs.Base.{Base, empty_base, trigger_limit}
@@ -21,7 +21,7 @@ use Rattle.ft_base.proofs.Held.{sum-insert}
 
 -- what holds of a CPU's lane
 pub record IsLane (cpu : ℕ) (lane : Lane) : Type 0 where
-  pub at_cpu : cpu ≤ 8191
+  pub at_cpu : cpu ≤ last_cpu
   pub numbers : (1 ≤ lane.next) × (lane.next ≤ number_limit + 1)
   pub lines : (line : ℕ) (event : Traced) → map.get lane.events line ≡ Some event → (1 ≤ line) × (line < lane.next) × (event.cpu ≡ cpu)
 
@@ -31,7 +31,7 @@ AreLanes lanes = (cpu : ℕ) (lane : Lane) → map.get lanes cpu ≡ Some lane �
 pub same-Some : {X : Type 0} (x y : X) → Some x ≡ Some y → x ≡ y
 same-Some x y e = ap (λ o. unwrap_or o x) e
 
-new-IsLane : (cpu : ℕ) → cpu ≤ 8191 → IsLane cpu new_lane
+new-IsLane : (cpu : ℕ) → cpu ≤ last_cpu → IsLane cpu new_lane
 new-IsLane cpu le = record {
   at_cpu = le;
   numbers = (omega arith, omega arith);
@@ -54,7 +54,7 @@ lane_with-IsLane cpu lane e is at room = record {
 }
 
 -- the lane that an event goes to
-lane-or_new : (lanes : Lanes) (cpu : ℕ) → AreLanes lanes → cpu ≤ 8191 → IsLane cpu (unwrap_or (map.get lanes cpu) new_lane)
+lane-or_new : (lanes : Lanes) (cpu : ℕ) → AreLanes lanes → cpu ≤ last_cpu → IsLane cpu (unwrap_or (map.get lanes cpu) new_lane)
 lane-or_new lanes cpu are le =
     elim (map.get lanes cpu) as (λ o. map.get lanes cpu ≡ o → IsLane cpu (unwrap_or o new_lane)) [
       | None ↦ λ _. new-IsLane cpu le

@@ -1,7 +1,7 @@
 -- What holds of each base that edits lead to from the empty one (our own choice).
 use Rattle.std.specs.Prelude.{◌≡◌, ℕ, ◌+◌, ◌<◌, ◌≤◌, true, List, Some}
 use Rattle.std.specs.FinMap as map
-use Rattle.ft_event.specs.Traced.{Traced}
+use Rattle.ft_event.specs.Traced.{Traced, last_cpu}
 use Rattle.ft_hist.specs.declared.item.KeyItem.{KeyItem}
 use Rattle.ft_hist.specs.declared.label.Var.TheVariants as vars
 use Rattle.ft_hist.specs.Hist.{Hist}
@@ -31,7 +31,7 @@ HasSavers triggers =
 
 -- lanes are of CPUs and hold their own CPU's events below their next number, ids are below the next id, the limits are kept, and variables are saved once and before they are read (our own choice)
 pub record IsReachable (base : Base) : Type 0 where
-  pub cpus : (cpu : ℕ) (lane : Lane) → map.get base.lanes cpu ≡ Some lane → cpu ≤ 8191
+  pub cpus : (cpu : ℕ) (lane : Lane) → map.get base.lanes cpu ≡ Some lane → cpu ≤ last_cpu
   pub numbers : (cpu : ℕ) (lane : Lane) → map.get base.lanes cpu ≡ Some lane → (1 ≤ lane.next) × (lane.next ≤ number_limit + 1)
   pub lines : (cpu : ℕ) (lane : Lane) → map.get base.lanes cpu ≡ Some lane → (line : ℕ) (event : Traced) → map.get lane.events line ≡ Some event → (1 ≤ line) × (line < lane.next) × (event.cpu ≡ cpu)
   pub ids : (id : ℕ) (hist : Hist) → map.get base.triggers id ≡ Some hist → (1 ≤ id) × (id < base.next_id)

@@ -1,29 +1,28 @@
-//! Edits that boards share.
+//! What edits share: a lane that is held, and another filter.
 
 ghost use Rattle.std.specs.Prelude.{◌≡◌, ℕ, ◌≤◌, None, Some, IfSome, IsSome, option_map};
 ghost use Rattle.std.specs.Option.{ForSome, option_map_or};
 ghost use Rattle.std.specs.Ordering.{nat_cmp};
 ghost use Rattle.std.specs.FinMap as map;
+ghost use Rattle.ft_event.specs.Traced.{last_cpu};
 ghost use Rattle.ft_hist.specs.Hist.{Hist, with_filter};
 ghost use Rattle.ft_lanes.specs.Held.{Lane};
 ghost use Rattle.ft_maps.specs.Seen.{seen};
 
+use ft_event::Event;
 use ft_filter::Filter;
 use ft_hist::Trigger;
 use ft_lanes::Lanes;
 use std::collections::BTreeMap;
 
-/// The greatest CPU.
-const CPU_LIMIT: u32 = 8191;
-
 /// A CPU as lanes name it, if its lane is held.
 pub(crate) fn held_lane(lanes: &Lanes, cpu: u32) -> Option<u16>
-    requires { (held : ℕ) (lane : Lane) → map.get lanes.now held ≡ Some lane → held ≤ 8191 }
+    requires { (held : ℕ) (lane : Lane) → map.get lanes.now held ≡ Some lane → held ≤ last_cpu }
     ensures none { result ≡ None → map.get lanes.now cpu ≡ None }
     ensures same { IfSome result (λ lane. lane ≡ cpu) }
     ensures held { IfSome result (λ _. IsSome (map.get lanes.now cpu)) }
 {
-    if cpu > CPU_LIMIT {
+    if cpu > Event::LAST_CPU {
         return None;
     }
     let lane = cpu as u16;

@@ -15,8 +15,8 @@ use Rattle.ft_filter.specs.declared.fault.FilterFault.{FilterFault}
 use Rattle.ft_filter.specs.declared.fault.FilterFault.TheVariants as filter_faults
 use Rattle.ft_trigger.specs.Hist.{Hist}
 use Rattle.ft_trigger.specs.TriggerIs.{trigger_of}
-use Rattle.ft_trigger.specs.declared.fault.TriggerFault.{TriggerFault}
-use Rattle.ft_trigger.specs.declared.fault.TriggerFault.TheVariants as faults
+use Rattle.ft_head.specs.declared.fault.TriggerFault.{TriggerFault}
+use Rattle.ft_head.specs.declared.fault.TriggerFault.TheVariants as faults
 use Rattle.ft_replay.specs.Base.{Base}
 use Rattle.ft_replay.specs.After.{after_load, after_insert, after_attach, after_refilter}
 use Rattle.ft_base.specs.declared.refused.Place.{Place}

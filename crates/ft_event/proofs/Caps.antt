@@ -8,7 +8,8 @@ use Rattle.std.specs.List.{list_all}
 use Rattle.std.specs.Str.Parse.{digits_value}
 use Rattle.ft_event.specs.Bytes.{is_digit}
 use Rattle.ft_event.specs.Spans.{number_of}
-use Rattle.ft_event.specs.Parts.{is_digits, up_to}
+use Rattle.ft_event.specs.Parts.{is_digits}
+use Rattle.ft_event.specs.inner.Steps.{up_to}
 use Rattle.ft_event.proofs.Digits.{next_digit, number_of-within, number_of-above}
 use Rattle.ft_event.proofs.Numbers.{digits_pass, digits_passed}
 

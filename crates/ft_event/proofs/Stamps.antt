@@ -11,6 +11,7 @@ use Rattle.ft_event.specs.Bytes.{is_space, is_in_word, is_digit, is_colon}
 use Rattle.ft_event.specs.Spans.{run_of, behind, word_of, without_spaces, number_of}
 use Rattle.ft_event.specs.Columns.{stamp_word_of, micros_of, stamp_of}
 use Rattle.ft_event.specs.LineIs.{Stops, IsSpaces, IsGap, IsDigits, IsLetters, IsStamped}
+use Rattle.ft_event.specs.Traced.{last_second}
 use Rattle.ft_event.proofs.Runs.{run_splits, run_is, rest_is, run_of-append, run_of-some, behind-append, behind-some}
 use Rattle.ft_event.proofs.Digits.{below_million, number_of-within, number_of-some}
 use Rattle.ft_event.proofs.Heads.{bind_some}
@@ -65,7 +66,7 @@ pub record IsStampText (word : List ℕ) (stamp : ℕ) : Type 0 where
   pub joined : word ≡ stamp_text seconds micros
   pub seconds_digits : IsDigits seconds
   pub seconds_short : length seconds ≤ 10
-  pub seconds_within : digits_value 10 seconds ≤ 4294967295
+  pub seconds_within : digits_value 10 seconds ≤ last_second
   pub micros_digits : IsDigits micros
   pub micros_six : length micros ≡ 6
   pub value : stamp ≡ digits_value 10 seconds * 1000000 + digits_value 10 micros
@@ -78,7 +79,7 @@ micros_of-is word stamp h =
     let point : behind (codes ".") behind_seconds ≡ Some (h.micros ++ (58 ∷ [])) = behind-append (codes ".") (h.micros ++ (58 ∷ [])) in
     let micros = run_of-append is_digit h.micros (58 ∷ []) h.micros_digits.0 h.micros_digits.1 refl in
     let end : behind (codes ":") (58 ∷ []) ≡ Some [] = behind-append (codes ":") [] in
-    let whole = number_of-within 4294967295 h.seconds h.seconds_digits.1 h.seconds_within in
+    let whole = number_of-within last_second h.seconds h.seconds_digits.1 h.seconds_within in
     let part = number_of-within 999999 h.micros h.micros_digits.1 (below_million h.micros h.micros_digits.1 h.micros_six) in
     let short : ltb 10 (length h.seconds) ≡ false = le-ltb 10 (length h.seconds) h.seconds_short in
     let six : eqb (length h.micros) 6 ≡ true = eq-eqb _ _ h.micros_six in
@@ -102,14 +103,14 @@ micros_of-some word stamp e =
     let point = bind_some (behind (codes ".") seconds.0.1) _ stamp seconds.2 in
     let micros = bind_some (run_of is_digit point.0) _ stamp point.2 in
     let end = bind_some (behind (codes ":") micros.0.1) _ stamp micros.2 in
-    let whole = bind_some (number_of 4294967295 seconds.0.0) _ stamp end.2 in
+    let whole = bind_some (number_of last_second seconds.0.0) _ stamp end.2 in
     let part = bind_some (number_of 999999 micros.0.0) _ stamp whole.2 in
     let fits = lengths seconds.0.0 micros.0.0 end.0 (whole.0 * 1000000 + part.0) stamp part.2 in
     let s = run_of-some is_digit word seconds.0 seconds.1 in
     let p = behind-some (codes ".") seconds.0.1 point.0 point.1 in
     let m = run_of-some is_digit point.0 micros.0 micros.1 in
     let c = behind-some (codes ":") micros.0.1 end.0 end.1 in
-    let w = number_of-some 4294967295 seconds.0.0 whole.0 whole.1 in
+    let w = number_of-some last_second seconds.0.0 whole.0 whole.1 in
     let n = number_of-some 999999 micros.0.0 part.0 part.1 in
     record {
       seconds = seconds.0.0;

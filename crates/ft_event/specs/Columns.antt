@@ -4,16 +4,7 @@ use Rattle.std.specs.List.{list_any}
 use Rattle.ft_event.specs.Bytes.{is_space, is_digit, is_colon, is_in_group}
 use Rattle.ft_event.specs.LineIs.{Tail, Head}
 use Rattle.ft_event.specs.Spans.{run_of, word_of, without_spaces, behind, number_of}
-use Rattle.ft_event.specs.declared.columns.Tail as declared_tail
-use Rattle.ft_event.specs.declared.columns.Head as declared_head
-
--- the texts that a `Tail` of the code points to (our own choice)
-abbrev pub tail_texts : declared_tail.Tail → Tail
-tail_texts t = record { pid = t.pid.now; cpu = t.cpu.now; rest = t.rest.now }
-
--- the texts that a `Head` of the code points to (our own choice)
-abbrev pub head_texts : declared_head.Head → Head
-head_texts h = record { task = h.task.now; tail = tail_texts h.tail }
+use Rattle.ft_event.specs.Traced.{last_second}
 
 infixl 10 ◌>>=◌
 -- the second step, on what the first one found (our own choice)
@@ -69,7 +60,7 @@ micros_of word = do
   point ← behind (codes ".") seconds.1
   micros ← run_of is_digit point
   end ← behind (codes ":") micros.1
-  whole ← number_of 4294967295 seconds.0
+  whole ← number_of last_second seconds.0
   part ← number_of 999999 micros.0
   if nat_lt 10 (length seconds.0) || not (length micros.0 == 6) || not (length end == 0) then None else Some (whole * 1000000 + part)
 

@@ -2,8 +2,10 @@
 
 ghost use Rattle.std.specs.Prelude.{◌≡◌, ◌≤◌, IfSome};
 ghost use Rattle.std.specs.Option.{option_map, option_copied};
-ghost use Rattle.ft_event.specs.Columns.{tail_texts, head_texts, behind_group, tail_of, head_of};
+ghost use Rattle.ft_event.specs.Columns.{behind_group, tail_of, head_of};
 ghost use Rattle.ft_event.specs.Columns.{stamp_word_of, micros_of, stamp_of};
+ghost use Rattle.ft_event.specs.inner.Texts.{tail_texts, head_texts};
+ghost use Rattle.ft_event.specs.Traced.{last_stamp};
 
 use crate::scan::{Class, behind, number, run, without_spaces, word};
 
@@ -91,7 +93,7 @@ fn stamp_word_of(text: &[u8]) -> Option<(&[u8], &[u8])>
 /// The microseconds that STAMP says: SECONDS of up to ten digits, `.`, six digits, `:`.
 fn micros_of(word: &[u8]) -> Option<u64>
     ensures value { result ≡ micros_of word.now }
-    ensures within { IfSome result (λ micros. micros ≤ 4294967295999999) }
+    ensures within { IfSome result (λ micros. micros ≤ last_stamp) }
 {
     // The six digits and what is round them stand at the word's end, so no digit is looked for.
     let len = word.len();
@@ -117,7 +119,7 @@ fn micros_of(word: &[u8]) -> Option<u64>
 #[tactic(auto, unfolding(crate::specs::Columns::stamp_of))]
 pub(crate) fn stamp_of(text: &[u8]) -> Option<(u64, &[u8])>
     ensures value { option_map (λ x. (x.0, x.1.now)) result ≡ stamp_of text.now }
-    ensures within { IfSome result (λ x. x.0 ≤ 4294967295999999) }
+    ensures within { IfSome result (λ x. x.0 ≤ last_stamp) }
 {
     let (word, rest) = stamp_word_of(text)?;
     let micros = micros_of(word)?;

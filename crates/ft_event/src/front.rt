@@ -1,6 +1,7 @@
 //! What the columns of a line say of its event.
 
 ghost use Rattle.std.specs.Prelude.{◌≤◌, length};
+ghost use Rattle.ft_event.specs.Traced.{last_cpu, last_stamp};
 
 use crate::comm::Comm;
 use crate::event::{Body, Event};
@@ -18,13 +19,13 @@ pub(crate) struct Front<'a> {
     /// STAMP, in microseconds.
     pub(crate) stamp: u64,
     ghost task_short: { length task.now ≤ 31 },
-    ghost cpu_within: { cpu ≤ 8191 },
-    ghost stamp_within: { stamp ≤ 4294967295999999 },
+    ghost cpu_within: { cpu ≤ last_cpu },
+    ghost stamp_within: { stamp ≤ last_stamp },
 }
 
 impl Front<'_> {
     ghost use Rattle.std.specs.Prelude.{◌≡◌};
-    ghost use Rattle.ft_event.specs.Fronts.{traced_with};
+    ghost use Rattle.ft_event.specs.inner.Fronts.{traced_with};
 
     /// Makes it the line's event, where this was traced.
     #[inline(always)]

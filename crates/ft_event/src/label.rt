@@ -8,7 +8,7 @@ use crate::scan::behind;
 
 /// The label of a named event.
 #[derive(Clone, Copy)]
-pub(crate) enum Label {
+pub(crate) enum EventLabel {
     /// `sched_waking:`
     Waking,
     /// `sched_wakeup:`
@@ -21,20 +21,20 @@ pub(crate) enum Label {
 
 /// The label that the text begins with, and what stands behind it. No label begins another one.
 #[tactic(auto, unfolding(crate::specs::Labels::label_of))]
-pub(crate) fn label_of(text: &[u8]) -> Option<(Label, &[u8])>
+pub(crate) fn label_of(text: &[u8]) -> Option<(EventLabel, &[u8])>
     ensures { option_map (λ x. (x.0, x.1.now)) result ≡ label_of text.now }
 {
     if let Some(rest) = behind(b"sched_waking:", text) {
-        return Some((Label::Waking, rest));
+        return Some((EventLabel::Waking, rest));
     }
     if let Some(rest) = behind(b"sched_wakeup:", text) {
-        return Some((Label::Wakeup, rest));
+        return Some((EventLabel::Wakeup, rest));
     }
     if let Some(rest) = behind(b"sched_wakeup_new:", text) {
-        return Some((Label::WakeupNew, rest));
+        return Some((EventLabel::WakeupNew, rest));
     }
     if let Some(rest) = behind(b"sched_switch:", text) {
-        return Some((Label::Switch, rest));
+        return Some((EventLabel::Switch, rest));
     }
     None
 }

@@ -1,21 +1,20 @@
 //! One line of a trace: what it says, or the first thing that is wrong with it.
 
-ghost use Rattle.std.specs.Prelude.{◌≡◌, ◌≤◌, ◌==◌, false, ℕ, List, length, Result, Ok, Err, OnOk, IfErr};
+ghost use Rattle.std.specs.Prelude.{◌≡◌, ◌≤◌, ◌==◌, false, length, Ok, Err, OnOk, IfErr};
 ghost use Rattle.std.specs.List.{list_any};
-ghost use Rattle.ft_event.specs.Columns.{head_texts};
-ghost use Rattle.ft_event.specs.Fronts.{line_behind, switch_behind, line_put, line_given};
-ghost use Rattle.ft_event.specs.declared.fault.Line.{Line};
-ghost use Rattle.ft_event.specs.declared.fault.LineFault.{LineFault};
 ghost use Rattle.ft_event.specs.LineIs.{LineIs};
 ghost use Rattle.ft_event.specs.Line.{name_from, wake_from};
-ghost use Rattle.ft_event.specs.Line.{payload_from, body_from, event_from, line_with, line_of};
+ghost use Rattle.ft_event.specs.Line.{payload_from, body_from, event_from};
+ghost use Rattle.ft_event.specs.Line.{line_with, line_of, line_given};
+ghost use Rattle.ft_event.specs.inner.Fronts.{line_behind, switch_behind, line_put};
+ghost use Rattle.ft_event.specs.inner.Texts.{head_texts};
 
 use crate::columns::{Head, head_of, stamp_of};
 use crate::comm::Comm;
 use crate::event::{Body, Event, Turn, Wake};
 use crate::fault::{Line, LineFault};
 use crate::front::Front;
-use crate::label::{Label, label_of};
+use crate::label::{EventLabel, label_of};
 use crate::scan::{number, trimmed, without_spaces};
 use crate::skipped::is_skipped;
 use crate::turns::{turn_cut_of, turn_numbers};
@@ -24,9 +23,6 @@ use memchr::memchr;
 
 /// The longest line that is read, in bytes.
 const LONGEST_LINE: usize = 4096;
-
-/// The greatest CPU.
-const LAST_CPU: u32 = 8191;
 
 /// Tests that a name has at most 31 bytes.
 #[tactic(auto, unfolding(crate::specs::Line::name_from))]
@@ -94,17 +90,17 @@ fn put_turn(front: &Front<'_>, payload: &[u8], event: &mut Event) -> Result<(), 
 #[tactic(auto, unfolding(crate::specs::Line::payload_from))]
 fn put_named(
     front: &Front<'_>,
-    label: Label,
+    label: EventLabel,
     payload: &[u8],
     event: &mut Event,
 ) -> Result<(), LineFault>
     ensures { line_put result event.new ≡ line_behind front.now (payload_from label payload.now) }
 {
     let body = match label {
-        Label::Waking => Body::Waking(wake_from(payload)?),
-        Label::Wakeup => Body::Wakeup(wake_from(payload)?),
-        Label::WakeupNew => Body::WakeupNew(wake_from(payload)?),
-        Label::Switch => return put_turn(front, payload, event),
+        EventLabel::Waking => Body::Waking(wake_from(payload)?),
+        EventLabel::Wakeup => Body::Wakeup(wake_from(payload)?),
+        EventLabel::WakeupNew => Body::WakeupNew(wake_from(payload)?),
+        EventLabel::Switch => return put_turn(front, payload, event),
     };
     front.put(event, body);
     Ok(())
@@ -132,7 +128,7 @@ fn put_event(head: &Head<'_>, event: &mut Event) -> Result<(), LineFault>
     let tail = &head.tail;
     test_name(head.task)?;
     let pid = number(tail.pid, i32::MAX as u32).ok_or(LineFault::NumberRange)?;
-    let cpu = number(tail.cpu, LAST_CPU).ok_or(LineFault::BadCpu)?;
+    let cpu = number(tail.cpu, Event::LAST_CPU).ok_or(LineFault::BadCpu)?;
     let (stamp, rest) = stamp_of(tail.rest).ok_or(LineFault::BadStamp)?;
     let front = Front {
         task: head.task,
@@ -227,10 +223,3 @@ pub fn read_cut_line(line: &[u8], event: &mut Event) -> Result<bool, LineFault>
 {
     put_cut(line, event)
 }
-
-/// A law: a line has one answer, that of `read_line`.
-pub fn one_answer()
-    ensures found { (bytes : List ℕ) → LineIs bytes (line_of bytes) }
-    ensures only { (bytes : List ℕ) (answer : Result Line LineFault) → LineIs bytes answer
-        → answer ≡ line_of bytes }
-{}

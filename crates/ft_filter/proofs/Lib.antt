@@ -2,7 +2,6 @@ mod Again
 mod Examples
 mod Existence
 mod Fits
-mod Fronts
 mod NumberForms
 mod Numbers
 mod Operands

@@ -7,7 +7,7 @@ use Rattle.std.specs.Char.{is_ascii_digit, is_ascii_hexdigit}
 use Rattle.std.specs.List.{list_all}
 use Rattle.std.specs.Str.Parse.{digits_value}
 use Rattle.ft_filter.specs.Tokens.{is_decimal}
-use Rattle.ft_filter.specs.Words.{within_reach}
+use Rattle.ft_filter.specs.inner.Words.{within_reach}
 
 -- a number that has passed the limit stays out of reach
 pub out_of_reach : (radix : ℕ) (text : List ℕ) (i : ℕ) → 1 ≤ radix → 9223372036854775808 < digits_value radix (take i text) → within_reach (digits_value radix text) ≡ None

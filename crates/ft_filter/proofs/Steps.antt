@@ -12,7 +12,7 @@ use Rattle.ft_filter.specs.declared.reading.Parsed.{Parsed}
 use Rattle.ft_filter.specs.Tokens.{skip}
 use Rattle.ft_filter.specs.Predicate.{Read, Found, Stop, place, pred_at}
 use Rattle.ft_filter.specs.FilterIs.{whole_of, Reads, Goes, Joined, Operand, below, behind_joint, both, made, closed, first, negated, enclosed, deep, compared, ended, another, another_fails}
-use Rattle.ft_filter.specs.Given.{GivesTree, GoesOn}
+use Rattle.ft_filter.specs.inner.Given.{GivesTree, GoesOn}
 use Rattle.ft_filter.specs.Tree.{Tree, Trees, Not, Test, End, More, trees}
 use Rattle.ft_filter.specs.Answers.{filter_of}
 use Rattle.ft_filter.proofs.Unique.{filter_is}

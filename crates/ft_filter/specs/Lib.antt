@@ -10,8 +10,7 @@ pub mod FilterIs
 pub mod Answers
 pub mod Canonical
 pub mod Shape
-pub mod Given
-pub mod Words
+pub mod inner
 pub use Rattle.ft_event.specs.Fields
 pub use Rattle.ft_event.specs.LineIs
 pub use Rattle.ft_event.specs.Traced

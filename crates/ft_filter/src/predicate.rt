@@ -1,11 +1,10 @@
 //! Reading a field, an operator and a value.
 
-ghost use Rattle.std.specs.Prelude.{◌≡◌, ◌↔◌, ℕ, List, not, ◌||◌, IsTrue, IfOk};
+ghost use Rattle.std.specs.Prelude.{◌≡◌, not, ◌||◌, IsTrue, IfOk};
 ghost use Rattle.ft_event.specs.Fields.{is_text};
 ghost use Rattle.ft_glob.specs.Matching.{is_glob};
-ghost use Rattle.ft_filter.specs.Predicate.{Read, place, pred_at, comparison_at, value_at, text_value, number_value, is_match, literal_of};
-ghost use Rattle.ft_filter.specs.PredIs.{PredIs};
-ghost use Rattle.ft_filter.specs.Given.{GivesPred, GivesValue};
+ghost use Rattle.ft_filter.specs.Predicate.{place, pred_at, comparison_at, value_at, text_value, number_value, is_match, literal_of};
+ghost use Rattle.ft_filter.specs.inner.Given.{GivesPred, GivesValue};
 
 use crate::fault::FilterFault;
 use crate::tokens::{Number, is_quote, name_at, number_at, op_at, quoted_at, skip};
@@ -61,13 +60,6 @@ pub(crate) fn predicate(source: Source, text: &[u8]) -> Result<Compared<'_>, Fil
         None => Err(FilterFault::Syntax(source.place(text))),
     }
 }
-
-/// A law: what a text's head is read as is the predicate, or the first fault with its place, that
-/// the conditions on its words say, in their order.
-pub fn predicates_of_texts()
-    ensures { (event : Name) (whole : ℕ) (text : List ℕ) (read : Read Pred)
-        → PredIs event whole text read ↔ (read ≡ pred_at event whole text) }
-{}
 
 /// Reads the operator and the value behind a field.
 #[tactic(auto, unfolding(crate::specs::Predicate::comparison_at))]

@@ -2,16 +2,14 @@
 
 #![tactic(auto, using(crate::proofs::Trees::shapes))]
 
-ghost use Rattle.std.specs.Prelude.{◌≡◌, ◌<◌, ◌↔◌, ◌++◌, ◌∷◌, [], ℕ, List, length, Some, Result, Ok, IfOk, IfErr, OnOk, IfSome};
+ghost use Rattle.std.specs.Prelude.{◌≡◌, ◌<◌, ◌++◌, ◌∷◌, [], ℕ, List, length, Some, Result, Ok, IfOk, IfErr, OnOk, IfSome};
 ghost use Rattle.std.specs.Option.{option_copied};
 ghost use Rattle.ft_filter.specs.Tokens.{skip};
 ghost use Rattle.ft_filter.specs.Predicate.{pred_at, Found};
 ghost use Rattle.ft_filter.specs.FilterIs.{FilterIs, Reads, Joined, Operand, below, behind_joint, both, made, closed};
 ghost use Rattle.ft_filter.specs.Answers.{filter_of, GivesFilter};
-ghost use Rattle.ft_filter.specs.Canonical.{canonical};
-ghost use Rattle.ft_filter.specs.Given.{GivesTree, GoesOn};
-ghost use Rattle.ft_filter.specs.Shape.{IsFilterOf};
-ghost use Rattle.ft_filter.specs.Tree.{Tree, tree_of, trees_in, trees, Not, Test};
+ghost use Rattle.ft_filter.specs.inner.Given.{GivesTree, GoesOn};
+ghost use Rattle.ft_filter.specs.Tree.{tree_of, trees_in, trees, Not, Test};
 
 use crate::fault::FilterFault;
 use crate::filter::Filter;
@@ -51,27 +49,6 @@ pub fn parse(alloc: Global, text: &[u8], event: Name) -> Result<Filter, FilterFa
     }
     Ok(Filter::new(event, parsed.expr))
 }
-
-/// A law: the grammar relates one answer to a text, and one alone.
-pub fn one_answer()
-    ensures some { (event : Name) (text : List ℕ) → FilterIs event text (filter_of event text) }
-    ensures one { (event : Name) (text : List ℕ) (answer : Result Tree FilterFault)
-        → FilterIs event text answer → answer ≡ filter_of event text }
-{}
-
-/// A law: the canonical text of a tree that some text gives, gives that tree again.
-pub fn reads_again()
-    ensures { (event : Name) (text : List ℕ) (tree : Tree) → FilterIs event text (Ok tree)
-        → FilterIs event (canonical tree) (Ok tree) }
-{}
-
-/// A law: the trees that some text on an event gives are those of the event's own predicates, with
-/// at least two operands in each any and all, and with at most 32 levels, which are the `(` and `!`
-/// that are open at once in their canonical text.
-pub fn trees_of_texts()
-    ensures { (event : Name) (tree : Tree)
-        → ((text : List ℕ) × FilterIs event text (Ok tree)) ↔ IsFilterOf event tree }
-{}
 
 /// What is behind the joint, where it stands next.
 fn behind_joint(joint: Joint, text: &[u8]) -> Option<&[u8]>

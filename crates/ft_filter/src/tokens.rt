@@ -1,16 +1,15 @@
 //! The words of a filter's text.
 
-ghost use Rattle.std.specs.Prelude.{◌≡◌, ◌<◌, ◌≤◌, ◌↔◌, List, length, Some, IsTrue, not, ◌==◌, ◌&&◌, ℕ, ℤ, pos, neg_ℤ};
+ghost use Rattle.std.specs.Prelude.{◌≡◌, ◌<◌, ◌≤◌, length, Some, IsTrue, ◌==◌, ◌&&◌, ℕ, pos, neg_ℤ};
 ghost use Rattle.std.specs.Option.{option_map};
 ghost use Rattle.std.specs.List.{prefix_len, find, list_all};
-ghost use Rattle.std.specs.Char.{is_ascii_digit, is_ascii_hexdigit, digit_value};
+ghost use Rattle.std.specs.Char.{is_ascii_hexdigit, digit_value};
 ghost use Rattle.std.specs.Str.Parse.{digits_value};
 ghost use Rattle.ft_filter.specs.Tokens.{is_gap, skip, name_at, op_at, quoted_at, cut_at, number_at, number_of, is_decimal, is_hexadecimal, is_quote, begins_name, word_len, begins, all_ops};
-ghost use Rattle.ft_filter.specs.Numbers.{Writes, IsNumber};
-ghost use Rattle.ft_filter.specs.PredIs.{IsBehindGap, IsName, IsOperator, IsQuoted};
-ghost use Rattle.ft_filter.specs.Words.{test_of, ranged, ranged_at, within_reach};
+ghost use Rattle.ft_filter.specs.inner.Words.{test_of, ranged, ranged_at, within_reach};
 
 use crate::tree::Op;
+use ft_text::are_digits;
 
 /// Every operator, the longer ones first.
 const OPS: [Op; 8] = [
@@ -203,26 +202,6 @@ fn number_of(word: &[u8]) -> Option<Number>
     None
 }
 
-/// A law: what is behind a gap, and where a name, an operator or a quoted text stands first, is
-/// what the cuts of the text say.
-pub fn words_of_texts()
-    ensures gap { (text rest : List ℕ) → (skip text ≡ rest) ↔ IsBehindGap text rest }
-    ensures name { (text name rest : List ℕ)
-        → (name_at text ≡ Some (name, rest)) ↔ IsName text name rest }
-    ensures operator { (text : List ℕ) (op : Op) (rest : List ℕ)
-        → (op_at text ≡ Some (op, rest)) ↔ IsOperator text op rest }
-    ensures quoted { (text inside rest : List ℕ)
-        → (quoted_at text ≡ Some (inside, rest)) ↔ IsQuoted text inside rest }
-{}
-
-/// A law: a word writes a number just where it has one of the three forms, and a text begins with
-/// a number just where its word writes it.
-pub fn numbers_of_words()
-    ensures word { (word : List ℕ) (z : ℤ) → (number_of word ≡ Some z) ↔ Writes word z }
-    ensures token { (text : List ℕ) (z : ℤ) (rest : List ℕ)
-        → (number_at text ≡ Some (z, rest)) ↔ IsNumber text z rest }
-{}
-
 /// Whether the word is decimal digits, with no zero in front of others.
 fn is_decimal(word: &[u8]) -> bool
     ensures { result ≡ is_decimal word.now }
@@ -235,13 +214,6 @@ fn is_hexadecimal(word: &[u8]) -> bool
     ensures { result ≡ is_hexadecimal word.now }
 {
     !word.is_empty() && are_hex_digits(word)
-}
-
-/// Whether all bytes are decimal digits.
-fn are_digits(word: &[u8]) -> bool
-    ensures { result ≡ list_all is_ascii_digit word.now }
-{
-    word.iter().all(|byte| byte.is_ascii_digit())
 }
 
 /// Whether all bytes are hexadecimal digits.

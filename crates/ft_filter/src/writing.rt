@@ -4,14 +4,14 @@
 
 ghost use Rattle.std.specs.Prelude.{◌≡◌, ◌++◌, ◌==◌, not, OnOk, OnErr, map};
 ghost use Rattle.std.specs.List.{list_all};
-ghost use Rattle.ft_filter.specs.Canonical.{canonical, pred_text, value_text, quoted, joint_text, enclosed_if, is_joined, needs_enclosing, joined_text, more_text};
-ghost use Rattle.ft_filter.specs.Given.{IsFront};
+ghost use Rattle.ft_filter.specs.Canonical.{canonical, pred_text, value_text, quoted, joint_text, enclosed_if, is_joined, needs_enclosing, joined_text};
+ghost use Rattle.ft_text.specs.Fronts.{IsFront};
 ghost use Rattle.ft_filter.specs.Tree.{tree_of, trees};
 
 use crate::filter::Filter;
 use crate::tree::{Expr, Joint, Literal, Pred};
 use ft_event::field_text;
-use itoa::Buffer;
+use ft_text::write_signed;
 use std::alloc::AllocError;
 
 impl Filter {
@@ -136,10 +136,7 @@ fn write_value(value: &Literal, text: &mut Vec<u8>) -> Result<(), AllocError>
     ensures err { OnErr result (IsFront text.old.items text.new.items) }
 {
     match value {
-        Literal::Number(number) => {
-            let mut digits = Buffer::new();
-            text.extend_from_slice(digits.format(*number).as_bytes())
-        }
+        Literal::Number(number) => write_signed(*number, text),
         Literal::Text(inside) => write_quoted(inside.bytes(), text),
         Literal::Glob(pattern) => write_quoted(pattern.bytes(), text),
     }

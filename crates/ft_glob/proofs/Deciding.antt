@@ -9,7 +9,7 @@ use Rattle.std.proofs.lemmas.Bool.{cases_eq, cases_Bool, eqb-true, ne_eqb, eq-eq
 use Rattle.std.proofs.lemmas.Bool.Decides.{Decides-eqb, Decides-like, Decides-and, Decides-or, Decides-not, same_from_decides}
 use Rattle.std.proofs.lemmas.List.Elements.{Contains-append_right}
 use Rattle.ft_glob.specs.Glob.{Member, MemberIs, MembersAre, GoesOn, Item, ItemIs, ItemsAre, IsCut, ClassIs, Has, SomeHas, ClassHas, OneThen, SomeEnd, Glob, GlobIs, IsGlob}
-use Rattle.ft_glob.specs.Walk.{ReadsAsItems}
+use Rattle.ft_glob.specs.inner.Walk.{ReadsAsItems}
 use Rattle.ft_glob.proofs.Same.{same_items}
 use Rattle.ft_glob.proofs.Stars.{end_cases, end_here, end_later, end_of_none}
 use Rattle.ft_glob.specs.Matching.{all_at, goes_on, range_at, member_at, members_of, close_at, class_with, closed_at, class_at, item_at, items_of, is_glob, has, class_has, one_then, some_end, fits, matches, Matches}

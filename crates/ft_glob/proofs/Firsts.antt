@@ -1,7 +1,7 @@
 -- The item that stands first in a pattern, by its first byte.
 use Rattle.std.proofs.Common.{◌≡◌, ◌≢◌, ℕ, subst, List, [], ◌∷◌, length, refl, sym, ap, ◌∙◌, arith}
 use Rattle.ft_glob.specs.Glob.{Item, ItemsAre, IsPlain, Glob}
-use Rattle.ft_glob.specs.Walk.{Takes}
+use Rattle.ft_glob.specs.inner.Walk.{Takes}
 
 -- one item stands first, and the others behind it
 pub record Firsts (item : Item) (rest : List ℕ) (items : List Item) : Type 0 where

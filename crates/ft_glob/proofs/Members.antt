@@ -2,7 +2,7 @@
 use Rattle.std.proofs.Common.{◌≡◌, ◌≢◌, ◌<◌, ◌≤◌, ◌-◌, ◌↔◌, ◌⊎◌, ℕ, inl, inr, subst, List, [], ◌∷◌, take, drop, length, get_or, refl, sym, ap, ◌∙◌, arith}
 use Rattle.std.proofs.lemmas.List.{take_rest}
 use Rattle.ft_glob.specs.Glob.{Member, GoesOn, MembersAre, SomeHas}
-use Rattle.ft_glob.specs.Walk.{Bounds}
+use Rattle.ft_glob.specs.inner.Walk.{Bounds}
 
 -- where `-` and a byte follow, a range stands first
 pub record RangeFirst (low high : ℕ) (rest : List ℕ) (members : List Member) : Type 0 where

@@ -2,7 +2,7 @@
 use Rattle.std.proofs.Common.{◌≡◌, ◌≢◌, ◌<◌, ◌↔◌, ℕ, Bool, inl, inr, List, [], ◌∷◌, length, refl, ap, arith, eqb, false}
 use Rattle.std.proofs.lemmas.Bool.{cases_eq}
 use Rattle.ft_glob.specs.Glob.{Item, IsCut}
-use Rattle.ft_glob.specs.Walk.{ReadsAsItems, ReadsAsMembers}
+use Rattle.ft_glob.specs.inner.Walk.{ReadsAsItems, ReadsAsMembers}
 use Rattle.ft_glob.proofs.Cuts.{class_first, class_found}
 use Rattle.ft_glob.proofs.Firsts.{star_first, one_first, byte_first}
 

@@ -3,7 +3,7 @@ use Rattle.std.proofs.Common.{◌≡◌, ◌↔◌, ◌⊎◌, ℕ, inl, inr, su
 use Rattle.std.specs.List.{list_all}
 use Rattle.std.proofs.lemmas.Bool.{ne_eqb, and_parts}
 use Rattle.ft_glob.specs.Glob.{Item, ItemsAre, OneThen, SomeEnd, ClassHas, Glob}
-use Rattle.ft_glob.specs.Walk.{Takes}
+use Rattle.ft_glob.specs.inner.Walk.{Takes}
 
 -- ---- ends of a text
 

@@ -2,7 +2,7 @@
 use Rattle.std.proofs.Common.{◌≡◌, ◌≤◌, ◌↔◌, ℕ, subst, List, [], ◌∷◌, drop, length, Option, None, Some}
 use Rattle.ft_glob.specs.declared.pattern.Place.{Place}
 use Rattle.ft_glob.specs.Glob.{Item, ItemsAre, SomeEnd, Glob}
-use Rattle.ft_glob.specs.Walk.{Takes}
+use Rattle.ft_glob.specs.inner.Walk.{Takes}
 use Rattle.ft_glob.proofs.Stars.{Stands, stands_past, stands_star, stands_back, stands_none, stands_end}
 
 -- the items stand for the answer before the text; where a star was met, a later try is at an end behind the place where it was tried last

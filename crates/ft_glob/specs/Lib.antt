@@ -1,3 +1,3 @@
 pub mod Glob
-pub mod Walk
+pub mod inner
 pub mod Matching

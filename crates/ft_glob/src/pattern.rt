@@ -2,10 +2,10 @@
 
 ghost use Rattle.std.specs.Prelude.{◌≡◌, ◌<◌, ◌≤◌, ◌↔◌, ℕ, Bool, List, [], ◌∷◌, length, take, slice_index, Contains, IsTrue, IfSome, IfNone, ◌==◌};
 ghost use Rattle.std.specs.List.{list_all};
-ghost use Rattle.ft_glob.specs.Glob.{Item, Member, MembersAre, SomeHas, ClassHas, IsCut};
+ghost use Rattle.ft_glob.specs.Glob.{Item, Member, MembersAre, SomeHas, IsCut};
 ghost use Rattle.ft_glob.specs.Glob.{ItemsAre, GlobIs, IsGlob, Glob};
-ghost use Rattle.ft_glob.specs.Matching.{is_glob, matches, Matches};
-ghost use Rattle.ft_glob.specs.Walk.{ReadsAsMembers, ReadsAsItems, Bounds, StepIs, Shortens};
+ghost use Rattle.ft_glob.specs.Matching.{is_glob};
+ghost use Rattle.ft_glob.specs.inner.Walk.{ReadsAsMembers, ReadsAsItems, Bounds, StepIs, Shortens};
 
 /// Whether the pattern is a glob. It is none where a class is not closed, has no member or has a
 /// range from a higher byte to a lower one, where a backslash stands anywhere, and where a `!`
@@ -64,17 +64,6 @@ pub fn glob(pattern: &[u8], text: &[u8]) -> bool
     }
     are_stars(place.pattern)
 }
-
-/// A law: a pattern reads as items in one way.
-pub fn one_reading()
-    ensures { (pattern : List ℕ) (items other : List Item) → ItemsAre pattern items
-        → ItemsAre pattern other → items ≡ other }
-{}
-
-/// A law: a pattern matches just the texts that its items match.
-pub fn what_matches()
-    ensures { (pattern text : List ℕ) → IsTrue (matches pattern text) ↔ Matches pattern text }
-{}
 
 /// What is left of a pattern, and of a text that it is to match.
 #[derive(Clone, Copy)]

@@ -1,5 +1,5 @@
+mod Appends
 mod Asked
-mod Fronts
 mod KindLemmas
 mod PartLemmas
 mod PowerLemmas

@@ -26,7 +26,7 @@ abbrev pub listed : List (List ℕ) → List ℕ
 listed [] = []
 listed (text ∷ texts) = text ++ more_items texts
 
--- what is made of a field's value, as a modifier behind the field (kernel: histogram.rst, modifiers)
+-- a modifier, as it stands behind its field (kernel: histogram.rst, modifiers)
 abbrev pub mode_text : Mode → List ℕ
 mode_text modes.Plain = []
 mode_text modes.Hex = codes ".hex"

@@ -11,8 +11,8 @@ pub mod Sound
 pub mod Steps
 pub mod Tests
 pub mod Ties
-pub mod Triggers
 pub mod Values
+pub mod inner
 pub use Rattle.ft_event.specs.Traced
 pub use Rattle.ft_event.specs.Fields
 pub use Rattle.ft_filter.specs.Tree

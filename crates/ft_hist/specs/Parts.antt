@@ -1,14 +1,10 @@
 -- The parts of keys, and their order (kernel: histogram.rst, `keys`).
-use Rattle.std.specs.Prelude.{◌≡◌, ℕ, ℤ, pos, List, [], ◌∷◌, refl}
+use Rattle.std.specs.Prelude.{ℕ, ℤ, pos, List, []}
 use Rattle.std.specs.declared.cmp.Ordering.{Ordering}
 use Rattle.std.specs.Ordering.{nat_cmp, int_cmp, on, then_cmp}
 use Rattle.std.specs.Cmp.Lexicographic.{slice_cmp}
 use Rattle.ft_hist.specs.declared.key.Part.{Part}
 use Rattle.ft_hist.specs.declared.key.Part.TheVariants.{Num, Log2, Bucket, Text}
-use Rattle.ft_hist.specs.declared.key.Rest.{Rest}
-use Rattle.ft_hist.specs.declared.key.Rest.TheVariants.{End, More}
-use Rattle.ft_hist.specs.declared.key.Last.{Last}
-use Rattle.ft_hist.specs.declared.key.Last.TheVariants.{Done, Third}
 
 -- the number of a part's kind: numbers, powers, multiples, texts (our own choice)
 abbrev pub kind_of : Part → ℕ
@@ -38,35 +34,3 @@ part_cmp = then_cmp (on kind_of nat_cmp) (then_cmp (on number_of int_cmp) (on by
 -- keys in order: by their parts from the left, a beginning before what it begins (our own choice)
 abbrev pub key_cmp : List Part → List Part → Ordering
 key_cmp = slice_cmp part_cmp
-
--- the parts behind the second (our own choice)
-abbrev pub last_parts : Last → List Part
-last_parts Done = []
-last_parts (Third part) = part ∷ []
-
--- the parts behind the first (our own choice)
-abbrev pub rest_parts : Rest → List Part
-rest_parts End = []
-rest_parts (More part last) = part ∷ last_parts last
-
--- the first part (our own choice)
-abbrev pub first_of : List Part → Part
-first_of [] = Num (pos 0)
-first_of (part ∷ parts) = part
-
--- what stands behind the second part (our own choice)
-abbrev pub last_of : List Part → Last
-last_of [] = Done
-last_of (part ∷ parts) = Third part
-
--- what stands behind the first part (our own choice)
-abbrev pub rest_of : List Part → Rest
-rest_of [] = End
-rest_of (first ∷ []) = End
-rest_of (first ∷ second ∷ parts) = More second (last_of parts)
-
--- what stands behind the first part is what its parts say (our own choice)
-pub rest_back : (first : Part) (rest : Rest) → rest_of (first ∷ rest_parts rest) ≡ rest
-rest_back first End = refl
-rest_back first (More part Done) = refl
-rest_back first (More part (Third third)) = refl

@@ -1,18 +1,12 @@
 //! What a trigger counts an event under.
 
-ghost use Rattle.std.specs.Prelude.{◌≡◌, ◌+◌, ◌<◌, ◌≤◌, ◌*◌, ◌^◌, ℕ, List, length, Some};
-ghost use Rattle.std.specs.Prelude.{option_map, IsTrue};
-ghost use Rattle.std.specs.List.{list_all};
-ghost use Rattle.std.specs.Option.{option_copied, is_some};
-ghost use Rattle.ft_event.specs.Traced.{Traced};
-ghost use Rattle.ft_hist.specs.Hist.{Hist};
+ghost use Rattle.std.specs.Prelude.{◌≡◌, ◌+◌, ◌<◌, ◌≤◌, length, option_map};
+ghost use Rattle.std.specs.Option.{option_copied};
 ghost use Rattle.ft_hist.specs.declared.item.KeyItem.{KeyItem};
 ghost use Rattle.ft_hist.specs.declared.key.Part.{Part};
-ghost use Rattle.ft_hist.specs.Powers.{log2_of, bucket_of, IsMultiple};
-ghost use Rattle.ft_hist.specs.Fitting.{KeyFits};
-ghost use Rattle.ft_hist.specs.Sound.{key_suits};
+ghost use Rattle.ft_hist.specs.Powers.{log2_of, bucket_of};
 ghost use Rattle.ft_hist.specs.Hit.{number_part, text_part, value_part, part_of, key_of};
-ghost use Rattle.ft_hist.specs.Hit.{same_name, passes_filter, is_asked, hit};
+ghost use Rattle.ft_hist.specs.Hit.{same_name, passes_filter, hit};
 
 use crate::item::{KeyItem, Mode};
 use crate::key::{Key, Part};
@@ -85,20 +79,20 @@ pub(crate) fn part_of(item: KeyItem, event: &Event) -> Option<Part>
 }
 
 /// What a modifier makes of a field's value.
-fn value_part(mode: Mode, value: Value) -> Option<Part>
-    ensures { result ≡ value_part mode value }
+fn value_part(modifier: Mode, value: Value) -> Option<Part>
+    ensures { result ≡ value_part modifier value }
 {
     match value {
-        Value::Num(number) => Some(number_part(mode, number)),
-        Value::Text(text) => text_part(mode, text),
+        Value::Num(number) => Some(number_part(modifier, number)),
+        Value::Text(text) => text_part(modifier, text),
     }
 }
 
 /// What a modifier makes of a number.
-fn number_part(mode: Mode, number: i64) -> Part
-    ensures { result ≡ number_part mode number }
+fn number_part(modifier: Mode, number: i64) -> Part
+    ensures { result ≡ number_part modifier number }
 {
-    match mode {
+    match modifier {
         Mode::Plain | Mode::Hex => Part::Num(number),
         Mode::Log2 => Part::Log2(log2_of(number.cast_unsigned())),
         Mode::Buckets(size) => Part::Bucket(bucket_of(size, number.cast_unsigned())),
@@ -106,10 +100,10 @@ fn number_part(mode: Mode, number: i64) -> Part
 }
 
 /// What a modifier makes of a text: only no modifier at all makes something.
-fn text_part(mode: Mode, text: Comm) -> Option<Part>
-    ensures { result ≡ text_part mode text }
+fn text_part(modifier: Mode, text: Comm) -> Option<Part>
+    ensures { result ≡ text_part modifier text }
 {
-    match mode {
+    match modifier {
         Mode::Plain => Some(Part::Text(text)),
         Mode::Hex | Mode::Log2 | Mode::Buckets(_) => None,
     }
@@ -135,39 +129,4 @@ fn bucket_of(size: u32, value: u64) -> u64
     } else {
         value / u64::from(size) * u64::from(size)
     }
-}
-
-/// A law: the number that `.log2` gives a value of 64 bits is the least whose power of 2 is not
-/// below the value.
-pub fn powers()
-    ensures reached { (value : ℕ) → value < 2 ^ 64 → value ≤ 2 ^ log2_of value }
-    ensures least { (value n : ℕ) → value ≤ 2 ^ n → log2_of value ≤ n }
-{}
-
-/// A law: what `.buckets` gives a value is the greatest multiple of the size that is not above it.
-pub fn multiples()
-    ensures multiple { (size value : ℕ) → IsMultiple size (bucket_of size value) }
-    ensures below { (size value : ℕ) → bucket_of size value ≤ value }
-    ensures greatest { (size value n : ℕ) → n * size ≤ value → n * size ≤ bucket_of size value }
-{}
-
-/// A law: an event is a hit of a trigger whose keys suit its event, as every trigger's do, just
-/// where it has the trigger's name and passes its filter.
-pub fn asked_events()
-    ensures { (hist : Hist) (event : Traced)
-        → IsTrue (list_all (key_suits hist.event) hist.keys)
-        → is_some (hit hist event) ≡ is_asked hist event }
-{
-    ft_event::values_of_fields();
-}
-
-/// A law: the key of a hit fits the trigger's key items: it has as many parts, each of its item's
-/// kind.
-pub fn fitting_parts()
-    ensures fits { (hist : Hist) (event : Traced) (parts : List Part)
-        → hit hist event ≡ Some parts → KeyFits hist.keys parts }
-    ensures as_many { (items : List KeyItem) (parts : List Part)
-        → KeyFits items parts → length parts ≡ length items }
-{
-    ft_event::values_of_fields();
 }

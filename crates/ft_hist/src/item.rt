@@ -2,16 +2,16 @@
 
 use ft_event::Field;
 
-/// A key item: a field, and what is made of its value.
+/// A key item: a field, and its modifier.
 #[derive(Clone, Copy, Debug, PartialEq, Eq)]
 pub struct KeyItem {
     /// The field.
     pub field: Field,
-    /// What is made of its value.
+    /// Its modifier: what is made of its value.
     pub mode: Mode,
 }
 
-/// What a key item makes of its field's value: the field's modifier.
+/// A modifier: what a key item makes of its field's value.
 #[derive(Clone, Copy, Debug, PartialEq, Eq)]
 pub enum Mode {
     /// No modifier: the value itself.

@@ -1,12 +1,12 @@
 //! Keys: what a trigger counts events under.
 
 ghost use Rattle.std.specs.Prelude.{◌≡◌, ◌<◌, ◌≤◌, ◌∷◌, [], length, slice_get};
-ghost use Rattle.std.specs.declared.cmp.Ordering.TheVariants.{Equal};
 ghost use Rattle.std.proofs.Common.{rules};
 ghost use Rattle.std.specs.Cmp.{partial_equiv_from_equiv, partial_order_from_total};
 ghost use Rattle.std.specs.Cmp.Rules.{comparing};
 ghost use Rattle.std.specs.Ordering.{as_partial_cmp, eq_by_cmp};
-ghost use Rattle.ft_hist.specs.Parts.{kind_of, part_cmp, key_cmp, last_parts, rest_parts};
+ghost use Rattle.ft_hist.specs.Parts.{kind_of, part_cmp, key_cmp};
+ghost use Rattle.ft_hist.specs.inner.Stored.{last_parts, rest_parts};
 ghost use Rattle.ft_hist.specs.Orders.{part_cmp_total, key_cmp_total, part_ties, key_ties};
 
 use ft_event::Comm;
@@ -52,7 +52,7 @@ enum Last {
 impl Model for Key {
     ghost use Rattle.std.specs.Prelude.{List, ◌∷◌};
     ghost use Rattle.ft_hist.specs.declared.key.Part.{Part};
-    ghost use Rattle.ft_hist.specs.Parts.{rest_parts, first_of, rest_of, rest_back};
+    ghost use Rattle.ft_hist.specs.inner.Stored.{rest_parts, first_of, rest_of, rest_back};
 
     ghost Value = { List Part };
 
@@ -234,16 +234,3 @@ impl Ord for Key {
         }
     }
 }
-
-/// A law: keys are ordered by their parts from the left, and a key stands before those that it
-/// begins; parts are ordered by kind, then as signed numbers, as powers, as multiples, as bytes.
-pub fn one_key_order()
-    ensures order { (a b : Key) → ⟦<Key as Ord>⟧.cmp a b ≡ key_cmp a b }
-    ensures parts { (a b : Part) → ⟦<Part as Ord>⟧.cmp a b ≡ part_cmp a b }
-{}
-
-/// A law: keys that tie in the order are equal, and so are parts.
-pub fn equal_keys()
-    ensures keys { (a b : Key) → key_cmp a b ≡ Equal → a ≡ b }
-    ensures parts { (a b : Part) → part_cmp a b ≡ Equal → a ≡ b }
-{}

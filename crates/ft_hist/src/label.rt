@@ -1,6 +1,6 @@
-//! The names of variables.
+//! Variables of triggers, and their names.
 
-ghost use Rattle.std.specs.Prelude.{◌≡◌, IfOk};
+ghost use Rattle.std.specs.Prelude.{◌≡◌, Some, IfOk};
 
 use std::alloc::{AllocError, Global};
 use std::marker::Model;
@@ -31,6 +31,21 @@ impl Model for Label {
     ghost Value = { List ℕ };
 
     ghost view = { λ l. l.bytes.items };
+}
+
+impl Var {
+    ghost use Rattle.ft_hist.specs.Canonical.{name_of};
+
+    /// The trigger's own name for it: what its stamps are saved under, or what its differences are
+    /// called.
+    pub fn own_name(&self) -> &[u8]
+        ensures { result.now ≡ name_of (Some self.now) }
+    {
+        match self {
+            Var::Saves(name) => name.bytes(),
+            Var::Reads { own, source: _ } => own.bytes(),
+        }
+    }
 }
 
 impl Label {

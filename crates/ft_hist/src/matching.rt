@@ -38,13 +38,13 @@ fn is_same_kind(a: KeyItem, b: KeyItem) -> bool
 {
     match (a.field.is_text(), b.field.is_text()) {
         (true, true) => true,
-        (false, false) => is_same_mode(a.mode, b.mode),
+        (false, false) => modifiers_match(a.mode, b.mode),
         _ => false,
     }
 }
 
 /// Whether two modifiers make parts of the same kind of numbers.
-fn is_same_mode(a: Mode, b: Mode) -> bool
+fn modifiers_match(a: Mode, b: Mode) -> bool
     ensures { result ≡ same_kind (number_kind a) (number_kind b) }
 {
     match (a, b) {

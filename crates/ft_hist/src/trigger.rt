@@ -35,7 +35,7 @@ impl Model for Trigger {
 
     ghost coded = { hist_code };
 
-    ghost use Rattle.ft_hist.specs.Triggers.{hist_of, IsWhole};
+    ghost use Rattle.ft_hist.specs.inner.Triggers.{hist_of, IsWhole};
 
     ghost view = { hist_of };
 
@@ -44,6 +44,12 @@ impl Model for Trigger {
 
 impl Trigger {
     /// A trigger of these parts.
+    ///
+    /// `ft_trigger::parse` makes triggers of texts by it, and tests make them of parts written out.
+    /// What it asks for is what makes the parts one trigger: they are within the limits, their
+    /// items are the event's and the trigger's own, and the filter is for the event. No test of
+    /// that is offered: whoever reads a text has found it out part by part, each with a fault and a
+    /// place of its own, and would have no answer left to give here.
     pub fn of(
         event: Name,
         keys: Vec<KeyItem>,

@@ -1,15 +1,6 @@
 //! What a hit adds to a trigger's sums.
 
-ghost use Rattle.std.specs.Prelude.{◌≡◌, ℕ, ℤ, Some, slice_get, IsTrue, IsSome};
-ghost use Rattle.std.specs.List.{list_all};
-ghost use Rattle.ft_event.specs.Traced.{Traced};
-ghost use Rattle.ft_event.specs.Fields.{field_of};
-ghost use Rattle.ft_event.specs.declared.field.Field.{Field};
-ghost use Rattle.ft_event.specs.declared.field.Value.TheVariants as values;
-ghost use Rattle.ft_hist.specs.declared.item.Item.TheVariants as items;
-ghost use Rattle.ft_hist.specs.Hist.{Hist};
-ghost use Rattle.ft_hist.specs.Sound.{value_suits};
-ghost use Rattle.ft_hist.specs.Hit.{hit};
+ghost use Rattle.std.specs.Prelude.{◌≡◌};
 ghost use Rattle.ft_hist.specs.Values.{number_of_field, value_of, value_at, values_of};
 
 use crate::item::Item;
@@ -59,16 +50,4 @@ fn number_of_field(value: Option<Value>) -> i64
         Some(Value::Num(number)) => number,
         Some(Value::Text(_)) | None => 0,
     }
-}
-
-/// A law: at a hit of a trigger whose values suit its event, as every trigger's do, each field that
-/// it sums holds a number, and that number is its value.
-pub fn summed_fields()
-    ensures { (hist : Hist) (event : Traced) (own : ℤ) (number : ℕ) (field : Field)
-        → IsTrue (list_all (value_suits hist.event hist.variable) hist.values)
-        → IsSome (hit hist event)
-        → slice_get hist.values number ≡ Some (items.Num field)
-        → field_of event field ≡ Some (values.Num (value_at hist event own number)) }
-{
-    ft_event::values_of_fields();
 }

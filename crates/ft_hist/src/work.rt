@@ -24,7 +24,7 @@ struct Count {
 
 impl Model for Count {
     ghost use Rattle.std.specs.Prelude.{ℕ};
-    ghost use Rattle.ft_hist.specs.Steps.{one_above};
+    ghost use Rattle.ft_hist.specs.inner.Counts.{one_above};
 
     ghost Value = { ℕ };
 

@@ -4,9 +4,9 @@
 
 ghost use Rattle.std.specs.Prelude.{◌≡◌, ◌++◌, OnOk, OnErr, map, option_map, codes, decimal};
 ghost use Rattle.std.specs.Option.{option_copied};
-ghost use Rattle.ft_filter.specs.Given.{IsFront};
+ghost use Rattle.ft_text.specs.Fronts.{IsFront};
 ghost use Rattle.ft_hist.specs.Canonical.{canonical, listed, more_items, key_text, mode_text};
-ghost use Rattle.ft_hist.specs.Canonical.{name_of, value_text, by_text, sort_text};
+ghost use Rattle.ft_hist.specs.Canonical.{value_text, by_text, sort_text};
 ghost use Rattle.ft_hist.specs.Canonical.{variable_text, if_text};
 
 use crate::item::{Item, KeyItem, Mode, SortBy, SortItem};
@@ -14,7 +14,7 @@ use crate::label::{Label, Var};
 use crate::trigger::Trigger;
 use ft_event::field_text;
 use ft_filter::Filter;
-use itoa::Buffer;
+use ft_text::write_decimal;
 use std::alloc::AllocError;
 
 impl Trigger {
@@ -69,7 +69,7 @@ fn write_table(trigger: &Trigger, text: &mut Vec<u8>) -> Result<(), AllocError>
     text.extend_from_slice(b":sort=")?;
     write_sort(trigger, text)?;
     text.extend_from_slice(b":size=")?;
-    write_number(trigger.size(), text)
+    write_decimal(u64::from(trigger.size()), text)
 }
 
 /// Adds key items with a `,` between each two.
@@ -94,32 +94,23 @@ fn write_key(key: KeyItem, text: &mut Vec<u8>) -> Result<(), AllocError>
     ensures err { OnErr result (IsFront text.old.items text.new.items) }
 {
     text.extend_from_slice(field_text(key.field))?;
-    write_mode(key.mode, text)
+    write_modifier(key.mode, text)
 }
 
 /// Adds a modifier, where there is one.
-fn write_mode(mode: Mode, text: &mut Vec<u8>) -> Result<(), AllocError>
-    ensures ok { OnOk result (text.new.items ≡ text.old.items ++ mode_text mode) }
+fn write_modifier(modifier: Mode, text: &mut Vec<u8>) -> Result<(), AllocError>
+    ensures ok { OnOk result (text.new.items ≡ text.old.items ++ mode_text modifier) }
     ensures err { OnErr result (IsFront text.old.items text.new.items) }
 {
-    match mode {
+    match modifier {
         Mode::Plain => Ok(()),
         Mode::Hex => text.extend_from_slice(b".hex"),
         Mode::Log2 => text.extend_from_slice(b".log2"),
         Mode::Buckets(size) => {
             text.extend_from_slice(b".buckets=")?;
-            write_number(size, text)
+            write_decimal(u64::from(size), text)
         }
     }
-}
-
-/// Adds a number in decimal digits.
-fn write_number(number: u32, text: &mut Vec<u8>) -> Result<(), AllocError>
-    ensures ok { OnOk result (text.new.items ≡ text.old.items ++ decimal number) }
-    ensures err { OnErr result (IsFront text.old.items text.new.items) }
-{
-    let mut digits = Buffer::new();
-    text.extend_from_slice(digits.format(number).as_bytes())
 }
 
 /// Adds the value items, each behind a `,`.
@@ -146,19 +137,11 @@ fn write_value(variable: Option<&Var>, item: Item, text: &mut Vec<u8>) -> Result
         Item::Num(field) => text.extend_from_slice(field_text(field)),
         Item::Own => {
             text.extend_from_slice(b"$")?;
-            text.extend_from_slice(own_name(variable))
+            match variable {
+                Some(variable) => text.extend_from_slice(variable.own_name()),
+                None => Ok(()),
+            }
         }
-    }
-}
-
-/// The own name of a trigger's variable.
-fn own_name(variable: Option<&Var>) -> &[u8]
-    ensures { result.now ≡ name_of (option_copied variable.entry) }
-{
-    match variable {
-        None => b"",
-        Some(Var::Saves(name)) => name.bytes(),
-        Some(Var::Reads { own, source: _ }) => own.bytes(),
     }
 }
 

@@ -19,7 +19,7 @@ use Rattle.ft_event.specs.Traced.{Traced}
 use Rattle.ft_maps.specs.Entries.{entries-empty, get-insert_other, get-remove_same, get-remove_other, insert_same}
 use Rattle.ft_maps.specs.Mapped.{map_by, entries_by, entries-map_by}
 use Rattle.ft_lanes.specs.Held.{held_in}
-use Rattle.ft_lanes.specs.Slots.{SlotsOf, AllSlots, slots_in, slots_with, slots_without, all_with, all_without, no_slots, lane_by, lanes_by, AreBelow, AreWithin, AreStored}
+use Rattle.ft_lanes.specs.inner.Slots.{SlotsOf, AllSlots, slots_in, slots_with, slots_without, all_with, all_without, no_slots, lane_by, lanes_by, AreBelow, AreWithin, AreStored}
 use Rattle.ft_lanes.proofs.Each.{within-longer, within-with, within-without, within-unloaded}
 use lib.Dec.{T}
 

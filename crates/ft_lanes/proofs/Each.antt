@@ -11,8 +11,8 @@ use Rattle.std.proofs.lemmas.Bool.{cases_eq}
 use Rattle.std.proofs.lemmas.List.{get_or_default}
 use Rattle.std.proofs.lemmas.Option.{none-some}
 use Rattle.ft_maps.specs.Entries.{get-insert_same, get-insert_other, get-remove_same, get-remove_other}
-use Rattle.ft_lanes.specs.Slots.{SlotsOf, AllSlots, Each, IsWithin, AreWithin, no_slots, slots_with, slots_without, all_with, all_without}
-use Rattle.ft_lanes.specs.Walks.{PlacesWithin, SlotsWithin}
+use Rattle.ft_lanes.specs.inner.Slots.{SlotsOf, AllSlots, Each, IsWithin, AreWithin, no_slots, slots_with, slots_without, all_with, all_without}
+use Rattle.ft_lanes.specs.inner.Within.{PlacesWithin, SlotsWithin}
 
 module _ {X : Type 0} (P : X → Type 0) where
   pub each-empty : Each P map.empty

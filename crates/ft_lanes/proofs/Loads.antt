@@ -16,7 +16,7 @@ use Rattle.ft_event.specs.Traced.{Traced}
 use Rattle.ft_lanes.specs.Held.{Lane, Lanes, number_limit, event_limit}
 use Rattle.ft_lanes.specs.Loaded.{lane_of, with_lanes, first_held}
 use Rattle.ft_lanes.specs.Edits.{new_lane, lane_with, lanes_with}
-use Rattle.ft_lanes.specs.Slots.{SlotsOf, AllSlots, no_slots, slots_with, all_with, all_from, slots_in, lane_by, lanes_by, stored_at, first_cpu, has_cpu, AgreeBeside, HasRoom, AreWithin, AreStored}
+use Rattle.ft_lanes.specs.inner.Slots.{SlotsOf, AllSlots, no_slots, slots_with, all_with, all_from, slots_in, lane_by, lanes_by, stored_at, first_cpu, has_cpu, AgreeBeside, HasRoom, AreWithin, AreStored}
 use Rattle.ft_lanes.proofs.RowLines.{enumerate_from-push, find-past}
 use Rattle.ft_lanes.proofs.Each.{within-longer, within-with}
 use Rattle.ft_lanes.proofs.Views.{held-slots_of, lanes-with, lanes-appended, lane-found}

@@ -11,7 +11,7 @@ use Rattle.std.specs.FinMap.{find, from_entries_push, get-from_entries, nat_cmp-
 use Rattle.std.proofs.lemmas.Bool.{cases_lt, ne_eqb}
 use Rattle.std.proofs.lemmas.List.{length-map, length_push, map-append}
 use Rattle.std.proofs.lemmas.Option.{none-some}
-use Rattle.ft_lanes.specs.Slots.{slots_with, row_slots, IsRow, AreBelow}
+use Rattle.ft_lanes.specs.inner.Slots.{slots_with, row_slots, IsRow, AreBelow}
 use Rattle.ft_lanes.proofs.Counts.{len-with}
 
 module _ {X : Type 0} where

@@ -7,7 +7,6 @@ use Rattle.std.specs.FinMap.{FinMap}
 use Rattle.ft_event.specs.Traced.{Traced}
 use Rattle.ft_event.specs.Codes.{traced_code}
 use Rattle.ft_lanes.specs.Held.{Lane, Lanes}
-use Rattle.ft_lanes.specs.Slots.{SlotsOf}
 
 -- a lane, stored as its events and its next number (our own choice)
 abbrev pub lane_code : Coded Lane
@@ -18,12 +17,6 @@ lane_code = code_by
 -- lanes, stored as a map of such (our own choice)
 abbrev pub lanes_code : Coded Lanes
 lanes_code = map.code coded_ℕ lane_code
-
--- a lane's slots, stored as their places and the next number (our own choice)
-abbrev pub slots_code : Coded SlotsOf
-slots_code = code_by
-    (FinMap nat_cmp ℕ × ℕ) (coded× (map.code coded_ℕ coded_ℕ) coded_ℕ)
-    (λ slots. (slots.places, slots.next)) (λ p. record { places = p.0; next = p.1 }) (λ _. refl)
 
 -- what a walk over lanes has left, stored as a list (our own choice)
 abbrev pub walk_code : Coded (List (ℕ × Lane))

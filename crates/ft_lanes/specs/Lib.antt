@@ -3,5 +3,5 @@ pub mod Codes
 pub mod Edits
 pub mod Listing
 pub mod Loaded
-pub mod Slots
 pub mod Walks
+pub mod inner

@@ -27,7 +27,7 @@ impl Model for Lanes {
     ghost use Rattle.std.specs.Ordering.{nat_cmp};
     ghost use Rattle.ft_maps.specs.Seen.{seen};
     ghost use Rattle.ft_lanes.specs.Held.{Lanes as Held};
-    ghost use Rattle.ft_lanes.specs.Slots.{stored_at, lanes_by, AreStored};
+    ghost use Rattle.ft_lanes.specs.inner.Slots.{stored_at, lanes_by, AreStored};
     ghost use Rattle.ft_lanes.specs.Codes.{lanes_code};
 
     ghost Value = { Held };

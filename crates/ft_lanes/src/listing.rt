@@ -1,6 +1,7 @@
 //! The text of a lane.
 
-ghost use Rattle.std.specs.Prelude.{◌≡◌, ◌≤◌, ◌++◌, option_map, IfOk, OnOk};
+ghost use Rattle.std.specs.Prelude.{◌≡◌, ◌++◌, decimal, option_map, IfOk, OnOk};
+ghost use Rattle.std.specs.Fmt.{signed_decimal};
 ghost use Rattle.std.specs.List.{flat_map};
 ghost use Rattle.ft_lanes.specs.Listing.{event_line, event_text, stamp_text, body_text, label_text};
 ghost use Rattle.ft_lanes.specs.Listing.{payload_text, wake_text, turn_text, prev_text, next_text};
@@ -9,20 +10,17 @@ ghost use Rattle.ft_lanes.specs.Listing.{target_text, zero_filled};
 use crate::lanes::Lanes;
 use crate::walk::Lines;
 use ft_event::{Body, Comm, Event, Turn, Wake};
-use itoa::{Buffer, Integer};
+use ft_text::{write_decimal, write_right, write_signed};
 use std::alloc::{AllocError, Global};
 
 /// How many digits a CPU takes at least, but for the one in front of a line.
-const CPU_WIDTH: usize = 3;
+const CPU_WIDTH: u8 = 3;
 
 /// How many digits the microseconds of a stamp take.
-const MICROS_WIDTH: usize = 6;
+const MICROS_WIDTH: u8 = 6;
 
 /// Microseconds in a second.
 const MICROS_PER_SECOND: u64 = 1_000_000;
-
-/// Zeros, as many as the widest number takes.
-const ZEROS: [u8; 6] = [b'0'; 6];
 
 impl Lanes {
     ghost use Rattle.std.specs.FinMap as map;
@@ -57,8 +55,9 @@ fn lines_text(alloc: Global, cpu: u16, lines: Lines<'_>) -> Result<Vec<u8>, Allo
 fn add_line(text: &mut Vec<u8>, cpu: u16, line: u32, event: &Event) -> Result<(), AllocError>
     ensures { OnOk result (text.new.items ≡ text.old.items ++ event_line cpu line event.now) }
 {
-    add(text, b"", cpu)?;
-    add(text, b":", line)?;
+    write_decimal(u64::from(cpu), text)?;
+    text.extend_from_slice(b":")?;
+    write_decimal(u64::from(line), text)?;
     text.extend_from_slice(b" ")?;
     add_event(text, event)?;
     text.extend_from_slice(b"\n")
@@ -70,7 +69,7 @@ fn add_event(text: &mut Vec<u8>, event: &Event) -> Result<(), AllocError>
     ensures { OnOk result (text.new.items ≡ text.old.items ++ event_text event.now) }
 {
     text.extend_from_slice(event.task.bytes())?;
-    add(text, b"-", event.pid)?;
+    add_number(text, b"-", event.pid)?;
     text.extend_from_slice(b" [")?;
     add_zero_filled(text, u64::from(event.cpu), CPU_WIDTH)?;
     text.extend_from_slice(b"] ")?;
@@ -84,7 +83,7 @@ fn add_event(text: &mut Vec<u8>, event: &Event) -> Result<(), AllocError>
 fn add_stamp(text: &mut Vec<u8>, micros: u64) -> Result<(), AllocError>
     ensures { OnOk result (text.new.items ≡ text.old.items ++ stamp_text micros) }
 {
-    add(text, b"", micros / MICROS_PER_SECOND)?;
+    write_decimal(micros / MICROS_PER_SECOND, text)?;
     text.extend_from_slice(b".")?;
     add_zero_filled(text, micros % MICROS_PER_SECOND, MICROS_WIDTH)
 }
@@ -128,8 +127,8 @@ fn add_wake(text: &mut Vec<u8>, wake: &Wake) -> Result<(), AllocError>
     ensures { OnOk result (text.new.items ≡ text.old.items ++ wake_text wake.now) }
 {
     add_comm(text, b"comm=", &wake.comm)?;
-    add(text, b" pid=", wake.pid)?;
-    add(text, b" prio=", wake.prio)?;
+    add_number(text, b" pid=", wake.pid)?;
+    add_number(text, b" prio=", wake.prio)?;
     text.extend_from_slice(b" target_cpu=")?;
     add_target(text, wake.target_cpu)
 }
@@ -150,8 +149,8 @@ fn add_prev(text: &mut Vec<u8>, turn: &Turn) -> Result<(), AllocError>
     ensures { OnOk result (text.new.items ≡ text.old.items ++ prev_text turn.now) }
 {
     add_comm(text, b"prev_comm=", &turn.prev_comm)?;
-    add(text, b" prev_pid=", turn.prev_pid)?;
-    add(text, b" prev_prio=", turn.prev_prio)?;
+    add_number(text, b" prev_pid=", turn.prev_pid)?;
+    add_number(text, b" prev_prio=", turn.prev_prio)?;
     add_comm(text, b" prev_state=", &turn.prev_state)
 }
 
@@ -161,8 +160,8 @@ fn add_next(text: &mut Vec<u8>, turn: &Turn) -> Result<(), AllocError>
     ensures { OnOk result (text.new.items ≡ text.old.items ++ next_text turn.now) }
 {
     add_comm(text, b"next_comm=", &turn.next_comm)?;
-    add(text, b" next_pid=", turn.next_pid)?;
-    add(text, b" next_prio=", turn.next_prio)
+    add_number(text, b" next_pid=", turn.next_pid)?;
+    add_number(text, b" next_prio=", turn.next_prio)
 }
 
 /// Adds a CPU that a payload names: at least three digits, behind a `-` where it is negative.
@@ -184,22 +183,17 @@ fn add_comm(text: &mut Vec<u8>, label: &[u8], comm: &Comm) -> Result<(), AllocEr
 }
 
 /// Adds a label and a number.
-fn add<I: Integer>(text: &mut Vec<u8>, label: &[u8], number: I) -> Result<(), AllocError>
-    ensures { OnOk result (text.new.items ≡ text.old.items ++ (label.now ++ I.text number)) }
+fn add_number(text: &mut Vec<u8>, label: &[u8], number: i32) -> Result<(), AllocError>
+    ensures { OnOk result (text.new.items ≡ text.old.items ++ (label.now ++ signed_decimal number)) }
 {
-    let mut digits = Buffer::new();
     text.extend_from_slice(label)?;
-    text.extend_from_slice(digits.format(number).as_bytes())
+    write_signed(i64::from(number), text)
 }
 
-/// Adds a number in decimal digits, with zeros in front up to a width, which is at most 6.
+/// Adds a number in decimal digits, with zeros in front up to a width.
 #[tactic(auto, unfolding(crate::specs::Listing::zero_filled))]
-fn add_zero_filled(text: &mut Vec<u8>, number: u64, width: usize) -> Result<(), AllocError>
-    requires { width ≤ 6 }
+fn add_zero_filled(text: &mut Vec<u8>, number: u64, width: u8) -> Result<(), AllocError>
     ensures { OnOk result (text.new.items ≡ text.old.items ++ zero_filled width number) }
 {
-    let mut buffer = Buffer::new();
-    let digits = buffer.format(number).as_bytes();
-    text.extend_from_slice(&ZEROS[..width.saturating_sub(digits.len())])?;
-    text.extend_from_slice(digits)
+    write_right(number, width, b'0', text)
 }

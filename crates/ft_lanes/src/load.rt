@@ -6,7 +6,7 @@ ghost use Rattle.std.specs.Ordering.{nat_cmp};
 ghost use Rattle.std.specs.FinMap as map;
 ghost use Rattle.ft_maps.specs.Seen.{seen};
 ghost use Rattle.ft_lanes.specs.Held.{event_limit, HasCpu};
-ghost use Rattle.ft_lanes.specs.Slots.{all_from, first_cpu, slots_in};
+ghost use Rattle.ft_lanes.specs.inner.Slots.{all_from, first_cpu, slots_in};
 
 use crate::rows::{put_rows, rows_of};
 use crate::slots::Slots;

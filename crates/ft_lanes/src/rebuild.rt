@@ -5,7 +5,7 @@ ghost use Rattle.std.specs.Ordering.{nat_cmp};
 ghost use Rattle.std.specs.Map.{keys_of, values_of};
 ghost use Rattle.std.specs.FinMap as map;
 ghost use Rattle.ft_maps.specs.Seen.{seen};
-ghost use Rattle.ft_lanes.specs.Slots.{placed_from, slots_from};
+ghost use Rattle.ft_lanes.specs.inner.Slots.{placed_from, slots_from};
 
 use crate::slots::Slots;
 use crate::store::end_of;

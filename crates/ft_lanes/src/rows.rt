@@ -5,7 +5,7 @@ ghost use Rattle.std.specs.Ordering.{nat_cmp};
 ghost use Rattle.std.specs.FinMap as map;
 ghost use Rattle.ft_maps.specs.Seen.{seen};
 ghost use Rattle.ft_lanes.specs.Held.{event_limit, number_limit};
-ghost use Rattle.ft_lanes.specs.Slots.{no_slots, slots_with, all_with, all_from, all_put, slots_in, AgreeBesideRows};
+ghost use Rattle.ft_lanes.specs.inner.Slots.{no_slots, slots_with, all_with, all_from, all_put, slots_in, AgreeBesideRows};
 
 use crate::slots::Slots;
 use ft_event::Event;
@@ -21,8 +21,8 @@ pub(crate) struct Row {
 }
 
 impl Model for Row {
-    ghost use Rattle.ft_lanes.specs.Slots.{SlotsOf, row_slots, IsRow};
-    ghost use Rattle.ft_lanes.specs.Codes.{slots_code};
+    ghost use Rattle.ft_lanes.specs.inner.Slots.{SlotsOf, row_slots, IsRow};
+    ghost use Rattle.ft_lanes.specs.inner.Codes.{slots_code};
 
     ghost Value = { SlotsOf };
 

@@ -23,9 +23,9 @@ pub(crate) struct Slots {
 
 impl Model for Slots {
     ghost use Rattle.std.specs.Ordering.{nat_cmp};
-    ghost use Rattle.ft_lanes.specs.Slots.{SlotsOf, AreBelow};
+    ghost use Rattle.ft_lanes.specs.inner.Slots.{SlotsOf, AreBelow};
     ghost use Rattle.ft_maps.specs.Seen.{seen};
-    ghost use Rattle.ft_lanes.specs.Codes.{slots_code};
+    ghost use Rattle.ft_lanes.specs.inner.Codes.{slots_code};
 
     ghost Value = { SlotsOf };
 
@@ -46,7 +46,7 @@ fn collected(alloc: Global, lines: Vec<(u32, u32)>) -> Result<BTreeMap<u32, u32>
 
 impl Slots {
     ghost use Rattle.ft_lanes.specs.Held.{number_limit};
-    ghost use Rattle.ft_lanes.specs.Slots.{no_slots, slots_of, slots_with, slots_without, AreBelow};
+    ghost use Rattle.ft_lanes.specs.inner.Slots.{no_slots, slots_of, slots_with, slots_without, AreBelow};
 
     /// No slots; the first line is 1.
     pub(crate) fn new(alloc: Global) -> Slots

@@ -1,7 +1,7 @@
 //! The store of events: places in it, and what is added behind it.
 
 ghost use Rattle.std.specs.Prelude.{◌≡◌, ◌+◌, ◌++◌, ◌<◌, ◌^◌, length, option_map, OnOk, OnErr, IfOk, IfSome};
-ghost use Rattle.ft_lanes.specs.Slots.{stored_at};
+ghost use Rattle.ft_lanes.specs.inner.Slots.{stored_at};
 
 use ft_event::Event;
 use std::alloc::AllocError;

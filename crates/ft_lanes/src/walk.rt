@@ -3,7 +3,8 @@
 ghost use Rattle.std.specs.Prelude.{length};
 ghost use Rattle.std.specs.Iterator.{at_most};
 ghost use Rattle.std.specs.Map.Iter.{TakesFirst};
-ghost use Rattle.ft_lanes.specs.Walks.{shown, itself, PlacesWithin};
+ghost use Rattle.ft_lanes.specs.Walks.{shown, itself};
+ghost use Rattle.ft_lanes.specs.inner.Within.{PlacesWithin};
 
 use crate::slots::Slots;
 use ft_event::Event;
@@ -21,8 +22,8 @@ impl<'a> Model for Lines<'a> {
     ghost use Rattle.std.specs.Prelude.{ℕ, List, length};
     ghost use Rattle.ft_event.specs.Traced.{Traced};
     ghost use Rattle.ft_maps.specs.Mapped.{entries_by};
-    ghost use Rattle.ft_lanes.specs.Slots.{stored_at};
-    ghost use Rattle.ft_lanes.specs.Walks.{PlacesWithin};
+    ghost use Rattle.ft_lanes.specs.inner.Slots.{stored_at};
+    ghost use Rattle.ft_lanes.specs.inner.Within.{PlacesWithin};
 
     ghost Value = { List (ℕ × Traced) };
 
@@ -34,7 +35,7 @@ impl<'a> Model for Lines<'a> {
 impl<'a> Lines<'a> {
     ghost use Rattle.std.specs.Prelude.{◌≡◌};
     ghost use Rattle.ft_maps.specs.Mapped.{entries_by};
-    ghost use Rattle.ft_lanes.specs.Slots.{stored_at};
+    ghost use Rattle.ft_lanes.specs.inner.Slots.{stored_at};
 
     /// The events at these places of a store.
     pub(crate) fn new(store: &'a [Event], places: Iter<'a, u32, u32>) -> Lines<'a>
@@ -70,7 +71,7 @@ pub struct Lane<'a> {
 impl<'a> Model for Lane<'a> {
     ghost use Rattle.std.specs.Prelude.{length};
     ghost use Rattle.ft_lanes.specs.Held.{Lane as Held};
-    ghost use Rattle.ft_lanes.specs.Slots.{stored_at, lane_by, IsWithin};
+    ghost use Rattle.ft_lanes.specs.inner.Slots.{stored_at, lane_by, IsWithin};
     ghost use Rattle.ft_lanes.specs.Codes.{lane_code};
 
     ghost Value = { Held };
@@ -87,7 +88,7 @@ impl<'a> Lane<'a> {
     ghost use Rattle.std.specs.Map.Iter.{ShowsInOrder};
     ghost use Rattle.std.specs.FinMap as map;
     ghost use Rattle.ft_event.specs.Traced.{Traced};
-    ghost use Rattle.ft_lanes.specs.Slots.{stored_at, lane_by, IsWithin};
+    ghost use Rattle.ft_lanes.specs.inner.Slots.{stored_at, lane_by, IsWithin};
 
     /// The events at the places of these slots in a store.
     pub(crate) fn new(store: &'a [Event], slots: &'a Slots) -> Lane<'a>
@@ -128,9 +129,9 @@ impl<'a> Model for ByCpu<'a> {
     ghost use Rattle.std.specs.Prelude.{ℕ, List, length};
     ghost use Rattle.ft_maps.specs.Mapped.{entries_by};
     ghost use Rattle.ft_lanes.specs.Held.{Lane as Held};
-    ghost use Rattle.ft_lanes.specs.Slots.{stored_at, lane_by};
+    ghost use Rattle.ft_lanes.specs.inner.Slots.{stored_at, lane_by};
     ghost use Rattle.ft_lanes.specs.Codes.{walk_code};
-    ghost use Rattle.ft_lanes.specs.Walks.{SlotsWithin};
+    ghost use Rattle.ft_lanes.specs.inner.Within.{SlotsWithin};
 
     ghost Value = { List (ℕ × Held) };
 
@@ -144,8 +145,8 @@ impl<'a> Model for ByCpu<'a> {
 impl<'a> ByCpu<'a> {
     ghost use Rattle.std.specs.Prelude.{◌≡◌};
     ghost use Rattle.ft_maps.specs.Mapped.{entries_by};
-    ghost use Rattle.ft_lanes.specs.Slots.{stored_at, lane_by};
-    ghost use Rattle.ft_lanes.specs.Walks.{SlotsWithin};
+    ghost use Rattle.ft_lanes.specs.inner.Slots.{stored_at, lane_by};
+    ghost use Rattle.ft_lanes.specs.inner.Within.{SlotsWithin};
 
     /// The lanes of these slots in a store.
     pub(crate) fn new(store: &'a [Event], lanes: Iter<'a, u16, Slots>) -> ByCpu<'a>

@@ -1,7 +1,20 @@
 //! Finite maps: what contracts see of a `BTreeMap`, and its edits in those words.
 //!
-//! An edit needs that keys which tie are equal, so that look-ups tell maps apart. Of numbers, and of
-//! structs of numbers with a derived order, a caller's check finds that by itself.
+//! A contract says of a `BTreeMap` which finite map it is seen as, and of an edit which key it puts
+//! in or takes out. An edit needs that keys which tie are equal, so that look-ups tell maps apart.
+//! Of numbers, and of structs of numbers with a derived order, a caller's check finds that by itself.
+//!
+//! ```ignore
+//! let mut map: BTreeMap<u32, u64> = BTreeMap::new(rt.alloc());
+//! put(&mut map, 7, 70)?;
+//! put(&mut map, 3, 30)?;
+//! assert_eq!(rt; (len(&map), get(&map, &7)), (2, Some(&70)));
+//! // 3, then 7
+//! for (key, _) in entries(&map) {
+//!     keys.push(*key)?;
+//! }
+//! take(&mut map, &3);
+//! ```
 #![tactic(auto)]
 
 ghost use Rattle.std.specs.Prelude.{◌≡◌, ◌<◌, ◌^◌, length, OnOk, OnErr};

@@ -1,11 +1,10 @@
-//! Laws of what readings find, and of the next operation.
+//! Laws of the order of acts, of what readings find, and of the next operation.
 
 ghost use Rattle.std.specs.Prelude.{◌≡◌, ◌⊎◌, ◌↔◌, List, Option, Some, None, Contains};
 ghost use Rattle.std.specs.Prelude.{map as list_map};
 ghost use Rattle.std.specs.List.Sorted.{IsStrictlySortedBy};
-ghost use Rattle.std.specs.declared.cmp.Ordering.TheVariants.{Less};
+ghost use Rattle.std.specs.declared.cmp.Ordering.TheVariants.{Less, Equal};
 ghost use Rattle.ft_hist.specs.declared.key.Part.{Part};
-ghost use Rattle.ft_pairs.specs.declared.at.At.{At};
 ghost use Rattle.ft_pairs.specs.declared.at.Op.{Op};
 ghost use Rattle.ft_pairs.specs.declared.at.Op.TheVariants.{Read};
 ghost use Rattle.ft_pairs.specs.Order.{at_cmp};
@@ -13,6 +12,14 @@ ghost use Rattle.ft_pairs.specs.Source.{Ops, IsSource};
 ghost use Rattle.ft_pairs.specs.Next.{IsBehind, IsNext, IsWalk};
 ghost use Rattle.ft_pairs.specs.Edits.{KeepsSource, with_op, without_op, reads_alone};
 ghost use Rattle.ft_pairs.specs.ByKey.{ByKey, ChangesKey, ops_of};
+
+use crate::at::At;
+
+/// A law: triggers act in order of place, then of id, and where they tie they are one.
+pub fn one_act_order()
+    ensures order { (p q : At) → ⟦<At as Ord>⟧.cmp p q ≡ at_cmp p q }
+    ensures ties { (p q : At) → at_cmp p q ≡ Equal → p ≡ q }
+{}
 
 /// A law: what a reading finds is one thing or nothing, and not two.
 pub fn one_source()

@@ -1,4 +1,5 @@
 mod keys;
+mod parts;
 mod values;
 
 use ft_event::{Body, Comm, Event, Field, Name, Wake};

@@ -25,6 +25,8 @@ mod script;
 #[cfg(test)]
 mod table;
 #[cfg(test)]
+mod text;
+#[cfg(test)]
 mod trigger;
 #[cfg(test)]
 mod words;

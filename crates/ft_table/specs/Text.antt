@@ -1,4 +1,4 @@
--- The text of a table: its rows and its totals (kernel: histogram.rst, the `hist` file; the layout is our own choice).
+-- The text of a table: the lines above its rows, its rows and its totals (kernel: histogram.rst, the `hist` file; the layout is our own choice).
 use Rattle.std.specs.Prelude.{ℕ, ◌+◌, ◌-◌, ◌^◌, ℤ, false, List, [], ◌∷◌, ◌++◌, length, replicate, Option, codes, decimal, min}
 use Rattle.std.specs.List.{flat_map}
 use Rattle.std.specs.Fmt.{digits}
@@ -12,7 +12,7 @@ use Rattle.ft_hist.specs.declared.item.Item.TheVariants as items
 use Rattle.ft_hist.specs.declared.key.Part.{Part}
 use Rattle.ft_hist.specs.declared.key.Part.TheVariants.{Num, Log2, Bucket, Text}
 use Rattle.ft_hist.specs.declared.label.Var.{Var}
-use Rattle.ft_hist.specs.Canonical.{name_of}
+use Rattle.ft_hist.specs.Canonical.{name_of, canonical}
 use Rattle.ft_hist.specs.Hist.{Hist}
 use Rattle.ft_table.specs.declared.row.Totals.{Totals}
 use Rattle.ft_table.specs.Counted.{Counted}
@@ -88,3 +88,7 @@ totals_text totals =
 -- the rows of a trigger's table, one a line, and the totals (kernel: histogram.rst, the `hist` file)
 unfoldable pub rows_text : Hist → List Counted → Totals → List ℕ
 rows_text hist rows totals = flat_map (row_text hist) rows ++ totals_text totals
+
+-- the lines above the rows (kernel: histogram.rst, the `hist` file; the layout is our own choice)
+unfoldable pub heading : Hist → List ℕ
+heading hist = codes "# event histogram\n#\n# trigger info: " ++ canonical hist ++ codes " [active]\n#\n\n"

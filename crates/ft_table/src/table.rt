@@ -14,7 +14,7 @@ use crate::order::place_of;
 use crate::row::{Row, Totals};
 use crate::sorting::sort_rows;
 use crate::split::{Split, add_hit, drop_hit};
-use crate::text::write_rows;
+use crate::text::{write_heading, write_rows};
 use ft_event::Pos;
 use ft_hist::{Key, SortItem, Trigger, Work};
 use std::alloc::{AllocError, Global};
@@ -64,6 +64,7 @@ impl Table {
     ghost use Rattle.ft_table.specs.OneKey.{without_hit};
     ghost use Rattle.ft_table.specs.Rows.{row_at, rows_of, totals_of, hit_after};
     ghost use Rattle.ft_table.specs.Rows.{AllFit, table_text};
+    ghost use Rattle.ft_table.specs.Text.{heading};
     ghost use Rattle.ft_table.specs.Tabled.{is_in, last_in, first_out};
 
     /// A table without hits, with room for at least one key. It takes no memory.
@@ -156,6 +157,19 @@ impl Table {
         let mut rows = rows_at(self.alloc, &self.by_key, &self.order[..inside])?;
         sort_rows(&mut rows, sort);
         Ok(rows)
+    }
+
+    /// The whole text of a trigger's table: the lines above its rows, and what `write` adds. Refused
+    /// for memory.
+    pub fn text(&self, alloc: Global, trigger: &Trigger) -> Result<Vec<u8>, AllocError>
+        requires { AllFit self.now trigger.now }
+        ensures { IfOk result (λ text. text.items
+            ≡ heading trigger.now ++ table_text self.now trigger.now) }
+    {
+        let mut text = Vec::new(alloc);
+        write_heading(trigger, &mut text)?;
+        self.write(trigger, &mut text)?;
+        Ok(text)
     }
 
     /// Adds the text of a trigger's table: its rows by the trigger's sort items, one a line, and

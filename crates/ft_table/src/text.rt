@@ -9,7 +9,7 @@ ghost use Rattle.ft_hist.specs.Sound.{key_suits};
 ghost use Rattle.ft_hist.specs.Fitting.{KeyFits};
 ghost use Rattle.ft_table.specs.Fronts.{IsFront};
 ghost use Rattle.ft_table.specs.Text.{listed_parts, key_text, title, sums_text, row_text};
-ghost use Rattle.ft_table.specs.Text.{totals_text, rows_text};
+ghost use Rattle.ft_table.specs.Text.{totals_text, rows_text, heading};
 
 use crate::number::{write_number, write_right};
 use crate::part::write_named;
@@ -17,6 +17,16 @@ use crate::row::{Row, Totals};
 use ft_event::field_text;
 use ft_hist::{Item, Key, Trigger, Var};
 use std::alloc::AllocError;
+
+/// Adds the lines above the rows. What it added before a refusal stays.
+#[tactic(auto, unfolding(crate::specs::Text::heading))]
+pub(crate) fn write_heading(trigger: &Trigger, text: &mut Vec<u8>) -> Result<(), AllocError>
+    ensures { OnOk result (text.new.items ≡ text.old.items ++ heading trigger.now) }
+{
+    text.extend_from_slice(b"# event histogram\n#\n# trigger info: ")?;
+    trigger.write(text)?;
+    text.extend_from_slice(b" [active]\n#\n\n")
+}
 
 /// Adds the text of a table from its first row on: the rows, one a line, and the totals. After a
 /// refusal the old bytes are a front of what is there.

@@ -3,8 +3,8 @@ use Rattle.std.proofs.Common.{◌≡◌, refl, ℕ, List, [], ◌∷◌, false, 
 use Rattle.std.specs.Prelude.{Result, Ok, Err, Some, None, codes}
 use Rattle.ft_event.specs.declared.event.Name.TheVariants as names
 use Rattle.ft_event.specs.declared.field.Field.TheVariants as fields
-use Rattle.ft_trigger.specs.declared.fault.TriggerFault.{TriggerFault}
-use Rattle.ft_trigger.specs.declared.fault.TriggerFault.TheVariants.{Syntax, NoField, NotNumeric, TooMany, Duplicate, BadSize, BadSort, BadModifier, LeftOut, BadFilter}
+use Rattle.ft_head.specs.declared.fault.TriggerFault.{TriggerFault}
+use Rattle.ft_head.specs.declared.fault.TriggerFault.TheVariants.{Syntax, NoField, NotNumeric, TooMany, Duplicate, BadSize, BadSort, BadModifier, LeftOut, BadFilter}
 use Rattle.ft_hist.specs.declared.item.Mode.TheVariants as modes
 use Rattle.ft_hist.specs.declared.item.Item.TheVariants as items
 use Rattle.ft_hist.specs.declared.item.SortBy.TheVariants as sorts
@@ -15,8 +15,8 @@ use Rattle.ft_filter.specs.Predicate.{text_value, number_value, value_at, compar
 use Rattle.ft_filter.specs.Matching.{items_of, is_glob}
 use Rattle.ft_filter.specs.Answers.{going, joined_at, operand_at, filter_of}
 use Rattle.ft_hist.specs.Hist.{Hist}
-use Rattle.ft_trigger.specs.Words.{word_with, word_of, number_in}
-use Rattle.ft_trigger.specs.Draft.{rounded, with_key, with_value, with_sort, stamp_of, with_kind, with_variable, with_part, parts_from}
+use Rattle.ft_head.specs.Words.{word_with, word_of, number_in}
+use Rattle.ft_head.specs.Draft.{rounded, with_key, with_value, with_sort, stamp_of, with_kind, with_variable, with_part, parts_from}
 use Rattle.ft_trigger.specs.TriggerIs.{filter_in, sort_by, finished, trigger_of}
 use Rattle.ft_hist.specs.Canonical.{canonical}
 use Rattle.std.specs.Fmt.{digits}

@@ -1,8 +1,8 @@
 -- What stands behind an answer without a fault.
 use Rattle.std.proofs.Common.{◌≡◌, Bool, true, false, List, ◌∷◌, Option, Some, None, Result, Ok, Err, refl}
 use Rattle.std.specs.Option.{option_map_or}
-use Rattle.ft_trigger.specs.declared.fault.TriggerFault.{TriggerFault}
-use Rattle.ft_trigger.specs.Draft.{◌>>=◌, unless, given_or}
+use Rattle.ft_head.specs.declared.fault.TriggerFault.{TriggerFault}
+use Rattle.ft_head.specs.Draft.{◌>>=◌, unless, given_or}
 
 -- both steps have an answer
 pub then_parts : {A B : Type 0} (r : Result A TriggerFault) (next : A → Result B TriggerFault) (b : B) → (r >>= next) ≡ Ok b → (a : A) × (r ≡ Ok a) × (next a ≡ Ok b)

@@ -9,19 +9,19 @@ use Rattle.std.specs.Str.{bytes_eq}
 use Rattle.ft_event.specs.declared.event.Name.{Name}
 use Rattle.ft_event.specs.declared.field.Field.{Field}
 use Rattle.ft_event.specs.Fields.{is_named, all_fields, is_text, text_of, has_field}
-use Rattle.ft_trigger.specs.declared.fault.TriggerFault.{TriggerFault}
-use Rattle.ft_trigger.specs.declared.fault.TriggerFault.TheVariants.{NoField, TooMany, Duplicate, BadModifier, LeftOut}
+use Rattle.ft_head.specs.declared.fault.TriggerFault.{TriggerFault}
+use Rattle.ft_head.specs.declared.fault.TriggerFault.TheVariants.{NoField, TooMany, Duplicate, BadModifier, LeftOut}
 use Rattle.ft_hist.specs.declared.item.KeyItem.{KeyItem}
 use Rattle.ft_hist.specs.declared.item.Mode.{Mode}
 use Rattle.ft_hist.specs.declared.item.Mode.TheVariants as modes
 use Rattle.ft_hist.specs.Canonical.{mode_text, key_text}
-use Rattle.ft_trigger.specs.Draft.{unless, given_or, is_left_out, mode_of, is_key, with_key}
-use Rattle.ft_trigger.specs.Words.{Word, word_of, number_in}
+use Rattle.ft_head.specs.Draft.{unless, given_or, is_left_out, mode_of, is_key, with_key}
+use Rattle.ft_head.specs.Words.{Word, word_of, number_in}
 use Rattle.ft_trigger.proofs.Chains.{Steps, Again}
 use Rattle.ft_trigger.proofs.Inversions.{unless_parts, given_parts}
-use Rattle.ft_trigger.proofs.Numerals.{number_again, number_parts, decimal_bare}
-use Rattle.ft_trigger.proofs.Separators.{is_bare, names_bare, bare_free}
-use Rattle.ft_trigger.proofs.Spellings.{IsName, suffix_text, IsSuffix, word_text, word_name, word_again, bytes_same}
+use Rattle.ft_head.proofs.Numerals.{number_again, number_parts, decimal_bare}
+use Rattle.ft_head.proofs.Separators.{is_bare, names_bare, bare_free}
+use Rattle.ft_head.proofs.Spellings.{IsName, suffix_text, IsSuffix, word_text, word_name, word_again, bytes_same}
 
 -- names that no key has
 abbrev unkept : List (List ℕ)

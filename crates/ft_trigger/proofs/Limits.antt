@@ -7,21 +7,21 @@ use Rattle.ft_hist.specs.declared.item.KeyItem.{KeyItem}
 use Rattle.ft_hist.specs.declared.item.Item.{Item}
 use Rattle.ft_hist.specs.declared.item.SortItem.{SortItem}
 use Rattle.ft_hist.specs.Hist.{Hist, IsWithin}
-use Rattle.ft_trigger.specs.declared.fault.TriggerFault.{TriggerFault}
-use Rattle.ft_trigger.specs.declared.fault.TriggerFault.TheVariants.{NoField, BadSort}
-use Rattle.ft_trigger.specs.Draft.{Draft, ◌>>=◌, is_word, besides_hitcount}
+use Rattle.ft_head.specs.declared.fault.TriggerFault.{TriggerFault}
+use Rattle.ft_head.specs.declared.fault.TriggerFault.TheVariants.{NoField, BadSort}
+use Rattle.ft_head.specs.Draft.{Draft, ◌>>=◌, is_word, besides_hitcount}
 use Rattle.ft_trigger.specs.TriggerIs.{head_len, behind_head, tail_of, own_name, value_item, value_items, sort_by, sorts_of, is_descending, by_hits, sort_of, trigger_of}
-use Rattle.ft_trigger.specs.Words.{Word, pieces}
+use Rattle.ft_head.specs.Words.{Word, pieces}
 use Rattle.ft_trigger.proofs.Chains.{Chain}
 use Rattle.ft_trigger.proofs.Drafts.{Listed, If, DraftFits, draft_fits}
 use Rattle.ft_trigger.proofs.Inversions.{then_parts, given_parts}
 use Rattle.ft_trigger.proofs.Keyed.{KeyFits}
-use Rattle.ft_trigger.proofs.Numerals.{SizeFits, size_parts}
+use Rattle.ft_head.proofs.Numerals.{SizeFits, size_parts}
 use Rattle.ft_trigger.proofs.ReadSo.{read_so}
 use Rattle.ft_trigger.proofs.ReadAgain.{Made, made_so, keys_of, words_of, size_of_draft}
 use Rattle.ft_trigger.proofs.Sorted.{SortFits}
 use Rattle.ft_trigger.proofs.Valued.{ValueFits}
-use Rattle.ft_trigger.proofs.WordLemmas.{besides_more}
+use Rattle.ft_head.proofs.WordLemmas.{besides_more}
 
 -- ---- lists that grow
 

@@ -8,14 +8,14 @@ use Rattle.ft_event.specs.declared.event.Name.{Name}
 use Rattle.ft_event.specs.declared.field.Field.{Field}
 use Rattle.ft_event.specs.Fields.{is_text}
 use Rattle.ft_filter.specs.declared.fault.FilterFault.TheVariants as filters
-use Rattle.ft_trigger.specs.declared.fault.TriggerFault.{TriggerFault}
-use Rattle.ft_trigger.specs.declared.fault.TriggerFault.TheVariants.{Memory, Syntax, NoField, NotNumeric, BadFilter}
-use Rattle.ft_trigger.specs.declared.draft.Kind.{Kind}
-use Rattle.ft_trigger.specs.declared.draft.Kind.TheVariants.{Keys, Values, Sort, Size}
+use Rattle.ft_head.specs.declared.fault.TriggerFault.{TriggerFault}
+use Rattle.ft_head.specs.declared.fault.TriggerFault.TheVariants.{Memory, Syntax, NoField, NotNumeric, BadFilter}
+use Rattle.ft_head.specs.declared.draft.Kind.{Kind}
+use Rattle.ft_head.specs.declared.draft.Kind.TheVariants.{Keys, Values, Sort, Size}
 use Rattle.ft_hist.specs.declared.item.KeyItem.{KeyItem}
 use Rattle.ft_hist.specs.declared.item.Item.{Item}
-use Rattle.ft_trigger.specs.Words.{Piece, Word, word_of}
-use Rattle.ft_trigger.specs.Draft.{Draft, unless, given_or, ◌>>=◌, items_from, with_field, with_key, with_value, with_sort, with_kind, with_named, with_variable, with_part, parts_from}
+use Rattle.ft_head.specs.Words.{Piece, Word, word_of}
+use Rattle.ft_head.specs.Draft.{Draft, unless, given_or, ◌>>=◌, items_from, with_field, with_key, with_value, with_sort, with_kind, with_named, with_variable, with_part, parts_from}
 use Rattle.ft_trigger.specs.TriggerIs.{value_items, sorts_of, sort_of}
 
 -- the fault is no filter's

@@ -7,28 +7,28 @@ use Rattle.std.specs.List.{prefix_len, list_all, starts_with}
 use Rattle.ft_event.specs.declared.event.Name.{Name}
 use Rattle.ft_filter.specs.Tokens.{skip}
 use Rattle.ft_filter.specs.Tree.{Tree}
-use Rattle.ft_trigger.specs.declared.fault.TriggerFault.{TriggerFault}
-use Rattle.ft_trigger.specs.declared.fault.TriggerFault.TheVariants.{Syntax}
+use Rattle.ft_head.specs.declared.fault.TriggerFault.{TriggerFault}
+use Rattle.ft_head.specs.declared.fault.TriggerFault.TheVariants.{Syntax}
 use Rattle.ft_hist.specs.declared.item.KeyItem.{KeyItem}
 use Rattle.ft_hist.specs.declared.item.Item.{Item}
 use Rattle.ft_hist.specs.declared.item.SortItem.{SortItem}
 use Rattle.ft_hist.specs.declared.label.Var.{Var}
 use Rattle.ft_hist.specs.declared.label.Var.TheVariants as vars
 use Rattle.ft_hist.specs.Canonical.{listed, more_items, key_text, variable_text, if_text, canonical}
-use Rattle.ft_trigger.specs.Draft.{Draft, blank, ◌>>=◌, unless, besides_hitcount, parts_from}
+use Rattle.ft_head.specs.Draft.{Draft, blank, ◌>>=◌, unless, besides_hitcount, parts_from}
 use Rattle.ft_hist.specs.Hist.{Hist, with_filter}
 use Rattle.ft_trigger.specs.TriggerIs.{head_len, behind_head, tail_of, own_name, value_items, sort_by, sorts_of, by_hits, sort_of, filter_in, finished, trigger_of}
-use Rattle.ft_trigger.specs.Words.{pieces, Word}
+use Rattle.ft_head.specs.Words.{pieces, Word}
 use Rattle.ft_trigger.proofs.Chains.{Chain}
 use Rattle.ft_trigger.proofs.Drafts.{Listed, If, DraftFits, draft_fits}
 use Rattle.ft_trigger.proofs.Heads.{Told, behind_values, body, whole, told, head_again, body_seen}
 use Rattle.ft_trigger.proofs.Inversions.{then_parts, given_parts}
 use Rattle.ft_trigger.proofs.Keyed.{KeyFits}
-use Rattle.ft_trigger.proofs.Numerals.{SizeFits, default_fits}
+use Rattle.ft_head.proofs.Numerals.{SizeFits, default_fits}
 use Rattle.ft_trigger.proofs.ReadSo.{read_so}
-use Rattle.ft_trigger.proofs.Separators.{is_seen}
+use Rattle.ft_head.proofs.Separators.{is_seen}
 use Rattle.ft_trigger.proofs.Sorted.{SortFits, directed, sorts_spelled, sorts_directed}
-use Rattle.ft_trigger.proofs.Spellings.{run_front, word_text}
+use Rattle.ft_head.proofs.Spellings.{run_front, word_text}
 use Rattle.ft_trigger.proofs.Tails.{FilterLaws, TreeFits, trimmed, if_gap, filter_again, filter_fits}
 use Rattle.ft_trigger.proofs.Valued.{ValueFits, hits, values_spelled, others_fit, besides_twice}
 

@@ -4,10 +4,10 @@ use Rattle.std.proofs.lemmas.Bool.{not-false}
 use Rattle.std.specs.List.{starts_with}
 use Rattle.ft_event.specs.declared.event.Name.{Name}
 use Rattle.ft_hist.specs.Hist.{Hist}
-use Rattle.ft_trigger.specs.declared.fault.TriggerFault.TheVariants.{Syntax}
-use Rattle.ft_trigger.specs.Draft.{Draft, blank, ◌>>=◌, parts_from}
+use Rattle.ft_head.specs.declared.fault.TriggerFault.TheVariants.{Syntax}
+use Rattle.ft_head.specs.Draft.{Draft, blank, ◌>>=◌, parts_from}
 use Rattle.ft_trigger.specs.TriggerIs.{head_len, behind_head, tail_of, finished, trigger_of}
-use Rattle.ft_trigger.specs.Words.{pieces}
+use Rattle.ft_head.specs.Words.{pieces}
 use Rattle.ft_trigger.proofs.Inversions.{then_parts, unless_parts}
 
 -- what was read of its head, and how it was made of that

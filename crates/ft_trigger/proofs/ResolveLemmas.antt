@@ -5,15 +5,18 @@ use Rattle.std.proofs.lemmas.Option.{none-some}
 use Rattle.std.specs.Result.{result_ok}
 use Rattle.std.specs.Prelude.{codes, if◌then◌else◌}
 use Rattle.ft_event.specs.declared.event.Name.{Name}
-use Rattle.ft_trigger.specs.declared.fault.TriggerFault.{TriggerFault}
-use Rattle.ft_trigger.specs.declared.fault.TriggerFault.TheVariants.{NoField, BadSort}
+use Rattle.ft_head.specs.declared.fault.TriggerFault.{TriggerFault}
+use Rattle.ft_head.specs.declared.fault.TriggerFault.TheVariants.{NoField, BadSort}
 use Rattle.ft_hist.specs.declared.item.KeyItem.{KeyItem}
 use Rattle.ft_hist.specs.declared.item.Item.{Item}
 use Rattle.ft_hist.specs.declared.item.SortBy.{SortBy}
 use Rattle.ft_hist.specs.declared.item.SortItem.{SortItem}
-use Rattle.ft_trigger.specs.Words.{Word}
-use Rattle.ft_trigger.specs.Draft.{◌>>=◌, given_or, is_word, besides_hitcount}
-use Rattle.ft_trigger.specs.TriggerIs.{value_item, value_items, sort_by, sorts_of, is_descending}
+use Rattle.ft_hist.specs.declared.label.Var.{Var}
+use Rattle.ft_hist.specs.declared.label.Var.TheVariants as vars
+use Rattle.ft_hist.specs.Canonical.{name_of}
+use Rattle.ft_head.specs.Words.{Word}
+use Rattle.ft_head.specs.Draft.{◌>>=◌, given_or, is_word, besides_hitcount}
+use Rattle.ft_trigger.specs.TriggerIs.{own_name, value_item, value_items, sort_by, sorts_of, is_descending}
 
 -- what is still to be read, behind what is read already
 abbrev pub onto : {A : Type 0} → List A → Result (List A) TriggerFault → Result (List A) TriggerFault
@@ -81,3 +84,8 @@ sorts_more keys values own done word words what is = rw is (onto_more done (reco
 -- a word that names nothing to sort by
 pub sorts_fault : (keys : List KeyItem) (values : List Item) (own : Option (List ℕ)) (done : List SortItem) (word : Word) (words : List Word) → sort_by keys values own word ≡ None → onto done (sorts_of keys values own (word ∷ words)) ≡ Err BadSort
 sorts_fault keys values own done word words is = rw is refl
+
+-- a trigger's variable has a name
+pub own_named : (variable : Var) → own_name (Some variable) ≡ Some (name_of (Some variable))
+own_named (vars.Saves name) = refl
+own_named (vars.Reads own source) = refl

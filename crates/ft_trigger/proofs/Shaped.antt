@@ -16,16 +16,16 @@ use Rattle.ft_hist.specs.declared.item.KeyItem.{KeyItem}
 use Rattle.ft_hist.specs.declared.item.Item.{Item}
 use Rattle.ft_hist.specs.declared.item.SortItem.{SortItem}
 use Rattle.ft_hist.specs.Hist.{Hist}
-use Rattle.ft_trigger.specs.declared.fault.TriggerFault.{TriggerFault}
-use Rattle.ft_trigger.specs.declared.fault.TriggerFault.TheVariants.{Syntax}
-use Rattle.ft_trigger.specs.Draft.{Draft, blank, ◌>>=◌, unless, given_or, besides_hitcount, parts_from}
+use Rattle.ft_head.specs.declared.fault.TriggerFault.{TriggerFault}
+use Rattle.ft_head.specs.declared.fault.TriggerFault.TheVariants.{Syntax}
+use Rattle.ft_head.specs.Draft.{Draft, blank, ◌>>=◌, unless, given_or, besides_hitcount, parts_from}
 use Rattle.ft_trigger.specs.Shape.{Opens, IsCut, IsIf, TailIs, nothing, filtered, unread, other, with_tail, IsShaped}
 use Rattle.ft_trigger.specs.TriggerIs.{head_len, behind_head, tail_of, behind_if, filter_or_fault, filter_in, own_name, value_items, sort_of, finished, trigger_of}
-use Rattle.ft_trigger.specs.Words.{pieces}
+use Rattle.ft_head.specs.Words.{pieces}
 use Rattle.ft_trigger.proofs.Halves.{Known, known, cut_of, skip_opens, skip_some, skip_blank}
 use Rattle.ft_trigger.proofs.Inversions.{then_parts, unless_parts}
 use Rattle.ft_trigger.proofs.ReadAgain.{made}
-use Rattle.ft_trigger.proofs.Spellings.{front_same, run_passes}
+use Rattle.ft_head.proofs.Spellings.{front_same, run_passes}
 use Rattle.ft_trigger.proofs.Tails.{OneFilter, filter_none}
 
 -- ---- a head, and then a filter

@@ -9,8 +9,8 @@ use Rattle.std.specs.Str.{bytes_eq}
 use Rattle.ft_event.specs.declared.event.Name.{Name}
 use Rattle.ft_event.specs.declared.field.Field.{Field}
 use Rattle.ft_event.specs.Fields.{is_named, all_fields, is_text, text_of, has_field}
-use Rattle.ft_trigger.specs.declared.fault.TriggerFault.{TriggerFault}
-use Rattle.ft_trigger.specs.declared.fault.TriggerFault.TheVariants.{NoField, NotNumeric, BadSort}
+use Rattle.ft_head.specs.declared.fault.TriggerFault.{TriggerFault}
+use Rattle.ft_head.specs.declared.fault.TriggerFault.TheVariants.{NoField, NotNumeric, BadSort}
 use Rattle.ft_hist.specs.declared.item.KeyItem.{KeyItem}
 use Rattle.ft_hist.specs.declared.item.Mode.{Mode}
 use Rattle.ft_hist.specs.declared.item.Mode.TheVariants as modes
@@ -21,21 +21,21 @@ use Rattle.ft_hist.specs.declared.item.SortBy.TheVariants as sorts
 use Rattle.ft_hist.specs.declared.item.SortItem.{SortItem}
 use Rattle.ft_hist.specs.declared.label.Var.{Var}
 use Rattle.ft_hist.specs.declared.label.Var.TheVariants as vars
-use Rattle.ft_trigger.specs.Draft.{Draft, blank, ◌>>=◌, is_word, besides_hitcount, value_fault, mode_of, parts_from}
+use Rattle.ft_head.specs.Draft.{Draft, blank, ◌>>=◌, is_word, besides_hitcount, value_fault, mode_of, parts_from}
 use Rattle.ft_hist.specs.Hist.{Hist}
 use Rattle.ft_filter.specs.Tree.{Tree}
 use Rattle.ft_hist.specs.Sound.{mode_suits, key_suits, value_suits, by_suits, IsSound}
 use Rattle.ft_trigger.specs.TriggerIs.{own_name, value_item, value_items, index_where, names_value, sort_by, is_descending, sorts_of, by_hits, sort_of, head_len, behind_head, tail_of, filter_in, finished, trigger_of}
-use Rattle.ft_trigger.specs.Words.{Word, number_in, pieces}
+use Rattle.ft_head.specs.Words.{Word, number_in, pieces}
 use Rattle.ft_trigger.proofs.Chains.{Chain}
 use Rattle.ft_trigger.proofs.Inversions.{then_parts, given_parts}
 use Rattle.ft_trigger.proofs.Drafts.{DraftFits, draft_fits}
 use Rattle.ft_trigger.proofs.ReadAgain.{Made, made_so, keys_of, words_of}
 use Rattle.ft_trigger.proofs.Keyed.{KeyFits, mode_suffix, find_passes}
-use Rattle.ft_trigger.proofs.Numerals.{number_parts}
+use Rattle.ft_head.proofs.Numerals.{number_parts}
 use Rattle.ft_trigger.proofs.ReadSo.{read_so}
 use Rattle.ft_trigger.proofs.Sorted.{index_parts}
-use Rattle.ft_trigger.proofs.Spellings.{bytes_same}
+use Rattle.ft_head.proofs.Spellings.{bytes_same}
 use Rattle.ft_trigger.proofs.Valued.{ValueFits, hits, others_fit}
 
 -- ---- keys

@@ -1,5 +1,5 @@
 -- Faults of parts stay, whatever is behind the parts.
-use Rattle.std.proofs.Common.{◌≡◌, ◌+◌, ◌<◌, ◌≤◌, ℕ, Bool, true, false, List, [], ◌∷◌, ◌++◌, length, Option, Some, None, Result, Ok, Err, refl, sym, ap, ◌∙◌, codes, cond, arith, append_assoc, le-leb, eq-eqb, ◌==◌, if◌then◌else◌}
+use Rattle.std.proofs.Common.{◌≡◌, ◌+◌, ◌<◌, ◌≤◌, ℕ, Bool, true, false, List, [], ◌∷◌, ◌++◌, length, Option, Some, None, Result, Ok, Err, refl, sym, ap, ◌∙◌, codes, cond, arith, append_assoc, le-leb, ◌==◌, if◌then◌else◌}
 use Rattle.std.proofs.lemmas.Bool.{or_from}
 use Rattle.std.proofs.lemmas.List.Folds.{list_any-append}
 use Rattle.std.specs.Prelude.{◌↔◌, unwrap_or}
@@ -14,42 +14,19 @@ use Rattle.ft_hist.specs.declared.item.Item.{Item}
 use Rattle.ft_hist.specs.declared.item.SortBy.{SortBy}
 use Rattle.ft_hist.specs.declared.item.SortItem.{SortItem}
 use Rattle.ft_hist.specs.Hist.{Hist}
-use Rattle.ft_trigger.specs.declared.fault.TriggerFault.{TriggerFault}
-use Rattle.ft_trigger.specs.declared.fault.TriggerFault.TheVariants.{Syntax, NoField, BadSort, BadFilter, LeftOut}
-use Rattle.ft_trigger.specs.Draft.{Draft, blank, ◌>>=◌, given_or, besides_hitcount, with_part, with_variable, parts_from}
+use Rattle.ft_head.specs.declared.fault.TriggerFault.{TriggerFault}
+use Rattle.ft_head.specs.declared.fault.TriggerFault.TheVariants.{Syntax, NoField, BadSort, BadFilter, LeftOut}
+use Rattle.ft_head.specs.Draft.{Draft, blank, ◌>>=◌, given_or, besides_hitcount, with_part, with_variable, parts_from}
 use Rattle.ft_trigger.specs.PartFaults.{PartsFail, is_late}
 use Rattle.ft_trigger.specs.Shape.{IsCut, Cut}
 use Rattle.ft_trigger.specs.TriggerIs.{behind_if, filter_or_fault, filter_in, own_name, value_item, value_items, sort_by, sorts_of, sort_of, is_descending, trigger_of}
-use Rattle.ft_trigger.specs.Words.{Piece, Word, grown, pieces}
+use Rattle.ft_head.specs.Words.{Piece, Word, pieces}
 use Rattle.ft_trigger.proofs.Halves.{cut_of}
 use Rattle.ft_trigger.proofs.ReadAgain.{made}
-use Rattle.ft_trigger.proofs.Separators.{pieces_some}
+use Rattle.ft_head.proofs.Separators.{pieces_append}
 use Rattle.ft_trigger.proofs.Shaped.{make_of, with_made, alone_cut, cut_by}
 
 -- ---- parts behind parts
-
--- one more byte in front of a first piece, before others
-grown_append : (place byte : ℕ) (list rest : List Piece) → 0 < length list → grown place byte (list ++ rest) ≡ grown place byte list ++ rest
-grown_append place byte [] rest some = absurd (omega arith)
-grown_append place byte (piece ∷ list) rest some = refl
-
--- texts with a separator between them have the pieces of both
-pub pieces_append : (separator place : ℕ) (a b : List ℕ) → pieces separator place (a ++ separator ∷ b) ≡ pieces separator place a ++ pieces separator (place + length a + 1) b
-pieces_append separator place [] b =
-    let next : place + 1 ≡ place + 0 + 1 = omega arith in
-    rw (eq-eqb separator separator refl) (ap (λ (n : ℕ). record { place = place; bytes = [] } ∷ pieces separator n b) next)
-pieces_append separator place (byte ∷ a) b = from (pieces_append separator (place + 1) a b) (byte == separator)
-  where
-    rest : List Piece
-    rest = pieces separator (place + length (byte ∷ a) + 1) b
-
-    from : pieces separator (place + 1) (a ++ separator ∷ b) ≡ pieces separator (place + 1) a ++ pieces separator (place + 1 + length a + 1) b
-        → (t : Bool) → (if t then (record { place = place; bytes = [] } ∷ pieces separator (place + 1) (a ++ separator ∷ b)) else grown place byte (pieces separator (place + 1) (a ++ separator ∷ b)))
-        ≡ (if t then (record { place = place; bytes = [] } ∷ pieces separator (place + 1) a) else grown place byte (pieces separator (place + 1) a)) ++ rest
-    from later true = ap (λ (l : List Piece). record { place = place; bytes = [] } ∷ l) (later ∙ ap (λ (n : ℕ). pieces separator (place + 1) a ++ pieces separator n b) (omega arith))
-    from later false =
-        ap (grown place byte) (later ∙ ap (λ (n : ℕ). pieces separator (place + 1) a ++ pieces separator n b) (omega arith))
-        ∙ grown_append place byte (pieces separator (place + 1) a) rest (pieces_some separator (place + 1) a)
 
 -- parts are read, and then those behind them
 parts_append : (event : Name) (draft : Draft) (parts more : List Piece) → parts_from event draft (parts ++ more) ≡ (parts_from event draft parts >>= (λ next. parts_from event next more))

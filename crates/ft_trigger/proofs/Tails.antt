@@ -11,14 +11,14 @@ use Rattle.ft_filter.specs.Canonical.{canonical as filter_text}
 use Rattle.ft_filter.specs.FilterIs.{FilterIs}
 use Rattle.ft_filter.specs.Tokens.{is_gap, skip}
 use Rattle.ft_filter.specs.Tree.{Tree}
-use Rattle.ft_trigger.specs.declared.fault.TriggerFault.TheVariants.{Syntax}
+use Rattle.ft_head.specs.declared.fault.TriggerFault.TheVariants.{Syntax}
 use Rattle.ft_hist.specs.Canonical.{if_text}
-use Rattle.ft_trigger.specs.Draft.{given_or}
+use Rattle.ft_head.specs.Draft.{given_or}
 use Rattle.ft_trigger.specs.TriggerIs.{behind_if, filter_or_fault, filter_in}
 use Rattle.ft_trigger.proofs.Drafts.{If}
 use Rattle.ft_trigger.proofs.Edges.{Opens, Closes, Edged, filter_edged}
 use Rattle.ft_trigger.proofs.Inversions.{given_parts}
-use Rattle.ft_trigger.proofs.Separators.{is_seen}
+use Rattle.ft_head.proofs.Separators.{is_seen}
 
 -- the grammar of filters relates one answer to a text
 pub record OneFilter : Type 0 where

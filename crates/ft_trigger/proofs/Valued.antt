@@ -10,21 +10,21 @@ use Rattle.std.specs.Str.{bytes_eq}
 use Rattle.ft_event.specs.declared.event.Name.{Name}
 use Rattle.ft_event.specs.declared.field.Field.{Field}
 use Rattle.ft_event.specs.Fields.{is_named, all_fields}
-use Rattle.ft_trigger.specs.declared.fault.TriggerFault.{TriggerFault}
-use Rattle.ft_trigger.specs.declared.fault.TriggerFault.TheVariants.{NoField, TooMany, Duplicate, BadModifier, LeftOut}
+use Rattle.ft_head.specs.declared.fault.TriggerFault.{TriggerFault}
+use Rattle.ft_head.specs.declared.fault.TriggerFault.TheVariants.{NoField, TooMany, Duplicate, BadModifier, LeftOut}
 use Rattle.ft_hist.specs.declared.item.Item.{Item}
 use Rattle.ft_hist.specs.declared.item.Item.TheVariants as items
 use Rattle.ft_hist.specs.declared.label.Var.{Var}
 use Rattle.ft_hist.specs.declared.label.Var.TheVariants as vars
 use Rattle.ft_hist.specs.Canonical.{more_items, name_of, value_text}
-use Rattle.ft_trigger.specs.Draft.{◌>>=◌, unless, items_from, is_left_out, is_word, same_word, besides_hitcount, value_fault, with_value}
+use Rattle.ft_head.specs.Draft.{◌>>=◌, unless, items_from, is_left_out, is_word, same_word, besides_hitcount, value_fault, with_value}
 use Rattle.ft_trigger.specs.TriggerIs.{own_name, value_item, value_items}
-use Rattle.ft_trigger.specs.Words.{Word, pieces}
+use Rattle.ft_head.specs.Words.{Word, pieces}
 use Rattle.ft_trigger.proofs.Chains.{Chain, Steps, Again, items_again, chain_inner}
 use Rattle.ft_trigger.proofs.Inversions.{then_parts, unless_parts, given_parts, no_fault}
 use Rattle.ft_trigger.proofs.Keyed.{field_name}
-use Rattle.ft_trigger.proofs.Separators.{is_bare, is_inner, names_bare, bare_free}
-use Rattle.ft_trigger.proofs.Spellings.{IsName, IsSuffix, word_text, word_name, word_again, bytes_same}
+use Rattle.ft_head.proofs.Separators.{is_bare, is_inner, names_bare, bare_free}
+use Rattle.ft_head.proofs.Spellings.{IsName, IsSuffix, word_text, word_name, word_again, bytes_same}
 
 -- the name of the count of hits
 abbrev hitcount : List ℕ

@@ -8,16 +8,16 @@ use Rattle.std.specs.List.{list_all, starts_with}
 use Rattle.std.specs.Option.{option_map_or, is_some}
 use Rattle.std.specs.Str.{bytes_eq}
 use Rattle.ft_event.specs.declared.event.Name.{Name}
-use Rattle.ft_trigger.specs.declared.fault.TriggerFault.{TriggerFault}
-use Rattle.ft_trigger.specs.declared.fault.TriggerFault.TheVariants.{Syntax, Duplicate, LeftOut}
+use Rattle.ft_head.specs.declared.fault.TriggerFault.{TriggerFault}
+use Rattle.ft_head.specs.declared.fault.TriggerFault.TheVariants.{Syntax, Duplicate, LeftOut}
 use Rattle.ft_hist.specs.declared.label.Var.{Var}
 use Rattle.ft_hist.specs.declared.label.Var.TheVariants as vars
-use Rattle.ft_trigger.specs.Draft.{Draft, unless, given_or, Stamp, Saved, Since, is_name, stamp_of, var_of, is_taken, labels, is_part_left_out, with_variable}
+use Rattle.ft_head.specs.Draft.{Draft, unless, given_or, Stamp, Saved, Since, is_name, stamp_of, var_of, is_taken, labels, is_part_left_out, with_variable}
 use Rattle.ft_filter.specs.Tokens.{name_at}
-use Rattle.ft_trigger.specs.Words.{Piece}
+use Rattle.ft_head.specs.Words.{Piece}
 use Rattle.ft_trigger.proofs.Inversions.{unless_parts, given_parts}
-use Rattle.ft_trigger.proofs.Separators.{is_inner, bare_inner, names_bare}
-use Rattle.ft_trigger.proofs.Spellings.{IsName, name_parts, front_same, bytes_same}
+use Rattle.ft_head.proofs.Separators.{is_inner, bare_inner, names_bare}
+use Rattle.ft_head.proofs.Spellings.{IsName, name_parts, front_same, bytes_same}
 
 -- a variable's part
 abbrev pub var_bytes : Var → List ℕ

@@ -1,13 +1,8 @@
-pub mod Draft
-pub mod Drafts
 pub mod Given
 pub mod PartFaults
 pub mod Shape
-pub mod Sizes
-pub mod Spelling
-pub mod TriggerFault
 pub mod TriggerIs
-pub mod Words
+pub mod inner
 pub use Rattle.ft_event.specs.Fields
 pub use Rattle.ft_event.specs.Traced
 pub use Rattle.ft_filter.specs.Answers
@@ -16,6 +11,11 @@ pub use Rattle.ft_filter.specs.FilterIs
 pub use Rattle.ft_filter.specs.Holds
 pub use Rattle.ft_filter.specs.Tokens
 pub use Rattle.ft_filter.specs.Tree
+pub use Rattle.ft_head.specs.Draft
+pub use Rattle.ft_head.specs.Sizes
+pub use Rattle.ft_head.specs.Spelling
+pub use Rattle.ft_head.specs.TriggerFault
+pub use Rattle.ft_head.specs.Words
 pub use Rattle.ft_hist.specs.Canonical
 pub use Rattle.ft_hist.specs.Hist
 pub use Rattle.ft_hist.specs.Hit

@@ -1,10 +1,10 @@
 -- Faults of a head's parts, and those that are found behind them (kernel: histogram.rst, hist triggers).
 use Rattle.std.specs.Prelude.{◌≡◌, ℕ, Bool, true, false, nat_le, List, Err}
 use Rattle.ft_event.specs.declared.event.Name.{Name}
-use Rattle.ft_trigger.specs.declared.fault.TriggerFault.{TriggerFault}
-use Rattle.ft_trigger.specs.declared.fault.TriggerFault.TheVariants.{Syntax, NoField, BadSort, BadFilter}
-use Rattle.ft_trigger.specs.Draft.{blank, parts_from}
-use Rattle.ft_trigger.specs.Words.{pieces}
+use Rattle.ft_head.specs.declared.fault.TriggerFault.{TriggerFault}
+use Rattle.ft_head.specs.declared.fault.TriggerFault.TheVariants.{Syntax, NoField, BadSort, BadFilter}
+use Rattle.ft_head.specs.Draft.{blank, parts_from}
+use Rattle.ft_head.specs.Words.{pieces}
 
 -- parts that stand behind `hist:` have this fault, read from the left (kernel: histogram.rst, hist triggers)
 abbrev pub PartsFail : Name → List ℕ → TriggerFault → Type 0

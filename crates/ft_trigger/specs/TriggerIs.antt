@@ -9,8 +9,8 @@ use Rattle.ft_filter.specs.declared.fault.FilterFault.{FilterFault}
 use Rattle.ft_filter.specs.Tree.{Tree}
 use Rattle.ft_filter.specs.Tokens.{is_gap, skip}
 use Rattle.ft_filter.specs.Answers.{filter_of}
-use Rattle.ft_trigger.specs.declared.fault.TriggerFault.{TriggerFault}
-use Rattle.ft_trigger.specs.declared.fault.TriggerFault.TheVariants.{Syntax, NoField, BadSort, BadFilter}
+use Rattle.ft_head.specs.declared.fault.TriggerFault.{TriggerFault}
+use Rattle.ft_head.specs.declared.fault.TriggerFault.TheVariants.{Syntax, NoField, BadSort, BadFilter}
 use Rattle.ft_hist.specs.declared.item.KeyItem.{KeyItem}
 use Rattle.ft_hist.specs.declared.item.Item.{Item}
 use Rattle.ft_hist.specs.declared.item.Item.TheVariants as items
@@ -20,8 +20,8 @@ use Rattle.ft_hist.specs.declared.item.SortItem.{SortItem}
 use Rattle.ft_hist.specs.declared.label.Var.{Var}
 use Rattle.ft_hist.specs.declared.label.Var.TheVariants as vars
 use Rattle.std.specs.List.{find}
-use Rattle.ft_trigger.specs.Words.{pieces, Word}
-use Rattle.ft_trigger.specs.Draft.{Draft, blank, ◌>>=◌, unless, given_or, is_word, besides_hitcount, parts_from}
+use Rattle.ft_head.specs.Words.{pieces, Word}
+use Rattle.ft_head.specs.Draft.{Draft, blank, ◌>>=◌, unless, given_or, is_word, besides_hitcount, parts_from}
 use Rattle.ft_hist.specs.Hist.{Hist}
 
 -- ---- head and tail

@@ -9,20 +9,27 @@ ghost use Rattle.ft_filter.specs.Tree.{Tree};
 ghost use Rattle.ft_hist.specs.Canonical.{canonical};
 ghost use Rattle.ft_hist.specs.Hist.{Hist, IsWithin, with_filter};
 ghost use Rattle.ft_hist.specs.Sound.{IsSound};
-ghost use Rattle.ft_trigger.specs.declared.fault.TriggerFault.{TriggerFault};
-ghost use Rattle.ft_trigger.specs.Draft.{size_of};
-ghost use Rattle.ft_trigger.specs.Spelling.{ArePieces, IsItem, is_part, joined};
-ghost use Rattle.ft_trigger.specs.TriggerIs.{TriggerIs, filter_in};
-ghost use Rattle.ft_trigger.specs.Words.{Piece, pieces, Word, word_of};
+ghost use Rattle.ft_head.specs.declared.fault.TriggerFault.{TriggerFault};
+ghost use Rattle.ft_head.specs.Spelling.{is_part, joined};
+ghost use Rattle.ft_trigger.specs.TriggerIs.{TriggerIs, trigger_of, filter_in};
 ghost use Rattle.ft_trigger.specs.PartFaults.{PartsFail, is_late};
 ghost use Rattle.ft_trigger.specs.Shape.{Cut, IsCut, TailIs, with_tail, IsShaped};
-ghost use Rattle.ft_trigger.specs.Sizes.{IsSize};
 
-/// A law: the size that a text writes is the least power of 2 that is not below its number, of any
-/// number of decimal digits, where that is from 128 to 131,072; any other text writes none.
-pub fn sizes()
-    ensures { (text : List ℕ) (size : ℕ) → (size_of text ≡ Some size) ↔ IsSize text size }
+/// A law: every text is an answer on every event, and one alone.
+pub fn one_answer()
+    ensures some { (event : Name) (text : List ℕ) → TriggerIs event text (trigger_of event text) }
+    ensures one { (event : Name) (text : List ℕ) (answer : Result Hist TriggerFault)
+        → TriggerIs event text answer → answer ≡ trigger_of event text }
 {}
+
+/// A law: the canonical text of a trigger that some text gives, gives that trigger again.
+pub fn reads_again()
+    ensures { (event : Name) (text : List ℕ) (hist : Hist) → TriggerIs event text (Ok hist)
+        → TriggerIs event (canonical hist) (Ok hist) }
+{
+    ft_filter::laws::one_answer();
+    ft_filter::laws::reads_again();
+}
 
 /// A law: a trigger that some text gives is of the event that the text is read on, within the
 /// limits of triggers, and sound.
@@ -46,8 +53,8 @@ pub fn refiltered_reads_again()
         → TriggerIs event text (Ok hist)
         → TriggerIs event (canonical (with_filter hist None)) (Ok (with_filter hist None)) }
 {
-    ft_filter::one_answer();
-    ft_filter::reads_again();
+    ft_filter::laws::one_answer();
+    ft_filter::laws::reads_again();
 }
 
 /// A law: every text is a head, and then nothing, or a gap and a tail.
@@ -61,7 +68,7 @@ pub fn one_tail()
         (answer : Result (Option Tree) TriggerFault)
         → TailIs event place tail answer ↔ (filter_in event place tail ≡ answer) }
 {
-    ft_filter::one_answer();
+    ft_filter::laws::one_answer();
 }
 
 /// A law: what a text is, its head tells first. It has each fault of its head, whatever its tail
@@ -76,7 +83,7 @@ pub fn heads_first()
         → TailIs event (length head + length gap) tail answer
         → TriggerIs event text (with_tail hist answer) }
 {
-    ft_filter::one_answer();
+    ft_filter::laws::one_answer();
 }
 
 /// A law: the text of a trigger is a head that begins with `hist:` and is the trigger without its
@@ -85,7 +92,7 @@ pub fn shapes()
     ensures { (event : Name) (text : List ℕ) (hist : Hist) → TriggerIs event text (Ok hist)
         → IsShaped event text hist }
 {
-    ft_filter::one_answer();
+    ft_filter::laws::one_answer();
 }
 
 /// A law: a fault of parts stays, whatever is behind them; a text has it with every tail, and has
@@ -104,19 +111,6 @@ pub fn faults_stay()
     ensures early { (event : Name) (text parts gap tail end : List ℕ) (fault : TriggerFault)
         → IsCut text (codes "hist:" ++ parts) gap tail end → TriggerIs event text (Err fault)
         → is_late (length (codes "hist:" ++ parts)) fault ≡ false → PartsFail event parts fault }
-{}
-
-/// A law: a text is cut into pieces just where they make it: with a separator between each two and
-/// none in them, each at its place.
-pub fn one_list()
-    ensures { (separator place : ℕ) (text : List ℕ) (list : List Piece)
-        → (pieces separator place text ≡ list) ↔ ArePieces separator place text list }
-{}
-
-/// A law: an item is read as a word just where it is the word as it stands: a `$` or none, a name,
-/// and nothing or a `.` and one or more bytes.
-pub fn one_word()
-    ensures { (item : List ℕ) (word : Word) → (word_of item ≡ Some word) ↔ IsItem item word }
 {}
 
 /// A law: the parts of a head may stand in any order: any two beside each other, in the other order,

@@ -1,21 +1,18 @@
 //! Reading triggers.
 
-ghost use Rattle.std.specs.Prelude.{◌≡◌, ◌≢◌, IfOk, IfErr, option_map, unwrap_or, [], ℕ, List, Result, Ok};
+ghost use Rattle.std.specs.Prelude.{◌≡◌, ◌≢◌, IfOk, IfErr, option_map, unwrap_or, [], Ok};
 ghost use Rattle.ft_filter.specs.declared.fault.FilterFault.{FilterFault};
-ghost use Rattle.ft_hist.specs.Canonical.{canonical};
 ghost use Rattle.ft_hist.specs.Hist.{Hist};
 ghost use Rattle.ft_hist.specs.Sound.{IsSound};
 ghost use Rattle.ft_trigger.specs.TriggerIs.{TriggerIs, trigger_of, finished};
-ghost use Rattle.ft_trigger.specs.Given.{Gives, GivesTrigger};
+ghost use Rattle.ft_head.specs.Given.{Gives};
+ghost use Rattle.ft_trigger.specs.Given.{GivesTrigger};
 
-use crate::draft::{Draft, parts_of};
-use crate::fault::TriggerFault;
-use crate::pieces::{Piece, Pieces};
 use crate::resolving::{own_name, sort_of, value_items};
 use crate::tail::{filter_in, head_len, without_end};
-use crate::words::Word;
 use ft_event::Name;
 use ft_filter::skip;
+use ft_head::{Draft, TriggerFault, Word, parts_of};
 use ft_hist::Trigger;
 use std::alloc::Global;
 
@@ -40,8 +37,7 @@ pub fn parse(alloc: Global, event: Name, text: &[u8]) -> Result<Trigger, Trigger
     match head.strip_prefix(HIST) {
         Some(parts) => {
             let tail = skip(behind);
-            let parts = Pieces::of(&Piece::of(HIST.len(), parts), b':');
-            let draft = parts_of(alloc, event, parts)?;
+            let draft = parts_of(alloc, event, HIST.len(), parts)?;
             finished(
                 alloc,
                 event,
@@ -53,22 +49,6 @@ pub fn parse(alloc: Global, event: Name, text: &[u8]) -> Result<Trigger, Trigger
         }
         None => Err(TriggerFault::Syntax(0)),
     }
-}
-
-/// A law: every text is an answer on every event, and one alone.
-pub fn one_answer()
-    ensures some { (event : Name) (text : List ℕ) → TriggerIs event text (trigger_of event text) }
-    ensures one { (event : Name) (text : List ℕ) (answer : Result Hist TriggerFault)
-        → TriggerIs event text answer → answer ≡ trigger_of event text }
-{}
-
-/// A law: the canonical text of a trigger that some text gives, gives that trigger again.
-pub fn reads_again()
-    ensures { (event : Name) (text : List ℕ) (hist : Hist) → TriggerIs event text (Ok hist)
-        → TriggerIs event (canonical hist) (Ok hist) }
-{
-    ft_filter::one_answer();
-    ft_filter::reads_again();
 }
 
 /// Makes a trigger of what has been read of a head of so many bytes, and of a tail that begins at

@@ -5,28 +5,25 @@ ghost use Rattle.std.specs.Option.{option_copied, option_map_or};
 ghost use Rattle.std.specs.List.{find};
 ghost use Rattle.std.specs.Str.{bytes_eq};
 ghost use Rattle.ft_event.specs.Fields.{text_of, is_named, all_fields};
-ghost use Rattle.ft_trigger.specs.declared.fault.TriggerFault.TheVariants.{NoField, BadSort};
+ghost use Rattle.ft_head.specs.declared.fault.TriggerFault.TheVariants.{NoField, BadSort};
 ghost use Rattle.ft_hist.specs.declared.item.Item.TheVariants as items;
-ghost use Rattle.ft_trigger.specs.Draft.{given_or, is_word, besides_hitcount};
+ghost use Rattle.ft_head.specs.Draft.{given_or, is_word, besides_hitcount};
 ghost use Rattle.ft_trigger.specs.TriggerIs.{own_name, value_item, value_items, index_where, names_value, sort_by, is_descending, sorts_of, sort_of, by_hits};
-ghost use Rattle.ft_trigger.specs.Given.{Gives, Leaves};
+ghost use Rattle.ft_head.specs.Given.{Gives};
+ghost use Rattle.ft_head.specs.inner.Leaving.{Leaves};
 
-use crate::fault::TriggerFault;
-use crate::lists::keep;
-use crate::words::{Word, is};
 use ft_event::{Name, field_named, field_text};
+use ft_head::{TriggerFault, Word};
 use ft_hist::{Item, KeyItem, SortBy, SortItem, Var};
+use ft_text::is_same;
 use std::alloc::Global;
 
-/// The own name of a trigger's variable.
+/// The own name of a trigger's variable, where there is one.
+#[tactic(auto, using(crate::proofs::ResolveLemmas::own_named))]
 pub(crate) fn own_name(variable: &Option<Var>) -> Option<&[u8]>
     ensures { option_copied result ≡ own_name variable.now }
 {
-    match variable {
-        Some(Var::Saves(name)) => Some(name.bytes()),
-        Some(Var::Reads { own, source: _ }) => Some(own.bytes()),
-        None => None,
-    }
+    variable.as_ref().map(Var::own_name)
 }
 
 /// What the words of values name, in order, without `hitcount`. A `$name` that is not the
@@ -64,7 +61,7 @@ fn add_value(
         return Ok(());
     }
     match value_item(event, own, word) {
-        Some(value) => keep(values, value),
+        Some(value) => values.push(value).map_err(|_| TriggerFault::Memory),
         None => Err(TriggerFault::NoField),
     }
 }
@@ -77,7 +74,7 @@ fn value_item(event: Name, own: Option<&[u8]>, word: &Word<'_>) -> Option<Item>
         return field_value(event, word.name());
     }
     match own {
-        Some(name) if is(word.name(), name) => Some(Item::Own),
+        Some(name) if is_same(word.name(), name) => Some(Item::Own),
         _ => None,
     }
 }
@@ -121,14 +118,12 @@ fn by_hits(alloc: Global) -> Result<Vec<SortItem>, TriggerFault>
     ensures ok { IfOk result (λ sort. sort.items ≡ by_hits) }
     ensures err { IfErr result (λ fault. fault ≡ TriggerFault.Memory) }
 {
+    let hits = SortItem {
+        what: SortBy::Hits,
+        descending: false,
+    };
     let mut sort = Vec::new(alloc);
-    keep(
-        &mut sort,
-        SortItem {
-            what: SortBy::Hits,
-            descending: false,
-        },
-    )?;
+    sort.push(hits).map_err(|_| TriggerFault::Memory)?;
     Ok(sort)
 }
 
@@ -165,7 +160,9 @@ fn add_sort(
         sort.new.items result }
 {
     match what {
-        Some(what) => keep(sort, SortItem { what, descending }),
+        Some(what) => sort
+            .push(SortItem { what, descending })
+            .map_err(|_| TriggerFault::Memory),
         None => Err(TriggerFault::BadSort),
     }
 }
@@ -234,7 +231,7 @@ fn is_own(own: Option<&[u8]>, name: &[u8]) -> bool
     ensures { result ≡ option_map_or (bytes_eq name.now) (option_copied own.entry) false }
 {
     match own {
-        Some(own) => is(name, own),
+        Some(own) => is_same(name, own),
         None => false,
     }
 }
@@ -244,7 +241,7 @@ fn is_descending(word: &Word<'_>) -> bool
     ensures { result ≡ is_descending word.now }
 {
     match word.suffix() {
-        Some(suffix) => is(b"descending", suffix),
+        Some(suffix) => is_same(b"descending", suffix),
         None => false,
     }
 }

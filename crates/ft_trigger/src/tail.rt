@@ -7,11 +7,12 @@ ghost use Rattle.ft_filter.specs.Tokens.{is_gap};
 ghost use Rattle.ft_filter.specs.Answers.{filter_of};
 ghost use Rattle.ft_filter.specs.declared.fault.FilterFault.{FilterFault};
 ghost use Rattle.ft_trigger.specs.TriggerIs.{head_len, behind_head, without_end, behind_if, filter_in, filter_or_fault};
-ghost use Rattle.ft_trigger.specs.Given.{Gives};
+ghost use Rattle.ft_trigger.specs.inner.FilterFaults.{of_filter};
+ghost use Rattle.ft_head.specs.Given.{Gives};
 
-use crate::fault::TriggerFault;
 use ft_event::Name;
-use ft_filter::{Filter, is_gap, skip};
+use ft_filter::{Filter, FilterFault, is_gap, skip};
+use ft_head::TriggerFault;
 use std::alloc::Global;
 
 /// The place of the first space or tab.
@@ -85,6 +86,21 @@ fn filter_of(alloc: Global, event: Name, text: &[u8]) -> Result<Option<Filter>, 
 {
     match ft_filter::parse(alloc, text, event) {
         Ok(filter) => Ok(Some(filter)),
-        Err(fault) => Err(TriggerFault::of_filter(fault)),
+        Err(fault) => Err(of_filter(fault)),
+    }
+}
+
+/// The fault of a trigger whose filter has this fault. Want of memory is its own.
+fn of_filter(fault: FilterFault) -> TriggerFault
+    ensures { result ≡ of_filter fault }
+{
+    match fault {
+        FilterFault::Memory => TriggerFault::Memory,
+        FilterFault::Syntax(_)
+        | FilterFault::NoField(_)
+        | FilterFault::WrongKind(_)
+        | FilterFault::BadGlob(_)
+        | FilterFault::NumberRange(_)
+        | FilterFault::TooDeep => TriggerFault::BadFilter(fault),
     }
 }

@@ -1,5 +1,6 @@
 use Rattle.std.proofs.Common.{◌≡◌, ◌+◌, ◌-◌, ◌∙◌, ℕ, suc, Some, take, drop, get_or, length, sym, ap, arith}
 use Rattle.ft_event.specs.Spans.{number_of}
+use Rattle.ft_event.specs.Traced.{last_second}
 use Rattle.ft_event.proofs.StampCuts.{stamp_found, no_stamp}
 use Rattle.ft_event.proofs.columns.micros_of.Goals as goal
 
@@ -22,7 +23,7 @@ returns-then-word-len-ne58-clause-value c = no_stamp c.args.word.now (λ s.
 pub returns-in_err-whole-clause-value : goal.returns-in_err-whole-clause-value
 returns-in_err-whole-clause-value c = c.from_residual.ensures ∙ no_stamp c.args.word.now (λ s.
     let same : s.point ≡ length c.args.word.now - 8 = omega (arith, s.len) in
-    s.whole (ap (λ (n : ℕ). number_of 4294967295 (take n c.args.word.now)) same ∙ sym c.number.ensures.value ∙ c.in_err-whole.was))
+    s.whole (ap (λ (n : ℕ). number_of last_second (take n c.args.word.now)) same ∙ sym c.number.ensures.value ∙ c.in_err-whole.was))
 
 pub returns-in_err-part-clause-value : goal.returns-in_err-part-clause-value
 returns-in_err-part-clause-value c = c.from_residual-in_err-part.ensures ∙ no_stamp c.args.word.now (λ s.

@@ -1,6 +1,6 @@
 use Rattle.std.proofs.Common.{◌≡◌, ◌+◌, drop}
 use Rattle.std.specs.List.{prefix_len}
-use Rattle.ft_filter.specs.Words.{test_of}
+use Rattle.ft_filter.specs.inner.Words.{test_of}
 use Rattle.ft_filter.proofs.tokens.front_len.Given as goal
 
 abbrev pub invariant-loop-at : goal.invariant-loop-at

@@ -1,6 +1,6 @@
 use Rattle.std.proofs.Common.{◌≡◌, ◌++◌, drop, map}
 use Rattle.ft_filter.specs.Canonical.{joined_text, more_text}
-use Rattle.ft_filter.specs.Given.{IsFront}
+use Rattle.ft_text.specs.Fronts.{IsFront}
 use Rattle.ft_filter.specs.Tree.{tree_of, trees}
 use Rattle.ft_filter.proofs.writing.+write.Given as goal
 

@@ -1,5 +1,5 @@
 use Rattle.std.proofs.Common.{◌↔◌, length}
-use Rattle.ft_glob.specs.Walk.{ReadsAsMembers}
+use Rattle.ft_glob.specs.inner.Walk.{ReadsAsMembers}
 use Rattle.ft_glob.proofs.pattern.are_members.Given as goal
 
 abbrev pub invariant-loop-member : goal.invariant-loop-member

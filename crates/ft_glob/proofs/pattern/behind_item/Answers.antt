@@ -1,6 +1,6 @@
 use Rattle.std.proofs.Common.{sym, length, refl}
 use Rattle.std.proofs.lemmas.Bool.{eqb-true}
-use Rattle.ft_glob.specs.Walk.{ReadsAsMembers}
+use Rattle.ft_glob.specs.inner.Walk.{ReadsAsMembers}
 use Rattle.ft_glob.proofs.Readings.{reads_byte, reads_class, reads_none, reads_empty, reads_unread, some_inside}
 use Rattle.ft_glob.proofs.pattern.behind_item.Goals as goal
 use Rattle.ft_glob.proofs.pattern.behind_item.Goals.{else-not-is_empty-via-then-not-is_empty+else-are_members, else-not-is_empty-via-else-not-is_empty}

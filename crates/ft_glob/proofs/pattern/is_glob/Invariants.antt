@@ -1,5 +1,5 @@
 use Rattle.std.proofs.Common.{◌↔◌, length}
-use Rattle.ft_glob.specs.Walk.{ReadsAsItems}
+use Rattle.ft_glob.specs.inner.Walk.{ReadsAsItems}
 use Rattle.ft_glob.proofs.pattern.is_glob.Given as goal
 
 abbrev pub invariant-loop-first : goal.invariant-loop-first

@@ -1,5 +1,6 @@
 use Rattle.std.proofs.lemmas.Result.{on_err_weaker, on_ok_weaker}
-use Rattle.ft_hist.proofs.Fronts.{added_three, added_four, front_before}
+use Rattle.ft_text.proofs.Appends.{added_three, added_four}
+use Rattle.ft_text.proofs.Fronts.{front_before}
 use Rattle.ft_hist.proofs.writing.write_counted.Goals as goal
 
 pub returns-clause-ok : goal.returns-clause-ok

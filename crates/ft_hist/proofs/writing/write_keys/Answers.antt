@@ -1,5 +1,5 @@
 use Rattle.std.proofs.lemmas.Result.{err_from_is_err_and}
-use Rattle.ft_hist.proofs.Fronts.{front_past}
+use Rattle.ft_text.proofs.Fronts.{front_past}
 use Rattle.ft_hist.proofs.writing.write_keys.Goals as goal
 
 pub returns-in_err-write_key-2-clause-err : goal.returns-in_err-write_key-2-clause-err

@@ -1,5 +1,5 @@
 use Rattle.std.proofs.Common.{◌≡◌, ◌++◌, drop, map}
-use Rattle.ft_filter.specs.Given.{IsFront}
+use Rattle.ft_text.specs.Fronts.{IsFront}
 use Rattle.ft_hist.specs.Canonical.{listed, more_items, sort_text}
 use Rattle.ft_hist.proofs.writing.write_sort.Given as goal
 

@@ -1,8 +1,9 @@
 use Rattle.std.proofs.lemmas.Result.{on_err_weaker}
-use Rattle.ft_hist.proofs.Fronts.{added_three, front_before}
+use Rattle.ft_text.proofs.Appends.{added_three}
+use Rattle.ft_text.proofs.Fronts.{front_before}
 use Rattle.ft_hist.proofs.writing.write_table.Goals as goal
 
 pub returns-clause-err : goal.returns-clause-err
 returns-clause-err c =
     let added = added_three c.args.text.now.items c.extend_from_slice.new.self.items c.write_sort.new.text.items c.extend_from_slice-2.new.self.items _ _ _ c.in_ok-extend_from_slice.ensures.items c.in_ok-write_sort.ensures.ok c.in_ok-extend_from_slice-2.ensures.items in
-    on_err_weaker c.write_number.result (front_before c.args.text.now.items c.extend_from_slice-2.new.self.items c.write_number.new.text.items _ added) c.write_number.ensures.err
+    on_err_weaker c.write_decimal.result (front_before c.args.text.now.items c.extend_from_slice-2.new.self.items c.write_decimal.new.text.items _ added) c.write_decimal.ensures.err

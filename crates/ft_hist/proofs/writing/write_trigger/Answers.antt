@@ -3,7 +3,7 @@ use Rattle.std.proofs.lemmas.Result.{on_ok_weaker}
 use Rattle.ft_event.specs.declared.event.Name.{Name}
 use Rattle.ft_filter.specs.Tree.{Tree, Condition}
 use Rattle.ft_hist.specs.Canonical.{canonical, listed, sort_text, if_text}
-use Rattle.ft_hist.proofs.Fronts.{added_seven}
+use Rattle.ft_hist.proofs.Appends.{added_seven}
 use Rattle.ft_hist.proofs.writing.write_trigger.Goals as goal
 
 -- a filter's condition has the filter's tree

@@ -1,7 +1,7 @@
 use Rattle.std.proofs.Common.{sym, ◌∙◌, ap, unwrap_or}
 use Rattle.std.specs.Cmp.{nat_cmp_total}
 use Rattle.ft_maps.specs.Seen.{get-seen}
-use Rattle.ft_lanes.specs.Slots.{no_slots}
+use Rattle.ft_lanes.specs.inner.Slots.{no_slots}
 use Rattle.ft_lanes.proofs.edits.next_in.Goals as goal
 
 pub returns-in-Some : goal.returns-in-Some

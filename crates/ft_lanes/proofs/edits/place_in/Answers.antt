@@ -3,7 +3,7 @@ use Rattle.std.specs.Prelude.{option_and_then}
 use Rattle.std.specs.Cmp.{nat_cmp_total}
 use Rattle.std.specs.FinMap as map
 use Rattle.ft_maps.specs.Seen.{get-seen}
-use Rattle.ft_lanes.specs.Slots.{SlotsOf}
+use Rattle.ft_lanes.specs.inner.Slots.{SlotsOf}
 use Rattle.ft_lanes.proofs.edits.place_in.Goals as goal
 
 pub returns-in-Some : goal.returns-in-Some

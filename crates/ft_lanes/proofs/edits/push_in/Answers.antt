@@ -7,7 +7,7 @@ use Rattle.std.specs.FinMap.{nat_cmp-IsAntisymmetric}
 use Rattle.std.proofs.lemmas.Result.{on_ok_weaker, on_err_weaker, IfOk-weaker}
 use Rattle.ft_maps.specs.Seen.{seen, get-seen, seen-found, seen-kept}
 use Rattle.ft_lanes.specs.Held.{number_limit}
-use Rattle.ft_lanes.specs.Slots.{no_slots, slots_with, slots_in}
+use Rattle.ft_lanes.specs.inner.Slots.{no_slots, slots_with, slots_in}
 use Rattle.ft_lanes.proofs.Counts.{slots-more}
 use Rattle.ft_lanes.proofs.edits.push_in.Goals as goal
 

@@ -4,7 +4,7 @@ use Rattle.std.specs.Cmp.{nat_cmp_total}
 use Rattle.std.specs.FinMap as map
 use Rattle.std.specs.FinMap.{nat_cmp-IsAntisymmetric}
 use Rattle.ft_maps.specs.Seen.{seen, get-seen, seen-remove}
-use Rattle.ft_lanes.specs.Slots.{SlotsOf, slots_in}
+use Rattle.ft_lanes.specs.inner.Slots.{SlotsOf, slots_in}
 use Rattle.ft_lanes.proofs.Counts.{slots-unloaded}
 use Rattle.ft_lanes.proofs.edits.take_lane_in.Goals as goal
 

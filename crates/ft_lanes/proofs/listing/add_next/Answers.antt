@@ -15,6 +15,6 @@ returns c =
     let prio : SFits w32 turn.next_prio = search rules in
     let old = c.args.text.now.items in
     let one = c.add_comm.new.text.items in
-    let two = c.add.new.text.items in
-    let start = more_signed old one two _ _ turn.next_pid pid c.in_ok-add_comm.ensures c.in_ok-add.ensures in
-    on_ok_weaker c.add-2.result (more_signed old two c.add-2.new.text.items _ _ turn.next_prio prio start) c.add-2.ensures
+    let two = c.add_number.new.text.items in
+    let start = more_signed old one two _ _ turn.next_pid pid c.in_ok-add_comm.ensures c.in_ok-add_number.ensures in
+    on_ok_weaker c.add_number-2.result (more_signed old two c.add_number-2.new.text.items _ _ turn.next_prio prio start) c.add_number-2.ensures

@@ -8,7 +8,7 @@ use Rattle.std.specs.FinMap as map
 use Rattle.ft_event.specs.Traced.{Traced}
 use Rattle.ft_maps.specs.Seen.{seen, get-seen}
 use Rattle.ft_lanes.specs.Held.{HasCpu}
-use Rattle.ft_lanes.specs.Slots.{SlotsOf, first_cpu}
+use Rattle.ft_lanes.specs.inner.Slots.{SlotsOf, first_cpu}
 use Rattle.ft_lanes.proofs.Each.{all-from_each, each-more}
 use Rattle.ft_lanes.proofs.Loads.{first_cpu-at, first_cpu-end}
 use Rattle.ft_lanes.proofs.load.held_cpu_in.Goals as goal

@@ -4,7 +4,7 @@ use Rattle.std.specs.FinMap as map
 use Rattle.ft_event.specs.Traced.{Traced}
 use Rattle.ft_maps.specs.Seen.{seen}
 use Rattle.ft_lanes.specs.Held.{HasCpu}
-use Rattle.ft_lanes.specs.Slots.{first_cpu}
+use Rattle.ft_lanes.specs.inner.Slots.{first_cpu}
 use Rattle.ft_lanes.proofs.load.held_cpu_in.Given as goal
 
 abbrev pub invariant-loop-event : goal.invariant-loop-event

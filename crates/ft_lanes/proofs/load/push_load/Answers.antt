@@ -3,7 +3,7 @@ use Rattle.std.proofs.Common.{sym, ap, ◌∙◌, ◌+◌, subst}
 use Rattle.std.specs.Ordering.{nat_cmp}
 use Rattle.std.proofs.lemmas.Result.{on_ok_weaker, on_err_weaker}
 use Rattle.ft_maps.specs.Seen.{seen}
-use Rattle.ft_lanes.specs.Slots.{all_put, slots_in, AgreeBesideRows}
+use Rattle.ft_lanes.specs.inner.Slots.{all_put, slots_in, AgreeBesideRows}
 use Rattle.ft_lanes.proofs.Loads.{free-from, removed-back}
 use Rattle.ft_lanes.proofs.Puts.{beside-events, put-rows, put-counted}
 use Rattle.ft_lanes.proofs.load.push_load.Goals as goal

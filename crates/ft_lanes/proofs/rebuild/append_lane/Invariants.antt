@@ -1,7 +1,7 @@
 use Rattle.std.proofs.Common.{◌≡◌, ◌++◌, length}
 use Rattle.std.specs.Map.{keys_of, values_of}
 use Rattle.std.specs.FinMap as map
-use Rattle.ft_lanes.specs.Slots.{placed_from}
+use Rattle.ft_lanes.specs.inner.Slots.{placed_from}
 use Rattle.ft_lanes.proofs.rebuild.append_lane.Given as goal
 
 -- with the lines that are left it is all of them

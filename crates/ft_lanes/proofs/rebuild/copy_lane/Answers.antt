@@ -4,7 +4,7 @@ use Rattle.std.specs.List.Sorted.{IsStrictlySortedBy}
 use Rattle.std.specs.Ordering.{nat_cmp}
 use Rattle.std.specs.Map.{keys_of}
 use Rattle.std.specs.FinMap as map
-use Rattle.ft_lanes.specs.Slots.{AreBelow}
+use Rattle.ft_lanes.specs.inner.Slots.{AreBelow}
 use Rattle.ft_lanes.proofs.Copies.{copy-ascends, copy-below}
 use Rattle.ft_lanes.proofs.rebuild.copy_lane.Goals as goal
 

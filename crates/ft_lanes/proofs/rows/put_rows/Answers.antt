@@ -5,7 +5,7 @@ use Rattle.std.specs.Cmp.{nat_cmp_total}
 use Rattle.std.specs.FinMap as map
 use Rattle.std.proofs.lemmas.Map.Iter.{rest_more}
 use Rattle.ft_maps.specs.Seen.{seen, entries-seen}
-use Rattle.ft_lanes.specs.Slots.{SlotsOf}
+use Rattle.ft_lanes.specs.inner.Slots.{SlotsOf}
 use Rattle.ft_lanes.proofs.Puts.{Putting, putting-start, putting-step}
 use Rattle.ft_lanes.proofs.rows.put_rows.Goals as goal
 

@@ -4,7 +4,7 @@ use Rattle.std.specs.Ordering.{nat_cmp}
 use Rattle.std.specs.FinMap as map
 use Rattle.std.specs.FinMap.{get-empty}
 use Rattle.ft_maps.specs.Seen.{seen, seen-empty}
-use Rattle.ft_lanes.specs.Slots.{all_with, HasRoom}
+use Rattle.ft_lanes.specs.inner.Slots.{all_with, HasRoom}
 use Rattle.ft_lanes.proofs.Loads.{Pushed, pushed-start, pushed-step, room-from}
 use Rattle.ft_lanes.proofs.Counts.{slots-empty}
 use Rattle.ft_lanes.proofs.rows.rows_of.Goals as goal

@@ -2,7 +2,7 @@ use Rattle.std.proofs.Common.{inl, inr, ◌≡◌, ◌∷◌, ◌+◌, drop, suc
 use Rattle.std.proofs.Math.Seq.{drop-cons}
 use Rattle.std.proofs.lemmas.Result.{err_from_is_err_and}
 use Rattle.std.specs.Option.{option_copied}
-use Rattle.ft_trigger.specs.Draft.{besides_hitcount}
+use Rattle.ft_head.specs.Draft.{besides_hitcount}
 use Rattle.ft_trigger.specs.TriggerIs.{value_item, value_items}
 use Rattle.ft_trigger.proofs.ResolveLemmas.{onto, values_step, values_stop, values_count}
 use Rattle.ft_trigger.proofs.resolving.value_items.Goals as goal

@@ -1,6 +1,6 @@
 use Rattle.std.proofs.Common.{◌≡◌, ◌+◌, drop, length}
 use Rattle.std.specs.Option.{option_copied}
-use Rattle.ft_trigger.specs.Draft.{besides_hitcount}
+use Rattle.ft_head.specs.Draft.{besides_hitcount}
 use Rattle.ft_trigger.specs.TriggerIs.{value_items}
 use Rattle.ft_trigger.proofs.ResolveLemmas.{onto}
 use Rattle.ft_trigger.proofs.resolving.value_items.Given as goal

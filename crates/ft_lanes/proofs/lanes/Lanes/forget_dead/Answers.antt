@@ -2,7 +2,7 @@
 use Rattle.std.proofs.Common.{sym, ◌∙◌, length}
 use Rattle.std.specs.Ordering.{nat_cmp}
 use Rattle.ft_maps.specs.Seen.{seen}
-use Rattle.ft_lanes.specs.Slots.{stored_at}
+use Rattle.ft_lanes.specs.inner.Slots.{stored_at}
 use Rattle.ft_lanes.proofs.Counts.{stored-none}
 use Rattle.ft_lanes.proofs.Views.{lanes-none}
 use Rattle.ft_lanes.proofs.lanes.Lanes.forget_dead.Goals as goal

@@ -4,7 +4,7 @@ use Rattle.std.specs.Ordering.{nat_cmp}
 use Rattle.std.proofs.lemmas.List.{get_or_default}
 use Rattle.ft_maps.specs.Seen.{seen}
 use Rattle.ft_lanes.specs.Held.{Lanes, event_at}
-use Rattle.ft_lanes.specs.Slots.{stored_at, blank}
+use Rattle.ft_lanes.specs.inner.Slots.{stored_at, blank}
 use Rattle.ft_lanes.proofs.Each.{within-found}
 use Rattle.ft_lanes.proofs.Views.{event_at-place}
 use Rattle.ft_lanes.proofs.lanes.Lanes.get.Goals as goal

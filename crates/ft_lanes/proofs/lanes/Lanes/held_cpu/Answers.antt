@@ -3,7 +3,7 @@ use Rattle.std.specs.Ordering.{nat_cmp}
 use Rattle.ft_maps.specs.Seen.{seen}
 use Rattle.ft_lanes.specs.Held.{Lanes}
 use Rattle.ft_lanes.specs.Loaded.{first_held}
-use Rattle.ft_lanes.specs.Slots.{stored_at}
+use Rattle.ft_lanes.specs.inner.Slots.{stored_at}
 use Rattle.ft_lanes.proofs.Loads.{first_held-slots}
 use Rattle.ft_lanes.proofs.lanes.Lanes.held_cpu.Goals as goal
 

@@ -6,8 +6,9 @@ use Rattle.std.specs.FinMap as map
 use Rattle.ft_maps.specs.Seen.{seen, get-seen}
 use Rattle.ft_maps.specs.Mapped.{entries_by}
 use Rattle.ft_lanes.specs.Held.{Lane, Lanes}
-use Rattle.ft_lanes.specs.Slots.{SlotsOf, stored_at}
-use Rattle.ft_lanes.specs.Walks.{shown, PlacesWithin}
+use Rattle.ft_lanes.specs.inner.Slots.{SlotsOf, stored_at}
+use Rattle.ft_lanes.specs.Walks.{shown}
+use Rattle.ft_lanes.specs.inner.Within.{PlacesWithin}
 use Rattle.ft_lanes.proofs.Each.{places-within}
 use Rattle.ft_lanes.proofs.Views.{lane-entries}
 use Rattle.ft_lanes.proofs.Runs.{shows_in_order}

@@ -9,8 +9,9 @@ use Rattle.std.specs.FinMap as map
 use Rattle.ft_maps.specs.Seen.{seen, entries-seen, get-seen}
 use Rattle.ft_maps.specs.Mapped.{entries_by, entries-map_by}
 use Rattle.ft_lanes.specs.Held.{Lanes}
-use Rattle.ft_lanes.specs.Slots.{stored_at, lane_by}
-use Rattle.ft_lanes.specs.Walks.{itself, SlotsWithin}
+use Rattle.ft_lanes.specs.inner.Slots.{stored_at, lane_by}
+use Rattle.ft_lanes.specs.Walks.{itself}
+use Rattle.ft_lanes.specs.inner.Within.{SlotsWithin}
 use Rattle.ft_lanes.proofs.Each.{slots-within}
 use Rattle.ft_lanes.proofs.Runs.{shows_in_order}
 use Rattle.ft_lanes.proofs.lanes.Lanes.lanes.Goals as goal

@@ -2,7 +2,7 @@ use Rattle.std.proofs.Common.{sym, ap, ◌∙◌}
 use Rattle.std.specs.Ordering.{nat_cmp}
 use Rattle.ft_maps.specs.Seen.{seen}
 use Rattle.ft_lanes.specs.Held.{held_in}
-use Rattle.ft_lanes.specs.Slots.{stored_at}
+use Rattle.ft_lanes.specs.inner.Slots.{stored_at}
 use Rattle.ft_lanes.proofs.Counts.{held-slots}
 use Rattle.ft_lanes.proofs.lanes.Lanes.len.Goals as goal
 

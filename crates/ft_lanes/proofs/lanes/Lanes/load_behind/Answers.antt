@@ -8,7 +8,7 @@ use Rattle.ft_event.specs.Traced.{Traced}
 use Rattle.ft_maps.specs.Seen.{seen}
 use Rattle.ft_lanes.specs.Held.{Lanes}
 use Rattle.ft_lanes.specs.Loaded.{first_held, with_lanes}
-use Rattle.ft_lanes.specs.Slots.{AllSlots, stored_at, lanes_by, all_from, first_cpu, slots_in, AreStored}
+use Rattle.ft_lanes.specs.inner.Slots.{AllSlots, stored_at, lanes_by, all_from, first_cpu, slots_in, AreStored}
 use Rattle.ft_lanes.proofs.Views.{at_ok}
 use Rattle.ft_lanes.proofs.Loads.{behind, first_held-slots, free-from, lanes-loaded, stored-all}
 use Rattle.ft_lanes.proofs.lanes.Lanes.load_behind.Goals as goal

@@ -2,7 +2,7 @@
 use Rattle.std.proofs.Common.{sym, ap, ◌∙◌, subst, length, arith}
 use Rattle.std.specs.Ordering.{nat_cmp}
 use Rattle.ft_maps.specs.Seen.{seen-empty}
-use Rattle.ft_lanes.specs.Slots.{lanes_by, stored_at, AreStored}
+use Rattle.ft_lanes.specs.inner.Slots.{lanes_by, stored_at, AreStored}
 use Rattle.ft_lanes.proofs.Each.{within-empty}
 use Rattle.ft_lanes.proofs.Counts.{slots-empty}
 use Rattle.ft_lanes.proofs.Views.{lanes-empty}

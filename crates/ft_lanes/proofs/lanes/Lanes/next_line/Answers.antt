@@ -4,7 +4,7 @@ use Rattle.std.specs.FinMap as map
 use Rattle.ft_maps.specs.Seen.{seen}
 use Rattle.ft_lanes.specs.Held.{Lanes}
 use Rattle.ft_lanes.specs.Edits.{new_lane}
-use Rattle.ft_lanes.specs.Slots.{stored_at}
+use Rattle.ft_lanes.specs.inner.Slots.{stored_at}
 use Rattle.ft_lanes.proofs.Views.{lane-or_new}
 use Rattle.ft_lanes.proofs.lanes.Lanes.next_line.Goals as goal
 

@@ -7,7 +7,7 @@ use Rattle.std.proofs.lemmas.Result.{on_ok_weaker, IfOk-weaker}
 use Rattle.ft_maps.specs.Seen.{seen}
 use Rattle.ft_lanes.specs.Held.{number_limit}
 use Rattle.ft_lanes.specs.Edits.{new_lane, lane_with}
-use Rattle.ft_lanes.specs.Slots.{no_slots, stored_at, lanes_by, AreStored}
+use Rattle.ft_lanes.specs.inner.Slots.{no_slots, stored_at, lanes_by, AreStored}
 use Rattle.ft_lanes.proofs.Counts.{stored-with}
 use Rattle.ft_lanes.proofs.Views.{lanes-with, lanes-appended, lane-or_new, stored-last, at_ok}
 use Rattle.ft_lanes.proofs.lanes.Lanes.push_behind.Goals as goal

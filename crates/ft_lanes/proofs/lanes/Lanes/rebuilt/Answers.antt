@@ -6,7 +6,7 @@ use Rattle.std.specs.FinMap as map
 use Rattle.std.proofs.lemmas.Map.Iter.{rest_more, rest_all}
 use Rattle.ft_maps.specs.Seen.{seen, seen-empty}
 use Rattle.ft_lanes.specs.Held.{Lane, held_in}
-use Rattle.ft_lanes.specs.Slots.{stored_at}
+use Rattle.ft_lanes.specs.inner.Slots.{stored_at}
 use Rattle.ft_lanes.specs.Walks.{itself}
 use Rattle.ft_lanes.proofs.Counts.{held-slots}
 use Rattle.ft_lanes.proofs.Copies.{Copying, copying-start, copying-step, copied-stored}

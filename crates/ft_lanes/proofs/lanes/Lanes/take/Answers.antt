@@ -6,7 +6,7 @@ use Rattle.ft_event.specs.Traced.{Traced}
 use Rattle.ft_maps.specs.Seen.{seen}
 use Rattle.ft_lanes.specs.Held.{Lanes, event_at}
 use Rattle.ft_lanes.specs.Edits.{lanes_without}
-use Rattle.ft_lanes.specs.Slots.{stored_at, lanes_by, slots_in}
+use Rattle.ft_lanes.specs.inner.Slots.{stored_at, lanes_by, slots_in}
 use Rattle.ft_lanes.proofs.Counts.{stored-without}
 use Rattle.ft_lanes.proofs.Views.{lanes-without, event_at-place}
 use Rattle.ft_lanes.proofs.lanes.Lanes.take.Goals as goal

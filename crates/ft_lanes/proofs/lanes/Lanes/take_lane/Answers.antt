@@ -4,7 +4,7 @@ use Rattle.std.specs.Ordering.{nat_cmp}
 use Rattle.std.specs.FinMap as map
 use Rattle.ft_maps.specs.Seen.{seen}
 use Rattle.ft_lanes.specs.Held.{Lane, Lanes}
-use Rattle.ft_lanes.specs.Slots.{stored_at, lanes_by, slots_in}
+use Rattle.ft_lanes.specs.inner.Slots.{stored_at, lanes_by, slots_in}
 use Rattle.ft_lanes.proofs.Counts.{stored-unloaded}
 use Rattle.ft_lanes.proofs.Views.{lanes-unloaded, count-at}
 use Rattle.ft_lanes.proofs.lanes.Lanes.take_lane.Goals as goal

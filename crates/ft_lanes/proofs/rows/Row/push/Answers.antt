@@ -1,7 +1,7 @@
 -- The next line follows the last one.
 use Rattle.std.proofs.Common.{sym, ap, ◌∙◌, ◌+◌, subst, arith}
 use Rattle.std.specs.FinMap as map
-use Rattle.ft_lanes.specs.Slots.{slots_with, row_slots, IsRow}
+use Rattle.ft_lanes.specs.inner.Slots.{slots_with, row_slots, IsRow}
 use Rattle.ft_lanes.proofs.RowLines.{row-push, row-with, row-grows}
 use Rattle.ft_lanes.proofs.rows.Row.push.Goals as goal
 

@@ -7,7 +7,7 @@ use Rattle.std.specs.BTreeMap as tree
 use Rattle.std.specs.Cmp.{nat_cmp_total}
 use Rattle.std.specs.FinMap as map
 use Rattle.ft_maps.specs.Seen.{entries-seen, get-seen}
-use Rattle.ft_lanes.specs.Slots.{SlotsOf}
+use Rattle.ft_lanes.specs.inner.Slots.{SlotsOf}
 use Rattle.ft_lanes.proofs.slots.Slots.entries.Goals as goal
 
 pub returns-clause-rest : goal.returns-clause-rest

@@ -1,7 +1,7 @@
 use Rattle.std.proofs.Common.{sym, subst}
 use Rattle.std.specs.Ordering.{nat_cmp}
 use Rattle.ft_maps.specs.Seen.{seen-empty}
-use Rattle.ft_lanes.specs.Slots.{AreBelow}
+use Rattle.ft_lanes.specs.inner.Slots.{AreBelow}
 use Rattle.ft_lanes.proofs.Counts.{below-empty}
 use Rattle.ft_lanes.proofs.slots.Slots.new.Goals as goal
 

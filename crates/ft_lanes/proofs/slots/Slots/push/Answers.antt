@@ -3,7 +3,7 @@ use Rattle.std.proofs.Common.{sym, ap, ◌∙◌, ◌+◌, subst}
 use Rattle.std.specs.Ordering.{nat_cmp}
 use Rattle.std.specs.FinMap as map
 use Rattle.ft_maps.specs.Seen.{seen}
-use Rattle.ft_lanes.specs.Slots.{AreBelow}
+use Rattle.ft_lanes.specs.inner.Slots.{AreBelow}
 use Rattle.ft_lanes.proofs.Counts.{len-with, below-with}
 use Rattle.ft_lanes.proofs.slots.Slots.push.Goals as goal
 

@@ -5,7 +5,7 @@ use Rattle.std.specs.Cmp.{nat_cmp_total}
 use Rattle.std.specs.FinMap as map
 use Rattle.std.specs.FinMap.{nat_cmp-IsAntisymmetric}
 use Rattle.ft_maps.specs.Seen.{seen, get-seen, seen-remove}
-use Rattle.ft_lanes.specs.Slots.{slots_without, AreBelow}
+use Rattle.ft_lanes.specs.inner.Slots.{slots_without, AreBelow}
 use Rattle.ft_lanes.proofs.Counts.{below-without}
 use Rattle.ft_lanes.proofs.slots.Slots.take.Goals as goal
 

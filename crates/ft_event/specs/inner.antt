@@ -1,0 +1,4 @@
+-- Words of private functions, beside what the public clauses say.
+pub mod Fronts
+pub mod Steps
+pub mod Texts

@@ -1,5 +1,0 @@
-use Rattle.ft_filter.proofs.PredLaw.{pred_is}
-use Rattle.ft_filter.proofs.predicate.predicates_of_texts.Goals as goal
-
-pub returns : goal.returns
-returns c = pred_is

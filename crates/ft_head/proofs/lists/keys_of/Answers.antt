@@ -1,0 +1,15 @@
+use Rattle.std.proofs.Common.{◌≡◌, ◌<◌, ap₂, ap, sym, length, arith, subst}
+use Rattle.ft_head.specs.Draft.{items_from, with_key}
+use Rattle.ft_head.proofs.PieceLemmas.{pieces_some}
+use Rattle.ft_head.proofs.lists.keys_of.Goals as goal
+
+pub loop-item-init : goal.loop-item-init
+loop-item-init c =
+    let all = pieces_some 44 c.args.list.now.place c.args.list.now.bytes in
+    let some : 0 < length c.of-items.result = subst (λ items. 0 < length items) (sym c.of-items.ensures) all in
+    let none : length c.new-keys.result.items ≡ 0 = ap length c.new-keys.ensures.items in
+    record {
+      same = ap₂ (λ keys items. items_from (with_key c.args.event) keys items) c.new-keys.ensures.items c.of-items.ensures;
+      some = omega arith;
+      few = omega arith;
+    }

@@ -1,0 +1,11 @@
+pub mod Draft
+pub mod Drafts
+pub mod Given
+pub mod Sizes
+pub mod Spelling
+pub mod TriggerFault
+pub mod Words
+pub mod inner
+pub use Rattle.ft_event.specs.Fields
+pub use Rattle.ft_filter.specs.Tokens
+pub use Rattle.ft_hist.specs.Powers

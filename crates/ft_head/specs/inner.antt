@@ -1,0 +1,3 @@
+-- Words of private functions.
+pub mod Leaving
+pub mod Stamps

@@ -1,0 +1,73 @@
+//! What may be wrong with a trigger's text.
+
+ghost use Rattle.std.specs.Prelude.{◌≡◌};
+ghost use Rattle.ft_head.specs.TriggerFault.{number_of, place_of};
+
+use ft_filter::FilterFault;
+
+/// The first thing that is wrong with a trigger's text. Places are bytes of the text, from 0.
+#[derive(Clone, Copy, Debug, PartialEq, Eq)]
+pub enum TriggerFault {
+    /// Memory ran out.
+    Memory,
+    /// No such thing may stand here.
+    Syntax(usize),
+    /// The event has no such field, or the trigger no such variable.
+    NoField,
+    /// A value's field holds texts.
+    NotNumeric,
+    /// More than three keys, three values or two sort items.
+    TooMany,
+    /// A part, an item or a name stands twice.
+    Duplicate,
+    /// The size is no number, or out of range.
+    BadSize,
+    /// A sort item is no key and no value, or has an unknown suffix.
+    BadSort,
+    /// A modifier is unknown, or not for its field.
+    BadModifier,
+    /// The kernel has this form, and the desk has not.
+    LeftOut(usize),
+    /// The filter's text cannot be read. Its place counts in the filter's text.
+    BadFilter(FilterFault),
+}
+
+impl TriggerFault {
+    /// Its number in the desk's texts.
+    pub fn number(self) -> u8
+        ensures { result ≡ number_of self }
+    {
+        match self {
+            TriggerFault::Memory => 1,
+            TriggerFault::Syntax(_) => 2,
+            TriggerFault::NoField => 3,
+            TriggerFault::NotNumeric => 4,
+            TriggerFault::TooMany => 5,
+            TriggerFault::Duplicate => 6,
+            TriggerFault::BadSize => 7,
+            TriggerFault::BadSort => 8,
+            TriggerFault::BadModifier => 9,
+            TriggerFault::LeftOut(_) => 10,
+            TriggerFault::BadFilter(_) => 11,
+        }
+    }
+
+    /// The byte of the text that it is at, from 0, where it has a place; a filter's fault has its
+    /// own.
+    pub fn place(self) -> Option<usize>
+        ensures { result ≡ place_of self }
+    {
+        match self {
+            TriggerFault::Syntax(place) | TriggerFault::LeftOut(place) => Some(place),
+            TriggerFault::Memory
+            | TriggerFault::NoField
+            | TriggerFault::NotNumeric
+            | TriggerFault::TooMany
+            | TriggerFault::Duplicate
+            | TriggerFault::BadSize
+            | TriggerFault::BadSort
+            | TriggerFault::BadModifier
+            | TriggerFault::BadFilter(_) => None,
+        }
+    }
+}

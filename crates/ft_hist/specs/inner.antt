@@ -1,0 +1,4 @@
+-- Words of private functions and types, which no public clause says (our own choice).
+pub mod Counts
+pub mod Stored
+pub mod Triggers

@@ -1,5 +1,0 @@
-use Rattle.ft_pairs.specs.Order.{at_same}
-use Rattle.ft_pairs.proofs.at.one_act_order.Goals as goal
-
-pub returns-clause-ties : goal.returns-clause-ties
-returns-clause-ties c = at_same

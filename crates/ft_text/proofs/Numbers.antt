@@ -1,0 +1,33 @@
+-- Digits read from the left, one by one.
+use Rattle.std.proofs.Common.{◌≡◌, ◌<◌, ℕ, ◌+◌, ◌-◌, ◌*◌, true, List, take, length, get_or, None, arith, refl, nat_le}
+use Rattle.std.specs.List.{list_all}
+use Rattle.std.specs.Int.{IsInRange}
+use Rattle.std.specs.Char.{is_ascii_digit}
+use Rattle.std.specs.Str.Parse.{digits_value}
+use Rattle.std.proofs.lemmas.Bool.{lt-leb, and_right}
+use Rattle.std.proofs.lemmas.Bool.Decides.{nat_tests}
+use Rattle.std.proofs.lemmas.Str.{digit_value_digit}
+use Rattle.std.proofs.lemmas.Str.Parse.{digits_value-take-le}
+use Rattle.std.proofs.lemmas.Int.Digits.{digits_value_more}
+use Rattle.ft_text.specs.Digits.{number_within}
+
+-- a digit is between `0` and `9`
+pub digit_range : (c : ℕ) → is_ascii_digit c ≡ true → IsInRange 48 57 c
+digit_range c h = grind (arith, nat_tests)
+
+-- one more digit
+pub next_digit : (text : List ℕ) (i : ℕ) → i < length text → is_ascii_digit (get_or text i 0) ≡ true → digits_value 10 (take (i + 1) text) ≡ digits_value 10 (take i text) * 10 + (get_or text i 0 - 48)
+next_digit text i within digit =
+    let range : IsInRange 48 57 (get_or text i 0) = digit_range _ digit in
+    omega (arith, digits_value_more 10 text i within, digit_value_digit (get_or text i 0) range, range)
+
+-- a number above the limit
+pub number_within-above : (limit : ℕ) (text : List ℕ) → limit < digits_value 10 text → number_within limit text ≡ None
+unfolding number_within
+number_within-above limit text above = rw (and_right (list_all is_ascii_digit text) (nat_le (digits_value 10 text) limit) (lt-leb _ _ above)) refl
+
+-- a number that has passed the limit stays above it
+pub past_limit : (limit : ℕ) (text : List ℕ) (i : ℕ) → limit < digits_value 10 (take i text) → number_within limit text ≡ None
+past_limit limit text i above =
+    let le = digits_value-take-le 10 text i (omega arith) in
+    number_within-above limit text (omega arith)

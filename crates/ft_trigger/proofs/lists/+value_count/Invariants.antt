@@ -1,5 +1,0 @@
-use Rattle.std.proofs.Common.{length}
-use Rattle.ft_trigger.proofs.lists.+value_count.Given as goal
-
-abbrev pub decreases-value_count : goal.decreases-value_count
-decreases-value_count l = length l.words.now
