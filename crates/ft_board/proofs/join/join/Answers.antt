@@ -20,4 +20,4 @@ returns-in_default-get-clause-kept c =
 pub returns-clause-kept : goal.returns-clause-kept
 returns-clause-kept c =
     let base : Base = c.args.content.now in
-    subst (λ (o : Option Shelves). IfSome o (AreKeptOf base)) (sym c.put_back.ensures.kept) (repaired_if (AreKeptOf base) c.add_trigger.new.tables c.add_trigger.result c.add_trigger.ensures.kept)
+    subst (λ (o : Option Shelves). IfSome o (AreKeptOf base)) (sym c.put_back.ensures.kept) (repaired_if (AreKeptOf base) c.add_trigger-repaired.new.tables c.add_trigger-repaired.result c.add_trigger-repaired.ensures.kept)

@@ -20,4 +20,4 @@ returns-in_default-get-clause-kept c =
 pub returns-clause-kept : goal.returns-clause-kept
 returns-clause-kept c =
     let base : Base = c.args.content.now in
-    subst (λ (o : Option Shelves). IfSome o (AreKeptBut c.args.id base)) (sym c.put_back.ensures.kept) (repaired_if (AreKeptBut c.args.id base) c.take_trigger.new.tables c.take_trigger.result c.take_trigger.ensures.but)
+    subst (λ (o : Option Shelves). IfSome o (AreKeptBut c.args.id base)) (sym c.put_back.ensures.kept) (repaired_if (AreKeptBut c.args.id base) c.take_trigger-repaired.new.tables c.take_trigger-repaired.result c.take_trigger-repaired.ensures.but)

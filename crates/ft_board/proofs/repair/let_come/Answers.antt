@@ -15,15 +15,15 @@ use Rattle.ft_board.proofs.KeptBoardRepair.{pos_at, come_can, come_kept}
 use Rattle.ft_board.proofs.Repaired.{repaired_if, both_ok}
 use Rattle.ft_board.proofs.repair.let_come.Goals as goal
 
-pub event_comes-requires-clause-shelved : goal.event_comes-requires-clause-shelved
-event_comes-requires-clause-shelved c =
+pub event_comes-repaired-requires-clause-shelved : goal.event_comes-repaired-requires-clause-shelved
+event_comes-repaired-requires-clause-shelved c =
     let base : Base = c.args.content.now in
     let kept : AreKeptWithout c.args.content.now c.args.place c.in-Some.tables = subst (λ (o : Option Shelves). IfSome o (AreKeptWithout c.args.content.now c.args.place)) (sym c.in-Some.ensures.value) c.requires in
     subst (λ (triggers : Triggers). repairs.AreShelved triggers c.in-Some.tables) (sym c.triggers-triggers.ensures)
     (all_shelved base.triggers c.in-Some.tables c.lanes-lanes.ensures.reachable.savers kept.kept.each)
 
-pub event_comes-requires-clause-can : goal.event_comes-requires-clause-can
-event_comes-requires-clause-can c =
+pub event_comes-repaired-requires-clause-can : goal.event_comes-repaired-requires-clause-can
+event_comes-repaired-requires-clause-can c =
     let base : Base = c.args.content.now in
     let event : Traced = c.in-Some-get.event.now in
     let kept : AreKeptWithout c.args.content.now c.args.place c.in-Some.tables = subst (λ (o : Option Shelves). IfSome o (AreKeptWithout c.args.content.now c.args.place)) (sym c.in-Some.ensures.value) c.requires in
@@ -40,13 +40,12 @@ returns-clause-kept c =
     let kept : AreKeptWithout c.args.content.now c.args.place c.in-Some.tables = subst (λ (o : Option Shelves). IfSome o (AreKeptWithout c.args.content.now c.args.place)) (sym c.in-Some.ensures.value) c.requires in
     let there : event_at base.lanes c.args.place.cpu c.args.place.line ≡ Some event = ap (λ (lanes : Lanes). event_at lanes c.args.place.cpu c.args.place.line) (sym c.lanes-lanes.ensures.lanes) ∙ sym c.in-Some-get.ensures in
     let stamp : c.event.inside.stamp ≡ event.stamp = ap (λ (e : Traced). e.stamp) c.event.view_is in
-    let after : Shelves = c.event_comes.new.self in
-    let right : (held : (Triggers × Lanes) × Pos) → Type 0 = λ held. EventHasCome held.0.0 held.0.1 held.1 event c.in-Some.tables after in
+    let after : Shelves = c.event_comes-repaired.new.self in
     subst (λ (o : Option Shelves). IfSome o (AreKeptOf base)) (sym c.put_back.ensures.kept)
-    (repaired_if (AreKeptOf base) after c.event_comes.result
-    (both_ok c.event_comes.result (λ forms is. come_kept base c.args.place event there c.in-Some.tables kept after forms
-    (subst right (λ i. ((c.triggers-triggers.ensures i, c.lanes-lanes.ensures.lanes i), record { stamp = stamp i; cpu = c.args.place.cpu; line = c.args.place.line })) is))
-    c.event_comes.ensures.forms c.event_comes.ensures.right))
+    (repaired_if (AreKeptOf base) after c.event_comes-repaired.result
+    (both_ok c.event_comes-repaired.result (λ forms is. come_kept base c.args.place event there c.in-Some.tables kept after forms
+    (subst (λ (held : (Triggers × Lanes) × Pos). EventHasCome held.0.0 held.0.1 held.1 event c.in-Some.tables after) (λ i. ((c.triggers-triggers.ensures i, c.lanes-lanes.ensures.lanes i), record { stamp = stamp i; cpu = c.args.place.cpu; line = c.args.place.line })) is))
+    c.event_comes-repaired.ensures.forms c.event_comes-repaired.ensures.right))
 
 pub returns-clause-costs : goal.returns-clause-costs
 returns-clause-costs c =
@@ -55,5 +54,5 @@ returns-clause-costs c =
     let kept : AreKeptWithout c.args.content.now c.args.place c.in-Some.tables = subst (λ (o : Option Shelves). IfSome o (AreKeptWithout c.args.content.now c.args.place)) (sym c.in-Some.ensures.value) c.requires in
     let there : event_at base.lanes c.args.place.cpu c.args.place.line ≡ Some event = ap (λ (lanes : Lanes). event_at lanes c.args.place.cpu c.args.place.line) (sym c.lanes-lanes.ensures.lanes) ∙ sym c.in-Some-get.ensures in
     let stamp : c.event.inside.stamp ≡ event.stamp = ap (λ (e : Traced). e.stamp) c.event.view_is in
-    come_cost base c.args.place event there c.one_more_hit.ensures.rows c.one_more_hit.ensures.totals c.one_more_hit.ensures.members c.one_source.ensures c.in-Some.tables c.args.work.now c.event_comes.new.work
-    _ (λ i. (c.triggers-triggers.ensures i, record { stamp = stamp i; cpu = c.args.place.cpu; line = c.args.place.line })) kept c.event_comes.ensures.evals c.event_comes.ensures.puts
+    come_cost base c.args.place event there c.one_more_hit.ensures.rows c.one_more_hit.ensures.totals c.one_more_hit.ensures.members c.one_source.ensures c.in-Some.tables c.args.work.now c.event_comes-repaired.new.work
+    _ (λ i. (c.triggers-triggers.ensures i, record { stamp = stamp i; cpu = c.args.place.cpu; line = c.args.place.line })) kept c.event_comes-repaired.ensures.evals c.event_comes-repaired.ensures.puts
