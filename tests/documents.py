@@ -4,8 +4,9 @@
     documents.py > WHAT WENT WRONG
 
 docs/READING.md lists the definitions that the headline stands on: from the contracts that carry it, the imports of
-definitions are followed from file to file; each file met is in the list once, and no other is. docs/MAP.md names each
-file of sources and definitions, and none that isn't there. The last line says how many files hold.
+definitions are followed from file to file; each file met is in the list once, and no other is. None of them is in a
+folder specs/inner, where words of private functions stand. docs/MAP.md names each file of sources and definitions, and
+none that isn't there. The last line says how many files hold.
 """
 
 import glob
@@ -17,9 +18,10 @@ from collections import Counter
 ROOT = os.path.join(os.path.dirname(os.path.realpath(__file__)), "..")
 CRATES = os.path.join(ROOT, "crates")
 CARRIERS = ["ft_desk/src/in_memory.rt", "ft_desk/src/running.rt", "ft_replay/src/board.rt"]
-IMPORT = re.compile(r"^ *(?:ghost )?(?:pub )?use Rattle\.(\w+)\.specs\.(\w+)\b", re.MULTILINE)
+IMPORT = re.compile(r"^ *(?:ghost )?(?:pub )?use Rattle\.(\w+)\.specs\.((?:inner\.)?\w+)\b", re.MULTILINE)
+FILE = r"(?:src|specs(?:/inner)?)/\w+\.(?:rt|antt)"
 # The tests' own crates, and files that stand in each crate.
-UNNAMED = re.compile(r"ft_\w+_tests/|checkrows/|.*/(lib|main)\.rt$|.*/Lib\.antt$")
+UNNAMED = re.compile(r"ft_\w+_tests/|checkrows/|.*/(lib|main)\.rt$|.*/(Lib|inner)\.antt$")
 
 
 def text_of(path):
@@ -30,10 +32,22 @@ def text_of(path):
 # ---- the reading list
 
 
+def home(crate, module):
+    """The file of definitions that a crate knows by this name, its own or one that it passes on; None where it is none:
+    what the prover makes of Rust's own types has no file, and what the kit has is not listed."""
+    file, lib = f"{crate}/specs/{module.replace('.', '/')}.antt", f"{crate}/specs/Lib.antt"
+    if os.path.exists(os.path.join(CRATES, file)):
+        return file
+    if not os.path.exists(os.path.join(CRATES, lib)):
+        return None
+    passed_on = (other for other, name in IMPORT.findall(text_of(f"crates/{lib}")) if name == module)
+    return next((home(other, module) for other in passed_on), None)
+
+
 def imported(path):
-    """The files of definitions that a file imports. What the prover makes of Rust's own types has none."""
-    named = (f"{crate}/specs/{module}.antt" for crate, module in IMPORT.findall(text_of(f"crates/{path}")))
-    return [file for file in named if os.path.exists(os.path.join(CRATES, file))]
+    """The files of definitions that a file imports."""
+    homes = (home(crate, module) for crate, module in IMPORT.findall(text_of(f"crates/{path}")))
+    return [file for file in homes if file]
 
 
 def reached():
@@ -48,10 +62,11 @@ def reached():
 
 def reading_list():
     wanted = reached()
-    listed = Counter(re.findall(r"`(\w+/specs/\w+\.antt)`", text_of("docs/READING.md")))
+    listed = Counter(re.findall(r"`(\w+/specs/[\w/]+\.antt)`", text_of("docs/READING.md")))
     wrong = [f"READING.md lacks {file}" for file in sorted(wanted - set(listed))]
     wrong += [f"READING.md needs no {file}" for file in sorted(set(listed) - wanted)]
     wrong += [f"READING.md lists {file} {count} times" for file, count in sorted(listed.items()) if count > 1]
+    wrong += [f"{file} is among the words of private functions" for file in sorted(wanted) if "/inner/" in file]
     return wanted, wrong
 
 
@@ -72,15 +87,16 @@ def named_in_map():
             crate = line.lstrip("# ")
             crate = crate if os.path.isdir(os.path.join(CRATES, crate)) else ""
         for path in (path for name in re.findall(r"`([^`]+)`", line) for path in spelled(name)):
-            if crate and re.fullmatch(r"(src|specs)/\w+\.(rt|antt)", path):
+            if crate and re.fullmatch(FILE, path):
                 files.add(f"{crate}/{path}")
-            elif re.fullmatch(r"\w+/(src|specs)/\w+\.(rt|antt)", path):
+            elif re.fullmatch(rf"\w+/{FILE}", path):
                 files.add(path)
     return {file for file in files if not UNNAMED.match(file)}
 
 
 def in_map():
-    paths = [path for form in ("*/src/*.rt", "*/specs/*.antt") for path in glob.glob(os.path.join(CRATES, form))]
+    forms = ["*/src/*.rt", "*/specs/*.antt", "*/specs/inner/*.antt"]
+    paths = [path for form in forms for path in glob.glob(os.path.join(CRATES, form))]
     there = {file for file in (os.path.relpath(path, CRATES) for path in paths) if not UNNAMED.match(file)}
     named = named_in_map()
     wrong = [f"MAP.md lacks {file}" for file in sorted(there - named)]
