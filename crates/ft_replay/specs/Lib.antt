@@ -9,7 +9,6 @@ pub mod Found
 pub mod Operations
 pub mod Elsewhere
 pub mod Answers
-pub mod OnCounters
 pub mod Edited
 pub mod Costs
 pub mod inner
