@@ -7,16 +7,14 @@
 set -euo pipefail
 
 here=$(dirname -- "$(realpath -- "${BASH_SOURCE[0]}")")
+. "$here/crates.sh"
 ops=${1:-1000000}
 times=5
 
 folder=$(mktemp -d)
 trap 'rm -rf -- "$folder"' EXIT
 mkdir -p "$folder/crates/pairs/src" "$folder/crates/pairs/proofs/walk"
-for crate in ft_event ft_filter ft_hist ft_maps ft_pairs; do
-    cp -r -- "$here/../crates/$crate" "$folder/crates"
-    grep "^$crate:" "$here/../crates.txt" >>"$folder/crates.txt"
-done
+copy_crates "$folder" ft_event ft_hist ft_pairs
 echo 'pairs: ft_event ft_hist ft_pairs anyhow' >>"$folder/crates.txt"
 
 cat >"$folder/crates/pairs/src/main.rt" <<'RATTLE'

@@ -7,16 +7,14 @@
 set -euo pipefail
 
 here=$(dirname -- "$(realpath -- "${BASH_SOURCE[0]}")")
+. "$here/crates.sh"
 hits=${1:-1000000}
 times=5
 
 folder=$(mktemp -d)
 trap 'rm -rf -- "$folder"' EXIT
 mkdir -p "$folder/crates/tables/src"
-for crate in ft_event ft_filter ft_hist ft_maps ft_table; do
-    cp -r -- "$here/../crates/$crate" "$folder/crates"
-    grep "^$crate:" "$here/../crates.txt" >>"$folder/crates.txt"
-done
+copy_crates "$folder" ft_event ft_hist ft_table
 echo 'tables: ft_event ft_hist ft_table anyhow' >>"$folder/crates.txt"
 
 cat >"$folder/crates/tables/src/main.rt" <<'RATTLE'

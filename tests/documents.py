@@ -6,7 +6,8 @@
 docs/READING.md lists the definitions that the headline stands on: from the contracts that carry it, the imports of
 definitions are followed from file to file; each file met is in the list once, and no other is. None of them is in a
 folder specs/inner, where words of private functions stand. docs/MAP.md names each file of sources and definitions, and
-none that isn't there. The last line says how many files hold.
+none that isn't there, and says of each crate what it stands on, as crates.txt does. The last line says how many files
+and crates hold.
 """
 
 import glob
@@ -103,11 +104,23 @@ def in_map():
     return there, wrong + [f"MAP.md names {file}, which is not there" for file in sorted(named - there)]
 
 
+def stands_on():
+    """What crates.txt says of each crate, and where the map's table of crates says otherwise."""
+    lines = (line.partition(":") for line in text_of("crates.txt").split("\n") if ":" in line and line[0] != "#")
+    crates = {name: set(others.split()) for name, _, others in lines}
+    rows = re.findall(r"^\| `(\w+)` \|[^|]*\|([^|]*)\|[^|]*\|$", text_of("docs/MAP.md"), re.MULTILINE)
+    # A cell of names alone; that of the tests says it in words.
+    told = {name: set(re.findall(r"\w+", cell)) for name, cell in rows if not re.sub(r"`\w+`|[, ]", "", cell)}
+    wrong = [f"MAP.md: {name} stands on {' '.join(sorted(crates.get(name, [])))}" for name in told if told[name] != crates.get(name)]
+    missing = [name for name in sorted(crates) if name not in [row for row, _ in rows]]
+    return crates, wrong + [f"MAP.md has no row for {name}" for name in missing]
+
+
 def main():
-    (wanted, wrong), (there, unmapped) = reading_list(), in_map()
-    count = len(wanted) + len(there)
-    print("\n".join([*wrong, *unmapped, f"{count - len(wrong) - len(unmapped)} of {count} files hold"]))
-    return 1 if wrong or unmapped or not wanted else 0
+    told = [reading_list(), in_map(), stands_on()]
+    count, wrong = sum(len(things) for things, _ in told), [line for _, lines in told for line in lines]
+    print("\n".join([*wrong, f"{count - len(wrong)} of {count} things hold"]))
+    return 1 if wrong or not all(things for things, _ in told) else 0
 
 
 sys.exit(main())

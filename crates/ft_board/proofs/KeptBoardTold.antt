@@ -6,7 +6,7 @@ use Rattle.std.specs.FinMap as map
 use Rattle.ft_hist.specs.Hist.{Hist}
 use Rattle.ft_hist.specs.Steps.{Steps}
 use Rattle.ft_kept.specs.Shelves.{Shelves}
-use Rattle.ft_table.specs.declared.row.Totals.{Totals}
+use Rattle.ft_rows.specs.declared.row.Totals.{Totals}
 use Rattle.ft_replay.specs.declared.pair.Latency.{Latency}
 use Rattle.ft_base.specs.declared.refused.Refused.{Refused}
 use Rattle.ft_base.specs.declared.refused.Refused.TheVariants.{Memory, NoTrigger, NotReading}

@@ -15,11 +15,11 @@ ghost use Rattle.ft_board.specs.inner.Told.{Tells};
 
 use crate::laws;
 use crate::rebuild::restore;
+use ft_base::Content;
 use ft_event::Pos;
 use ft_hist::Work;
 use ft_kept::{Shelf, Tables};
 use ft_maps::{entries, len};
-use ft_base::Content;
 use ft_replay::{Latency, Pair, latency_of};
 use std::alloc::{AllocError, Global};
 use std::collections::BTreeMap;

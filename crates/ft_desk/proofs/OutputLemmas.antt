@@ -1,11 +1,11 @@
 -- Laws of what lines of a script print.
-use Rattle.std.proofs.Common.{◌≡◌, ℕ, ◌<◌, List, [], ◌∷◌, ◌++◌, length, take, refl, sym, ap, ◌∙◌, ⊎_elim, append_assoc, append-nil, arith}
+use Rattle.std.proofs.Common.{◌≡◌, ℕ, ◌+◌, ◌<◌, List, [], ◌∷◌, ◌++◌, length, take, refl, sym, ap, ◌∙◌, ⊎_elim, append_assoc, append-nil, arith}
 use Rattle.std.specs.Prelude.{◌||◌}
 use Rattle.std.proofs.Math.Bool.{or_assoc, or-false}
 use Rattle.std.proofs.lemmas.Bool.{cases_lt, lt-ltb}
 use Rattle.std.proofs.lemmas.List.{take_all, length-take-le}
 use Rattle.ft_replay.specs.Base.{Base}
-use Rattle.ft_script.specs.Script.{asked_by}
+use Rattle.ft_script.specs.Script.{line_limit, asked_by}
 use Rattle.ft_script.specs.Script.Asked.{NoForm}
 use Rattle.ft_desk.specs.Output.{Outcome, outcome, output_from}
 
@@ -48,16 +48,16 @@ unfolding output_from
 output_from-line files base lines line more = (output_from-append files base lines (line ∷ more)).0
 
 -- a line over the limit has no form
-asked_by-long : (line : List ℕ) → 8192 < length line → asked_by line ≡ NoForm
+asked_by-long : (line : List ℕ) → line_limit < length line → asked_by line ≡ NoForm
 unfolding asked_by
-asked_by-long line more = rw (lt-ltb 8192 (length line) more) refl
+asked_by-long line more = rw (lt-ltb line_limit (length line) more) refl
 
--- the first 8,193 bytes of a line ask for what the line asks for
-pub asked_by-kept : (line : List ℕ) → asked_by (take 8193 line) ≡ asked_by line
+-- the kept beginning of a line ask for what the line asks for
+pub asked_by-kept : (line : List ℕ) → asked_by (take (line_limit + 1) line) ≡ asked_by line
 asked_by-kept line =
     ⊎_elim
     (λ more.
-    let kept = length-take-le 8193 line (omega arith) in
-    asked_by-long (take 8193 line) (omega arith) ∙ sym (asked_by-long line (omega arith)))
-    (λ all. ap asked_by (take_all 8193 line all))
-    (cases_lt 8193 (length line))
+    let kept = length-take-le (line_limit + 1) line (omega arith) in
+    asked_by-long (take (line_limit + 1) line) (omega arith) ∙ sym (asked_by-long line (omega arith)))
+    (λ all. ap asked_by (take_all (line_limit + 1) line all))
+    (cases_lt (line_limit + 1) (length line))

@@ -1,5 +1,5 @@
 -- What a run has done while it reads a script, and how each ending follows.
-use Rattle.std.proofs.Common.{◌≡◌, ◌≢◌, ℕ, ◌≤◌, Bool, false, List, [], ◌∷◌, ◌++◌, All, Option, None, Some, IfSome, Result, Ok, length, take, refl, sym, ap, subst, ◌∙◌, ⊎_elim, append-nil, arith}
+use Rattle.std.proofs.Common.{◌≡◌, ◌≢◌, ℕ, ◌+◌, ◌≤◌, Bool, false, List, [], ◌∷◌, ◌++◌, All, Option, None, Some, IfSome, Result, Ok, length, take, refl, sym, ap, subst, ◌∙◌, ⊎_elim, append-nil, arith}
 use Rattle.std.specs.Prelude.{◌||◌}
 use Rattle.std.specs.Io.KnownBytes.{Keeps, Appends, Consumes, IsAtEnd}
 use Rattle.std.proofs.KnownBytes.{Consumes-nil, Consumes-trans, Appends-nil, Appends-trans}
@@ -9,7 +9,7 @@ use Rattle.ft_replay.specs.Base.{Base, empty_base}
 use Rattle.ft_desk.specs.declared.pieces.Taken.TheVariants as takes
 use Rattle.ft_desk.specs.declared.running.RunFault.{RunFault}
 use Rattle.ft_script.specs.Lines.{lines_of, ended_lines}
-use Rattle.ft_script.specs.Script.{asked_by}
+use Rattle.ft_script.specs.Script.{line_limit, asked_by}
 use Rattle.ft_desk.specs.Output.{outcome, output_from, output_of_lines}
 use Rattle.ft_desk.specs.Run.{ReadsWhole, ReadsFront, ReadsLines}
 use Rattle.ft_desk.specs.Steps.{AddsPart, TakingGives, LineGives}
@@ -26,13 +26,13 @@ take-take-append n xs ys =
     (cases_lt n (length xs))
 
 -- a kept piece isn't empty where the line isn't
-pub kept-some : (line piece : List ℕ) → piece ≡ take 8193 line → piece ≢ [] → line ≢ []
-kept-some line piece kept some = λ none. some (kept ∙ ap (take 8193) none ∙ take_all 8193 [] (omega arith))
+pub kept-some : (line piece : List ℕ) → piece ≡ take (line_limit + 1) line → piece ≢ [] → line ≢ []
+kept-some line piece kept some = λ none. some (kept ∙ ap (take (line_limit + 1)) none ∙ take_all (line_limit + 1) [] (omega arith))
 
 -- and is empty where it is
-pub kept-none : (line piece : List ℕ) → piece ≡ take 8193 line → piece ≡ [] → line ≡ []
+pub kept-none : (line piece : List ℕ) → piece ≡ take (line_limit + 1) line → piece ≡ [] → line ≡ []
 kept-none [] piece kept none = refl
-kept-none (byte ∷ bytes) piece kept none = absurd (omega (arith, ap length (sym kept ∙ none), length-take 8193 (byte ∷ bytes)))
+kept-none (byte ∷ bytes) piece kept none = absurd (omega (arith, ap length (sym kept ∙ none), length-take (line_limit + 1) (byte ∷ bytes)))
 
 -- a script of which nothing is left was read to its end
 pub all_read : (reader left rest : Option (List ℕ)) (read : List ℕ) → Consumes reader left read → Keeps left rest → IsAtEnd left → ReadsWhole reader rest read
@@ -72,7 +72,7 @@ pub record Next (reader rest : Option (List ℕ)) (read piece : List ℕ) : Type
 pub record Progress (files : List (List ℕ)) (reader left before after : Option (List ℕ)) (base : Base) (refused : Bool) (piece : List ℕ) : Type 0 where
   pub read : List ℕ
   pub consumed : Consumes reader left read
-  pub kept : piece ≡ take 8193 (last_piece read)
+  pub kept : piece ≡ take (line_limit + 1) (last_piece read)
   pub written : Appends before after (output_of_lines files (ended_lines read)).text
   pub held : base ≡ (output_of_lines files (ended_lines read)).base
   pub told : refused ≡ (output_of_lines files (ended_lines read)).refused
@@ -84,15 +84,15 @@ module _ (files : List (List ℕ)) where
   begins reader before base empty = record {
     read = [];
     consumed = Consumes-nil reader;
-    kept = sym (take_all 8193 [] (omega arith));
+    kept = sym (take_all (line_limit + 1) [] (omega arith));
     written = Appends-nil before;
     held = empty;
     told = refl;
   }
 
   -- the piece stays short
-  pub piece_within : {reader left before after : Option (List ℕ)} {base : Base} {refused : Bool} {piece : List ℕ} → Progress files reader left before after base refused piece → length piece ≤ 8193
-  piece_within p = omega (arith, ap length p.kept, length-take 8193 (last_piece p.read))
+  pub piece_within : {reader left before after : Option (List ℕ)} {base : Base} {refused : Bool} {piece : List ℕ} → Progress files reader left before after base refused piece → length piece ≤ line_limit + 1
+  piece_within p = omega (arith, ap length p.kept, length-take (line_limit + 1) (last_piece p.read))
 
   module _ (reader left rest before after : Option (List ℕ)) (base : Base) (refused : Bool) (piece next : List ℕ) (p : Progress files reader left before after base refused piece) where
     -- a part of a line was read
@@ -103,15 +103,15 @@ module _ (files : List (List ℕ)) where
         record {
           read = p.read ++ part;
           consumed = Consumes-trans _ _ _ _ _ p.consumed took.1;
-          kept = took.2.1 ∙ ap (λ l. take 8193 (l ++ part)) p.kept ∙ take-take-append 8193 (last_piece p.read) part ∙ ap (take 8193) (sym same.1);
+          kept = took.2.1 ∙ ap (λ l. take (line_limit + 1) (l ++ part)) p.kept ∙ take-take-append (line_limit + 1) (last_piece p.read) part ∙ ap (take (line_limit + 1)) (sym same.1);
           written = rw same.0 p.written;
           held = rw same.0 p.held;
           told = rw same.0 p.told;
         }
 
     -- the piece of a line that ends is the beginning of the line
-    pub line_kept : (part : List ℕ) → AddsPart piece next part → next ≡ take 8193 (last_piece p.read ++ part)
-    line_kept part adds = adds.1 ∙ ap (λ l. take 8193 (l ++ part)) p.kept ∙ take-take-append 8193 (last_piece p.read) part
+    pub line_kept : (part : List ℕ) → AddsPart piece next part → next ≡ take (line_limit + 1) (last_piece p.read ++ part)
+    line_kept part adds = adds.1 ∙ ap (λ l. take (line_limit + 1) (l ++ part)) p.kept ∙ take-take-append (line_limit + 1) (last_piece p.read) part
 
     -- a line was read to its end and done
     pub reads_line : TakingGives (Ok takes.Line) left rest piece next → (later : Option (List ℕ)) (held : Base) (told : Bool)
@@ -128,7 +128,7 @@ module _ (files : List (List ℕ)) where
         record {
           read = p.read ++ (part ++ 10 ∷ []);
           consumed = Consumes-trans _ _ _ _ _ p.consumed took.1;
-          kept = sym (ap (take 8193) ended.1 ∙ take_all 8193 [] (omega arith));
+          kept = sym (ap (take (line_limit + 1)) ended.1 ∙ take_all (line_limit + 1) [] (omega arith));
           written = rw (ended.0, pushed.0) (Appends-trans _ _ _ _ _ p.written (subst (λ o. Appends after later o.text) same gives.2));
           held = gives.1 ∙ ap (λ o. o.base) same ∙ sym pushed.1 ∙ ap (λ l. (output_of_lines files l).base) (sym ended.0);
           told = ap (λ t. refused || t) gives.0 ∙ ap (λ o. refused || o.refused) same ∙ ap (λ r. r || does.refused) p.told ∙ sym pushed.2 ∙ ap (λ l. (output_of_lines files l).refused) (sym ended.0);

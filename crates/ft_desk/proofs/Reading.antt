@@ -5,7 +5,7 @@ use Rattle.ft_event.specs.Line.{line_of}
 use Rattle.ft_base.specs.declared.refused.Refused.{Refused}
 use Rattle.ft_script.specs.Lines.{lines_of}
 use Rattle.ft_desk.specs.Edits.{events_of, events_from, line_in_front}
-use Rattle.ft_desk.specs.Reading.{in_front}
+use Rattle.ft_desk.specs.inner.Reading.{in_front}
 
 -- one line more was read
 pub read_more : (text rest line behind : List ℕ) (number : ℕ) (held more : List Traced) → in_front held (events_from number (lines_of rest)) ≡ events_of text → lines_of rest ≡ line ∷ lines_of behind → in_front held (line_in_front number (line_of line) (events_from (number + 1) (lines_of behind))) ≡ in_front more (events_from (number + 1) (lines_of behind)) → in_front more (events_from (number + 1) (lines_of behind)) ≡ events_of text

@@ -1,7 +1,7 @@
 -- What totals and latencies print. All of it is our own choice.
 use Rattle.std.specs.Prelude.{ℕ, List, ◌++◌, length, codes, decimal}
 use Rattle.std.specs.List.{flat_map}
-use Rattle.ft_table.specs.declared.row.Totals.{Totals}
+use Rattle.ft_rows.specs.declared.row.Totals.{Totals}
 use Rattle.ft_base.specs.declared.refused.Place.{Place}
 use Rattle.ft_replay.specs.declared.pair.Latency.{Latency}
 

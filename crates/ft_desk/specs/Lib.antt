@@ -1,12 +1,11 @@
-pub mod Reading
 pub mod Answered
 pub mod Edits
 pub mod Refusals
 pub mod Output
-pub mod Printed
 pub mod Run
 pub mod Steps
 pub mod Program
+pub mod inner
 pub use Rattle.ft_event.specs.Traced
 pub use Rattle.ft_event.specs.Line
 pub use Rattle.ft_event.specs.LineFault

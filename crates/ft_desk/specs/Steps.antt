@@ -17,7 +17,7 @@ CutsAt takes.Part shown place = place ≡ length shown
 CutsAt takes.Line shown place = (place < length shown) × (slice_index shown place ≡ 10)
 CutsAt takes.End shown place = ⊥
 
--- the part behind the piece, of which the first 8,193 bytes are kept
+-- the part behind the piece, of which as many bytes are kept as a command may have, and one more
 abbrev pub AddsPart : List ℕ → List ℕ → List ℕ → Type 0
 AddsPart before after part = All (λ byte. byte ≢ 10) part × (after ≡ take (line_limit + 1) (before ++ part))
 

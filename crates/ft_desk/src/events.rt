@@ -6,7 +6,7 @@ ghost use Rattle.ft_event.specs.Line.{line_of};
 ghost use Rattle.ft_event.specs.Traced.{Traced};
 ghost use Rattle.ft_replay.specs.Edited.{AnswerIs};
 ghost use Rattle.ft_desk.specs.Edits.{events_of, line_in_front, event_or_refused};
-ghost use Rattle.ft_desk.specs.Reading.{in_front};
+ghost use Rattle.ft_desk.specs.inner.Reading.{in_front};
 
 use ft_event::{Event, Line, read_cut_line, read_line};
 use ft_replay::Refused;

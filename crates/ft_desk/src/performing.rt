@@ -1,18 +1,16 @@
 //! One line of a script.
 
-ghost use Rattle.std.specs.Prelude.{◌≡◌, ◌≢◌, ◌++◌, Err, true, codes, map, is_err, IfOk, OnOk, Some, None, MatchOption};
+ghost use Rattle.std.specs.Prelude.{◌≡◌, ◌≢◌, ◌++◌, true, codes, map, IfOk, OnOk, Some, None, MatchOption};
 ghost use Rattle.ft_replay.specs.Edited.{EditGives};
 ghost use Rattle.ft_script.specs.Script.{asked_by};
-ghost use Rattle.ft_desk.specs.Answered.{totals_line, latency_lines};
 ghost use Rattle.ft_desk.specs.Output.{outcome, file_at, after_load_file};
 ghost use Rattle.ft_desk.specs.Refusals.{refused_text};
-ghost use Rattle.ft_desk.specs.Printed.{printed};
+ghost use Rattle.ft_desk.specs.inner.Printed.{Prints};
 
 use crate::desk::Desk;
-use crate::text::{EditValue, done_line, latency_lines, refused_line, totals_line};
-use ft_replay::{Board, Done, Latency, Refused};
+use crate::text::{Answer, EditValue, done_line, refused_line};
+use ft_replay::{Board, Done, Refused};
 use ft_script::{Command, read_command};
-use ft_table::Totals;
 use std::alloc::{AllocError, Global};
 
 /// What a line of a script prints, and whether it was refused.
@@ -55,8 +53,8 @@ pub fn perform<B: Board>(
         Command::Refilter(id, text) => edited(alloc, b"refiltered ", desk.refilter(id, text)),
         Command::Remove(id) => edited(alloc, b"removed ", desk.remove(id)),
         Command::Hist(id) => answered(alloc, desk.hist(id)),
-        Command::Totals(id) => totalled(alloc, desk.totals(id)),
-        Command::Latencies(id) => measured(alloc, desk.latencies(id)),
+        Command::Totals(id) => answered(alloc, desk.totals(id)),
+        Command::Latencies(id) => answered(alloc, desk.latencies(id)),
         Command::Lane(cpu) => answered(alloc, desk.list(cpu)),
         Command::NoForm => refused(alloc, Refused::BadCommand),
     }
@@ -88,66 +86,30 @@ fn nth_file(files: &[Vec<u8>], number: u32) -> Option<&[u8]>
     files.get(index as usize).map(|file| file.as_slice())
 }
 
-/// What an edit prints: a text and its value, or its refusal.
+/// What an edit prints: its word and its value, or its refusal.
 fn edited<V: EditValue>(
     alloc: Global,
-    text: &[u8],
+    word: &[u8],
     edit: Result<Done<V>, Refused>,
 ) -> Result<Performed, AllocError>
-    ensures text { IfOk result (λ done.
-        done.text.items ≡ printed (λ edit. text.now ++ V.shown edit.value ++ codes "\n") edit) }
-    ensures refused { IfOk result (λ done. done.refused ≡ is_err edit) }
-    ensures memory { OnOk result (edit ≢ Err Refused.Memory) }
+    ensures { Prints (λ done. word.now ++ V.shown done.value ++ codes "\n") edit result }
 {
     match edit {
         Ok(done) => Ok(Performed {
-            text: done_line(alloc, text, done.value)?,
+            text: done_line(alloc, word, done.value)?,
             refused: false,
         }),
         Err(reason) => refused(alloc, reason),
     }
 }
 
-/// What an answer prints: its text, or its refusal.
-fn answered(alloc: Global, answer: Result<Vec<u8>, Refused>) -> Result<Performed, AllocError>
-    ensures text { IfOk result (λ done. done.text.items ≡ printed (λ text. text.items) answer) }
-    ensures refused { IfOk result (λ done. done.refused ≡ is_err answer) }
-    ensures memory { OnOk result (answer ≢ Err Refused.Memory) }
+/// What an answer prints: its lines, or its refusal.
+fn answered<A: Answer>(alloc: Global, answer: Result<A, Refused>) -> Result<Performed, AllocError>
+    ensures { Prints A.lines answer result }
 {
     match answer {
-        Ok(text) => Ok(Performed {
-            text,
-            refused: false,
-        }),
-        Err(reason) => refused(alloc, reason),
-    }
-}
-
-/// What totals print: their line, or their refusal.
-fn totalled(alloc: Global, answer: Result<Totals, Refused>) -> Result<Performed, AllocError>
-    ensures text { IfOk result (λ done. done.text.items ≡ printed totals_line answer) }
-    ensures refused { IfOk result (λ done. done.refused ≡ is_err answer) }
-    ensures memory { OnOk result (answer ≢ Err Refused.Memory) }
-{
-    match answer {
-        Ok(totals) => Ok(Performed {
-            text: totals_line(alloc, totals)?,
-            refused: false,
-        }),
-        Err(reason) => refused(alloc, reason),
-    }
-}
-
-/// What latencies print: their lines, or their refusal.
-fn measured(alloc: Global, answer: Result<Vec<Latency>, Refused>) -> Result<Performed, AllocError>
-    ensures text { IfOk result (λ done.
-        done.text.items ≡ printed (λ latencies. latency_lines latencies.items) answer) }
-    ensures refused { IfOk result (λ done. done.refused ≡ is_err answer) }
-    ensures memory { OnOk result (answer ≢ Err Refused.Memory) }
-{
-    match answer {
-        Ok(latencies) => Ok(Performed {
-            text: latency_lines(alloc, &latencies)?,
+        Ok(answer) => Ok(Performed {
+            text: answer.into_lines(alloc)?,
             refused: false,
         }),
         Err(reason) => refused(alloc, reason),

@@ -5,13 +5,14 @@ ghost use Rattle.ft_script.specs.Script.{line_limit};
 ghost use Rattle.ft_desk.specs.Steps.{CutsAt, TakingGives};
 
 use crate::running::RunFault;
+use ft_script::LINE_LIMIT;
 use memchr::memchr;
 use std::alloc::AllocError;
 use std::io::BufRead;
 
-/// The most bytes that are kept of a line: one more than a command has, so that a longer line is
-/// seen to be one.
-const KEPT: usize = 8193;
+/// The most bytes that are kept of a line: one more than a command may have, so that a longer line
+/// is seen to be one.
+const KEPT: usize = LINE_LIMIT + 1;
 
 /// What was taken of a script, as its reader was asked once.
 #[derive(Clone, Copy, Debug, PartialEq, Eq)]

@@ -17,8 +17,9 @@ use std::alloc::{AllocError, Global};
 use std::io::{BufRead, Write};
 use thiserror::Error;
 
-/// How often a script's reader is asked at most, so that a script without an end is given up.
-const ASKING_LIMIT: u32 = 1_073_741_824;
+/// How often a script's reader is asked at most, so that a script without an end is given up: one of
+/// 1 GiB that comes byte by byte is still read.
+pub const ASKING_LIMIT: u32 = 1_073_741_824;
 
 /// Whether each command of a script was accepted.
 #[derive(Clone, Copy, Debug, PartialEq, Eq)]
@@ -50,9 +51,9 @@ pub enum RunFault {
 /// print, each command's text when the command is done. The Nth file is what `load @N` loads. A
 /// script that is in memory is run by `run_text`.
 ///
-/// Fails for memory, where the reader fails or shows no end though it was asked 1,073,741,824
-/// times, and where the writer or the flush at the end fails; an interrupted read or write is a
-/// failure. The writer is flushed once, but not after a failed write.
+/// Fails for memory, where the reader fails or shows no end though it was asked `ASKING_LIMIT` times,
+/// and where the writer or the flush at the end fails; an interrupted read or write is a failure. The
+/// writer is flushed once, but not after a failed write.
 pub fn run<B: Board, R: BufRead, W: Write>(
     alloc: Global,
     board: B,

@@ -6,8 +6,8 @@ ghost use Rattle.ft_desk.specs.Refusals.{detail, fault_detail, place_text, refus
 
 use ft_replay::{Latency, Place, Refused};
 use ft_table::Totals;
+use ft_text::write_decimal;
 use ft_trigger::TriggerFault;
-use itoa::Buffer;
 use std::alloc::{AllocError, Global};
 
 /// What an edit gives, as the edit's line shows it.
@@ -26,7 +26,7 @@ impl EditValue for u64 {
     ghost shown = { decimal };
 
     fn add_to(self, line: &mut Vec<u8>) -> Result<(), AllocError> {
-        add(line, b"", self)
+        write_decimal(self, line)
     }
 }
 
@@ -34,7 +34,7 @@ impl EditValue for u32 {
     ghost shown = { decimal };
 
     fn add_to(self, line: &mut Vec<u8>) -> Result<(), AllocError> {
-        add(line, b"", u64::from(self))
+        write_decimal(u64::from(self), line)
     }
 }
 
@@ -46,15 +46,51 @@ impl EditValue for Place {
     }
 }
 
-/// The line of an accepted edit: a text, and the edit's value.
+/// What an answer gives, as its lines show it.
+pub(crate) trait Answer {
+    ghost use Rattle.std.specs.Prelude.{◌≡◌, ℕ, List, IfOk};
+
+    /// Its lines.
+    ghost lines: { Self → List ℕ };
+
+    /// The text of its lines.
+    fn into_lines(self, alloc: Global) -> Result<Vec<u8>, AllocError>
+        ensures { IfOk result (λ text. text.items ≡ lines self) };
+}
+
+impl Answer for Vec<u8> {
+    ghost lines = { λ text. text.items };
+
+    fn into_lines(self, _alloc: Global) -> Result<Vec<u8>, AllocError> {
+        Ok(self)
+    }
+}
+
+impl Answer for Totals {
+    ghost lines = { totals_line };
+
+    fn into_lines(self, alloc: Global) -> Result<Vec<u8>, AllocError> {
+        totals_line(alloc, self)
+    }
+}
+
+impl Answer for Vec<Latency> {
+    ghost lines = { λ latencies. latency_lines latencies.items };
+
+    fn into_lines(self, alloc: Global) -> Result<Vec<u8>, AllocError> {
+        latency_lines(alloc, &self)
+    }
+}
+
+/// The line of an accepted edit: its word, and its value.
 pub(crate) fn done_line<V: EditValue>(
     alloc: Global,
-    text: &[u8],
+    word: &[u8],
     value: V,
 ) -> Result<Vec<u8>, AllocError>
-    ensures { IfOk result (λ line. line.items ≡ text.now ++ V.shown value ++ codes "\n") }
+    ensures { IfOk result (λ line. line.items ≡ word.now ++ V.shown value ++ codes "\n") }
 {
-    let mut line = Vec::from_slice(alloc, text)?;
+    let mut line = Vec::from_slice(alloc, word)?;
     value.add_to(&mut line)?;
     line.extend_from_slice(b"\n")?;
     Ok(line)
@@ -130,7 +166,7 @@ fn add_place(line: &mut Vec<u8>, place: Option<usize>) -> Result<(), AllocError>
 
 /// The line of a trigger's totals.
 #[tactic(auto, unfolding(crate::specs::Answered::totals_line))]
-pub(crate) fn totals_line(alloc: Global, totals: Totals) -> Result<Vec<u8>, AllocError>
+fn totals_line(alloc: Global, totals: Totals) -> Result<Vec<u8>, AllocError>
     ensures { IfOk result (λ line. line.items ≡ totals_line totals) }
 {
     let mut line = Vec::new(alloc);
@@ -142,7 +178,7 @@ pub(crate) fn totals_line(alloc: Global, totals: Totals) -> Result<Vec<u8>, Allo
 }
 
 /// The lines of a trigger's latencies, and a last line with their count.
-pub(crate) fn latency_lines(alloc: Global, latencies: &[Latency]) -> Result<Vec<u8>, AllocError>
+fn latency_lines(alloc: Global, latencies: &[Latency]) -> Result<Vec<u8>, AllocError>
     ensures { IfOk result (λ lines. lines.items ≡ latency_lines latencies.now) }
 {
     let mut lines = Vec::new(alloc);
@@ -170,7 +206,7 @@ fn add_latency(lines: &mut Vec<u8>, latency: Latency) -> Result<(), AllocError>
 fn add_numbered(text: &mut Vec<u8>, place: Place) -> Result<(), AllocError>
     ensures { OnOk result (text.new.items ≡ text.old.items ++ numbered place) }
 {
-    add(text, b"", u64::from(place.cpu))?;
+    write_decimal(u64::from(place.cpu), text)?;
     add(text, b":", u64::from(place.line))
 }
 
@@ -178,7 +214,6 @@ fn add_numbered(text: &mut Vec<u8>, place: Place) -> Result<(), AllocError>
 fn add(line: &mut Vec<u8>, text: &[u8], number: u64) -> Result<(), AllocError>
     ensures { OnOk result (line.new.items ≡ line.old.items ++ (text.now ++ decimal number)) }
 {
-    let mut digits = Buffer::new();
     line.extend_from_slice(text)?;
-    line.extend_from_slice(digits.format(number).as_bytes())
+    write_decimal(number, line)
 }

@@ -1,6 +1,7 @@
 -- A canonical text is read as the tree that it was written for.
 use Rattle.std.proofs.Common.{◌≡◌, ◌≤◌, ℕ, zero, suc, true, List, [], ◌∷◌, ◌++◌, Some, None, Ok, refl, sym, ap, ◌∙◌, subst, arith, append_assoc, append-nil, slice_index, codes, length}
 use Rattle.ft_event.specs.declared.event.Name.{Name}
+use Rattle.ft_tokens.specs.Tokens.{skip}
 use Rattle.ft_filter.specs.declared.tree.Joint.{Joint}
 use Rattle.ft_filter.specs.declared.tree.Joint.TheVariants as joints
 use Rattle.ft_filter.specs.declared.tree.Pred.{Pred}
@@ -8,7 +9,6 @@ use Rattle.ft_filter.specs.Canonical.{pred_text, joint_text, enclosed_if, is_joi
 use Rattle.ft_filter.specs.FilterIs.{Rule, Joined, Operand, below, behind_joint, both, made, most_open, Reads, first, negated, enclosed, compared, Goes, ended, another, FilterIs}
 use Rattle.ft_filter.specs.Predicate.{Found, pred_at}
 use Rattle.ft_filter.specs.Shape.{HasTwo, level_if, levels, most_levels}
-use Rattle.ft_filter.specs.Tokens.{skip}
 use Rattle.ft_filter.specs.Tree.{Tree, Trees, Any, All, Not, Test, End, More}
 use Rattle.ft_filter.proofs.Spelled.{Apart, skip_gap}
 use Rattle.ft_filter.proofs.Preds.{PredFits, pred_again, pred_begins, pred_first}

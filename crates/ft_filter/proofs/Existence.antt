@@ -2,10 +2,10 @@
 use Rattle.std.proofs.Common.{◌≡◌, ◌≢◌, ◌<◌, ◌≤◌, ℕ, zero, suc, inl, inr, List, [], ◌∷◌, length, Option, Some, None, Result, refl, sym, ap, ◌∙◌, arith, slice_index}
 use Rattle.std.proofs.lemmas.Bool.{cases_eq}
 use Rattle.ft_event.specs.declared.event.Name.{Name}
+use Rattle.ft_tokens.specs.Tokens.{skip}
 use Rattle.ft_filter.specs.declared.fault.FilterFault.{FilterFault}
 use Rattle.ft_filter.specs.declared.tree.Joint.{Joint}
 use Rattle.ft_filter.specs.declared.tree.Joint.TheVariants as joints
-use Rattle.ft_filter.specs.Tokens.{skip}
 use Rattle.ft_filter.specs.Predicate.{Read, Found, Stop}
 use Rattle.ft_filter.specs.FilterIs.{Rule, Joined, Operand, below, behind_joint, most_open, whole_of, Reads, first, first_fails, negated, enclosed, deep, compared, Goes, ended, another, another_fails, FilterIs}
 use Rattle.ft_filter.specs.Answers.{filter_of}

@@ -2,6 +2,7 @@
 use Rattle.std.proofs.Common.{◌≡◌, ◌≤◌, ℕ, suc, Bool, true, false, List, length, drop, Ok, Err, refl, subst, arith, codes, ◌==◌, cond}
 use Rattle.std.specs.List.{starts_with}
 use Rattle.ft_event.specs.declared.event.Name.{Name}
+use Rattle.ft_tokens.specs.Tokens.{skip}
 use Rattle.ft_filter.specs.declared.fault.FilterFault.TheVariants.{Syntax}
 use Rattle.ft_filter.specs.declared.tree.Joint.{Joint}
 use Rattle.ft_filter.specs.declared.tree.Joint.TheVariants as joints
@@ -10,7 +11,6 @@ use Rattle.ft_filter.specs.Canonical.{is_any, is_joined}
 use Rattle.ft_filter.specs.FilterIs.{Rule, Joined, Operand, below, made, closed, joined, most_open, whole_of, Reads, first, first_fails, negated, enclosed, deep, compared, Goes, ended, another, another_fails, FilterIs}
 use Rattle.ft_filter.specs.Shape.{HasTwo, level_if, levels, most_levels}
 use Rattle.ft_filter.specs.Predicate.{Read, Found, Stop, place, pred_at}
-use Rattle.ft_filter.specs.Tokens.{skip}
 use Rattle.ft_filter.specs.Tree.{Tree, Trees, Any, All, Not, Test, End, More}
 use Rattle.ft_filter.proofs.Preds.{PredFits, pred_fits}
 

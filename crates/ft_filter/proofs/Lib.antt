@@ -3,11 +3,9 @@ mod Examples
 mod Existence
 mod Fits
 mod NumberForms
-mod Numbers
 mod Operands
 mod PredLaw
 mod Preds
-mod Quotes
 mod Runs
 mod Shapes
 mod Shorter

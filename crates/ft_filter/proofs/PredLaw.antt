@@ -8,6 +8,8 @@ use Rattle.ft_event.specs.declared.event.Name.{Name}
 use Rattle.ft_event.specs.declared.field.Field.{Field}
 use Rattle.ft_event.specs.Fields.{is_named, all_fields, is_text}
 use Rattle.ft_event.specs.LineIs.{Where, WhereCut}
+use Rattle.ft_tokens.specs.Ranged.{fits}
+use Rattle.ft_tokens.specs.Tokens.{skip, name_at, is_quote, quoted_at, number_at}
 use Rattle.ft_filter.specs.declared.fault.FilterFault.{FilterFault}
 use Rattle.ft_filter.specs.declared.fault.FilterFault.TheVariants.{Syntax, NoField, WrongKind, BadGlob, NumberRange}
 use Rattle.ft_filter.specs.declared.tree.Op.{Op}
@@ -18,9 +20,9 @@ use Rattle.ft_filter.specs.declared.tree.Pred.{Pred}
 use Rattle.ft_glob.specs.Glob.{IsGlob}
 use Rattle.ft_glob.specs.Matching.{is_glob}
 use Rattle.ft_filter.specs.Numbers.{IsDecimal, Writes, plain, negative, hexadecimal}
-use Rattle.ft_filter.specs.Predicate.{Read, Found, Stop, place, found_or, passed_or, suits, fits, is_match, literal_of, text_value, number_value, value_at, with_value, comparison_at, pred_at}
+use Rattle.ft_filter.specs.Operators.{op_at}
+use Rattle.ft_filter.specs.Predicate.{Read, Found, Stop, place, found_or, passed_or, suits, is_match, literal_of, text_value, number_value, value_at, with_value, comparison_at, pred_at}
 use Rattle.ft_filter.specs.PredIs.{IsBehindGap, IsName, IsFieldOf, IsOperator, Token, IsToken, ops_of, SuitsField, pred_of, TextGives, TokenGives, ValueGives, OperatorGives, PredIs}
-use Rattle.ft_filter.specs.Tokens.{skip, name_at, op_at, is_quote, quoted_at, number_at}
 use Rattle.ft_glob.proofs.Deciding.{is_glob-Decides}
 use Rattle.ft_filter.proofs.NumberForms.{number_to, number_from}
 use Rattle.ft_filter.proofs.WordCuts.{gap_to, gap_from, name_to, name_from, field_to, field_from, op_to, op_from, quote_is, quoted_to, quoted_from}

@@ -6,6 +6,8 @@ use Rattle.std.specs.Fmt.{signed_decimal}
 use Rattle.ft_event.specs.declared.event.Name.{Name}
 use Rattle.ft_event.specs.declared.field.Field.{Field}
 use Rattle.ft_event.specs.Fields.{text_of as field_text, is_named, all_fields, has_field, is_text}
+use Rattle.ft_tokens.specs.Ranged.{fits}
+use Rattle.ft_tokens.specs.Tokens.{is_gap, skip, name_at, is_quote, quoted_at, number_at}
 use Rattle.ft_filter.specs.declared.fault.FilterFault.{FilterFault}
 use Rattle.ft_filter.specs.declared.fault.FilterFault.TheVariants.{Syntax, NoField, WrongKind, BadGlob, NumberRange}
 use Rattle.ft_filter.specs.declared.tree.Literal.{Literal}
@@ -14,8 +16,8 @@ use Rattle.ft_filter.specs.declared.tree.Op.{Op}
 use Rattle.ft_filter.specs.declared.tree.Pred.{Pred}
 use Rattle.ft_filter.specs.Canonical.{quoted, value_text, pred_text}
 use Rattle.ft_glob.specs.Matching.{is_glob}
-use Rattle.ft_filter.specs.Predicate.{Read, Found, Stop, place, found_or, passed_or, fits, is_match, literal_of, suits, text_value, number_value, value_at, with_value, comparison_at, pred_at}
-use Rattle.ft_filter.specs.Tokens.{is_gap, skip, name_at, text_of, op_at, is_quote, quoted_at, number_at}
+use Rattle.ft_filter.specs.Operators.{text_of, op_at}
+use Rattle.ft_filter.specs.Predicate.{Read, Found, Stop, place, found_or, passed_or, is_match, literal_of, suits, text_value, number_value, value_at, with_value, comparison_at, pred_at}
 use Rattle.ft_filter.proofs.Spelled.{Apart, IsQuotable, skip_gap, skip_none, name_again, name_first, field_again, op_again, op_first, quotes, quoted_again, quoted_first, quotable, number_again, number_first}
 
 -- the value is one that can stand behind the operator, for a field that holds texts or numbers

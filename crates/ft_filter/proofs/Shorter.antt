@@ -6,6 +6,8 @@ use Rattle.std.specs.List.{prefix_len, starts_with}
 use Rattle.ft_event.specs.declared.event.Name.{Name}
 use Rattle.ft_event.specs.declared.field.Field.{Field}
 use Rattle.ft_event.specs.Fields.{is_text}
+use Rattle.ft_tokens.specs.Ranged.{fits}
+use Rattle.ft_tokens.specs.Tokens.{skip, name_at, cut_at, quoted_at, number_at, number_of, word_len, run_at, begins_name, is_in_name, is_quote}
 use Rattle.ft_filter.specs.declared.fault.FilterFault.{FilterFault}
 use Rattle.ft_filter.specs.declared.fault.FilterFault.TheVariants.{Syntax, WrongKind, BadGlob, NumberRange}
 use Rattle.ft_filter.specs.declared.tree.Joint.{Joint}
@@ -13,9 +15,9 @@ use Rattle.ft_filter.specs.declared.tree.Joint.TheVariants as joints
 use Rattle.ft_filter.specs.declared.tree.Literal.{Literal}
 use Rattle.ft_filter.specs.declared.tree.Literal.TheVariants as literals
 use Rattle.ft_filter.specs.declared.tree.Op.{Op}
-use Rattle.ft_filter.specs.Tokens.{skip, name_at, op_at, cut_at, quoted_at, number_at, number_of, word_len, run_at, begins_name, is_in_name, is_quote, begins, all_ops, text_of}
 use Rattle.ft_glob.specs.Matching.{is_glob}
-use Rattle.ft_filter.specs.Predicate.{Read, Found, Stop, place, fits, is_match, literal_of, found_or, passed_or, text_value, number_value, value_at, with_value, comparison_at, pred_at}
+use Rattle.ft_filter.specs.Operators.{op_at, begins, all_ops, text_of}
+use Rattle.ft_filter.specs.Predicate.{Read, Found, Stop, place, is_match, literal_of, found_or, passed_or, text_value, number_value, value_at, with_value, comparison_at, pred_at}
 use Rattle.ft_filter.specs.FilterIs.{Rule, behind_joint, made, closed, text_of as joint_text, Reads, first, first_fails, negated, enclosed, deep, compared, Goes, ended, another, another_fails}
 use Rattle.ft_filter.specs.Tree.{Tree, Trees}
 

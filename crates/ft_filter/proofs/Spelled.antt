@@ -14,11 +14,12 @@ use Rattle.ft_event.specs.declared.event.Name.{Name}
 use Rattle.ft_event.specs.declared.field.Field.{Field}
 use Rattle.ft_event.specs.declared.field.Field.TheVariants as fields
 use Rattle.ft_event.specs.Fields.{text_of as field_text, is_named, all_fields, has_field}
+use Rattle.ft_tokens.specs.Ranged.{fits}
+use Rattle.ft_tokens.specs.Tokens.{is_gap, skip, begins_name, is_in_name, name_at, is_quote, cut_at, quoted_at, is_decimal, number_of, word_len, number_at}
 use Rattle.ft_filter.specs.declared.tree.Op.{Op}
 use Rattle.ft_filter.specs.declared.tree.Op.TheVariants as ops
 use Rattle.ft_filter.specs.Canonical.{quoted}
-use Rattle.ft_filter.specs.Predicate.{fits}
-use Rattle.ft_filter.specs.Tokens.{is_gap, skip, begins_name, is_in_name, name_at, text_of, op_at, is_quote, cut_at, quoted_at, is_decimal, number_of, word_len, number_at}
+use Rattle.ft_filter.specs.Operators.{text_of, op_at}
 
 -- no letter, no digit and no `_` stands first
 abbrev pub Apart : List ℕ → Type 0

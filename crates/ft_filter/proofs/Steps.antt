@@ -4,12 +4,12 @@ use Rattle.std.specs.Prelude.{◌⊎◌, ◌≢◌, Result, Ok, Err, slice_index
 use Rattle.std.specs.List.{starts_with}
 use Rattle.std.proofs.lemmas.Bool.{eq-eqb, and_from, true≢false}
 use Rattle.ft_event.specs.declared.event.Name.{Name}
+use Rattle.ft_tokens.specs.Tokens.{skip}
 use Rattle.ft_filter.specs.declared.fault.FilterFault.{FilterFault}
 use Rattle.ft_filter.specs.declared.fault.FilterFault.TheVariants.{Memory, Syntax, TooDeep}
 use Rattle.ft_filter.specs.declared.tree.Joint.{Joint}
 use Rattle.ft_filter.specs.declared.tree.Joint.TheVariants as joints
 use Rattle.ft_filter.specs.declared.reading.Parsed.{Parsed}
-use Rattle.ft_filter.specs.Tokens.{skip}
 use Rattle.ft_filter.specs.Predicate.{Read, Found, Stop, place, pred_at}
 use Rattle.ft_filter.specs.FilterIs.{whole_of, Reads, Goes, Joined, Operand, below, behind_joint, both, made, closed, first, negated, enclosed, deep, compared, ended, another, another_fails}
 use Rattle.ft_filter.specs.inner.Given.{GivesTree, GoesOn}

@@ -1,11 +1,11 @@
 -- What the grammar relates to a text is what is worked out of it.
 use Rattle.std.proofs.Common.{◌≡◌, ◌≢◌, ◌⊎◌, ◌<◌, ◌≤◌, ℕ, zero, suc, inl, inr, List, ◌∷◌, length, Some, None, Result, refl, sym, ap, ◌∙◌, arith, slice_index, ne_eqb}
 use Rattle.ft_event.specs.declared.event.Name.{Name}
+use Rattle.ft_tokens.specs.Tokens.{skip}
 use Rattle.ft_filter.specs.declared.fault.FilterFault.{FilterFault}
 use Rattle.ft_filter.specs.declared.fault.FilterFault.TheVariants.{TooDeep}
 use Rattle.ft_filter.specs.declared.tree.Joint.{Joint}
 use Rattle.ft_filter.specs.declared.tree.Joint.TheVariants as joints
-use Rattle.ft_filter.specs.Tokens.{skip}
 use Rattle.ft_filter.specs.Predicate.{Read, Found, Stop, pred_at}
 use Rattle.ft_filter.specs.FilterIs.{Rule, Joined, Operand, below, behind_joint, made, closed, joined, whole_of, most_open, Reads, first, first_fails, negated, enclosed, deep, compared, Goes, ended, another, another_fails, FilterIs}
 use Rattle.ft_filter.specs.Answers.{going, joined_at, operand_at, operands_at, filter_of}

@@ -11,10 +11,11 @@ use Rattle.std.specs.Str.{bytes_eq}
 use Rattle.ft_event.specs.declared.event.Name.{Name}
 use Rattle.ft_event.specs.declared.field.Field.{Field}
 use Rattle.ft_event.specs.Fields.{text_of as field_text, is_named, all_fields, has_field}
+use Rattle.ft_tokens.specs.Tokens.{is_gap, skip, begins_name, is_in_name, name_at, is_quote, cut_at, quoted_at}
 use Rattle.ft_filter.specs.declared.tree.Op.{Op}
 use Rattle.ft_filter.specs.declared.tree.Op.TheVariants as ops
+use Rattle.ft_filter.specs.Operators.{text_of, all_ops, op_at}
 use Rattle.ft_filter.specs.PredIs.{IsBehindGap, IsName, IsFieldOf, IsOperator, IsQuoted}
-use Rattle.ft_filter.specs.Tokens.{is_gap, skip, begins_name, is_in_name, name_at, text_of, all_ops, op_at, is_quote, cut_at, quoted_at}
 use Rattle.ft_filter.proofs.Preds.{find_passes}
 use Rattle.ft_filter.proofs.Runs.{IsRun, run_found, run_splits, label_joined}
 use Rattle.ft_filter.proofs.Spelled.{field_again, quote_cases, quotes_found}

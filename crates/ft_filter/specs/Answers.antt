@@ -1,11 +1,11 @@
 -- The answer to a filter's text, worked out from the left (our own choice).
 use Rattle.std.specs.Prelude.{ℕ, zero, suc, ◌==◌, List, length, drop, slice_index, Option, Some, None, Result, Ok, Err, ◌≡◌, ◌⊎◌, if◌then◌else◌}
 use Rattle.ft_event.specs.declared.event.Name.{Name}
+use Rattle.ft_tokens.specs.Tokens.{skip}
 use Rattle.ft_filter.specs.declared.fault.FilterFault.{FilterFault}
 use Rattle.ft_filter.specs.declared.fault.FilterFault.TheVariants.{Memory, TooDeep}
 use Rattle.ft_filter.specs.declared.tree.Joint.{Joint}
 use Rattle.ft_filter.specs.declared.tree.Joint.TheVariants as joints
-use Rattle.ft_filter.specs.Tokens.{skip}
 use Rattle.ft_filter.specs.Predicate.{Read, Found, Stop, pred_at}
 use Rattle.ft_filter.specs.FilterIs.{behind_joint, joined, made, closed, most_open, whole_of}
 use Rattle.ft_filter.specs.Tree.{Tree, Trees, Not, Test, End, More, Condition}

@@ -8,7 +8,7 @@ use Rattle.ft_filter.specs.declared.tree.Literal.TheVariants as literals
 use Rattle.ft_filter.specs.declared.tree.Pred.{Pred}
 use Rattle.ft_filter.specs.declared.tree.Joint.{Joint}
 use Rattle.ft_filter.specs.declared.tree.Joint.TheVariants as joints
-use Rattle.ft_filter.specs.Tokens.{text_of}
+use Rattle.ft_filter.specs.Operators.{text_of}
 use Rattle.ft_filter.specs.Tree.{Tree, Trees, Any, All, Not, Test, End, More}
 
 -- a text in double quotes, or in single quotes where it holds a double one (our own choice)

@@ -8,11 +8,11 @@
 use Rattle.std.specs.Prelude.{◌≡◌, ◌≢◌, ◌⊎◌, ℕ, suc, ◌==◌, List, ◌∷◌, length, drop, slice_index, Option, Some, None, Result, Ok, Err, if◌then◌else◌, codes}
 use Rattle.std.specs.List.{starts_with}
 use Rattle.ft_event.specs.declared.event.Name.{Name}
+use Rattle.ft_tokens.specs.Tokens.{skip}
 use Rattle.ft_filter.specs.declared.fault.FilterFault.{FilterFault}
 use Rattle.ft_filter.specs.declared.fault.FilterFault.TheVariants.{Syntax, TooDeep}
 use Rattle.ft_filter.specs.declared.tree.Joint.{Joint}
 use Rattle.ft_filter.specs.declared.tree.Joint.TheVariants as joints
-use Rattle.ft_filter.specs.Tokens.{skip}
 use Rattle.ft_filter.specs.Predicate.{Read, Found, Stop, place, pred_at}
 use Rattle.ft_filter.specs.Tree.{Tree, Trees, Any, All, Not, Test, End, More}
 

@@ -2,7 +2,7 @@ pub mod Tree
 pub mod Codes
 pub mod Holds
 pub mod FilterFault
-pub mod Tokens
+pub mod Operators
 pub mod Numbers
 pub mod Predicate
 pub mod PredIs
@@ -16,3 +16,5 @@ pub use Rattle.ft_event.specs.LineIs
 pub use Rattle.ft_event.specs.Traced
 pub use Rattle.ft_glob.specs.Glob
 pub use Rattle.ft_glob.specs.Matching
+pub use Rattle.ft_tokens.specs.Ranged
+pub use Rattle.ft_tokens.specs.Tokens

@@ -6,6 +6,7 @@ use Rattle.ft_event.specs.declared.event.Name.{Name}
 use Rattle.ft_event.specs.declared.field.Field.{Field}
 use Rattle.ft_event.specs.Fields.{text_of as field_text, has_field, is_text}
 use Rattle.ft_event.specs.LineIs.{Where, WhereCut, Stops}
+use Rattle.ft_tokens.specs.Tokens.{is_gap, begins_name, is_in_name}
 use Rattle.ft_filter.specs.declared.fault.FilterFault.TheVariants.{Syntax, NoField, WrongKind, BadGlob, NumberRange}
 use Rattle.ft_filter.specs.declared.tree.Op.{Op}
 use Rattle.ft_filter.specs.declared.tree.Op.TheVariants as ops
@@ -14,8 +15,8 @@ use Rattle.ft_filter.specs.declared.tree.Literal.TheVariants as literals
 use Rattle.ft_filter.specs.declared.tree.Pred.{Pred}
 use Rattle.ft_glob.specs.Glob.{IsGlob}
 use Rattle.ft_filter.specs.Numbers.{IsNumber}
+use Rattle.ft_filter.specs.Operators.{text_of}
 use Rattle.ft_filter.specs.Predicate.{Read, Found, Stop, place}
-use Rattle.ft_filter.specs.Tokens.{is_gap, begins_name, is_in_name, text_of}
 
 -- ---- words
 

@@ -1,9 +1,11 @@
 -- A field, an operator and a value, as a filter's text writes them (kernel: events.rst, event filtering).
-use Rattle.std.specs.Prelude.{ℕ, ◌-◌, Bool, true, false, ◌||◌, not, nat_le, List, length, slice_index, Option, Some, None, if◌then◌else◌, ℤ, pos, negsuc}
+use Rattle.std.specs.Prelude.{ℕ, ◌-◌, Bool, true, false, ◌||◌, not, nat_le, List, length, slice_index, Option, Some, None, if◌then◌else◌, ℤ}
 use Rattle.std.specs.List.{find}
 use Rattle.ft_event.specs.declared.event.Name.{Name}
 use Rattle.ft_event.specs.declared.field.Field.{Field}
 use Rattle.ft_event.specs.Fields.{is_named, all_fields, is_text}
+use Rattle.ft_tokens.specs.Ranged.{fits}
+use Rattle.ft_tokens.specs.Tokens.{skip, name_at, is_quote, quoted_at, number_at}
 use Rattle.ft_filter.specs.declared.fault.FilterFault.{FilterFault}
 use Rattle.ft_filter.specs.declared.fault.FilterFault.TheVariants.{Syntax, NoField, WrongKind, BadGlob, NumberRange}
 use Rattle.ft_filter.specs.declared.tree.Op.{Op}
@@ -11,7 +13,7 @@ use Rattle.ft_filter.specs.declared.tree.Op.TheVariants as ops
 use Rattle.ft_filter.specs.declared.tree.Literal.{Literal}
 use Rattle.ft_filter.specs.declared.tree.Literal.TheVariants as literals
 use Rattle.ft_filter.specs.declared.tree.Pred.{Pred}
-use Rattle.ft_filter.specs.Tokens.{skip, name_at, op_at, is_quote, quoted_at, number_at}
+use Rattle.ft_filter.specs.Operators.{op_at}
 use Rattle.ft_glob.specs.Matching.{is_glob}
 
 -- what is read: a thing and the text behind it, or the first fault (our own choice)
@@ -43,11 +45,6 @@ suits text ops.Gt = not text
 suits text ops.Ge = not text
 suits text ops.Bits = not text
 suits text ops.Glob = text
-
--- a signed number of 64 bits (our own choice)
-abbrev pub fits : ℤ → Bool
-fits (pos n) = nat_le n 9223372036854775807
-fits (negsuc n) = nat_le n 9223372036854775807
 
 -- the operator is `~` (our own choice)
 abbrev pub is_match : Op → Bool

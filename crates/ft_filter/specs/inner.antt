@@ -1,3 +1,2 @@
 -- Words of private functions, which no public clause says (our own choice).
 pub mod Given
-pub mod Words

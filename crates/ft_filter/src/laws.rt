@@ -2,6 +2,7 @@
 
 ghost use Rattle.std.specs.Prelude.{◌≡◌, ◌↔◌, ℕ, ℤ, List, Some, Result, Ok};
 ghost use Rattle.ft_event.specs.declared.event.Name.{Name};
+ghost use Rattle.ft_tokens.specs.Tokens.{skip, name_at, quoted_at, number_at, number_of};
 ghost use Rattle.ft_filter.specs.declared.fault.FilterFault.{FilterFault};
 ghost use Rattle.ft_filter.specs.declared.tree.Op.{Op};
 ghost use Rattle.ft_filter.specs.declared.tree.Pred.{Pred};
@@ -9,10 +10,10 @@ ghost use Rattle.ft_filter.specs.Answers.{filter_of};
 ghost use Rattle.ft_filter.specs.Canonical.{canonical};
 ghost use Rattle.ft_filter.specs.FilterIs.{FilterIs};
 ghost use Rattle.ft_filter.specs.Numbers.{Writes, IsNumber};
+ghost use Rattle.ft_filter.specs.Operators.{op_at};
 ghost use Rattle.ft_filter.specs.PredIs.{PredIs, IsBehindGap, IsName, IsOperator, IsQuoted};
 ghost use Rattle.ft_filter.specs.Predicate.{Read, pred_at};
 ghost use Rattle.ft_filter.specs.Shape.{IsFilterOf};
-ghost use Rattle.ft_filter.specs.Tokens.{skip, name_at, op_at, quoted_at, number_at, number_of};
 ghost use Rattle.ft_filter.specs.Tree.{Tree};
 
 /// A law: the grammar relates one answer to a text, and one alone.

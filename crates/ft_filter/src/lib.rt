@@ -20,18 +20,18 @@
 mod fault;
 mod filter;
 pub mod laws;
+mod operators;
 mod passing;
 mod predicate;
 mod reading;
-mod tokens;
 mod tree;
 mod writing;
 
 pub use fault::FilterFault;
 pub use filter::Filter;
+pub use ft_tokens::{is_gap, name_at, skip};
 pub use laws::{
     numbers_of_words, one_answer, predicates_of_texts, reads_again, trees_of_texts, words_of_texts,
 };
 pub use reading::parse;
-pub use tokens::{is_gap, name_at, skip};
 pub use tree::{Expr, Exprs, Literal, Op, Pattern, Pred, Text};

@@ -7,10 +7,11 @@ ghost use Rattle.ft_filter.specs.Predicate.{place, pred_at, comparison_at, value
 ghost use Rattle.ft_filter.specs.inner.Given.{GivesPred, GivesValue};
 
 use crate::fault::FilterFault;
-use crate::tokens::{Number, is_quote, name_at, number_at, op_at, quoted_at, skip};
+use crate::operators::op_at;
 use crate::tree::{Literal, Op, Pattern, Pred, Text};
 use ft_event::{Field, Name, field_named};
 use ft_glob::is_glob;
+use ft_tokens::{Number, is_quote, name_at, number_at, quoted_at, skip};
 use std::alloc::{AllocError, Global};
 
 /// What a text is read for.

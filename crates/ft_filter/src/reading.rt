@@ -4,7 +4,7 @@
 
 ghost use Rattle.std.specs.Prelude.{◌≡◌, ◌<◌, ◌++◌, ◌∷◌, [], ℕ, List, length, Some, Result, Ok, IfOk, IfErr, OnOk, IfSome};
 ghost use Rattle.std.specs.Option.{option_copied};
-ghost use Rattle.ft_filter.specs.Tokens.{skip};
+ghost use Rattle.ft_tokens.specs.Tokens.{skip};
 ghost use Rattle.ft_filter.specs.Predicate.{pred_at, Found};
 ghost use Rattle.ft_filter.specs.FilterIs.{FilterIs, Reads, Joined, Operand, below, behind_joint, both, made, closed};
 ghost use Rattle.ft_filter.specs.Answers.{filter_of, GivesFilter};
@@ -14,9 +14,9 @@ ghost use Rattle.ft_filter.specs.Tree.{tree_of, trees_in, trees, Not, Test};
 use crate::fault::FilterFault;
 use crate::filter::Filter;
 use crate::predicate::{Source, predicate};
-use crate::tokens::skip;
 use crate::tree::{Expr, Exprs, Joint};
 use ft_event::Name;
+use ft_tokens::skip;
 use std::alloc::Global;
 
 /// How many `(` and `!` may be open at once.

@@ -2,7 +2,7 @@
 
 ghost use Rattle.std.specs.Prelude.{◌≡◌, ◌++◌, ◌∷◌, [], OnOk, OnErr, IfOk, IsTrue};
 ghost use Rattle.ft_glob.specs.Matching.{is_glob, matches};
-ghost use Rattle.ft_filter.specs.Tokens.{text_of};
+ghost use Rattle.ft_filter.specs.Operators.{text_of};
 ghost use Rattle.ft_filter.specs.Predicate.{suits};
 ghost use Rattle.ft_filter.specs.FilterIs.{text_of as joint_text};
 

@@ -8,7 +8,7 @@ use Rattle.std.specs.Prelude.{nat_le, ◌↔◌}
 use Rattle.std.specs.Char.{is_ascii_digit}
 use Rattle.std.specs.List.{list_all}
 use Rattle.std.specs.Str.Parse.{digits_value}
-use Rattle.ft_filter.specs.Tokens.{is_in_name}
+use Rattle.ft_tokens.specs.Tokens.{is_in_name}
 use Rattle.ft_head.specs.Draft.{rounded, is_size, size_of}
 use Rattle.ft_head.specs.Sizes.{IsSize}
 use Rattle.ft_head.specs.Words.{is_number, number_in}

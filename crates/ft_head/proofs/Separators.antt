@@ -2,7 +2,7 @@
 use Rattle.std.proofs.Common.{◌≡◌, ◌<◌, ◌+◌, ◌&&◌, ℕ, Bool, true, false, not, List, [], ◌∷◌, ◌++◌, length, refl, sym, ap, ◌∙◌, arith, ◌==◌, eq-eqb, ne_eqb, cond, if◌then◌else◌}
 use Rattle.std.proofs.lemmas.Bool.{and_parts, and_from, not-true, not_from_false, or_from}
 use Rattle.std.specs.List.{list_all}
-use Rattle.ft_filter.specs.Tokens.{is_gap, is_in_name}
+use Rattle.ft_tokens.specs.Tokens.{is_gap, is_in_name}
 use Rattle.ft_head.specs.Words.{Piece, grown, pieces}
 
 -- ---- bytes

@@ -5,7 +5,7 @@ use Rattle.std.proofs.lemmas.Option.{same_Some}
 use Rattle.std.specs.Prelude.{◌↔◌}
 use Rattle.std.specs.List.{list_all, list_any, starts_with}
 use Rattle.std.specs.Option.{option_and_then}
-use Rattle.ft_filter.specs.Tokens.{is_in_name, name_at}
+use Rattle.ft_tokens.specs.Tokens.{is_in_name, name_at}
 use Rattle.ft_head.specs.Spelling.{more_pieces, ArePlaced, ArePieces, IsNamed, suffix_bytes, IsItem}
 use Rattle.ft_head.specs.Words.{Piece, grown, pieces, Word, suffix_of, word_from, word_with, word_of}
 use Rattle.ft_head.proofs.Separators.{Free, pieces_last, pieces_append}

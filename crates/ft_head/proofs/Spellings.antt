@@ -10,8 +10,8 @@ use Rattle.std.specs.Char.{is_ascii_alphabetic, is_ascii_alphanumeric}
 use Rattle.std.specs.List.{prefix_len, list_all, starts_with}
 use Rattle.std.specs.Option.{option_and_then}
 use Rattle.std.specs.Str.{bytes_eq}
-use Rattle.ft_filter.specs.Tokens.{begins_name, is_in_name, run_at}
-use Rattle.ft_filter.specs.Tokens.{name_at}
+use Rattle.ft_tokens.specs.Tokens.{begins_name, is_in_name, run_at}
+use Rattle.ft_tokens.specs.Tokens.{name_at}
 use Rattle.ft_head.specs.Words.{Word, suffix_of, word_from, word_with, word_of}
 
 -- ---- texts

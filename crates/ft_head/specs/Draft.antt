@@ -18,7 +18,7 @@ use Rattle.ft_hist.specs.declared.label.Var.{Var}
 use Rattle.ft_hist.specs.declared.label.Var.TheVariants as vars
 use Rattle.ft_hist.specs.Powers.{first_power}
 use Rattle.ft_head.specs.Words.{Piece, pieces, Word, word_of, is_number, number_in}
-use Rattle.ft_filter.specs.Tokens.{name_at}
+use Rattle.ft_tokens.specs.Tokens.{name_at}
 
 -- what has been read so far; a list that has not stood yet is none, and names are not yet resolved (our own choice)
 pub record Draft : Type 0 where

@@ -7,5 +7,5 @@ pub mod TriggerFault
 pub mod Words
 pub mod inner
 pub use Rattle.ft_event.specs.Fields
-pub use Rattle.ft_filter.specs.Tokens
 pub use Rattle.ft_hist.specs.Powers
+pub use Rattle.ft_tokens.specs.Tokens

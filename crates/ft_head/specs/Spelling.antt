@@ -1,7 +1,7 @@
 -- What pieces and words are, told by the texts that they make (kernel: histogram.rst, hist triggers).
 use Rattle.std.specs.Prelude.{◌≡◌, ◌≢◌, ◌+◌, ◌==◌, ◌&&◌, ℕ, Bool, not, true, false, List, [], ◌∷◌, ◌++◌, length, Option, Some, None, if◌then◌else◌, codes}
 use Rattle.std.specs.List.{list_all, list_any}
-use Rattle.ft_filter.specs.Tokens.{is_gap, begins_name, is_in_name}
+use Rattle.ft_tokens.specs.Tokens.{is_gap, begins_name, is_in_name}
 use Rattle.ft_head.specs.Words.{Piece, Word}
 
 -- ---- pieces

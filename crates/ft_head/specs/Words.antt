@@ -4,7 +4,7 @@ use Rattle.std.specs.Char.{is_ascii_digit}
 use Rattle.std.specs.List.{list_all, starts_with}
 use Rattle.std.specs.Option.{option_and_then}
 use Rattle.std.specs.Str.Parse.{digits_value}
-use Rattle.ft_filter.specs.Tokens.{name_at}
+use Rattle.ft_tokens.specs.Tokens.{name_at}
 
 -- ---- pieces
 

@@ -1,12 +1,12 @@
 //! What has been read of a trigger's head, and what one more part adds to it.
 
-ghost use Rattle.std.specs.Prelude.{◌≡◌, ◌+◌, ◌<◌, ◌^◌, ◌∷◌, [], ◌≤◌, length, drop, Ok, Some, None, IfSome, IfOk, codes, option_map, ◌==◌, ℕ, IfErr, if◌then◌else◌};
+ghost use Rattle.std.specs.Prelude.{◌≡◌, ◌+◌, ◌<◌, ◌^◌, ◌∷◌, [], ◌≤◌, length, Ok, Some, None, IfSome, IfOk, codes, option_map, ◌==◌, IfErr, if◌then◌else◌};
 ghost use Rattle.std.specs.Option.{is_some};
 ghost use Rattle.std.specs.List.{list_any, find, starts_with};
 ghost use Rattle.std.specs.Str.{bytes_eq};
 ghost use Rattle.ft_event.specs.declared.event.Name.{Name};
 ghost use Rattle.ft_head.specs.declared.fault.TriggerFault.TheVariants.{Syntax, LeftOut, Duplicate};
-ghost use Rattle.ft_head.specs.Draft.{blank, unless, given_or, is_part_left_out, labels, with_kind, with_named, with_variable, with_part, parts_from, size_of, stamp_of, var_of, is_taken, reads_itself, is_name, Since};
+ghost use Rattle.ft_head.specs.Draft.{blank, is_part_left_out, labels, with_kind, with_named, with_variable, with_part, parts_from, size_of, stamp_of, var_of, is_taken, reads_itself, is_name, Since};
 ghost use Rattle.ft_head.specs.Words.{pieces};
 ghost use Rattle.ft_head.specs.Given.{Gives};
 ghost use Rattle.ft_head.specs.inner.Leaving.{Leaves};
@@ -17,9 +17,9 @@ use crate::lists::{keys_of, sort_of, value_words};
 use crate::pieces::{Piece, Pieces};
 use crate::words::{Word, is_name, number_in};
 use ft_event::{Name, field_named};
-use ft_filter::name_at;
 use ft_hist::{KeyItem, Label, Var};
 use ft_text::is_same;
+use ft_tokens::name_at;
 use std::alloc::Global;
 use std::marker::Model;
 

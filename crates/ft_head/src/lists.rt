@@ -1,9 +1,8 @@
 //! The lists of a trigger's head: keys, values, sort items.
 
-ghost use Rattle.std.specs.Prelude.{◌≡◌, ◌<◌, ◌≤◌, length, false, IfOk, OnOk, Ok, Some, None, codes, ◌∷◌, [], ◌++◌, IfErr, ℕ, not, ◌&&◌, nat_le, List, Result, Err};
+ghost use Rattle.std.specs.Prelude.{◌≡◌, ◌<◌, ◌≤◌, length, false, IfOk, OnOk, Ok, Some, None, codes, ◌∷◌, [], ◌++◌, ℕ, not, ◌&&◌, nat_le, List, Result, Err};
 ghost use Rattle.std.specs.Option.{option_copied, option_map_or, is_some};
 ghost use Rattle.std.specs.List.{list_any};
-ghost use Rattle.std.specs.Str.{bytes_eq};
 ghost use Rattle.ft_head.specs.declared.fault.TriggerFault.TheVariants.{Syntax, LeftOut, BadModifier};
 ghost use Rattle.ft_head.specs.declared.fault.TriggerFault.{TriggerFault};
 ghost use Rattle.ft_head.specs.Words.{Word, word_of};

@@ -5,8 +5,8 @@ ghost use Rattle.std.specs.Option.{option_copied};
 ghost use Rattle.ft_head.specs.Words.{word_of, word_with, number_in};
 ghost use Rattle.ft_head.specs.Draft.{is_name, is_word, same_word};
 
-use ft_filter::name_at;
 use ft_text::{is_same, number_within};
+use ft_tokens::name_at;
 use std::marker::Model;
 
 /// An item as it stands: a name, and what is in front of it and behind it.

@@ -17,10 +17,11 @@ use Rattle.ft_pairs.specs.declared.at.At.{At}
 use Rattle.ft_pairs.specs.declared.at.Op.{Op}
 use Rattle.ft_kept.specs.Acts.{Acts}
 use Rattle.ft_kept.specs.Entries.{IsKeptBut}
-use Rattle.ft_kept.specs.Owed.{is_next_read, is_read, is_switched_as, reads_at}
-use Rattle.ft_kept.specs.Repairs.{owes_saver, without_moved}
+use Rattle.ft_kept.specs.inner.Owed.{is_next_read, is_read, is_switched_as, reads_at}
+use Rattle.ft_kept.specs.inner.Settling.{owes_saver, without_moved}
 use Rattle.ft_kept.specs.Shelves.{Shelves, admits_on, kept_on, role_on}
-use Rattle.ft_kept.specs.Switches.{Moves, MovesKeys, differ}
+use Rattle.ft_kept.specs.inner.Following.{Moves, MovesKeys}
+use Rattle.ft_kept.specs.Switches.{differ}
 use Rattle.ft_table.specs.Values.{values_by}
 use Rattle.ft_pairs.specs.declared.role.Role.{Role}
 use Rattle.ft_pairs.specs.declared.role.Role.TheVariants.{Plain, Saves, Reads}

@@ -21,9 +21,11 @@ use Rattle.ft_maps.specs.Entries.{same_from_tie, get-insert_same, get-insert_oth
 use Rattle.ft_pairs.specs.Edits.{same_at}
 use Rattle.ft_pairs.specs.Order.{at_cmp_total, at_same}
 use Rattle.ft_pairs.specs.declared.at.At.{At}
-use Rattle.ft_kept.specs.Acts.{Acts, AreHeld, Comes, IsDoneToo, acts_of, between}
+use Rattle.ft_kept.specs.Acts.{Acts, AreHeld, Comes, acts_of}
+use Rattle.ft_kept.specs.inner.OneAct.{IsDoneToo, between}
 use Rattle.ft_kept.specs.Entries.{IsKeptBut}
-use Rattle.ft_kept.specs.Repairs.{Owed, HasCome, HasGone}
+use Rattle.ft_kept.specs.inner.Settling.{Owed}
+use Rattle.ft_kept.specs.Repairs.{HasCome, HasGone}
 use Rattle.ft_hist.specs.Tests.{asked}
 use Rattle.ft_pairs.specs.Roles.{Admits}
 use Rattle.ft_kept.specs.Shelves.{Shelves, Kept, role_on, admits_on, kept_on}

@@ -9,7 +9,7 @@ use Rattle.ft_table.specs.Hits.{same_key}
 use Rattle.ft_table.specs.OneKey.{FirstComesIn, FirstIsOut, without_hit}
 use Rattle.ft_table.specs.Tabled.{Tabled, is_in, first_out}
 use Rattle.ft_table.specs.declared.mark.Mark.{Mark}
-use Rattle.ft_kept.specs.Switches.{first_is_in}
+use Rattle.ft_kept.specs.inner.Following.{first_is_in}
 use Rattle.ft_kept.proofs.Both.{and_left, and_right, same_itself}
 use Rattle.ft_kept.proofs.Gone.{not_same, not-false}
 

@@ -14,10 +14,11 @@ use Rattle.ft_hist.specs.declared.key.Part.{Part}
 use Rattle.ft_pairs.specs.Source.{Ops}
 use Rattle.ft_pairs.specs.declared.at.At.{At}
 use Rattle.ft_table.specs.Tabled.{Tabled}
-use Rattle.ft_kept.specs.Acts.{IsDoneToo}
+use Rattle.ft_kept.specs.inner.OneAct.{IsDoneToo}
 use Rattle.ft_kept.specs.Bounds.{TableEdit, TableMoves, SaverMoves, SomeSaverMoves, OtherSaversStay, table_on}
 use Rattle.ft_hist.specs.Tests.{asked}
-use Rattle.ft_kept.specs.Shelves.{Shelved, Shelves, ChangesShelf, FormsStay, OpsChange, ReaderChanges, ReadersChange, TakesHit, is_saver, role_on}
+use Rattle.ft_kept.specs.Shelves.{Shelved, Shelves, FormsStay, is_saver, role_on}
+use Rattle.ft_kept.specs.inner.Edits.{ChangesShelf, OpsChange, ReaderChanges, ReadersChange, TakesHit}
 use Rattle.ft_pairs.specs.declared.role.Role.TheVariants.{Saves}
 use Rattle.ft_kept.proofs.Decided.{none_not_some}
 use Rattle.ft_kept.proofs.Forms.{by_id, read_forms, readers_refl, readers_trans, role_at, roles_stay}

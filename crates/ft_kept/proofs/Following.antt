@@ -21,10 +21,11 @@ use Rattle.ft_pairs.specs.declared.at.At.{At}
 use Rattle.ft_pairs.specs.declared.at.Op.{Op}
 use Rattle.ft_pairs.specs.declared.at.Op.TheVariants.{Save, Read}
 use Rattle.ft_table.specs.Hits.{Hits, same_key}
-use Rattle.ft_kept.specs.Acts.{Acts, Comes, IsOneAct, op_of}
+use Rattle.ft_kept.specs.Acts.{Acts, Comes, op_of}
+use Rattle.ft_kept.specs.inner.OneAct.{IsOneAct}
 use Rattle.ft_kept.specs.Entries.{one_hit}
 use Rattle.ft_pairs.specs.Roles.{Admits, op_as, variable_of}
-use Rattle.ft_kept.specs.Switches.{switched, switched_with, with_saves}
+use Rattle.ft_kept.specs.inner.Following.{switched, switched_with, with_saves}
 use Rattle.ft_pairs.specs.Variables.{variable_cmp, variable_cmp_total, variable_same}
 use Rattle.ft_pairs.specs.declared.role.Role.{Role}
 use Rattle.ft_pairs.specs.declared.role.Role.TheVariants.{Plain, Saves, Reads}

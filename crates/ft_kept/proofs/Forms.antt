@@ -19,9 +19,10 @@ use Rattle.ft_pairs.specs.Source.{Ops}
 use Rattle.ft_pairs.specs.declared.at.At.{At}
 use Rattle.ft_table.specs.Tabled.{is_in}
 use Rattle.ft_table.specs.declared.mark.Mark.{Mark}
-use Rattle.ft_kept.specs.Entries.{OpsStay}
+use Rattle.ft_kept.specs.inner.Edits.{OpsStay}
 use Rattle.ft_kept.specs.Repairs.{AreShelved}
-use Rattle.ft_kept.specs.Shelves.{Shelved, Shelves, KeepsForm, FormStays, FormsStay, ReaderChanges, ReadersChange, OpsChange, ChangesShelf}
+use Rattle.ft_kept.specs.Shelves.{Shelved, Shelves, KeepsForm, FormStays, FormsStay}
+use Rattle.ft_kept.specs.inner.Edits.{ReaderChanges, ReadersChange, OpsChange, ChangesShelf}
 use Rattle.ft_kept.specs.Shelves.{is_saver, role_on, admits_on, kept_on}
 use Rattle.ft_pairs.specs.declared.role.Role.{Role}
 use Rattle.ft_pairs.specs.declared.role.Role.TheVariants.{Plain, Saves, Reads}

@@ -11,7 +11,7 @@ use Rattle.ft_table.specs.Hits.{same_key}
 use Rattle.ft_table.specs.OneKey.{LastGoesOut}
 use Rattle.ft_table.specs.Tabled.{Tabled, keys_in, is_in, last_in}
 use Rattle.ft_table.specs.declared.mark.Mark.{Mark}
-use Rattle.ft_kept.specs.Switches.{last_is_out}
+use Rattle.ft_kept.specs.inner.Following.{last_is_out}
 use Rattle.ft_kept.proofs.Both.{and_left, and_right, same_itself}
 
 pub not_same : (k q : List Part) → (k ≡ q → ⊥) → same_key k q ≡ false

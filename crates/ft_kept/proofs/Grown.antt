@@ -16,8 +16,10 @@ use Rattle.ft_table.specs.Hits.{Hits, same_key}
 use Rattle.ft_table.specs.OneKey.{LastGoesOut}
 use Rattle.ft_table.specs.Tabled.{Tabled, is_in}
 use Rattle.ft_table.specs.declared.mark.Mark.{Mark}
-use Rattle.ft_kept.specs.Shelves.{Shelved, OpsChange, with_hit_on}
-use Rattle.ft_kept.specs.Switches.{switched, switched_with, followed, HitFollows, differ, MovesKeys}
+use Rattle.ft_kept.specs.Shelves.{Shelved}
+use Rattle.ft_kept.specs.inner.Edits.{OpsChange, with_hit_on}
+use Rattle.ft_kept.specs.inner.Following.{switched, switched_with, followed, HitFollows, MovesKeys}
+use Rattle.ft_kept.specs.Switches.{differ}
 use Rattle.ft_kept.proofs.Both.{same_both, same_itself}
 use Rattle.ft_kept.proofs.Gone.{gone, gone_moved, gone_stayed}
 

@@ -10,7 +10,8 @@ use Rattle.ft_lanes.specs.Held.{Lanes}
 use Rattle.ft_pairs.specs.declared.at.At.{At}
 use Rattle.ft_kept.specs.Repairs.{HasGone}
 use Rattle.ft_pairs.specs.Roles.{variable_of}
-use Rattle.ft_kept.specs.Shelves.{Shelves, ChangesShelf, TakesHit, role_on, admits_on, kept_on}
+use Rattle.ft_kept.specs.Shelves.{Shelves, role_on, admits_on, kept_on}
+use Rattle.ft_kept.specs.inner.Edits.{ChangesShelf, TakesHit}
 use Rattle.ft_table.specs.Values.{values_by}
 use Rattle.ft_pairs.specs.declared.role.Role.TheVariants.{Plain}
 use Rattle.ft_pairs.specs.declared.role.Variable.{Variable}

@@ -16,9 +16,11 @@ use Rattle.ft_pairs.specs.declared.at.At.{At}
 use Rattle.ft_pairs.specs.declared.at.Op.{Op}
 use Rattle.ft_pairs.specs.declared.at.Op.TheVariants.{Save, Read}
 use Rattle.ft_table.specs.Hits.{same_key}
-use Rattle.ft_kept.specs.Acts.{Acts, IsOneAct, op_of}
-use Rattle.ft_kept.specs.Entries.{HitsHere, IsEntry, IsKept, IsKeptBut, IsOwn, IsRight, StaysBut, hits_here, one_hit, read_here}
-use Rattle.ft_kept.specs.Owed.{is_next_read, is_read, is_switched, is_switched_as, one_owes}
+use Rattle.ft_kept.specs.Acts.{Acts, op_of}
+use Rattle.ft_kept.specs.inner.OneAct.{IsOneAct}
+use Rattle.ft_kept.specs.Entries.{HitsHere, IsEntry, IsKept, IsKeptBut, IsOwn, IsRight, hits_here, one_hit, read_here}
+use Rattle.ft_kept.specs.inner.Edits.{StaysBut}
+use Rattle.ft_kept.specs.inner.Owed.{is_next_read, is_read, is_switched, is_switched_as, one_owes}
 use Rattle.ft_pairs.specs.Roles.{Admits, op_as, variable_of}
 use Rattle.ft_kept.specs.Shelves.{Kept}
 use Rattle.ft_kept.specs.Switches.{differ}

@@ -18,8 +18,9 @@ use Rattle.ft_pairs.specs.Source.{Ops, IsSource}
 use Rattle.ft_pairs.specs.declared.at.At.{At}
 use Rattle.ft_table.specs.Hits.{same_key}
 use Rattle.ft_kept.specs.Acts.{Acts}
-use Rattle.ft_kept.specs.Entries.{HitsHere, hits_here, read_here, one_hit, IsEntry, IsOwn, StaysBut, OpsStay, IsRight, IsKeptBut}
-use Rattle.ft_kept.specs.Repairs.{Owed, IsPartly, Pays}
+use Rattle.ft_kept.specs.Entries.{HitsHere, hits_here, read_here, one_hit, IsEntry, IsOwn, IsRight, IsKeptBut}
+use Rattle.ft_kept.specs.inner.Edits.{StaysBut, OpsStay}
+use Rattle.ft_kept.specs.inner.Settling.{Owed, IsPartly, Pays}
 use Rattle.ft_pairs.specs.Roles.{Admits}
 use Rattle.ft_kept.specs.Shelves.{Kept, Shelves, FormsStay, role_on, kept_on}
 use Rattle.ft_table.specs.Values.{ValuesBy, values_by}

@@ -11,10 +11,12 @@ use Rattle.ft_pairs.specs.Next.{IsNext}
 use Rattle.ft_pairs.specs.Source.{Ops}
 use Rattle.ft_pairs.specs.declared.at.At.{At}
 use Rattle.ft_pairs.specs.declared.at.Op.{Op}
-use Rattle.ft_kept.specs.Owed.{is_next_read, reads_at}
-use Rattle.ft_kept.specs.Repairs.{AreShelved, IsPartly, Owed, Pays, without_moved, without_next_read, without_reads_of}
-use Rattle.ft_kept.specs.Shelves.{FormsStay, ReadersChange, Shelves, kept_on, role_on}
-use Rattle.ft_kept.specs.Switches.{Moves}
+use Rattle.ft_kept.specs.inner.Owed.{is_next_read, reads_at}
+use Rattle.ft_kept.specs.Repairs.{AreShelved}
+use Rattle.ft_kept.specs.inner.Settling.{IsPartly, Owed, Pays, without_moved, without_next_read, without_reads_of}
+use Rattle.ft_kept.specs.Shelves.{FormsStay, Shelves, kept_on, role_on}
+use Rattle.ft_kept.specs.inner.Edits.{ReadersChange}
+use Rattle.ft_kept.specs.inner.Following.{Moves}
 use Rattle.ft_table.specs.Values.{values_by}
 use Rattle.ft_kept.proofs.Forms.{readers_forms, readers_ops, readers_refl, readers_trans, roles_stay, shelved_stay}
 use Rattle.ft_kept.proofs.Owing.{kept_as, owes_more}

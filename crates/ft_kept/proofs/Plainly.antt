@@ -15,7 +15,8 @@ use Rattle.ft_kept.specs.Acts.{Acts, Comes, op_of}
 use Rattle.ft_kept.specs.Entries.{IsEntry, IsRight, hits_here, read_here}
 use Rattle.ft_kept.specs.Repairs.{HasCome}
 use Rattle.ft_pairs.specs.Roles.{variable_of}
-use Rattle.ft_kept.specs.Shelves.{Shelved, Shelves, FormsStay, admits_on, is_saver, kept_on, role_on, with_hit_on}
+use Rattle.ft_kept.specs.Shelves.{Shelved, Shelves, FormsStay, admits_on, is_saver, kept_on, role_on}
+use Rattle.ft_kept.specs.inner.Edits.{with_hit_on}
 use Rattle.ft_table.specs.Values.{values_at, values_by}
 use Rattle.ft_pairs.specs.declared.role.Role.{Role}
 use Rattle.ft_pairs.specs.declared.role.Role.TheVariants.{Plain}

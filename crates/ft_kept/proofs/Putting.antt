@@ -13,15 +13,18 @@ use Rattle.ft_hist.specs.Hist.{Hist}
 use Rattle.ft_hist.specs.Orders.{key_cmp_total}
 use Rattle.ft_hist.specs.Ties.{key_same}
 use Rattle.ft_hist.specs.declared.key.Part.{Part}
+use Rattle.ft_lanes.specs.Held.{Lanes}
 use Rattle.ft_pairs.specs.Source.{Ops}
 use Rattle.ft_pairs.specs.declared.at.At.{At}
 use Rattle.ft_table.specs.Growth.{with_hit}
 use Rattle.ft_table.specs.Marks.{mark_cmp, mark_cmp_total, mark_same}
 use Rattle.ft_table.specs.declared.mark.Mark.{Mark}
-use Rattle.ft_kept.specs.Acts.{Acts, Comes, IsOneAct}
-use Rattle.ft_kept.specs.Entries.{IsEntry, IsKept, StaysBut, hits_here, one_hit, read_here}
-use Rattle.ft_kept.specs.Owed.{is_switched, is_switched_as}
-use Rattle.ft_kept.specs.Repairs.{AreShelved}
+use Rattle.ft_kept.specs.Acts.{Acts, Comes}
+use Rattle.ft_kept.specs.inner.OneAct.{IsOneAct}
+use Rattle.ft_kept.specs.Entries.{IsEntry, IsKept, hits_here, one_hit, read_here}
+use Rattle.ft_kept.specs.inner.Edits.{StaysBut}
+use Rattle.ft_kept.specs.inner.Owed.{is_switched, is_switched_as}
+use Rattle.ft_kept.specs.Repairs.{AreShelved, CanCome}
 use Rattle.ft_pairs.specs.Roles.{Admits}
 use Rattle.ft_kept.specs.Shelves.{Kept, Shelved, Shelves, kept_on}
 use Rattle.ft_table.specs.Values.{ValuesBy, values_at, values_by}
@@ -54,6 +57,10 @@ unfolding values_by
 values_there triggers id hist pos event saved attached = ap (λ (o : Option Hist). option_map_or (λ hist. values_at hist pos event saved) o []) attached
 
 -- ---- acts that come
+
+-- the event of an act that can come has the stamp of its place
+pub stamped : (triggers : FinMap nat_cmp Hist) (lanes : Lanes) (shelves : Shelves) (at : At) (key : List Part) (event : Traced) → CanCome triggers lanes at (Some (key, event)) shelves → event.stamp ≡ at.pos.stamp
+stamped triggers lanes shelves at key event can = (can.held at key event can.comes.here).1
 
 -- one act that comes is one act
 pub one_comes : (at : At) (act : List Part × Traced) (before after : Acts) → Comes at (Some act) before after → IsOneAct at act before after

@@ -14,11 +14,14 @@ use Rattle.ft_pairs.specs.declared.at.At.{At}
 use Rattle.ft_pairs.specs.declared.at.Op.{Op}
 use Rattle.ft_pairs.specs.declared.at.Op.TheVariants.{Read}
 use Rattle.ft_kept.specs.Acts.{Acts, Comes, op_of}
-use Rattle.ft_kept.specs.Entries.{IsEntry, IsKept, IsKeptBut, IsOwn, IsRight, StaysBut, hits_here, read_here}
-use Rattle.ft_kept.specs.Owed.{is_next_read, is_switched}
-use Rattle.ft_kept.specs.Repairs.{AreShelved, CanCome, HasCome, IsPartly, Pays, without_next_read}
+use Rattle.ft_kept.specs.Entries.{IsEntry, IsKept, IsKeptBut, IsOwn, IsRight, hits_here, read_here}
+use Rattle.ft_kept.specs.inner.Edits.{StaysBut}
+use Rattle.ft_kept.specs.inner.Owed.{is_next_read, is_switched}
+use Rattle.ft_kept.specs.Repairs.{AreShelved, CanCome, HasCome}
+use Rattle.ft_kept.specs.inner.Settling.{IsPartly, Pays, without_next_read}
 use Rattle.ft_pairs.specs.Roles.{variable_of}
-use Rattle.ft_kept.specs.Shelves.{ChangesShelf, FormsStay, OpsChange, ReadersChange, Shelves, admits_on, kept_on, role_on}
+use Rattle.ft_kept.specs.inner.Edits.{ChangesShelf, OpsChange, ReadersChange}
+use Rattle.ft_kept.specs.Shelves.{FormsStay, Shelves, admits_on, kept_on, role_on}
 use Rattle.ft_table.specs.Values.{values_by}
 use Rattle.ft_pairs.specs.declared.role.Role.{Role}
 use Rattle.ft_pairs.specs.declared.role.Role.TheVariants.{Reads}

@@ -14,11 +14,14 @@ use Rattle.ft_pairs.specs.Order.{at_cmp_total, at_same}
 use Rattle.ft_pairs.specs.declared.at.At.{At}
 use Rattle.ft_pairs.specs.declared.at.Op.{Op}
 use Rattle.ft_kept.specs.Acts.{Acts, Comes}
-use Rattle.ft_kept.specs.Entries.{IsKept, IsKeptBut, StaysBut}
-use Rattle.ft_kept.specs.Owed.{is_next_read, is_switched}
-use Rattle.ft_kept.specs.Repairs.{AreShelved, CanGo, HasGone, IsPartly, Pays, without_next_read}
+use Rattle.ft_kept.specs.Entries.{IsKept, IsKeptBut}
+use Rattle.ft_kept.specs.inner.Edits.{StaysBut}
+use Rattle.ft_kept.specs.inner.Owed.{is_next_read, is_switched}
+use Rattle.ft_kept.specs.Repairs.{AreShelved, CanGo, HasGone}
+use Rattle.ft_kept.specs.inner.Settling.{IsPartly, Pays, without_next_read}
 use Rattle.ft_pairs.specs.Roles.{variable_of}
-use Rattle.ft_kept.specs.Shelves.{Shelves, ChangesShelf, FormsStay, OpsChange, ReadersChange, TakesHit, admits_on, kept_on, role_on}
+use Rattle.ft_kept.specs.Shelves.{Shelves, FormsStay, admits_on, kept_on, role_on}
+use Rattle.ft_kept.specs.inner.Edits.{ChangesShelf, OpsChange, ReadersChange, TakesHit}
 use Rattle.ft_table.specs.Values.{values_by}
 use Rattle.ft_pairs.specs.declared.role.Role.TheVariants.{Reads}
 use Rattle.ft_pairs.specs.declared.role.Variable.{Variable}

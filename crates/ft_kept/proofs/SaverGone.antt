@@ -23,12 +23,17 @@ use Rattle.ft_pairs.specs.declared.at.At.{At}
 use Rattle.ft_table.specs.Hits.{Hits}
 use Rattle.ft_table.specs.Tabled.{is_in}
 use Rattle.ft_table.specs.declared.mark.Mark.{Mark}
-use Rattle.ft_kept.specs.Acts.{Acts, Comes, IsOneAct, op_of}
-use Rattle.ft_kept.specs.Entries.{HitsHere, IsEntry, IsKept, StaysBut, hits_here, one_hit, read_here}
-use Rattle.ft_kept.specs.Repairs.{CanGo, HasGoneOwing}
+use Rattle.ft_kept.specs.Acts.{Acts, Comes, op_of}
+use Rattle.ft_kept.specs.inner.OneAct.{IsOneAct}
+use Rattle.ft_kept.specs.Entries.{HitsHere, IsEntry, IsKept, hits_here, one_hit, read_here}
+use Rattle.ft_kept.specs.inner.Edits.{StaysBut}
+use Rattle.ft_kept.specs.Repairs.{CanGo}
+use Rattle.ft_kept.specs.inner.Settling.{HasGoneOwing}
 use Rattle.ft_pairs.specs.Roles.{Admits, variable_of}
-use Rattle.ft_kept.specs.Shelves.{ChangesShelf, FormsStay, Shelved, Shelves, TakesHit, admits_on, is_saver, kept_on, role_on, without_hit_on}
-use Rattle.ft_kept.specs.Switches.{HitLessFollows, Members, Moves, MovesKeys, followed_less, switched}
+use Rattle.ft_kept.specs.inner.Edits.{ChangesShelf, TakesHit, without_hit_on}
+use Rattle.ft_kept.specs.Shelves.{FormsStay, Shelved, Shelves, admits_on, is_saver, kept_on, role_on}
+use Rattle.ft_kept.specs.inner.Following.{HitLessFollows, Moves, MovesKeys, followed_less, switched}
+use Rattle.ft_kept.specs.Switches.{Members}
 use Rattle.ft_table.specs.Values.{ValuesBy, values_by}
 use Rattle.ft_pairs.specs.declared.role.Role.{Role}
 use Rattle.ft_pairs.specs.declared.role.Role.TheVariants.{Saves}

@@ -20,10 +20,12 @@ use Rattle.ft_pairs.specs.declared.at.At.{At}
 use Rattle.ft_table.specs.Tabled.{is_in}
 use Rattle.ft_kept.specs.Acts.{Acts, Comes, op_of}
 use Rattle.ft_kept.specs.Entries.{HitsHere, IsEntry, IsKept, IsRight, hits_here, one_hit, read_here}
-use Rattle.ft_kept.specs.Repairs.{CanCome, HasComeOwing}
+use Rattle.ft_kept.specs.Repairs.{CanCome}
+use Rattle.ft_kept.specs.inner.Settling.{HasComeOwing}
 use Rattle.ft_pairs.specs.Roles.{variable_of}
 use Rattle.ft_kept.specs.Shelves.{FormsStay, Shelved, Shelves, admits_on, is_saver, kept_on, role_on}
-use Rattle.ft_kept.specs.Switches.{HitFollows, Members, Moves, MovesKeys, followed, switched, switched_with}
+use Rattle.ft_kept.specs.inner.Following.{HitFollows, Moves, MovesKeys, followed, switched, switched_with}
+use Rattle.ft_kept.specs.Switches.{Members}
 use Rattle.ft_table.specs.Values.{ValuesBy, values_at, values_by}
 use Rattle.ft_pairs.specs.declared.role.Role.{Role}
 use Rattle.ft_pairs.specs.declared.role.Role.TheVariants.{Saves}

@@ -10,7 +10,8 @@ use Rattle.ft_maps.specs.Entries.{get-insert_same, get-insert_other}
 use Rattle.ft_pairs.specs.ByKey.{ByKey, ChangesKey}
 use Rattle.ft_pairs.specs.Source.{Ops}
 use Rattle.ft_table.specs.Tabled.{Tabled}
-use Rattle.ft_kept.specs.Shelves.{Shelved, Shelves, Readings, OpsChange, ChangesShelf}
+use Rattle.ft_kept.specs.Shelves.{Shelved, Shelves, Readings}
+use Rattle.ft_kept.specs.inner.Edits.{OpsChange, ChangesShelf}
 use Rattle.ft_pairs.specs.declared.role.Role.{Role}
 
 -- one key's operations change, and nothing else

@@ -13,8 +13,10 @@ use Rattle.ft_table.specs.Hits.{same_key}
 use Rattle.ft_table.specs.OneKey.{FirstComesIn, FirstIsOut, without_hit}
 use Rattle.ft_table.specs.Tabled.{Tabled, is_in}
 use Rattle.ft_table.specs.declared.mark.Mark.{Mark}
-use Rattle.ft_kept.specs.Shelves.{Shelved, OpsChange, without_hit_on}
-use Rattle.ft_kept.specs.Switches.{switched, followed_less, HitLessFollows, differ, MovesKeys}
+use Rattle.ft_kept.specs.Shelves.{Shelved}
+use Rattle.ft_kept.specs.inner.Edits.{OpsChange, without_hit_on}
+use Rattle.ft_kept.specs.inner.Following.{switched, followed_less, HitLessFollows, MovesKeys}
+use Rattle.ft_kept.specs.Switches.{differ}
 use Rattle.ft_kept.proofs.Both.{same_itself}
 use Rattle.ft_kept.proofs.ComeIn.{came, came_moved, came_stayed}
 use Rattle.ft_kept.proofs.Grown.{named, no_switch, not_named}

@@ -10,9 +10,10 @@ use Rattle.ft_maps.specs.Entries.{same_from_tie}
 use Rattle.ft_pairs.specs.declared.at.At.{At}
 use Rattle.ft_pairs.specs.declared.at.Op.TheVariants.{Save, Read}
 use Rattle.ft_kept.specs.Acts.{Acts, AreHeld, op_of}
-use Rattle.ft_kept.specs.Entries.{IsOwn, IsEntry, IsKeptBut, OpsStay, StaysBut, hits_here, read_here}
-use Rattle.ft_kept.specs.Owed.{is_read}
-use Rattle.ft_kept.specs.Repairs.{Owed, without_next_read}
+use Rattle.ft_kept.specs.Entries.{IsOwn, IsEntry, IsKeptBut, hits_here, read_here}
+use Rattle.ft_kept.specs.inner.Edits.{OpsStay, StaysBut}
+use Rattle.ft_kept.specs.inner.Owed.{is_read}
+use Rattle.ft_kept.specs.inner.Settling.{Owed, without_next_read}
 use Rattle.ft_pairs.specs.Roles.{Admits, op_as}
 use Rattle.ft_kept.specs.Shelves.{Kept}
 use Rattle.ft_table.specs.Values.{ValuesBy}

@@ -16,10 +16,13 @@ use Rattle.ft_pairs.specs.declared.at.At.{At}
 use Rattle.ft_table.specs.Marks.{mark_cmp, mark_cmp_total, mark_same}
 use Rattle.ft_table.specs.Tabled.{is_in}
 use Rattle.ft_table.specs.declared.mark.Mark.{Mark}
-use Rattle.ft_kept.specs.Acts.{Acts, AreHeld, Comes, IsOneAct, op_of}
-use Rattle.ft_kept.specs.Entries.{IsEntry, IsKept, IsOwn, IsRight, StaysBut, hits_here, read_here}
+use Rattle.ft_kept.specs.Acts.{Acts, AreHeld, Comes, op_of}
+use Rattle.ft_kept.specs.inner.OneAct.{IsOneAct}
+use Rattle.ft_kept.specs.Entries.{IsEntry, IsKept, IsOwn, IsRight, hits_here, read_here}
+use Rattle.ft_kept.specs.inner.Edits.{StaysBut}
 use Rattle.ft_pairs.specs.Roles.{Admits, variable_of}
-use Rattle.ft_kept.specs.Shelves.{Kept, Shelved, Shelves, ChangesShelf, FormStays, FormsStay, TakesHit, is_saver, role_on, admits_on, kept_on}
+use Rattle.ft_kept.specs.Shelves.{Kept, Shelved, Shelves, FormStays, FormsStay, is_saver, role_on, admits_on, kept_on}
+use Rattle.ft_kept.specs.inner.Edits.{ChangesShelf, TakesHit}
 use Rattle.ft_table.specs.Values.{ValuesBy}
 use Rattle.ft_pairs.specs.declared.role.Role.{Role}
 use Rattle.ft_pairs.specs.declared.role.Role.TheVariants.{Plain, Saves, Reads}

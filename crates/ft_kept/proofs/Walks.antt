@@ -11,8 +11,8 @@ use Rattle.ft_pairs.specs.Order.{at_cmp, at_cmp_total, at_same}
 use Rattle.ft_pairs.specs.Source.{Ops}
 use Rattle.ft_pairs.specs.declared.at.At.{At}
 use Rattle.ft_pairs.specs.declared.at.Op.{Op}
-use Rattle.ft_kept.specs.Owed.{is_read, reads_at, is_to_come}
-use Rattle.ft_kept.specs.Repairs.{Owed, without_next_read}
+use Rattle.ft_kept.specs.inner.Owed.{is_read, reads_at, is_to_come}
+use Rattle.ft_kept.specs.inner.Settling.{Owed, without_next_read}
 use Rattle.ft_kept.proofs.Paid.{same_at_itself}
 
 -- what is owed on a walk over the operations on a variable: of its readings those that are still to come

@@ -1,11 +1,10 @@
--- Acts: what each trigger has to count at each event, and how acts come and go.
-use Rattle.std.specs.Prelude.{◌≡◌, ◌⊎◌, ◌&&◌, ℕ, Bool, true, false, List, Option, Some, None, option_map, option_and_then, if◌then◌else◌}
-use Rattle.std.specs.Ordering.{nat_cmp, eq_by_cmp}
+-- Acts: what each trigger has to count at each event, and how one more comes.
+use Rattle.std.specs.Prelude.{◌≡◌, ℕ, List, Option, Some, None, option_map, option_and_then}
+use Rattle.std.specs.Ordering.{nat_cmp}
 use Rattle.std.specs.FinMap as map
 use Rattle.std.specs.FinMap.{FinMap}
 use Rattle.ft_event.specs.Places.{pos_cmp}
 use Rattle.ft_event.specs.Traced.{Traced}
-use Rattle.ft_event.specs.declared.pos.Pos.{Pos}
 use Rattle.ft_hist.specs.Hist.{Hist}
 use Rattle.ft_hist.specs.Hit.{hit}
 use Rattle.ft_hist.specs.declared.key.Part.{Part}
@@ -36,25 +35,8 @@ AreHeld lanes acts =
     (at : At) (key : List Part) (event : Traced) → acts at ≡ Some (key, event)
     → (event_at lanes at.pos.cpu at.pos.line ≡ Some event) × (event.stamp ≡ at.pos.stamp)
 
--- ---- acts that come and go
-
--- the acts are the same but at one place, where this act stands on one side alone (our own choice)
-pub record IsOneAct (at : At) (act : List Part × Traced) (before after : Acts) : Type 0 where
-  pub elsewhere : (q : At) → (q ≡ at → ⊥) → after q ≡ before q
-  pub here : ((before at ≡ None) × (after at ≡ Some act)) ⊎ ((before at ≡ Some act) × (after at ≡ None))
-
 -- an act comes, if there is one, where none was; all others stay (our own choice)
 pub record Comes (at : At) (act : Option (List Part × Traced)) (before after : Acts) : Type 0 where
   pub elsewhere : (q : At) → (q ≡ at → ⊥) → after q ≡ before q
   pub absent : before at ≡ None
   pub here : after at ≡ act
-
--- acts on the way from some to others: at one place some triggers act as afterwards, and all else is as before (our own choice)
-abbrev pub between : Acts → Acts → Pos → (ℕ → Bool) → Acts
-between before after pos done at = if eq_by_cmp pos_cmp at.pos pos && done at.trigger then after at else before at
-
--- one more trigger is done (our own choice)
-pub record IsDoneToo (id : ℕ) (done more : ℕ → Bool) : Type 0 where
-  pub was : done id ≡ false
-  pub is : more id ≡ true
-  pub others : (i : ℕ) → (i ≡ id → ⊥) → more i ≡ done i

@@ -6,13 +6,13 @@ use Rattle.ft_hist.specs.declared.key.Part.{Part}
 use Rattle.ft_pairs.specs.Source.{Ops, IsSource}
 use Rattle.ft_pairs.specs.declared.at.At.{At}
 use Rattle.ft_table.specs.Hits.{same_key}
-use Rattle.ft_kept.specs.Acts.{Acts, op_of}
 use Rattle.ft_pairs.specs.Roles.{Admits}
-use Rattle.ft_kept.specs.Shelves.{Kept}
 use Rattle.ft_table.specs.Values.{ValuesBy}
 use Rattle.ft_pairs.specs.declared.role.Role.{Role}
 use Rattle.ft_pairs.specs.declared.role.Role.TheVariants.{Plain, Saves, Reads}
 use Rattle.ft_pairs.specs.declared.role.Variable.{Variable}
+use Rattle.ft_kept.specs.Shelves.{Kept}
+use Rattle.ft_kept.specs.Acts.{Acts, op_of}
 
 -- the hits of a trigger at one place, by key (our own choice)
 abbrev pub HitsHere : Type 0
@@ -46,14 +46,6 @@ IsEntry values ops at (Reads saver) (Some act) hits read =
 -- hits at a place stand under the key of the act there alone (our own choice)
 abbrev pub IsOwn : Option (List Part × Traced) → HitsHere → Type 0
 IsOwn act hits = (key : List Part) → (hits key ≡ None) ⊎ ((a : List Part × Traced) × ((act ≡ Some a) × (a.0 ≡ key)))
-
--- hits and readings stay as they were but at one place (our own choice)
-abbrev pub StaysBut : At → Kept → Kept → Type 0
-StaysBut at old new = (q : At) → (q ≡ at → ⊥) → ((key : List Part) → hits_here new q key ≡ hits_here old q key) × (read_here new q ≡ read_here old q)
-
--- operations stay as they were (our own choice)
-abbrev pub OpsStay : Kept → Kept → Type 0
-OpsStay old new = (variable : Variable) (q : At) → new.ops variable q ≡ old.ops variable q
 
 module _ (role : ℕ → Role) (values : ValuesBy) where
   -- the place has what its act and the operations say (our own choice)

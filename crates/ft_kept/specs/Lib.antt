@@ -2,10 +2,10 @@ pub mod Acts
 pub mod Bounds
 pub mod Codes
 pub mod Entries
-pub mod Owed
 pub mod Repairs
 pub mod Shelves
 pub mod Switches
+pub mod inner
 pub use Rattle.ft_event.specs.Places
 pub use Rattle.ft_event.specs.Traced
 pub use Rattle.ft_hist.specs.Hist

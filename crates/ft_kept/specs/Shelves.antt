@@ -9,19 +9,17 @@ use Rattle.ft_event.specs.Places.{pos_cmp}
 use Rattle.ft_event.specs.contracts.pos.Pos as pos
 use Rattle.ft_event.specs.declared.pos.Pos.{Pos}
 use Rattle.ft_hist.specs.declared.key.Part.{Part}
-use Rattle.ft_pairs.specs.ByKey.{ByKey, ChangesKey, ops_of, ops_left}
+use Rattle.ft_pairs.specs.ByKey.{ByKey, ops_of}
 use Rattle.ft_pairs.specs.Codes.{by_key_code}
 use Rattle.ft_pairs.specs.Source.{Ops}
 use Rattle.ft_pairs.specs.declared.at.At.{At}
 use Rattle.ft_table.specs.Codes.{tabled_code}
-use Rattle.ft_table.specs.Growth.{with_hit}
-use Rattle.ft_table.specs.OneKey.{without_hit}
 use Rattle.ft_table.specs.Tabled.{Tabled, is_in}
 use Rattle.ft_table.specs.declared.mark.Mark.{Mark}
 use Rattle.ft_pairs.specs.Roles.{Admits}
 use Rattle.ft_pairs.specs.contracts.role.Role as role
 use Rattle.ft_pairs.specs.declared.role.Role.{Role}
-use Rattle.ft_pairs.specs.declared.role.Role.TheVariants.{Plain, Saves, Reads}
+use Rattle.ft_pairs.specs.declared.role.Role.TheVariants.{Plain, Saves}
 use Rattle.ft_pairs.specs.declared.role.Variable.{Variable}
 
 -- what readings found: by the place of the reading, the place of the saving (kernel: histogram.rst, inter-event hist triggers)
@@ -44,32 +42,6 @@ shelved_code = code_by
 -- shelves by the trigger's id (our own choice)
 abbrev pub Shelves : Type 0
 Shelves = FinMap nat_cmp Shelved
-
--- ---- edits of one shelf
-
--- what readings found, with what one found, if it found something (our own choice)
-abbrev pub readings_with : Readings → Pos → Option Pos → Readings
-readings_with readings at None = readings
-readings_with readings at (Some saved) = map.insert readings at saved
-
--- a shelf with one more hit, and with what it read, if it read (our own choice)
-abbrev pub with_hit_on : Mark → List ℤ → Option Pos → Shelved → Shelved
-with_hit_on mark values saved shelf = record shelf { table = with_hit shelf.table mark values; readings = readings_with shelf.readings mark.pos saved }
-
--- a shelf without a hit, and without what it read (our own choice)
-abbrev pub without_hit_on : Mark → Shelved → Shelved
-without_hit_on mark shelf = record shelf { table = without_hit shelf.table mark; readings = map.remove shelf.readings mark.pos }
-
--- a hit goes from the shelf, and what it read (our own choice)
-abbrev pub TakesHit : Mark → Shelved → Shelved → Type 0
-TakesHit mark old new = new ≡ without_hit_on mark old
-
--- the operations of one key change, and nothing else on the shelf (our own choice)
-pub record OpsChange (key : List Part) (edit : Ops → Ops) (old new : Shelved) : Type 0 where
-  pub role : new.role ≡ old.role
-  pub table : new.table ≡ old.table
-  pub readings : new.readings ≡ old.readings
-  pub ops : ChangesKey key edit old.ops new.ops
 
 -- ---- what shelves tell
 
@@ -116,23 +88,6 @@ FormStays (Some shelf) new = (after : Shelved) × ((new ≡ Some after) × Keeps
 abbrev pub FormsStay : Shelves → Shelves → Type 0
 FormsStay old new = (id : ℕ) → FormStays (map.get old id) (map.get new id)
 
--- a shelf of a reader keeps its role, its size and its operations, and any other shelf stays as it is (our own choice)
-abbrev pub ReaderChanges : Option Shelved → Option Shelved → Type 0
-ReaderChanges None new = new ≡ None
-ReaderChanges (Some shelf) new =
-    (after : Shelved)
-    × ((new ≡ Some after)
-    × (KeepsForm shelf after
-    × ((after.ops ≡ shelf.ops) × (((saver : ℕ) → shelf.role ≡ Reads saver → ⊥) → after ≡ shelf))))
-
--- only what readers counted and read changes (our own choice)
-abbrev pub ReadersChange : Shelves → Shelves → Type 0
-ReadersChange old new = (id : ℕ) → ReaderChanges (map.get old id) (map.get new id)
-
--- how many operations on a saver's variable stand behind a place; how many in all, if no place is given (our own choice)
-abbrev pub left_on : Shelves → ℕ → List Part → Option At → ℕ
-left_on shelves saver key after = option_map_or (λ shelf. ops_left shelf.ops key after) (map.get shelves saver) 0
-
 -- a shelf of this role and size has nothing on it (our own choice)
 pub record IsNewShelf (wanted : Role) (size : ℕ) (shelf : Shelved) : Type 0 where
   pub role : shelf.role ≡ wanted
@@ -143,9 +98,3 @@ pub record IsNewShelf (wanted : Role) (size : ℕ) (shelf : Shelved) : Type 0 wh
 -- a trigger has a new shelf, and the others keep theirs (our own choice)
 abbrev pub AddsShelf : ℕ → Role → ℕ → Shelves → Shelves → Type 0
 AddsShelf id wanted size old new = (shelf : Shelved) × ((new ≡ map.insert old id shelf) × IsNewShelf wanted size shelf)
-
--- one shelf changes so, if there is one, and the others stay (our own choice)
-pub record ChangesShelf (id : ℕ) (Change : Shelved → Shelved → Type 0) (old new : Shelves) : Type 0 where
-  pub others : (i : ℕ) → (i ≡ id → ⊥) → map.get new i ≡ map.get old i
-  pub none : map.get old id ≡ None → map.get new id ≡ None
-  pub here : (shelf : Shelved) → map.get old id ≡ Some shelf → (after : Shelved) × ((map.get new id ≡ Some after) × Change shelf after)

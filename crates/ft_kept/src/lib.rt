@@ -1,12 +1,26 @@
 //! What is kept of attached triggers beside the events that they count, so that an answer needs no
 //! replay: each trigger's table, the saves and reads of each variable, and what each reading found.
 //! As events come and go, all of it is repaired where they touch it.
+//!
+//! ```ignore
+//! let mut tables = Tables::new(alloc);
+//! tables.add(1, Role::Saves, 2048)?;
+//! tables.add(2, Role::Reads(1), 2048)?;
+//! let mut work = Work::new();
+//! if let Some(event) = lanes.get(pos.cpu, pos.line) {
+//!     tables.event_comes(&triggers, &lanes, pos, event, &mut work)?;
+//! }
+//! if let Some(shelf) = tables.shelf(2) {
+//!     let found = shelf.readings().get(&pos);
+//! }
+//! ```
 #![tactic(auto)]
 
+mod act;
 mod comes;
 mod goes;
-mod one_trigger;
-mod saver;
+mod moved;
+mod saver_comes;
 mod saver_goes;
 mod settle;
 mod shelf;

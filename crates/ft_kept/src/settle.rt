@@ -1,64 +1,66 @@
 //! Readings made right: what they had goes, and what they find now comes.
 
 ghost use Rattle.std.specs.Prelude.{◌≡◌, ◌+◌, ◌≤◌, Option, Some, OnOk};
-ghost use Rattle.std.specs.Ordering.{nat_cmp};
-ghost use Rattle.ft_maps.specs.Seen.{seen};
+ghost use Rattle.ft_hist.specs.Steps.{StepsGrow};
 ghost use Rattle.ft_pairs.specs.Next.{IsNext};
 ghost use Rattle.ft_pairs.specs.declared.at.At.{At};
 ghost use Rattle.ft_pairs.specs.declared.at.Op.{Op};
-ghost use Rattle.ft_hist.specs.Steps.{StepsGrow};
-ghost use Rattle.ft_kept.specs.Entries.{IsEntry, IsOwn, StaysBut, hits_here, read_here};
-ghost use Rattle.ft_kept.specs.Repairs.{AreShelved, IsPartly, Pays};
-ghost use Rattle.ft_kept.specs.Repairs.{without_next_read, without_reads_of};
-ghost use Rattle.ft_kept.specs.Shelves.{ReadersChange, role_on, kept_on};
-ghost use Rattle.ft_table.specs.Values.{values_by};
 ghost use Rattle.ft_pairs.specs.declared.role.Role.TheVariants.{Reads};
+ghost use Rattle.ft_table.specs.Values.{values_by};
+ghost use Rattle.ft_kept.specs.Entries.{IsEntry, IsOwn, hits_here, read_here};
+ghost use Rattle.ft_kept.specs.Repairs.{AreShelved};
+ghost use Rattle.ft_kept.specs.Shelves.{role_on, kept_on};
+ghost use Rattle.ft_kept.specs.inner.Acting.{CanSettle, Paid, triggers_of};
+ghost use Rattle.ft_kept.specs.inner.Edits.{ReadersChange, StaysBut};
+ghost use Rattle.ft_kept.specs.inner.Settling.{without_next_read, without_reads_of};
 
+use crate::act::Scene;
 use crate::tables::Tables;
 use ft_event::Event;
-use ft_hist::{Key, Trigger, Work};
-use ft_lanes::Lanes;
-use ft_pairs::{At, Op, one_next};
+use ft_hist::Work;
+use ft_pairs::{At, Op, Variable, one_next};
 use ft_table::hit_with;
 use std::alloc::AllocError;
-use std::collections::BTreeMap;
 
 /// Makes the reading of a key at a place right. Refused for memory.
 pub(crate) fn settle(
     tables: &mut Tables,
-    triggers: &BTreeMap<u32, Trigger>,
-    saver: u32,
-    key: Key,
+    scene: &Scene<'_>,
+    variable: &Variable,
     at: At,
     event: &Event,
     work: &mut Work,
 ) -> Result<(), AllocError>
-    requires shelved { AreShelved (seen nat_cmp triggers.now) tables.old }
-    requires role { role_on tables.old at.trigger ≡ Reads saver }
-    requires own { IsOwn (Some (key, event.now)) (hits_here (kept_on tables.old) at) }
+    requires shelved { AreShelved (triggers_of scene.now) tables.old }
+    requires role { role_on tables.old at.trigger ≡ Reads variable.now.saver }
+    requires own { IsOwn (Some (variable.now.key, event.now)) (hits_here (kept_on tables.old) at) }
     requires stamped { event.now.stamp ≡ at.pos.stamp }
     ensures readers { OnOk result (ReadersChange tables.old tables.new) }
     ensures others { OnOk result (StaysBut at (kept_on tables.old) (kept_on tables.new)) }
-    ensures right { OnOk result (IsEntry (values_by (seen nat_cmp triggers.now))
-        (kept_on tables.new).ops at (Reads saver) (Some (key, event.now))
+    ensures right { OnOk result (IsEntry (values_by (triggers_of scene.now))
+        (kept_on tables.new).ops at (Reads variable.now.saver) (Some (variable.now.key, event.now))
         (hits_here (kept_on tables.new) at) (read_here (kept_on tables.new) at)) }
     ensures puts { work.new.puts ≤ work.old.puts + 1 }
     ensures evals { work.new.evals ≡ work.old.evals }
     ensures grow { StepsGrow work.old work.new }
 {
-    let found = tables.source(saver, &key, at);
-    let Some(trigger) = triggers.get(&at.trigger) else {
+    let found = tables.source(variable, at);
+    let Some(trigger) = scene.triggers.get(&at.trigger) else {
         return Ok(());
     };
     let Some(shelf) = tables.shelves.get_mut(&at.trigger) else {
         return Ok(());
     };
-    shelf.take_hit(at.pos, key);
+    shelf.take_hit(at.pos, variable.key);
     match found {
         None => Ok(()),
         Some(saved) => {
             let read = Some(saved.pos);
-            shelf.put_hit(hit_with(trigger, event, at.pos, key, read), read, work)
+            shelf.put_hit(
+                hit_with(trigger, event, at.pos, variable.key, read),
+                read,
+                work,
+            )
         }
     }
 }
@@ -66,20 +68,16 @@ pub(crate) fn settle(
 /// Makes the reading of an operation right, if it is a read. Refused for memory.
 fn settle_op(
     tables: &mut Tables,
-    triggers: &BTreeMap<u32, Trigger>,
-    lanes: &Lanes,
-    saver: u32,
-    key: Key,
+    scene: &Scene<'_>,
+    variable: &Variable,
     step: (At, Op),
     work: &mut Work,
 ) -> Result<(), AllocError>
-    requires shelved { AreShelved (seen nat_cmp triggers.now) tables.old }
-    requires partly { IsPartly (seen nat_cmp triggers.now) lanes.now tables.old }
-    requires there { (kept_on tables.old).ops (record { saver = saver; key = key }) step.0
-        ≡ Some step.1 }
+    requires can { CanSettle scene.now tables.old }
+    requires there { (kept_on tables.old).ops variable.now step.0 ≡ Some step.1 }
     ensures readers { OnOk result (ReadersChange tables.old tables.new) }
-    ensures right { OnOk result (Pays (seen nat_cmp triggers.now) lanes.now
-        tables.old tables.new (without_next_read (Some step))) }
+    ensures right { OnOk result (Paid scene.now tables.old tables.new
+        (without_next_read (Some step))) }
     ensures puts { work.new.puts ≤ work.old.puts + 1 }
     ensures evals { work.new.evals ≡ work.old.evals }
     ensures grow { StepsGrow work.old work.new }
@@ -87,8 +85,8 @@ fn settle_op(
     let (at, op) = step;
     match op {
         Op::Save => Ok(()),
-        Op::Read => match lanes.get(at.pos.cpu, at.pos.line) {
-            Some(event) => settle(tables, triggers, saver, key, at, event, work),
+        Op::Read => match scene.lanes.get(at.pos.cpu, at.pos.line) {
+            Some(event) => settle(tables, scene, variable, at, event, work),
             None => Ok(()),
         },
     }
@@ -98,28 +96,24 @@ fn settle_op(
 /// read. Refused for memory.
 pub(crate) fn settle_next(
     tables: &mut Tables,
-    triggers: &BTreeMap<u32, Trigger>,
-    lanes: &Lanes,
-    saver: u32,
-    key: Key,
+    scene: &Scene<'_>,
+    variable: &Variable,
     at: At,
     work: &mut Work,
 ) -> Result<(), AllocError>
-    requires shelved { AreShelved (seen nat_cmp triggers.now) tables.old }
-    requires partly { IsPartly (seen nat_cmp triggers.now) lanes.now tables.old }
+    requires { CanSettle scene.now tables.old }
     ensures readers { OnOk result (ReadersChange tables.old tables.new) }
     ensures right { OnOk result ((next : Option (At × Op))
-        → IsNext ((kept_on tables.old).ops (record { saver = saver; key = key })) (Some at) next
-        → Pays (seen nat_cmp triggers.now) lanes.now tables.old tables.new
-        (without_next_read next)) }
+        → IsNext ((kept_on tables.old).ops variable.now) (Some at) next
+        → Paid scene.now tables.old tables.new (without_next_read next)) }
     ensures puts { work.new.puts ≤ work.old.puts + 1 }
     ensures evals { work.new.evals ≡ work.old.evals }
     ensures grow { StepsGrow work.old work.new }
 {
     // There is one next operation at most, so the one found here is the one that callers mean.
     one_next();
-    match tables.next_op(saver, &key, Some(at)) {
-        Some(step) => settle_op(tables, triggers, lanes, saver, key, step, work),
+    match tables.next_op(variable, Some(at)) {
+        Some(step) => settle_op(tables, scene, variable, step, work),
         None => Ok(()),
     }
 }
@@ -127,25 +121,21 @@ pub(crate) fn settle_next(
 /// Makes each reading of a variable right, by a walk over its operations. Refused for memory.
 pub(crate) fn settle_key(
     tables: &mut Tables,
-    triggers: &BTreeMap<u32, Trigger>,
-    lanes: &Lanes,
-    saver: u32,
-    key: Key,
+    scene: &Scene<'_>,
+    variable: &Variable,
     work: &mut Work,
 ) -> Result<(), AllocError>
-    requires shelved { AreShelved (seen nat_cmp triggers.now) tables.old }
-    requires partly { IsPartly (seen nat_cmp triggers.now) lanes.now tables.old }
+    requires { CanSettle scene.now tables.old }
     ensures readers { OnOk result (ReadersChange tables.old tables.new) }
-    ensures right { OnOk result (Pays (seen nat_cmp triggers.now) lanes.now
-        tables.old tables.new
-        (without_reads_of tables.old (record { saver = saver; key = key }))) }
+    ensures right { OnOk result (Paid scene.now tables.old tables.new
+        (without_reads_of tables.old variable.now)) }
     ensures evals { work.new.evals ≡ work.old.evals }
     ensures grow { StepsGrow work.old work.new }
 {
-    let mut next = tables.next_op(saver, &key, None);
+    let mut next = tables.next_op(variable, None);
     while let Some(step) = next {
-        settle_op(tables, triggers, lanes, saver, key, step, work)?;
-        next = tables.next_op(saver, &key, Some(step.0));
+        settle_op(tables, scene, variable, step, work)?;
+        next = tables.next_op(variable, Some(step.0));
     }
     Ok(())
 }

@@ -13,8 +13,9 @@ ghost use Rattle.ft_pairs.specs.Source.{IsSource};
 ghost use Rattle.ft_pairs.specs.declared.at.At.{At};
 ghost use Rattle.ft_table.specs.Tabled.{is_in};
 ghost use Rattle.ft_hist.specs.Steps.{StepsGrow};
-ghost use Rattle.ft_kept.specs.Shelves.{IsNewShelf, OpsChange, with_hit_on, without_hit_on};
-ghost use Rattle.ft_kept.specs.Switches.{with_saves, switched};
+ghost use Rattle.ft_kept.specs.Shelves.{IsNewShelf};
+ghost use Rattle.ft_kept.specs.inner.Edits.{OpsChange, with_hit_on, without_hit_on};
+ghost use Rattle.ft_kept.specs.inner.Following.{with_saves, switched};
 
 use ft_event::Pos;
 use ft_hist::{Key, Work};

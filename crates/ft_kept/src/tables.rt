@@ -3,18 +3,18 @@
 ghost use Rattle.std.specs.Prelude.{◌≡◌, ◌+◌, ◌<◌, ◌≤◌, OnOk, OnErr, IfSome, Some, None};
 ghost use Rattle.std.specs.FinMap as map;
 ghost use Rattle.std.specs.Option.{option_copied};
-ghost use Rattle.ft_pairs.specs.Edits.{with_op};
+ghost use Rattle.ft_hist.specs.Steps.{StepsGrow};
+ghost use Rattle.ft_pairs.specs.Edits.{with_op, without_op};
 ghost use Rattle.ft_pairs.specs.Next.{IsNext};
 ghost use Rattle.ft_pairs.specs.Source.{IsSource};
 ghost use Rattle.ft_pairs.specs.declared.at.Op.TheVariants.{Read};
-ghost use Rattle.ft_hist.specs.Steps.{StepsGrow};
-ghost use Rattle.ft_kept.specs.Shelves.{role_on, kept_on, left_on};
-ghost use Rattle.ft_kept.specs.Shelves.{AddsShelf, ChangesShelf, OpsChange};
+ghost use Rattle.ft_kept.specs.Shelves.{AddsShelf, role_on, kept_on};
+ghost use Rattle.ft_kept.specs.inner.Edits.{ChangesShelf, OpsChange, TakesHit, left_on};
 
 use crate::shelf::Shelf;
 use ft_hist::{Key, Work};
-use ft_maps::{get, put};
-use ft_pairs::{At, Op, Role};
+use ft_maps::{get, put, take};
+use ft_pairs::{At, Op, Role, Variable};
 use std::alloc::{AllocError, Global};
 use std::collections::BTreeMap;
 use std::marker::Model;
@@ -62,6 +62,13 @@ impl Tables {
         put(&mut self.shelves, id, Shelf::new(self.alloc, role, size))
     }
 
+    /// Takes the shelf of a trigger away, if it has one. Takes no memory.
+    pub fn drop_shelf(&mut self, id: u32)
+        ensures { self.new ≡ map.remove self.old id }
+    {
+        take(&mut self.shelves, &id);
+    }
+
     /// The shelf of a trigger.
     pub fn shelf(&self, id: u32) -> Option<&Shelf>
         ensures { option_copied result ≡ map.get self.now id }
@@ -79,49 +86,66 @@ impl Tables {
         }
     }
 
-    /// What a reading of a saver's variable finds at a place.
-    pub(crate) fn source(&self, saver: u32, key: &Key, at: At) -> Option<At>
-        ensures { IsSource ((kept_on self.now).ops (record { saver = saver; key = key.now })) at
-            result }
+    /// What a reading of a variable finds at a place.
+    pub(crate) fn source(&self, variable: &Variable, at: At) -> Option<At>
+        ensures { IsSource ((kept_on self.now).ops variable.now) at result }
     {
-        match self.shelf(saver) {
-            Some(shelf) => shelf.source(key, at),
+        match self.shelf(variable.saver) {
+            Some(shelf) => shelf.source(&variable.key, at),
             None => None,
         }
     }
 
-    /// The first operation on a saver's variable behind a place, or the first of all. Behind it
-    /// fewer are left than behind that place, so that a walk ends.
-    pub(crate) fn next_op(&self, saver: u32, key: &Key, after: Option<At>) -> Option<(At, Op)>
-        ensures next { IsNext ((kept_on self.now).ops (record { saver = saver; key = key.now }))
-            after result }
+    /// The first operation on a variable behind a place, or the first of all. Behind it fewer are
+    /// left than behind that place, so that a walk ends.
+    pub(crate) fn next_op(&self, variable: &Variable, after: Option<At>) -> Option<(At, Op)>
+        ensures next { IsNext ((kept_on self.now).ops variable.now) after result }
         ensures fewer { IfSome result (λ next.
-            left_on self.now saver key.now (Some next.0) < left_on self.now saver key.now after) }
+            left_on self.now variable.now (Some next.0) < left_on self.now variable.now after) }
     {
-        match self.shelf(saver) {
-            Some(shelf) => shelf.next_op(key, after),
+        match self.shelf(variable.saver) {
+            Some(shelf) => shelf.next_op(&variable.key, after),
             None => None,
         }
     }
 
-    /// Puts a read of a saver's variable at a place, where no operation stands. Refused for memory.
+    /// Puts a read of a variable at a place, where no operation stands. Refused for memory.
     pub(crate) fn put_read(
         &mut self,
-        saver: u32,
-        key: Key,
+        variable: &Variable,
         at: At,
         work: &mut Work,
     ) -> Result<(), AllocError>
-        requires free { (kept_on self.old).ops (record { saver = saver; key = key }) at ≡ None }
-        ensures ok { OnOk result (ChangesShelf saver (OpsChange key (with_op at Read))
-            self.old self.new) }
+        requires free { (kept_on self.old).ops variable.now at ≡ None }
+        ensures ok { OnOk result (ChangesShelf variable.now.saver
+            (OpsChange variable.now.key (with_op at Read)) self.old self.new) }
         ensures puts { work.new.puts ≤ work.old.puts + 1 }
         ensures evals { work.new.evals ≡ work.old.evals }
         ensures grow { StepsGrow work.old work.new }
     {
-        match self.shelves.get_mut(&saver) {
-            Some(shelf) => shelf.put_op(key, at, Op::Read, work),
+        match self.shelves.get_mut(&variable.saver) {
+            Some(shelf) => shelf.put_op(variable.key, at, Op::Read, work),
             None => Ok(()),
+        }
+    }
+
+    /// Takes the operation on a variable at a place away, if one stands there.
+    pub(crate) fn take_op(&mut self, variable: &Variable, at: At)
+        ensures { ChangesShelf variable.now.saver (OpsChange variable.now.key (without_op at))
+            self.old self.new }
+    {
+        if let Some(shelf) = self.shelves.get_mut(&variable.saver) {
+            shelf.take_op(&variable.key, at);
+        }
+    }
+
+    /// Takes the hit of a key at a place away, and what the reading there found, if they are there.
+    pub(crate) fn take_hit(&mut self, key: Key, at: At)
+        ensures { ChangesShelf at.trigger (TakesHit (record { pos = at.pos; key = key }))
+            self.old self.new }
+    {
+        if let Some(shelf) = self.shelves.get_mut(&at.trigger) {
+            shelf.take_hit(at.pos, key);
         }
     }
 }

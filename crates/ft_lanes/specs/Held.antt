@@ -4,7 +4,7 @@ use Rattle.std.specs.List.{sum_by}
 use Rattle.std.specs.Ordering.{nat_cmp}
 use Rattle.std.specs.FinMap as map
 use Rattle.std.specs.FinMap.{FinMap}
-use Rattle.ft_event.specs.Traced.{Traced}
+use Rattle.ft_event.specs.Traced.{Traced, last_cpu}
 
 -- one CPU's events by line number, and the next number (our own choice)
 pub record Lane : Type 0 where
@@ -31,6 +31,6 @@ held_in lanes = sum_by (λ lane. map.len lane.events) (map.values lanes)
 abbrev pub event_at : Lanes → ℕ → ℕ → Option Traced
 event_at lanes cpu line = option_and_then (λ lane. map.get lane.events line) (map.get lanes cpu)
 
--- an event's CPU is at most 8,191 (our own choice)
+-- an event's CPU is at most the last one (our own choice)
 abbrev pub HasCpu : Traced → Type 0
-HasCpu event = event.cpu ≤ 8191
+HasCpu event = event.cpu ≤ last_cpu

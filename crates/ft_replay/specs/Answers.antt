@@ -6,7 +6,7 @@ use Rattle.ft_event.specs.declared.pos.Pos.{Pos}
 use Rattle.ft_hist.specs.Hist.{Hist}
 use Rattle.ft_hist.specs.declared.label.Var.{Var}
 use Rattle.ft_hist.specs.declared.label.Var.TheVariants as vars
-use Rattle.ft_table.specs.declared.row.Totals.{Totals}
+use Rattle.ft_rows.specs.declared.row.Totals.{Totals}
 use Rattle.ft_table.specs.Text.{heading, rows_text}
 use Rattle.ft_replay.specs.declared.pair.Latency.{Latency}
 use Rattle.ft_base.specs.declared.refused.Place.{Place}

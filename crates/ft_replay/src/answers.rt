@@ -15,9 +15,9 @@ ghost use Rattle.ft_replay.specs.inner.Counters.{tally_in};
 ghost use Rattle.ft_replay.specs.Tally.{tally_of};
 ghost use Rattle.ft_replay.specs.declared.pair.Pair.{Pair};
 
+use crate::counter::Counter;
 use crate::pair::{Latency, Pair, latency_of};
 use crate::replay::replayed;
-use crate::counter::Counter;
 use ft_base::{Refused, is_reader};
 use ft_hist::{Trigger, Work};
 use ft_lanes::Lanes;

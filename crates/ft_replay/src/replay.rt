@@ -15,8 +15,8 @@ ghost use Rattle.ft_replay.specs.inner.Counters.{AllBeforePlace};
 ghost use Rattle.ft_pairs.specs.Variables.{variable_cmp};
 
 use crate::act::act;
-use crate::merge::merged_events;
 use crate::counter::Counter;
+use crate::merge::merged_events;
 use ft_base::role_of;
 use ft_event::{Event, Pos};
 use ft_hist::{Trigger, Work};
@@ -59,7 +59,11 @@ fn new_counters(
     let mut counters = BTreeMap::new(alloc);
     for (id, attached) in entries(triggers) {
         let role = role_of(triggers, attached.variable());
-        put(&mut counters, *id, Counter::new(alloc, role, attached.size()))?;
+        put(
+            &mut counters,
+            *id,
+            Counter::new(alloc, role, attached.size()),
+        )?;
     }
     Ok(counters)
 }

@@ -24,9 +24,17 @@ pub data Asked : Type 0 where
   Lane : ℕ → Asked
   NoForm : Asked
 
--- the most bytes of a script line
+-- the most bytes of a script line: twice those of a trace line, so that the longest one has room behind `insert`
 abbrev pub line_limit : ℕ
 line_limit = 8192
+
+-- the most digits of a number, as many as the greatest has
+abbrev pub most_digits : ℕ
+most_digits = 10
+
+-- the greatest number, of 32 bits
+abbrev pub greatest_number : ℕ
+greatest_number = 4294967295
 
 -- a space, byte 32; tabs are no gap
 abbrev pub is_space : ℕ → Bool
@@ -56,7 +64,7 @@ after_word text = drop_while is_space (drop_while is_in_word text)
 -- a number: 1 to 10 digits, at most 4,294,967,295
 unfoldable pub number_in : List ℕ → Option ℕ
 number_in text =
-    if nat_lt 0 (length text) && nat_le (length text) 10 && list_all is_ascii_digit text && nat_le (digits_value 10 text) 4294967295
+    if nat_lt 0 (length text) && nat_le (length text) most_digits && list_all is_ascii_digit text && nat_le (digits_value 10 text) greatest_number
     then Some (digits_value 10 text) else None
 
 -- behind `load`: `@N`, the Nth trace file
@@ -121,7 +129,7 @@ behind_space (byte ∷ bytes) = if byte == 32 then Some bytes else None
 unfoldable pub inserted : List ℕ → Option (List ℕ)
 inserted line = if bytes_eq (take 6 line) (codes "insert") then behind_space (drop 6 line) else None
 
--- what a line asks for: nothing where it is empty, of spaces, or begins with `#`; a longer line than 8,192 bytes has no form
+-- what a line asks for: nothing where it is empty, of spaces, or begins with `#`; a line over the limit has no form
 unfoldable pub asked_by : List ℕ → Asked
 asked_by line =
     if nat_lt line_limit (length line) then NoForm

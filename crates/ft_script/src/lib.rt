@@ -1,8 +1,19 @@
-//! Scripts as texts: the lines of a text, and the command that a line asks for.
+//! Scripts as texts: the lines of a text, cut at each byte 10, and the command that each line asks
+//! for. A line that is empty, of spaces or a comment asks for nothing; one that no command has the
+//! form of, or that is over `LINE_LIMIT`, is a command too, `Command::NoForm`, which is refused.
+//!
+//! ```ignore
+//! let script = b"attach sched_waking hist:keys=pid\nstrike 0:7";
+//! let Some((line, rest)) = next_line(script) else { return };
+//! assert_eq!(rt; read_command(line), Command::Attach(Name::Waking, b"hist:keys=pid"));
+//! assert_eq!(rt; read_command(rest), Command::Strike(0, 7));
+//! assert_eq!(rt; read_command(b"# strike 0:7"), Command::Nothing);
+//! assert_eq!(rt; read_command(b"strike 0"), Command::NoForm);
+//! ```
 #![tactic(auto)]
 
 mod lines;
 mod script;
 
 pub use lines::next_line;
-pub use script::{Command, read_command};
+pub use script::{Command, LINE_LIMIT, read_command};

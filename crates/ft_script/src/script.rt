@@ -2,17 +2,18 @@
 
 ghost use Rattle.std.specs.Prelude.{◌≡◌, ◌==◌, ◌||◌, reverse, slice_index, option_map};
 ghost use Rattle.std.specs.List.{list_all, prefix_len};
-ghost use Rattle.std.specs.Str.{bytes_eq};
 ghost use Rattle.ft_script.specs.Command.{asked};
 ghost use Rattle.ft_script.specs.Script.{asked_by, inserted, worded, numbered, is_space, is_in_word, drop_while, trimmed, first_word, after_word, number_in, load_in, strike_in, struck, attach_in, filter_in, refilter_in};
 
 use ft_event::Name;
+use ft_text::{is_same, number_within};
 use memchr::memchr;
 
-/// The most bytes of a script line.
-const LINE_LIMIT: usize = 8192;
+/// The most bytes of a script line: twice those of a trace line, so that the longest one has room
+/// behind `insert`. A longer line has no form, so nobody has to keep it whole.
+pub const LINE_LIMIT: usize = 8192;
 
-/// The most digits of a number.
+/// The most digits of a number: as many as `u32::MAX` has.
 const MOST_DIGITS: usize = 10;
 
 /// What a line of the script asks for.
@@ -82,13 +83,13 @@ fn worded(text: &[u8]) -> Command<'_>
     ensures { asked result ≡ worded text.now }
 {
     let (word, rest) = split_word(text);
-    if is(word, b"load") {
+    if is_same(word, b"load") {
         load(rest)
-    } else if is(word, b"strike") {
+    } else if is_same(word, b"strike") {
         strike(rest)
-    } else if is(word, b"attach") {
+    } else if is_same(word, b"attach") {
         attach(rest)
-    } else if is(word, b"filter") {
+    } else if is_same(word, b"filter") {
         filter(rest)
     } else {
         match number(rest) {
@@ -102,28 +103,21 @@ fn worded(text: &[u8]) -> Command<'_>
 fn numbered<'a>(word: &[u8], number: u32) -> Command<'a>
     ensures { asked result ≡ numbered word.now number }
 {
-    if is(word, b"unload") {
+    if is_same(word, b"unload") {
         Command::Unload(number)
-    } else if is(word, b"remove") {
+    } else if is_same(word, b"remove") {
         Command::Remove(number)
-    } else if is(word, b"hist") {
+    } else if is_same(word, b"hist") {
         Command::Hist(number)
-    } else if is(word, b"totals") {
+    } else if is_same(word, b"totals") {
         Command::Totals(number)
-    } else if is(word, b"lat") {
+    } else if is_same(word, b"lat") {
         Command::Latencies(number)
-    } else if is(word, b"list") {
+    } else if is_same(word, b"list") {
         Command::Lane(number)
     } else {
         Command::NoForm
     }
-}
-
-/// Whether a word is a text.
-fn is(word: &[u8], text: &[u8]) -> bool
-    ensures { result ≡ bytes_eq word.now text.now }
-{
-    word == text
 }
 
 /// Whether a line is of spaces alone, or a comment.
@@ -261,19 +255,12 @@ fn refilter(id: u32, text: &[u8]) -> Command<'_>
 }
 
 /// A number of 1 to 10 digits, if it is at most 4,294,967,295.
-#[tactic(auto, unfolding(crate::specs::Script::number_in))]
+#[tactic(auto, unfolding(crate::specs::Script::number_in, ft_text::specs::Digits::number_within))]
 fn number(text: &[u8]) -> Option<u32>
     ensures { result ≡ number_in text.now }
 {
     if text.is_empty() || text.len() > MOST_DIGITS {
         return None;
     }
-    let mut value: u64 = 0;
-    for digit in text {
-        if !digit.is_ascii_digit() {
-            return None;
-        }
-        value = value * 10 + u64::from(*digit - b'0');
-    }
-    u32::try_from(value).ok()
+    number_within(text, u32::MAX)
 }

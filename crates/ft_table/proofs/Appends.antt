@@ -17,10 +17,10 @@ use Rattle.ft_hist.specs.Parts.{key_cmp}
 use Rattle.ft_table.specs.declared.mark.Mark.{Mark}
 use Rattle.ft_event.specs.Places.{pos_cmp, pos_cmp_total}
 use Rattle.ft_table.specs.Marks.{mark_cmp, mark_cmp_total}
-use Rattle.ft_table.specs.Ascending.{IsPlace}
+use Rattle.ft_table.specs.inner.Ascending.{IsRank}
 use Rattle.ft_table.specs.Hits.{Hits, hits_of, least_key, first_place, same_key}
 use Rattle.ft_table.specs.Tabled.{Tabled, is_first, first_hits, order_of, keys_in, is_in}
-use Rattle.ft_table.specs.Moves.{order_without, order_with, others}
+use Rattle.ft_table.specs.inner.Moves.{order_without, order_with, others}
 use Rattle.ft_table.specs.Growth.{AreBefore, with_hit, KeysGrow}
 use Rattle.ft_hist.specs.Orders.{key_cmp_total}
 use Rattle.ft_table.proofs.Flat.{mark}
@@ -28,7 +28,7 @@ use Rattle.ft_table.proofs.Firsts.{first_is_hit, get-first_hits, order-none, ord
 use Rattle.ft_table.proofs.Changes.{insert-beside, hits_of-insert, order_before-beside}
 use Rattle.ft_table.proofs.Counts.{listed}
 use Rattle.ft_table.proofs.Members.{in-without, in-with}
-use Rattle.ft_table.proofs.Sorted.{place-end, place-keys}
+use Rattle.ft_table.proofs.Sorted.{rank-end, rank-keys}
 
 -- of two marks with one key the place decides
 earlier : (a b : Pos) (key : List Part) → mark_cmp (mark a key) (mark b key) ≡ Less → pos_cmp a b ≡ Less
@@ -83,9 +83,9 @@ order-new hits m v none before =
     let after : Hits = map.insert hits m v in
     let first : first_place after m.key ≡ Some m.pos = first_place-insert hits m v ∙ first-empty m.pos v (map.entries (hits_of hits m.key)) none in
     let rest : order_of hits ≡ order_without hits m.key = order-none hits m.key none in
-    let last : IsPlace mark_cmp (order_of hits) m (length (order_of hits)) = place-end mark_cmp (order_of hits) m (λ j d lt. before (get_or (order_of hits) j d) (first_hits-hit hits _ (listed (first_hits hits) j d lt))) in
+    let last : IsRank mark_cmp (order_of hits) m (length (order_of hits)) = rank-end mark_cmp (order_of hits) m (λ j d lt. before (get_or (order_of hits) j d) (first_hits-hit hits _ (listed (first_hits hits) j d lt))) in
     order-some after m.key m.pos first ∙ order_before-beside hits after m.key (Some m.pos) (insert-beside hits m v)
-    ∙ order-enter hits m (length (order_of hits)) (subst (λ ms. IsPlace mark_cmp ms m (length (order_of hits))) rest last)
+    ∙ order-enter hits m (length (order_of hits)) (subst (λ ms. IsRank mark_cmp ms m (length (order_of hits))) rest last)
     ∙ ap (λ (ms : List Mark). insert ms (length (order_of hits)) m) (sym rest) ∙ insert_end (order_of hits) m
 
 module _ {X Y : Type 0} (f : X → Y) where
@@ -135,13 +135,13 @@ module _ {X Y : Type 0} (f : X → Y) where
 pub known : (tabled : Tabled) (m : Mark) (f : Pos) → first_place tabled.hits m.key ≡ Some f → is_in tabled m.key ≡ false → nat_lt (length (keys_in tabled)) tabled.size ≡ true → ⊥
 known tabled m f is out few =
     let at : Mark = mark f m.key in
-    let place = place-keys mark_cmp_total (map.insert (others tabled.hits m.key) at []) at in
+    let rank = rank-keys mark_cmp_total (map.insert (others tabled.hits m.key) at []) at in
     let order : order_of tabled.hits ≡ order_with tabled.hits at = order-some tabled.hits m.key f is in
-    let found = order-found tabled.hits at place.0 place.1 in
+    let found = order-found tabled.hits at rank.0 rank.1 in
     let length_of : length (order_of tabled.hits) ≡ length (order_with tabled.hits at) = ap length order in
     let short : length (order_of tabled.hits) < tabled.size = ltb-true _ _ (sym (room (λ (m : Mark). m.key) (order_of tabled.hits) tabled.size) ∙ few) in
-    let isin : is_in tabled m.key ≡ nat_lt place.0 tabled.size = ap (λ (ms : List Mark). list_any (same_key m.key) (list_map (λ m. m.key) (take tabled.size ms))) order ∙ in-with tabled.hits tabled.size at place.0 place.1 in
-    let inside : nat_lt place.0 tabled.size ≡ true = let lt : place.0 < tabled.size = omega (arith, found.0) in grind (arith, nat_tests, lt) in
+    let isin : is_in tabled m.key ≡ nat_lt rank.0 tabled.size = ap (λ (ms : List Mark). list_any (same_key m.key) (list_map (λ m. m.key) (take tabled.size ms))) order ∙ in-with tabled.hits tabled.size at rank.0 rank.1 in
+    let inside : nat_lt rank.0 tabled.size ≡ true = let lt : rank.0 < tabled.size = omega (arith, found.0) in grind (arith, nat_tests, lt) in
     let both : true ≡ false = sym inside ∙ sym isin ∙ out in
     cc
 

@@ -12,7 +12,7 @@ use Rattle.ft_event.specs.Places.{pos_cmp, pos_cmp_total, pos_same}
 use Rattle.ft_table.specs.Marks.{mark_cmp, mark_cmp_total, mark_same}
 use Rattle.ft_table.specs.Hits.{Hits, same_key, hits_of, least_key, first_place, hitcount}
 use Rattle.ft_table.specs.Tabled.{order_of}
-use Rattle.ft_table.specs.Moves.{order_before, with_less, with_more}
+use Rattle.ft_table.specs.inner.Moves.{order_before, with_less, with_more}
 use Rattle.ft_table.proofs.Flat.{mark, is_equal, marks_tie, same_itself, same_is, true_and, false_and, get-hits_of}
 use Rattle.ft_table.proofs.Firsts.{SameBeside, hits_of-beside, others-beside, order-none, order-some}
 

@@ -10,11 +10,11 @@ use Rattle.std.proofs.lemmas.Bool.{cases_order}
 use Rattle.ft_hist.specs.declared.key.Part.{Part}
 use Rattle.ft_table.specs.declared.mark.Mark.{Mark}
 use Rattle.ft_table.specs.Marks.{mark_cmp, mark_cmp_total, mark_same}
-use Rattle.ft_table.specs.Ascending.{IsPlace}
-use Rattle.ft_table.specs.Split.{IsSplit}
+use Rattle.ft_table.specs.inner.Ascending.{IsRank}
+use Rattle.ft_table.specs.inner.Split.{IsSplit}
 use Rattle.ft_table.specs.Hits.{Hits, same_key}
 use Rattle.ft_table.specs.Tabled.{first_hits}
-use Rattle.ft_table.specs.Moves.{others, order_without, order_with}
+use Rattle.ft_table.specs.inner.Moves.{others, order_without, order_with}
 use Rattle.ft_table.proofs.Flat.{is_equal}
 use Rattle.ft_table.proofs.Firsts.{get-others, order-found}
 use Rattle.ft_table.proofs.Sorted.{rises-keys, not_before_itself}
@@ -50,7 +50,7 @@ apart_at hits m q ne some =
     ] refl get
 
 -- and all but the one at the key's place have other keys
-pub with-apart : (hits : Hits) (m : Mark) (i j : ℕ) (d : Mark) → IsPlace mark_cmp (order_with hits m) m i → j < length (order_with hits m) → (j ≡ i → ⊥) → same_key (get_or (order_with hits m) j d).key m.key ≡ false
+pub with-apart : (hits : Hits) (m : Mark) (i j : ℕ) (d : Mark) → IsRank mark_cmp (order_with hits m) m i → j < length (order_with hits m) → (j ≡ i → ⊥) → same_key (get_or (order_with hits m) j d).key m.key ≡ false
 with-apart hits m i j d at lt ne =
     let found = order-found hits m i at in
     let rises = rises-keys (map.insert (others hits m.key) m []) in
@@ -72,7 +72,7 @@ module _ (hits : Hits) (count more : List Part → ℕ) where
       let each : (j : ℕ) (d : Mark) → j < length (order_without hits key) → g (get_or (order_without hits key) j d) ≡ f (get_or (order_without hits key) j d) = λ j d lt. same _ (without-apart hits key j d lt) in
       record { behind = is.behind ∙ sym (all_behind f g (order_without hits key) size each); whole = is.whole ∙ sym (same-sums f g (order_without hits key) each); fits = is.fits }
 
-  module _ (m : Mark) (size i h d : ℕ) (at : IsPlace mark_cmp (order_with hits m) m i) (one : more m.key ≡ count m.key + 1) (same : (q : List Part) → same_key q m.key ≡ false → more q ≡ count q) where
+  module _ (m : Mark) (size i h d : ℕ) (at : IsRank mark_cmp (order_with hits m) m i) (one : more m.key ≡ count m.key + 1) (same : (q : List Part) → same_key q m.key ≡ false → more q ≡ count q) where
     abbrev f : Mark → ℕ
     f m = count m.key
 

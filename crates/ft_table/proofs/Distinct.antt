@@ -1,6 +1,6 @@
 -- No key has two rows, and each row's key is that of a hit.
 use Rattle.std.proofs.Common.{◌≡◌, ℕ, zero, suc, min, ◌<◌, Bool, true, false, cond, List, [], ◌∷◌, length, get_or, take, map as list_map, refl, sym, ap, subst, ◌∙◌, None, Option, arith}
-use Rattle.std.specs.Prelude.{ℤ, is_some, IsSome}
+use Rattle.std.specs.Prelude.{ℤ, is_some, IsSome, IsPermutation}
 use Rattle.std.specs.List.{All, AllByRecursion, IsDistinct}
 use Rattle.std.specs.FinMap as map
 use Rattle.std.proofs.lemmas.List.{take_min}
@@ -13,14 +13,13 @@ use Rattle.ft_hist.specs.declared.key.Part.{Part}
 use Rattle.ft_hist.specs.Fitting.{KeyFits}
 use Rattle.ft_hist.specs.Hist.{Hist}
 use Rattle.ft_table.specs.declared.mark.Mark.{Mark}
-use Rattle.ft_table.specs.Counted.{Counted}
+use Rattle.ft_rows.specs.Counted.{Counted}
 use Rattle.ft_table.specs.Hits.{Hits, same_key}
 use Rattle.ft_table.specs.Rows.{row_of, rows_of, AllFit}
-use Rattle.ft_table.specs.Sorting.{HasDistinctKeys}
+use Rattle.ft_rows.specs.Sorting.{in_order, HasDistinctKeys}
 use Rattle.ft_table.specs.Tabled.{Tabled, first_hits, is_first, order_of, keys_in}
 use Rattle.ft_table.proofs.Counts.{listed}
 use Rattle.ft_table.proofs.Firsts.{get-first_hits}
-use Rattle.ft_table.proofs.InOrder.{in_order-permutes}
 use Rattle.ft_table.proofs.Tallies.{apart_after}
 
 abbrev pub key_of : Mark → List Part
@@ -60,6 +59,11 @@ pub first_marks : (o d : List Mark) (n l s : ℕ) → n ≡ min l s → l ≡ le
 first_marks o d n l s least len same =
     (λ i. take ((least ∙ ap (λ m. min m s) len ∙ min_comm (length o) s) i) (same i)) ∙ take_min s o
 
+-- the rows of so many first marks are those of the keys in the table
+pub rows-listed : (hits : Hits) (o d : List Mark) (n l s : ℕ) (rows : List Counted) → n ≡ min l s → l ≡ length o → d ≡ o → o ≡ order_of hits → rows ≡ list_map (λ mark. row_of hits mark.key) (take n d) → rows ≡ list_map (row_of hits) (keys_in (record { hits = hits; size = s }))
+rows-listed hits o d n l s rows least len same order is =
+    is ∙ rows-marks hits (take n d) ∙ ap (λ (ms : List Mark). list_map (row_of hits) (list_map key_of ms)) (first_marks o d n l s least len same ∙ ap (take s) order)
+
 all_taken : (hits : Hits) (P : List Part → Type 0) (ms : List Mark) (s : ℕ) → ((j : ℕ) (d : Mark) → j < length ms → P (get_or ms j d).key) → All (λ (row : Counted). P row.key) (list_map (row_of hits) (list_map key_of (take s ms)))
 all_taken hits P [] zero each = All-nil (λ (row : Counted). P row.key)
 all_taken hits P [] (suc s) each = All-nil (λ (row : Counted). P row.key)
@@ -74,9 +78,9 @@ hit_of_first true o some = some
 hit_of_first false o some = absurd cc
 
 -- where the keys of all hits fit, those of the rows do
-pub rows_fit : (table : Tabled) (hist : Hist) (sort : List SortItem) → AllFit table hist → All (λ (row : Counted). KeyFits hist.keys row.key) (rows_of table sort)
-rows_fit table hist sort fit =
-    All-permutation (λ (row : Counted). KeyFits hist.keys row.key) (list_map (row_of table.hits) (keys_in table)) (rows_of table sort) (in_order-permutes sort (list_map (row_of table.hits) (keys_in table)))
+pub rows_fit : ((sort : List SortItem) (rows : List Counted) → IsPermutation rows (in_order sort rows)) → (table : Tabled) (hist : Hist) (sort : List SortItem) → AllFit table hist → All (λ (row : Counted). KeyFits hist.keys row.key) (rows_of table sort)
+rows_fit permutes table hist sort fit =
+    All-permutation (λ (row : Counted). KeyFits hist.keys row.key) (list_map (row_of table.hits) (keys_in table)) (rows_of table sort) (permutes sort (list_map (row_of table.hits) (keys_in table)))
     (all_taken table.hits (KeyFits hist.keys) (order_of table.hits) table.size (λ j d lt.
     fit (get_or (order_of table.hits) j d)
     (hit_of_first (is_first table.hits (get_or (order_of table.hits) j d)) (map.get table.hits (get_or (order_of table.hits) j d))

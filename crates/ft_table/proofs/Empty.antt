@@ -9,10 +9,10 @@ use Rattle.ft_hist.specs.declared.key.Part.{Part}
 use Rattle.ft_hist.specs.Parts.{key_cmp}
 use Rattle.ft_table.specs.declared.mark.Mark.{Mark}
 use Rattle.ft_table.specs.Marks.{mark_cmp, mark_cmp_total, mark_same}
-use Rattle.ft_table.specs.Split.{IsSplit}
+use Rattle.ft_table.specs.inner.Split.{IsSplit}
 use Rattle.ft_table.specs.Hits.{EntryHits}
 use Rattle.ft_table.specs.Tabled.{is_first, first_hits, order_of}
-use Rattle.ft_table.specs.ByKey.{flat}
+use Rattle.ft_table.specs.inner.ByKey.{flat}
 use Rattle.ft_maps.specs.Entries.{entries-empty}
 use Rattle.ft_table.proofs.Flat.{mark}
 use Rattle.ft_table.proofs.Firsts.{get-first_hits}

@@ -12,10 +12,10 @@ use Rattle.ft_hist.specs.declared.key.Part.{Part}
 use Rattle.ft_table.specs.declared.mark.Mark.{Mark}
 use Rattle.ft_event.specs.Places.{pos_cmp, pos_cmp_total, pos_same}
 use Rattle.ft_table.specs.Marks.{mark_cmp, mark_cmp_total, mark_same}
-use Rattle.ft_table.specs.Ascending.{IsPlace}
+use Rattle.ft_table.specs.inner.Ascending.{IsRank}
 use Rattle.ft_table.specs.Hits.{Hits, same_key, hits_of, least_key, first_place}
 use Rattle.ft_table.specs.Tabled.{is_first, first_hits, order_of}
-use Rattle.ft_table.specs.Moves.{others, order_without, order_with}
+use Rattle.ft_table.specs.inner.Moves.{others, order_without, order_with}
 use Rattle.ft_table.proofs.Flat.{mark, is_equal, marks_tie, same_itself, same_is, get-hits_of}
 use Rattle.ft_table.proofs.Sorted.{keys-insert, keys-without, keys-found, keys-insert-any}
 
@@ -91,10 +91,10 @@ order-some hits key pos is =
     let at = first_is_hit hits key pos is in
     ap map.keys (first_hits-some hits key pos at.0 is at.1) ∙ keys-insert-any mark_cmp_total (others hits key) (mark pos key) at.0 []
 
-pub order-enter : (hits : Hits) (m : Mark) (i : ℕ) → IsPlace mark_cmp (order_without hits m.key) m i → order_with hits m ≡ insert (order_without hits m.key) i m
+pub order-enter : (hits : Hits) (m : Mark) (i : ℕ) → IsRank mark_cmp (order_without hits m.key) m i → order_with hits m ≡ insert (order_without hits m.key) i m
 order-enter hits m i at = keys-insert mark_cmp_total (others hits m.key) m [] i (not_among_others hits m) at
 
-pub order-leave : (hits : Hits) (m : Mark) (i : ℕ) → IsPlace mark_cmp (order_with hits m) m i → order_without hits m.key ≡ remove (order_with hits m) i
+pub order-leave : (hits : Hits) (m : Mark) (i : ℕ) → IsRank mark_cmp (order_with hits m) m i → order_without hits m.key ≡ remove (order_with hits m) i
 order-leave hits m i at = keys-without mark_cmp_total (others hits m.key) m [] i (not_among_others hits m) at
 
 -- ---- what other keys have is no matter
@@ -117,5 +117,5 @@ others-beside hits after key same = same_map mark_cmp_total mark_same _ _ (λ q.
     ∙ others_at hits after key same q (same_key q.key key) refl
     ∙ sym (get-others hits key q ∙ ap (λ o. cond (not (same_key q.key key)) o None) (get-first_hits hits q)))
 
-pub order-found : (hits : Hits) (m : Mark) (i : ℕ) → IsPlace mark_cmp (order_with hits m) m i → (i < length (order_with hits m)) × ((d : Mark) → get_or (order_with hits m) i d ≡ m)
+pub order-found : (hits : Hits) (m : Mark) (i : ℕ) → IsRank mark_cmp (order_with hits m) m i → (i < length (order_with hits m)) × ((d : Mark) → get_or (order_with hits m) i d ≡ m)
 order-found hits m i at = keys-found mark_cmp_total (others hits m.key) m [] i (not_among_others hits m) at

@@ -15,7 +15,7 @@ use Rattle.ft_table.specs.declared.mark.Mark.{Mark}
 use Rattle.ft_event.specs.Places.{pos_cmp, pos_cmp_total, pos_same}
 use Rattle.ft_table.specs.Marks.{mark_cmp, mark_cmp_total, mark_same}
 use Rattle.ft_table.specs.Hits.{EntryHits, Hits, same_key, hits_of}
-use Rattle.ft_table.specs.ByKey.{ByKey, flat}
+use Rattle.ft_table.specs.inner.ByKey.{ByKey, flat}
 use Rattle.ft_hist.specs.Orders.{key_cmp_total}
 use Rattle.ft_hist.specs.Ties.{key_same}
 

@@ -10,7 +10,7 @@ use Rattle.ft_event.specs.declared.pos.Pos.{Pos}
 use Rattle.ft_event.specs.Places.{pos_cmp}
 use Rattle.ft_hist.specs.declared.key.Part.{Part}
 use Rattle.ft_table.specs.declared.mark.Mark.{Mark}
-use Rattle.ft_table.specs.Counted.{Counted}
+use Rattle.ft_rows.specs.Counted.{Counted}
 use Rattle.ft_table.specs.Marks.{mark_cmp, mark_cmp_total, mark_same}
 use Rattle.ft_table.specs.Hits.{Hits, EntryHits, same_key, hits_of, hitcount, unsigned_at, column, sums_of, least_key, first_place}
 use Rattle.ft_table.specs.Tabled.{Tabled, keys_in, keys_out, is_in}

@@ -7,9 +7,9 @@ use Rattle.std.proofs.lemmas.Bool.Decides.{nat_tests}
 use Rattle.ft_hist.specs.declared.key.Part.{Part}
 use Rattle.ft_table.specs.declared.mark.Mark.{Mark}
 use Rattle.ft_table.specs.Marks.{mark_cmp}
-use Rattle.ft_table.specs.Ascending.{IsPlace}
+use Rattle.ft_table.specs.inner.Ascending.{IsRank}
 use Rattle.ft_table.specs.Hits.{Hits, same_key}
-use Rattle.ft_table.specs.Moves.{order_without, order_with}
+use Rattle.ft_table.specs.inner.Moves.{order_without, order_with}
 use Rattle.ft_table.proofs.Flat.{same_itself, same_back}
 use Rattle.ft_table.proofs.Firsts.{order-found}
 use Rattle.ft_table.proofs.Counts.{without-apart, with-apart}
@@ -41,7 +41,7 @@ module _ (hits : Hits) (size : ℕ) where
   pub in-without : (key : List Part) → list_any (same_key key) (list_map (λ m. m.key) (take size (order_without hits key))) ≡ false
   in-without key = none-in (λ (m : Mark). m.key) (same_key key) (order_without hits key) size (λ j d lt. same_back key _ ∙ without-apart hits key j d lt)
 
-  pub in-with : (m : Mark) (i : ℕ) → IsPlace mark_cmp (order_with hits m) m i → list_any (same_key m.key) (list_map (λ m. m.key) (take size (order_with hits m))) ≡ nat_lt i size
+  pub in-with : (m : Mark) (i : ℕ) → IsRank mark_cmp (order_with hits m) m i → list_any (same_key m.key) (list_map (λ m. m.key) (take size (order_with hits m))) ≡ nat_lt i size
   in-with m i at =
       let found = order-found hits m i at in
       elim (cases_lt i size) [

@@ -17,7 +17,7 @@ use Rattle.ft_event.specs.Places.{pos_cmp, pos_cmp_total}
 use Rattle.ft_table.specs.Marks.{mark_cmp, mark_cmp_total}
 use Rattle.ft_table.specs.Hits.{Hits, same_key, hits_of, least_key, first_place}
 use Rattle.ft_table.specs.Tabled.{order_of}
-use Rattle.ft_table.specs.Moves.{order_without}
+use Rattle.ft_table.specs.inner.Moves.{order_without}
 use Rattle.ft_table.specs.OneKey.{AreSameBut, LastGoesOut, FirstComesIn, OneOtherMoves}
 use Rattle.std.proofs.lemmas.Cmp.{tied_itself}
 use Rattle.ft_hist.specs.Orders.{key_cmp_total}
@@ -25,7 +25,7 @@ use Rattle.ft_table.proofs.Flat.{mark, same_itself, same_is, get-hits_of}
 use Rattle.ft_table.proofs.Firsts.{SameBeside, first_is_hit, no_first}
 use Rattle.ft_table.proofs.Changes.{insert-beside, remove-beside, order-before, order_before-beside}
 use Rattle.ft_table.proofs.Appends.{first_place-insert, first-empty}
-use Rattle.ft_table.proofs.Windows.{key_of, stands, NotAt, order-at, place-le, last-taken, first-dropped, stands-came, stands-before, stands-went, stands-behind}
+use Rattle.ft_table.proofs.Windows.{key_of, stands, NotAt, order-at, rank-le, last-taken, first-dropped, stands-came, stands-before, stands-went, stands-behind}
 
 -- a key that is not the given one has another name
 not_it : (o : Option (List Part)) (q k : List Part) → (o ≡ Some q → ⊥) → o ≡ Some k → (b : Bool) → same_key q k ≡ b → b ≡ false
@@ -146,7 +146,7 @@ module _ (hits : Hits) (m : Mark) (v : List ℤ) (q : List Part) (apart : same_k
     by Less at =
         after-is hits after m.key q apart t beside (Some m.pos) (first Less at)
         ∙ stands-before hits m.key q apart t f m.pos (last_some hits after m.key q apart t beside ne f is)
-        (place-le (order_without hits m.key) m (mark f m.key) _ _ (order-at hits m.key q apart t m.pos).1.0 (order-at hits m.key q apart t f).1.0 (not_before f m.pos m.key at))
+        (rank-le (order_without hits m.key) m (mark f m.key) _ _ (order-at hits m.key q apart t m.pos).1.0 (order-at hits m.key q apart t f).1.0 (not_before f m.pos m.key at))
         ∙ sym (before-is hits after m.key q apart t beside (Some f) is)
     by Equal at = after-is hits after m.key q apart t beside (Some f) (first Equal at) ∙ sym (before-is hits after m.key q apart t beside (Some f) is)
     by Greater at = after-is hits after m.key q apart t beside (Some f) (first Greater at) ∙ sym (before-is hits after m.key q apart t beside (Some f) is)
@@ -179,7 +179,7 @@ module _ (hits : Hits) (m : Mark) (q : List Part) (apart : same_key q m.key ≡ 
       let after_it : pos_cmp g f ≡ Less → ⊥ = first_least hits m.key f g at.0 a (kept_hit hits m (mark g m.key) at.0 at.1) in
       after-is hits less_one m.key q apart t beside_less (Some g) b
       ∙ stands-behind hits m.key q apart t f g (first_some hits less_one m.key q apart t beside_less ne f a)
-      (place-le (order_without hits m.key) (mark f m.key) (mark g m.key) _ _ (order-at hits m.key q apart t f).1.0 (order-at hits m.key q apart t g).1.0 (λ h. marks_not_before g f m.key after_it (pos_cmp g f) refl h (tied_itself key_cmp_total m.key)))
+      (rank-le (order_without hits m.key) (mark f m.key) (mark g m.key) _ _ (order-at hits m.key q apart t f).1.0 (order-at hits m.key q apart t g).1.0 (λ h. marks_not_before g f m.key after_it (pos_cmp g f) refl h (tied_itself key_cmp_total m.key)))
       ∙ sym (before-is hits less_one m.key q apart t beside_less (Some f) a)
 
 -- keys that aren't equal don't tie

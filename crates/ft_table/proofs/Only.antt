@@ -10,7 +10,7 @@ use Rattle.std.specs.FinMap.{put, entries-insert, get-empty, get-insert, get-rem
 use Rattle.ft_event.specs.declared.pos.Pos.{Pos}
 use Rattle.ft_event.specs.Places.{pos_cmp, pos_cmp_total, pos_same}
 use Rattle.ft_maps.specs.Entries.{entries-empty}
-use Rattle.ft_table.specs.Held.{only}
+use Rattle.ft_table.specs.inner.Held.{only}
 use Rattle.ft_table.specs.Hits.{EntryHits, least_key, first_with, first_entry, hits_after, is_after, unsigned_at, sums_of, column}
 use Rattle.ft_table.proofs.Columns.{column-more}
 use Rattle.ft_table.proofs.Flat.{is_equal}

@@ -15,16 +15,16 @@ use Rattle.ft_event.specs.Places.{pos_cmp, pos_cmp_total, pos_same}
 use Rattle.ft_hist.specs.declared.key.Part.{Part}
 use Rattle.ft_table.specs.declared.mark.Mark.{Mark}
 use Rattle.ft_table.specs.Marks.{mark_cmp, mark_cmp_total}
-use Rattle.ft_table.specs.Ascending.{IsPlace}
+use Rattle.ft_table.specs.inner.Ascending.{IsRank}
 use Rattle.ft_table.specs.Hits.{Hits, same_key, first_place}
 use Rattle.ft_table.specs.Tabled.{Tabled, is_first, first_hits, order_of, is_in}
-use Rattle.ft_table.specs.Moves.{others, order_with}
+use Rattle.ft_table.specs.inner.Moves.{others, order_with}
 use Rattle.ft_table.specs.Admission.{IsFirstHit, FirstsAreFirst, earlier_firsts, IsAmongFirst, InByRank}
 use Rattle.ft_table.proofs.Flat.{mark}
 use Rattle.ft_table.proofs.Firsts.{get-first_hits, no_first, first_is_hit, order-none, order-some}
 use Rattle.ft_table.proofs.Members.{in-without, in-with}
 use Rattle.ft_table.proofs.OneKeys.{first_least}
-use Rattle.ft_table.proofs.Sorted.{next_place, place-keys}
+use Rattle.ft_table.proofs.Sorted.{next_rank, rank-keys}
 use Rattle.ft_table.proofs.Tallies.{how_many, len-kept, first-listed}
 
 some_is : {X : Type 0} (o : Option X) → is_some o ≡ true → (x : X) × (o ≡ Some x)
@@ -83,24 +83,24 @@ module _ {K : Type 0} (R : K → K → Ordering) where
     at Greater e rest = rest
 
 module _ {K : Type 0} {R : K → K → Ordering} (total : IsTotalOrder R) where
-  -- a place is the number of items below
-  below-place : (ks : List K) (k : K) (i : ℕ) → IsPlace R ks k i → how_many (λ q. is_lt (R q k)) ks ≡ i
-  below-place ks k zero at = none_below R ks k (λ j d lt. at.above j d (omega arith) lt)
-  below-place [] k (suc i) at = absurd (let w = at.within in omega arith)
-  below-place (x ∷ xs) k (suc i) at =
+  -- a rank is the number of items below
+  below-rank : (ks : List K) (k : K) (i : ℕ) → IsRank R ks k i → how_many (λ q. is_lt (R q k)) ks ≡ i
+  below-rank ks k zero at = none_below R ks k (λ j d lt. at.above j d (omega arith) lt)
+  below-rank [] k (suc i) at = absurd (let w = at.within in omega arith)
+  below-rank (x ∷ xs) k (suc i) at =
       ap (λ o. length (cond (is_lt o) (x ∷ filter (λ q. is_lt (R q k)) xs) (filter (λ q. is_lt (R q k)) xs))) (at.below zero k (omega arith))
-      ∙ ap suc (below-place xs k i (next_place total x xs k i at))
+      ∙ ap suc (below-rank xs k i (next_rank total x xs k i at))
 
 -- a key is in where fewer first hits than the size stand before its own
 in-rank : (table : Tabled) (key : List Part) (f : Pos) → first_place table.hits key ≡ Some f → is_in table key ≡ nat_lt (map.len (earlier_firsts table.hits (mark f key))) table.size
 in-rank table key f is =
     let hits : Hits = table.hits in
     let m : Mark = mark f key in
-    let at = place-keys mark_cmp_total (map.insert (others hits key) m []) m in
+    let at = rank-keys mark_cmp_total (map.insert (others hits key) m []) m in
     let order : order_of hits ≡ order_with hits m = order-some hits key f is in
     let rank : map.len (earlier_firsts hits m) ≡ at.0 =
     len-kept (first_hits hits) (λ first. is_lt (mark_cmp first m))
-    ∙ below-place mark_cmp_total (order_of hits) m at.0 (subst (λ ms. IsPlace mark_cmp ms m at.0) (sym order) at.1) in
+    ∙ below-rank mark_cmp_total (order_of hits) m at.0 (subst (λ ms. IsRank mark_cmp ms m at.0) (sym order) at.1) in
     ap (λ (ms : List Mark). list_any (same_key key) (list_map (λ m. m.key) (take table.size ms))) order
     ∙ in-with hits table.size m at.0 at.1 ∙ ap (λ n. nat_lt n table.size) (sym rank)
 

@@ -4,7 +4,7 @@ use Rattle.std.specs.List.{insert, remove, sum_by}
 use Rattle.std.proofs.lemmas.List.Sums.{sum_by-insert, sum_by-remove, sum_by-drop_more}
 use Rattle.ft_hist.specs.declared.key.Part.{Part}
 use Rattle.ft_table.specs.declared.mark.Mark.{Mark}
-use Rattle.ft_table.specs.Split.{IsSplit}
+use Rattle.ft_table.specs.inner.Split.{IsSplit}
 use Rattle.ft_table.proofs.Edges.{drop-insert, drop-remove, sum-drop-insert, sum-drop-remove, sum-drop-le, sum-drop-all}
 
 module _ (count : List Part → ℕ) where
@@ -12,16 +12,16 @@ module _ (count : List Part → ℕ) where
   weight m = count m.key
 
   -- what goes in among those in the table, where it is full: the last goes out
-  pub enters-full : (size place : ℕ) (order : List Mark) (m d : Mark) (hits dropped : ℕ) → place < size → size ≤ length order → IsSplit count size order hits dropped → hits + dropped + count m.key < 2 ^ 64
-      → (count (get_or order (size - 1) d).key ≤ hits + count m.key) × IsSplit count size (insert order place m) (hits + count m.key - count (get_or order (size - 1) d).key) (dropped + count (get_or order (size - 1) d).key)
-  enters-full zero place order m d hits dropped lt full h few = absurd (omega arith)
-  enters-full (suc t) place order m d hits dropped lt full h few =
+  pub enters-full : (size rank : ℕ) (order : List Mark) (m d : Mark) (hits dropped : ℕ) → rank < size → size ≤ length order → IsSplit count size order hits dropped → hits + dropped + count m.key < 2 ^ 64
+      → (count (get_or order (size - 1) d).key ≤ hits + count m.key) × IsSplit count size (insert order rank m) (hits + count m.key - count (get_or order (size - 1) d).key) (dropped + count (get_or order (size - 1) d).key)
+  enters-full zero rank order m d hits dropped lt full h few = absurd (omega arith)
+  enters-full (suc t) rank order m d hits dropped lt full h few =
       let last : suc t - 1 ≡ t = omega arith in
       rw last (
-      let behind : sum_by weight (drop (suc t) (insert order place m)) ≡ sum_by weight (drop t order) = ap (sum_by weight) (drop-insert order t place m (omega arith)) in
+      let behind : sum_by weight (drop (suc t) (insert order rank m)) ≡ sum_by weight (drop t order) = ap (sum_by weight) (drop-insert order t rank m (omega arith)) in
       let more : sum_by weight (drop t order) ≡ weight (get_or order t d) + sum_by weight (drop (t + 1) order) = sum_by-drop_more weight order t d (omega arith) in
       let same : sum_by weight (drop (t + 1) order) ≡ sum_by weight (drop (suc t) order) = let e : t + 1 ≡ suc t = omega arith in ap (λ n. sum_by weight (drop n order)) e in
-      let all : sum_by weight (insert order place m) ≡ sum_by weight order + weight m = sum_by-insert weight order place m in
+      let all : sum_by weight (insert order rank m) ≡ sum_by weight order + weight m = sum_by-insert weight order rank m in
       let le : sum_by weight (drop t order) ≤ sum_by weight order = sum-drop-le weight order t in
       let old_behind = h.behind in
       let old_whole = h.whole in
@@ -29,63 +29,63 @@ module _ (count : List Part → ℕ) where
       (omega arith, record { behind = omega arith; whole = omega arith; fits = omega arith }))
 
   -- where it has room
-  pub enters-room : (size place : ℕ) (order : List Mark) (m : Mark) (hits dropped : ℕ) → place < size → length order < size → IsSplit count size order hits dropped → hits + dropped + count m.key < 2 ^ 64
-      → IsSplit count size (insert order place m) (hits + count m.key) dropped
-  enters-room zero place order m hits dropped lt room h few = absurd (omega arith)
-  enters-room (suc t) place order m hits dropped lt room h few =
-      let behind : sum_by weight (drop (suc t) (insert order place m)) ≡ sum_by weight (drop t order) = ap (sum_by weight) (drop-insert order t place m (omega arith)) in
+  pub enters-room : (size rank : ℕ) (order : List Mark) (m : Mark) (hits dropped : ℕ) → rank < size → length order < size → IsSplit count size order hits dropped → hits + dropped + count m.key < 2 ^ 64
+      → IsSplit count size (insert order rank m) (hits + count m.key) dropped
+  enters-room zero rank order m hits dropped lt room h few = absurd (omega arith)
+  enters-room (suc t) rank order m hits dropped lt room h few =
+      let behind : sum_by weight (drop (suc t) (insert order rank m)) ≡ sum_by weight (drop t order) = ap (sum_by weight) (drop-insert order t rank m (omega arith)) in
       let none : sum_by weight (drop t order) ≡ 0 = sum-drop-all weight order t (omega arith) in
       let none_old : sum_by weight (drop (suc t) order) ≡ 0 = sum-drop-all weight order (suc t) (omega arith) in
-      let all : sum_by weight (insert order place m) ≡ sum_by weight order + weight m = sum_by-insert weight order place m in
+      let all : sum_by weight (insert order rank m) ≡ sum_by weight order + weight m = sum_by-insert weight order rank m in
       let old_behind = h.behind in
       let old_whole = h.whole in
       let old_fits = h.fits in
       record { behind = omega arith; whole = omega arith; fits = omega arith }
 
   -- and behind them
-  pub enters-behind : (size place : ℕ) (order : List Mark) (m : Mark) (hits dropped : ℕ) → size ≤ place → place ≤ length order → IsSplit count size order hits dropped → hits + dropped + count m.key < 2 ^ 64
-      → IsSplit count size (insert order place m) hits (dropped + count m.key)
-  enters-behind size place order m hits dropped le within h few =
-      let behind : sum_by weight (drop size (insert order place m)) ≡ sum_by weight (drop size order) + weight m = sum-drop-insert weight order size place m le within in
-      let all : sum_by weight (insert order place m) ≡ sum_by weight order + weight m = sum_by-insert weight order place m in
+  pub enters-behind : (size rank : ℕ) (order : List Mark) (m : Mark) (hits dropped : ℕ) → size ≤ rank → rank ≤ length order → IsSplit count size order hits dropped → hits + dropped + count m.key < 2 ^ 64
+      → IsSplit count size (insert order rank m) hits (dropped + count m.key)
+  enters-behind size rank order m hits dropped le within h few =
+      let behind : sum_by weight (drop size (insert order rank m)) ≡ sum_by weight (drop size order) + weight m = sum-drop-insert weight order size rank m le within in
+      let all : sum_by weight (insert order rank m) ≡ sum_by weight order + weight m = sum_by-insert weight order rank m in
       let old_behind = h.behind in
       let old_whole = h.whole in
       let old_fits = h.fits in
       record { behind = omega arith; whole = omega arith; fits = omega arith }
 
   -- what goes out of those in the table, where others are outside: the first of them comes in
-  pub leaves-full : (size place : ℕ) (order : List Mark) (c d : Mark) (hits dropped : ℕ) → place < size → size < length order → IsSplit count size order hits dropped
-      → (count (get_or order size d).key ≤ dropped) × (count (get_or order place c).key ≤ hits + count (get_or order size d).key) × IsSplit count size (remove order place) (hits + count (get_or order size d).key - count (get_or order place c).key) (dropped - count (get_or order size d).key)
-  leaves-full size place order c d hits dropped lt full h =
-      let behind : sum_by weight (drop size (remove order place)) ≡ sum_by weight (drop (suc size) order) = ap (sum_by weight) (drop-remove order size place (omega arith) (omega arith)) in
+  pub leaves-full : (size rank : ℕ) (order : List Mark) (c d : Mark) (hits dropped : ℕ) → rank < size → size < length order → IsSplit count size order hits dropped
+      → (count (get_or order size d).key ≤ dropped) × (count (get_or order rank c).key ≤ hits + count (get_or order size d).key) × IsSplit count size (remove order rank) (hits + count (get_or order size d).key - count (get_or order rank c).key) (dropped - count (get_or order size d).key)
+  leaves-full size rank order c d hits dropped lt full h =
+      let behind : sum_by weight (drop size (remove order rank)) ≡ sum_by weight (drop (suc size) order) = ap (sum_by weight) (drop-remove order size rank (omega arith) (omega arith)) in
       let more : sum_by weight (drop size order) ≡ weight (get_or order size d) + sum_by weight (drop (size + 1) order) = sum_by-drop_more weight order size d full in
       let same : sum_by weight (drop (size + 1) order) ≡ sum_by weight (drop (suc size) order) = let e : size + 1 ≡ suc size = omega arith in ap (λ n. sum_by weight (drop n order)) e in
-      let all : sum_by weight (remove order place) + weight (get_or order place c) ≡ sum_by weight order = sum_by-remove weight order place c (omega arith) in
-      let le : sum_by weight (drop size (remove order place)) ≤ sum_by weight (remove order place) = sum-drop-le weight (remove order place) size in
+      let all : sum_by weight (remove order rank) + weight (get_or order rank c) ≡ sum_by weight order = sum_by-remove weight order rank c (omega arith) in
+      let le : sum_by weight (drop size (remove order rank)) ≤ sum_by weight (remove order rank) = sum-drop-le weight (remove order rank) size in
       let old_behind = h.behind in
       let old_whole = h.whole in
       let old_fits = h.fits in
       (omega arith, omega arith, record { behind = omega arith; whole = omega arith; fits = omega arith })
 
   -- where none are
-  pub leaves-room : (size place : ℕ) (order : List Mark) (c : Mark) (hits dropped : ℕ) → place < size → place < length order → length order ≤ size → IsSplit count size order hits dropped
-      → (count (get_or order place c).key ≤ hits) × IsSplit count size (remove order place) (hits - count (get_or order place c).key) dropped
-  leaves-room size place order c hits dropped lt within room h =
-      let behind : sum_by weight (drop size (remove order place)) ≡ sum_by weight (drop (suc size) order) = ap (sum_by weight) (drop-remove order size place (omega arith) (omega arith)) in
+  pub leaves-room : (size rank : ℕ) (order : List Mark) (c : Mark) (hits dropped : ℕ) → rank < size → rank < length order → length order ≤ size → IsSplit count size order hits dropped
+      → (count (get_or order rank c).key ≤ hits) × IsSplit count size (remove order rank) (hits - count (get_or order rank c).key) dropped
+  leaves-room size rank order c hits dropped lt within room h =
+      let behind : sum_by weight (drop size (remove order rank)) ≡ sum_by weight (drop (suc size) order) = ap (sum_by weight) (drop-remove order size rank (omega arith) (omega arith)) in
       let none : sum_by weight (drop (suc size) order) ≡ 0 = sum-drop-all weight order (suc size) (omega arith) in
       let none_old : sum_by weight (drop size order) ≡ 0 = sum-drop-all weight order size (omega arith) in
-      let all : sum_by weight (remove order place) + weight (get_or order place c) ≡ sum_by weight order = sum_by-remove weight order place c within in
+      let all : sum_by weight (remove order rank) + weight (get_or order rank c) ≡ sum_by weight order = sum_by-remove weight order rank c within in
       let old_behind = h.behind in
       let old_whole = h.whole in
       let old_fits = h.fits in
       (omega arith, record { behind = omega arith; whole = omega arith; fits = omega arith })
 
   -- and behind them
-  pub leaves-behind : (size place : ℕ) (order : List Mark) (c : Mark) (hits dropped : ℕ) → size ≤ place → place < length order → IsSplit count size order hits dropped
-      → (count (get_or order place c).key ≤ dropped) × IsSplit count size (remove order place) hits (dropped - count (get_or order place c).key)
-  leaves-behind size place order c hits dropped le within h =
-      let behind : sum_by weight (drop size (remove order place)) + weight (get_or order place c) ≡ sum_by weight (drop size order) = sum-drop-remove weight order size place c le within in
-      let all : sum_by weight (remove order place) + weight (get_or order place c) ≡ sum_by weight order = sum_by-remove weight order place c within in
+  pub leaves-behind : (size rank : ℕ) (order : List Mark) (c : Mark) (hits dropped : ℕ) → size ≤ rank → rank < length order → IsSplit count size order hits dropped
+      → (count (get_or order rank c).key ≤ dropped) × IsSplit count size (remove order rank) hits (dropped - count (get_or order rank c).key)
+  leaves-behind size rank order c hits dropped le within h =
+      let behind : sum_by weight (drop size (remove order rank)) + weight (get_or order rank c) ≡ sum_by weight (drop size order) = sum-drop-remove weight order size rank c le within in
+      let all : sum_by weight (remove order rank) + weight (get_or order rank c) ≡ sum_by weight order = sum_by-remove weight order rank c within in
       let old_behind = h.behind in
       let old_whole = h.whole in
       let old_fits = h.fits in

@@ -18,18 +18,18 @@ use Rattle.ft_event.specs.Places.{pos_cmp, pos_same}
 use Rattle.ft_hist.specs.declared.key.Part.{Part}
 use Rattle.ft_table.specs.declared.mark.Mark.{Mark}
 use Rattle.ft_table.specs.Marks.{mark_cmp, mark_cmp_total, mark_same}
-use Rattle.ft_table.specs.Ascending.{IsPlace}
+use Rattle.ft_table.specs.inner.Ascending.{IsRank}
 use Rattle.ft_table.specs.Hits.{Hits, same_key, hits_of, hitcount, first_place}
 use Rattle.ft_table.specs.Tabled.{is_first, first_hits, order_of, keys_in, keys_out, is_in}
-use Rattle.ft_table.specs.Moves.{others, order_with}
+use Rattle.ft_table.specs.inner.Moves.{others, order_with}
 use Rattle.ft_table.specs.Admission.{AllCount, InsideCount, OutsideDrop, WholeCount}
 use Rattle.ft_table.proofs.Flat.{mark, is_equal, same_is, same_back}
 use Rattle.ft_table.proofs.FirstPlaces.{of_key, entries-hits_of}
-use Rattle.ft_table.proofs.Kept.{keys-kept}
+use Rattle.ft_table.proofs.Retained.{keys-retained}
 use Rattle.ft_table.proofs.Firsts.{get-first_hits, no_first, order-some, order-found}
 use Rattle.ft_table.proofs.Counts.{listed, with-apart}
 use Rattle.ft_table.proofs.Members.{none-in, in-with}
-use Rattle.ft_table.proofs.Sorted.{rises-keys, place-found, place-keys}
+use Rattle.ft_table.proofs.Sorted.{rises-keys, rank-found, rank-keys}
 
 -- how many items of a list pass a test
 abbrev pub how_many : {A : Type 0} → (A → Bool) → List A → ℕ
@@ -69,7 +69,7 @@ module _ {A : Type 0} where
 pub len-kept : (hits : Hits) (p : Mark → Bool) → map.len (map.retain_keys hits p) ≡ how_many p (map.keys hits)
 len-kept hits p =
     len-entries (map.retain_keys hits p) ∙ sym (length-map (map.entries (map.retain_keys hits p)) (λ e. e.0))
-    ∙ ap length (keys-kept mark_cmp_total mark_same hits p)
+    ∙ ap length (keys-retained mark_cmp_total mark_same hits p)
 
 pub len-keys : (hits : Hits) → map.len hits ≡ length (map.keys hits)
 len-keys hits = len-entries hits ∙ sym (length-map (map.entries hits) (λ e. e.0))
@@ -112,9 +112,9 @@ apart_after hits i j d before within =
     let first : first_place hits m.key ≡ Some m.pos = first-listed hits m (listed (first_hits hits) i d (omega arith)) in
     let order : order_of hits ≡ order_with hits m = order-some hits m.key m.pos first in
     let tie : (e : Mark) → mark_cmp (get_or (order_of hits) i e) m ≡ Equal = λ e. ap (λ (q : Mark). mark_cmp q m) (get_or_default (order_of hits) i e d (omega arith)) ∙ tied_itself mark_cmp_total m in
-    let at : IsPlace mark_cmp (order_of hits) m i = place-found mark_cmp_total (order_of hits) m i (rises-keys (first_hits hits)) (omega arith) tie in
+    let at : IsRank mark_cmp (order_of hits) m i = rank-found mark_cmp_total (order_of hits) m i (rises-keys (first_hits hits)) (omega arith) tie in
     let away : same_key (get_or (order_with hits m) j d).key m.key ≡ false =
-    with-apart hits m i j d (subst (λ ms. IsPlace mark_cmp ms m i) order at) (subst (λ (ms : List Mark). j < length ms) order within) (λ e. absurd (omega arith)) in
+    with-apart hits m i j d (subst (λ ms. IsRank mark_cmp ms m i) order at) (subst (λ (ms : List Mark). j < length ms) order within) (λ e. absurd (omega arith)) in
     same_back m.key (get_or (order_of hits) j d).key ∙ ap (λ (ms : List Mark). same_key (get_or ms j d).key m.key) order ∙ away
 
 -- ---- the hits of the first keys
@@ -163,7 +163,7 @@ in_order hits m some = by (first_place hits m.key) refl where
   by None none = absurd (not_none (map.get hits m) some (no_first hits m.key none m.pos))
   by (Some f) is =
       let first : Mark = mark f m.key in
-      let at = place-keys mark_cmp_total (map.insert (others hits m.key) first []) first in
+      let at = rank-keys mark_cmp_total (map.insert (others hits m.key) first []) first in
       let order : order_of hits ≡ order_with hits first = order-some hits m.key f is in
       let found = order-found hits first at.0 at.1 in
       let within : at.0 < length (order_of hits) = subst (λ (ms : List Mark). at.0 < length ms) (sym order) found.0 in

@@ -9,12 +9,12 @@ use Rattle.ft_event.specs.declared.pos.Pos.{Pos}
 use Rattle.ft_hist.specs.declared.key.Part.{Part}
 use Rattle.ft_table.specs.declared.mark.Mark.{Mark}
 use Rattle.ft_table.specs.Marks.{mark_cmp, mark_cmp_total}
-use Rattle.ft_table.specs.Ascending.{IsPlace}
+use Rattle.ft_table.specs.inner.Ascending.{IsRank}
 use Rattle.ft_table.specs.Hits.{Hits, same_key}
-use Rattle.ft_table.specs.Moves.{order_without, order_with, order_before, others}
+use Rattle.ft_table.specs.inner.Moves.{order_without, order_with, order_before, others}
 use Rattle.ft_table.proofs.Flat.{mark}
 use Rattle.ft_table.proofs.Firsts.{order-enter}
-use Rattle.ft_table.proofs.Sorted.{place-keys}
+use Rattle.ft_table.proofs.Sorted.{rank-keys}
 use Rattle.ft_table.proofs.Appends.{length-taken}
 
 -- ---- lists
@@ -62,8 +62,8 @@ module _ {X Y : Type 0} (f : X → Y) (p : Y → Bool) where
 -- ---- places
 
 -- what isn't behind another stands no further behind
-pub place-le : (ks : List Mark) (a b : Mark) (i j : ℕ) → IsPlace mark_cmp ks a i → IsPlace mark_cmp ks b j → (mark_cmp b a ≡ Less → ⊥) → i ≤ j
-place-le ks a b i j at there apart = elim (cases_lt j i) [
+pub rank-le : (ks : List Mark) (a b : Mark) (i j : ℕ) → IsRank mark_cmp ks a i → IsRank mark_cmp ks b j → (mark_cmp b a ≡ Less → ⊥) → i ≤ j
+rank-le ks a b i j at there apart = elim (cases_lt j i) [
   | inr le ↦ le
   | inl lt ↦
       let x : Mark = get_or ks j a in
@@ -89,8 +89,8 @@ module _ (hits : Hits) (key q : List Part) (apart : same_key q key ≡ false) (t
   abbrev pub stands : Option Pos → Bool
   stands o = among key_of (same_key q) (suc t) (order_before hits key o)
 
-  pub order-at : (p : Pos) → (i : ℕ) × (IsPlace mark_cmp rest (mark p key) i × (order_with hits (mark p key) ≡ insert rest i (mark p key)))
-  order-at p = let at = place-keys mark_cmp_total (others hits key) (mark p key) in (at.0, (at.1, order-enter hits (mark p key) at.0 at.1))
+  pub order-at : (p : Pos) → (i : ℕ) × (IsRank mark_cmp rest (mark p key) i × (order_with hits (mark p key) ≡ insert rest i (mark p key)))
+  order-at p = let at = rank-keys mark_cmp_total (others hits key) (mark p key) in (at.0, (at.1, order-enter hits (mark p key) at.0 at.1))
 
   -- the one behind is q's not
   abbrev pub NotAt : Type 0

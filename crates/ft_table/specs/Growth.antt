@@ -4,7 +4,7 @@ use Rattle.std.specs.declared.cmp.Ordering.TheVariants.{Less}
 use Rattle.std.specs.FinMap as map
 use Rattle.ft_hist.specs.declared.key.Part.{Part}
 use Rattle.ft_table.specs.declared.mark.Mark.{Mark}
-use Rattle.ft_table.specs.Counted.{Counted}
+use Rattle.ft_rows.specs.Counted.{Counted}
 use Rattle.ft_table.specs.Marks.{mark_cmp}
 use Rattle.ft_table.specs.Hits.{Hits, same_key, unsigned_at}
 use Rattle.ft_table.specs.Tabled.{Tabled, keys_in, is_in}

@@ -8,13 +8,13 @@ use Rattle.ft_hist.specs.declared.key.Part.{Part}
 use Rattle.ft_hist.specs.Fitting.{KeyFits}
 use Rattle.ft_hist.specs.Hist.{Hist}
 use Rattle.ft_table.specs.declared.hit.Hit.{Hit}
-use Rattle.ft_table.specs.Counted.{Counted}
-use Rattle.ft_table.specs.declared.row.Totals.{Totals}
+use Rattle.ft_rows.specs.Counted.{Counted}
+use Rattle.ft_rows.specs.declared.row.Totals.{Totals}
 use Rattle.ft_table.specs.Hits.{Hits, hits_of, hitcount, sums_of, first_entry, hits_after}
 use Rattle.ft_table.specs.declared.mark.Mark.{Mark}
-use Rattle.ft_table.specs.Sorting.{in_order}
+use Rattle.ft_rows.specs.Sorting.{in_order}
 use Rattle.ft_table.specs.Tabled.{Tabled, keys_in, keys_out, is_in}
-use Rattle.ft_table.specs.Text.{rows_text}
+use Rattle.ft_rows.specs.Text.{rows_text}
 
 -- what the hits of a key come to (kernel: histogram.rst, the `hist` file; sums modulo 2^64 are our own choice)
 abbrev pub row_of : Hits → List Part → Counted

@@ -7,12 +7,12 @@ ghost use Rattle.std.specs.Int.{w64, cast_unsigned};
 ghost use Rattle.std.specs.FinMap as map;
 ghost use Rattle.ft_table.specs.Hits.{sums_of, least_key, first_place, hitcount, hits_of};
 ghost use Rattle.ft_table.specs.Hits.{first_entry, hits_after, is_after};
-ghost use Rattle.ft_table.specs.ByKey.{hits_in};
+ghost use Rattle.ft_table.specs.inner.ByKey.{hits_in};
 ghost use Rattle.ft_table.specs.Marks.{mark_of};
 ghost use Rattle.ft_hist.specs.Parts.{key_cmp};
 ghost use Rattle.ft_maps.specs.Seen.{seen};
 ghost use Rattle.ft_table.specs.Rows.{hit_after};
-ghost use Rattle.ft_table.specs.Held.{only};
+ghost use Rattle.ft_table.specs.inner.Held.{only};
 ghost use Rattle.ft_event.specs.Places.{pos_cmp};
 ghost use Rattle.ft_event.specs.declared.pos.Pos.{Pos};
 
@@ -45,8 +45,8 @@ enum Held {
 
 impl Model for Entry {
     ghost use Rattle.ft_table.specs.Hits.{EntryHits};
-    ghost use Rattle.ft_table.specs.Codes.{entry_code};
-    ghost use Rattle.ft_table.specs.Held.{hits_held};
+    ghost use Rattle.ft_table.specs.inner.Codes.{entry_code};
+    ghost use Rattle.ft_table.specs.inner.Held.{hits_held};
 
     ghost Value = { EntryHits };
 

@@ -1,28 +1,35 @@
 //! Tables: the hits of one hist trigger, which keys are in, and what they count.
 //!
 //! A table holds every hit, so that one may come before all others, or go again. The keys in it
-//! are the first `size` keys in order of their first hits; the hits of the others are dropped.
+//! are the first `size` keys in order of their first hits. If a key is in, all its hits are counted,
+//! else all are dropped. A table shows rows and totals, and their text.
+//!
+//! ```ignore
+//! let mut table = Table::new(rt.alloc(), 128);
+//! let hit = hit_with(&trigger, &event, pos, key, None);
+//! table.insert(hit, &mut work)?;
+//! assert!(rt; table.is_in(&key) && table.totals().hits == 1);
+//! let text = table.text(rt.alloc(), &trigger)?;
+//! table.remove(pos, key);
+//! assert!(rt; table.row(&key).is_none());
+//! ```
 #![tactic(auto)]
 
 mod entry;
 mod hit;
-mod laws;
+pub mod laws;
 mod mark;
-mod number;
 mod order;
-mod part;
-mod row;
 mod series;
-mod sorting;
 mod split;
 mod table;
-mod text;
 mod values;
 
+pub use ft_rows::{Row, Totals, one_row_order};
 pub use hit::Hit;
-pub use laws::{all_hits, first_keys, first_outside, fitting_keys, one_key, one_more_hit};
-pub use mark::{Mark, one_mark_order};
-pub use row::{Row, Totals};
-pub use sorting::one_row_order;
+pub use laws::{
+    all_hits, first_keys, first_outside, fitting_keys, one_key, one_mark_order, one_more_hit,
+};
+pub use mark::Mark;
 pub use table::{Edge, Table};
 pub use values::hit_with;

@@ -28,7 +28,7 @@ impl Model for Series {
     ghost use Rattle.ft_event.specs.Places.{pos_cmp};
     ghost use Rattle.ft_table.specs.Hits.{EntryHits};
     ghost use Rattle.ft_maps.specs.Seen.{seen};
-    ghost use Rattle.ft_table.specs.Codes.{entry_code};
+    ghost use Rattle.ft_table.specs.inner.Codes.{entry_code};
 
     ghost Value = { EntryHits };
 

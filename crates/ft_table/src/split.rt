@@ -4,18 +4,18 @@
 ghost use Rattle.std.specs.Prelude.{◌≡◌, ◌+◌, ◌<◌, ◌≤◌, ◌^◌, OnOk, OnErr, vec_len, vec_capacity};
 ghost use Rattle.std.specs.FinMap as map;
 ghost use Rattle.std.specs.List.{insert, remove};
-ghost use Rattle.ft_table.specs.Split.{IsSplit};
+ghost use Rattle.ft_table.specs.inner.Split.{IsSplit};
 ghost use Rattle.ft_table.specs.Hits.{hitcount};
 ghost use Rattle.ft_table.specs.Tabled.{order_of};
-ghost use Rattle.ft_table.specs.Moves.{order_with, order_without, order_before};
-ghost use Rattle.ft_table.specs.Moves.{with_more, with_less};
-ghost use Rattle.ft_table.specs.ByKey.{hits_in};
+ghost use Rattle.ft_table.specs.inner.Moves.{order_with, order_without, order_before};
+ghost use Rattle.ft_table.specs.inner.Moves.{with_more, with_less};
+ghost use Rattle.ft_table.specs.inner.ByKey.{hits_in};
 ghost use Rattle.ft_table.specs.Marks.{mark_of};
 
 use crate::entry::{Entry, count_of, first_at, put_behind, put_hit, take_hit};
 use crate::hit::Hit;
 use crate::mark::Mark;
-use crate::order::{last_place_of, place_of};
+use crate::order::{last_rank_of, rank_of};
 use ft_event::Pos;
 use ft_hist::Key;
 use std::alloc::{AllocError, Global};
@@ -28,27 +28,27 @@ pub(crate) struct Split {
     pub(crate) dropped: u64,
 }
 
-/// Puts a mark into the order at its place. The last key in the table may go out.
+/// Puts a mark into the order at its rank. The last key in the table may go out.
 pub(crate) fn put_in(
     order: &mut Vec<Mark>,
     split: &mut Split,
     by_key: &BTreeMap<Key, Entry>,
     size: usize,
-    place: usize,
+    rank: usize,
     mark: Mark,
 )
     requires some { 0 < size }
-    requires within { place ≤ vec_len order.old }
+    requires within { rank ≤ vec_len order.old }
     requires room { vec_len order.old < vec_capacity order.old }
     requires split { IsSplit (hitcount (hits_in by_key.now)) size order.old.items
         split.old.hits split.old.dropped }
     requires few { split.old.hits + split.old.dropped + hitcount (hits_in by_key.now) mark.key < 2 ^ 64 }
-    ensures order { order.new.items ≡ insert order.old.items place mark }
+    ensures order { order.new.items ≡ insert order.old.items rank mark }
     ensures split { IsSplit (hitcount (hits_in by_key.now)) size order.new.items
         split.new.hits split.new.dropped }
 {
     let count = count_of(by_key, &mark.key);
-    if place < size {
+    if rank < size {
         split.hits += count;
         if order.len() >= size {
             let out = count_of(by_key, &order[size - 1].key);
@@ -58,27 +58,27 @@ pub(crate) fn put_in(
     } else {
         split.dropped += count;
     }
-    let _placed = order.insert(place, mark);
+    let _placed = order.insert(rank, mark);
 }
 
-/// Takes the mark at a place out of the order. The first key outside may come in.
+/// Takes the mark at a rank out of the order. The first key outside may come in.
 pub(crate) fn take_out(
     order: &mut Vec<Mark>,
     split: &mut Split,
     by_key: &BTreeMap<Key, Entry>,
     size: usize,
-    place: usize,
+    rank: usize,
 )
-    requires within { place < vec_len order.old }
+    requires within { rank < vec_len order.old }
     requires split { IsSplit (hitcount (hits_in by_key.now)) size order.old.items
         split.old.hits split.old.dropped }
-    ensures order { order.new.items ≡ remove order.old.items place }
+    ensures order { order.new.items ≡ remove order.old.items rank }
     ensures split { IsSplit (hitcount (hits_in by_key.now)) size order.new.items
         split.new.hits split.new.dropped }
     ensures room { vec_len order.new < vec_capacity order.new }
 {
-    let count = count_of(by_key, &order[place].key);
-    if place < size {
+    let count = count_of(by_key, &order[rank].key);
+    if rank < size {
         if order.len() > size {
             let back = count_of(by_key, &order[size].key);
             split.hits += back;
@@ -88,7 +88,7 @@ pub(crate) fn take_out(
     } else {
         split.dropped -= count;
     }
-    let _taken = order.remove(place);
+    let _taken = order.remove(rank);
 }
 
 /// Puts a key into the order, at the mark of its first hit.
@@ -109,8 +109,8 @@ fn enter(
     ensures split { IsSplit (hitcount (hits_in by_key.now)) size order.new.items
         split.new.hits split.new.dropped }
 {
-    let place = last_place_of(order, &mark);
-    put_in(order, split, by_key, size, place, mark);
+    let rank = last_rank_of(order, &mark);
+    put_in(order, split, by_key, size, rank, mark);
 }
 
 /// Takes a key out of the order, from the mark where its first hit was.
@@ -131,8 +131,8 @@ fn leave(
         ≡ split.old.hits + split.old.dropped }
     ensures room { vec_len order.new < vec_capacity order.new }
 {
-    let place = place_of(order, &mark);
-    take_out(order, split, by_key, size, place);
+    let rank = rank_of(order, &mark);
+    take_out(order, split, by_key, size, rank);
 }
 
 /// Moves a key to where its first hit stands, from where that stood before, if it had any.
@@ -196,7 +196,7 @@ fn count_up(
         pos: first,
         key: *key,
     };
-    if place_of(order, &mark) < size {
+    if rank_of(order, &mark) < size {
         split.hits += 1;
     } else {
         split.dropped += 1;
@@ -217,7 +217,7 @@ fn count_down(
     ensures { IsSplit (hitcount (hits_in by_key.now)) size order.now
         split.new.hits split.new.dropped }
 {
-    if place_of(order, &mark) < size {
+    if rank_of(order, &mark) < size {
         split.hits -= 1;
     } else {
         split.dropped -= 1;

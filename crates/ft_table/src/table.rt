@@ -3,20 +3,18 @@
 ghost use Rattle.std.specs.Prelude.{◌≡◌, ◌+◌, ◌<◌, ◌++◌, OnOk, OnErr, IfOk};
 ghost use Rattle.std.specs.Prelude.{map as list_map};
 ghost use Rattle.std.specs.FinMap as map;
-ghost use Rattle.ft_table.specs.ByKey.{hits_in};
-ghost use Rattle.ft_table.specs.Fronts.{IsFront};
+ghost use Rattle.ft_table.specs.inner.ByKey.{hits_in};
+ghost use Rattle.ft_text.specs.Fronts.{IsFront};
 ghost use Rattle.ft_table.specs.Rows.{row_of};
 
 use crate::entry::{Entry, count_of, first_at, holds, next_hit, sums_at};
 use crate::hit::Hit;
 use crate::mark::Mark;
-use crate::order::place_of;
-use crate::row::{Row, Totals};
-use crate::sorting::sort_rows;
+use crate::order::rank_of;
 use crate::split::{Split, add_hit, drop_hit};
-use crate::text::{write_heading, write_rows};
 use ft_event::Pos;
 use ft_hist::{Key, SortItem, Trigger, Work};
+use ft_rows::{Row, Totals, sort_rows, write_heading, write_rows};
 use std::alloc::{AllocError, Global};
 use std::collections::BTreeMap;
 use std::marker::Model;
@@ -51,11 +49,11 @@ impl Model for Table {
 
     ghost coded = { tabled_code };
 
-    ghost use Rattle.ft_table.specs.Kept.{table_of, IsKept};
+    ghost use Rattle.ft_table.specs.inner.InStep.{table_of, IsInStep};
 
     ghost view = { table_of };
 
-    ghost invariant = { IsKept };
+    ghost invariant = { IsInStep };
 }
 
 impl Table {
@@ -64,7 +62,7 @@ impl Table {
     ghost use Rattle.ft_table.specs.OneKey.{without_hit};
     ghost use Rattle.ft_table.specs.Rows.{row_at, rows_of, totals_of, hit_after};
     ghost use Rattle.ft_table.specs.Rows.{AllFit, table_text};
-    ghost use Rattle.ft_table.specs.Text.{heading};
+    ghost use Rattle.ft_rows.specs.Text.{heading};
     ghost use Rattle.ft_table.specs.Tabled.{is_in, last_in, first_out};
 
     /// A table without hits, with room for at least one key. It takes no memory.
@@ -132,7 +130,7 @@ impl Table {
         ensures { result ≡ is_in self.now key.now }
     {
         match first_at(&self.by_key, key) {
-            Some(pos) => place_of(&self.order, &Mark { pos, key: *key }) < self.size as usize,
+            Some(pos) => rank_of(&self.order, &Mark { pos, key: *key }) < self.size as usize,
             None => false,
         }
     }
@@ -197,6 +195,7 @@ impl Table {
             ≡ text.old.items ++ table_text self.now trigger.now) }
         ensures err { OnErr result (IsFront text.old.items text.new.items) }
     {
+        ft_rows::laws::one_row_order();
         let rows = self.rows(trigger.sort())?;
         write_rows(trigger, &rows, self.totals(), text)
     }

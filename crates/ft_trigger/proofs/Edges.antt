@@ -15,8 +15,9 @@ use Rattle.ft_filter.specs.declared.tree.Pred.{Pred}
 use Rattle.ft_filter.specs.Canonical.{quoted, value_text, pred_text, joint_text, enclosed_if, is_joined, needs_enclosing, canonical, joined_text, more_text}
 use Rattle.ft_filter.specs.FilterIs.{both, Rule, made, closed, joined, whole_of, Reads, first, first_fails, negated, enclosed, deep, compared, Goes, ended, another, another_fails, FilterIs}
 use Rattle.ft_filter.specs.Predicate.{Read, Found, Stop, place, pred_at}
-use Rattle.ft_filter.specs.Tokens.{is_gap, skip, text_of}
+use Rattle.ft_filter.specs.Operators.{text_of}
 use Rattle.ft_filter.specs.Tree.{Tree, Trees, Not, Test, End, More}
+use Rattle.ft_tokens.specs.Tokens.{is_gap, skip}
 
 -- ---- the ends of texts
 

@@ -6,7 +6,7 @@ use Rattle.std.proofs.lemmas.List.{take-append-drop, reverse-append, reverse-rev
 use Rattle.std.proofs.lemmas.List.Folds.{list_all-append}
 use Rattle.std.specs.Prelude.{reverse}
 use Rattle.std.specs.List.{prefix_len, list_all, list_any}
-use Rattle.ft_filter.specs.Tokens.{is_gap, skip}
+use Rattle.ft_tokens.specs.Tokens.{is_gap, skip}
 use Rattle.ft_trigger.specs.Shape.{Opens, Closes, IsCut, Cut}
 use Rattle.ft_trigger.specs.TriggerIs.{head_len, behind_head, without_end, tail_of}
 use Rattle.ft_trigger.proofs.Cutting.{skip-front}

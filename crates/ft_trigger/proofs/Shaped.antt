@@ -10,8 +10,8 @@ use Rattle.ft_event.specs.declared.event.Name.{Name}
 use Rattle.ft_filter.specs.declared.fault.FilterFault.{FilterFault}
 use Rattle.ft_filter.specs.Answers.{filter_of}
 use Rattle.ft_filter.specs.FilterIs.{FilterIs}
-use Rattle.ft_filter.specs.Tokens.{is_gap, skip}
 use Rattle.ft_filter.specs.Tree.{Tree}
+use Rattle.ft_tokens.specs.Tokens.{is_gap, skip}
 use Rattle.ft_hist.specs.declared.item.KeyItem.{KeyItem}
 use Rattle.ft_hist.specs.declared.item.Item.{Item}
 use Rattle.ft_hist.specs.declared.item.SortItem.{SortItem}

@@ -1,5 +1,5 @@
 -- Faults of parts stay, whatever is behind the parts.
-use Rattle.std.proofs.Common.{◌≡◌, ◌+◌, ◌<◌, ◌≤◌, ℕ, Bool, true, false, List, [], ◌∷◌, ◌++◌, length, Option, Some, None, Result, Ok, Err, refl, sym, ap, ◌∙◌, codes, cond, arith, append_assoc, le-leb, ◌==◌, if◌then◌else◌}
+use Rattle.std.proofs.Common.{◌≡◌, ◌+◌, ◌≤◌, ℕ, Bool, true, false, List, [], ◌∷◌, ◌++◌, length, Option, Some, None, Result, Ok, Err, refl, sym, ap, ◌∙◌, codes, cond, arith, append_assoc, le-leb, ◌==◌}
 use Rattle.std.proofs.lemmas.Bool.{or_from}
 use Rattle.std.proofs.lemmas.List.Folds.{list_any-append}
 use Rattle.std.specs.Prelude.{◌↔◌, unwrap_or}
@@ -7,8 +7,8 @@ use Rattle.std.specs.List.{list_any}
 use Rattle.ft_event.specs.declared.event.Name.{Name}
 use Rattle.ft_filter.specs.declared.fault.FilterFault.{FilterFault}
 use Rattle.ft_filter.specs.Answers.{filter_of}
-use Rattle.ft_filter.specs.Tokens.{is_gap, name_at}
 use Rattle.ft_filter.specs.Tree.{Tree}
+use Rattle.ft_tokens.specs.Tokens.{is_gap, name_at}
 use Rattle.ft_hist.specs.declared.item.KeyItem.{KeyItem}
 use Rattle.ft_hist.specs.declared.item.Item.{Item}
 use Rattle.ft_hist.specs.declared.item.SortBy.{SortBy}

@@ -9,8 +9,8 @@ use Rattle.ft_filter.specs.declared.fault.FilterFault.{FilterFault}
 use Rattle.ft_filter.specs.Answers.{filter_of}
 use Rattle.ft_filter.specs.Canonical.{canonical as filter_text}
 use Rattle.ft_filter.specs.FilterIs.{FilterIs}
-use Rattle.ft_filter.specs.Tokens.{is_gap, skip}
 use Rattle.ft_filter.specs.Tree.{Tree}
+use Rattle.ft_tokens.specs.Tokens.{is_gap, skip}
 use Rattle.ft_head.specs.declared.fault.TriggerFault.TheVariants.{Syntax}
 use Rattle.ft_hist.specs.Canonical.{if_text}
 use Rattle.ft_head.specs.Draft.{given_or}

@@ -13,7 +13,7 @@ use Rattle.ft_head.specs.declared.fault.TriggerFault.TheVariants.{Syntax, Duplic
 use Rattle.ft_hist.specs.declared.label.Var.{Var}
 use Rattle.ft_hist.specs.declared.label.Var.TheVariants as vars
 use Rattle.ft_head.specs.Draft.{Draft, unless, given_or, Stamp, Saved, Since, is_name, stamp_of, var_of, is_taken, labels, is_part_left_out, with_variable}
-use Rattle.ft_filter.specs.Tokens.{name_at}
+use Rattle.ft_tokens.specs.Tokens.{name_at}
 use Rattle.ft_head.specs.Words.{Piece}
 use Rattle.ft_trigger.proofs.Inversions.{unless_parts, given_parts}
 use Rattle.ft_head.proofs.Separators.{is_inner, bare_inner, names_bare}

@@ -9,7 +9,6 @@ pub use Rattle.ft_filter.specs.Answers
 pub use Rattle.ft_filter.specs.FilterFault
 pub use Rattle.ft_filter.specs.FilterIs
 pub use Rattle.ft_filter.specs.Holds
-pub use Rattle.ft_filter.specs.Tokens
 pub use Rattle.ft_filter.specs.Tree
 pub use Rattle.ft_head.specs.Draft
 pub use Rattle.ft_head.specs.Sizes
@@ -26,3 +25,4 @@ pub use Rattle.ft_hist.specs.Powers
 pub use Rattle.ft_hist.specs.Sound
 pub use Rattle.ft_hist.specs.Steps
 pub use Rattle.ft_hist.specs.Values
+pub use Rattle.ft_tokens.specs.Tokens

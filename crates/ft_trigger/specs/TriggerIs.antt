@@ -7,8 +7,8 @@ use Rattle.ft_event.specs.declared.event.Name.{Name}
 use Rattle.ft_event.specs.Fields.{is_named, all_fields, text_of}
 use Rattle.ft_filter.specs.declared.fault.FilterFault.{FilterFault}
 use Rattle.ft_filter.specs.Tree.{Tree}
-use Rattle.ft_filter.specs.Tokens.{is_gap, skip}
 use Rattle.ft_filter.specs.Answers.{filter_of}
+use Rattle.ft_tokens.specs.Tokens.{is_gap, skip}
 use Rattle.ft_head.specs.declared.fault.TriggerFault.{TriggerFault}
 use Rattle.ft_head.specs.declared.fault.TriggerFault.TheVariants.{Syntax, NoField, BadSort, BadFilter}
 use Rattle.ft_hist.specs.declared.item.KeyItem.{KeyItem}

@@ -4,8 +4,8 @@ ghost use Rattle.std.specs.Prelude.{◌≡◌, ◌↔◌, ◌+◌, ◌++◌, ◌
 ghost use Rattle.ft_event.specs.declared.event.Name.{Name};
 ghost use Rattle.std.specs.List.{list_all, list_any};
 ghost use Rattle.ft_filter.specs.FilterIs.{FilterIs};
-ghost use Rattle.ft_filter.specs.Tokens.{is_gap};
 ghost use Rattle.ft_filter.specs.Tree.{Tree};
+ghost use Rattle.ft_tokens.specs.Tokens.{is_gap};
 ghost use Rattle.ft_hist.specs.Canonical.{canonical};
 ghost use Rattle.ft_hist.specs.Hist.{Hist, IsWithin, with_filter};
 ghost use Rattle.ft_hist.specs.Sound.{IsSound};

@@ -11,9 +11,9 @@ ghost use Rattle.ft_trigger.specs.Given.{GivesTrigger};
 use crate::resolving::{own_name, sort_of, value_items};
 use crate::tail::{filter_in, head_len, without_end};
 use ft_event::Name;
-use ft_filter::skip;
 use ft_head::{Draft, TriggerFault, Word, parts_of};
 use ft_hist::Trigger;
+use ft_tokens::skip;
 use std::alloc::Global;
 
 /// How a trigger's text begins.

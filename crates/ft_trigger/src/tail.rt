@@ -2,17 +2,17 @@
 
 ghost use Rattle.std.specs.Prelude.{◌≡◌, ◌≤◌, length, position, IfOk, IfErr, IfSome, option_map, ◌≢◌};
 ghost use Rattle.std.specs.Option.{option_copied};
-ghost use Rattle.std.specs.List.{position_or_len};
-ghost use Rattle.ft_filter.specs.Tokens.{is_gap};
 ghost use Rattle.ft_filter.specs.Answers.{filter_of};
 ghost use Rattle.ft_filter.specs.declared.fault.FilterFault.{FilterFault};
-ghost use Rattle.ft_trigger.specs.TriggerIs.{head_len, behind_head, without_end, behind_if, filter_in, filter_or_fault};
+ghost use Rattle.ft_tokens.specs.Tokens.{is_gap};
+ghost use Rattle.ft_trigger.specs.TriggerIs.{head_len, without_end, behind_if, filter_in, filter_or_fault};
 ghost use Rattle.ft_trigger.specs.inner.FilterFaults.{of_filter};
 ghost use Rattle.ft_head.specs.Given.{Gives};
 
 use ft_event::Name;
-use ft_filter::{Filter, FilterFault, is_gap, skip};
+use ft_filter::{Filter, FilterFault};
 use ft_head::TriggerFault;
+use ft_tokens::{is_gap, skip};
 use std::alloc::Global;
 
 /// The place of the first space or tab.

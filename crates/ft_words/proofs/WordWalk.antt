@@ -19,7 +19,8 @@ use Rattle.clap.specs.declared.error.kind.ErrorKind.TheVariants.{UnknownArgument
 use Rattle.clap.specs.declared.parser.matches.ValueSource.TheVariants.{CommandLine}
 use Rattle.ft_words.specs.declared.words.WordsFault.{WordsFault}
 use Rattle.ft_words.specs.declared.words.WordsFault.TheVariants as faults_named
-use Rattle.ft_words.specs.Words.{Named, WordsGive, found_by, is_option, named_by, named_in, paths_in, script_at}
+use Rattle.ft_words.specs.Words.{Named, WordsGive, is_option, named_by, named_in, paths_in, script_at}
+use Rattle.ft_words.specs.inner.Found.{found_by}
 
 abbrev pub script_rule : Rule
 script_rule = record (new_rule (codes "SCRIPT")) { action = Some Set }

@@ -1,14 +1,10 @@
 -- Files that are read whole. All of it is our own choice.
-use Rattle.std.specs.Prelude.{◌≡◌, ◌≤◌, ℕ, List, ◌++◌, length, Option}
+use Rattle.std.specs.Prelude.{◌≤◌, ℕ, List, length, Option}
 use Rattle.std.specs.Io.KnownBytes.{Consumes, IsAtEnd}
 
--- the most bytes of a trace file
+-- the most bytes of a trace file: 1 GiB, which is 1,024 bytes for each event that may be held
 abbrev pub file_limit : ℕ
 file_limit = 1073741824
-
--- bytes that the reader gives are added
-abbrev pub GivesTo : Option (List ℕ) → Option (List ℕ) → List ℕ → List ℕ → Type 0
-GivesTo reader rest before after = (given : List ℕ) × Consumes reader rest given × (after ≡ before ++ given)
 
 -- all that the reader had, within the limit
 abbrev pub ReadsWhole : Option (List ℕ) → Option (List ℕ) → List ℕ → Type 0

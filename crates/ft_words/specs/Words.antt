@@ -1,8 +1,6 @@
 -- What the program's words name. All of it is our own choice.
-use Rattle.std.specs.Prelude.{◌≡◌, ⊤, ℕ, Bool, false, ◌&&◌, List, [], ◌∷◌, drop, map, Option, Some, None, Result, Ok, Err, option_map, option_and_then, unwrap_or, is_some, slice_get, ◌==◌, if◌then◌else◌, codes}
+use Rattle.std.specs.Prelude.{◌≡◌, ⊤, ℕ, Bool, false, ◌&&◌, List, [], ◌∷◌, drop, map, Option, Some, None, Result, Ok, Err, option_map, is_some, slice_get, ◌==◌, if◌then◌else◌, codes}
 use Rattle.std.specs.Str.{bytes_eq, chars}
-use Rattle.clap.specs.Words.{first_value, found_of, matched_of, raw_values}
-use Rattle.clap.specs.declared.parser.matches.ArgMatches.{ArgMatches}
 use Rattle.ft_words.specs.declared.words.Words.{Words}
 use Rattle.ft_words.specs.declared.words.WordsFault.{WordsFault}
 use Rattle.ft_words.specs.declared.words.WordsFault.TheVariants.{Memory, Refused}
@@ -40,13 +38,6 @@ named_in args = option_map named_by (paths_in (drop 1 args))
 -- what words as read name
 abbrev pub shown : Words → Named
 shown words = record { script = option_map (λ path. path.now) words.script; traces = map (λ path. path.now) words.traces.items }
-
--- what the parser of command lines found under the two names
-abbrev pub found_by : ArgMatches → Named
-found_by matches = record {
-  script = option_and_then script_at (first_value (found_of matches) (codes "SCRIPT"));
-  traces = unwrap_or (option_map raw_values (matched_of (found_of matches) (codes "TRACE"))) [];
-}
 
 -- the words are read as they name, or refused where they name nothing
 abbrev pub WordsGive : Option Named → Result Words WordsFault → Type 0

@@ -3,7 +3,8 @@
 ghost use Rattle.std.specs.Prelude.{◌≡◌, ◌≢◌, ◌+◌, ◌≤◌, ◌<◌, length, Err, IfOk, IsOk};
 ghost use Rattle.std.specs.IoError.{error_kind};
 ghost use Rattle.std.specs.Io.KnownBytes.{IsAtEnd};
-ghost use Rattle.ft_words.specs.Files.{GivesTo, ReadsWhole, file_limit};
+ghost use Rattle.ft_words.specs.Files.{ReadsWhole, file_limit};
+ghost use Rattle.ft_words.specs.inner.Given.{GivesTo};
 ghost use Rattle.ft_words.specs.declared.files.FileFault.TheVariants.{Memory, Unreadable};
 ghost use Rattle.std.specs.declared.io.ErrorKind.TheVariants.{OutOfMemory};
 
@@ -13,11 +14,12 @@ use std::io::{ErrorKind, Read};
 use std::rt::Files;
 use std::{fs, io};
 
-/// The most bytes of a trace file.
-const FILE_LIMIT: usize = 1_073_741_824;
+/// The most bytes of a trace file: 1 GiB, which is 1,024 bytes for each event that may be held.
+pub const FILE_LIMIT: usize = 1_073_741_824;
 
-/// The most reads that a trace file may take.
-const READ_LIMIT: u32 = 16_777_216;
+/// The most reads that a trace file may take, so that one without an end is given up: as many as a
+/// file of the most bytes takes at 64 bytes a read.
+pub const READ_LIMIT: u32 = 16_777_216;
 
 /// How many bytes one read asks for. Pieces of this size stay in the processor's cache until they
 /// are copied.
@@ -28,8 +30,8 @@ const PIECE: usize = 131_072;
 pub enum FileFault {
     /// Memory ran out.
     Memory,
-    /// It is not there, is no file, could not be read to its end, or is past a limit: 1,073,741,824
-    /// bytes or 16,777,216 reads.
+    /// It is not there, is no file, could not be read to its end, or is past `FILE_LIMIT` or
+    /// `READ_LIMIT`.
     Unreadable,
 }
 

@@ -3,7 +3,8 @@
 ghost use Rattle.std.specs.Prelude.{◌≡◌, ◌≢◌, map, IfOk};
 ghost use Rattle.clap.specs.Words.{kind_of};
 ghost use Rattle.clap.specs.declared.error.kind.ErrorKind.TheVariants.{OutOfMemory};
-ghost use Rattle.ft_words.specs.Words.{WordsGive, found_by, named_in, shown};
+ghost use Rattle.ft_words.specs.Words.{WordsGive, named_in, shown};
+ghost use Rattle.ft_words.specs.inner.Found.{found_by};
 ghost use Rattle.ft_words.specs.declared.words.WordsFault.TheVariants.{Memory, Refused};
 
 use clap::error::ErrorKind;

@@ -1,4 +1,13 @@
-//! `histdesk [SCRIPT [TRACE]...]`: hist triggers over the text of a tracefs trace.
+//! `histdesk [SCRIPT [TRACE]...]`: hist triggers over the text of a tracefs trace. The script has a
+//! command each line; without it, or where it is `-`, it is standard input, and `@1` in it is the
+//! first trace. This is `ft_desk` over the board that keeps tables.
+//!
+//! ```text
+//! $ printf 'load @1\nattach sched_waking hist:keys=pid\ntotals 1\n' | histdesk - two-wakings.trace
+//! loaded 2
+//! attached 1
+//! hits 2 entries 1 dropped 0
+//! ```
 #![tactic(auto)]
 
 use ft_board::KeptBoard;

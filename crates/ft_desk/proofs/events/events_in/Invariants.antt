@@ -1,7 +1,7 @@
 use Rattle.std.proofs.Common.{◌≡◌, ◌+◌, ◌≤◌, length}
 use Rattle.ft_script.specs.Lines.{lines_of}
 use Rattle.ft_desk.specs.Edits.{events_of, events_from}
-use Rattle.ft_desk.specs.Reading.{in_front}
+use Rattle.ft_desk.specs.inner.Reading.{in_front}
 use Rattle.ft_desk.proofs.events.events_in.Given as goal
 
 abbrev pub invariant-loop-line : goal.invariant-loop-line

@@ -2,6 +2,7 @@ use Rattle.std.proofs.Common.{◌≡◌, ℕ, ◌+◌, ◌-◌, min, List, ◌++
 use Rattle.std.specs.Prelude.{is_ok, if◌then◌else◌}
 use Rattle.std.proofs.lemmas.List.{take_min}
 use Rattle.std.proofs.Math.Seq.{take-append-add}
+use Rattle.ft_script.specs.Script.{line_limit}
 use Rattle.ft_desk.proofs.pieces.add_part.Goals as goal
 
 -- as much of the part as there is room for makes the most bytes of both
@@ -18,5 +19,5 @@ pub returns : goal.returns
 returns c =
     let piece = c.args.piece.now.items in
     let part = c.args.part.now in
-    let full : length piece + (8193 - c.len-room.result) ≡ 8193 = omega arith in
-    at_ok _ _ _ _ _ c.extend_from_slice.ensures.items (ap (λ n. piece ++ take n part) c.min.ensures ∙ kept_front piece part _ 8193 full)
+    let full : length piece + ((line_limit + 1) - c.len-room.result) ≡ line_limit + 1 = omega arith in
+    at_ok _ _ _ _ _ c.extend_from_slice.ensures.items (ap (λ n. piece ++ take n part) c.min.ensures ∙ kept_front piece part _ (line_limit + 1) full)

@@ -4,6 +4,7 @@ use Rattle.std.specs.Io.KnownBytes.{Consumes}
 use Rattle.std.specs.Io.BufRead.{FillKeeps}
 use Rattle.std.proofs.BufReadLemmas.{Consumes_shown}
 use Rattle.std.proofs.lemmas.List.{take_more}
+use Rattle.ft_script.specs.Script.{line_limit}
 use Rattle.ft_desk.specs.declared.pieces.Taken.{Taken}
 use Rattle.ft_desk.specs.declared.pieces.Taken.TheVariants as takes
 use Rattle.ft_desk.specs.Steps.{CutsAt, TakingGives}
@@ -30,7 +31,7 @@ added (Err e) kept is = absurd (cc)
 -- what was taken, as a whole
 taking_gives : (took : Taken) (left rest : Option (List ℕ)) (before after shown : List ℕ) (part amount : ℕ)
     → All (λ byte. byte ≢ 10) (take part shown) → CutsAt took shown part → amount ≡ amount_with took part
-    → Consumes left rest (take amount shown) → after ≡ take 8193 (before ++ take part shown)
+    → Consumes left rest (take amount shown) → after ≡ take (line_limit + 1) (before ++ take part shown)
     → TakingGives (Ok took) left rest before after
 taking_gives takes.Part left rest before after shown part amount plain end is consumed kept =
     (take part shown, subst (λ n. Consumes left rest (take n shown)) is consumed, (plain, kept))

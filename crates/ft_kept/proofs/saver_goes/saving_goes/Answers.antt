@@ -1,45 +1,42 @@
--- The hit is put with what follows of it, and then all is settled that it made owed.
-use Rattle.std.proofs.Common.{◌+◌, List, arith, inl, inr}
-use Rattle.std.proofs.lemmas.Result.{on_ok_weaker}
+-- The hit is taken with what follows of it, and then all is settled that it made owed.
+use Rattle.std.proofs.Common.{◌+◌, arith, inl, inr}
 use Rattle.std.specs.Ordering.{nat_cmp}
 use Rattle.ft_maps.specs.Seen.{seen}
-use Rattle.ft_hist.specs.declared.key.Part.{Part}
-use Rattle.ft_pairs.specs.declared.at.At.{At}
-use Rattle.ft_table.specs.OneKey.{without_hit}
-use Rattle.ft_table.specs.Tabled.{Tabled}
+use Rattle.ft_kept.specs.inner.Acting.{without_act}
 use Rattle.ft_kept.proofs.Decided.{on_ok_both}
 use Rattle.ft_kept.proofs.Forms.{forms_trans, readers_forms, shelved_stay}
 use Rattle.ft_kept.proofs.SavingGoes.{taken_partly, taken_has_gone}
 use Rattle.ft_kept.proofs.SaverTables.{few_or_moves, savers_stay}
 use Rattle.ft_kept.proofs.saver_goes.saving_goes.Goals as goal
 
-pub settle_moved-requires-clause-shelved : goal.settle_moved-requires-clause-shelved
-settle_moved-requires-clause-shelved c = shelved_stay (seen nat_cmp c.args.triggers.now) c.args.tables.now c.take_saving.new.tables c.in_ok-moved.ensures.forms c.requires.shelved
+pub settle_moved-requires : goal.settle_moved-requires
+settle_moved-requires c =
+    let triggers = seen nat_cmp c.args.scene.now.triggers.now in
+    let owing = c.in_ok-moved.ensures.owing in
+    record {
+      shelved = shelved_stay triggers c.args.tables.now c.take_saving.new.tables owing.forms c.requires.goes.shelved;
+      partly = taken_partly triggers c.args.scene.now.lanes.now c.args.tables.now c.take_saving.new.tables c.args.act.now.at c.args.act.now.key c.args.act.now.event.now c.in_ok-moved.moved owing.forms owing.others owing.owing owing.moved
+          c.requires.goes.can;
+    }
 
-pub settle_moved-requires-clause-partly : goal.settle_moved-requires-clause-partly
-settle_moved-requires-clause-partly c = taken_partly (seen nat_cmp c.args.triggers.now) c.args.lanes.now c.args.tables.now c.take_saving.new.tables c.args.at c.args.key c.requires.can.0 c.in_ok-moved.moved c.in_ok-moved.ensures.forms c.in_ok-moved.ensures.others (c.in_ok-moved.ensures.owing c.requires.can.0) c.in_ok-moved.ensures.moved c.requires.can.1
-
-pub returns-clause-forms : goal.returns-clause-forms
-returns-clause-forms c = on_ok_weaker c.settle_moved.result (λ readers.
-    forms_trans c.args.tables.now c.take_saving.new.tables c.settle_moved.new.tables c.in_ok-moved.ensures.forms
-    (readers_forms c.take_saving.new.tables c.settle_moved.new.tables readers)) c.settle_moved.ensures.readers
-
-pub returns-clause-right : goal.returns-clause-right
-returns-clause-right c = on_ok_both c.settle_moved.result (λ readers pays event.
-    taken_has_gone (seen nat_cmp c.args.triggers.now) c.args.lanes.now c.args.tables.now c.take_saving.new.tables c.args.at c.args.key event c.in_ok-moved.moved c.in_ok-moved.ensures.forms c.in_ok-moved.ensures.others (c.in_ok-moved.ensures.owing event) c.in_ok-moved.ensures.moved
-    c.settle_moved.new.tables readers pays) c.settle_moved.ensures.readers c.settle_moved.ensures.right
-
-pub returns-clause-savers : goal.returns-clause-savers
-returns-clause-savers c = on_ok_weaker c.settle_moved.result (savers_stay c.args.tables.now c.take_saving.new.tables c.settle_moved.new.tables c.args.at.trigger c.in_ok-moved.ensures.others) c.settle_moved.ensures.readers
-
--- what becomes of the table
-abbrev edit : At → List Part → Tabled → Tabled
-edit at key table = without_hit table (record { pos = at.pos; key = key })
+pub returns-clause-went : goal.returns-clause-went
+returns-clause-went c =
+    let old = c.args.tables.now in
+    let mid = c.take_saving.new.tables in
+    let new = c.settle_moved.new.tables in
+    let act = c.args.act.now in
+    let owing = c.in_ok-moved.ensures.owing in
+    on_ok_both c.settle_moved.result (λ readers pays. record {
+      forms = forms_trans old mid new owing.forms (readers_forms mid new readers);
+      savers = savers_stay old mid new act.at.trigger owing.others readers;
+      right = taken_has_gone (seen nat_cmp c.args.scene.now.triggers.now) c.args.scene.now.lanes.now old mid act.at act.key act.event.now c.in_ok-moved.moved owing.forms owing.others owing.owing owing.moved new readers pays;
+    }) c.settle_moved.ensures.readers c.settle_moved.ensures.right
 
 pub returns-clause-puts : goal.returns-clause-puts
 returns-clause-puts c =
-    few_or_moves (edit c.args.at c.args.key) c.args.tables.now c.take_saving.new.tables c.args.at.trigger c.requires.role c.in_ok-moved.ensures.forms c.in_ok-moved.ensures.table
-    c.args.key c.in_ok-moved.moved c.in_ok-moved.ensures.moved c.args.work.now.puts (c.args.work.now.puts + 1) c.take_saving.new.work.puts c.settle_moved.new.work.puts (omega arith) c.take_saving.ensures.puts c.settle_moved.ensures.puts
+    let owing = c.in_ok-moved.ensures.owing in
+    few_or_moves (without_act c.args.act.now) c.args.tables.now c.take_saving.new.tables c.args.act.now.at.trigger c.requires.role owing.forms owing.table
+    c.args.act.now.key c.in_ok-moved.moved owing.moved c.args.work.now.puts (c.args.work.now.puts + 1) c.take_saving.new.work.puts c.settle_moved.new.work.puts (omega arith) c.take_saving.ensures.puts c.settle_moved.ensures.puts
 
 pub returns-in_err-moved-clause-puts : goal.returns-in_err-moved-clause-puts
 returns-in_err-moved-clause-puts c = elim c.take_saving.ensures.puts [

@@ -10,7 +10,8 @@ use Rattle.ft_table.specs.declared.mark.Mark.{Mark}
 use Rattle.ft_pairs.specs.ByKey.{ops_of}
 use Rattle.ft_pairs.specs.declared.at.At.{At}
 use Rattle.ft_kept.specs.Shelves.{Shelved}
-use Rattle.ft_kept.specs.Switches.{first_is_in, differ, MovesKeys, HasMoved}
+use Rattle.ft_kept.specs.inner.Following.{first_is_in, MovesKeys}
+use Rattle.ft_kept.specs.Switches.{differ, HasMoved}
 use Rattle.ft_kept.proofs.ComeIn.{came, came_moved}
 use Rattle.ft_kept.proofs.Shrunk.{BringsIn, hit_less_follows, keys_moved, free_before}
 use Rattle.ft_kept.proofs.saver_goes.take_saver_hit.Goals as goal

@@ -4,7 +4,7 @@ use Rattle.ft_maps.specs.Seen.{seen}
 use Rattle.ft_pairs.specs.Next.{IsNext}
 use Rattle.ft_pairs.specs.Source.{Ops}
 use Rattle.ft_kept.specs.Entries.{IsKeptBut}
-use Rattle.ft_kept.specs.Repairs.{without_next_read, without_reads_of}
+use Rattle.ft_kept.specs.inner.Settling.{without_next_read, without_reads_of}
 use Rattle.ft_kept.specs.Shelves.{role_on, kept_on}
 use Rattle.ft_table.specs.Values.{values_by}
 use Rattle.ft_kept.proofs.Forms.{readers_refl, readers_trans, readers_forms, readers_ops, shelved_stay}
@@ -14,47 +14,45 @@ use Rattle.ft_kept.proofs.settle.settle_key.Goals as goal
 
 pub loop-next-init : goal.loop-next-init
 loop-next-init c =
-    let ops : Ops = (kept_on c.args.tables.now).ops (record { saver = c.args.saver; key = c.args.key }) in
+    let ops : Ops = (kept_on c.args.tables.now).ops c.args.variable.now in
     record {
       readers = readers_refl c.args.tables.now;
       there = next_there ops None c.next_op-next.result c.next_op-next.ensures.next;
       right = λ admits acts owed held kept.
-          owes_less (role_on c.args.tables.now) (values_by (seen nat_cmp c.args.triggers.now)) admits acts (kept_on c.args.tables.now) owed (on_walk ops c.next_op-next.result owed)
+          owes_less (role_on c.args.tables.now) (values_by (seen nat_cmp c.args.scene.now.triggers.now)) admits acts (kept_on c.args.tables.now) owed (on_walk ops c.next_op-next.result owed)
           (λ q owes. walk_begins ops q c.next_op-next.result c.next_op-next.ensures.next owed owes) kept;
       evals = refl;
       puts = omega arith;
     }
 
-pub settle_op-requires-clause-shelved : goal.settle_op-requires-clause-shelved
-settle_op-requires-clause-shelved c =
-    shelved_stay (seen nat_cmp c.args.triggers.now) c.args.tables.now c.loop-next.tables (readers_forms c.args.tables.now c.loop-next.tables c.loop-next.invariant.readers) c.requires.shelved
-
-pub settle_op-requires-clause-partly : goal.settle_op-requires-clause-partly
-settle_op-requires-clause-partly c =
-    pays_partly (seen nat_cmp c.args.triggers.now) c.args.lanes.now c.args.tables.now c.loop-next.tables
-    (on_walk ((kept_on c.args.tables.now).ops (record { saver = c.args.saver; key = c.args.key })) c.loop-next.next)
-    (readers_forms c.args.tables.now c.loop-next.tables c.loop-next.invariant.readers) c.loop-next.invariant.right c.requires.partly
+pub settle_op-requires-clause-can : goal.settle_op-requires-clause-can
+settle_op-requires-clause-can c = record {
+  shelved = shelved_stay (seen nat_cmp c.args.scene.now.triggers.now) c.args.tables.now c.loop-next.tables (readers_forms c.args.tables.now c.loop-next.tables c.loop-next.invariant.readers) c.requires.shelved;
+  partly = pays_partly (seen nat_cmp c.args.scene.now.triggers.now) c.args.scene.now.lanes.now c.args.tables.now c.loop-next.tables
+      (on_walk ((kept_on c.args.tables.now).ops c.args.variable.now) c.loop-next.next)
+      (readers_forms c.args.tables.now c.loop-next.tables c.loop-next.invariant.readers) c.loop-next.invariant.right c.requires.partly;
+}
 
 pub loop-next-preserved : goal.loop-next-preserved
 loop-next-preserved c =
     let first = c.args.tables.now in
     let before = c.loop-next.tables in
     let after = c.settle_op.new.tables in
-    let ops : Ops = (kept_on first).ops (record { saver = c.args.saver; key = c.args.key }) in
+    let ops : Ops = (kept_on first).ops c.args.variable.now in
     let readers = readers_trans first before after c.loop-next.invariant.readers c.in_ok-settle_op.ensures.readers in
-    let same : (kept_on after).ops (record { saver = c.args.saver; key = c.args.key }) ≡ ops =
-    (λ i q. readers_ops first after readers (record { saver = c.args.saver; key = c.args.key }) q i) in
+    let same : (kept_on after).ops c.args.variable.now ≡ ops =
+    (λ i q. readers_ops first after readers c.args.variable.now q i) in
     let is_next : IsNext ops (Some c.in-Some.step.0) c.next_op-next-in-Some.result =
     subst (λ (o : Ops). IsNext o (Some c.in-Some.step.0) c.next_op-next-in-Some.result) same c.next_op-next-in-Some.ensures.next in
     record {
       readers = readers;
       there = next_there ops (Some c.in-Some.step.0) c.next_op-next-in-Some.result is_next;
       right = λ admits acts owed held kept.
-          owes_less (role_on first) (values_by (seen nat_cmp c.args.triggers.now)) admits acts (kept_on after)
+          owes_less (role_on first) (values_by (seen nat_cmp c.args.scene.now.triggers.now)) admits acts (kept_on after)
           (without_next_read (Some c.in-Some.step) (on_walk ops (Some c.in-Some.step) owed)) (on_walk ops c.next_op-next-in-Some.result owed)
           (λ q owes. walk_goes_on ops q c.in-Some.step c.next_op-next-in-Some.result (c.loop-next.invariant.there c.in-Some.step c.in-Some.is) is_next owed owes)
-          (subst (λ next. IsKeptBut (role_on first) (values_by (seen nat_cmp c.args.triggers.now)) admits acts (kept_on after) (without_next_read (Some c.in-Some.step) (on_walk ops next owed))) c.in-Some.is
-          (pays_then (seen nat_cmp c.args.triggers.now) c.args.lanes.now first before (on_walk ops c.loop-next.next)
+          (subst (λ next. IsKeptBut (role_on first) (values_by (seen nat_cmp c.args.scene.now.triggers.now)) admits acts (kept_on after) (without_next_read (Some c.in-Some.step) (on_walk ops next owed))) c.in-Some.is
+          (pays_then (seen nat_cmp c.args.scene.now.triggers.now) c.args.scene.now.lanes.now first before (on_walk ops c.loop-next.next)
           (readers_forms first before c.loop-next.invariant.readers) c.loop-next.invariant.right after (without_next_read (Some c.in-Some.step)) c.in_ok-settle_op.ensures.right admits acts owed held kept));
       evals = c.settle_op.ensures.evals ∙ c.loop-next.invariant.evals;
       puts = let before = c.loop-next.invariant.puts in let more = c.settle_op.ensures.grow.puts in omega (arith, before, more);
@@ -62,9 +60,9 @@ loop-next-preserved c =
 
 pub returns-clause-right : goal.returns-clause-right
 returns-clause-right c = λ admits acts owed held kept.
-    let ops : Ops = (kept_on c.args.tables.now).ops (record { saver = c.args.saver; key = c.args.key }) in
-    owes_less (role_on c.args.tables.now) (values_by (seen nat_cmp c.args.triggers.now)) admits acts (kept_on c.loop-next.tables)
-    (on_walk ops None owed) (without_reads_of c.args.tables.now (record { saver = c.args.saver; key = c.args.key }) owed)
+    let ops : Ops = (kept_on c.args.tables.now).ops c.args.variable.now in
+    owes_less (role_on c.args.tables.now) (values_by (seen nat_cmp c.args.scene.now.triggers.now)) admits acts (kept_on c.loop-next.tables)
+    (on_walk ops None owed) (without_reads_of c.args.tables.now c.args.variable.now owed)
     (λ q owes. walk_ends ops q owed owes)
-    (subst (λ next. IsKeptBut (role_on c.args.tables.now) (values_by (seen nat_cmp c.args.triggers.now)) admits acts (kept_on c.loop-next.tables) (on_walk ops next owed)) c.in_default.is
+    (subst (λ next. IsKeptBut (role_on c.args.tables.now) (values_by (seen nat_cmp c.args.scene.now.triggers.now)) admits acts (kept_on c.loop-next.tables) (on_walk ops next owed)) c.in_default.is
     (c.loop-next.invariant.right admits acts owed held kept))

@@ -5,7 +5,7 @@ use Rattle.std.specs.Cmp.{nat_cmp_total}
 use Rattle.std.specs.BTreeMap as tree
 use Rattle.std.specs.BTreeMap.{BTreeMap}
 use Rattle.std.specs.FinMap as map
-use Rattle.ft_event.specs.Traced.{Traced}
+use Rattle.ft_event.specs.Traced.{Traced, last_cpu}
 use Rattle.ft_maps.specs.Seen.{seen, get-seen}
 use Rattle.ft_lanes.specs.Held.{HasCpu}
 use Rattle.ft_lanes.specs.inner.Slots.{SlotsOf, first_cpu}
@@ -33,7 +33,7 @@ loop-event-preserved c =
     let item = c.event-item.result in
     let cpu : c.event.inside.cpu ≡ (get_or es i item).cpu = ap (λ t. t.cpu) (c.event.view_is ∙ c.event-item.is) in (
       c.loop-event.invariant.0 ∙ step c.args.lanes.now es i item c.event.inside.cpu false c.loop-event-test.true cpu c.if-contains_key.ensures,
-      each-more HasCpu es i item c.loop-event-test.true (subst (λ n. n ≤ 8191) cpu c.event.invariant.1) c.loop-event.invariant.1,
+      each-more HasCpu es i item c.loop-event-test.true (subst (λ n. n ≤ last_cpu) cpu c.event.invariant.1) c.loop-event.invariant.1,
     )
 
 pub returns-clause-value : goal.returns-clause-value

@@ -6,7 +6,7 @@ use Rattle.std.proofs.lemmas.Result.{IfOk-weaker, on_err_weaker}
 use Rattle.ft_event.specs.declared.pos.Pos.{Pos}
 use Rattle.ft_hist.specs.Parts.{key_cmp}
 use Rattle.ft_maps.specs.Seen.{seen, get-seen, seen-found, seen-kept}
-use Rattle.ft_table.specs.ByKey.{flat}
+use Rattle.ft_table.specs.inner.ByKey.{flat}
 use Rattle.ft_table.specs.Marks.{mark_of}
 use Rattle.ft_table.specs.Hits.{EntryHits, least_key}
 use Rattle.ft_hist.specs.Orders.{key_cmp_total}

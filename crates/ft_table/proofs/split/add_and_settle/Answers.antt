@@ -5,11 +5,11 @@ use Rattle.std.specs.FinMap as map
 use Rattle.ft_event.specs.declared.pos.Pos.{Pos}
 use Rattle.ft_hist.specs.declared.key.Part.{Part}
 use Rattle.ft_table.specs.declared.mark.Mark.{Mark}
-use Rattle.ft_table.specs.Split.{IsSplit}
-use Rattle.ft_table.specs.ByKey.{hits_in}
+use Rattle.ft_table.specs.inner.Split.{IsSplit}
+use Rattle.ft_table.specs.inner.ByKey.{hits_in}
 use Rattle.ft_table.specs.Hits.{Hits, hitcount, first_place}
 use Rattle.ft_table.specs.Tabled.{order_of}
-use Rattle.ft_table.specs.Moves.{order_without, order_before, with_less}
+use Rattle.ft_table.specs.inner.Moves.{order_without, order_before, with_less}
 use Rattle.ft_table.proofs.Firsts.{order-none}
 use Rattle.ft_table.proofs.Changes.{count-insert, counts-insert, counts-less, order-before-insert, hitcount-none}
 use Rattle.ft_table.proofs.Counts.{split-without}

@@ -3,7 +3,7 @@ use Rattle.std.specs.FinMap as map
 use Rattle.ft_hist.specs.Hist.{Hist}
 use Rattle.ft_table.specs.Rows.{totals_of}
 use Rattle.ft_table.specs.Tabled.{Tabled}
-use Rattle.ft_table.specs.declared.row.Totals.{Totals}
+use Rattle.ft_rows.specs.declared.row.Totals.{Totals}
 use Rattle.ft_base.specs.declared.refused.Refused.{Refused}
 use Rattle.ft_replay.specs.Answers.{totals}
 use Rattle.ft_base.specs.Base.{Base, Triggers}

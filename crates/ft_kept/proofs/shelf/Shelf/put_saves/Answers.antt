@@ -5,7 +5,7 @@ use Rattle.ft_table.specs.Tabled.{Tabled}
 use Rattle.ft_table.specs.Rows.{hit_after}
 use Rattle.ft_table.specs.declared.hit.Hit.{Hit}
 use Rattle.ft_kept.specs.Shelves.{Shelved}
-use Rattle.ft_kept.specs.Switches.{with_saves}
+use Rattle.ft_kept.specs.inner.Following.{with_saves}
 use Rattle.ft_kept.proofs.Hitting.{next_there}
 use Rattle.ft_kept.proofs.Saving.{with_saves_till, hits_left, begun, one_further, fewer_left}
 use Rattle.ft_kept.proofs.shelf.Shelf.put_saves.Goals as goal

@@ -12,7 +12,8 @@ use Rattle.std.proofs.lemmas.Map.Keys.{sorted_head, sorted_tail}
 use Rattle.ft_hist.specs.Hist.{Hist}
 use Rattle.ft_maps.specs.Entries.{strictly_sorted}
 use Rattle.ft_maps.specs.Seen.{seen}
-use Rattle.ft_kept.specs.Acts.{IsDoneToo, acts_of, between}
+use Rattle.ft_kept.specs.inner.OneAct.{IsDoneToo, between}
+use Rattle.ft_kept.specs.Acts.{acts_of}
 use Rattle.ft_kept.specs.Bounds.{SomeSaverMoves, with_hit_of}
 use Rattle.ft_kept.specs.Entries.{IsKept}
 use Rattle.ft_hist.specs.Tests.{asked, count_on}
@@ -42,8 +43,8 @@ loop-id-init c =
       grow = steps_refl c.args.work.now;
     }
 
-pub act_comes-requires-clause-can : goal.act_comes-requires-clause-can
-act_comes-requires-clause-can c =
+pub comes_to-requires-clause-can : goal.comes_to-requires-clause-can
+comes_to-requires-clause-can c =
     let triggers : FinMap nat_cmp Hist = seen nat_cmp c.args.triggers.now in
     let events = c.requires.can.events in
     let e : ℕ × Hist = (c.in-Some.id.now, c.in-Some.trigger.now) in
@@ -75,11 +76,11 @@ loop-id-preserved c =
     record {
       sorted = sorted_tail nat_cmp e.0 (keys_of c.next.new.self) sorted;
       attached = attached.1;
-      shelved = shelved_stay triggers c.loop-id.self c.act_comes.new.tables c.in_ok-act_comes.ensures.forms c.loop-id.invariant.shelved;
-      forms = forms_trans c.args.self.now c.loop-id.self c.act_comes.new.tables c.loop-id.invariant.forms c.in_ok-act_comes.ensures.forms;
+      shelved = shelved_stay triggers c.loop-id.self c.comes_to.new.self c.in_ok-comes_to.ensures.forms c.loop-id.invariant.shelved;
+      forms = forms_trans c.args.self.now c.loop-id.self c.comes_to.new.self c.loop-id.invariant.forms c.in_ok-comes_to.ensures.forms;
       right = λ events absent held kept.
-          kept_in_role (role_on c.loop-id.self) (role_on c.args.self.now) (values_by triggers) (admits_on c.act_comes.new.tables) _ (kept_on c.act_comes.new.tables) (λ q. false) (λ id. sym (same id))
-          (c.in_ok-act_comes.ensures.right
+          kept_in_role (role_on c.loop-id.self) (role_on c.args.self.now) (values_by triggers) (admits_on c.comes_to.new.self) _ (kept_on c.comes_to.new.self) (λ q. false) (λ id. sym (same id))
+          (c.in_ok-comes_to.ensures.right
           (between (acts_of triggers events) (acts_of triggers (map.insert events c.args.pos c.args.event.now)) c.args.pos (all_but c.loop-id.id-iterator))
           (between (acts_of triggers events) (acts_of triggers (map.insert events c.args.pos c.args.event.now)) c.args.pos (all_but c.next.new.self))
           (coming_step triggers events c.args.pos c.args.event.now absent e.0 e.1 attached.0 (all_but c.loop-id.id-iterator) (all_but c.next.new.self) too)
@@ -87,14 +88,14 @@ loop-id-preserved c =
           (kept_in_role (role_on c.args.self.now) (role_on c.loop-id.self) (values_by triggers) (admits_on c.loop-id.self) _ (kept_on c.loop-id.self) (λ q. false) same
           (c.loop-id.invariant.right events absent held kept)));
       evals =
-          ap (λ n. n + asked_of c.args.event.now c.next.new.self) c.in_ok-act_comes.ensures.evals
+          ap (λ n. n + asked_of c.args.event.now c.next.new.self) c.in_ok-comes_to.ensures.evals
           ∙ omega (arith, asked_more c.args.event.now e c.next.new.self, ap (asked_of c.args.event.now) more, c.loop-id.invariant.evals);
-      savers = left_step e.0 (all_but c.loop-id.id-iterator) (all_but c.next.new.self) too c.args.self.now c.loop-id.self c.act_comes.new.tables c.loop-id.invariant.forms c.in_ok-act_comes.ensures.savers c.loop-id.invariant.savers;
-      puts = few_more c.loop-id.work.puts c.act_comes.new.work.puts (asked e.1 c.args.event.now) (asked_of c.args.event.now c.next.new.self) (c.args.work.now.puts + 3 * count_on triggers c.args.event.now)
+      savers = left_step e.0 (all_but c.loop-id.id-iterator) (all_but c.next.new.self) too c.args.self.now c.loop-id.self c.comes_to.new.self c.loop-id.invariant.forms c.in_ok-comes_to.ensures.savers c.loop-id.invariant.savers;
+      puts = few_more c.loop-id.work.puts c.comes_to.new.work.puts (asked e.1 c.args.event.now) (asked_of c.args.event.now c.next.new.self) (c.args.work.now.puts + 3 * count_on triggers c.args.event.now)
           (subst (λ n. Few (SomeSaverMoves (with_hit_of c.args.pos c.args.event.now) triggers c.args.self.now) c.loop-id.work.puts n (c.args.work.now.puts + 3 * count_on triggers c.args.event.now))
           (ap (asked_of c.args.event.now) more ∙ asked_more c.args.event.now e c.next.new.self) c.loop-id.invariant.puts)
-          (some_moves (with_hit_of c.args.pos c.args.event.now) triggers c.args.self.now c.loop-id.self c.loop-id.invariant.forms e.0 e.1 attached.0 (c.loop-id.invariant.savers e.0 too.was) c.in_ok-act_comes.ensures.puts);
-      grow = steps_trans c.args.work.now c.loop-id.work c.act_comes.new.work c.loop-id.invariant.grow c.in_ok-act_comes.ensures.grow;
+          (some_moves (with_hit_of c.args.pos c.args.event.now) triggers c.args.self.now c.loop-id.self c.loop-id.invariant.forms e.0 e.1 attached.0 (c.loop-id.invariant.savers e.0 too.was) c.in_ok-comes_to.ensures.puts);
+      grow = steps_trans c.args.work.now c.loop-id.work c.comes_to.new.work c.loop-id.invariant.grow c.in_ok-comes_to.ensures.grow;
     }
 
 pub returns-clause-right : goal.returns-clause-right
@@ -107,8 +108,8 @@ returns-clause-right c = λ events absent held kept.
     (rest_all (deref_pair {K = ℕ} {X = Hist}) _ _ _ c.in-None.is c.next.ensures.steps)
     (c.loop-id.invariant.right events absent held kept))
 
-pub returns-in_err-act_comes-clause-puts : goal.returns-in_err-act_comes-clause-puts
-returns-in_err-act_comes-clause-puts c =
+pub returns-in_err-comes_to-clause-puts : goal.returns-in_err-comes_to-clause-puts
+returns-in_err-comes_to-clause-puts c =
     let triggers : FinMap nat_cmp Hist = seen nat_cmp c.args.triggers.now in
     let e : ℕ × Hist = (c.in-Some.id.now, c.in-Some.trigger.now) in
     let more : c.loop-id.id-iterator ≡ e ∷ c.next.new.self = rest_more (deref_pair {K = ℕ} {X = Hist}) _ _ _ _ c.in-Some.is c.next.ensures.steps in
@@ -116,11 +117,11 @@ returns-in_err-act_comes-clause-puts c =
     let attached : AllByRecursion (λ (e : ℕ × Hist). map.get triggers e.0 ≡ Some e.1) (e ∷ c.next.new.self) = subst (AllByRecursion (λ (e : ℕ × Hist). map.get triggers e.0 ≡ Some e.1)) more c.loop-id.invariant.attached in
     let too : IsDoneToo e.0 (all_but c.loop-id.id-iterator) (all_but c.next.new.self) =
     subst (λ (es : List (ℕ × Hist)). IsDoneToo e.0 (all_but es) (all_but c.next.new.self)) (sym more) (done_too e c.next.new.self (sorted_head nat_cmp e.0 (keys_of c.next.new.self) sorted)) in
-    few_all c.act_comes.new.work.puts (asked_of c.args.event.now c.next.new.self) (c.args.work.now.puts + 3 * count_on triggers c.args.event.now)
-    (few_more c.loop-id.work.puts c.act_comes.new.work.puts (asked e.1 c.args.event.now) (asked_of c.args.event.now c.next.new.self) (c.args.work.now.puts + 3 * count_on triggers c.args.event.now)
+    few_all c.comes_to.new.work.puts (asked_of c.args.event.now c.next.new.self) (c.args.work.now.puts + 3 * count_on triggers c.args.event.now)
+    (few_more c.loop-id.work.puts c.comes_to.new.work.puts (asked e.1 c.args.event.now) (asked_of c.args.event.now c.next.new.self) (c.args.work.now.puts + 3 * count_on triggers c.args.event.now)
     (subst (λ n. Few (SomeSaverMoves (with_hit_of c.args.pos c.args.event.now) triggers c.args.self.now) c.loop-id.work.puts n (c.args.work.now.puts + 3 * count_on triggers c.args.event.now))
     (ap (asked_of c.args.event.now) more ∙ asked_more c.args.event.now e c.next.new.self) c.loop-id.invariant.puts)
-    (some_moves (with_hit_of c.args.pos c.args.event.now) triggers c.args.self.now c.loop-id.self c.loop-id.invariant.forms e.0 e.1 attached.0 (c.loop-id.invariant.savers e.0 too.was) c.act_comes.ensures.puts))
+    (some_moves (with_hit_of c.args.pos c.args.event.now) triggers c.args.self.now c.loop-id.self c.loop-id.invariant.forms e.0 e.1 attached.0 (c.loop-id.invariant.savers e.0 too.was) c.comes_to.ensures.puts))
 
 pub returns-clause-puts : goal.returns-clause-puts
 returns-clause-puts c = few_all c.loop-id.work.puts (asked_of c.args.event.now c.loop-id.id-iterator) _ c.loop-id.invariant.puts

@@ -8,7 +8,8 @@ use Rattle.std.specs.FinMap.{FinMap}
 use Rattle.ft_event.specs.Places.{pos_cmp}
 use Rattle.ft_event.specs.Traced.{Traced}
 use Rattle.ft_maps.specs.Seen.{seen}
-use Rattle.ft_kept.specs.Acts.{AreHeld, acts_of, between}
+use Rattle.ft_kept.specs.Acts.{AreHeld, acts_of}
+use Rattle.ft_kept.specs.inner.OneAct.{between}
 use Rattle.ft_kept.specs.Bounds.{SomeSaverMoves, with_hit_of}
 use Rattle.ft_hist.specs.Steps.{StepsGrow}
 use Rattle.ft_kept.specs.Entries.{IsKept}

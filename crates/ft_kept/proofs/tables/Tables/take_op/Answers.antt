@@ -6,7 +6,8 @@ use Rattle.std.specs.FinMap as map
 use Rattle.std.proofs.lemmas.Map.Lookups.{exact_unsigned}
 use Rattle.ft_maps.specs.Seen.{seen, get-seen, seen-found}
 use Rattle.ft_pairs.specs.Edits.{without_op}
-use Rattle.ft_kept.specs.Shelves.{Shelves, OpsChange, ChangesShelf}
+use Rattle.ft_kept.specs.Shelves.{Shelves}
+use Rattle.ft_kept.specs.inner.Edits.{OpsChange, ChangesShelf}
 use Rattle.ft_kept.specs.declared.tables.Tables.TheInside.{Inside}
 use Rattle.ft_kept.proofs.Shelving.{shelf_changes, no_shelf}
 use Rattle.ft_kept.proofs.tables.Tables.take_op.Goals as goal
@@ -15,7 +16,7 @@ use Rattle.ft_kept.proofs.tables.Tables.take_op.Goals.{in-Some, in_default}
 pub returns : goal.returns
 returns c =
     let now = c.args.self.now in
-    let id = c.args.saver in
+    let id = c.args.variable.now.saver in
     let tree = c.self.inside.shelves in
     elim c.match-get_mut.branch [
       | in-Some w ↦
@@ -25,12 +26,12 @@ returns c =
           ap (λ (i : Inside). seen nat_cmp i.shelves) w.self-inside-is
           ∙ seen-found nat_cmp_total exact_unsigned tree (c.get_mut.follows.lender after) id w.in-Some.shelf.now after w.in-Some.ensures.value (c.get_mut.follows.holds after)
           ∙ ap (λ (m : Shelves). map.insert m id after) c.self.view_is in
-          subst (ChangesShelf id (OpsChange c.args.key.now (without_op c.args.at)) now) (sym written)
-          (shelf_changes id (OpsChange c.args.key.now (without_op c.args.at)) now w.in-Some.shelf.now after at w.take_op.ensures)
+          subst (ChangesShelf id (OpsChange c.args.variable.now.key (without_op c.args.at)) now) (sym written)
+          (shelf_changes id (OpsChange c.args.variable.now.key (without_op c.args.at)) now w.in-Some.shelf.now after at w.take_op.ensures)
       | in_default w ↦
           let none : map.get now id ≡ None = ap (λ (m : Shelves). map.get m id) (sym c.self.view_is) ∙ get-seen nat_cmp_total tree id ∙ sym w.in_default.ensures.value in
           let same : seen nat_cmp c.match-get_mut.self-inside.shelves ≡ now =
           ap (λ (i : Inside). seen nat_cmp i.shelves) w.self-inside-is ∙ ap (seen nat_cmp) c.get_mut.follows.holds-at-none ∙ c.self.view_is in
-          subst (ChangesShelf id (OpsChange c.args.key.now (without_op c.args.at)) now) (sym same)
-          (no_shelf id (OpsChange c.args.key.now (without_op c.args.at)) now none)
+          subst (ChangesShelf id (OpsChange c.args.variable.now.key (without_op c.args.at)) now) (sym same)
+          (no_shelf id (OpsChange c.args.variable.now.key (without_op c.args.at)) now none)
     ]

@@ -1,5 +1,5 @@
 use Rattle.std.proofs.Common.{◌≡◌, true, false, sym, ap, ◌∙◌}
-use Rattle.ft_table.specs.Held.{hits_held}
+use Rattle.ft_table.specs.inner.Held.{hits_held}
 use Rattle.ft_table.specs.Hits.{EntryHits, first_entry, hits_after, is_after}
 use Rattle.ft_table.proofs.Only.{after-empty, after-only}
 use Rattle.ft_table.proofs.entry.Entry.after.Goals as goal

@@ -1,6 +1,6 @@
 use Rattle.std.proofs.Common.{sym, ap, ◌∙◌}
 use Rattle.std.specs.FinMap as map
-use Rattle.ft_table.specs.Held.{hits_held}
+use Rattle.ft_table.specs.inner.Held.{hits_held}
 use Rattle.ft_table.specs.Hits.{EntryHits, least_key}
 use Rattle.ft_table.proofs.Only.{first-empty, first-only}
 use Rattle.ft_table.proofs.entry.Entry.first.Goals as goal

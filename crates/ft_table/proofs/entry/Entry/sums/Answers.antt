@@ -1,5 +1,5 @@
 use Rattle.std.proofs.Common.{sym, ap, ◌∙◌}
-use Rattle.ft_table.specs.Held.{hits_held}
+use Rattle.ft_table.specs.inner.Held.{hits_held}
 use Rattle.ft_table.specs.Hits.{sums_of}
 use Rattle.ft_table.proofs.Only.{sums-empty}
 use Rattle.ft_table.proofs.entry.Entry.sums.Goals as goal

@@ -2,8 +2,8 @@ use Rattle.std.proofs.Common.{List, take, map as list_map, sym, ap, subst, ◌�
 use Rattle.std.specs.List.{list_any}
 use Rattle.ft_table.specs.declared.mark.Mark.{Mark}
 use Rattle.ft_table.specs.Marks.{mark_cmp}
-use Rattle.ft_table.specs.Ascending.{Rises, IsPlace}
-use Rattle.ft_table.specs.ByKey.{hits_in}
+use Rattle.ft_table.specs.inner.Ascending.{Rises, IsRank}
+use Rattle.ft_table.specs.inner.ByKey.{hits_in}
 use Rattle.ft_table.specs.Hits.{same_key}
 use Rattle.ft_table.specs.Tabled.{Tabled, is_in, first_hits}
 use Rattle.ft_table.proofs.Flat.{mark}
@@ -12,15 +12,15 @@ use Rattle.ft_table.proofs.Firsts.{order-none, order-some}
 use Rattle.ft_table.proofs.Members.{in-without, in-with}
 use Rattle.ft_table.proofs.table.Table.is_in.Goals as goal
 
-pub place_of-requires : goal.place_of-requires
-place_of-requires c = subst (Rises mark_cmp) (sym (c.deref.ensures.value ∙ c.self.invariant.order)) (rises-keys (first_hits (hits_in c.self.inside.by_key)))
+pub rank_of-requires : goal.rank_of-requires
+rank_of-requires c = subst (Rises mark_cmp) (sym (c.deref.ensures.value ∙ c.self.invariant.order)) (rises-keys (first_hits (hits_in c.self.inside.by_key)))
 
 pub returns-in-Some : goal.returns-in-Some
 returns-in-Some c =
     let hits = hits_in c.self.inside.by_key in
     let key = c.args.key.now in
     let order = order-some hits key c.in-Some.pos (sym c.first_at.ensures ∙ c.in-Some.is) in
-    sym (in-with hits c.self.inside.size (mark c.in-Some.pos key) c.place_of.result (subst (λ ms. IsPlace mark_cmp ms (mark c.in-Some.pos key) c.place_of.result) (c.deref.ensures.value ∙ c.self.invariant.order ∙ order) c.place_of.ensures))
+    sym (in-with hits c.self.inside.size (mark c.in-Some.pos key) c.rank_of.result (subst (λ ms. IsRank mark_cmp ms (mark c.in-Some.pos key) c.rank_of.result) (c.deref.ensures.value ∙ c.self.invariant.order ∙ order) c.rank_of.ensures))
     ∙ ap (λ (ms : List Mark). list_any (same_key key) (list_map (λ m. m.key) (take c.self.inside.size ms))) (sym order)
     ∙ ap (λ (t : Tabled). is_in t key) c.self.view_is
 

@@ -5,10 +5,10 @@ use Rattle.std.proofs.lemmas.List.{length-map, length-take}
 use Rattle.std.proofs.lemmas.List.Sums.{sum_by-take-drop}
 use Rattle.ft_hist.specs.declared.key.Part.{Part}
 use Rattle.ft_table.specs.declared.mark.Mark.{Mark}
-use Rattle.ft_table.specs.ByKey.{hits_in}
+use Rattle.ft_table.specs.inner.ByKey.{hits_in}
 use Rattle.ft_table.specs.Hits.{hitcount}
 use Rattle.ft_table.specs.Rows.{totals_of}
-use Rattle.ft_table.specs.declared.row.Totals.{Totals}
+use Rattle.ft_rows.specs.declared.row.Totals.{Totals}
 use Rattle.ft_table.proofs.Tallies.{sum-map}
 use Rattle.ft_table.proofs.table.Table.totals.Goals as goal
 

@@ -1,0 +1,7 @@
+-- Words of private functions: what helps to prove, and nothing that public clauses say.
+pub mod Acting
+pub mod Edits
+pub mod Following
+pub mod OneAct
+pub mod Owed
+pub mod Settling

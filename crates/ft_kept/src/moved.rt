@@ -1,0 +1,74 @@
+//! Which keys of a saver's table moved as one of its acts came or went, and what follows of it.
+
+ghost use Rattle.std.specs.Prelude.{◌≡◌, ◌+◌, ◌≤◌, Option, Some, None, OnOk, false};
+ghost use Rattle.ft_hist.specs.Steps.{StepsGrow};
+ghost use Rattle.ft_pairs.specs.Next.{IsNext};
+ghost use Rattle.ft_pairs.specs.declared.at.At.{At};
+ghost use Rattle.ft_pairs.specs.declared.at.Op.{Op};
+ghost use Rattle.ft_kept.specs.Shelves.{kept_on};
+ghost use Rattle.ft_kept.specs.inner.Acting.{CanSettle, Paid, own_variable};
+ghost use Rattle.ft_kept.specs.inner.Edits.{ReadersChange};
+ghost use Rattle.ft_kept.specs.inner.Settling.{without_moved};
+
+use crate::act::{Act, Scene};
+use crate::settle::{settle_key, settle_next};
+use crate::tables::Tables;
+use ft_hist::{Key, Work};
+use ft_pairs::{At, Op, Variable};
+use std::alloc::AllocError;
+use std::marker::Model;
+
+/// Which keys came into a saver's table or went out, as hits of one key changed.
+///
+/// Contracts see a record of the same fields.
+#[derive(Drop)]
+pub(crate) struct Moved {
+    /// Whether the key itself did.
+    pub(crate) own: bool,
+    /// The other key that did, if one did.
+    pub(crate) other: Option<Key>,
+}
+
+impl Model for Moved {
+    ghost use Rattle.ft_kept.specs.inner.Following.{Moves, moves_code};
+
+    ghost Value = { Moves };
+
+    ghost coded = { moves_code };
+
+    ghost view = { λ m. record { own = m.own; other = m.other } };
+}
+
+/// Makes the readings right that a change of a saver's hits at a place may have made wrong: those
+/// of the keys that moved, and else the next one on the key's variable. Refused for memory.
+pub(crate) fn settle_moved(
+    tables: &mut Tables,
+    scene: &Scene<'_>,
+    act: &Act<'_>,
+    moved: Moved,
+    work: &mut Work,
+) -> Result<(), AllocError>
+    requires { CanSettle scene.now tables.old }
+    ensures readers { OnOk result (ReadersChange tables.old tables.new) }
+    ensures right { OnOk result ((next : Option (At × Op))
+        → IsNext ((kept_on tables.old).ops (own_variable act.now)) (Some act.now.at) next
+        → Paid scene.now tables.old tables.new
+        (without_moved tables.old act.now.at.trigger act.now.key moved next)) }
+    ensures puts { moved.own ≡ false → moved.other ≡ None → work.new.puts ≤ work.old.puts + 1 }
+    ensures evals { work.new.evals ≡ work.old.evals }
+    ensures grow { StepsGrow work.old work.new }
+{
+    let saver = act.at.trigger;
+    if let Some(other) = moved.other {
+        settle_key(tables, scene, &Variable { saver, key: other }, work)?;
+    }
+    let variable = Variable {
+        saver,
+        key: act.key,
+    };
+    if moved.own {
+        settle_key(tables, scene, &variable, work)
+    } else {
+        settle_next(tables, scene, &variable, act.at, work)
+    }
+}

@@ -1,0 +1,12 @@
+-- How the logic stores rows.
+use Rattle.std.specs.Prelude.{ℕ, List, refl}
+use Rattle.std.specs.Coded.{Coded, code_by, coded×, coded_list, coded_ℕ}
+use Rattle.ft_hist.specs.declared.key.Part.{Part}
+use Rattle.ft_hist.specs.contracts.key.Part as part
+use Rattle.ft_rows.specs.Counted.{Counted}
+
+-- a row, stored as its key, its hitcount and its sums (our own choice)
+abbrev pub counted_code : Coded Counted
+counted_code = code_by
+    (List Part × (ℕ × List ℕ)) (coded× (coded_list part.the_row.coded) (coded× coded_ℕ (coded_list coded_ℕ)))
+    (λ row. (row.key, (row.hitcount, row.sums))) (λ p. record { key = p.0; hitcount = p.1.0; sums = p.1.1 }) (λ _. refl)

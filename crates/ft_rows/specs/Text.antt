@@ -1,0 +1,94 @@
+-- The text of a table: the lines above its rows, its rows and its totals (kernel: histogram.rst, the `hist` file; the layout is our own choice).
+use Rattle.std.specs.Prelude.{ℕ, ◌+◌, ◌-◌, ◌^◌, ℤ, false, List, [], ◌∷◌, ◌++◌, length, replicate, Option, codes, decimal, min}
+use Rattle.std.specs.List.{flat_map}
+use Rattle.std.specs.Fmt.{digits}
+use Rattle.std.specs.Int.{w64, cast_unsigned}
+use Rattle.ft_event.specs.Fields.{text_of}
+use Rattle.ft_hist.specs.declared.item.KeyItem.{KeyItem}
+use Rattle.ft_hist.specs.declared.item.Mode.{Mode}
+use Rattle.ft_hist.specs.declared.item.Mode.TheVariants as modes
+use Rattle.ft_hist.specs.declared.item.Item.{Item}
+use Rattle.ft_hist.specs.declared.item.Item.TheVariants as items
+use Rattle.ft_hist.specs.declared.key.Part.{Part}
+use Rattle.ft_hist.specs.declared.key.Part.TheVariants.{Num, Log2, Bucket, Text}
+use Rattle.ft_hist.specs.declared.label.Var.{Var}
+use Rattle.ft_hist.specs.Canonical.{name_of, canonical}
+use Rattle.ft_hist.specs.Hist.{Hist}
+use Rattle.ft_rows.specs.declared.row.Totals.{Totals}
+use Rattle.ft_rows.specs.Counted.{Counted}
+
+-- a number in decimal digits, with spaces in front up to 10 bytes (our own choice)
+unfoldable pub right_in_10 : ℕ → List ℕ
+right_in_10 n = replicate (10 - length (decimal n)) 32 ++ decimal n
+
+-- a text with spaces behind up to so many bytes (our own choice)
+unfoldable pub left_in : ℕ → List ℕ → List ℕ
+left_in width text = text ++ replicate (width - length text) 32
+
+-- a number modulo 2 ^ 64 (our own choice)
+abbrev pub unsigned : ℤ → ℕ
+unsigned z = cast_unsigned w64 z
+
+-- a number in lower case hexadecimal digits, as many as it needs (kernel: histogram.rst, `.hex`)
+abbrev pub hexadecimal : ℕ → List ℕ
+hexadecimal n = digits 16 false n
+
+-- the last number of a bucket: no number of 64 bits is above 2 ^ 64 - 1 (kernel: histogram.rst, `.buckets`; the last bucket's end is our own choice)
+abbrev pub bucket_end : ℕ → ℕ → ℕ
+bucket_end size first = min (first + size - 1) (2 ^ 64 - 1)
+
+-- what is printed of a key's part, by its modifier; a part that the modifier doesn't make has no text (kernel: histogram.rst, modifiers; the layout is our own choice)
+abbrev pub part_text : Mode → Part → List ℕ
+part_text modes.Plain (Num z) = right_in_10 (unsigned z)
+part_text modes.Hex (Num z) = hexadecimal (unsigned z)
+part_text modes.Log2 (Log2 n) = codes "~ 2^" ++ left_in 2 (decimal n)
+part_text (modes.Buckets size) (Bucket first) = codes "~ " ++ decimal first ++ codes "-" ++ decimal (bucket_end size first)
+part_text modes.Plain (Text bytes) = left_in 50 bytes
+part_text mode part = []
+
+-- a part behind its field's name (our own choice)
+abbrev pub named_part : KeyItem → Part → List ℕ
+named_part item part = text_of item.field ++ codes ": " ++ part_text item.mode part
+
+-- parts, each behind a `, ` (our own choice)
+abbrev pub more_parts : List KeyItem → List Part → List ℕ
+more_parts (item ∷ items) (part ∷ parts) = codes ", " ++ named_part item part ++ more_parts items parts
+more_parts items parts = []
+
+-- parts with a `, ` between each two (our own choice)
+abbrev pub listed_parts : List KeyItem → List Part → List ℕ
+listed_parts (item ∷ items) (part ∷ parts) = named_part item part ++ more_parts items parts
+listed_parts items parts = []
+
+-- a key's parts in braces (kernel: histogram.rst, the `hist` file; the layout is our own choice)
+abbrev pub key_text : List KeyItem → List Part → List ℕ
+key_text items parts = codes "{ " ++ listed_parts items parts ++ codes " }"
+
+-- how a value is called: by its field, or by the variable's own name, without a `$` (our own choice)
+abbrev pub title : Option Var → Item → List ℕ
+title variable (items.Num field) = text_of field
+title variable items.Own = name_of variable
+
+-- the sums, each behind its title (kernel: histogram.rst, the `hist` file; the layout is our own choice)
+abbrev pub sums_text : Option Var → List Item → List ℕ → List ℕ
+sums_text variable (item ∷ items) (sum ∷ sums) = codes "  " ++ title variable item ++ codes ": " ++ right_in_10 sum ++ sums_text variable items sums
+sums_text variable items sums = []
+
+-- a row's line: its key, its hits and its sums (kernel: histogram.rst, the `hist` file; the layout is our own choice)
+unfoldable pub row_text : Hist → Counted → List ℕ
+row_text hist row =
+    key_text hist.keys row.key ++ codes " hitcount: " ++ right_in_10 row.hitcount ++ sums_text hist.variable hist.values row.sums ++ codes "\n"
+
+-- the totals, below an empty line (kernel: histogram.rst, the `hist` file; the layout is our own choice)
+unfoldable pub totals_text : Totals → List ℕ
+totals_text totals =
+    codes "\nTotals:\n    Hits: " ++ decimal totals.hits ++ codes "\n    Entries: " ++ decimal totals.entries
+    ++ codes "\n    Dropped: " ++ decimal totals.dropped ++ codes "\n"
+
+-- the rows of a trigger's table, one a line, and the totals (kernel: histogram.rst, the `hist` file)
+unfoldable pub rows_text : Hist → List Counted → Totals → List ℕ
+rows_text hist rows totals = flat_map (row_text hist) rows ++ totals_text totals
+
+-- the lines above the rows (kernel: histogram.rst, the `hist` file; the layout is our own choice)
+unfoldable pub heading : Hist → List ℕ
+heading hist = codes "# event histogram\n#\n# trigger info: " ++ canonical hist ++ codes " [active]\n#\n\n"

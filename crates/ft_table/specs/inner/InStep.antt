@@ -1,0 +1,17 @@
+-- A table's fields: what contracts see of them, and that they are in step with its hits.
+use Rattle.std.specs.Prelude.{◌≡◌, ◌<◌}
+use Rattle.ft_table.specs.declared.table.Table.TheInside.{Inside}
+use Rattle.ft_table.specs.Hits.{hitcount}
+use Rattle.ft_table.specs.Tabled.{Tabled, order_of}
+use Rattle.ft_table.specs.inner.ByKey.{hits_in}
+use Rattle.ft_table.specs.inner.Split.{IsSplit}
+
+-- what contracts see of a table's fields (our own choice)
+abbrev pub table_of : Inside → Tabled
+table_of t = record { hits = hits_in t.by_key; size = t.size }
+
+-- there is room for a key, the order is that of the first hits, and the counts are those of the keys in the table and outside (our own choice)
+pub record IsInStep (t : Inside) : Type 0 where
+  pub room : 0 < t.size
+  pub order : t.order.items ≡ order_of (hits_in t.by_key)
+  pub split : IsSplit (hitcount (hits_in t.by_key)) t.size t.order.items t.split.hits t.split.dropped

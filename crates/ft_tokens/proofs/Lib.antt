@@ -1,0 +1,2 @@
+mod Quotes
+mod Reach

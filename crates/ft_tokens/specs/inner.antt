@@ -1,0 +1,2 @@
+-- Words of private functions, which no public clause says (our own choice).
+pub mod Words
