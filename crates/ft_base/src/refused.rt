@@ -2,7 +2,7 @@
 
 use ft_event::LineFault;
 use ft_filter::FilterFault;
-use ft_trigger::TriggerFault;
+use ft_head::TriggerFault;
 
 /// Where an event stands: its lane, and its line number there.
 #[derive(Clone, Copy, Debug, PartialEq, Eq)]

@@ -12,6 +12,8 @@ ghost use Rattle.ft_board.specs.KeptShelves.{AreKept};
 ghost use Rattle.ft_replay.specs.Replay.{replay};
 ghost use Rattle.ft_replay.specs.Tally.{tally_of};
 
+pub use crate::kept::kept_board_keeps;
+
 /// A law: where shelves keep what the triggers' acts at events say, told place by place, a
 /// trigger's shelf gives the tally that replaying the events gives it, and the keys of its hits fit
 /// the trigger's key items.
@@ -30,5 +32,3 @@ pub fn kept_shelves()
     ft_table::one_more_hit();
     ft_pairs::one_source();
 }
-
-pub use crate::kept::kept_board_keeps;

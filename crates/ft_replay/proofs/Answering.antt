@@ -69,13 +69,3 @@ pub latencies-other : (variable : Option Var) (tally : Tally) → is_reader vari
 latencies-other None tally is = refl
 latencies-other (Some (vars.Saves label)) tally is = refl
 latencies-other (Some (vars.Reads own source)) tally is = let both : ◌≡◌ {A = Bool} true false = is in absurd cc
-
--- ---- texts that grow piece by piece
-
-pub added : (old now new one two : List ℕ) → now ≡ old ++ one → new ≡ now ++ two → new ≡ old ++ (one ++ two)
-added old now new one two first second = second ∙ ap (λ (t : List ℕ). t ++ two) first ∙ append_assoc old one two
-
--- where the last call's result is the result
-pub last_added : {X E : Type 0} (r : Result X E) (old now new one two : List ℕ) → now ≡ old ++ one → new ≡ (if is_ok r then now ++ two else now) → OnOk r (new ≡ old ++ (one ++ two))
-last_added (Ok x) old now new one two first second = added old now new one two first second
-last_added (Err e) old now new one two first second = tt

@@ -1,14 +1,13 @@
 -- What a desk answers: functions of what replaying its base gives.
-use Rattle.std.specs.Prelude.{ℕ, ◌-◌, List, ◌++◌, codes, unwrap_or, Option, Some, Result, Ok, Err, map as list_map}
+use Rattle.std.specs.Prelude.{ℕ, ◌-◌, List, ◌++◌, unwrap_or, Option, Some, Result, Ok, Err, map as list_map}
 use Rattle.std.specs.Option.{option_map_or}
 use Rattle.std.specs.FinMap as map
 use Rattle.ft_event.specs.declared.pos.Pos.{Pos}
-use Rattle.ft_hist.specs.Canonical.{canonical}
 use Rattle.ft_hist.specs.Hist.{Hist}
 use Rattle.ft_hist.specs.declared.label.Var.{Var}
 use Rattle.ft_hist.specs.declared.label.Var.TheVariants as vars
 use Rattle.ft_rows.specs.declared.row.Totals.{Totals}
-use Rattle.ft_table.specs.Text.{rows_text}
+use Rattle.ft_table.specs.Text.{heading, rows_text}
 use Rattle.ft_replay.specs.declared.pair.Latency.{Latency}
 use Rattle.ft_base.specs.declared.refused.Place.{Place}
 use Rattle.ft_base.specs.declared.refused.Refused.{Refused}
@@ -27,10 +26,6 @@ tally_at triggers events id = unwrap_or (map.get (replay triggers events).tallie
 -- an answer about an attached trigger; none is attached: refused (our own choice)
 abbrev pub of_attached : {T : Type 0} → Triggers → ℕ → (Hist → Result T Refused) → Result T Refused
 of_attached triggers id answer = option_map_or answer (map.get triggers id) (Err NoTrigger)
-
--- the lines above the rows (kernel: histogram.rst, the `hist` file; the layout is our own choice)
-unfoldable pub heading : Hist → List ℕ
-heading hist = codes "# event histogram\n#\n# trigger info: " ++ canonical hist ++ codes " [active]\n#\n\n"
 
 -- the text of a trigger with a tally (kernel: histogram.rst, the `hist` file; the layout is our own choice)
 unfoldable pub tally_text : Hist → Tally → List ℕ

@@ -1,6 +1,6 @@
 //! What a desk answers about an attached trigger, from replaying what it holds.
 
-ghost use Rattle.std.specs.Prelude.{◌≡◌, ◌++◌, List, Some, IfOk, IsSome, OnOk, map as list_map};
+ghost use Rattle.std.specs.Prelude.{◌≡◌, List, Some, IfOk, IsSome, map as list_map};
 ghost use Rattle.std.specs.Ordering.{nat_cmp};
 ghost use Rattle.std.specs.FinMap as map;
 ghost use Rattle.ft_hist.specs.Hist.{Hist};
@@ -8,7 +8,7 @@ ghost use Rattle.ft_maps.specs.Seen.{seen};
 ghost use Rattle.ft_table.specs.Rows.{AllFit};
 ghost use Rattle.ft_hist.specs.Steps.{StepsGrow};
 ghost use Rattle.ft_replay.specs.Edited.{AnswerIs};
-ghost use Rattle.ft_replay.specs.Answers.{heading, tally_at, tally_text, latency_of};
+ghost use Rattle.ft_replay.specs.Answers.{tally_at, tally_text, latency_of};
 ghost use Rattle.ft_replay.specs.Answers.{hist_from, totals_from, latencies_from};
 ghost use Rattle.ft_replay.specs.Merged.{merged};
 ghost use Rattle.ft_replay.specs.inner.Counters.{tally_in};
@@ -126,20 +126,7 @@ pub fn table_text(alloc: Global, trigger: &Trigger, table: &Table) -> Result<Vec
         → text.items ≡ tally_text trigger.now (tally_of table.now pairs)) }
 {
     ft_table::one_row_order();
-    let mut text = Vec::new(alloc);
-    write_heading(trigger, &mut text)?;
-    table.write(trigger, &mut text)?;
-    Ok(text)
-}
-
-/// Adds the lines above the rows. What it added before a refusal stays.
-#[tactic(auto, unfolding(crate::specs::Answers::heading))]
-fn write_heading(trigger: &Trigger, text: &mut Vec<u8>) -> Result<(), AllocError>
-    ensures { OnOk result (text.new.items ≡ text.old.items ++ heading trigger.now) }
-{
-    text.extend_from_slice(b"# event histogram\n#\n# trigger info: ")?;
-    trigger.write(text)?;
-    text.extend_from_slice(b" [active]\n#\n\n")
+    table.text(alloc, trigger)
 }
 
 /// Pairs as latencies, in the same order. Refused for memory.
