@@ -28,7 +28,7 @@ pub fn kept_shelves()
         → map.get triggers id ≡ Some hist → map.get shelves id ≡ Some shelf
         → AllFit shelf.table hist }
 {
-    ft_hist::fitting_parts();
-    ft_table::one_more_hit();
-    ft_pairs::one_source();
+    ft_hist::laws::fitting_parts();
+    ft_table::laws::one_more_hit();
+    ft_pairs::laws::one_source();
 }

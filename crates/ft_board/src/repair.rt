@@ -32,8 +32,8 @@ pub(crate) fn let_come(
 {
     // How many steps it takes is told by the keys of savers in a replay, which these laws bind to
     // those of the tables.
-    ft_table::one_more_hit();
-    ft_pairs::one_source();
+    ft_table::laws::one_more_hit();
+    ft_pairs::laws::one_source();
     let Some(mut tables) = kept.take() else {
         return Kept::Later;
     };
@@ -65,8 +65,8 @@ pub(crate) fn let_go(
 {
     // How many steps it takes is told by the keys of savers in a replay, which these laws bind to
     // those of the tables.
-    ft_table::one_more_hit();
-    ft_pairs::one_source();
+    ft_table::laws::one_more_hit();
+    ft_pairs::laws::one_source();
     let Some(mut tables) = kept.take() else {
         return Kept::Later;
     };

@@ -55,7 +55,7 @@ pub fn asked_events()
         → IsTrue (list_all (key_suits hist.event) hist.keys)
         → is_some (hit hist event) ≡ is_asked hist event }
 {
-    ft_event::values_of_fields();
+    ft_event::laws::values_of_fields();
 }
 
 /// A law: the key of a hit fits the trigger's key items: it has as many parts, each of its item's
@@ -66,7 +66,7 @@ pub fn fitting_parts()
     ensures as_many { (items : List KeyItem) (parts : List Part)
         → KeyFits items parts → length parts ≡ length items }
 {
-    ft_event::values_of_fields();
+    ft_event::laws::values_of_fields();
 }
 
 /// A law: at a hit of a trigger whose values suit its event, as every trigger's do, each field that
@@ -78,5 +78,5 @@ pub fn summed_fields()
         → slice_get hist.values number ≡ Some (items.Num field)
         → field_of event field ≡ Some (values.Num (value_at hist event own number)) }
 {
-    ft_event::values_of_fields();
+    ft_event::laws::values_of_fields();
 }

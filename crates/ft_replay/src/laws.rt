@@ -93,8 +93,8 @@ pub fn same_elsewhere()
         → OperatesTheSame triggers others events more variable q)
         → found_at others more variable at ≡ found_at triggers events variable at }
 {
-    ft_pairs::one_source();
-    ft_pairs::local_sources();
+    ft_pairs::laws::one_source();
+    ft_pairs::laws::local_sources();
 }
 
 /// A law: replaying gives each attached trigger the tally of the table that its hits make, with
@@ -127,9 +127,9 @@ pub fn counted_hits()
         → IsTrue (is_admitted (replay triggers events) id key)
         ↔ IsAmongFirst (table_for hist (hits_of triggers events id)) key }
 {
-    ft_table::one_more_hit();
-    ft_table::one_row_order();
-    ft_table::first_keys();
+    ft_table::laws::one_more_hit();
+    ft_table::laws::one_row_order();
+    ft_table::laws::first_keys();
 }
 
 /// A law: two maps that hold what an attached trigger's hits add, by place and key, and what its
@@ -144,5 +144,5 @@ pub fn kept_maps()
         → map.get (replay triggers events).tallies id
         ≡ Some (tally_of (table_for hist values) (pairs_in readings)) }
 {
-    ft_table::one_more_hit();
+    ft_table::laws::one_more_hit();
 }

@@ -90,8 +90,8 @@ fn step(
         → AllBeforePlace next (seen nat_cmp counters.new)) }
     ensures grow { StepsGrow work.old work.new }
 {
-    ft_hist::fitting_parts();
-    ft_table::one_more_hit();
+    ft_hist::laws::fitting_parts();
+    ft_table::laws::one_more_hit();
     for (id, trigger) in entries(triggers) {
         act(
             trigger,
