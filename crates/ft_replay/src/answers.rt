@@ -125,7 +125,7 @@ pub fn table_text(alloc: Global, trigger: &Trigger, table: &Table) -> Result<Vec
     ensures { IfOk result (λ text. (pairs : List Pair)
         → text.items ≡ tally_text trigger.now (tally_of table.now pairs)) }
 {
-    ft_table::laws::one_row_order();
+    ft_rows::laws::one_row_order();
     table.text(alloc, trigger)
 }
 

@@ -128,7 +128,7 @@ pub fn counted_hits()
         ↔ IsAmongFirst (table_for hist (hits_of triggers events id)) key }
 {
     ft_table::laws::one_more_hit();
-    ft_table::laws::one_row_order();
+    ft_rows::laws::one_row_order();
     ft_table::laws::first_keys();
 }
 
