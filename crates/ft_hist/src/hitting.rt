@@ -3,7 +3,7 @@
 ghost use Rattle.std.specs.Prelude.{◌≡◌, ◌+◌, ◌<◌, ◌≤◌, length, option_map};
 ghost use Rattle.std.specs.Option.{option_copied};
 ghost use Rattle.ft_hist.specs.declared.item.KeyItem.{KeyItem};
-ghost use Rattle.ft_hist.specs.declared.key.Part.{Part};
+ghost use Rattle.ft_keys.specs.declared.key.Part.{Part};
 ghost use Rattle.ft_hist.specs.Powers.{log2_of, bucket_of};
 ghost use Rattle.ft_hist.specs.Hit.{number_part, text_part, value_part, part_of, key_of};
 ghost use Rattle.ft_hist.specs.Hit.{same_name, passes_filter, hit};
