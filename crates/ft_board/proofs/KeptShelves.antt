@@ -9,8 +9,8 @@ use Rattle.ft_event.specs.declared.pos.Pos.{Pos}
 use Rattle.ft_hist.specs.Fitting.{KeyFits}
 use Rattle.ft_hist.specs.Hist.{Hist}
 use Rattle.ft_hist.specs.Hit.{hit}
-use Rattle.ft_hist.specs.Ties.{key_same}
-use Rattle.ft_hist.specs.declared.key.Part.{Part}
+use Rattle.ft_keys.specs.Ties.{key_same}
+use Rattle.ft_keys.specs.declared.key.Part.{Part}
 use Rattle.ft_kept.specs.Shelves.{Shelved, Shelves, admits_on, is_saver, kept_on}
 use Rattle.ft_pairs.specs.declared.role.Role.{Role}
 use Rattle.ft_pairs.specs.declared.role.Role.TheVariants.{Saves, Reads}

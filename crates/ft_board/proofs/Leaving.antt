@@ -8,7 +8,7 @@ use Rattle.std.proofs.lemmas.Bool.{cases_eq}
 use Rattle.ft_hist.specs.Hist.{Hist}
 use Rattle.ft_hist.specs.declared.label.Var.{Var}
 use Rattle.ft_hist.specs.declared.label.Var.TheVariants as vars
-use Rattle.ft_hist.specs.declared.key.Part.{Part}
+use Rattle.ft_keys.specs.declared.key.Part.{Part}
 use Rattle.ft_maps.specs.Entries.{get-remove_same, get-remove_other}
 use Rattle.ft_pairs.specs.declared.at.At.{At}
 use Rattle.ft_kept.specs.Acts.{Acts, acts_of, op_of}

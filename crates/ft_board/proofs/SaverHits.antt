@@ -12,8 +12,8 @@ use Rattle.ft_event.specs.Traced.{Traced}
 use Rattle.ft_event.specs.declared.pos.Pos.{Pos}
 use Rattle.ft_hist.specs.Hist.{Hist}
 use Rattle.ft_hist.specs.Hit.{hit}
-use Rattle.ft_hist.specs.Parts.{key_cmp}
-use Rattle.ft_hist.specs.declared.key.Part.{Part}
+use Rattle.ft_keys.specs.Parts.{key_cmp}
+use Rattle.ft_keys.specs.declared.key.Part.{Part}
 use Rattle.ft_kept.specs.Bounds.{with_hit_of, without_hit_of}
 use Rattle.ft_table.specs.Values.{values_at}
 use Rattle.ft_pairs.specs.declared.role.Role.TheVariants.{Saves}

@@ -7,7 +7,7 @@ use Rattle.ft_event.specs.Places.{pos_cmp_total}
 use Rattle.ft_event.specs.Traced.{Traced}
 use Rattle.ft_event.specs.declared.pos.Pos.{Pos}
 use Rattle.ft_hist.specs.Hist.{Hist}
-use Rattle.ft_hist.specs.declared.key.Part.{Part}
+use Rattle.ft_keys.specs.declared.key.Part.{Part}
 use Rattle.ft_kept.specs.Bounds.{SomeSaverMoves, table_on, with_hit_of, without_hit_of}
 use Rattle.ft_kept.specs.Shelves.{Shelved, Shelves}
 use Rattle.ft_kept.specs.Switches.{differ}

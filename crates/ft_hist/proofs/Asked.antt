@@ -14,7 +14,7 @@ use Rattle.ft_event.specs.Traced.{Traced, name_of}
 use Rattle.ft_hist.specs.declared.item.KeyItem.{KeyItem}
 use Rattle.ft_hist.specs.declared.item.Mode.{Mode}
 use Rattle.ft_hist.specs.declared.item.Mode.TheVariants as modes
-use Rattle.ft_hist.specs.declared.key.Part.{Part}
+use Rattle.ft_keys.specs.declared.key.Part.{Part}
 use Rattle.ft_hist.specs.Hist.{Hist}
 use Rattle.ft_hist.specs.Hit.{value_part, part_of, key_of, same_name, is_asked, passes_filter, hit}
 use Rattle.ft_hist.specs.Sound.{mode_suits, key_suits}

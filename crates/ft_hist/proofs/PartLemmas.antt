@@ -12,7 +12,7 @@ use Rattle.ft_event.specs.Traced.{Traced}
 use Rattle.ft_hist.specs.declared.item.KeyItem.{KeyItem}
 use Rattle.ft_hist.specs.declared.item.Mode.{Mode}
 use Rattle.ft_hist.specs.declared.item.Mode.TheVariants as modes
-use Rattle.ft_hist.specs.declared.key.Part.{Part}
+use Rattle.ft_keys.specs.declared.key.Part.{Part}
 use Rattle.ft_hist.specs.Matching.{Texts, number_kind}
 use Rattle.ft_hist.specs.Fitting.{IsOfKind, PartFits, KeyFits}
 use Rattle.ft_hist.specs.Hist.{Hist}

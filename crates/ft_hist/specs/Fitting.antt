@@ -1,8 +1,8 @@
 -- Which keys the key items of a trigger can make (kernel: histogram.rst, `keys` and their modifiers).
 use Rattle.std.specs.Prelude.{◌≤◌, List, [], ◌∷◌}
 use Rattle.ft_hist.specs.declared.item.KeyItem.{KeyItem}
-use Rattle.ft_hist.specs.declared.key.Part.{Part}
-use Rattle.ft_hist.specs.declared.key.Part.TheVariants.{Num, Log2, Bucket, Text}
+use Rattle.ft_keys.specs.declared.key.Part.{Part}
+use Rattle.ft_keys.specs.declared.key.Part.TheVariants.{Num, Log2, Bucket, Text}
 use Rattle.ft_hist.specs.Powers.{IsMultiple}
 use Rattle.ft_hist.specs.Matching.{Kind, Numbers, Powers, Multiples, Texts, item_kind}
 

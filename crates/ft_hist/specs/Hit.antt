@@ -13,8 +13,8 @@ use Rattle.ft_filter.specs.Holds.{holds}
 use Rattle.ft_hist.specs.declared.item.KeyItem.{KeyItem}
 use Rattle.ft_hist.specs.declared.item.Mode.{Mode}
 use Rattle.ft_hist.specs.declared.item.Mode.TheVariants as modes
-use Rattle.ft_hist.specs.declared.key.Part.{Part}
-use Rattle.ft_hist.specs.declared.key.Part.TheVariants as parts
+use Rattle.ft_keys.specs.declared.key.Part.{Part}
+use Rattle.ft_keys.specs.declared.key.Part.TheVariants as parts
 use Rattle.ft_hist.specs.Powers.{log2_of, bucket_of}
 use Rattle.ft_hist.specs.Hist.{Hist}
 

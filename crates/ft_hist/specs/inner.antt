@@ -1,4 +1,3 @@
 -- Words of private functions and types, which no public clause says (our own choice).
 pub mod Counts
-pub mod Stored
 pub mod Triggers

@@ -3,17 +3,17 @@
 ghost use Rattle.std.specs.Prelude.{◌≡◌, ◌+◌, ◌<◌, ◌≤◌, length, option_map};
 ghost use Rattle.std.specs.Option.{option_copied};
 ghost use Rattle.ft_hist.specs.declared.item.KeyItem.{KeyItem};
-ghost use Rattle.ft_hist.specs.declared.key.Part.{Part};
+ghost use Rattle.ft_keys.specs.declared.key.Part.{Part};
 ghost use Rattle.ft_hist.specs.Powers.{log2_of, bucket_of};
 ghost use Rattle.ft_hist.specs.Hit.{number_part, text_part, value_part, part_of, key_of};
 ghost use Rattle.ft_hist.specs.Hit.{same_name, passes_filter, hit};
 
 use crate::item::{KeyItem, Mode};
-use crate::key::{Key, Part};
 use crate::trigger::Trigger;
 use crate::work::Work;
 use ft_event::{Comm, Event, Name, Value};
 use ft_filter::Filter;
+use ft_keys::{Key, Part};
 
 impl Trigger {
     /// The key that it counts the event under, or `None` where the event is no hit: it is not the

@@ -1,38 +1,24 @@
-//! Laws of keys, of modifiers, and of hits.
+//! Laws of modifiers and of hits; those of keys are passed on.
 
 ghost use Rattle.std.specs.Prelude.{◌≡◌, ◌<◌, ◌≤◌, ◌*◌, ◌^◌, ℕ, ℤ, List, length, Some};
 ghost use Rattle.std.specs.Prelude.{slice_get, IsTrue, IsSome};
 ghost use Rattle.std.specs.List.{list_all};
 ghost use Rattle.std.specs.Option.{is_some};
-ghost use Rattle.std.specs.declared.cmp.Ordering.TheVariants.{Equal};
 ghost use Rattle.ft_event.specs.Fields.{field_of};
 ghost use Rattle.ft_event.specs.Traced.{Traced};
 ghost use Rattle.ft_event.specs.declared.field.Field.{Field};
 ghost use Rattle.ft_event.specs.declared.field.Value.TheVariants as values;
+ghost use Rattle.ft_keys.specs.declared.key.Part.{Part};
 ghost use Rattle.ft_hist.specs.declared.item.Item.TheVariants as items;
 ghost use Rattle.ft_hist.specs.declared.item.KeyItem.{KeyItem};
 ghost use Rattle.ft_hist.specs.Fitting.{KeyFits};
 ghost use Rattle.ft_hist.specs.Hist.{Hist};
 ghost use Rattle.ft_hist.specs.Hit.{is_asked, hit};
-ghost use Rattle.ft_hist.specs.Parts.{part_cmp, key_cmp};
 ghost use Rattle.ft_hist.specs.Powers.{log2_of, bucket_of, IsMultiple};
 ghost use Rattle.ft_hist.specs.Sound.{key_suits, value_suits};
 ghost use Rattle.ft_hist.specs.Values.{value_at};
 
-use crate::key::{Key, Part};
-
-/// A law: keys are ordered by their parts from the left, and a key stands before those that it
-/// begins; parts are ordered by kind, then as signed numbers, as powers, as multiples, as bytes.
-pub fn one_key_order()
-    ensures order { (a b : Key) → ⟦<Key as Ord>⟧.cmp a b ≡ key_cmp a b }
-    ensures parts { (a b : Part) → ⟦<Part as Ord>⟧.cmp a b ≡ part_cmp a b }
-{}
-
-/// A law: keys that tie in the order are equal, and so are parts.
-pub fn equal_keys()
-    ensures keys { (a b : Key) → key_cmp a b ≡ Equal → a ≡ b }
-    ensures parts { (a b : Part) → part_cmp a b ≡ Equal → a ≡ b }
-{}
+pub use ft_keys::laws::{equal_keys, one_key_order};
 
 /// A law: the number that `.log2` gives a value of 64 bits is the least whose power of 2 is not
 /// below the value.

@@ -4,7 +4,8 @@
 //! A trigger belongs to one event name. It has one to three keys, which are fields of the event
 //! with or without modifiers, up to three values, at most one variable, one or two sort items, a
 //! size and perhaps a filter. An event is a hit if it has the name and passes the filter; its key
-//! is the list of the key fields' values after their modifiers.
+//! is the list of the key fields' values after their modifiers. What a key is stands below, in
+//! `ft_keys`, whose items are passed on.
 //!
 //! ```ignore
 //! let mut work = Work::new();
@@ -18,7 +19,6 @@
 
 mod hitting;
 mod item;
-mod key;
 mod label;
 pub mod laws;
 mod matching;
@@ -27,8 +27,8 @@ mod values;
 mod work;
 mod writing;
 
+pub use ft_keys::{Key, Part};
 pub use item::{Item, KeyItem, Mode, SortBy, SortItem};
-pub use key::{Key, Part};
 pub use label::{Label, Var};
 pub use laws::{
     asked_events, equal_keys, fitting_parts, multiples, one_key_order, powers, summed_fields,

@@ -9,7 +9,7 @@ use Rattle.std.specs.FinMap.{FinMap, nat_cmp-IsAntisymmetric}
 use Rattle.std.proofs.lemmas.Bool.{true≢false}
 use Rattle.ft_event.specs.Traced.{Traced}
 use Rattle.ft_hist.specs.Hist.{Hist}
-use Rattle.ft_hist.specs.declared.key.Part.{Part}
+use Rattle.ft_keys.specs.declared.key.Part.{Part}
 use Rattle.ft_pairs.specs.Next.{IsNext}
 use Rattle.ft_pairs.specs.Order.{at_cmp, at_cmp_total, at_same}
 use Rattle.ft_pairs.specs.Source.{Ops}

@@ -12,9 +12,9 @@ use Rattle.std.specs.FinMap.{find, entries_sorted, get-entries, get-from_entries
 use Rattle.std.proofs.lemmas.Bool.{true≢false, false≢true}
 use Rattle.ft_event.specs.declared.pos.Pos.{Pos}
 use Rattle.ft_event.specs.Places.{pos_cmp, pos_cmp_total}
-use Rattle.ft_hist.specs.declared.key.Part.{Part}
-use Rattle.ft_hist.specs.Orders.{key_cmp_total}
-use Rattle.ft_hist.specs.Parts.{key_cmp}
+use Rattle.ft_keys.specs.declared.key.Part.{Part}
+use Rattle.ft_keys.specs.Orders.{key_cmp_total}
+use Rattle.ft_keys.specs.Parts.{key_cmp}
 use Rattle.ft_table.specs.Hits.{Hits, same_key, hits_of, hits_after, is_after, first_entry}
 use Rattle.ft_table.specs.Marks.{mark_cmp}
 use Rattle.ft_table.specs.Rows.{hit_after}

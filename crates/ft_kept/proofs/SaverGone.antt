@@ -9,9 +9,9 @@ use Rattle.std.proofs.lemmas.Bool.{true≢false}
 use Rattle.ft_event.specs.Traced.{Traced}
 use Rattle.ft_event.specs.declared.pos.Pos.{Pos}
 use Rattle.ft_hist.specs.Hist.{Hist}
-use Rattle.ft_hist.specs.Orders.{key_cmp_total}
-use Rattle.ft_hist.specs.Ties.{key_same}
-use Rattle.ft_hist.specs.declared.key.Part.{Part}
+use Rattle.ft_keys.specs.Orders.{key_cmp_total}
+use Rattle.ft_keys.specs.Ties.{key_same}
+use Rattle.ft_keys.specs.declared.key.Part.{Part}
 use Rattle.ft_lanes.specs.Held.{Lanes}
 use Rattle.ft_maps.specs.Entries.{get-insert_same}
 use Rattle.ft_pairs.specs.ByKey.{ops_of}

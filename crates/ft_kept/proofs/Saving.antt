@@ -11,7 +11,7 @@ use Rattle.std.specs.FinMap as map
 use Rattle.std.proofs.lemmas.Map.Lookups.{exact_unsigned}
 use Rattle.ft_event.specs.declared.pos.Pos.{Pos}
 use Rattle.ft_event.specs.Places.{pos_cmp, pos_cmp_total, pos_same}
-use Rattle.ft_hist.specs.declared.key.Part.{Part}
+use Rattle.ft_keys.specs.declared.key.Part.{Part}
 use Rattle.ft_maps.specs.Entries.{same_from_tie}
 use Rattle.ft_pairs.specs.ByKey.{ByKey, ChangesKey, ops_of, same_key}
 use Rattle.ft_pairs.specs.Edits.{with_op, same_at}

@@ -12,9 +12,9 @@ use Rattle.ft_event.specs.Places.{pos_cmp_total, pos_same}
 use Rattle.ft_event.specs.Traced.{Traced}
 use Rattle.ft_event.specs.declared.pos.Pos.{Pos}
 use Rattle.ft_hist.specs.Hist.{Hist}
-use Rattle.ft_hist.specs.Orders.{key_cmp_total}
-use Rattle.ft_hist.specs.Ties.{key_same}
-use Rattle.ft_hist.specs.declared.key.Part.{Part}
+use Rattle.ft_keys.specs.Orders.{key_cmp_total}
+use Rattle.ft_keys.specs.Ties.{key_same}
+use Rattle.ft_keys.specs.declared.key.Part.{Part}
 use Rattle.ft_maps.specs.Entries.{same_from_tie, get-insert_same, get-insert_other, get-remove_same, get-remove_other, insert_same}
 use Rattle.ft_pairs.specs.Edits.{KeepsSource}
 use Rattle.ft_pairs.specs.Source.{Ops, IsSource}

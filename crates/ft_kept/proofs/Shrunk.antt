@@ -2,8 +2,8 @@
 use Rattle.std.proofs.Common.{◌≡◌, ℕ, Bool, true, false, cond, List, refl, sym, ap, subst, ◌∙◌, Some, None, Option}
 use Rattle.std.specs.Option.{option_map_or}
 use Rattle.std.proofs.lemmas.Bool.{true≢false}
-use Rattle.ft_hist.specs.declared.key.Part.{Part}
-use Rattle.ft_hist.specs.Ties.{key_same}
+use Rattle.ft_keys.specs.declared.key.Part.{Part}
+use Rattle.ft_keys.specs.Ties.{key_same}
 use Rattle.ft_maps.specs.Entries.{same_from_tie}
 use Rattle.ft_pairs.specs.ByKey.{ops_of}
 use Rattle.ft_pairs.specs.Edits.{without_op}

@@ -9,7 +9,7 @@ pub mod inner
 pub use Rattle.ft_event.specs.Places
 pub use Rattle.ft_event.specs.Traced
 pub use Rattle.ft_hist.specs.Hist
-pub use Rattle.ft_hist.specs.Parts
+pub use Rattle.ft_keys.specs.Parts
 pub use Rattle.ft_hist.specs.Steps
 pub use Rattle.ft_lanes.specs.Held
 pub use Rattle.ft_maps.specs.Seen

@@ -4,7 +4,7 @@ ghost use Rattle.std.specs.Prelude.{◌≡◌, ◌+◌, ◌≤◌, ◌⊎◌, Li
 ghost use Rattle.std.specs.FinMap as map;
 ghost use Rattle.ft_event.specs.declared.pos.Pos.{Pos};
 ghost use Rattle.ft_hist.specs.Steps.{StepsGrow};
-ghost use Rattle.ft_hist.specs.declared.key.Part.{Part};
+ghost use Rattle.ft_keys.specs.declared.key.Part.{Part};
 ghost use Rattle.ft_pairs.specs.ByKey.{ops_of};
 ghost use Rattle.ft_pairs.specs.declared.role.Role.TheVariants.{Saves};
 ghost use Rattle.ft_table.specs.Growth.{with_hit};

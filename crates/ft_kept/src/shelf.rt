@@ -4,7 +4,7 @@ ghost use Rattle.std.specs.Prelude.{◌≡◌, ◌+◌, ◌<◌, ◌≤◌, List
 ghost use Rattle.std.specs.FinMap as map;
 ghost use Rattle.ft_event.specs.Places.{pos_cmp};
 ghost use Rattle.ft_event.specs.declared.pos.Pos.{Pos};
-ghost use Rattle.ft_hist.specs.declared.key.Part.{Part};
+ghost use Rattle.ft_keys.specs.declared.key.Part.{Part};
 ghost use Rattle.ft_maps.specs.Seen.{seen};
 ghost use Rattle.ft_pairs.specs.ByKey.{ops_of, ops_left};
 ghost use Rattle.ft_pairs.specs.Edits.{with_op, without_op, reads_alone};

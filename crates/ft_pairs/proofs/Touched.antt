@@ -6,9 +6,9 @@ use Rattle.std.specs.declared.cmp.Ordering.{Ordering}
 use Rattle.std.specs.declared.cmp.Ordering.TheVariants.{Less, Equal, Greater}
 use Rattle.std.specs.Ordering.{is_lt, ordering_reverse}
 use Rattle.std.specs.Cmp.{eq_by_cmp_equiv}
-use Rattle.ft_hist.specs.declared.key.Part.{Part}
-use Rattle.ft_hist.specs.Orders.{key_cmp_total}
-use Rattle.ft_hist.specs.Ties.{key_same}
+use Rattle.ft_keys.specs.declared.key.Part.{Part}
+use Rattle.ft_keys.specs.Orders.{key_cmp_total}
+use Rattle.ft_keys.specs.Ties.{key_same}
 use Rattle.ft_maps.specs.Entries.{same_from_tie}
 use Rattle.ft_pairs.specs.declared.at.At.{At}
 use Rattle.ft_pairs.specs.declared.at.Op.{Op}

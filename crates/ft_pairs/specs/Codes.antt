@@ -1,7 +1,7 @@
 -- How the logic stores what contracts see.
 use Rattle.std.specs.Coded.{Coded, coded_list}
 use Rattle.std.specs.FinMap as map
-use Rattle.ft_hist.specs.contracts.key.Part as part
+use Rattle.ft_keys.specs.contracts.key.Part as part
 use Rattle.ft_pairs.specs.contracts.at.At as at
 use Rattle.ft_pairs.specs.contracts.at.Op as op
 use Rattle.ft_pairs.specs.ByKey.{KeyOps, ByKey}

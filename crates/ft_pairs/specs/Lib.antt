@@ -7,5 +7,5 @@ pub mod Roles
 pub mod Source
 pub mod Variables
 pub use Rattle.ft_event.specs.Places
-pub use Rattle.ft_hist.specs.Parts
+pub use Rattle.ft_keys.specs.Parts
 pub use Rattle.ft_hist.specs.Steps

@@ -4,7 +4,7 @@ ghost use Rattle.std.specs.Prelude.{◌≡◌, ◌⊎◌, ◌↔◌, List, Optio
 ghost use Rattle.std.specs.Prelude.{map as list_map};
 ghost use Rattle.std.specs.List.Sorted.{IsStrictlySortedBy};
 ghost use Rattle.std.specs.declared.cmp.Ordering.TheVariants.{Less, Equal};
-ghost use Rattle.ft_hist.specs.declared.key.Part.{Part};
+ghost use Rattle.ft_keys.specs.declared.key.Part.{Part};
 ghost use Rattle.ft_pairs.specs.declared.at.Op.{Op};
 ghost use Rattle.ft_pairs.specs.declared.at.Op.TheVariants.{Read};
 ghost use Rattle.ft_pairs.specs.Order.{at_cmp};

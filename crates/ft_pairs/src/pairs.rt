@@ -2,8 +2,8 @@
 
 ghost use Rattle.std.specs.Prelude.{◌≡◌, ◌+◌, ◌<◌, List, None, Some, OnOk, OnErr, IfSome, IsTrue};
 ghost use Rattle.std.specs.FinMap as map;
-ghost use Rattle.ft_hist.specs.declared.key.Part.{Part};
-ghost use Rattle.ft_hist.specs.Parts.{key_cmp};
+ghost use Rattle.ft_keys.specs.declared.key.Part.{Part};
+ghost use Rattle.ft_keys.specs.Parts.{key_cmp};
 ghost use Rattle.ft_maps.specs.Seen.{seen};
 ghost use Rattle.ft_pairs.specs.declared.at.At.{At};
 ghost use Rattle.ft_pairs.specs.ByKey.{ops_of, ops_left, ChangesKey};
@@ -35,7 +35,7 @@ impl Model for Pairs {
 
     ghost coded = { by_key_code };
 
-    ghost use Rattle.ft_hist.specs.Parts.{key_cmp};
+    ghost use Rattle.ft_keys.specs.Parts.{key_cmp};
     ghost use Rattle.ft_maps.specs.Seen.{seen};
 
     ghost view = { λ p. seen key_cmp p.by_key };

@@ -11,7 +11,7 @@ use Rattle.std.specs.FinMap.{find, get-entries, nat_cmp-IsAntisymmetric}
 use Rattle.ft_event.specs.Traced.{Traced}
 use Rattle.ft_event.specs.declared.pos.Pos.{Pos}
 use Rattle.ft_event.specs.Places.{pos_cmp, pos_cmp_total, pos_same}
-use Rattle.ft_hist.specs.declared.key.Part.{Part}
+use Rattle.ft_keys.specs.declared.key.Part.{Part}
 use Rattle.ft_hist.specs.Hist.{Hist}
 use Rattle.ft_hist.specs.Hit.{hit}
 use Rattle.ft_maps.specs.Entries.{same_from_tie}

@@ -12,7 +12,7 @@ use Rattle.std.proofs.lemmas.Cmp.{tied_itself}
 use Rattle.std.proofs.lemmas.Map.Keys.{sorted_head, sorted_tail}
 use Rattle.ft_event.specs.declared.pos.Pos.{Pos}
 use Rattle.ft_event.specs.Places.{pos_cmp, pos_same}
-use Rattle.ft_hist.specs.Ties.{key_same}
+use Rattle.ft_keys.specs.Ties.{key_same}
 use Rattle.ft_maps.specs.Entries.{strictly_sorted, same_from_tie}
 use Rattle.ft_table.specs.declared.mark.Mark.{Mark}
 use Rattle.ft_table.specs.Hits.{Hits, same_key, first_place}

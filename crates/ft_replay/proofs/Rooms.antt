@@ -6,10 +6,10 @@ use Rattle.std.specs.Ordering.{nat_cmp, eq_by_cmp}
 use Rattle.std.specs.Cmp.{eq_by_cmp_equiv}
 use Rattle.std.specs.FinMap as map
 use Rattle.std.specs.FinMap.{get-insert, len-insert, nat_cmp-IsAntisymmetric}
-use Rattle.ft_hist.specs.declared.key.Part.{Part}
-use Rattle.ft_hist.specs.Parts.{key_cmp}
-use Rattle.ft_hist.specs.Orders.{key_cmp_total}
-use Rattle.ft_hist.specs.Ties.{key_same}
+use Rattle.ft_keys.specs.declared.key.Part.{Part}
+use Rattle.ft_keys.specs.Parts.{key_cmp}
+use Rattle.ft_keys.specs.Orders.{key_cmp_total}
+use Rattle.ft_keys.specs.Ties.{key_same}
 use Rattle.ft_maps.specs.Entries.{same_from_tie}
 use Rattle.ft_table.specs.Counted.{Counted}
 use Rattle.ft_replay.specs.Tally.{Counts, Tally, RowGrowth, has_place, count}

@@ -10,9 +10,9 @@ use Rattle.std.specs.FinMap.{find, put, entries-insert, get-entries}
 use Rattle.std.specs.FinMap.Entries.{by_order}
 use Rattle.std.proofs.lemmas.List.Sorted.{IsPermutation-refl, IsPermutation-sym, IsPermutation-trans, IsPermutation-cons, IsPermutation-middle, IsPermutation-map, sum_by-IsPermutation}
 use Rattle.ft_hist.specs.declared.item.SortItem.{SortItem}
-use Rattle.ft_hist.specs.declared.key.Part.{Part}
-use Rattle.ft_hist.specs.Parts.{key_cmp}
-use Rattle.ft_hist.specs.Orders.{key_cmp_total}
+use Rattle.ft_keys.specs.declared.key.Part.{Part}
+use Rattle.ft_keys.specs.Parts.{key_cmp}
+use Rattle.ft_keys.specs.Orders.{key_cmp_total}
 use Rattle.ft_maps.specs.Entries.{entries-empty}
 use Rattle.ft_table.specs.Counted.{Counted}
 use Rattle.ft_table.specs.Hits.{Hits, same_key, hitcount}

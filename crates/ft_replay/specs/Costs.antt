@@ -2,7 +2,7 @@
 use Rattle.std.specs.Prelude.{◌≡◌, ℕ, ◌+◌, ◌*◌, ◌≤◌, true, false, List, Result, Ok, Err}
 use Rattle.ft_event.specs.Traced.{Traced}
 use Rattle.ft_hist.specs.Steps.{Steps, StepsGrow}
-use Rattle.ft_hist.specs.declared.key.Part.{Part}
+use Rattle.ft_keys.specs.declared.key.Part.{Part}
 use Rattle.ft_hist.specs.Tests.{count_on}
 use Rattle.ft_pairs.specs.declared.role.Role.TheVariants.{Saves}
 use Rattle.ft_base.specs.declared.refused.Refused.{Refused}

@@ -10,7 +10,7 @@ ghost use Rattle.ft_event.specs.declared.pos.Pos.{Pos};
 ghost use Rattle.ft_event.specs.Places.{pos_cmp};
 ghost use Rattle.ft_hist.specs.Hist.{Hist};
 ghost use Rattle.ft_hist.specs.declared.item.SortItem.{SortItem};
-ghost use Rattle.ft_hist.specs.declared.key.Part.{Part};
+ghost use Rattle.ft_keys.specs.declared.key.Part.{Part};
 ghost use Rattle.ft_table.specs.Admission.{IsAmongFirst};
 ghost use Rattle.ft_table.specs.Hits.{Hits};
 ghost use Rattle.ft_table.specs.Rows.{row_at, rows_of, totals_of};

@@ -13,8 +13,8 @@ use Rattle.ft_hist.specs.declared.item.Item.TheVariants as items
 use Rattle.ft_hist.specs.declared.item.SortItem.{SortItem}
 use Rattle.ft_hist.specs.declared.item.SortBy.{SortBy}
 use Rattle.ft_hist.specs.declared.item.SortBy.TheVariants as sorts
-use Rattle.ft_hist.specs.declared.key.Part.{Part}
-use Rattle.ft_hist.specs.declared.key.Part.TheVariants.{Num, Log2, Bucket, Text}
+use Rattle.ft_keys.specs.declared.key.Part.{Part}
+use Rattle.ft_keys.specs.declared.key.Part.TheVariants.{Num, Log2, Bucket, Text}
 use Rattle.ft_hist.specs.declared.label.Var.{Var}
 use Rattle.ft_hist.specs.declared.label.Var.TheVariants as vars
 use Rattle.ft_hist.specs.Hist.{Hist}

@@ -10,8 +10,8 @@ use Rattle.std.specs.Cmp.{tied_itself, eq_by_cmp_equiv}
 use Rattle.std.proofs.lemmas.List.Sorted.{IsPermutation-refl, IsPermutation-cons, IsPermutation-sym, IsPermutation-trans, IsPermutation-middle, Contains-permutation}
 use Rattle.std.proofs.lemmas.Map.Keys.{IsDistinct-IsPermutation}
 use Rattle.ft_hist.specs.declared.item.SortItem.{SortItem}
-use Rattle.ft_hist.specs.Parts.{key_cmp}
-use Rattle.ft_hist.specs.Orders.{key_cmp_total}
+use Rattle.ft_keys.specs.Parts.{key_cmp}
+use Rattle.ft_keys.specs.Orders.{key_cmp_total}
 use Rattle.ft_rows.specs.Counted.{Counted}
 use Rattle.ft_rows.specs.Sorting.{row_cmp, row_among, in_order, HasDistinctKeys}
 use Rattle.ft_rows.proofs.RowOrders.{row_cmp_total, one_key}

@@ -3,7 +3,7 @@ use Rattle.std.proofs.Common.{◌≡◌, ℕ, zero, suc, ◌+◌, ◌<◌, List,
 use Rattle.std.specs.Prelude.{Some, IsSome, slice_get, codes}
 use Rattle.std.proofs.lemmas.Option.{same_Some}
 use Rattle.ft_hist.specs.declared.item.KeyItem.{KeyItem}
-use Rattle.ft_hist.specs.declared.key.Part.{Part}
+use Rattle.ft_keys.specs.declared.key.Part.{Part}
 use Rattle.ft_hist.specs.Fitting.{KeyFits}
 use Rattle.ft_rows.specs.Text.{named_part, more_parts}
 

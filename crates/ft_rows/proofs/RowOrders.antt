@@ -9,8 +9,8 @@ use Rattle.std.specs.Cmp.Lexicographic.{options_total}
 use Rattle.ft_hist.specs.declared.item.SortBy.{SortBy}
 use Rattle.ft_hist.specs.declared.item.SortBy.TheVariants as sorts
 use Rattle.ft_hist.specs.declared.item.SortItem.{SortItem}
-use Rattle.ft_hist.specs.Orders.{part_cmp_total, key_cmp_total}
-use Rattle.ft_hist.specs.Ties.{key_same}
+use Rattle.ft_keys.specs.Orders.{part_cmp_total, key_cmp_total}
+use Rattle.ft_keys.specs.Ties.{key_same}
 use Rattle.ft_rows.specs.Counted.{Counted}
 use Rattle.ft_rows.specs.Sorting.{by_cmp, item_cmp, row_cmp}
 

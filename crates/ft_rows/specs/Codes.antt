@@ -1,8 +1,8 @@
 -- How the logic stores rows.
 use Rattle.std.specs.Prelude.{ℕ, List, refl}
 use Rattle.std.specs.Coded.{Coded, code_by, coded×, coded_list, coded_ℕ}
-use Rattle.ft_hist.specs.declared.key.Part.{Part}
-use Rattle.ft_hist.specs.contracts.key.Part as part
+use Rattle.ft_keys.specs.declared.key.Part.{Part}
+use Rattle.ft_keys.specs.contracts.key.Part as part
 use Rattle.ft_rows.specs.Counted.{Counted}
 
 -- a row, stored as its key, its hitcount and its sums (our own choice)

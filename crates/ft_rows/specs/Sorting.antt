@@ -7,7 +7,7 @@ use Rattle.std.specs.Option.{option_cmp}
 use Rattle.ft_hist.specs.declared.item.SortBy.{SortBy}
 use Rattle.ft_hist.specs.declared.item.SortBy.TheVariants as sorts
 use Rattle.ft_hist.specs.declared.item.SortItem.{SortItem}
-use Rattle.ft_hist.specs.Parts.{part_cmp, key_cmp}
+use Rattle.ft_keys.specs.Parts.{part_cmp, key_cmp}
 use Rattle.ft_rows.specs.Counted.{Counted}
 
 -- rows by hits, by a part of the key, or by a sum, the least first; a part that isn't there stands before any other (kernel: histogram.rst, `sort`; missing parts are our own choice)

@@ -7,7 +7,7 @@ use Rattle.std.specs.Cmp.{eq_by_cmp_equiv}
 use Rattle.std.specs.FinMap as map
 use Rattle.std.specs.FinMap.{FinMap, get-insert, contains_key-keys}
 use Rattle.std.proofs.lemmas.Bool.{cases_order}
-use Rattle.ft_hist.specs.declared.key.Part.{Part}
+use Rattle.ft_keys.specs.declared.key.Part.{Part}
 use Rattle.ft_table.specs.declared.mark.Mark.{Mark}
 use Rattle.ft_table.specs.Marks.{mark_cmp, mark_cmp_total, mark_same}
 use Rattle.ft_table.specs.inner.Ascending.{IsRank}

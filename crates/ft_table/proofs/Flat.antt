@@ -9,15 +9,15 @@ use Rattle.std.specs.Cmp.{eq_by_cmp_equiv}
 use Rattle.std.specs.FinMap as map
 use Rattle.std.specs.FinMap.{find, is_sorted, entries_sorted, get-entries, get-empty, get-insert, get-remove, get-from_entries, same_map}
 use Rattle.ft_event.specs.declared.pos.Pos.{Pos}
-use Rattle.ft_hist.specs.declared.key.Part.{Part}
-use Rattle.ft_hist.specs.Parts.{key_cmp}
+use Rattle.ft_keys.specs.declared.key.Part.{Part}
+use Rattle.ft_keys.specs.Parts.{key_cmp}
 use Rattle.ft_table.specs.declared.mark.Mark.{Mark}
 use Rattle.ft_event.specs.Places.{pos_cmp, pos_cmp_total, pos_same}
 use Rattle.ft_table.specs.Marks.{mark_cmp, mark_cmp_total, mark_same}
 use Rattle.ft_table.specs.Hits.{EntryHits, Hits, same_key, hits_of}
 use Rattle.ft_table.specs.inner.ByKey.{ByKey, flat}
-use Rattle.ft_hist.specs.Orders.{key_cmp_total}
-use Rattle.ft_hist.specs.Ties.{key_same}
+use Rattle.ft_keys.specs.Orders.{key_cmp_total}
+use Rattle.ft_keys.specs.Ties.{key_same}
 
 abbrev pub mark : Pos → List Part → Mark
 mark pos key = record { pos = pos; key = key }

@@ -12,7 +12,7 @@ pub mod inner
 pub use Rattle.ft_event.specs.Places
 pub use Rattle.ft_hist.specs.Fitting
 pub use Rattle.ft_hist.specs.Hist
-pub use Rattle.ft_hist.specs.Parts
+pub use Rattle.ft_keys.specs.Parts
 pub use Rattle.ft_hist.specs.Steps
 pub use Rattle.ft_rows.specs.Counted
 pub use Rattle.ft_rows.specs.Sorting

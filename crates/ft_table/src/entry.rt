@@ -9,7 +9,7 @@ ghost use Rattle.ft_table.specs.Hits.{sums_of, least_key, first_place, hitcount,
 ghost use Rattle.ft_table.specs.Hits.{first_entry, hits_after, is_after};
 ghost use Rattle.ft_table.specs.inner.ByKey.{hits_in};
 ghost use Rattle.ft_table.specs.Marks.{mark_of};
-ghost use Rattle.ft_hist.specs.Parts.{key_cmp};
+ghost use Rattle.ft_keys.specs.Parts.{key_cmp};
 ghost use Rattle.ft_maps.specs.Seen.{seen};
 ghost use Rattle.ft_table.specs.Rows.{hit_after};
 ghost use Rattle.ft_table.specs.inner.Held.{only};

@@ -19,8 +19,8 @@ pub use Rattle.ft_hist.specs.Canonical
 pub use Rattle.ft_hist.specs.Hist
 pub use Rattle.ft_hist.specs.Hit
 pub use Rattle.ft_hist.specs.Matching
-pub use Rattle.ft_hist.specs.Orders
-pub use Rattle.ft_hist.specs.Parts
+pub use Rattle.ft_keys.specs.Orders
+pub use Rattle.ft_keys.specs.Parts
 pub use Rattle.ft_hist.specs.Powers
 pub use Rattle.ft_hist.specs.Sound
 pub use Rattle.ft_hist.specs.Steps

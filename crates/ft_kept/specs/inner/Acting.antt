@@ -5,7 +5,7 @@ use Rattle.std.specs.FinMap as map
 use Rattle.std.specs.FinMap.{FinMap}
 use Rattle.ft_event.specs.Traced.{Traced}
 use Rattle.ft_hist.specs.Hist.{Hist}
-use Rattle.ft_hist.specs.declared.key.Part.{Part}
+use Rattle.ft_keys.specs.declared.key.Part.{Part}
 use Rattle.ft_maps.specs.Seen.{seen}
 use Rattle.ft_pairs.specs.declared.role.Variable.{Variable}
 use Rattle.ft_table.specs.Growth.{with_hit}

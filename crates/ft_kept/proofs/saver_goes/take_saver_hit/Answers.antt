@@ -2,7 +2,7 @@
 use Rattle.std.proofs.Common.{◌≡◌, ◌≤◌, ◌⊎◌, ℕ, Bool, true, false, cond, List, refl, sym, ap, subst, ◌∙◌, arith, Some, None, Option, inl, inr}
 use Rattle.std.specs.Prelude.{not}
 use mathlib.Core.Bool.{beq}
-use Rattle.ft_hist.specs.declared.key.Part.{Part}
+use Rattle.ft_keys.specs.declared.key.Part.{Part}
 use Rattle.ft_hist.specs.Steps.{Steps}
 use Rattle.ft_table.specs.OneKey.{without_hit}
 use Rattle.ft_table.specs.Tabled.{Tabled, is_in, first_out}

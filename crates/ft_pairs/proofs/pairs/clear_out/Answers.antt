@@ -1,6 +1,6 @@
 use Rattle.std.proofs.Common.{ap, ◌∙◌}
-use Rattle.ft_hist.specs.Parts.{key_cmp}
-use Rattle.ft_hist.specs.Ties.{key_same}
+use Rattle.ft_keys.specs.Parts.{key_cmp}
+use Rattle.ft_keys.specs.Ties.{key_same}
 use Rattle.ft_maps.specs.Seen.{seen}
 use Rattle.ft_pairs.specs.ByKey.{ByKey, ops_of}
 use Rattle.ft_pairs.proofs.Found.{cleared}

@@ -4,13 +4,13 @@ use Rattle.std.specs.Prelude.{option_and_then, IfSome, MatchOption}
 use Rattle.std.specs.FinMap as map
 use Rattle.std.proofs.lemmas.Result.{IfOk-weaker, on_err_weaker}
 use Rattle.ft_event.specs.declared.pos.Pos.{Pos}
-use Rattle.ft_hist.specs.Parts.{key_cmp}
+use Rattle.ft_keys.specs.Parts.{key_cmp}
 use Rattle.ft_maps.specs.Seen.{seen, get-seen, seen-found, seen-kept}
 use Rattle.ft_table.specs.inner.ByKey.{flat}
 use Rattle.ft_table.specs.Marks.{mark_of}
 use Rattle.ft_table.specs.Hits.{EntryHits, least_key}
-use Rattle.ft_hist.specs.Orders.{key_cmp_total}
-use Rattle.ft_hist.specs.Ties.{key_same}
+use Rattle.ft_keys.specs.Orders.{key_cmp_total}
+use Rattle.ft_keys.specs.Ties.{key_same}
 use Rattle.ft_table.proofs.Flat.{get-flat, flat-insert, hits_of-flat}
 use Rattle.ft_table.proofs.entry.put_behind.Goals as goal
 

@@ -5,11 +5,11 @@ use Rattle.std.specs.List.{sum_by}
 use Rattle.std.specs.Map.{values_of}
 use Rattle.std.specs.FinMap as map
 use Rattle.ft_event.specs.declared.pos.Pos.{Pos}
-use Rattle.ft_hist.specs.Parts.{key_cmp}
+use Rattle.ft_keys.specs.Parts.{key_cmp}
 use Rattle.ft_event.specs.Places.{pos_cmp}
 use Rattle.ft_table.specs.Hits.{unsigned_at, sums_of}
 use Rattle.ft_maps.specs.Seen.{seen, get-seen}
-use Rattle.ft_hist.specs.Orders.{key_cmp_total}
+use Rattle.ft_keys.specs.Orders.{key_cmp_total}
 use Rattle.ft_maps.specs.Entries.{entries-empty}
 use Rattle.ft_table.proofs.Flat.{hits_of-flat}
 use Rattle.ft_table.proofs.entry.sums_at.Goals as goal

@@ -1,6 +1,6 @@
 use Rattle.std.proofs.Common.{◌≡◌, ℕ, ◌+◌, ◌-◌, List, [], false, cond, sym, ap, subst}
 use Rattle.std.specs.FinMap as map
-use Rattle.ft_hist.specs.declared.key.Part.{Part}
+use Rattle.ft_keys.specs.declared.key.Part.{Part}
 use Rattle.ft_table.specs.Marks.{mark_cmp}
 use Rattle.ft_table.specs.inner.Ascending.{Rises, IsRank}
 use Rattle.ft_table.specs.inner.Split.{IsSplit}

@@ -1,7 +1,7 @@
 -- The last key in the table goes out where a mark before it goes in.
 use Rattle.std.proofs.Common.{◌≡◌, ℕ, List, ◌+◌, ◌-◌, ◌<◌, ◌≤◌, rules, ap, ◌∙◌, arith}
 use Rattle.std.specs.List.{insert}
-use Rattle.ft_hist.specs.declared.key.Part.{Part}
+use Rattle.ft_keys.specs.declared.key.Part.{Part}
 use Rattle.ft_table.specs.Hits.{hitcount}
 use Rattle.ft_table.specs.inner.ByKey.{hits_in}
 use Rattle.ft_table.proofs.Splits.{enters-full, enters-room, enters-behind, resplit}

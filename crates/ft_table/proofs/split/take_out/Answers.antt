@@ -1,7 +1,7 @@
 -- The first key outside comes in where a mark in the table goes out.
 use Rattle.std.proofs.Common.{◌≡◌, ℕ, List, ◌+◌, ◌-◌, ap, ◌∙◌, arith}
 use Rattle.std.specs.List.{remove}
-use Rattle.ft_hist.specs.declared.key.Part.{Part}
+use Rattle.ft_keys.specs.declared.key.Part.{Part}
 use Rattle.ft_table.specs.Hits.{hitcount}
 use Rattle.ft_table.specs.inner.ByKey.{hits_in}
 use Rattle.ft_table.proofs.Splits.{leaves-full, leaves-room, leaves-behind, resplit}

@@ -3,7 +3,7 @@ use Rattle.std.proofs.Common.{◌≡◌, ◌<◌, length, refl, sym, ap, subst, 
 use Rattle.std.specs.Prelude.{IfSome}
 use Rattle.std.specs.List.{filter}
 use Rattle.std.specs.FinMap as map
-use Rattle.ft_hist.specs.Orders.{key_cmp_total}
+use Rattle.ft_keys.specs.Orders.{key_cmp_total}
 use Rattle.ft_maps.specs.Seen.{get-seen}
 use Rattle.ft_pairs.specs.declared.at.At.{At}
 use Rattle.ft_pairs.specs.declared.at.Op.{Op}

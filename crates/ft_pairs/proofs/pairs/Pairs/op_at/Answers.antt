@@ -1,7 +1,7 @@
 -- What stands at a place of the key's operations is what stands there of all.
 use Rattle.std.proofs.Common.{◌≡◌, sym, ap, ◌∙◌, Some, None}
 use Rattle.std.specs.FinMap as map
-use Rattle.ft_hist.specs.Orders.{key_cmp_total}
+use Rattle.ft_keys.specs.Orders.{key_cmp_total}
 use Rattle.ft_maps.specs.Seen.{get-seen}
 use Rattle.ft_pairs.specs.ByKey.{ByKey}
 use Rattle.ft_pairs.proofs.Found.{found_in}

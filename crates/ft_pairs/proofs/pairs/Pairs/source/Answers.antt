@@ -1,7 +1,7 @@
 -- What the key's operations answer is what all answer of the key.
 use Rattle.std.proofs.Common.{◌≡◌, refl, sym, ap, subst, ◌∙◌, Some, None, inl}
 use Rattle.std.specs.FinMap as map
-use Rattle.ft_hist.specs.Orders.{key_cmp_total}
+use Rattle.ft_keys.specs.Orders.{key_cmp_total}
 use Rattle.ft_maps.specs.Seen.{get-seen}
 use Rattle.ft_pairs.specs.Source.{Ops, IsSource}
 use Rattle.ft_pairs.specs.ByKey.{ByKey}

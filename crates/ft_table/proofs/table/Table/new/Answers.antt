@@ -1,7 +1,7 @@
 -- No entries hold no hits, and no order.
 use Rattle.std.proofs.Common.{◌≡◌, sym, ap, subst, ◌∙◌}
 use Rattle.std.specs.FinMap as map
-use Rattle.ft_hist.specs.Parts.{key_cmp}
+use Rattle.ft_keys.specs.Parts.{key_cmp}
 use Rattle.ft_table.specs.inner.Split.{IsSplit}
 use Rattle.ft_table.specs.inner.ByKey.{hits_in, flat}
 use Rattle.ft_table.specs.Hits.{Hits, hitcount}

@@ -1,11 +1,11 @@
 -- How a key holds its parts (our own choice).
 use Rattle.std.specs.Prelude.{◌≡◌, pos, List, [], ◌∷◌, refl}
-use Rattle.ft_hist.specs.declared.key.Part.{Part}
-use Rattle.ft_hist.specs.declared.key.Part.TheVariants.{Num}
-use Rattle.ft_hist.specs.declared.key.Rest.{Rest}
-use Rattle.ft_hist.specs.declared.key.Rest.TheVariants.{End, More}
-use Rattle.ft_hist.specs.declared.key.Last.{Last}
-use Rattle.ft_hist.specs.declared.key.Last.TheVariants.{Done, Third}
+use Rattle.ft_keys.specs.declared.key.Part.{Part}
+use Rattle.ft_keys.specs.declared.key.Part.TheVariants.{Num}
+use Rattle.ft_keys.specs.declared.key.Rest.{Rest}
+use Rattle.ft_keys.specs.declared.key.Rest.TheVariants.{End, More}
+use Rattle.ft_keys.specs.declared.key.Last.{Last}
+use Rattle.ft_keys.specs.declared.key.Last.TheVariants.{Done, Third}
 
 -- the parts behind the second (our own choice)
 abbrev pub last_parts : Last → List Part

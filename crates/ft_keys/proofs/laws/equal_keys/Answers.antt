@@ -1,5 +1,5 @@
-use Rattle.ft_hist.specs.Ties.{part_same, key_same}
-use Rattle.ft_hist.proofs.laws.equal_keys.Goals as goal
+use Rattle.ft_keys.specs.Ties.{part_same, key_same}
+use Rattle.ft_keys.proofs.laws.equal_keys.Goals as goal
 
 pub returns-clause-keys : goal.returns-clause-keys
 returns-clause-keys c = key_same

@@ -5,9 +5,9 @@ use Rattle.std.specs.Cmp.Lexicographic.{slice_cmp}
 use Rattle.std.specs.FinMap.{IsAntisymmetric, slice_cmp-IsAntisymmetric}
 use Rattle.std.proofs.Common.{sym, ap, ◌∙◌}
 use Rattle.std.proofs.lemmas.Map.Lookups.{exact_pairs, exact_unsigned, exact_signed, exact_bytes}
-use Rattle.ft_hist.specs.declared.key.Part.{Part}
-use Rattle.ft_hist.specs.declared.key.Part.TheVariants.{Num, Log2, Bucket, Text}
-use Rattle.ft_hist.specs.Parts.{kind_of, number_of, bytes_of, part_cmp, key_cmp}
+use Rattle.ft_keys.specs.declared.key.Part.{Part}
+use Rattle.ft_keys.specs.declared.key.Part.TheVariants.{Num, Log2, Bucket, Text}
+use Rattle.ft_keys.specs.Parts.{kind_of, number_of, bytes_of, part_cmp, key_cmp}
 
 -- the part of this kind with this number or these bytes (our own choice)
 abbrev part_with : ℕ → ℤ → List ℕ → Part

@@ -5,9 +5,9 @@ ghost use Rattle.std.proofs.Common.{rules};
 ghost use Rattle.std.specs.Cmp.{partial_equiv_from_equiv, partial_order_from_total};
 ghost use Rattle.std.specs.Cmp.Rules.{comparing};
 ghost use Rattle.std.specs.Ordering.{as_partial_cmp, eq_by_cmp};
-ghost use Rattle.ft_hist.specs.Parts.{kind_of, part_cmp, key_cmp};
-ghost use Rattle.ft_hist.specs.inner.Stored.{last_parts, rest_parts};
-ghost use Rattle.ft_hist.specs.Orders.{part_cmp_total, key_cmp_total, part_ties, key_ties};
+ghost use Rattle.ft_keys.specs.Parts.{kind_of, part_cmp, key_cmp};
+ghost use Rattle.ft_keys.specs.inner.Stored.{last_parts, rest_parts};
+ghost use Rattle.ft_keys.specs.Orders.{part_cmp_total, key_cmp_total, part_ties, key_ties};
 
 use ft_event::Comm;
 use std::cmp::Ordering;
@@ -51,8 +51,8 @@ enum Last {
 
 impl Model for Key {
     ghost use Rattle.std.specs.Prelude.{List, ◌∷◌};
-    ghost use Rattle.ft_hist.specs.declared.key.Part.{Part};
-    ghost use Rattle.ft_hist.specs.inner.Stored.{rest_parts, first_of, rest_of, rest_back};
+    ghost use Rattle.ft_keys.specs.declared.key.Part.{Part};
+    ghost use Rattle.ft_keys.specs.inner.Stored.{rest_parts, first_of, rest_of, rest_back};
 
     ghost Value = { List Part };
 

@@ -2,7 +2,7 @@
 use Rattle.std.specs.Cmp.{IsTotalOrder, IsEquivalence, on_total, then_total, nat_cmp_total, int_cmp_total, eq_by_cmp_equiv}
 use Rattle.std.specs.Cmp.Lexicographic.{nat_list_cmp_total, lists_total}
 use Rattle.std.specs.Ordering.{eq_by_cmp}
-use Rattle.ft_hist.specs.Parts.{kind_of, number_of, bytes_of, part_cmp, key_cmp}
+use Rattle.ft_keys.specs.Parts.{kind_of, number_of, bytes_of, part_cmp, key_cmp}
 
 -- the order of parts is total (our own choice)
 pub part_cmp_total : IsTotalOrder part_cmp
