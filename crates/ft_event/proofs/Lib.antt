@@ -4,13 +4,10 @@ mod Bodies
 mod Breaks
 mod Caps
 mod Digits
-mod FieldTable
-mod Filled
 mod Firsts
 mod HeadLoop
 mod Heads
 mod Lines
-mod NameTable
 mod Numbers
 mod PartLemmas
 mod Runs

@@ -5,7 +5,7 @@ use Rattle.std.proofs.lemmas.List.{drop_all}
 use Rattle.std.specs.Str.Parse.{digits_value}
 use Rattle.ft_event.specs.Spans.{number_of}
 use Rattle.ft_event.specs.Columns.{micros_of}
-use Rattle.ft_event.specs.Traced.{last_second}
+use Rattle.ft_fields.specs.Traced.{last_second}
 use Rattle.ft_event.proofs.Digits.{below_million, number_of-within, number_of-some}
 use Rattle.ft_event.proofs.Stamps.{stamp_text, IsStampText, micros_of-is, micros_of-some}
 

@@ -11,7 +11,7 @@ use Rattle.ft_event.specs.Bytes.{is_space, is_in_word, is_digit, is_colon}
 use Rattle.ft_event.specs.Spans.{run_of, behind, word_of, without_spaces, number_of}
 use Rattle.ft_event.specs.Columns.{stamp_word_of, micros_of, stamp_of}
 use Rattle.ft_event.specs.LineIs.{Stops, IsSpaces, IsGap, IsDigits, IsLetters, IsStamped}
-use Rattle.ft_event.specs.Traced.{last_second}
+use Rattle.ft_fields.specs.Traced.{last_second}
 use Rattle.ft_event.proofs.Runs.{run_splits, run_is, rest_is, run_of-append, run_of-some, behind-append, behind-some}
 use Rattle.ft_event.proofs.Digits.{below_million, number_of-within, number_of-some}
 use Rattle.ft_event.proofs.Heads.{bind_some}

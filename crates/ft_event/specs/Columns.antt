@@ -4,7 +4,7 @@ use Rattle.std.specs.List.{list_any}
 use Rattle.ft_event.specs.Bytes.{is_space, is_digit, is_colon, is_in_group}
 use Rattle.ft_event.specs.LineIs.{Tail, Head}
 use Rattle.ft_event.specs.Spans.{run_of, word_of, without_spaces, behind, number_of}
-use Rattle.ft_event.specs.Traced.{last_second}
+use Rattle.ft_fields.specs.Traced.{last_second}
 
 infixl 10 ◌>>=◌
 -- the second step, on what the first one found (our own choice)

@@ -5,7 +5,7 @@ ghost use Rattle.std.specs.Option.{option_map, option_copied};
 ghost use Rattle.ft_event.specs.Columns.{behind_group, tail_of, head_of};
 ghost use Rattle.ft_event.specs.Columns.{stamp_word_of, micros_of, stamp_of};
 ghost use Rattle.ft_event.specs.inner.Texts.{tail_texts, head_texts};
-ghost use Rattle.ft_event.specs.Traced.{last_stamp};
+ghost use Rattle.ft_fields.specs.Traced.{last_stamp};
 
 use crate::scan::{Class, behind, number, run, without_spaces, word};
 

@@ -1,10 +1,9 @@
 //! What the columns of a line say of its event.
 
 ghost use Rattle.std.specs.Prelude.{◌≤◌, length};
-ghost use Rattle.ft_event.specs.Traced.{last_cpu, last_stamp};
+ghost use Rattle.ft_fields.specs.Traced.{last_cpu, last_stamp};
 
-use crate::comm::Comm;
-use crate::event::{Body, Event};
+use ft_fields::{Body, Comm, Event};
 
 /// What the columns of a line say of its event. TASK is a text yet: it is copied once, into the
 /// event.

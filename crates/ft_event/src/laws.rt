@@ -1,37 +1,17 @@
-//! Laws of lines, of places and of fields: a call of one makes it known to the caller's proof.
+//! Laws of lines, and those of places and of fields: a call of one makes it known to the caller's
+//! proof.
 
-ghost use Rattle.std.specs.Prelude.{◌≡◌, ℕ, List, Result, IfSome};
-ghost use Rattle.std.specs.Option.{is_some};
-ghost use Rattle.std.specs.declared.cmp.Ordering.TheVariants.{Equal};
-ghost use Rattle.ft_event.specs.Fields.{has_field, field_of, is_text, is_text_value};
+ghost use Rattle.std.specs.Prelude.{◌≡◌, ℕ, List, Result};
 ghost use Rattle.ft_event.specs.Line.{line_of};
 ghost use Rattle.ft_event.specs.LineIs.{LineIs};
-ghost use Rattle.ft_event.specs.Places.{pos_cmp};
-ghost use Rattle.ft_event.specs.Traced.{Traced, name_of};
 ghost use Rattle.ft_event.specs.declared.fault.Line.{Line};
 ghost use Rattle.ft_event.specs.declared.fault.LineFault.{LineFault};
-ghost use Rattle.ft_event.specs.declared.field.Field.{Field};
 
-use crate::pos::Pos;
+pub use ft_fields::laws::{one_order, values_of_fields};
 
 /// A line has one answer, that of `read_line`.
 pub fn one_answer()
     ensures found { (bytes : List ℕ) → LineIs bytes (line_of bytes) }
     ensures only { (bytes : List ℕ) (answer : Result Line LineFault) → LineIs bytes answer
         → answer ≡ line_of bytes }
-{}
-
-/// Places are ordered by stamp, then CPU, then line, and places that tie are equal.
-pub fn one_order()
-    ensures order { (p q : Pos) → ⟦<Pos as Ord>⟧.cmp p q ≡ pos_cmp p q }
-    ensures ties { (p q : Pos) → pos_cmp p q ≡ Equal → p ≡ q }
-{}
-
-/// An event has a value in just the fields of its name, and a text in just the fields that hold
-/// texts.
-pub fn values_of_fields()
-    ensures has { (event : Traced) (field : Field) →
-        is_some (field_of event field) ≡ has_field (name_of event.body) field }
-    ensures kind { (event : Traced) (field : Field) →
-        IfSome (field_of event field) (λ value. is_text_value value ≡ is_text field) }
 {}

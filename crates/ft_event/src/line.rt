@@ -10,8 +10,6 @@ ghost use Rattle.ft_event.specs.inner.Fronts.{line_behind, switch_behind, line_p
 ghost use Rattle.ft_event.specs.inner.Texts.{head_texts};
 
 use crate::columns::{Head, head_of, stamp_of};
-use crate::comm::Comm;
-use crate::event::{Body, Event, Turn, Wake};
 use crate::fault::{Line, LineFault};
 use crate::front::Front;
 use crate::label::{EventLabel, label_of};
@@ -19,6 +17,7 @@ use crate::scan::{number, trimmed, without_spaces};
 use crate::skipped::is_skipped;
 use crate::turns::{turn_cut_of, turn_numbers};
 use crate::wakes::{wake_cut_of, wake_numbers};
+use ft_fields::{Body, Comm, Event, Turn, Wake};
 use memchr::memchr;
 
 /// The longest line that is read, in bytes.

@@ -1,12 +1,12 @@
 -- What a line gives, from what its columns say and what was traced (our own choice).
 use Rattle.std.specs.Prelude.{ℕ, List, Result, Ok, Err}
-use Rattle.ft_event.specs.declared.event.Body.{Body}
+use Rattle.ft_fields.specs.declared.event.Body.{Body}
 use Rattle.ft_event.specs.declared.fault.Line.{Line}
 use Rattle.ft_event.specs.declared.fault.Line.TheVariants as lines
 use Rattle.ft_event.specs.declared.fault.LineFault.{LineFault}
 use Rattle.ft_event.specs.declared.front.Front.{Front}
-use Rattle.ft_event.specs.Traced.{Traced}
-use Rattle.ft_event.specs.declared.event.Body.TheVariants as bodies
+use Rattle.ft_fields.specs.Traced.{Traced}
+use Rattle.ft_fields.specs.declared.event.Body.TheVariants as bodies
 use Rattle.ft_event.specs.Line.{◌>>=◌, line_with, turn_from}
 
 -- the event of these columns, where this was traced (our own choice)

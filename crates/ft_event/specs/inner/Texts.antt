@@ -1,12 +1,10 @@
 -- What structs of the code point to (our own choice).
 use Rattle.std.specs.Option.{option_copied}
-use Rattle.ft_event.specs.Fields.{Row}
 use Rattle.ft_event.specs.LineIs.{Tail, Head}
 use Rattle.ft_event.specs.Turns.{TurnText}
 use Rattle.ft_event.specs.Wakes.{WakeText}
 use Rattle.ft_event.specs.declared.columns.Tail as declared_tail
 use Rattle.ft_event.specs.declared.columns.Head as declared_head
-use Rattle.ft_event.specs.declared.field.Row as declared_row
 use Rattle.ft_event.specs.declared.turns.TurnText as declared_turn
 use Rattle.ft_event.specs.declared.wakes.WakeText as declared_wake
 
@@ -33,7 +31,3 @@ turn_texts t = record {
   next_pid = t.next_pid.now;
   next_prio = t.next_prio.now;
 }
-
--- the row that a `Row` of the code says (our own choice)
-abbrev pub row_text : declared_row.Row → Row
-row_text r = record { name = r.name.now; owner = r.owner; kind = r.kind }

@@ -1,6 +1,6 @@
 use Rattle.std.proofs.Common.{◌≡◌, ◌+◌, ◌-◌, ◌∙◌, ℕ, suc, Some, take, drop, get_or, length, sym, ap, arith}
 use Rattle.ft_event.specs.Spans.{number_of}
-use Rattle.ft_event.specs.Traced.{last_second}
+use Rattle.ft_fields.specs.Traced.{last_second}
 use Rattle.ft_event.proofs.StampCuts.{stamp_found, no_stamp}
 use Rattle.ft_event.proofs.columns.micros_of.Goals as goal
 

@@ -3,10 +3,10 @@ use Rattle.std.proofs.Common.{◌≡◌, ℕ, true, false, List, Option, Some, N
 use Rattle.std.specs.Option.{option_map_or}
 use Rattle.std.specs.Str.{bytes_eq}
 use Rattle.std.proofs.lemmas.Slice.Eq.{bytes_eq-Decides}
-use Rattle.ft_event.specs.declared.event.Name.{Name}
-use Rattle.ft_event.specs.declared.event.Name.TheVariants as names
-use Rattle.ft_event.specs.Names.{name_text, all_names, is_called, name_called}
-use Rattle.ft_event.proofs.FieldTable.{find_passes}
+use Rattle.ft_fields.specs.declared.event.Name.{Name}
+use Rattle.ft_fields.specs.declared.event.Name.TheVariants as names
+use Rattle.ft_fields.specs.Names.{name_text, all_names, is_called, name_called}
+use Rattle.ft_fields.proofs.FieldTable.{find_passes}
 
 own_text : (text : List ℕ) (own : Option (List ℕ)) → option_map_or (λ o. bytes_eq o text) own false ≡ true → own ≡ Some text
 own_text text None e = cc

@@ -1,7 +1,7 @@
 -- A name that is found is the text's, and the name of each event is found.
 use Rattle.std.proofs.Common.{sym, ◌∙◌}
-use Rattle.ft_event.proofs.NameTable.{name_found, name_passes}
-use Rattle.ft_event.proofs.event.Name.called.Goals as goal
+use Rattle.ft_fields.proofs.NameTable.{name_found, name_passes}
+use Rattle.ft_fields.proofs.event.Name.called.Goals as goal
 
 pub returns-clause-meaning : goal.returns-clause-meaning
 returns-clause-meaning c = λ name. (

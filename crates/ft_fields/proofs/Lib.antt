@@ -1,0 +1,3 @@
+mod FieldTable
+mod Filled
+mod NameTable
