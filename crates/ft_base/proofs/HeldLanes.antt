@@ -3,7 +3,7 @@ use Rattle.std.proofs.Common.{◌≡◌, ℕ, ◌<◌, ◌≤◌, refl, sym, ap,
 use Rattle.std.specs.Prelude.{IsSome, option_map, option_and_then}
 use Rattle.std.specs.Option.{option_map_or}
 use Rattle.std.specs.FinMap as map
-use Rattle.ft_event.specs.Traced.{last_cpu}
+use Rattle.ft_fields.specs.Traced.{last_cpu}
 use Rattle.ft_lanes.specs.Held.{Lane, Lanes, event_at}
 use Rattle.ft_lanes.specs.Edits.{lanes_without}
 use Rattle.ft_lanes.specs.Listing.{lane_text}

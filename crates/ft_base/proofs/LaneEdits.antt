@@ -7,7 +7,7 @@ use Rattle.std.specs.FinMap as map
 use Rattle.std.specs.FinMap.{FinMap, get-insert, get-remove, len-remove, same_map, nat_cmp-IsAntisymmetric}
 use Rattle.std.proofs.lemmas.Bool.{cases_eq}
 use Rattle.std.proofs.lemmas.Option.{none-some}
-use Rattle.ft_event.specs.Traced.{Traced}
+use Rattle.ft_fields.specs.Traced.{Traced}
 use Rattle.ft_lanes.specs.Held.{Lane, Lanes, HasCpu, event_limit, number_limit, held_in}
 use Rattle.ft_lanes.specs.Edits.{new_lane, lane_or_new, lanes_with, lane_without, lanes_without}
 use Rattle.ft_maps.specs.Entries.{get-remove_same, get-remove_other}

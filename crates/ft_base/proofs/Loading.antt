@@ -10,7 +10,7 @@ use Rattle.std.proofs.lemmas.Bool.{cases_eq, eq-eqb, ne_eqb, eqb-true, or_cases,
 use Rattle.std.proofs.lemmas.List.{append-nil, length_push}
 use Rattle.std.proofs.lemmas.List.Elements.{filter-append}
 use Rattle.std.proofs.lemmas.List.Folds.{list_any-append}
-use Rattle.ft_event.specs.Traced.{Traced}
+use Rattle.ft_fields.specs.Traced.{Traced}
 use Rattle.ft_lanes.specs.Held.{Lane, Lanes, number_limit, event_limit}
 use Rattle.ft_lanes.specs.Loaded.{lane_of, with_lanes, first_held}
 use Rattle.ft_lanes.specs.Edits.{new_lane, lane_with, lanes_with}

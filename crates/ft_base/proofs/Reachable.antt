@@ -7,7 +7,7 @@ use Rattle.std.specs.Cmp.{nat_cmp_total}
 use Rattle.std.specs.FinMap as map
 use Rattle.std.specs.FinMap.{get-empty, len-empty, len-insert, nat_cmp-IsAntisymmetric}
 use Rattle.std.proofs.lemmas.Bool.{cases_eq}
-use Rattle.ft_event.specs.Traced.{Traced, last_cpu}
+use Rattle.ft_fields.specs.Traced.{Traced, last_cpu}
 use Rattle.ft_hist.specs.Hist.{Hist}
 use Rattle.ft_lanes.specs.Held.{Lane, Lanes, number_limit, event_limit, held_in}
 use Rattle.ft_base.specs.Base.{Base, empty_base, trigger_limit}

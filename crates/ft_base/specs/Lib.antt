@@ -7,7 +7,7 @@ pub mod Answers
 pub mod Edited
 pub mod OneTrigger
 pub mod Reachable
-pub use Rattle.ft_event.specs.Traced
+pub use Rattle.ft_fields.specs.Traced
 pub use Rattle.ft_filter.specs.Tree
 pub use Rattle.ft_hist.specs.Hist
 pub use Rattle.ft_hist.specs.Matching

@@ -1,7 +1,7 @@
 -- What holds of each base that edits lead to from the empty one (our own choice).
 use Rattle.std.specs.Prelude.{◌≡◌, ℕ, ◌+◌, ◌<◌, ◌≤◌, true, List, Some}
 use Rattle.std.specs.FinMap as map
-use Rattle.ft_event.specs.Traced.{Traced, last_cpu}
+use Rattle.ft_fields.specs.Traced.{Traced, last_cpu}
 use Rattle.ft_hist.specs.declared.item.KeyItem.{KeyItem}
 use Rattle.ft_hist.specs.declared.label.Var.TheVariants as vars
 use Rattle.ft_hist.specs.Hist.{Hist}

@@ -4,7 +4,7 @@ ghost use Rattle.std.specs.Prelude.{◌≡◌, ℕ, ◌≤◌, None, Some, IfSom
 ghost use Rattle.std.specs.Option.{ForSome, option_map_or};
 ghost use Rattle.std.specs.Ordering.{nat_cmp};
 ghost use Rattle.std.specs.FinMap as map;
-ghost use Rattle.ft_event.specs.Traced.{last_cpu};
+ghost use Rattle.ft_fields.specs.Traced.{last_cpu};
 ghost use Rattle.ft_hist.specs.Hist.{Hist, with_filter};
 ghost use Rattle.ft_lanes.specs.Held.{Lane};
 ghost use Rattle.ft_maps.specs.Seen.{seen};

@@ -3,7 +3,7 @@
 ghost use Rattle.std.specs.Prelude.{◌≡◌, ℕ, List, Option, Some, true};
 ghost use Rattle.std.specs.FinMap as map;
 ghost use Rattle.std.specs.List.{AllByRecursion};
-ghost use Rattle.ft_event.specs.Traced.{Traced};
+ghost use Rattle.ft_fields.specs.Traced.{Traced};
 ghost use Rattle.ft_filter.specs.Tree.{Tree};
 ghost use Rattle.ft_hist.specs.Hist.{Hist};
 ghost use Rattle.ft_hist.specs.declared.label.Var.TheVariants as vars;

@@ -3,9 +3,9 @@ use Rattle.std.proofs.Common.{◌≡◌, ◌+◌, ◌*◌, ◌≤◌, sym, ap, s
 use Rattle.std.specs.Prelude.{◌⊎◌}
 use Rattle.std.proofs.Math.Nat.{le-add_right}
 use Rattle.std.specs.FinMap as map
-use Rattle.ft_event.specs.Places.{pos_cmp_total, pos_same}
-use Rattle.ft_event.specs.Traced.{Traced}
-use Rattle.ft_event.specs.declared.pos.Pos.{Pos}
+use Rattle.ft_fields.specs.Places.{pos_cmp_total, pos_same}
+use Rattle.ft_fields.specs.Traced.{Traced}
+use Rattle.ft_fields.specs.declared.pos.Pos.{Pos}
 use Rattle.ft_hist.specs.Steps.{Steps}
 use Rattle.ft_kept.specs.Bounds.{SomeSaverMoves, with_hit_of, without_hit_of}
 use Rattle.ft_hist.specs.Tests.{count_on}

@@ -3,9 +3,9 @@ use Rattle.std.proofs.Common.{◌≡◌, Bool, true, false, refl, sym, ap, subst
 use Rattle.std.specs.Prelude.{IsSome}
 use Rattle.std.specs.Option.{IfSome}
 use Rattle.std.specs.FinMap as map
-use Rattle.ft_event.specs.Places.{pos_cmp_total}
-use Rattle.ft_event.specs.Traced.{Traced}
-use Rattle.ft_event.specs.declared.pos.Pos.{Pos}
+use Rattle.ft_fields.specs.Places.{pos_cmp_total}
+use Rattle.ft_fields.specs.Traced.{Traced}
+use Rattle.ft_fields.specs.declared.pos.Pos.{Pos}
 use Rattle.ft_kept.specs.Acts.{AreHeld, acts_of}
 use Rattle.ft_kept.specs.Entries.{IsKept}
 use Rattle.ft_kept.specs.Repairs.{EventCanCome, EventHasCome, EventCanGo, EventHasGone}

@@ -8,7 +8,7 @@ use crate::rebuild::renew;
 use crate::repair::{let_come, let_go};
 use crate::told::{catch_up, latencies_in, shelf_in};
 use ft_base::{Content, Place, Refused, is_reader};
-use ft_event::{Event, Name};
+use ft_fields::{Event, Name};
 use ft_filter::Filter;
 use ft_hist::{Trigger, Work};
 use ft_kept::Tables;

@@ -9,7 +9,7 @@ ghost use Rattle.ft_board.specs.inner.ButOneEvent.{ComesAtCost, GoesAtCost, AreK
 ghost use Rattle.ft_board.specs.inner.Repaired.{if_ok};
 
 use ft_base::{Content, Place};
-use ft_event::Pos;
+use ft_fields::Pos;
 use ft_hist::Work;
 use ft_kept::Tables;
 use ft_replay::Kept;

@@ -3,7 +3,7 @@
 ghost use Rattle.std.specs.Prelude.{◌≡◌, false, IfOk, IfSome, IsSome, Some, None, map as list_map};
 ghost use Rattle.std.specs.Option.{option_copied, is_none};
 ghost use Rattle.std.specs.FinMap as map;
-ghost use Rattle.ft_event.specs.Places.{pos_cmp};
+ghost use Rattle.ft_fields.specs.Places.{pos_cmp};
 ghost use Rattle.ft_hist.specs.Hist.{Hist};
 ghost use Rattle.ft_maps.specs.Seen.{seen};
 ghost use Rattle.ft_hist.specs.Steps.{StepsGrow};
@@ -16,7 +16,7 @@ ghost use Rattle.ft_board.specs.inner.Told.{Tells};
 use crate::laws;
 use crate::rebuild::restore;
 use ft_base::Content;
-use ft_event::Pos;
+use ft_fields::Pos;
 use ft_hist::Work;
 use ft_kept::{Shelf, Tables};
 use ft_maps::{entries, len};

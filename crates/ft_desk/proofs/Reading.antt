@@ -1,6 +1,6 @@
 -- The events of lines, a line at a time.
 use Rattle.std.proofs.Common.{◌≡◌, ℕ, ◌+◌, List, [], ◌∷◌, Ok, Err, sym, ap, ◌∙◌, append-nil}
-use Rattle.ft_event.specs.Traced.{Traced}
+use Rattle.ft_fields.specs.Traced.{Traced}
 use Rattle.ft_event.specs.Line.{line_of}
 use Rattle.ft_base.specs.declared.refused.Refused.{Refused}
 use Rattle.ft_script.specs.Lines.{lines_of}

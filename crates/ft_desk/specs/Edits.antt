@@ -2,10 +2,10 @@
 use Rattle.std.specs.Prelude.{ℕ, ◌+◌, List, [], ◌∷◌, Option, Some, None, Result, Ok, Err}
 use Rattle.std.specs.Option.{option_map_or}
 use Rattle.std.specs.FinMap as map
-use Rattle.ft_event.specs.Traced.{Traced}
+use Rattle.ft_fields.specs.Traced.{Traced}
 use Rattle.ft_event.specs.Line.{line_of}
-use Rattle.ft_event.specs.declared.event.Name.{Name}
-use Rattle.ft_event.specs.declared.event.Name.TheVariants as names
+use Rattle.ft_fields.specs.declared.event.Name.{Name}
+use Rattle.ft_fields.specs.declared.event.Name.TheVariants as names
 use Rattle.ft_event.specs.declared.fault.Line.{Line}
 use Rattle.ft_event.specs.declared.fault.Line.TheVariants as lines
 use Rattle.ft_event.specs.declared.fault.LineFault.{LineFault}

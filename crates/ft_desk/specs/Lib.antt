@@ -6,10 +6,10 @@ pub mod Run
 pub mod Steps
 pub mod Program
 pub mod inner
-pub use Rattle.ft_event.specs.Traced
+pub use Rattle.ft_fields.specs.Traced
 pub use Rattle.ft_event.specs.Line
 pub use Rattle.ft_event.specs.LineFault
-pub use Rattle.ft_event.specs.Names
+pub use Rattle.ft_fields.specs.Names
 pub use Rattle.ft_filter.specs.Tree
 pub use Rattle.ft_filter.specs.Answers as FilterAnswers
 pub use Rattle.ft_filter.specs.FilterFault

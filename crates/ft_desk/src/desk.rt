@@ -41,7 +41,7 @@ impl<B: Board> Desk<B> {
     ghost use Rattle.ft_base.specs.declared.refused.Refused.TheVariants.{Memory};
     ghost use Rattle.ft_replay.specs.After.{after_unload, after_strike, after_remove};
     ghost use Rattle.ft_event.specs.Line.{line_of};
-    ghost use Rattle.ft_event.specs.Traced.{Traced};
+    ghost use Rattle.ft_fields.specs.Traced.{Traced};
     ghost use Rattle.ft_replay.specs.Held.{event_at};
     ghost use Rattle.ft_replay.specs.Costs.{EditCounts, RepairCosts, AnswerCosts};
     ghost use Rattle.ft_replay.specs.Edited.{EditGives, AnswersFrom, AnswerIs};

@@ -3,7 +3,7 @@
 ghost use Rattle.std.specs.Prelude.{◌≡◌, ◌==◌, false, ◌⊎◌, List, ◌++◌, ◌∷◌, [], Result, Err, OnOk, IfErr};
 ghost use Rattle.std.specs.List.{list_any};
 ghost use Rattle.ft_event.specs.Line.{line_of};
-ghost use Rattle.ft_event.specs.Traced.{Traced};
+ghost use Rattle.ft_fields.specs.Traced.{Traced};
 ghost use Rattle.ft_replay.specs.Edited.{AnswerIs};
 ghost use Rattle.ft_desk.specs.Edits.{events_of, line_in_front, event_or_refused};
 ghost use Rattle.ft_desk.specs.inner.Reading.{in_front};

@@ -1,7 +1,7 @@
 -- Trees that can be read: what a tree that was read keeps.
 use Rattle.std.proofs.Common.{◌≡◌, ◌≤◌, ℕ, suc, Bool, true, false, List, length, drop, Ok, Err, refl, subst, arith, codes, ◌==◌, cond}
 use Rattle.std.specs.List.{starts_with}
-use Rattle.ft_event.specs.declared.event.Name.{Name}
+use Rattle.ft_fields.specs.declared.event.Name.{Name}
 use Rattle.ft_tokens.specs.Tokens.{skip}
 use Rattle.ft_filter.specs.declared.fault.FilterFault.TheVariants.{Syntax}
 use Rattle.ft_filter.specs.declared.tree.Joint.{Joint}

@@ -4,9 +4,9 @@ use Rattle.std.proofs.lemmas.Option.{same_Some}
 use Rattle.std.specs.Prelude.{Contains, IsTrue, FitsSigned, slice_index_or, option_map, if◌then◌else◌}
 use Rattle.std.specs.Bool.{Decides}
 use Rattle.std.specs.Int.{w64}
-use Rattle.ft_event.specs.declared.event.Name.{Name}
-use Rattle.ft_event.specs.declared.field.Field.{Field}
-use Rattle.ft_event.specs.Fields.{is_named, all_fields, is_text}
+use Rattle.ft_fields.specs.declared.event.Name.{Name}
+use Rattle.ft_fields.specs.declared.field.Field.{Field}
+use Rattle.ft_fields.specs.Fields.{is_named, all_fields, is_text}
 use Rattle.ft_event.specs.LineIs.{Where, WhereCut}
 use Rattle.ft_tokens.specs.Ranged.{fits}
 use Rattle.ft_tokens.specs.Tokens.{skip, name_at, is_quote, quoted_at, number_at}

@@ -3,9 +3,9 @@ use Rattle.std.proofs.Common.{◌≡◌, ◌<◌, ◌≤◌, ◌+◌, ◌||◌, 
 use Rattle.std.proofs.lemmas.Option.{same_Some}
 use Rattle.std.specs.Int.{is_in_range}
 use Rattle.std.specs.List.{prefix_len, starts_with}
-use Rattle.ft_event.specs.declared.event.Name.{Name}
-use Rattle.ft_event.specs.declared.field.Field.{Field}
-use Rattle.ft_event.specs.Fields.{is_text}
+use Rattle.ft_fields.specs.declared.event.Name.{Name}
+use Rattle.ft_fields.specs.declared.field.Field.{Field}
+use Rattle.ft_fields.specs.Fields.{is_text}
 use Rattle.ft_tokens.specs.Ranged.{fits}
 use Rattle.ft_tokens.specs.Tokens.{skip, name_at, cut_at, quoted_at, number_at, number_of, word_len, run_at, begins_name, is_in_name, is_quote}
 use Rattle.ft_filter.specs.declared.fault.FilterFault.{FilterFault}

@@ -10,10 +10,10 @@ use Rattle.std.specs.Char.{is_ascii_digit}
 use Rattle.std.specs.Fmt.{signed_decimal}
 use Rattle.std.specs.List.{prefix_len, list_all}
 use Rattle.std.specs.Str.Parse.{digits_value}
-use Rattle.ft_event.specs.declared.event.Name.{Name}
-use Rattle.ft_event.specs.declared.field.Field.{Field}
-use Rattle.ft_event.specs.declared.field.Field.TheVariants as fields
-use Rattle.ft_event.specs.Fields.{text_of as field_text, is_named, all_fields, has_field}
+use Rattle.ft_fields.specs.declared.event.Name.{Name}
+use Rattle.ft_fields.specs.declared.field.Field.{Field}
+use Rattle.ft_fields.specs.declared.field.Field.TheVariants as fields
+use Rattle.ft_fields.specs.Fields.{text_of as field_text, is_named, all_fields, has_field}
 use Rattle.ft_tokens.specs.Ranged.{fits}
 use Rattle.ft_tokens.specs.Tokens.{is_gap, skip, begins_name, is_in_name, name_at, is_quote, cut_at, quoted_at, is_decimal, number_of, word_len, number_at}
 use Rattle.ft_filter.specs.declared.tree.Op.{Op}

@@ -1,6 +1,6 @@
 -- What the grammar relates to a text is what is worked out of it.
 use Rattle.std.proofs.Common.{◌≡◌, ◌≢◌, ◌⊎◌, ◌<◌, ◌≤◌, ℕ, zero, suc, inl, inr, List, ◌∷◌, length, Some, None, Result, refl, sym, ap, ◌∙◌, arith, slice_index, ne_eqb}
-use Rattle.ft_event.specs.declared.event.Name.{Name}
+use Rattle.ft_fields.specs.declared.event.Name.{Name}
 use Rattle.ft_tokens.specs.Tokens.{skip}
 use Rattle.ft_filter.specs.declared.fault.FilterFault.{FilterFault}
 use Rattle.ft_filter.specs.declared.fault.FilterFault.TheVariants.{TooDeep}

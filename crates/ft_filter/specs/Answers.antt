@@ -1,6 +1,6 @@
 -- The answer to a filter's text, worked out from the left (our own choice).
 use Rattle.std.specs.Prelude.{ℕ, zero, suc, ◌==◌, List, length, drop, slice_index, Option, Some, None, Result, Ok, Err, ◌≡◌, ◌⊎◌, if◌then◌else◌}
-use Rattle.ft_event.specs.declared.event.Name.{Name}
+use Rattle.ft_fields.specs.declared.event.Name.{Name}
 use Rattle.ft_tokens.specs.Tokens.{skip}
 use Rattle.ft_filter.specs.declared.fault.FilterFault.{FilterFault}
 use Rattle.ft_filter.specs.declared.fault.FilterFault.TheVariants.{Memory, TooDeep}

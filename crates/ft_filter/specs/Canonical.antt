@@ -2,7 +2,7 @@
 use Rattle.std.specs.Prelude.{ℕ, Bool, true, false, ◌==◌, List, [], ◌++◌, codes, not, if◌then◌else◌}
 use Rattle.std.specs.Fmt.{signed_decimal}
 use Rattle.std.specs.List.{list_all}
-use Rattle.ft_event.specs.Fields.{text_of as field_text}
+use Rattle.ft_fields.specs.Fields.{text_of as field_text}
 use Rattle.ft_filter.specs.declared.tree.Literal.{Literal}
 use Rattle.ft_filter.specs.declared.tree.Literal.TheVariants as literals
 use Rattle.ft_filter.specs.declared.tree.Pred.{Pred}

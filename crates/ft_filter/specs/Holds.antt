@@ -4,10 +4,10 @@ use Rattle.std.specs.Int.{w64, cast_unsigned}
 use Rattle.std.specs.Option.{option_map_or}
 use Rattle.std.specs.Ordering.{int_eq}
 use Rattle.std.specs.Str.{bytes_eq}
-use Rattle.ft_event.specs.Traced.{Traced}
-use Rattle.ft_event.specs.Fields.{field_of}
-use Rattle.ft_event.specs.declared.field.Value.{Value}
-use Rattle.ft_event.specs.declared.field.Value.TheVariants as values
+use Rattle.ft_fields.specs.Traced.{Traced}
+use Rattle.ft_fields.specs.Fields.{field_of}
+use Rattle.ft_fields.specs.declared.field.Value.{Value}
+use Rattle.ft_fields.specs.declared.field.Value.TheVariants as values
 use Rattle.ft_filter.specs.declared.tree.Op.{Op}
 use Rattle.ft_filter.specs.declared.tree.Op.TheVariants as ops
 use Rattle.ft_filter.specs.declared.tree.Literal.{Literal}

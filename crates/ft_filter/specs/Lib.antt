@@ -11,9 +11,9 @@ pub mod Answers
 pub mod Canonical
 pub mod Shape
 pub mod inner
-pub use Rattle.ft_event.specs.Fields
+pub use Rattle.ft_fields.specs.Fields
 pub use Rattle.ft_event.specs.LineIs
-pub use Rattle.ft_event.specs.Traced
+pub use Rattle.ft_fields.specs.Traced
 pub use Rattle.ft_glob.specs.Glob
 pub use Rattle.ft_glob.specs.Matching
 pub use Rattle.ft_tokens.specs.Ranged

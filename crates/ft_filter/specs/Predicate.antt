@@ -1,9 +1,9 @@
 -- A field, an operator and a value, as a filter's text writes them (kernel: events.rst, event filtering).
 use Rattle.std.specs.Prelude.{ℕ, ◌-◌, Bool, true, false, ◌||◌, not, nat_le, List, length, slice_index, Option, Some, None, if◌then◌else◌, ℤ}
 use Rattle.std.specs.List.{find}
-use Rattle.ft_event.specs.declared.event.Name.{Name}
-use Rattle.ft_event.specs.declared.field.Field.{Field}
-use Rattle.ft_event.specs.Fields.{is_named, all_fields, is_text}
+use Rattle.ft_fields.specs.declared.event.Name.{Name}
+use Rattle.ft_fields.specs.declared.field.Field.{Field}
+use Rattle.ft_fields.specs.Fields.{is_named, all_fields, is_text}
 use Rattle.ft_tokens.specs.Ranged.{fits}
 use Rattle.ft_tokens.specs.Tokens.{skip, name_at, is_quote, quoted_at, number_at}
 use Rattle.ft_filter.specs.declared.fault.FilterFault.{FilterFault}

@@ -1,9 +1,9 @@
 -- The filters that texts give: their predicates, their operands, and how deep they are (our own choice).
 use Rattle.std.specs.Prelude.{◌≡◌, ◌≢◌, ◌⊎◌, ◌≤◌, ℕ, zero, suc, max, Bool, true, false, IsTrue, List, Contains, FitsSigned}
 use Rattle.std.specs.Int.{w64}
-use Rattle.ft_event.specs.declared.event.Name.{Name}
-use Rattle.ft_event.specs.declared.field.Field.{Field}
-use Rattle.ft_event.specs.Fields.{has_field, is_text}
+use Rattle.ft_fields.specs.declared.event.Name.{Name}
+use Rattle.ft_fields.specs.declared.field.Field.{Field}
+use Rattle.ft_fields.specs.Fields.{has_field, is_text}
 use Rattle.ft_filter.specs.declared.tree.Joint.{Joint}
 use Rattle.ft_filter.specs.declared.tree.Joint.TheVariants as joints
 use Rattle.ft_filter.specs.declared.tree.Literal.{Literal}

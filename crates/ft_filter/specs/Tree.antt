@@ -1,6 +1,6 @@
 -- Filters as trees (kernel: events.rst, event filtering).
 use Rattle.std.specs.Prelude.{List, [], ◌∷◌, map}
-use Rattle.ft_event.specs.declared.event.Name.{Name}
+use Rattle.ft_fields.specs.declared.event.Name.{Name}
 use Rattle.ft_filter.specs.declared.tree.Pred.{Pred}
 use Rattle.ft_filter.specs.declared.tree.Expr.{Expr}
 use Rattle.ft_filter.specs.declared.tree.Exprs.{Exprs}

@@ -4,7 +4,7 @@ ghost use Rattle.std.specs.Prelude.{◌≡◌};
 ghost use Rattle.ft_filter.specs.Tree.{tree_of};
 
 use crate::tree::Expr;
-use ft_event::Name;
+use ft_fields::Name;
 use std::marker::Model;
 
 /// A filter of an event: a condition on its fields.

@@ -1,7 +1,7 @@
 //! Laws of filters' texts: what they are read as, word by word and whole.
 
 ghost use Rattle.std.specs.Prelude.{◌≡◌, ◌↔◌, ℕ, ℤ, List, Some, Result, Ok};
-ghost use Rattle.ft_event.specs.declared.event.Name.{Name};
+ghost use Rattle.ft_fields.specs.declared.event.Name.{Name};
 ghost use Rattle.ft_tokens.specs.Tokens.{skip, name_at, quoted_at, number_at, number_of};
 ghost use Rattle.ft_filter.specs.declared.fault.FilterFault.{FilterFault};
 ghost use Rattle.ft_filter.specs.declared.tree.Op.{Op};

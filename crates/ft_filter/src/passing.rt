@@ -8,7 +8,7 @@ ghost use Rattle.ft_filter.specs.Tree.{tree_of, trees_in, trees};
 
 use crate::filter::Filter;
 use crate::tree::{Expr, Exprs, Literal, Op, Pred};
-use ft_event::{Event, Value};
+use ft_fields::{Event, Value};
 
 impl Filter {
     /// Whether the event passes the filter. A field that the event does not have fails each

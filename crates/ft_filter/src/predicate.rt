@@ -1,7 +1,7 @@
 //! Reading a field, an operator and a value.
 
 ghost use Rattle.std.specs.Prelude.{◌≡◌, not, ◌||◌, IsTrue, IfOk};
-ghost use Rattle.ft_event.specs.Fields.{is_text};
+ghost use Rattle.ft_fields.specs.Fields.{is_text};
 ghost use Rattle.ft_glob.specs.Matching.{is_glob};
 ghost use Rattle.ft_filter.specs.Predicate.{place, pred_at, comparison_at, value_at, text_value, number_value, is_match, literal_of};
 ghost use Rattle.ft_filter.specs.inner.Given.{GivesPred, GivesValue};
@@ -9,7 +9,7 @@ ghost use Rattle.ft_filter.specs.inner.Given.{GivesPred, GivesValue};
 use crate::fault::FilterFault;
 use crate::operators::op_at;
 use crate::tree::{Literal, Op, Pattern, Pred, Text};
-use ft_event::{Field, Name, field_named};
+use ft_fields::{Field, Name, field_named};
 use ft_glob::is_glob;
 use ft_tokens::{Number, is_quote, name_at, number_at, quoted_at, skip};
 use std::alloc::{AllocError, Global};

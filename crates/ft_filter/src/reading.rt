@@ -15,7 +15,7 @@ use crate::fault::FilterFault;
 use crate::filter::Filter;
 use crate::predicate::{Source, predicate};
 use crate::tree::{Expr, Exprs, Joint};
-use ft_event::Name;
+use ft_fields::Name;
 use ft_tokens::skip;
 use std::alloc::Global;
 

@@ -6,7 +6,7 @@ ghost use Rattle.ft_filter.specs.Operators.{text_of};
 ghost use Rattle.ft_filter.specs.Predicate.{suits};
 ghost use Rattle.ft_filter.specs.FilterIs.{text_of as joint_text};
 
-use ft_event::Field;
+use ft_fields::Field;
 use ft_glob::glob;
 use std::alloc::{AllocError, Global};
 use std::marker::Model;

@@ -10,7 +10,7 @@ ghost use Rattle.ft_filter.specs.Tree.{tree_of, trees};
 
 use crate::filter::Filter;
 use crate::tree::{Expr, Joint, Literal, Pred};
-use ft_event::field_text;
+use ft_fields::field_text;
 use ft_text::write_signed;
 use std::alloc::AllocError;
 

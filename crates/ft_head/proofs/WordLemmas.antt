@@ -3,9 +3,9 @@ use Rattle.std.proofs.Common.{◌≡◌, ◌<◌, ℕ, Bool, true, false, List, 
 use Rattle.std.proofs.lemmas.Bool.{lt-leb}
 use Rattle.std.specs.Prelude.{codes, if◌then◌else◌, not, ◌++◌, ◌&&◌}
 use Rattle.std.specs.List.{list_any, find}
-use Rattle.ft_event.specs.declared.event.Name.{Name}
-use Rattle.ft_event.specs.declared.field.Field.{Field}
-use Rattle.ft_event.specs.Fields.{is_named, all_fields}
+use Rattle.ft_fields.specs.declared.event.Name.{Name}
+use Rattle.ft_fields.specs.declared.field.Field.{Field}
+use Rattle.ft_fields.specs.Fields.{is_named, all_fields}
 use Rattle.ft_hist.specs.declared.item.KeyItem.{KeyItem}
 use Rattle.std.specs.Option.{option_map_or, is_some}
 use Rattle.ft_head.specs.declared.fault.TriggerFault.{TriggerFault}

@@ -4,9 +4,9 @@ use Rattle.std.specs.List.{list_any, starts_with, find}
 use Rattle.std.specs.Option.{option_map_or, is_some}
 use Rattle.std.specs.Str.{bytes_eq}
 use Rattle.std.specs.Str.Parse.{digits_value}
-use Rattle.ft_event.specs.declared.event.Name.{Name}
-use Rattle.ft_event.specs.declared.field.Field.{Field}
-use Rattle.ft_event.specs.Fields.{is_named, all_fields, is_text, text_of}
+use Rattle.ft_fields.specs.declared.event.Name.{Name}
+use Rattle.ft_fields.specs.declared.field.Field.{Field}
+use Rattle.ft_fields.specs.Fields.{is_named, all_fields, is_text, text_of}
 use Rattle.ft_head.specs.declared.fault.TriggerFault.{TriggerFault}
 use Rattle.ft_head.specs.declared.fault.TriggerFault.TheVariants.{Syntax, NoField, NotNumeric, TooMany, Duplicate, BadSize, BadSort, BadModifier, LeftOut}
 use Rattle.ft_hist.specs.declared.item.KeyItem.{KeyItem}

@@ -4,7 +4,7 @@ ghost use Rattle.std.specs.Prelude.{◌≡◌, ◌+◌, ◌<◌, ◌^◌, ◌∷
 ghost use Rattle.std.specs.Option.{is_some};
 ghost use Rattle.std.specs.List.{list_any, find, starts_with};
 ghost use Rattle.std.specs.Str.{bytes_eq};
-ghost use Rattle.ft_event.specs.declared.event.Name.{Name};
+ghost use Rattle.ft_fields.specs.declared.event.Name.{Name};
 ghost use Rattle.ft_head.specs.declared.fault.TriggerFault.TheVariants.{Syntax, LeftOut, Duplicate};
 ghost use Rattle.ft_head.specs.Draft.{blank, is_part_left_out, labels, with_kind, with_named, with_variable, with_part, parts_from, size_of, stamp_of, var_of, is_taken, reads_itself, is_name, Since};
 ghost use Rattle.ft_head.specs.Words.{pieces};
@@ -16,7 +16,7 @@ use crate::fault::TriggerFault;
 use crate::lists::{keys_of, sort_of, value_words};
 use crate::pieces::{Piece, Pieces};
 use crate::words::{Word, is_name, number_in};
-use ft_event::{Name, field_named};
+use ft_fields::{Name, field_named};
 use ft_hist::{KeyItem, Label, Var};
 use ft_text::is_same;
 use ft_tokens::name_at;

@@ -13,7 +13,7 @@ ghost use Rattle.ft_head.specs.inner.Leaving.{Leaves};
 use crate::fault::TriggerFault;
 use crate::pieces::{Piece, Pieces};
 use crate::words::{Word, number_in, word_of};
-use ft_event::{Field, Name, field_named, field_text};
+use ft_fields::{Field, Name, field_named, field_text};
 use ft_hist::{KeyItem, Mode};
 use ft_text::is_same;
 use std::alloc::Global;

@@ -4,13 +4,13 @@ use Rattle.std.proofs.lemmas.Bool.{and_parts}
 use Rattle.std.specs.Prelude.{IfSome, if◌then◌else◌}
 use Rattle.std.specs.List.{list_all}
 use Rattle.std.specs.Option.{is_some, option_and_then}
-use Rattle.ft_event.specs.declared.event.Name.{Name}
-use Rattle.ft_event.specs.declared.event.Name.TheVariants as names
-use Rattle.ft_event.specs.declared.field.Field.{Field}
-use Rattle.ft_event.specs.declared.field.Value.{Value}
-use Rattle.ft_event.specs.declared.field.Value.TheVariants as values
-use Rattle.ft_event.specs.Fields.{has_field, is_text, is_text_value, field_of}
-use Rattle.ft_event.specs.Traced.{Traced, name_of}
+use Rattle.ft_fields.specs.declared.event.Name.{Name}
+use Rattle.ft_fields.specs.declared.event.Name.TheVariants as names
+use Rattle.ft_fields.specs.declared.field.Field.{Field}
+use Rattle.ft_fields.specs.declared.field.Value.{Value}
+use Rattle.ft_fields.specs.declared.field.Value.TheVariants as values
+use Rattle.ft_fields.specs.Fields.{has_field, is_text, is_text_value, field_of}
+use Rattle.ft_fields.specs.Traced.{Traced, name_of}
 use Rattle.ft_hist.specs.declared.item.KeyItem.{KeyItem}
 use Rattle.ft_hist.specs.declared.item.Mode.{Mode}
 use Rattle.ft_hist.specs.declared.item.Mode.TheVariants as modes

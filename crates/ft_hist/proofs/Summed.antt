@@ -5,12 +5,12 @@ use Rattle.std.proofs.lemmas.Option.{same_Some}
 use Rattle.std.specs.Prelude.{ℤ, pos, not, IfSome, if◌then◌else◌, slice_get}
 use Rattle.std.specs.List.{list_all}
 use Rattle.std.specs.Option.{is_some, option_map_or}
-use Rattle.ft_event.specs.declared.event.Name.{Name}
-use Rattle.ft_event.specs.declared.field.Field.{Field}
-use Rattle.ft_event.specs.declared.field.Value.{Value}
-use Rattle.ft_event.specs.declared.field.Value.TheVariants as values
-use Rattle.ft_event.specs.Fields.{has_field, is_text, is_text_value, field_of}
-use Rattle.ft_event.specs.Traced.{Traced, name_of}
+use Rattle.ft_fields.specs.declared.event.Name.{Name}
+use Rattle.ft_fields.specs.declared.field.Field.{Field}
+use Rattle.ft_fields.specs.declared.field.Value.{Value}
+use Rattle.ft_fields.specs.declared.field.Value.TheVariants as values
+use Rattle.ft_fields.specs.Fields.{has_field, is_text, is_text_value, field_of}
+use Rattle.ft_fields.specs.Traced.{Traced, name_of}
 use Rattle.ft_hist.specs.declared.item.Item.{Item}
 use Rattle.ft_hist.specs.declared.item.Item.TheVariants as items
 use Rattle.ft_hist.specs.Hist.{Hist}

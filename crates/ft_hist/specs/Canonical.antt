@@ -1,7 +1,7 @@
 -- The one text of a trigger that is printed (our own choice).
 use Rattle.std.specs.Prelude.{ℕ, List, [], ◌∷◌, ◌++◌, slice_get, map, if◌then◌else◌, Option, Some, None, codes, decimal}
 use Rattle.std.specs.Option.{option_map_or}
-use Rattle.ft_event.specs.Fields.{text_of}
+use Rattle.ft_fields.specs.Fields.{text_of}
 use Rattle.ft_filter.specs.Tree.{Tree}
 use Rattle.ft_filter.specs.Canonical.{canonical as filter_text}
 use Rattle.ft_hist.specs.declared.item.KeyItem.{KeyItem}

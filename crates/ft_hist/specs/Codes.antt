@@ -1,8 +1,8 @@
 -- How a proof tells triggers apart: by their parts.
 use Rattle.std.specs.Prelude.{ℕ, List, Option, refl}
 use Rattle.std.specs.Coded.{Coded, code_by, coded×, coded_ℕ, coded_list, coded_option}
-use Rattle.ft_event.specs.declared.event.Name.{Name}
-use Rattle.ft_event.specs.contracts.event.Name as name
+use Rattle.ft_fields.specs.declared.event.Name.{Name}
+use Rattle.ft_fields.specs.contracts.event.Name as name
 use Rattle.ft_filter.specs.Tree.{Tree}
 use Rattle.ft_filter.specs.Codes.{tree_code}
 use Rattle.ft_hist.specs.declared.item.KeyItem.{KeyItem}

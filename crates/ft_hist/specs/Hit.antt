@@ -2,12 +2,12 @@
 use Rattle.std.specs.Prelude.{ℕ, Bool, true, false, ◌&&◌, List, [], ◌∷◌, Option, Some, None, option_map, ℤ, if◌then◌else◌}
 use Rattle.std.specs.Int.{w64, cast_unsigned}
 use Rattle.std.specs.Option.{option_and_then, option_map_or}
-use Rattle.ft_event.specs.declared.event.Name.{Name}
-use Rattle.ft_event.specs.declared.event.Name.TheVariants as names
-use Rattle.ft_event.specs.declared.field.Value.{Value}
-use Rattle.ft_event.specs.declared.field.Value.TheVariants as values
-use Rattle.ft_event.specs.Traced.{Traced, name_of}
-use Rattle.ft_event.specs.Fields.{field_of}
+use Rattle.ft_fields.specs.declared.event.Name.{Name}
+use Rattle.ft_fields.specs.declared.event.Name.TheVariants as names
+use Rattle.ft_fields.specs.declared.field.Value.{Value}
+use Rattle.ft_fields.specs.declared.field.Value.TheVariants as values
+use Rattle.ft_fields.specs.Traced.{Traced, name_of}
+use Rattle.ft_fields.specs.Fields.{field_of}
 use Rattle.ft_filter.specs.Tree.{Tree}
 use Rattle.ft_filter.specs.Holds.{holds}
 use Rattle.ft_hist.specs.declared.item.KeyItem.{KeyItem}

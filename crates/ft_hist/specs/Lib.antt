@@ -10,8 +10,8 @@ pub mod Steps
 pub mod Tests
 pub mod Values
 pub mod inner
-pub use Rattle.ft_event.specs.Traced
-pub use Rattle.ft_event.specs.Fields
+pub use Rattle.ft_fields.specs.Traced
+pub use Rattle.ft_fields.specs.Fields
 pub use Rattle.ft_filter.specs.Tree
 pub use Rattle.ft_filter.specs.Holds
 pub use Rattle.ft_keys.specs.Orders

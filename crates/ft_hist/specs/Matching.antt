@@ -1,6 +1,6 @@
 -- Whether the keys of two triggers can be the same, as those of a trigger that reads a variable and of the one that saves it (kernel: histogram.rst, variables).
 use Rattle.std.specs.Prelude.{ℕ, Bool, true, false, ◌&&◌, ◌==◌, List, [], ◌∷◌, if◌then◌else◌}
-use Rattle.ft_event.specs.Fields.{is_text}
+use Rattle.ft_fields.specs.Fields.{is_text}
 use Rattle.ft_hist.specs.declared.item.KeyItem.{KeyItem}
 use Rattle.ft_hist.specs.declared.item.Mode.{Mode}
 use Rattle.ft_hist.specs.declared.item.Mode.TheVariants as modes

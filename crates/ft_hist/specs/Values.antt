@@ -1,10 +1,10 @@
 -- What a hit adds to a trigger's sums (kernel: histogram.rst, `values`).
 use Rattle.std.specs.Prelude.{ℕ, List, [], ◌∷◌, Option, Some, None, ℤ, pos, slice_get}
 use Rattle.std.specs.Option.{option_map_or}
-use Rattle.ft_event.specs.declared.field.Value.{Value}
-use Rattle.ft_event.specs.declared.field.Value.TheVariants as values
-use Rattle.ft_event.specs.Traced.{Traced}
-use Rattle.ft_event.specs.Fields.{field_of}
+use Rattle.ft_fields.specs.declared.field.Value.{Value}
+use Rattle.ft_fields.specs.declared.field.Value.TheVariants as values
+use Rattle.ft_fields.specs.Traced.{Traced}
+use Rattle.ft_fields.specs.Fields.{field_of}
 use Rattle.ft_hist.specs.declared.item.Item.{Item}
 use Rattle.ft_hist.specs.declared.item.Item.TheVariants as items
 use Rattle.ft_hist.specs.Hist.{Hist}

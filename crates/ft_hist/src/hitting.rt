@@ -11,7 +11,7 @@ ghost use Rattle.ft_hist.specs.Hit.{same_name, passes_filter, hit};
 use crate::item::{KeyItem, Mode};
 use crate::trigger::Trigger;
 use crate::work::Work;
-use ft_event::{Comm, Event, Name, Value};
+use ft_fields::{Comm, Event, Name, Value};
 use ft_filter::Filter;
 use ft_keys::{Key, Part};
 

@@ -1,6 +1,6 @@
 //! The items of a trigger's parts: what it counts under, what it sums, how its rows are sorted.
 
-use ft_event::Field;
+use ft_fields::Field;
 
 /// A key item: a field, and its modifier.
 #[derive(Clone, Copy, Debug, PartialEq, Eq)]

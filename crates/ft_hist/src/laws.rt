@@ -4,10 +4,10 @@ ghost use Rattle.std.specs.Prelude.{◌≡◌, ◌<◌, ◌≤◌, ◌*◌, ◌^
 ghost use Rattle.std.specs.Prelude.{slice_get, IsTrue, IsSome};
 ghost use Rattle.std.specs.List.{list_all};
 ghost use Rattle.std.specs.Option.{is_some};
-ghost use Rattle.ft_event.specs.Fields.{field_of};
-ghost use Rattle.ft_event.specs.Traced.{Traced};
-ghost use Rattle.ft_event.specs.declared.field.Field.{Field};
-ghost use Rattle.ft_event.specs.declared.field.Value.TheVariants as values;
+ghost use Rattle.ft_fields.specs.Fields.{field_of};
+ghost use Rattle.ft_fields.specs.Traced.{Traced};
+ghost use Rattle.ft_fields.specs.declared.field.Field.{Field};
+ghost use Rattle.ft_fields.specs.declared.field.Value.TheVariants as values;
 ghost use Rattle.ft_keys.specs.declared.key.Part.{Part};
 ghost use Rattle.ft_hist.specs.declared.item.Item.TheVariants as items;
 ghost use Rattle.ft_hist.specs.declared.item.KeyItem.{KeyItem};
@@ -41,7 +41,7 @@ pub fn asked_events()
         → IsTrue (list_all (key_suits hist.event) hist.keys)
         → is_some (hit hist event) ≡ is_asked hist event }
 {
-    ft_event::laws::values_of_fields();
+    ft_fields::laws::values_of_fields();
 }
 
 /// A law: the key of a hit fits the trigger's key items: it has as many parts, each of its item's
@@ -52,7 +52,7 @@ pub fn fitting_parts()
     ensures as_many { (items : List KeyItem) (parts : List Part)
         → KeyFits items parts → length parts ≡ length items }
 {
-    ft_event::laws::values_of_fields();
+    ft_fields::laws::values_of_fields();
 }
 
 /// A law: at a hit of a trigger whose values suit its event, as every trigger's do, each field that
@@ -64,5 +64,5 @@ pub fn summed_fields()
         → slice_get hist.values number ≡ Some (items.Num field)
         → field_of event field ≡ Some (values.Num (value_at hist event own number)) }
 {
-    ft_event::laws::values_of_fields();
+    ft_fields::laws::values_of_fields();
 }

@@ -8,7 +8,7 @@ ghost use Rattle.ft_hist.specs.Sound.{key_suits, value_suits, by_suits, IsSound}
 
 use crate::item::{Item, KeyItem, SortItem};
 use crate::label::Var;
-use ft_event::Name;
+use ft_fields::Name;
 use ft_filter::Filter;
 use std::marker::Model;
 

@@ -5,7 +5,7 @@ ghost use Rattle.ft_hist.specs.Values.{number_of_field, value_of, value_at, valu
 
 use crate::item::Item;
 use crate::trigger::Trigger;
-use ft_event::{Event, Value};
+use ft_fields::{Event, Value};
 
 impl Trigger {
     /// What the event adds to the sums, in the order of the trigger's values: the number that a

@@ -12,7 +12,7 @@ ghost use Rattle.ft_hist.specs.Canonical.{variable_text, if_text};
 use crate::item::{Item, KeyItem, Mode, SortBy, SortItem};
 use crate::label::{Label, Var};
 use crate::trigger::Trigger;
-use ft_event::field_text;
+use ft_fields::field_text;
 use ft_filter::Filter;
 use ft_text::write_decimal;
 use std::alloc::AllocError;

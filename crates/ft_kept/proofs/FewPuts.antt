@@ -6,7 +6,7 @@ use Rattle.std.specs.Ordering.{nat_cmp}
 use Rattle.std.specs.FinMap as map
 use Rattle.std.specs.FinMap.{FinMap}
 use Rattle.std.proofs.lemmas.Bool.{true≢false}
-use Rattle.ft_event.specs.Traced.{Traced, name_of}
+use Rattle.ft_fields.specs.Traced.{Traced, name_of}
 use Rattle.ft_hist.specs.Hist.{Hist}
 use Rattle.ft_hist.specs.Hit.{hit, key_of, passes_filter, same_name}
 use Rattle.ft_hist.specs.Steps.{Steps, StepsGrow}

@@ -10,8 +10,8 @@ use Rattle.std.specs.Cmp.{eq_by_cmp_equiv}
 use Rattle.std.specs.FinMap as map
 use Rattle.std.specs.FinMap.{find, entries_sorted, get-entries, get-from_entries}
 use Rattle.std.proofs.lemmas.Bool.{true≢false, false≢true}
-use Rattle.ft_event.specs.declared.pos.Pos.{Pos}
-use Rattle.ft_event.specs.Places.{pos_cmp, pos_cmp_total}
+use Rattle.ft_fields.specs.declared.pos.Pos.{Pos}
+use Rattle.ft_fields.specs.Places.{pos_cmp, pos_cmp_total}
 use Rattle.ft_keys.specs.declared.key.Part.{Part}
 use Rattle.ft_keys.specs.Orders.{key_cmp_total}
 use Rattle.ft_keys.specs.Parts.{key_cmp}

@@ -9,8 +9,8 @@ use Rattle.std.specs.Ordering.{is_lt, is_eq, eq_by_cmp}
 use Rattle.std.specs.Cmp.{eq_by_cmp_equiv}
 use Rattle.std.specs.FinMap as map
 use Rattle.std.specs.FinMap.{find, is_sorted}
-use Rattle.ft_event.specs.declared.pos.Pos.{Pos}
-use Rattle.ft_event.specs.Places.{pos_cmp, pos_cmp_total, pos_same}
+use Rattle.ft_fields.specs.declared.pos.Pos.{Pos}
+use Rattle.ft_fields.specs.Places.{pos_cmp, pos_cmp_total, pos_same}
 use Rattle.ft_maps.specs.Entries.{same_from_tie}
 use Rattle.ft_table.specs.Hits.{first_entry}
 

@@ -3,7 +3,7 @@ use Rattle.std.proofs.Common.{◌≡◌, ℕ, true, false, cond, List, refl, sym
 use Rattle.std.specs.Option.{option_map_or}
 use Rattle.std.proofs.lemmas.Bool.{true≢false}
 use Rattle.std.specs.Ordering.{eq_by_cmp}
-use Rattle.ft_event.specs.Traced.{Traced}
+use Rattle.ft_fields.specs.Traced.{Traced}
 use Rattle.ft_keys.specs.declared.key.Part.{Part}
 use Rattle.ft_lanes.specs.Held.{Lanes, event_at}
 use Rattle.ft_maps.specs.Entries.{same_from_tie}

@@ -5,9 +5,9 @@ use Rattle.std.specs.Ordering.{eq_by_cmp}
 use Rattle.std.specs.Cmp.{nat_cmp_total}
 use Rattle.std.specs.FinMap as map
 use Rattle.std.specs.FinMap.{get-remove, nat_cmp-IsAntisymmetric}
-use Rattle.ft_event.specs.Places.{pos_cmp, pos_cmp_total, pos_same}
-use Rattle.ft_event.specs.Traced.{Traced}
-use Rattle.ft_event.specs.declared.pos.Pos.{Pos}
+use Rattle.ft_fields.specs.Places.{pos_cmp, pos_cmp_total, pos_same}
+use Rattle.ft_fields.specs.Traced.{Traced}
+use Rattle.ft_fields.specs.declared.pos.Pos.{Pos}
 use Rattle.ft_keys.specs.declared.key.Part.{Part}
 use Rattle.ft_lanes.specs.Held.{Lanes}
 use Rattle.ft_pairs.specs.ByKey.{ops_of}

@@ -6,8 +6,8 @@ pub mod Repairs
 pub mod Shelves
 pub mod Switches
 pub mod inner
-pub use Rattle.ft_event.specs.Places
-pub use Rattle.ft_event.specs.Traced
+pub use Rattle.ft_fields.specs.Places
+pub use Rattle.ft_fields.specs.Traced
 pub use Rattle.ft_hist.specs.Hist
 pub use Rattle.ft_keys.specs.Parts
 pub use Rattle.ft_hist.specs.Steps

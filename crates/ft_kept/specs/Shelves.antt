@@ -5,9 +5,9 @@ use Rattle.std.specs.Option.{option_map_or}
 use Rattle.std.specs.Ordering.{nat_cmp}
 use Rattle.std.specs.FinMap as map
 use Rattle.std.specs.FinMap.{FinMap}
-use Rattle.ft_event.specs.Places.{pos_cmp}
-use Rattle.ft_event.specs.contracts.pos.Pos as pos
-use Rattle.ft_event.specs.declared.pos.Pos.{Pos}
+use Rattle.ft_fields.specs.Places.{pos_cmp}
+use Rattle.ft_fields.specs.contracts.pos.Pos as pos
+use Rattle.ft_fields.specs.declared.pos.Pos.{Pos}
 use Rattle.ft_keys.specs.declared.key.Part.{Part}
 use Rattle.ft_pairs.specs.ByKey.{ByKey, ops_of}
 use Rattle.ft_pairs.specs.Codes.{by_key_code}

@@ -4,7 +4,7 @@ ghost use Rattle.std.specs.Prelude.{◌≡◌, ◌+◌};
 ghost use Rattle.ft_hist.specs.Hit.{hit};
 ghost use Rattle.ft_hist.specs.Tests.{asked};
 
-use ft_event::Event;
+use ft_fields::Event;
 use ft_hist::{Key, Trigger, Work};
 use ft_lanes::Lanes;
 use ft_pairs::At;

@@ -17,7 +17,7 @@ use crate::act::{Act, Scene, key_at};
 use crate::saver_comes::saving_comes;
 use crate::settle::{settle, settle_next};
 use crate::tables::Tables;
-use ft_event::{Event, Pos};
+use ft_fields::{Event, Pos};
 use ft_hist::{Trigger, Work};
 use ft_lanes::Lanes;
 use ft_maps::entries;

@@ -2,7 +2,7 @@
 
 ghost use Rattle.std.specs.Prelude.{◌≡◌, ◌+◌, ◌≤◌, ◌⊎◌, List, Option, false, None, OnOk, IfOk, if◌then◌else◌};
 ghost use Rattle.std.specs.FinMap as map;
-ghost use Rattle.ft_event.specs.declared.pos.Pos.{Pos};
+ghost use Rattle.ft_fields.specs.declared.pos.Pos.{Pos};
 ghost use Rattle.ft_hist.specs.Steps.{StepsGrow};
 ghost use Rattle.ft_keys.specs.declared.key.Part.{Part};
 ghost use Rattle.ft_pairs.specs.ByKey.{ops_of};

@@ -16,7 +16,7 @@ ghost use Rattle.ft_kept.specs.inner.Settling.{without_next_read, without_reads_
 
 use crate::act::Scene;
 use crate::tables::Tables;
-use ft_event::Event;
+use ft_fields::Event;
 use ft_hist::Work;
 use ft_pairs::{At, Op, Variable, one_next};
 use ft_table::hit_with;

@@ -2,8 +2,8 @@
 
 ghost use Rattle.std.specs.Prelude.{◌≡◌, ◌+◌, ◌<◌, ◌≤◌, List, false, Some, None, OnOk, IfSome};
 ghost use Rattle.std.specs.FinMap as map;
-ghost use Rattle.ft_event.specs.Places.{pos_cmp};
-ghost use Rattle.ft_event.specs.declared.pos.Pos.{Pos};
+ghost use Rattle.ft_fields.specs.Places.{pos_cmp};
+ghost use Rattle.ft_fields.specs.declared.pos.Pos.{Pos};
 ghost use Rattle.ft_keys.specs.declared.key.Part.{Part};
 ghost use Rattle.ft_maps.specs.Seen.{seen};
 ghost use Rattle.ft_pairs.specs.ByKey.{ops_of, ops_left};
@@ -17,7 +17,7 @@ ghost use Rattle.ft_kept.specs.Shelves.{IsNewShelf};
 ghost use Rattle.ft_kept.specs.inner.Edits.{OpsChange, with_hit_on, without_hit_on};
 ghost use Rattle.ft_kept.specs.inner.Following.{with_saves, switched};
 
-use ft_event::Pos;
+use ft_fields::Pos;
 use ft_hist::{Key, Work};
 use ft_maps::{put, take};
 use ft_pairs::{At, Op, Pairs, Role};
@@ -39,7 +39,7 @@ pub struct Shelf {
 }
 
 impl Model for Shelf {
-    ghost use Rattle.ft_event.specs.Places.{pos_cmp};
+    ghost use Rattle.ft_fields.specs.Places.{pos_cmp};
     ghost use Rattle.ft_maps.specs.Seen.{seen};
     ghost use Rattle.ft_kept.specs.Shelves.{Shelved, shelved_code};
 

@@ -9,7 +9,7 @@ ghost use Rattle.ft_keys.specs.Parts.{kind_of, part_cmp, key_cmp};
 ghost use Rattle.ft_keys.specs.inner.Stored.{last_parts, rest_parts};
 ghost use Rattle.ft_keys.specs.Orders.{part_cmp_total, key_cmp_total, part_ties, key_ties};
 
-use ft_event::Comm;
+use ft_fields::Comm;
 use std::cmp::Ordering;
 use std::marker::Model;
 

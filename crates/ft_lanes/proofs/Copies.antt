@@ -11,7 +11,7 @@ use Rattle.std.proofs.lemmas.Bool.{cases_eq}
 use Rattle.std.proofs.lemmas.List.{length-append, length-map}
 use Rattle.std.proofs.lemmas.List.Sums.{sum_by-cons}
 use Rattle.std.proofs.lemmas.Option.{none-some}
-use Rattle.ft_event.specs.Traced.{Traced}
+use Rattle.ft_fields.specs.Traced.{Traced}
 use Rattle.ft_maps.specs.Entries.{entries-from_entries, strictly_sorted}
 use Rattle.ft_maps.specs.Mapped.{entries_by, map_by, map_by-insert}
 use Rattle.ft_lanes.specs.Held.{Lane, Lanes, held_in}

@@ -15,7 +15,7 @@ use Rattle.std.proofs.lemmas.Bool.{cases_eq}
 use Rattle.std.proofs.lemmas.Option.{none-some}
 use Rattle.std.proofs.lemmas.List.{length-map}
 use Rattle.std.proofs.lemmas.List.Sums.{sum_by-cons}
-use Rattle.ft_event.specs.Traced.{Traced}
+use Rattle.ft_fields.specs.Traced.{Traced}
 use Rattle.ft_maps.specs.Entries.{entries-empty, get-insert_other, get-remove_same, get-remove_other, insert_same}
 use Rattle.ft_maps.specs.Mapped.{map_by, entries_by, entries-map_by}
 use Rattle.ft_lanes.specs.Held.{held_in}

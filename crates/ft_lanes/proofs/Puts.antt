@@ -13,7 +13,7 @@ use Rattle.std.specs.FinMap.Entries.{below_all}
 use Rattle.std.proofs.lemmas.Bool.{cases_eq, eq-eqb, ne_eqb, or_parts}
 use Rattle.std.proofs.lemmas.List.Sums.{sum_by-cons}
 use Rattle.std.proofs.lemmas.Option.{none-some}
-use Rattle.ft_event.specs.Traced.{Traced}
+use Rattle.ft_fields.specs.Traced.{Traced}
 use Rattle.ft_maps.specs.Entries.{get-insert_same, get-insert_other}
 use Rattle.ft_lanes.specs.inner.Slots.{SlotsOf, AllSlots, all_with, all_from, all_put, slots_with, slots_in, no_slots, has_cpu, AgreeBeside, AgreeBesideRows}
 use Rattle.ft_lanes.proofs.Counts.{first, second, slots-insert}

@@ -6,7 +6,7 @@ use Rattle.std.specs.Ordering.{nat_cmp}
 use Rattle.std.specs.Cmp.{nat_cmp_total}
 use Rattle.std.specs.FinMap as map
 use Rattle.std.specs.FinMap.{nat_cmp-IsAntisymmetric}
-use Rattle.ft_event.specs.Traced.{Traced}
+use Rattle.ft_fields.specs.Traced.{Traced}
 use Rattle.ft_maps.specs.Mapped.{entries_by, entries-map_by, map_by-empty, get-map_by, map_by-insert}
 use Rattle.ft_lanes.specs.Held.{Lane, Lanes, event_at}
 use Rattle.ft_lanes.specs.Edits.{new_lane, lane_with, lane_without, lanes_without}

@@ -4,8 +4,8 @@ use Rattle.std.specs.Ordering.{nat_cmp}
 use Rattle.std.specs.Coded.{Coded, code_by, coded×, coded_list, coded_ℕ}
 use Rattle.std.specs.FinMap as map
 use Rattle.std.specs.FinMap.{FinMap}
-use Rattle.ft_event.specs.Traced.{Traced}
-use Rattle.ft_event.specs.Codes.{traced_code}
+use Rattle.ft_fields.specs.Traced.{Traced}
+use Rattle.ft_fields.specs.Codes.{traced_code}
 use Rattle.ft_lanes.specs.Held.{Lane, Lanes}
 
 -- a lane, stored as its events and its next number (our own choice)

@@ -4,7 +4,7 @@ use Rattle.std.specs.List.{sum_by}
 use Rattle.std.specs.Ordering.{nat_cmp}
 use Rattle.std.specs.FinMap as map
 use Rattle.std.specs.FinMap.{FinMap}
-use Rattle.ft_event.specs.Traced.{Traced, last_cpu}
+use Rattle.ft_fields.specs.Traced.{Traced, last_cpu}
 
 -- one CPU's events by line number, and the next number (our own choice)
 pub record Lane : Type 0 where

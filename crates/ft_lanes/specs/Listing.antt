@@ -4,12 +4,12 @@ use Rattle.std.specs.Fmt.{signed_decimal}
 use Rattle.std.specs.List.{flat_map}
 use Rattle.std.specs.Option.{option_map_or}
 use Rattle.std.specs.FinMap as map
-use Rattle.ft_event.specs.declared.event.Body.{Body}
-use Rattle.ft_event.specs.declared.event.Body.TheVariants as bodies
-use Rattle.ft_event.specs.declared.event.Turn.{Turn}
-use Rattle.ft_event.specs.declared.event.Wake.{Wake}
-use Rattle.ft_event.specs.Names.{name_text}
-use Rattle.ft_event.specs.Traced.{Traced, name_of}
+use Rattle.ft_fields.specs.declared.event.Body.{Body}
+use Rattle.ft_fields.specs.declared.event.Body.TheVariants as bodies
+use Rattle.ft_fields.specs.declared.event.Turn.{Turn}
+use Rattle.ft_fields.specs.declared.event.Wake.{Wake}
+use Rattle.ft_fields.specs.Names.{name_text}
+use Rattle.ft_fields.specs.Traced.{Traced, name_of}
 use Rattle.ft_lanes.specs.Held.{Lane}
 
 -- a number in decimal digits, with zeros in front up to a width (our own choice)

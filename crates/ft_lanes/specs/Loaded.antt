@@ -2,7 +2,7 @@
 use Rattle.std.specs.Prelude.{ℕ, ◌+◌, ◌==◌, List, length, Option, filter, fold, option_map}
 use Rattle.std.specs.List.{enumerate_from, find}
 use Rattle.std.specs.FinMap as map
-use Rattle.ft_event.specs.Traced.{Traced}
+use Rattle.ft_fields.specs.Traced.{Traced}
 use Rattle.ft_lanes.specs.Held.{Lane, Lanes}
 
 -- the lane that a load gives a CPU: its events in file order, numbered from 1 (our own choice)

@@ -8,7 +8,7 @@ use crate::rebuild::copy_lane;
 use crate::slots::Slots;
 use crate::store::{append, end_before, end_of, event_of};
 use crate::walk::{ByCpu, Lines};
-use ft_event::Event;
+use ft_fields::Event;
 use std::alloc::{AllocError, Global};
 use std::collections::BTreeMap;
 use std::marker::Model;
@@ -45,7 +45,7 @@ impl Lanes {
     ghost use Rattle.std.specs.Prelude.{ℕ};
     ghost use Rattle.std.specs.List.{AllByRecursion};
     ghost use Rattle.std.specs.Map.Iter.{ShowsInOrder};
-    ghost use Rattle.ft_event.specs.Traced.{Traced};
+    ghost use Rattle.ft_fields.specs.Traced.{Traced};
     ghost use Rattle.ft_lanes.specs.Held.{Lane, event_limit, number_limit, event_at, held_in, HasCpu};
     ghost use Rattle.ft_lanes.specs.Walks.{shown, itself};
     ghost use Rattle.ft_lanes.specs.Loaded.{first_held, with_lanes};

@@ -9,7 +9,7 @@ ghost use Rattle.ft_lanes.specs.Listing.{target_text, zero_filled};
 
 use crate::lanes::Lanes;
 use crate::walk::Lines;
-use ft_event::{Body, Comm, Event, Turn, Wake};
+use ft_fields::{Body, Comm, Event, Turn, Wake};
 use ft_text::{write_decimal, write_right, write_signed};
 use std::alloc::{AllocError, Global};
 

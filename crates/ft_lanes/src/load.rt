@@ -10,7 +10,7 @@ ghost use Rattle.ft_lanes.specs.inner.Slots.{all_from, first_cpu, slots_in};
 
 use crate::rows::{put_rows, rows_of};
 use crate::slots::Slots;
-use ft_event::Event;
+use ft_fields::Event;
 use ft_maps::take;
 use std::alloc::{AllocError, Global};
 use std::collections::BTreeMap;

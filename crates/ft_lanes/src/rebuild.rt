@@ -10,7 +10,7 @@ ghost use Rattle.ft_lanes.specs.inner.Slots.{placed_from, slots_from};
 use crate::slots::Slots;
 use crate::store::end_of;
 use crate::walk::Lane;
-use ft_event::Event;
+use ft_fields::Event;
 use ft_maps::put;
 use std::alloc::{AllocError, Global};
 use std::collections::BTreeMap;

@@ -8,7 +8,7 @@ ghost use Rattle.ft_lanes.specs.Held.{event_limit, number_limit};
 ghost use Rattle.ft_lanes.specs.inner.Slots.{no_slots, slots_with, all_with, all_from, all_put, slots_in, AgreeBesideRows};
 
 use crate::slots::Slots;
-use ft_event::Event;
+use ft_fields::Event;
 use ft_maps::put;
 use std::alloc::{AllocError, Global};
 use std::collections::BTreeMap;

@@ -3,7 +3,7 @@
 ghost use Rattle.std.specs.Prelude.{◌≡◌, ◌+◌, ◌++◌, ◌<◌, ◌^◌, length, option_map, OnOk, OnErr, IfOk, IfSome};
 ghost use Rattle.ft_lanes.specs.inner.Slots.{stored_at};
 
-use ft_event::Event;
+use ft_fields::Event;
 use std::alloc::AllocError;
 
 /// The place behind the last event of a store. Refused for memory where 32 bits can't number it.

@@ -7,7 +7,7 @@ ghost use Rattle.ft_lanes.specs.Walks.{shown, itself};
 ghost use Rattle.ft_lanes.specs.inner.Within.{PlacesWithin};
 
 use crate::slots::Slots;
-use ft_event::Event;
+use ft_fields::Event;
 use std::collections::btree_map::Iter;
 use std::marker::Model;
 
@@ -20,7 +20,7 @@ pub struct Lines<'a> {
 
 impl<'a> Model for Lines<'a> {
     ghost use Rattle.std.specs.Prelude.{ℕ, List, length};
-    ghost use Rattle.ft_event.specs.Traced.{Traced};
+    ghost use Rattle.ft_fields.specs.Traced.{Traced};
     ghost use Rattle.ft_maps.specs.Mapped.{entries_by};
     ghost use Rattle.ft_lanes.specs.inner.Slots.{stored_at};
     ghost use Rattle.ft_lanes.specs.inner.Within.{PlacesWithin};
@@ -87,7 +87,7 @@ impl<'a> Lane<'a> {
     ghost use Rattle.std.specs.Prelude.{◌≡◌, ◌<◌, ◌^◌, ℕ, Some};
     ghost use Rattle.std.specs.Map.Iter.{ShowsInOrder};
     ghost use Rattle.std.specs.FinMap as map;
-    ghost use Rattle.ft_event.specs.Traced.{Traced};
+    ghost use Rattle.ft_fields.specs.Traced.{Traced};
     ghost use Rattle.ft_lanes.specs.inner.Slots.{stored_at, lane_by, IsWithin};
 
     /// The events at the places of these slots in a store.

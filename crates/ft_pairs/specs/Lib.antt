@@ -6,6 +6,6 @@ pub mod Order
 pub mod Roles
 pub mod Source
 pub mod Variables
-pub use Rattle.ft_event.specs.Places
+pub use Rattle.ft_fields.specs.Places
 pub use Rattle.ft_keys.specs.Parts
 pub use Rattle.ft_hist.specs.Steps

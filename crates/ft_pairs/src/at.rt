@@ -1,6 +1,6 @@
 //! Operations on a variable, and where they stand.
 
-use ft_event::Pos;
+use ft_fields::Pos;
 
 /// Where a trigger acts: at the place of an event, and among the triggers that act there by its
 /// id.

@@ -9,8 +9,8 @@ use Rattle.std.specs.Ordering.{nat_cmp, eq_by_cmp, is_gt, ordering_then}
 use Rattle.std.specs.FinMap as map
 use Rattle.std.proofs.lemmas.List.Elements.{All-nil, All-cons}
 use Rattle.std.proofs.lemmas.Map.Keys.{le_from_not_gt}
-use Rattle.ft_event.specs.Traced.{Traced}
-use Rattle.ft_event.specs.declared.pos.Pos.{Pos}
+use Rattle.ft_fields.specs.Traced.{Traced}
+use Rattle.ft_fields.specs.declared.pos.Pos.{Pos}
 use Rattle.ft_keys.specs.declared.key.Part.{Part}
 use Rattle.ft_hist.specs.Hist.{Hist}
 use Rattle.ft_hist.specs.Hit.{hit}

@@ -3,8 +3,8 @@ use Rattle.std.proofs.Common.{◌≡◌, ℕ, List, [], ◌∷◌, ◌++◌, map
 use Rattle.std.specs.Prelude.{fold}
 use Rattle.std.specs.List.{flat_map}
 use Rattle.std.specs.FinMap.{FinMap}
-use Rattle.ft_event.specs.Traced.{Traced}
-use Rattle.ft_event.specs.Places.{pos_cmp}
+use Rattle.ft_fields.specs.Traced.{Traced}
+use Rattle.ft_fields.specs.Places.{pos_cmp}
 use Rattle.ft_lanes.specs.Held.{Lane}
 use Rattle.ft_replay.specs.Merged.{place_of, placed, merged_with, merged_with_lane}
 

@@ -8,10 +8,10 @@ use Rattle.std.specs.Map.{keys_of}
 use Rattle.std.specs.FinMap as map
 use Rattle.std.specs.FinMap.{entries_sorted}
 use Rattle.std.specs.declared.cmp.Ordering.TheVariants.{Less}
-use Rattle.ft_event.specs.Traced.{Traced, name_of}
-use Rattle.ft_event.specs.declared.event.Name.{Name}
-use Rattle.ft_event.specs.declared.pos.Pos.{Pos}
-use Rattle.ft_event.specs.Places.{pos_cmp, pos_cmp_total}
+use Rattle.ft_fields.specs.Traced.{Traced, name_of}
+use Rattle.ft_fields.specs.declared.event.Name.{Name}
+use Rattle.ft_fields.specs.declared.pos.Pos.{Pos}
+use Rattle.ft_fields.specs.Places.{pos_cmp, pos_cmp_total}
 use Rattle.ft_keys.specs.declared.key.Part.{Part}
 use Rattle.ft_hist.specs.Hist.{Hist}
 use Rattle.ft_hist.specs.Hit.{key_of, passes_filter, same_name}

@@ -11,10 +11,10 @@ use Rattle.std.specs.Map.{keys_of}
 use Rattle.std.specs.FinMap as map
 use Rattle.std.specs.FinMap.{FinMap, find, get-insert, get-empty, get-entries, entries_sorted, nat_cmp-IsAntisymmetric}
 use Rattle.std.proofs.lemmas.Map.Keys.{sorted_head, sorted_tail}
-use Rattle.ft_event.specs.Traced.{Traced}
-use Rattle.ft_event.specs.Places.{pos_cmp, pos_cmp_total}
+use Rattle.ft_fields.specs.Traced.{Traced}
+use Rattle.ft_fields.specs.Places.{pos_cmp, pos_cmp_total}
 use Rattle.ft_maps.specs.Entries.{strictly_sorted, same_from_tie}
-use Rattle.ft_event.specs.declared.pos.Pos.{Pos}
+use Rattle.ft_fields.specs.declared.pos.Pos.{Pos}
 use Rattle.ft_lanes.specs.Held.{Lane, Lanes}
 use Rattle.ft_replay.specs.Merged.{place_of, merged, held_at, merged_with_lane}
 use Rattle.ft_replay.proofs.Merging.{merged_with_lines, by_lane}

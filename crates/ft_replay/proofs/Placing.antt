@@ -17,10 +17,10 @@ use Rattle.std.proofs.lemmas.Map.Entries.{option_filter, lookup-filter-values, l
 use Rattle.std.proofs.lemmas.Map.Keys.{IsDistinct-from_sorted, IsDistinct-head, IsDistinct-tail, IsDistinct-IsPermutation, apart_from_distinct, sorted_from_all_adjacent}
 use Rattle.std.proofs.lemmas.Map.Made.{IsDistinct-keys_filter, keys_of-map_values}
 use Rattle.std.proofs.lemmas.Map.Views.{Contains-from_lookup, lookup-from_Contains}
-use Rattle.ft_event.specs.Traced.{Traced, name_of}
-use Rattle.ft_event.specs.declared.event.Name.{Name}
-use Rattle.ft_event.specs.declared.pos.Pos.{Pos}
-use Rattle.ft_event.specs.Places.{pos_cmp, pos_cmp_total, pos_same}
+use Rattle.ft_fields.specs.Traced.{Traced, name_of}
+use Rattle.ft_fields.specs.declared.event.Name.{Name}
+use Rattle.ft_fields.specs.declared.pos.Pos.{Pos}
+use Rattle.ft_fields.specs.Places.{pos_cmp, pos_cmp_total, pos_same}
 use Rattle.ft_maps.specs.Entries.{entries-from_entries, same_from_tie, strictly_sorted}
 use Rattle.ft_maps.specs.Mapped.{entries_by}
 use Rattle.ft_lanes.specs.Held.{Lane, Lanes}

@@ -6,8 +6,8 @@ use Rattle.std.specs.Ordering.{nat_cmp, eq_by_cmp, ordering_then}
 use Rattle.std.specs.Cmp.{nat_cmp_total}
 use Rattle.std.specs.FinMap as map
 use Rattle.std.specs.FinMap.{get-insert, get-empty, nat_cmp-IsAntisymmetric}
-use Rattle.ft_event.specs.Traced.{Traced}
-use Rattle.ft_event.specs.declared.pos.Pos.{Pos}
+use Rattle.ft_fields.specs.Traced.{Traced}
+use Rattle.ft_fields.specs.declared.pos.Pos.{Pos}
 use Rattle.ft_hist.specs.Fitting.{KeyFits}
 use Rattle.ft_hist.specs.Hist.{Hist}
 use Rattle.ft_hist.specs.Hit.{hit}

@@ -12,7 +12,7 @@ use Rattle.std.specs.FinMap as map
 use Rattle.std.specs.FinMap.{FinMap, get-insert, get-remove, get-empty, nat_cmp-IsAntisymmetric, IsAntisymmetric}
 use Rattle.std.proofs.lemmas.List.{append-nil, append_assoc}
 use Rattle.std.proofs.lemmas.List.Sums.{fold-append}
-use Rattle.ft_event.specs.declared.pos.Pos.{Pos}
+use Rattle.ft_fields.specs.declared.pos.Pos.{Pos}
 use Rattle.ft_maps.specs.Entries.{same_from_tie}
 use Rattle.ft_pairs.specs.declared.at.At.{At}
 use Rattle.ft_pairs.specs.Order.{at_cmp, at_cmp_total}

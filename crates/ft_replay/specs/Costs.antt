@@ -1,6 +1,6 @@
 -- What edits and answers cost, in steps (our own choice).
 use Rattle.std.specs.Prelude.{◌≡◌, ℕ, ◌+◌, ◌*◌, ◌≤◌, true, false, List, Result, Ok, Err}
-use Rattle.ft_event.specs.Traced.{Traced}
+use Rattle.ft_fields.specs.Traced.{Traced}
 use Rattle.ft_hist.specs.Steps.{Steps, StepsGrow}
 use Rattle.ft_keys.specs.declared.key.Part.{Part}
 use Rattle.ft_hist.specs.Tests.{count_on}

@@ -20,8 +20,8 @@ pub use Rattle.ft_base.specs.OneTrigger
 pub use Rattle.ft_base.specs.Reachable
 pub use Rattle.ft_event.specs.Line
 pub use Rattle.ft_event.specs.LineFault
-pub use Rattle.ft_event.specs.Places
-pub use Rattle.ft_event.specs.Traced
+pub use Rattle.ft_fields.specs.Places
+pub use Rattle.ft_fields.specs.Traced
 pub use Rattle.ft_filter.specs.Tree
 pub use Rattle.ft_hist.specs.Hist
 pub use Rattle.ft_hist.specs.Steps

@@ -2,9 +2,9 @@
 use Rattle.std.specs.Prelude.{Bool, filter}
 use Rattle.std.specs.List.{list_any}
 use Rattle.std.specs.FinMap as map
-use Rattle.ft_event.specs.Traced.{Traced, name_of}
-use Rattle.ft_event.specs.declared.event.Name.{Name}
-use Rattle.ft_event.specs.declared.event.Name.TheVariants as kinds
+use Rattle.ft_fields.specs.Traced.{Traced, name_of}
+use Rattle.ft_fields.specs.declared.event.Name.{Name}
+use Rattle.ft_fields.specs.declared.event.Name.TheVariants as kinds
 use Rattle.ft_hist.specs.Hit.{same_name}
 use Rattle.ft_replay.specs.declared.names.Names.{Names}
 use Rattle.ft_base.specs.Base.{Triggers}

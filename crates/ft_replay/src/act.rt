@@ -3,7 +3,7 @@
 ghost use Rattle.std.specs.Prelude.{◌≡◌, None, if◌then◌else◌, OnOk};
 ghost use Rattle.std.specs.Ordering.{nat_cmp};
 ghost use Rattle.std.specs.FinMap as map;
-ghost use Rattle.ft_event.specs.declared.pos.Pos.{Pos};
+ghost use Rattle.ft_fields.specs.declared.pos.Pos.{Pos};
 ghost use Rattle.ft_maps.specs.Seen.{seen};
 ghost use Rattle.ft_table.specs.Tabled.{is_in};
 ghost use Rattle.ft_hist.specs.Steps.{StepsGrow};
@@ -12,7 +12,7 @@ ghost use Rattle.ft_replay.specs.inner.Counters.{after_hit, after_act, IsFree};
 ghost use Rattle.ft_pairs.specs.Variables.{variable_cmp};
 
 use crate::counter::Counter;
-use ft_event::{Event, Pos};
+use ft_fields::{Event, Pos};
 use ft_hist::{Key, Trigger, Work};
 use ft_maps::{get, put, take};
 use ft_pairs::{At, Role, Variable};

@@ -3,7 +3,7 @@
 use crate::done::Done;
 use crate::pair::Latency;
 use ft_base::{Place, Refused};
-use ft_event::{Event, Name};
+use ft_fields::{Event, Name};
 use ft_filter::Filter;
 use ft_hist::Trigger;
 use ft_table::Totals;
@@ -19,7 +19,7 @@ pub trait Board: Drop {
     ghost use Rattle.std.specs.Prelude.{◌≡◌, ◌≢◌, Some, Err, option_map};
     ghost use Rattle.std.specs.Option.{ForSome};
     ghost use Rattle.std.specs.FinMap as map;
-    ghost use Rattle.ft_event.specs.Traced.{Traced};
+    ghost use Rattle.ft_fields.specs.Traced.{Traced};
     ghost use Rattle.ft_hist.specs.Hist.{Hist};
     ghost use Rattle.ft_lanes.specs.Held.{event_at};
     ghost use Rattle.ft_base.specs.declared.refused.Refused.TheVariants.{Memory};

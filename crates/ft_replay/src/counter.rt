@@ -6,7 +6,7 @@ ghost use Rattle.ft_hist.specs.Steps.{StepsGrow};
 ghost use Rattle.ft_replay.specs.inner.Counters.{counter_with};
 
 use crate::pair::Pair;
-use ft_event::Pos;
+use ft_fields::Pos;
 use ft_hist::Work;
 use ft_pairs::Role;
 use ft_table::{Hit, Table};

@@ -5,15 +5,15 @@ ghost use Rattle.std.specs.List.Sorted.{IsSortedByKey};
 ghost use Rattle.std.specs.Ordering.{nat_cmp};
 ghost use Rattle.std.specs.FinMap as map;
 ghost use Rattle.std.specs.Map.Iter.{deref};
-ghost use Rattle.ft_event.specs.Places.{pos_cmp};
-ghost use Rattle.ft_event.specs.Traced.{name_of};
+ghost use Rattle.ft_fields.specs.Places.{pos_cmp};
+ghost use Rattle.ft_fields.specs.Traced.{name_of};
 ghost use Rattle.ft_maps.specs.Mapped.{entries_by};
 ghost use Rattle.ft_maps.specs.Seen.{seen};
 ghost use Rattle.ft_replay.specs.Merged.{merged, placed};
 ghost use Rattle.ft_replay.specs.Named.{named, events_on, has_name};
 
 use crate::names::Names;
-use ft_event::{Event, Pos};
+use ft_fields::{Event, Pos};
 use ft_hist::Trigger;
 use ft_lanes::{Lane, Lanes};
 use std::alloc::{AllocError, Global};

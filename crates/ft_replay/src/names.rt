@@ -2,12 +2,12 @@
 
 ghost use Rattle.std.specs.Prelude.{◌≡◌, IsTrue, false};
 ghost use Rattle.std.specs.Ordering.{nat_cmp};
-ghost use Rattle.ft_event.specs.declared.event.Name.{Name};
+ghost use Rattle.ft_fields.specs.declared.event.Name.{Name};
 ghost use Rattle.ft_hist.specs.Hit.{same_name};
 ghost use Rattle.ft_maps.specs.Seen.{seen};
 ghost use Rattle.ft_replay.specs.Named.{is_on, has_name};
 
-use ft_event::Name;
+use ft_fields::Name;
 use ft_hist::Trigger;
 use ft_maps::entries;
 use std::collections::BTreeMap;

@@ -4,7 +4,7 @@ ghost use Rattle.std.specs.Prelude.{◌≡◌};
 ghost use Rattle.ft_replay.specs.Answers.{latency_of, line_at};
 
 use ft_base::Place;
-use ft_event::Pos;
+use ft_fields::Pos;
 
 /// A saving and the reading that found it.
 #[derive(Clone, Copy, Debug, PartialEq, Eq)]

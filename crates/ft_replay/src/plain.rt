@@ -7,7 +7,7 @@ use crate::board::Board;
 use crate::done::{Done, Kept};
 use crate::pair::Latency;
 use ft_base::{Content, Place, Refused};
-use ft_event::{Event, Name};
+use ft_fields::{Event, Name};
 use ft_filter::Filter;
 use ft_hist::{Trigger, Work};
 use ft_table::Totals;

@@ -2,9 +2,9 @@
 use Rattle.std.proofs.Common.{◌≡◌, refl, ℕ, pos, negsuc, List, [], ◌∷◌, false, true}
 use Rattle.std.specs.Prelude.{Option, Some, None, codes}
 use Rattle.std.specs.Fmt.{digits}
-use Rattle.ft_event.specs.declared.event.Name.TheVariants as names
-use Rattle.ft_event.specs.declared.field.Field.{Field}
-use Rattle.ft_event.specs.declared.field.Field.TheVariants as fields
+use Rattle.ft_fields.specs.declared.event.Name.TheVariants as names
+use Rattle.ft_fields.specs.declared.field.Field.{Field}
+use Rattle.ft_fields.specs.declared.field.Field.TheVariants as fields
 use Rattle.ft_hist.specs.declared.item.KeyItem.{KeyItem}
 use Rattle.ft_hist.specs.declared.item.Mode.{Mode}
 use Rattle.ft_hist.specs.declared.item.Mode.TheVariants as modes

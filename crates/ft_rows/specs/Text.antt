@@ -3,7 +3,7 @@ use Rattle.std.specs.Prelude.{ℕ, ◌+◌, ◌-◌, ◌^◌, ℤ, false, List, 
 use Rattle.std.specs.List.{flat_map}
 use Rattle.std.specs.Fmt.{digits}
 use Rattle.std.specs.Int.{w64, cast_unsigned}
-use Rattle.ft_event.specs.Fields.{text_of}
+use Rattle.ft_fields.specs.Fields.{text_of}
 use Rattle.ft_hist.specs.declared.item.KeyItem.{KeyItem}
 use Rattle.ft_hist.specs.declared.item.Mode.{Mode}
 use Rattle.ft_hist.specs.declared.item.Mode.TheVariants as modes

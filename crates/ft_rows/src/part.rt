@@ -1,13 +1,13 @@
 //! The parts of keys in texts.
 
 ghost use Rattle.std.specs.Prelude.{◌≡◌, ◌≤◌, ◌++◌, OnOk, OnErr, IsTrue, codes, decimal};
-ghost use Rattle.ft_event.specs.Fields.{is_text};
+ghost use Rattle.ft_fields.specs.Fields.{is_text};
 ghost use Rattle.ft_hist.specs.Sound.{mode_suits};
 ghost use Rattle.ft_text.specs.Fronts.{IsFront};
 ghost use Rattle.ft_rows.specs.Text.{left_in, bucket_end, part_text, named_part};
 
 use crate::number::{write_hexadecimal, write_in_10};
-use ft_event::{Comm, field_text};
+use ft_fields::{Comm, field_text};
 use ft_hist::{KeyItem, Mode, Part};
 use ft_text::{write_decimal, write_fill};
 use itoa::Buffer;

@@ -4,7 +4,7 @@ ghost use Rattle.std.specs.Prelude.{◌≡◌, ◌+◌, ◌<◌, ◌≤◌, ◌+
 ghost use Rattle.std.specs.Prelude.{length, decimal};
 ghost use Rattle.std.specs.List.{list_all};
 ghost use Rattle.std.specs.Option.{option_copied};
-ghost use Rattle.ft_event.specs.declared.event.Name.{Name};
+ghost use Rattle.ft_fields.specs.declared.event.Name.{Name};
 ghost use Rattle.ft_hist.specs.Sound.{key_suits};
 ghost use Rattle.ft_hist.specs.Fitting.{KeyFits};
 ghost use Rattle.ft_text.specs.Fronts.{IsFront};
@@ -14,7 +14,7 @@ ghost use Rattle.ft_rows.specs.Text.{totals_text, rows_text, heading};
 use crate::number::write_in_10;
 use crate::part::write_named;
 use crate::row::{Row, Totals};
-use ft_event::field_text;
+use ft_fields::field_text;
 use ft_hist::{Item, Key, Trigger, Var};
 use ft_text::write_decimal;
 use std::alloc::AllocError;

@@ -1,4 +1,4 @@
 pub mod Lines
 pub mod Script
 pub mod Command
-pub use Rattle.ft_event.specs.Names
+pub use Rattle.ft_fields.specs.Names

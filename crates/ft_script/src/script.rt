@@ -5,7 +5,7 @@ ghost use Rattle.std.specs.List.{list_all, prefix_len};
 ghost use Rattle.ft_script.specs.Command.{asked};
 ghost use Rattle.ft_script.specs.Script.{asked_by, inserted, worded, numbered, is_space, is_in_word, drop_while, trimmed, first_word, after_word, number_in, load_in, strike_in, struck, attach_in, filter_in, refilter_in};
 
-use ft_event::Name;
+use ft_fields::Name;
 use ft_text::{is_same, number_within};
 use memchr::memchr;
 

@@ -11,9 +11,9 @@ use Rattle.std.specs.FinMap.{FinMap, IsAntisymmetric, find, put, entries-insert,
 use Rattle.std.proofs.lemmas.List.Sums.{sum_by-cons}
 use Rattle.std.proofs.Math.Nat.{mod-add-mod}
 use Rattle.std.specs.Prelude.{ℤ}
-use Rattle.ft_event.specs.declared.pos.Pos.{Pos}
+use Rattle.ft_fields.specs.declared.pos.Pos.{Pos}
 use Rattle.ft_table.specs.Hits.{EntryHits, unsigned_at, column}
-use Rattle.ft_event.specs.Places.{pos_cmp_total, pos_same}
+use Rattle.ft_fields.specs.Places.{pos_cmp_total, pos_same}
 
 tied : (r : Ordering) → is_eq r ≡ true → r ≡ Equal
 tied Less e = cc

@@ -10,11 +10,11 @@ use Rattle.std.specs.Map.{keys_of}
 use Rattle.std.specs.FinMap as map
 use Rattle.std.specs.FinMap.{is_sorted, entries_sorted}
 use Rattle.std.proofs.lemmas.Cmp.{tied_itself}
-use Rattle.ft_event.specs.declared.pos.Pos.{Pos}
+use Rattle.ft_fields.specs.declared.pos.Pos.{Pos}
 use Rattle.ft_keys.specs.declared.key.Part.{Part}
 use Rattle.ft_keys.specs.Parts.{key_cmp}
 use Rattle.ft_table.specs.declared.mark.Mark.{Mark}
-use Rattle.ft_event.specs.Places.{pos_cmp, pos_cmp_total}
+use Rattle.ft_fields.specs.Places.{pos_cmp, pos_cmp_total}
 use Rattle.ft_table.specs.Marks.{mark_cmp}
 use Rattle.ft_table.specs.Hits.{Hits, same_key, hits_of}
 use Rattle.ft_keys.specs.Orders.{key_cmp_total}

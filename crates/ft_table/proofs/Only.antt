@@ -7,8 +7,8 @@ use Rattle.std.specs.declared.cmp.Ordering.TheVariants.{Less, Equal, Greater}
 use Rattle.std.specs.Ordering.{eq_by_cmp, is_lt, ordering_reverse}
 use Rattle.std.specs.FinMap as map
 use Rattle.std.specs.FinMap.{put, entries-insert, get-empty, get-insert, get-remove, len-entries, same_map}
-use Rattle.ft_event.specs.declared.pos.Pos.{Pos}
-use Rattle.ft_event.specs.Places.{pos_cmp, pos_cmp_total, pos_same}
+use Rattle.ft_fields.specs.declared.pos.Pos.{Pos}
+use Rattle.ft_fields.specs.Places.{pos_cmp, pos_cmp_total, pos_same}
 use Rattle.ft_maps.specs.Entries.{entries-empty}
 use Rattle.ft_table.specs.inner.Held.{only}
 use Rattle.ft_table.specs.Hits.{EntryHits, least_key, first_with, first_entry, hits_after, is_after, unsigned_at, sums_of, column}

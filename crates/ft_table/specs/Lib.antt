@@ -9,7 +9,7 @@ pub mod Rows
 pub mod Tabled
 pub mod Values
 pub mod inner
-pub use Rattle.ft_event.specs.Places
+pub use Rattle.ft_fields.specs.Places
 pub use Rattle.ft_hist.specs.Fitting
 pub use Rattle.ft_hist.specs.Hist
 pub use Rattle.ft_keys.specs.Parts

@@ -13,13 +13,13 @@ ghost use Rattle.ft_keys.specs.Parts.{key_cmp};
 ghost use Rattle.ft_maps.specs.Seen.{seen};
 ghost use Rattle.ft_table.specs.Rows.{hit_after};
 ghost use Rattle.ft_table.specs.inner.Held.{only};
-ghost use Rattle.ft_event.specs.Places.{pos_cmp};
-ghost use Rattle.ft_event.specs.declared.pos.Pos.{Pos};
+ghost use Rattle.ft_fields.specs.Places.{pos_cmp};
+ghost use Rattle.ft_fields.specs.declared.pos.Pos.{Pos};
 
 use crate::hit::Hit;
 use crate::mark::Mark;
 use crate::series::{Series, added};
-use ft_event::Pos;
+use ft_fields::Pos;
 use ft_hist::Key;
 use ft_maps::take;
 use std::alloc::{AllocError, Global};

@@ -3,11 +3,11 @@
 ghost use Rattle.std.specs.Prelude.{◌≡◌, ℕ, ◌+◌, ◌%◌, ◌<◌, ◌^◌, OnOk, OnErr, None};
 ghost use Rattle.std.specs.Int.{w64, cast_unsigned};
 ghost use Rattle.std.specs.FinMap as map;
-ghost use Rattle.ft_event.specs.Places.{pos_cmp};
+ghost use Rattle.ft_fields.specs.Places.{pos_cmp};
 ghost use Rattle.ft_maps.specs.Seen.{seen};
 ghost use Rattle.ft_table.specs.Hits.{sums_of, least_key, first_with, first_entry, hits_after};
 
-use ft_event::Pos;
+use ft_fields::Pos;
 use std::alloc::{AllocError, Global};
 use std::collections::BTreeMap;
 use std::marker::Model;
@@ -25,7 +25,7 @@ pub(crate) struct Series {
 }
 
 impl Model for Series {
-    ghost use Rattle.ft_event.specs.Places.{pos_cmp};
+    ghost use Rattle.ft_fields.specs.Places.{pos_cmp};
     ghost use Rattle.ft_table.specs.Hits.{EntryHits};
     ghost use Rattle.ft_maps.specs.Seen.{seen};
     ghost use Rattle.ft_table.specs.inner.Codes.{entry_code};

@@ -16,7 +16,7 @@ use crate::entry::{Entry, count_of, first_at, put_behind, put_hit, take_hit};
 use crate::hit::Hit;
 use crate::mark::Mark;
 use crate::order::{last_rank_of, rank_of};
-use ft_event::Pos;
+use ft_fields::Pos;
 use ft_hist::Key;
 use std::alloc::{AllocError, Global};
 use std::collections::BTreeMap;

@@ -12,7 +12,7 @@ use crate::hit::Hit;
 use crate::mark::Mark;
 use crate::order::rank_of;
 use crate::split::{Split, add_hit, drop_hit};
-use ft_event::Pos;
+use ft_fields::Pos;
 use ft_hist::{Key, SortItem, Trigger, Work};
 use ft_rows::{Row, Totals, sort_rows, write_heading, write_rows};
 use std::alloc::{AllocError, Global};

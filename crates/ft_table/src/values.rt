@@ -1,11 +1,11 @@
 //! What a hit adds to its trigger's sums.
 
 ghost use Rattle.std.specs.Prelude.{◌≡◌};
-ghost use Rattle.ft_event.specs.declared.pos.Pos.{Pos};
+ghost use Rattle.ft_fields.specs.declared.pos.Pos.{Pos};
 ghost use Rattle.ft_table.specs.Values.{own_value, values_at};
 
 use crate::hit::Hit;
-use ft_event::{Event, Pos};
+use ft_fields::{Event, Pos};
 use ft_hist::{Key, Trigger};
 
 /// The hit of a trigger at an event, with its values by the place of the saving that it read, if

@@ -1,8 +1,8 @@
 -- Texts of triggers, and what they are: the definitions, worked out on examples.
 use Rattle.std.proofs.Common.{◌≡◌, refl, ℕ, List, [], ◌∷◌, false, true}
 use Rattle.std.specs.Prelude.{Result, Ok, Err, Some, None, codes}
-use Rattle.ft_event.specs.declared.event.Name.TheVariants as names
-use Rattle.ft_event.specs.declared.field.Field.TheVariants as fields
+use Rattle.ft_fields.specs.declared.event.Name.TheVariants as names
+use Rattle.ft_fields.specs.declared.field.Field.TheVariants as fields
 use Rattle.ft_head.specs.declared.fault.TriggerFault.{TriggerFault}
 use Rattle.ft_head.specs.declared.fault.TriggerFault.TheVariants.{Syntax, NoField, NotNumeric, TooMany, Duplicate, BadSize, BadSort, BadModifier, LeftOut, BadFilter}
 use Rattle.ft_hist.specs.declared.item.Mode.TheVariants as modes

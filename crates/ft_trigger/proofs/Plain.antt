@@ -4,9 +4,9 @@ use Rattle.std.proofs.lemmas.Bool.{and_parts}
 use Rattle.std.specs.Prelude.{if◌then◌else◌}
 use Rattle.std.specs.List.{list_all}
 use Rattle.std.specs.Option.{option_map_or}
-use Rattle.ft_event.specs.declared.event.Name.{Name}
-use Rattle.ft_event.specs.declared.field.Field.{Field}
-use Rattle.ft_event.specs.Fields.{is_text}
+use Rattle.ft_fields.specs.declared.event.Name.{Name}
+use Rattle.ft_fields.specs.declared.field.Field.{Field}
+use Rattle.ft_fields.specs.Fields.{is_text}
 use Rattle.ft_filter.specs.declared.fault.FilterFault.TheVariants as filters
 use Rattle.ft_head.specs.declared.fault.TriggerFault.{TriggerFault}
 use Rattle.ft_head.specs.declared.fault.TriggerFault.TheVariants.{Memory, Syntax, NoField, NotNumeric, BadFilter}

@@ -4,7 +4,7 @@ use Rattle.std.proofs.Math.Seq.{take-append_seam, drop-append_seam}
 use Rattle.std.proofs.lemmas.Option.{same_Some}
 use Rattle.std.specs.Prelude.{reverse, unwrap_or}
 use Rattle.std.specs.List.{prefix_len, list_all, starts_with}
-use Rattle.ft_event.specs.declared.event.Name.{Name}
+use Rattle.ft_fields.specs.declared.event.Name.{Name}
 use Rattle.ft_filter.specs.Tree.{Tree}
 use Rattle.ft_tokens.specs.Tokens.{skip}
 use Rattle.ft_head.specs.declared.fault.TriggerFault.{TriggerFault}

@@ -8,7 +8,7 @@ use Rattle.std.specs.Prelude.{nat_le, slice_get}
 use Rattle.std.specs.List.{list_any, list_all}
 use Rattle.std.specs.Option.{option_map_or}
 use Rattle.std.specs.Str.{bytes_eq}
-use Rattle.ft_event.specs.Fields.{text_of}
+use Rattle.ft_fields.specs.Fields.{text_of}
 use Rattle.ft_head.specs.declared.fault.TriggerFault.{TriggerFault}
 use Rattle.ft_head.specs.declared.fault.TriggerFault.TheVariants.{TooMany, Duplicate, BadSort}
 use Rattle.ft_hist.specs.declared.item.KeyItem.{KeyItem}

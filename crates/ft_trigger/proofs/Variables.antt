@@ -7,7 +7,7 @@ use Rattle.std.proofs.lemmas.Option.{same_Some, cond_some}
 use Rattle.std.specs.List.{list_all, starts_with}
 use Rattle.std.specs.Option.{option_map_or, is_some}
 use Rattle.std.specs.Str.{bytes_eq}
-use Rattle.ft_event.specs.declared.event.Name.{Name}
+use Rattle.ft_fields.specs.declared.event.Name.{Name}
 use Rattle.ft_head.specs.declared.fault.TriggerFault.{TriggerFault}
 use Rattle.ft_head.specs.declared.fault.TriggerFault.TheVariants.{Syntax, Duplicate, LeftOut}
 use Rattle.ft_hist.specs.declared.label.Var.{Var}

@@ -3,8 +3,8 @@ pub mod PartFaults
 pub mod Shape
 pub mod TriggerIs
 pub mod inner
-pub use Rattle.ft_event.specs.Fields
-pub use Rattle.ft_event.specs.Traced
+pub use Rattle.ft_fields.specs.Fields
+pub use Rattle.ft_fields.specs.Traced
 pub use Rattle.ft_filter.specs.Answers
 pub use Rattle.ft_filter.specs.FilterFault
 pub use Rattle.ft_filter.specs.FilterIs

@@ -1,6 +1,6 @@
 -- Faults of a head's parts, and those that are found behind them (kernel: histogram.rst, hist triggers).
 use Rattle.std.specs.Prelude.{◌≡◌, ℕ, Bool, true, false, nat_le, List, Err}
-use Rattle.ft_event.specs.declared.event.Name.{Name}
+use Rattle.ft_fields.specs.declared.event.Name.{Name}
 use Rattle.ft_head.specs.declared.fault.TriggerFault.{TriggerFault}
 use Rattle.ft_head.specs.declared.fault.TriggerFault.TheVariants.{Syntax, NoField, BadSort, BadFilter}
 use Rattle.ft_head.specs.Draft.{blank, parts_from}

@@ -1,7 +1,7 @@
 -- How a trigger's text is cut into its head and its tail, and what a tail says (kernel: histogram.rst, hist triggers).
 use Rattle.std.specs.Prelude.{◌≡◌, ◌≢◌, ◌<◌, ◌+◌, ℕ, true, false, List, [], ◌∷◌, ◌++◌, length, Option, Some, None, Result, Ok, Err, codes}
 use Rattle.std.specs.List.{list_all, list_any}
-use Rattle.ft_event.specs.declared.event.Name.{Name}
+use Rattle.ft_fields.specs.declared.event.Name.{Name}
 use Rattle.ft_filter.specs.declared.fault.FilterFault.{FilterFault}
 use Rattle.ft_filter.specs.FilterIs.{FilterIs}
 use Rattle.ft_filter.specs.Tree.{Tree}

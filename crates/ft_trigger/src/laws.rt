@@ -1,7 +1,7 @@
 //! Laws on what triggers' texts are read as, apart from the steps that read them.
 
 ghost use Rattle.std.specs.Prelude.{◌≡◌, ◌↔◌, ◌+◌, ◌++◌, ◌∷◌, ℕ, true, false, codes, List, length, Option, Some, None, Result, Ok, Err};
-ghost use Rattle.ft_event.specs.declared.event.Name.{Name};
+ghost use Rattle.ft_fields.specs.declared.event.Name.{Name};
 ghost use Rattle.std.specs.List.{list_all, list_any};
 ghost use Rattle.ft_filter.specs.FilterIs.{FilterIs};
 ghost use Rattle.ft_filter.specs.Tree.{Tree};

@@ -10,7 +10,7 @@ ghost use Rattle.ft_trigger.specs.Given.{GivesTrigger};
 
 use crate::resolving::{own_name, sort_of, value_items};
 use crate::tail::{filter_in, head_len, without_end};
-use ft_event::Name;
+use ft_fields::Name;
 use ft_head::{Draft, TriggerFault, Word, parts_of};
 use ft_hist::Trigger;
 use ft_tokens::skip;

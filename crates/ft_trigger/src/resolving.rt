@@ -4,7 +4,7 @@ ghost use Rattle.std.specs.Prelude.{◌≡◌, ◌<◌, ◌≤◌, length, IfOk,
 ghost use Rattle.std.specs.Option.{option_copied, option_map_or};
 ghost use Rattle.std.specs.List.{find};
 ghost use Rattle.std.specs.Str.{bytes_eq};
-ghost use Rattle.ft_event.specs.Fields.{text_of, is_named, all_fields};
+ghost use Rattle.ft_fields.specs.Fields.{text_of, is_named, all_fields};
 ghost use Rattle.ft_head.specs.declared.fault.TriggerFault.TheVariants.{NoField, BadSort};
 ghost use Rattle.ft_hist.specs.declared.item.Item.TheVariants as items;
 ghost use Rattle.ft_head.specs.Draft.{given_or, is_word, besides_hitcount};
@@ -12,7 +12,7 @@ ghost use Rattle.ft_trigger.specs.TriggerIs.{own_name, value_item, value_items, 
 ghost use Rattle.ft_head.specs.Given.{Gives};
 ghost use Rattle.ft_head.specs.inner.Leaving.{Leaves};
 
-use ft_event::{Name, field_named, field_text};
+use ft_fields::{Name, field_named, field_text};
 use ft_head::{TriggerFault, Word};
 use ft_hist::{Item, KeyItem, SortBy, SortItem, Var};
 use ft_text::is_same;

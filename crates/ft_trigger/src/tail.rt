@@ -9,7 +9,7 @@ ghost use Rattle.ft_trigger.specs.TriggerIs.{head_len, without_end, behind_if, f
 ghost use Rattle.ft_trigger.specs.inner.FilterFaults.{of_filter};
 ghost use Rattle.ft_head.specs.Given.{Gives};
 
-use ft_event::Name;
+use ft_fields::Name;
 use ft_filter::{Filter, FilterFault};
 use ft_head::TriggerFault;
 use ft_tokens::{is_gap, skip};

@@ -1,8 +1,8 @@
 -- What is kept while one event comes or goes, and what that costs.
 use Rattle.std.specs.Prelude.{◌≡◌, Some, None}
 use Rattle.std.specs.FinMap as map
-use Rattle.ft_event.specs.Traced.{Traced}
-use Rattle.ft_event.specs.declared.pos.Pos.{Pos}
+use Rattle.ft_fields.specs.Traced.{Traced}
+use Rattle.ft_fields.specs.declared.pos.Pos.{Pos}
 use Rattle.ft_hist.specs.Steps.{Steps}
 use Rattle.ft_kept.specs.Shelves.{Shelves}
 use Rattle.ft_lanes.specs.Held.{event_at}

@@ -1,6 +1,6 @@
 -- Reading a trace text line by line. All of it is our own choice.
 use Rattle.std.specs.Prelude.{List, ◌++◌, Result, Ok, Err}
-use Rattle.ft_event.specs.Traced.{Traced}
+use Rattle.ft_fields.specs.Traced.{Traced}
 use Rattle.ft_base.specs.declared.refused.Refused.{Refused}
 
 -- events that were read already, in front of those of the lines behind

@@ -1,6 +1,6 @@
 -- What the steps of reading give: an answer, or want of memory (our own choice).
 use Rattle.std.specs.Prelude.{◌≡◌, ◌⊎◌, List, ℕ, Result, Ok, Err}
-use Rattle.ft_event.specs.declared.event.Name.{Name}
+use Rattle.ft_fields.specs.declared.event.Name.{Name}
 use Rattle.ft_filter.specs.declared.fault.FilterFault.{FilterFault}
 use Rattle.ft_filter.specs.declared.fault.FilterFault.TheVariants.{Memory}
 use Rattle.ft_filter.specs.declared.tree.Pred.{Pred}

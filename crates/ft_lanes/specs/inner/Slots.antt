@@ -6,8 +6,8 @@ use Rattle.std.specs.Option.{option_map_or}
 use Rattle.std.specs.Ordering.{nat_cmp}
 use Rattle.std.specs.FinMap as map
 use Rattle.std.specs.FinMap.{FinMap}
-use Rattle.ft_event.specs.declared.event.Body.TheVariants as bodies
-use Rattle.ft_event.specs.Traced.{Traced}
+use Rattle.ft_fields.specs.declared.event.Body.TheVariants as bodies
+use Rattle.ft_fields.specs.Traced.{Traced}
 use Rattle.ft_maps.specs.Mapped.{map_by}
 use Rattle.ft_lanes.specs.Held.{Lane, Lanes, number_limit}
 

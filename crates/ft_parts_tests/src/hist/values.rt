@@ -2,7 +2,7 @@
 
 ghost use Rattle.std.specs.Prelude.{◌≤◌, length, IsTrue};
 ghost use Rattle.std.specs.List.{list_all};
-ghost use Rattle.ft_event.specs.declared.event.Name.TheVariants.{Switch};
+ghost use Rattle.ft_fields.specs.declared.event.Name.TheVariants.{Switch};
 ghost use Rattle.ft_hist.specs.Sound.{value_suits};
 
 use super::*;

@@ -1,7 +1,7 @@
 //! The text of a table, fed with the hits of its trigger.
 
 ghost use Rattle.std.specs.Prelude.{◌<◌, None, [], ◌∷◌};
-ghost use Rattle.ft_event.specs.declared.event.Name.TheVariants.{Waking};
+ghost use Rattle.ft_fields.specs.declared.event.Name.TheVariants.{Waking};
 ghost use Rattle.ft_hist.specs.Hist.{IsWithin, hist_with};
 ghost use Rattle.ft_hist.specs.Sound.{IsSound};
 ghost use Rattle.ft_table.specs.Rows.{AllFit};

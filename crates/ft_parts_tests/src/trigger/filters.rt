@@ -1,7 +1,7 @@
 //! Triggers that take another filter.
 
 ghost use Rattle.std.specs.Prelude.{◌≡◌, IfOk};
-ghost use Rattle.ft_event.specs.declared.event.Name.TheVariants.{Waking};
+ghost use Rattle.ft_fields.specs.declared.event.Name.TheVariants.{Waking};
 
 use super::*;
 use ft_filter::Filter;

@@ -1,7 +1,7 @@
 -- The hits that an entry holds.
 use Rattle.std.specs.Prelude.{ℤ, List}
 use Rattle.std.specs.FinMap as map
-use Rattle.ft_event.specs.declared.pos.Pos.{Pos}
+use Rattle.ft_fields.specs.declared.pos.Pos.{Pos}
 use Rattle.ft_table.specs.declared.entry.Held.{Held}
 use Rattle.ft_table.specs.declared.entry.Held.TheVariants.{Nothing, One, Many}
 use Rattle.ft_table.specs.Hits.{EntryHits}

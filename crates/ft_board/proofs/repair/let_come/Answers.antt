@@ -1,7 +1,7 @@
 use Rattle.std.proofs.Common.{◌≡◌, sym, ap, subst, ◌∙◌, Option, Some}
 use Rattle.std.specs.Option.{IfSome}
-use Rattle.ft_event.specs.Traced.{Traced}
-use Rattle.ft_event.specs.declared.pos.Pos.{Pos}
+use Rattle.ft_fields.specs.Traced.{Traced}
+use Rattle.ft_fields.specs.declared.pos.Pos.{Pos}
 use Rattle.ft_lanes.specs.Held.{Lanes, event_at}
 use Rattle.ft_kept.specs.Repairs as repairs
 use Rattle.ft_kept.specs.Repairs.{EventCanCome, EventHasCome}

@@ -1,6 +1,6 @@
 use Rattle.std.proofs.Common.{◌≡◌, ◌++◌, map as list_map}
-use Rattle.ft_event.specs.Places.{pos_cmp}
-use Rattle.ft_event.specs.declared.pos.Pos.{Pos}
+use Rattle.ft_fields.specs.Places.{pos_cmp}
+use Rattle.ft_fields.specs.declared.pos.Pos.{Pos}
 use Rattle.ft_maps.specs.Seen.{seen}
 use Rattle.ft_replay.specs.Found.{pairs_in}
 use Rattle.ft_replay.specs.Answers.{latency_of}

@@ -1,7 +1,7 @@
 use Rattle.std.proofs.Common.{◌≡◌, ◌++◌, codes, arith}
 use Rattle.std.proofs.lemmas.Grind.{common_steps}
 use Rattle.std.proofs.lemmas.Result.{on_err_weaker}
-use Rattle.ft_event.specs.Fields.{text_of as field_text}
+use Rattle.ft_fields.specs.Fields.{text_of as field_text}
 use Rattle.ft_text.proofs.Fronts.{front_before}
 use Rattle.ft_filter.specs.Operators.{text_of}
 use Rattle.ft_filter.proofs.writing.write_pred.Goals as goal

@@ -1,6 +1,6 @@
 use Rattle.std.proofs.Common.{subst, sym, ap, ◌∙◌, arith}
 use Rattle.std.specs.List.{find}
-use Rattle.ft_event.specs.Fields.{is_named, all_fields}
+use Rattle.ft_fields.specs.Fields.{is_named, all_fields}
 use Rattle.ft_head.specs.Draft.{with_field}
 use Rattle.ft_head.specs.inner.Leaving.{Leaves}
 use Rattle.ft_head.proofs.WordLemmas.{with_key_field}

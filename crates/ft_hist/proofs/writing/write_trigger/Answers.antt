@@ -1,6 +1,6 @@
 use Rattle.std.proofs.Common.{◌≡◌, Option, Some, None, codes, decimal, map, option_map, refl}
 use Rattle.std.proofs.lemmas.Result.{on_ok_weaker}
-use Rattle.ft_event.specs.declared.event.Name.{Name}
+use Rattle.ft_fields.specs.declared.event.Name.{Name}
 use Rattle.ft_filter.specs.Tree.{Tree, Condition}
 use Rattle.ft_hist.specs.Canonical.{canonical, listed, sort_text, if_text}
 use Rattle.ft_hist.proofs.Appends.{added_seven}

@@ -5,7 +5,7 @@ use Rattle.std.specs.Cmp.{nat_cmp_total}
 use Rattle.std.specs.BTreeMap as tree
 use Rattle.std.specs.BTreeMap.{BTreeMap}
 use Rattle.std.specs.FinMap as map
-use Rattle.ft_event.specs.Traced.{Traced, last_cpu}
+use Rattle.ft_fields.specs.Traced.{Traced, last_cpu}
 use Rattle.ft_maps.specs.Seen.{seen, get-seen}
 use Rattle.ft_lanes.specs.Held.{HasCpu}
 use Rattle.ft_lanes.specs.inner.Slots.{SlotsOf, first_cpu}

@@ -3,8 +3,8 @@ use Rattle.std.specs.Prelude.{filter}
 use Rattle.std.specs.List.{flat_map}
 use Rattle.std.specs.FinMap as map
 use Rattle.std.specs.Map.Iter.{deref}
-use Rattle.ft_event.specs.Traced.{Traced, name_of}
-use Rattle.ft_event.specs.declared.pos.Pos.{Pos}
+use Rattle.ft_fields.specs.Traced.{Traced, name_of}
+use Rattle.ft_fields.specs.declared.pos.Pos.{Pos}
 use Rattle.ft_maps.specs.Mapped.{entries_by}
 use Rattle.ft_replay.specs.Merged.{placed}
 use Rattle.ft_replay.specs.Named.{has_name}

@@ -9,9 +9,9 @@ use Rattle.std.specs.FinMap as map
 use Rattle.std.specs.FinMap.{entries_sorted}
 use Rattle.std.proofs.lemmas.List.{drop_more, drop_all}
 use Rattle.std.proofs.lemmas.Map.Keys.{sorted_head, sorted_tail}
-use Rattle.ft_event.specs.Traced.{Traced}
-use Rattle.ft_event.specs.Places.{pos_cmp}
-use Rattle.ft_event.specs.declared.pos.Pos.{Pos}
+use Rattle.ft_fields.specs.Traced.{Traced}
+use Rattle.ft_fields.specs.Places.{pos_cmp}
+use Rattle.ft_fields.specs.declared.pos.Pos.{Pos}
 use Rattle.ft_maps.specs.Entries.{strictly_sorted}
 use Rattle.ft_maps.specs.Mapped.{entries_by}
 use Rattle.ft_maps.specs.Seen.{seen, seen-empty}

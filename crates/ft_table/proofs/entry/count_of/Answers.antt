@@ -2,7 +2,7 @@
 use Rattle.std.proofs.Common.{◌≡◌, sym, ap, ◌∙◌, Some, None, unwrap_or}
 use Rattle.std.specs.FinMap as map
 use Rattle.ft_keys.specs.Parts.{key_cmp}
-use Rattle.ft_event.specs.Places.{pos_cmp}
+use Rattle.ft_fields.specs.Places.{pos_cmp}
 use Rattle.ft_maps.specs.Seen.{seen, get-seen}
 use Rattle.ft_keys.specs.Orders.{key_cmp_total}
 use Rattle.ft_table.proofs.Flat.{hits_of-flat}

@@ -4,7 +4,7 @@ use Rattle.std.specs.Prelude.{ℤ, List}
 use Rattle.std.specs.FinMap as map
 use Rattle.std.specs.FinMap.{FinMap}
 use Rattle.ft_keys.specs.Parts.{key_cmp}
-use Rattle.ft_event.specs.Places.{pos_cmp}
+use Rattle.ft_fields.specs.Places.{pos_cmp}
 use Rattle.ft_maps.specs.Seen.{seen, get-seen}
 use Rattle.ft_table.specs.Hits.{least_key}
 use Rattle.ft_keys.specs.Orders.{key_cmp_total}

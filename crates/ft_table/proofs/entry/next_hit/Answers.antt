@@ -3,11 +3,11 @@ use Rattle.std.proofs.Common.{◌≡◌, List, sym, ap, ◌∙◌, Some, None, O
 use Rattle.std.specs.Option.{option_copied}
 use Rattle.std.specs.Prelude.{ℤ, option_map}
 use Rattle.std.specs.FinMap as map
-use Rattle.ft_event.specs.declared.pos.Pos.{Pos}
+use Rattle.ft_fields.specs.declared.pos.Pos.{Pos}
 use Rattle.ft_keys.specs.declared.key.Part.{Part}
 use Rattle.ft_keys.specs.Parts.{key_cmp}
 use Rattle.ft_table.specs.declared.hit.Hit.{Hit}
-use Rattle.ft_event.specs.Places.{pos_cmp}
+use Rattle.ft_fields.specs.Places.{pos_cmp}
 use Rattle.ft_table.specs.Hits.{EntryHits, first_entry, hits_after, is_after}
 use Rattle.ft_maps.specs.Seen.{seen, get-seen}
 use Rattle.std.specs.List.{filter}

@@ -3,7 +3,7 @@ use Rattle.std.proofs.Common.{◌≡◌, sym, ◌∙◌, ap, unwrap_or, Some, No
 use Rattle.std.specs.Prelude.{option_and_then, IfSome, MatchOption}
 use Rattle.std.specs.FinMap as map
 use Rattle.std.proofs.lemmas.Result.{IfOk-weaker, on_err_weaker}
-use Rattle.ft_event.specs.declared.pos.Pos.{Pos}
+use Rattle.ft_fields.specs.declared.pos.Pos.{Pos}
 use Rattle.ft_keys.specs.Parts.{key_cmp}
 use Rattle.ft_maps.specs.Seen.{seen, get-seen, seen-found, seen-kept}
 use Rattle.ft_table.specs.inner.ByKey.{flat}

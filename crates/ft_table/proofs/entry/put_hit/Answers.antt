@@ -3,7 +3,7 @@ use Rattle.std.proofs.Common.{◌≡◌, sym, ◌∙◌, ap, unwrap_or, Some, No
 use Rattle.std.specs.Prelude.{option_and_then}
 use Rattle.std.specs.FinMap as map
 use Rattle.std.specs.FinMap.{get-empty}
-use Rattle.ft_event.specs.Places.{pos_cmp}
+use Rattle.ft_fields.specs.Places.{pos_cmp}
 use Rattle.std.proofs.lemmas.Result.{on_ok_weaker, on_err_weaker}
 use Rattle.ft_keys.specs.Parts.{key_cmp}
 use Rattle.ft_maps.specs.Seen.{seen, get-seen, seen-insert, seen-found, seen-kept}

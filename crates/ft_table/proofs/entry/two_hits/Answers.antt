@@ -1,7 +1,7 @@
 use Rattle.std.proofs.Common.{ap, ◌∙◌}
 use Rattle.std.specs.FinMap as map
 use Rattle.std.specs.FinMap.{get-empty}
-use Rattle.ft_event.specs.Places.{pos_cmp}
+use Rattle.ft_fields.specs.Places.{pos_cmp}
 use Rattle.ft_table.specs.Hits.{EntryHits}
 use Rattle.ft_table.proofs.entry.two_hits.Goals as goal
 

@@ -2,7 +2,7 @@
 use Rattle.std.proofs.Common.{◌≡◌, List, [], ◌∷◌, length, sym, ap, ◌∙◌, refl, Some, None}
 use Rattle.std.specs.Prelude.{slice_get}
 use Rattle.ft_table.specs.Hits.{least_key}
-use Rattle.ft_event.specs.Places.{pos_cmp_total}
+use Rattle.ft_fields.specs.Places.{pos_cmp_total}
 use Rattle.ft_maps.specs.Seen.{entries-seen}
 use Rattle.ft_table.proofs.series.least.Goals as goal
 

@@ -1,6 +1,6 @@
 -- The order before and after, by where the key's first hit stood and where it stands.
 use Rattle.std.proofs.Common.{◌≡◌, sym, ap, ◌∙◌, rules}
-use Rattle.ft_event.specs.declared.pos.Pos.{Pos}
+use Rattle.ft_fields.specs.declared.pos.Pos.{Pos}
 use Rattle.ft_table.specs.inner.ByKey.{hits_in}
 use Rattle.ft_table.specs.inner.Moves.{order_before, order_with}
 use Rattle.ft_table.proofs.Flat.{mark}

@@ -1,5 +1,5 @@
 use Rattle.ft_maps.specs.Seen.{seen}
-use Rattle.ft_event.specs.Places.{pos_cmp}
+use Rattle.ft_fields.specs.Places.{pos_cmp}
 use Rattle.ft_pairs.specs.Edits.{reads_alone}
 use Rattle.ft_kept.proofs.Shelving.{ops_change}
 use Rattle.ft_kept.proofs.shelf.Shelf.drop_saves.Goals as goal

@@ -1,7 +1,7 @@
 use Rattle.std.proofs.Common.{◌≡◌, ◌≤◌, true, Some}
 use Rattle.std.specs.Prelude.{is_some}
 use Rattle.std.specs.FinMap as map
-use Rattle.ft_event.specs.Places.{pos_cmp}
+use Rattle.ft_fields.specs.Places.{pos_cmp}
 use Rattle.ft_maps.specs.Seen.{seen}
 use Rattle.ft_pairs.specs.ByKey.{ChangesKey}
 use Rattle.ft_table.specs.declared.hit.Hit.{Hit}

@@ -1,5 +1,5 @@
 use Rattle.ft_maps.specs.Seen.{seen}
-use Rattle.ft_event.specs.Places.{pos_cmp}
+use Rattle.ft_fields.specs.Places.{pos_cmp}
 use Rattle.ft_pairs.specs.Edits.{without_op}
 use Rattle.ft_kept.proofs.Shelving.{ops_change}
 use Rattle.ft_kept.proofs.shelf.Shelf.take_op.Goals as goal

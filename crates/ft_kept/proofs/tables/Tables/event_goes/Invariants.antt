@@ -5,8 +5,8 @@ use Rattle.std.specs.List.Sorted.{IsStrictlySortedBy}
 use Rattle.std.specs.Ordering.{nat_cmp}
 use Rattle.std.specs.FinMap as map
 use Rattle.std.specs.FinMap.{FinMap}
-use Rattle.ft_event.specs.Places.{pos_cmp}
-use Rattle.ft_event.specs.Traced.{Traced}
+use Rattle.ft_fields.specs.Places.{pos_cmp}
+use Rattle.ft_fields.specs.Traced.{Traced}
 use Rattle.ft_maps.specs.Seen.{seen}
 use Rattle.ft_kept.specs.Acts.{AreHeld, acts_of}
 use Rattle.ft_kept.specs.inner.OneAct.{between}

@@ -2,7 +2,7 @@
 use Rattle.std.proofs.Common.{◌≡◌, ℕ, sym, ap, refl, ◌∙◌, ◌+◌, length, Option, Some, None, option_map, is_some}
 use Rattle.std.specs.Option.{option_len}
 use Rattle.std.specs.Ordering.{nat_cmp}
-use Rattle.ft_event.specs.Traced.{Traced}
+use Rattle.ft_fields.specs.Traced.{Traced}
 use Rattle.ft_maps.specs.Seen.{seen}
 use Rattle.ft_lanes.specs.Held.{Lanes, event_at}
 use Rattle.ft_lanes.specs.Edits.{lanes_without}

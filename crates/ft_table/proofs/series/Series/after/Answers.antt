@@ -9,8 +9,8 @@ use Rattle.std.specs.declared.ops.Bound.TheVariants.{Unbounded, Excluded}
 use Rattle.std.specs.BTreeMap.Range.{range_contains}
 use Rattle.std.specs.Map.Iter.{deref_pair}
 use Rattle.std.proofs.lemmas.Map.Iter.{rest_more, rest_all}
-use Rattle.ft_event.specs.declared.pos.Pos.{Pos}
-use Rattle.ft_event.specs.Places.{pos_cmp, pos_cmp_total}
+use Rattle.ft_fields.specs.declared.pos.Pos.{Pos}
+use Rattle.ft_fields.specs.Places.{pos_cmp, pos_cmp_total}
 use Rattle.ft_table.specs.Hits.{first_entry, is_after}
 use Rattle.ft_maps.specs.Seen.{entries-seen}
 use Rattle.ft_table.proofs.Flat.{true_and}

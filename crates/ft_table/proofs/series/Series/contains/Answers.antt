@@ -1,7 +1,7 @@
 use Rattle.std.proofs.Common.{sym, ap, ◌∙◌}
 use Rattle.std.specs.Prelude.{is_some}
 use Rattle.std.specs.FinMap as map
-use Rattle.ft_event.specs.Places.{pos_cmp_total}
+use Rattle.ft_fields.specs.Places.{pos_cmp_total}
 use Rattle.ft_maps.specs.Seen.{get-seen}
 use Rattle.ft_table.proofs.series.Series.contains.Goals as goal
 

@@ -2,7 +2,7 @@
 use Rattle.std.proofs.Common.{◌≡◌, ◌+◌, ◌%◌, ◌^◌, [], ◌∷◌, get_or, ap, sym, ◌∙◌, arith, None}
 use Rattle.std.specs.FinMap as map
 use Rattle.std.proofs.lemmas.Int.{to_z-of_z}
-use Rattle.ft_event.specs.Places.{pos_cmp, pos_cmp_total, pos_same}
+use Rattle.ft_fields.specs.Places.{pos_cmp, pos_cmp_total, pos_same}
 use Rattle.ft_table.specs.Hits.{EntryHits, unsigned_at, sums_of, least_key, first_with}
 use Rattle.ft_maps.specs.Seen.{seen, seen-insert}
 use Rattle.ft_table.proofs.Columns.{column-more}

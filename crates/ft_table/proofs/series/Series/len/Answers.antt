@@ -1,7 +1,7 @@
 -- A map in order has as many entries as the finite map that it is seen as.
 use Rattle.std.proofs.Common.{sym, ap, ◌∙◌}
 use Rattle.std.specs.FinMap as map
-use Rattle.ft_event.specs.Places.{pos_cmp_total}
+use Rattle.ft_fields.specs.Places.{pos_cmp_total}
 use Rattle.ft_maps.specs.Seen.{len-seen}
 use Rattle.ft_table.proofs.series.Series.len.Goals as goal
 

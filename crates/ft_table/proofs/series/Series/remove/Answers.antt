@@ -4,7 +4,7 @@ use Rattle.std.specs.Prelude.{is_some}
 use Rattle.std.specs.List.{sum_by}
 use Rattle.std.specs.FinMap as map
 use Rattle.std.proofs.lemmas.Int.{to_z-of_z}
-use Rattle.ft_event.specs.Places.{pos_cmp, pos_cmp_total, pos_same}
+use Rattle.ft_fields.specs.Places.{pos_cmp, pos_cmp_total, pos_same}
 use Rattle.ft_table.specs.Hits.{EntryHits, unsigned_at, sums_of}
 use Rattle.ft_maps.specs.Seen.{seen, get-seen, seen-remove}
 use Rattle.ft_table.proofs.Columns.{column-less}
