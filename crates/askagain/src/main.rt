@@ -96,7 +96,10 @@ fn print_text<P: Print>(rt: &P, answer: &Result<Answer, Refused>) -> io::Result<
         Ok(Answer::Place(word, place, _)) => println!(rt; "{word} {}:{}", place.cpu, place.line),
         Ok(Answer::Text(text)) => Print::write_all(rt, text.as_slice()),
         Ok(Answer::Totals(totals)) => {
-            println!(rt; "hits {} entries {} dropped {}", totals.hits, totals.entries, totals.dropped)
+            println!(rt;
+                "hits {} entries {} dropped {}",
+                totals.hits, totals.entries, totals.dropped
+            )
         }
         Ok(Answer::Latencies(latencies)) => print_latencies(rt, latencies.as_slice()),
         Err(Refused::Memory) => println!(rt; "memory"),
