@@ -1,9 +1,10 @@
 #!/usr/bin/env bash
-# program.sh [HISTDESK [PLAINDESK [CHECKROWS]]]: runs a program as a user would: the rows, the examples,
+# program.sh [HISTDESK [PLAINDESK [CHECKROWS [ASKAGAIN]]]]: runs a program as a user would: the rows, the examples,
 # words, folders, full disks, limits of files, a script that is typed, growths of memory that are refused,
 # random scripts, and the tools around it (tools.sh). Where PLAINDESK is given, it runs the rows too, and so
-# does CHECKROWS in its own way. Without words, it runs the launcher and those of the other two that are
-# built. It prints what went wrong, and a last line with the counts.
+# does CHECKROWS in its own way; ASKAGAIN asks a second time for what found no memory, in some rows. Without
+# words, it runs the launcher and those of the other three that are built. It prints what went wrong, and a
+# last line with the counts.
 #
 # A row is a folder in tests/rows: a script, its traces, its whole output and its exit status.
 set -uo pipefail
@@ -13,6 +14,7 @@ launcher=$(realpath -- "$here/../histdesk")
 histdesk=$(realpath -- "${1:-$launcher}")
 plaindesk=${2:+$(realpath -- "$2")}
 checkrows=${3:+$(realpath -- "$3")}
+askagain=${4:+$(realpath -- "$4")}
 rows=("$here"/rows/*)
 examples=$here/../examples
 . "$here/counts.sh"
@@ -94,14 +96,28 @@ crowded_row() {
     echo "$1: $(python3 "$here/crowded_script.py" "$2" "$3" "$folder/$1")"
 }
 
-# growths PROGRAM ROW..: with each growth of its memory refused in turn, the program prints a row's whole
-# output, or that of its first commands and that memory ran out. Each row is a test.
-growths() {
-    if ! cc -O2 -shared -fPIC -o "$folder/refuse_growth.so" "$here/refuse_growth.c" -ldl; then
+# refused SCRIPT PROGRAM ROW..: the script refuses growths of the program's memory, in each row. Each row is
+# a test.
+refused() {
+    local library=$folder/refuse_growth.so
+    if ! cc -O2 -shared -fPIC -o "$library" "$here/refuse_growth.c" -ldl; then
         fail "growths refused: not compiled"
         return
     fi
-    holds "$here/growths.py" "$1" "$folder/refuse_growth.so" "${@:2}"
+    holds "$here/$1" "$2" "$library" "${@:3}"
+}
+
+# growths PROGRAM ROW..: with each growth of its memory refused in turn, the program prints a row's whole
+# output, or that of its first commands and that memory ran out.
+growths() {
+    refused growths.py "$@"
+}
+
+# asks_again PROGRAM NAME..: a desk that is asked a second time for what found no memory does what the rows of
+# these names say.
+asks_again() {
+    local names=("${@:2}")
+    refused asked_again.py "$1" "${names[@]/#/$here/rows/}"
 }
 
 # The tools around the program: each of their tests is a test here.
@@ -178,6 +194,7 @@ on_terminal() {
 if (($# == 0)); then
     plaindesk=$(built plaindesk)
     checkrows=$(built checkrows)
+    askagain=$(built askagain)
 fi
 # The launcher builds the program where it is stale, which no limit holds for.
 if ! "$histdesk" - </dev/null >/dev/null; then
@@ -261,6 +278,10 @@ if [[ $histdesk == "$launcher" ]]; then
     histdesk=$here/../crates/histdesk/out/histdesk
 fi
 growths "$histdesk" "${rows[@]}" "$folder"/short/*
+if [[ -n $askagain ]]; then
+    asks_again "$askagain" one_latency full_table_and_early_insert dropped_saver_comes_in \
+        dropped_reading_still_pairs strikes_and_removes each_edit_with_answers edits_in_a_row
+fi
 tools
 holds "$here/documents.py"
 

@@ -6,6 +6,8 @@
      REFUSE_AT=N     the growth of that number is refused
      REFUSE_FROM=N   this one and all behind it are refused
      REFUSE_COUNT=F  the count is written to the file F when the program exits
+     REFUSE_SWITCH=1 growths are counted and refused between the first byte that the program writes to standard error
+                     and the second, the third and the fourth, and so on: each write there turns a switch, off at first
 
    A realloc to fewer bytes goes through as it is: no program needs memory for it. */
 #define _GNU_SOURCE
@@ -18,6 +20,7 @@
 #include <stdio.h>
 #include <stdlib.h>
 #include <string.h>
+#include <sys/syscall.h>
 #include <unistd.h>
 
 /* glibc's own, by the names that need no look-up: dlsym may itself ask for memory. */
@@ -29,6 +32,7 @@ extern void *__libc_memalign(size_t, size_t);
 static atomic_ulong growths;
 static atomic_bool counting;
 static unsigned long at, from;
+static int has_switch;
 static int (*program_main)(int, char **, char **);
 
 static unsigned long number_of(const char *name) {
@@ -73,8 +77,15 @@ int posix_memalign(void **block, size_t align, size_t size) {
     return 0;
 }
 
+ssize_t write(int file, const void *bytes, size_t count) {
+    if (has_switch && file == STDERR_FILENO)
+        counting = !counting;
+    return syscall(SYS_write, file, bytes, count);
+}
+
 static void write_count(void) {
     counting = 0;
+    has_switch = 0;
     const char *path = getenv("REFUSE_COUNT");
     if (path == NULL)
         return;
@@ -91,8 +102,9 @@ static void write_count(void) {
 static int counted_main(int count, char **words, char **environment) {
     at = number_of("REFUSE_AT");
     from = number_of("REFUSE_FROM");
+    has_switch = getenv("REFUSE_SWITCH") != NULL;
     atexit(write_count);
-    counting = 1;
+    counting = !has_switch;
     return program_main(count, words, environment);
 }
 

@@ -1,0 +1,67 @@
+//! The calls of a desk that a script's commands ask for.
+
+use ft_board::KeptBoard;
+use ft_desk::{Desk, Done, Kept, Latency, Place, Refused, Totals};
+use ft_script::Command;
+
+/// What a call answers that isn't refused.
+#[derive(Drop)]
+pub(crate) enum Answer {
+    /// An edit that gives a number, behind the word that it prints.
+    Number(&'static str, u64, Kept),
+    /// An edit that gives a place, behind the word that it prints.
+    Place(&'static str, Place, Kept),
+    /// The text of a table or of a lane.
+    Text(Vec<u8>),
+    /// What a trigger has counted.
+    Totals(Totals),
+    /// What a trigger has measured.
+    Latencies(Vec<Latency>),
+}
+
+/// Does what a command asks of a desk, the Nth trace being what `load @N` loads.
+pub(crate) fn call(
+    desk: &mut Desk<KeptBoard>,
+    traces: &[Vec<u8>],
+    command: Command<'_>,
+) -> Result<Answer, Refused> {
+    match command {
+        Command::Load(number) => {
+            let done = desk.load(nth_trace(traces, number)?)?;
+            Ok(Answer::Number("loaded", done.value, done.kept))
+        }
+        Command::Unload(cpu) => {
+            let done = desk.unload(cpu)?;
+            Ok(Answer::Number("unloaded", done.value, done.kept))
+        }
+        Command::Insert(line) => Ok(of_place("inserted", desk.insert(line)?)),
+        Command::Strike(cpu, line) => Ok(of_place("struck", desk.strike(cpu, line)?)),
+        Command::Attach(event, text) => Ok(of_id("attached", desk.attach(event, text)?)),
+        Command::Refilter(id, text) => Ok(of_id("refiltered", desk.refilter(id, text)?)),
+        Command::Remove(id) => Ok(of_id("removed", desk.remove(id)?)),
+        Command::Hist(id) => Ok(Answer::Text(desk.hist(id)?)),
+        Command::Totals(id) => Ok(Answer::Totals(desk.totals(id)?)),
+        Command::Latencies(id) => Ok(Answer::Latencies(desk.latencies(id)?)),
+        Command::Lane(cpu) => Ok(Answer::Text(desk.list(cpu)?)),
+        Command::Nothing | Command::NoForm => Err(Refused::BadCommand),
+    }
+}
+
+/// The trace of a number, from 1.
+fn nth_trace(traces: &[Vec<u8>], number: u32) -> Result<&[u8], Refused> {
+    let index = number.checked_sub(1).ok_or(Refused::NoFile)?;
+    match traces.get(index as usize) {
+        Some(trace) => Ok(trace.as_slice()),
+        None => Err(Refused::NoFile),
+    }
+}
+
+/// The answer of an edit that gives a trigger's id.
+fn of_id(word: &'static str, done: Done<u32>) -> Answer {
+    Answer::Number(word, u64::from(done.value), done.kept)
+}
+
+/// The answer of an edit that gives a place.
+fn of_place(word: &'static str, done: Done<Place>) -> Answer {
+    Answer::Place(word, done.value, done.kept)
+}

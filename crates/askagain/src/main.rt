@@ -1,0 +1,118 @@
+//! `askagain SCRIPT [TRACE]..`: what a desk over the kept board answers where growths of its memory are
+//! refused in the middle of a script. A call that answers want of memory is made once more at once.
+//!
+//! Behind each call's text stands a line: `-- now`, `-- later` of an accepted edit, else `-- none`; and
+//! then ` deferred` or ` kept`, as the desk is. The text is what the script's run prints, but a refusal
+//! is its number alone, and want of memory is `memory`.
+//!
+//! One byte goes to standard error before each first call and one behind it, so that who refuses
+//! growths, as `tests/refuse_growth.c` does, knows which are those of the call.
+#![tactic(auto)]
+
+mod calls;
+
+use crate::calls::{Answer, call};
+use ft_board::KeptBoard;
+use ft_desk::{Desk, Kept, Latency, Refused};
+use ft_script::{Command, read_command};
+use std::process::ExitCode;
+use std::rt::{Env, Files};
+use std::{env, fs, io};
+
+fn main(rt: HostRuntime) -> ExitCode {
+    match ask_files(&rt) {
+        Ok(()) => ExitCode::from(0),
+        Err(error) => {
+            let _unheeded = eprintln!(rt; "askagain: {error}");
+            ExitCode::from(2)
+        }
+    }
+}
+
+/// Asks a desk what the first of the program's files says; the others are what it may load.
+fn ask_files<P: Env + Files + Print + Eprint + AllocGlobal>(rt: &P) -> io::Result<()> {
+    let files = read_files(rt)?;
+    let Some((script, traces)) = files.as_slice().split_first() else {
+        return Err(io::Error::from(io::ErrorKind::InvalidInput));
+    };
+    let mut desk = Desk::new(rt.alloc(), KeptBoard::new(rt.alloc()));
+    for line in script.as_slice().split(|byte| *byte == b'\n') {
+        match read_command(line) {
+            Command::Nothing => {}
+            command => ask(rt, &mut desk, traces, command)?,
+        }
+    }
+    Ok(())
+}
+
+/// The files that the program's words name, each read whole.
+fn read_files<P: Env + Files + AllocGlobal>(rt: &P) -> io::Result<Vec<Vec<u8>>> {
+    let mut files = Vec::new(rt.alloc());
+    for path in env::args(rt)?.skip(1) {
+        files.push(fs::read(rt, path.as_str())?)?;
+    }
+    Ok(files)
+}
+
+/// Makes a call, and once more where it wants memory; and prints what each answers.
+fn ask<P: Print + Eprint>(
+    rt: &P,
+    desk: &mut Desk<KeptBoard>,
+    traces: &[Vec<u8>],
+    command: Command<'_>,
+) -> io::Result<()> {
+    eprint!(rt; ".")?;
+    let answer = call(desk, traces, command);
+    eprint!(rt; ".")?;
+    print_answer(rt, &answer, desk.is_deferred())?;
+    match answer {
+        Err(Refused::Memory) => {
+            let answer = call(desk, traces, command);
+            print_answer(rt, &answer, desk.is_deferred())
+        }
+        _ => Ok(()),
+    }
+}
+
+/// Prints what a call answered, and how the desk is then.
+fn print_answer<P: Print>(
+    rt: &P,
+    answer: &Result<Answer, Refused>,
+    deferred: bool,
+) -> io::Result<()> {
+    print_text(rt, answer)?;
+    let kept = match answer {
+        Ok(Answer::Number(_, _, Kept::Now) | Answer::Place(_, _, Kept::Now)) => "now",
+        Ok(Answer::Number(_, _, Kept::Later) | Answer::Place(_, _, Kept::Later)) => "later",
+        _ => "none",
+    };
+    println!(rt; "-- {kept} {}", if deferred { "deferred" } else { "kept" })
+}
+
+/// Prints what a call answered.
+fn print_text<P: Print>(rt: &P, answer: &Result<Answer, Refused>) -> io::Result<()> {
+    match answer {
+        Ok(Answer::Number(word, number, _)) => println!(rt; "{word} {number}"),
+        Ok(Answer::Place(word, place, _)) => println!(rt; "{word} {}:{}", place.cpu, place.line),
+        Ok(Answer::Text(text)) => Print::write_all(rt, text.as_slice()),
+        Ok(Answer::Totals(totals)) => {
+            println!(rt;
+                "hits {} entries {} dropped {}",
+                totals.hits, totals.entries, totals.dropped
+            )
+        }
+        Ok(Answer::Latencies(latencies)) => print_latencies(rt, latencies.as_slice()),
+        Err(Refused::Memory) => println!(rt; "memory"),
+        Err(reason) => println!(rt; "refused {}", reason.number()),
+    }
+}
+
+/// Prints latencies, a line each, and how many they are.
+fn print_latencies<P: Print>(rt: &P, latencies: &[Latency]) -> io::Result<()> {
+    for latency in latencies {
+        let (saved, read) = (latency.saved, latency.read);
+        print!(rt; "{}:{} -> ", saved.cpu, saved.line)?;
+        println!(rt; "{}:{}: {} us", read.cpu, read.line, latency.micros)?;
+    }
+    println!(rt; "Latencies: {}", latencies.len())
+}

@@ -1,0 +1,190 @@
+#!/usr/bin/env python3
+"""Refuses growths of a desk's memory in the middle of a script, and holds what it answers then, and asked again.
+
+    asked_again.py ASKAGAIN LIBRARY ROW...
+
+ASKAGAIN is the program of that crate, LIBRARY is built from refuse_growth.c, and ROW is a folder with `script`,
+`trace1`.. and `expected`. Of the growths in the calls that the script's commands make, the Nth is refused, and then in
+other runs each from the Nth on; N goes from 1 to the first that no run reaches. A call that answers want of memory is
+made once more at once, with memory. Of each run is held:
+
+- a call answers what the row says or want of memory, and then, made again, what the row says;
+- `strike`, `unload` and `remove` never answer want of memory;
+- behind an accepted edit the desk is deferred just where the edit answered `Later`, which it never does on a desk that
+  isn't deferred: a `strike` where no attached trigger has a variable, a `remove` of a trigger that reads none;
+- what is refused, or wants memory, leaves the desk deferred or not as it was; but where tables are asked for and the
+  text of the answer wants memory, the desk may be no more deferred;
+- behind a table, totals or latencies that were answered the desk isn't deferred, and a `list` leaves it as it was.
+
+Of a refusal its number alone is compared. A row fails in which no edit ever answered `Later`. There is a line for each
+row, and a last one with the counts.
+"""
+
+import concurrent.futures
+import itertools
+import os
+import re
+import subprocess
+import sys
+import tempfile
+
+EDITS = {"load", "unload", "insert", "strike", "attach", "filter", "remove"}
+TABLES = {"hist", "lat", "totals"}
+NEVER_IN_WANT = {"unload", "strike", "remove"}
+MEMORY = b"memory\n"
+# A run that takes more seconds is ended, and its row fails.
+LIMIT = 120
+
+
+class Wrong(Exception):
+    """What is wrong with a row."""
+
+
+class Answer:
+    def __init__(self, found):
+        self.text, self.kept, self.is_deferred = found[1], found[2].decode(), found[3] == b"deferred"
+        self.is_refused = self.text.startswith(b"refused ")
+
+    def __eq__(self, other):
+        return vars(self) == vars(other)
+
+
+class Desk:
+    """What must be known of a desk to judge its next answer."""
+
+    def __init__(self):
+        self.is_deferred = False
+        # The text of each attached trigger, by its id.
+        self.triggers = {}
+
+    def must_be_now(self, command):
+        word, *others = command.split()
+        if self.is_deferred or word not in ["strike", "remove"]:
+            return False
+        asked = self.triggers.values() if word == "strike" else [self.triggers[int(others[0])]]
+        sign = "=common_timestamp.usecs" if word == "strike" else "=common_timestamp.usecs-$"
+        return not any(sign in text for text in asked)
+
+    def hold(self, command, want, answer, again):
+        """Holds an answer to a command, where the row has the text `want`."""
+        word = command.split()[0]
+        is_memory = answer.text == MEMORY
+        demand(answer.text == want or is_memory and not again, "another answer")
+        demand(not (is_memory and word in NEVER_IN_WANT), "want of memory")
+        is_accepted = word in EDITS and not answer.is_refused and not is_memory
+        demand((answer.kept != "none") == is_accepted, "no word of the kept tables, or one too many")
+        if is_accepted:
+            demand(answer.is_deferred == (answer.kept == "later"), "later, or deferred, and not both")
+            demand(answer.kept == "now" or not self.must_be_now(command), "later without need")
+            self.follow(command, answer)
+        elif word in TABLES and not answer.is_refused and not is_memory:
+            demand(not answer.is_deferred, "deferred behind an answer")
+        elif word in ["hist", "lat"] and is_memory:
+            demand(self.is_deferred or not answer.is_deferred, "deferred by an answer")
+        else:
+            demand(answer.is_deferred == self.is_deferred, "deferred otherwise than before")
+        self.is_deferred = answer.is_deferred
+
+    def follow(self, command, answer):
+        """Attaches or removes what an accepted edit does."""
+        word, *others = command.split(maxsplit=2)
+        if word == "attach":
+            self.triggers[int(answer.text.split()[1])] = others[1]
+        elif word == "remove":
+            del self.triggers[int(others[0])]
+
+
+def demand(holds, otherwise):
+    if not holds:
+        raise Wrong(otherwise)
+
+
+class Row:
+    def __init__(self, program, library, path, folder):
+        self.program, self.library, self.path, self.folder = os.path.abspath(program), os.path.abspath(library), path, folder
+        lines = self.bytes_of("script").decode().split("\n")
+        self.commands = [line for line in lines if line.strip(" ") and line[0] != "#"]
+        traces = (os.path.join(path, f"trace{number}") for number in itertools.count(1))
+        self.files = [os.path.join(path, "script"), *itertools.takewhile(os.path.exists, traces)]
+
+    def bytes_of(self, name):
+        with open(os.path.join(self.path, name), "rb") as file:
+            return file.read()
+
+    def run(self, **more):
+        """The answers of a run, and how many growths its calls made."""
+        path = os.path.join(self.folder, "count")
+        env = {**os.environ, "LD_PRELOAD": self.library, "REFUSE_SWITCH": "1", "REFUSE_COUNT": path, **more}
+        command = [self.program, *self.files]
+        ran = subprocess.run(command, env=env, stdin=subprocess.DEVNULL, capture_output=True, timeout=LIMIT)
+        # The switch is turned twice for each command; else the driver itself has met a fault.
+        demand(ran.returncode == 0 and ran.stderr == b".." * len(self.commands), f"status {ran.returncode}, {ran.stderr}")
+        form = rb"(.*?)^-- (now|later|none) (deferred|kept)\n"
+        answers = [Answer(found) for found in re.finditer(form, ran.stdout, re.MULTILINE | re.DOTALL)]
+        with open(path) as file:
+            return answers, int(file.read())
+
+    def hold(self, wanted, answers):
+        """Holds the answers of a run, where the row has the texts `wanted`."""
+        desk, left = Desk(), iter(answers)
+        for command, want in zip(self.commands, wanted):
+            for again in [False, True]:
+                answer = next(left, None)
+                try:
+                    demand(answer is not None, "no answer")
+                    desk.hold(command, want, answer, again)
+                except Wrong as wrong:
+                    raise Wrong(f"{command}: {wrong}") from wrong
+                if answer.text != MEMORY:
+                    break
+        demand(next(left, None) is None, "more answers than commands")
+
+    def series(self, mode, plain):
+        """How many growths were refused, or those from each on, and in how many runs an edit answered `Later`."""
+        wanted, later = [answer.text for answer in plain], 0
+        for number in itertools.count(1):
+            try:
+                answers, made = self.run(**{mode: str(number)})
+                self.hold(wanted, answers)
+                demand(made >= number or answers == plain, "another answer, with nothing refused")
+            except Wrong as wrong:
+                raise Wrong(f"{mode}={number}: {wrong}") from wrong
+            if made < number:
+                return number - 1, later
+            later += any(answer.kept == "later" for answer in answers)
+
+    def check(self):
+        """What was run."""
+        plain, _ = self.run()
+        demand(len(plain) == len(self.commands), "as many answers as commands")
+        expected = re.sub(rb"^(refused \d+).*$", rb"\1", self.bytes_of("expected"), flags=re.MULTILINE)
+        demand(b"".join(answer.text for answer in plain) == expected, "nothing refused, and another output")
+        self.hold([answer.text for answer in plain], plain)
+        demand(not any(answer.is_deferred for answer in plain), "nothing refused, and deferred")
+        alone, alone_later = self.series("REFUSE_AT", plain)
+        onward, onward_later = self.series("REFUSE_FROM", plain)
+        demand(alone_later + onward_later > 0, "no edit answered Later")
+        return f"{alone} growths alone, {alone_later} runs with Later; from each of {onward} on, {onward_later} with Later"
+
+
+def check(program, library, path):
+    """Whether a row holds, and what was run or is wrong."""
+    with tempfile.TemporaryDirectory() as folder:
+        try:
+            return True, Row(program, library, path, folder).check()
+        except (Wrong, OSError, ValueError, KeyError, subprocess.TimeoutExpired) as wrong:
+            return False, f"{type(wrong).__name__}: {wrong}"
+
+
+def main():
+    program, library, *paths = sys.argv[1:]
+    with concurrent.futures.ThreadPoolExecutor(len(os.sched_getaffinity(0))) as pool:
+        results = list(pool.map(lambda path: check(program, library, path), paths))
+    for path, (_, told) in zip(paths, results):
+        print(f"asked again, {os.path.basename(path)}: {told}")
+    good = sum(holds for holds, _ in results)
+    print(f"{good} of {len(paths)} rows hold")
+    sys.exit(good < len(paths))
+
+
+main()
