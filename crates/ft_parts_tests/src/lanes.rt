@@ -7,7 +7,7 @@ use std::test::*;
 
 /// An event of no named kind, told from others by its stamp. None where no event is so.
 fn event_at(cpu: u16, stamp: u64) -> Option<Event> {
-    if cpu > 8191 || stamp > 4_294_967_295_999_999 {
+    if u32::from(cpu) > Event::LAST_CPU || stamp > 4_294_967_295_999_999 {
         return None;
     }
     Some(Event {
