@@ -2,6 +2,7 @@ pub mod Acts
 pub mod Bounds
 pub mod Codes
 pub mod Entries
+pub mod Memory
 pub mod Repairs
 pub mod Shelves
 pub mod Switches

@@ -1,6 +1,6 @@
 //! Acts that come: what is kept is repaired at one trigger, or at all triggers of an event.
 
-ghost use Rattle.std.specs.Prelude.{◌≡◌, ◌+◌, ◌*◌, ◌≤◌, ◌⊎◌, Some, OnOk, option_map};
+ghost use Rattle.std.specs.Prelude.{◌≡◌, ◌+◌, ◌*◌, ◌≤◌, ◌⊎◌, Some, None, Ok, OnOk, option_map};
 ghost use Rattle.std.specs.Ordering.{nat_cmp};
 ghost use Rattle.std.specs.FinMap as map;
 ghost use Rattle.ft_hist.specs.Hit.{hit};
@@ -9,6 +9,7 @@ ghost use Rattle.ft_hist.specs.Tests.{count_on, asked};
 ghost use Rattle.ft_maps.specs.Seen.{seen};
 ghost use Rattle.ft_pairs.specs.declared.role.Role.TheVariants.{Plain, Reads};
 ghost use Rattle.ft_kept.specs.Bounds.{SaverMoves, SomeSaverMoves, OtherSaversStay, with_hit_of};
+ghost use Rattle.ft_kept.specs.Memory.{IsNoHit};
 ghost use Rattle.ft_kept.specs.Repairs.{AreShelved, CanCome, HasCome, EventCanCome, EventHasCome};
 ghost use Rattle.ft_kept.specs.Shelves.{FormsStay, role_on};
 ghost use Rattle.ft_kept.specs.inner.Acting.{MayCome, Came};
@@ -29,7 +30,7 @@ use std::collections::BTreeMap;
 impl Tables {
     /// An event that is held comes to each trigger that it is a hit of, in order of id. Tests it
     /// against the triggers on its name alone. Refused for memory, and then the tables are of no
-    /// use any more.
+    /// use any more; an event that is no hit takes none.
     pub fn event_comes(
         &mut self,
         triggers: &BTreeMap<u32, Trigger>,
@@ -49,6 +50,7 @@ impl Tables {
         ensures puts { (work.new.puts
             ≤ work.old.puts + 3 * count_on (seen nat_cmp triggers.now) event.now)
             ⊎ SomeSaverMoves (with_hit_of pos event.now) (seen nat_cmp triggers.now) self.old }
+        ensures memory { IsNoHit (seen nat_cmp triggers.now) event.now → result ≡ Ok tt }
         ensures grow { StepsGrow work.old work.new }
     {
         for (id, trigger) in entries(triggers) {
@@ -82,6 +84,7 @@ impl Tables {
         ensures evals { work.new.evals ≡ work.old.evals + asked trigger.now event.now }
         ensures puts { (work.new.puts ≤ work.old.puts + 3 * asked trigger.now event.now)
             ⊎ SaverMoves (with_hit_of at.pos event.now) trigger.now self.old at.trigger }
+        ensures memory { hit trigger.now event.now ≡ None → result ≡ Ok tt }
         ensures grow { StepsGrow work.old work.new }
     {
         let Some(key) = key_at(trigger, event, work) else {

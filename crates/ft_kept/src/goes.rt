@@ -1,6 +1,6 @@
 //! Acts that go: what is kept is repaired at one trigger, or at all triggers of an event.
 
-ghost use Rattle.std.specs.Prelude.{◌≡◌, ◌+◌, ◌*◌, ◌≤◌, ◌⊎◌, Some, OnOk, option_map};
+ghost use Rattle.std.specs.Prelude.{◌≡◌, ◌+◌, ◌*◌, ◌≤◌, ◌⊎◌, Some, Ok, OnOk, option_map};
 ghost use Rattle.std.specs.Ordering.{nat_cmp};
 ghost use Rattle.ft_hist.specs.Hit.{hit};
 ghost use Rattle.ft_hist.specs.Steps.{StepsGrow};
@@ -8,6 +8,7 @@ ghost use Rattle.ft_hist.specs.Tests.{count_on, asked};
 ghost use Rattle.ft_maps.specs.Seen.{seen};
 ghost use Rattle.ft_pairs.specs.declared.role.Role.TheVariants.{Plain, Reads};
 ghost use Rattle.ft_kept.specs.Bounds.{SaverMoves, SomeSaverMoves, OtherSaversStay, without_hit_of};
+ghost use Rattle.ft_kept.specs.Memory.{ActsPlainly, IsPlainHit};
 ghost use Rattle.ft_kept.specs.Repairs.{AreShelved, CanGo, HasGone, EventCanGo, EventHasGone};
 ghost use Rattle.ft_kept.specs.Shelves.{FormsStay, role_on};
 ghost use Rattle.ft_kept.specs.inner.Acting.{MayGo, Went};
@@ -27,7 +28,7 @@ use std::collections::BTreeMap;
 impl Tables {
     /// An event that is still held goes from each trigger that it is a hit of, in order of id. Tests
     /// it against the triggers on its name alone. Refused for memory, and then the tables are of no
-    /// use any more.
+    /// use any more; at triggers without a variable it takes none.
     pub fn event_goes(
         &mut self,
         triggers: &BTreeMap<u32, Trigger>,
@@ -46,6 +47,7 @@ impl Tables {
         ensures puts { (work.new.puts
             ≤ work.old.puts + 3 * count_on (seen nat_cmp triggers.now) event.now)
             ⊎ SomeSaverMoves (without_hit_of pos event.now) (seen nat_cmp triggers.now) self.old }
+        ensures memory { IsPlainHit (seen nat_cmp triggers.now) self.old event.now → result ≡ Ok tt }
         ensures grow { StepsGrow work.old work.new }
     {
         for (id, trigger) in entries(triggers) {
@@ -77,6 +79,7 @@ impl Tables {
         ensures evals { work.new.evals ≡ work.old.evals + asked trigger.now event.now }
         ensures puts { (work.new.puts ≤ work.old.puts + 3 * asked trigger.now event.now)
             ⊎ SaverMoves (without_hit_of at.pos event.now) trigger.now self.old at.trigger }
+        ensures memory { ActsPlainly self.old at.trigger trigger.now event.now → result ≡ Ok tt }
         ensures grow { StepsGrow work.old work.new }
     {
         let Some(key) = key_at(trigger, event, work) else {

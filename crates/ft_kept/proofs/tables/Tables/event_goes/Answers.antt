@@ -1,4 +1,6 @@
-use Rattle.std.proofs.Common.{◌≡◌, ℕ, ◌+◌, ◌*◌, false, List, ◌∷◌, sym, ap, subst, ◌∙◌, Some, arith}
+use Rattle.std.proofs.Common.{◌≡◌, ℕ, ◌+◌, ◌*◌, false, List, ◌∷◌, sym, ap, subst, ◌∙◌, Bool, true, Some, Ok, Err, Result, arith}
+use Rattle.std.specs.Result.{result_from_control_flow}
+use Rattle.std.specs.declared.alloc.AllocError.{AllocError}
 use Rattle.std.specs.Ordering.{nat_cmp}
 use Rattle.std.specs.Cmp.{nat_cmp_total}
 use Rattle.std.specs.List.{AllByRecursion}
@@ -107,6 +109,22 @@ returns-clause-right c = λ events present held kept.
     (between (acts_of triggers events) (acts_of triggers (map.remove events c.args.pos)) c.args.pos (all_but es)) (kept_on c.loop-id.self))
     (rest_all (deref_pair {K = ℕ} {X = Hist}) _ _ _ c.in-None.is c.next.ensures.steps)
     (c.loop-id.invariant.right events present held kept))
+
+-- whether a call went through
+abbrev went : Result Unit AllocError → Bool
+went (Ok done) = true
+went (Err fault) = false
+
+pub returns-in_err-goes_from-clause-memory : goal.returns-in_err-goes_from-clause-memory
+returns-in_err-goes_from-clause-memory c plain =
+    let triggers : FinMap nat_cmp Hist = seen nat_cmp c.args.triggers.now in
+    let e : ℕ × Hist = (c.in-Some.id.now, c.in-Some.trigger.now) in
+    let more : c.loop-id.id-iterator ≡ e ∷ c.next.new.self = rest_more (deref_pair {K = ℕ} {X = Hist}) _ _ _ _ c.in-Some.is c.next.ensures.steps in
+    let attached : AllByRecursion (λ (e : ℕ × Hist). map.get triggers e.0 ≡ Some e.1) (e ∷ c.next.new.self) = subst (AllByRecursion (λ (e : ℕ × Hist). map.get triggers e.0 ≡ Some e.1)) more c.loop-id.invariant.attached in
+    let done : c.goes_from.result ≡ Ok tt =
+    c.goes_from.ensures.memory (λ key counted. roles_stay c.args.self.now c.loop-id.self c.loop-id.invariant.forms e.0 ∙ plain e.0 e.1 attached.0 key counted) in
+    let both : ◌≡◌ {A = Bool} true false = ap went (sym done) ∙ ap went c.branch-goes_from.ensures ∙ ap (λ flow. went (result_from_control_flow flow)) c.in_err-goes_from.is in
+    absurd cc
 
 pub returns-in_err-goes_from-clause-puts : goal.returns-in_err-goes_from-clause-puts
 returns-in_err-goes_from-clause-puts c =
