@@ -38,7 +38,7 @@ type Line = (Act, u16, u64);
 /// An event of a line. Refused where no event has such a CPU or stamp.
 fn event_of(line: Line) -> Result<Event, Refused> {
     let (act, cpu, stamp) = line;
-    if u32::from(cpu) > Event::LAST_CPU || stamp > 4_294_967_295_999_999 {
+    if cpu > 8191 || stamp > 4_294_967_295_999_999 {
         return Err(Refused::BadCommand);
     }
     let Some(comm) = Comm::of(b"w") else {

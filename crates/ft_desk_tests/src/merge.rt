@@ -12,10 +12,7 @@ use std::test::*;
 /// Adds a waking, or another event, behind those of a CPU: its line. None where there is no such
 /// event, or no room.
 fn pushed(lanes: &mut Lanes, cpu: u16, stamp: u64, wakes: bool) -> Option<u32> {
-    if u32::from(cpu) > Event::LAST_CPU
-        || stamp > 4_294_967_295_999_999
-        || lanes.next_line(cpu) > 4_294_967_295
-    {
+    if cpu > 8191 || stamp > 4_294_967_295_999_999 || lanes.next_line(cpu) > 4_294_967_295 {
         return None;
     }
     let comm = Comm::of(b"w")?;
