@@ -1,7 +1,6 @@
 -- What it costs that one event comes to a board's tables or goes: few steps, where savers keep their keys.
 use Rattle.std.proofs.Common.{◌≡◌, ◌+◌, ◌*◌, ◌≤◌, sym, ap, subst, ◌∙◌, Option, Some, None, Ok, inl, inr, unwrap_or}
 use Rattle.std.specs.Prelude.{◌⊎◌}
-use Rattle.std.proofs.Math.Nat.{le-add_right}
 use Rattle.std.specs.FinMap as map
 use Rattle.ft_fields.specs.Places.{pos_cmp_total, pos_same}
 use Rattle.ft_fields.specs.Traced.{Traced}
@@ -27,10 +26,6 @@ use Rattle.ft_board.proofs.KeptBoardLanes.{absent_before, merged_one_more, place
 use Rattle.ft_board.proofs.KeptEntries.{OneSource}
 use Rattle.ft_board.proofs.SaverHits.{taken_again}
 use Rattle.ft_board.proofs.SaverKeys.{come_stays, go_stays}
-
--- no step is within the cost
-pub no_step : (triggers : Triggers) (event : Traced) (before after : Events) (steps : Steps) → CostsOf triggers event before after steps steps
-no_step triggers event before after steps = record { evals = le-add_right steps.evals (count_on triggers event); puts = λ _. le-add_right steps.puts (3 * count_on triggers event) }
 
 -- three puts a trigger at most, or some saver's keys change
 abbrev pub FewOr : Triggers → Traced → Type 0 → Steps → Steps → Type 0

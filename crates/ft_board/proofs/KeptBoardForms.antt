@@ -1,10 +1,8 @@
 -- The shelves of a board's triggers: their roles, and that they stay as events come and go.
-use Rattle.std.proofs.Common.{◌≡◌, ℕ, true, refl, sym, ap, subst, ◌∙◌, Option, Some, None, unwrap_or, is_some, List}
+use Rattle.std.proofs.Common.{◌≡◌, ℕ, true, refl, sym, ap, subst, ◌∙◌, Option, Some, None, unwrap_or, is_some}
 use Rattle.std.specs.Option.{option_map_or}
 use Rattle.std.specs.FinMap as map
 use Rattle.ft_hist.specs.Hist.{Hist}
-use Rattle.ft_hist.specs.declared.label.Var.{Var}
-use Rattle.ft_hist.specs.declared.label.Var.TheVariants as vars
 use Rattle.ft_kept.specs.Acts.{Acts}
 use Rattle.ft_kept.specs.Entries.{IsKept}
 use Rattle.ft_kept.specs.Repairs as repairs
@@ -12,12 +10,12 @@ use Rattle.ft_pairs.specs.Roles.{Admits}
 use Rattle.ft_kept.specs.Shelves.{Shelved, Shelves, Kept, FormStays, FormsStay, role_on}
 use Rattle.ft_table.specs.Values.{values_by}
 use Rattle.ft_pairs.specs.declared.role.Role.{Role}
-use Rattle.ft_pairs.specs.declared.role.Role.TheVariants.{Plain, Saves, Reads}
+use Rattle.ft_pairs.specs.declared.role.Role.TheVariants.{Plain, Reads}
 use Rattle.ft_base.proofs.Savers.{reads_of}
 use Rattle.ft_base.specs.Base.{Triggers}
 use Rattle.ft_board.specs.KeptShelves.{HasItsShelf}
 use Rattle.ft_base.specs.Reachable.{HasSaver, HasSavers}
-use Rattle.ft_base.specs.Roles.{role_of, role_at, saver_of}
+use Rattle.ft_base.specs.Roles.{role_of, role_at}
 
 -- each attached trigger has its shelf
 abbrev pub HaveShelves : Triggers → Shelves → Type 0
@@ -45,6 +43,11 @@ module _ (triggers : Triggers) (shelves : Shelves) (has : HaveShelves triggers s
   pub shelves_role : (id : ℕ) → role_on shelves id ≡ role_at triggers id
   unfolding role_on role_at
   shelves_role id = same_role triggers (map.get triggers id) (map.get shelves id) (has id)
+
+  -- the shelf of a trigger without a variable has none
+  pub plain_shelf : (id : ℕ) (hist : Hist) → map.get triggers id ≡ Some hist → hist.variable ≡ None → role_on shelves id ≡ Plain
+  unfolding role_at
+  plain_shelf id hist there none = shelves_role id ∙ ap (λ (o : Option Hist). option_map_or (λ (h : Hist). role_of triggers h.variable) o Plain) there ∙ ap (role_of triggers) none
 
   roles : role_on shelves ≡ role_at triggers
   roles i id = shelves_role id i

@@ -18,7 +18,8 @@ use Rattle.ft_base.specs.declared.refused.Place.{Place}
 use Rattle.ft_base.specs.After.{after_insert}
 use Rattle.ft_base.specs.Base.{Base}
 use Rattle.ft_board.specs.KeptShelves.{AreKeptOf, AreKept}
-use Rattle.ft_board.specs.inner.ButOneEvent.{AreKeptWithout}
+use Rattle.ft_board.specs.inner.ButOneEvent.{AreKeptWithout, IsMissed}
+use Rattle.ft_replay.specs.Deferral.{IsNoHit}
 use Rattle.ft_replay.specs.Merged.{Events, merged}
 use Rattle.ft_base.specs.Reachable.{IsReachable}
 use Rattle.ft_base.proofs.Cases.{insert-gives}
@@ -104,6 +105,10 @@ inserted_kept base new event place reachable answer shelves kept =
           subst (λ (e : Traced). let p : Pos = record { stamp = e.stamp; cpu = event.cpu; line = (lane_or_new base.lanes event.cpu).next } in (map.get (merged base.lanes) p ≡ None) × (map.insert (merged base.lanes) p e ≡ merged (lanes_with base.lanes event))) same
           (absent_before base reachable event, merged_one_more base reachable event);
     })
+
+-- the line that it has got holds it, and the triggers are those before
+pub inserted_missed : (base new : Base) (event : Traced) (place : Place) → after_insert base event ≡ Ok (new, place) → IsNoHit base.triggers event → IsMissed new place
+inserted_missed base new event place answer none = subst (λ (given : Base × Place). IsMissed given.0 given.1) (insert-gives base event new place answer) (event, (new_line_has base event, none))
 
 -- and where nothing is kept, nothing has to come
 pub inserted_if : (base new : Base) (event : Traced) (place : Place) → IsReachable base → after_insert base event ≡ Ok (new, place) → (kept : Option Shelves) → IfSome kept (AreKeptOf base) → IfSome kept (AreKeptWithout new place)

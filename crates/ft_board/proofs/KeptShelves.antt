@@ -12,8 +12,10 @@ use Rattle.ft_hist.specs.Hit.{hit}
 use Rattle.ft_keys.specs.Ties.{key_same}
 use Rattle.ft_keys.specs.declared.key.Part.{Part}
 use Rattle.ft_kept.specs.Shelves.{Shelved, Shelves, admits_on, is_saver, kept_on}
+use Rattle.ft_pairs.specs.declared.at.At.{At}
 use Rattle.ft_pairs.specs.declared.role.Role.{Role}
 use Rattle.ft_pairs.specs.declared.role.Role.TheVariants.{Saves, Reads}
+use Rattle.ft_pairs.specs.declared.role.Variable.{Variable}
 use Rattle.ft_maps.specs.Entries.{same_from_tie}
 use Rattle.ft_table.specs.Growth.{InGrows, RowsGrow, TotalsGrow}
 use Rattle.ft_table.specs.Hits.{Hits, same_key}
@@ -25,7 +27,7 @@ use Rattle.ft_replay.specs.Merged.{Events}
 use Rattle.ft_replay.specs.Hits.{TriggerHit, hit_at, hits_of, table_for}
 use Rattle.ft_replay.specs.Found.{values_found, saving_found, pairs_in}
 use Rattle.ft_board.specs.KeptShelves.{AreKept, HasItsShelf, IsShelfOf}
-use Rattle.ft_replay.specs.Operations.{is_admitted}
+use Rattle.ft_replay.specs.Operations.{is_admitted, ops_on}
 use Rattle.ft_replay.specs.Replay.{replay}
 use Rattle.ft_base.specs.Roles.{role_at}
 use Rattle.ft_replay.specs.Tally.{tally_of}
@@ -85,6 +87,10 @@ module _ (rows : RowsGrow) (totals : TotalsGrow) (members : InGrows) (one : OneS
       no_reader : (saver : ℕ) → ◌≡◌ {A = Role} Saves (Reads saver) → ⊥
       no_reader saver same = absurd cc
 
+  -- the operations that are kept are those of the whole replay
+  pub ops-on : (variable : Variable) (at : At) → (kept_on shelves).ops variable at ≡ ops_on triggers events variable at
+  ops-on variable at = ops-are triggers events (admits_on shelves) (kept_on shelves) kept.kept admitted variable at
+
   replayed-at : (id : ℕ) (hist : Hist) → map.get triggers id ≡ Some hist → (at : Pos) → IsReplayedAt triggers events (kept_on shelves) id at
   replayed-at id hist attached at =
       as-replayed triggers events (admits_on shelves) (kept_on shelves) kept.kept one id hist attached at
@@ -98,7 +104,8 @@ module _ (rows : RowsGrow) (totals : TotalsGrow) (members : InGrows) (one : OneS
     pub table-of : shelf.table ≡ table_for hist (hits_of triggers events id)
     table-of = sym (table-is id hist shelf attached there) ∙ ap (table_for hist) (values-are triggers events id shelf.table.hits hits-are)
 
-    readings-are : (at : Pos) → map.get shelf.readings at ≡ saving_found triggers events id at
+    -- its readings found there what is kept of them
+    pub readings-are : (at : Pos) → map.get shelf.readings at ≡ saving_found triggers events id at
     readings-are at = sym (read-on id hist shelf attached there at) ∙ (replayed-at id hist attached at).read
 
     -- a shelf gives the tally that replaying gives

@@ -1,6 +1,6 @@
 -- What holds of tables that a repair left, where it went through.
-use Rattle.std.proofs.Common.{Option, Result, Ok, Err, OnOk}
-use Rattle.std.specs.Option.{IfSome}
+use Rattle.std.proofs.Common.{◌≡◌, false, refl, sym, ap, ◌∙◌, Option, Some, None, Result, Ok, Err, OnOk}
+use Rattle.std.specs.Option.{IfSome, is_none}
 use Rattle.ft_kept.specs.Shelves.{Shelves}
 use Rattle.ft_board.specs.inner.Repaired.{if_ok}
 
@@ -12,3 +12,12 @@ repaired_if P tables (Err fault) holds = tt
 pub both_ok : {E A B C : Type 0} (repaired : Result Unit E) → (A → B → C) → OnOk repaired A → OnOk repaired B → OnOk repaired C
 both_ok (Ok done) then a b = then a b
 both_ok (Err fault) then a b = tt
+
+-- where it went through, there are tables
+pub repaired_there : {E A : Type 0} (tables : Shelves) (repaired : Result Unit E) (kept : Option Shelves) → kept ≡ if_ok tables repaired → repaired ≡ Ok tt → kept ≡ None → A
+repaired_there tables repaired kept is ok gone = let both : ◌≡◌ {A = Option Shelves} (Some tables) None = ap (if_ok tables) (sym ok) ∙ sym is ∙ gone in absurd cc
+
+-- where tables are given up only if there were none, they are there if there were some
+pub still_there : (old new : Option Shelves) → (new ≡ None → old ≡ None) → is_none old ≡ false → is_none new ≡ false
+still_there old None back there = ap is_none (sym (back refl)) ∙ there
+still_there old (Some tables) back there = refl

@@ -3,11 +3,16 @@
 ghost use Rattle.std.specs.Prelude.{◌≡◌, ℕ, Some};
 ghost use Rattle.std.specs.FinMap as map;
 ghost use Rattle.ft_hist.specs.Hist.{Hist};
-ghost use Rattle.ft_kept.specs.Shelves.{Shelved, Shelves};
+ghost use Rattle.ft_fields.specs.declared.pos.Pos.{Pos};
+ghost use Rattle.ft_kept.specs.Shelves.{Shelved, Shelves, kept_on};
+ghost use Rattle.ft_pairs.specs.declared.at.At.{At};
+ghost use Rattle.ft_pairs.specs.declared.role.Variable.{Variable};
 ghost use Rattle.ft_table.specs.Rows.{AllFit};
 ghost use Rattle.ft_base.specs.Base.{Triggers};
 ghost use Rattle.ft_replay.specs.Merged.{Events};
-ghost use Rattle.ft_replay.specs.Found.{pairs_in};
+ghost use Rattle.ft_replay.specs.Found.{pairs_in, saving_found};
+ghost use Rattle.ft_replay.specs.Hits.{hits_of, table_for};
+ghost use Rattle.ft_replay.specs.Operations.{ops_on};
 ghost use Rattle.ft_board.specs.KeptShelves.{AreKept};
 ghost use Rattle.ft_replay.specs.Replay.{replay};
 ghost use Rattle.ft_replay.specs.Tally.{tally_of};
@@ -16,7 +21,9 @@ pub use crate::kept::kept_board_keeps;
 
 /// A law: where shelves keep what the triggers' acts at events say, told place by place, a
 /// trigger's shelf gives the tally that replaying the events gives it, and the keys of its hits fit
-/// the trigger's key items.
+/// the trigger's key items. Its table is made of the hits that the trigger has in the whole replay,
+/// its readings found there what is kept of them, and the operations that are kept on a variable are
+/// those of the whole replay.
 pub fn kept_shelves()
     ensures tally { (triggers : Triggers) (events : Events) (shelves : Shelves)
         → AreKept triggers events shelves → (id : ℕ) (hist : Hist) (shelf : Shelved)
@@ -27,6 +34,17 @@ pub fn kept_shelves()
         → AreKept triggers events shelves → (id : ℕ) (hist : Hist) (shelf : Shelved)
         → map.get triggers id ≡ Some hist → map.get shelves id ≡ Some shelf
         → AllFit shelf.table hist }
+    ensures hits { (triggers : Triggers) (events : Events) (shelves : Shelves)
+        → AreKept triggers events shelves → (id : ℕ) (hist : Hist) (shelf : Shelved)
+        → map.get triggers id ≡ Some hist → map.get shelves id ≡ Some shelf
+        → shelf.table ≡ table_for hist (hits_of triggers events id) }
+    ensures readings { (triggers : Triggers) (events : Events) (shelves : Shelves)
+        → AreKept triggers events shelves → (id : ℕ) (hist : Hist) (shelf : Shelved)
+        → map.get triggers id ≡ Some hist → map.get shelves id ≡ Some shelf → (at : Pos)
+        → map.get shelf.readings at ≡ saving_found triggers events id at }
+    ensures ops { (triggers : Triggers) (events : Events) (shelves : Shelves)
+        → AreKept triggers events shelves → (variable : Variable) (at : At)
+        → (kept_on shelves).ops variable at ≡ ops_on triggers events variable at }
 {
     ft_hist::laws::fitting_parts();
     ft_table::laws::one_more_hit();

@@ -1,9 +1,11 @@
 //! Tables that one trigger leaves: the others' stay as they are.
 
-ghost use Rattle.std.specs.Prelude.{◌≡◌, None, Some, IfSome, OnOk};
+ghost use Rattle.std.specs.Prelude.{◌≡◌, false, None, Some, Ok, IfSome, OnOk};
 ghost use Rattle.std.specs.Option.{is_none};
 ghost use Rattle.std.specs.FinMap as map;
 ghost use Rattle.ft_hist.specs.Steps.{StepsGrow};
+ghost use Rattle.ft_base.specs.Roles.{is_reader};
+ghost use Rattle.ft_replay.specs.Deferral.{ReadsNothing};
 ghost use Rattle.ft_replay.specs.Edited.{kept_of};
 ghost use Rattle.ft_board.specs.KeptShelves.{AreKeptOf};
 ghost use Rattle.ft_base.specs.OneTrigger.{IsUnread};
@@ -19,7 +21,7 @@ use ft_replay::{Kept, Names, events_with};
 use std::alloc::{AllocError, Global};
 
 /// A trigger that is still attached, and that no other reads, leaves the tables. Where memory runs
-/// out, the tables are given up.
+/// out, the tables are given up; one that reads nothing takes none.
 pub(crate) fn leave(
     kept: &mut Option<Tables>,
     alloc: Global,
@@ -32,6 +34,7 @@ pub(crate) fn leave(
     ensures kept { IfSome kept.new (AreKeptBut id content.now) }
     ensures deferred { kept.old ≡ None → kept.new ≡ None }
     ensures answer { result ≡ kept_of (is_none kept.new) }
+    ensures now { ReadsNothing content.now.triggers id → kept.new ≡ None → kept.old ≡ None }
     ensures grow { StepsGrow work.old work.new }
 {
     let Some(mut tables) = kept.take() else {
@@ -60,6 +63,7 @@ fn take_trigger(
     requires attached { map.get content.now.triggers id ≡ Some trigger.now }
     requires kept { AreKeptOf content.now tables.old }
     ensures but { OnOk result (AreKeptBut id content.now tables.new) }
+    ensures memory { is_reader trigger.now.variable ≡ false → result ≡ Ok tt }
     ensures grow { StepsGrow work.old work.new }
 {
     if is_reader(trigger) {

@@ -6,6 +6,7 @@ ghost use Rattle.ft_hist.specs.Steps.{StepsGrow};
 ghost use Rattle.ft_replay.specs.Edited.{kept_of};
 ghost use Rattle.ft_board.specs.KeptShelves.{AreKeptOf};
 ghost use Rattle.ft_board.specs.inner.ButOneEvent.{ComesAtCost, GoesAtCost, AreKeptWithout};
+ghost use Rattle.ft_board.specs.inner.ButOneEvent.{IsMissed, IsPlain};
 ghost use Rattle.ft_board.specs.inner.Repaired.{if_ok};
 
 use ft_base::{Content, Place};
@@ -16,7 +17,7 @@ use ft_replay::Kept;
 use std::alloc::AllocError;
 
 /// The event of a place, which is held already, comes to the tables. Where memory runs out, the
-/// tables are given up.
+/// tables are given up; an event that is no hit takes none.
 pub(crate) fn let_come(
     kept: &mut Option<Tables>,
     content: &Content,
@@ -27,6 +28,7 @@ pub(crate) fn let_come(
     ensures kept { IfSome kept.new (AreKeptOf content.now) }
     ensures deferred { kept.old ≡ None → kept.new ≡ None }
     ensures answer { result ≡ kept_of (is_none kept.new) }
+    ensures now { IsMissed content.now place → kept.new ≡ None → kept.old ≡ None }
     ensures costs { ComesAtCost content.now place work.old work.new }
     ensures grow { StepsGrow work.old work.new }
 {
@@ -49,7 +51,7 @@ pub(crate) fn let_come(
 }
 
 /// The event of a place, which is still held, goes from the tables. Where memory runs out, the
-/// tables are given up.
+/// tables are given up; an event that is a hit of triggers without a variable alone takes none.
 pub(crate) fn let_go(
     kept: &mut Option<Tables>,
     content: &Content,
@@ -60,6 +62,7 @@ pub(crate) fn let_go(
     ensures kept { IfSome kept.new (AreKeptWithout content.now place) }
     ensures deferred { kept.old ≡ None → kept.new ≡ None }
     ensures answer { result ≡ kept_of (is_none kept.new) }
+    ensures now { IsPlain content.now place → kept.new ≡ None → kept.old ≡ None }
     ensures costs { GoesAtCost content.now place work.old work.new }
     ensures grow { StepsGrow work.old work.new }
 {

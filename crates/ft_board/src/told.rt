@@ -43,6 +43,8 @@ pub(crate) fn shelf_in(kept: &Option<Tables>, id: u32) -> Option<&Shelf>
         → map.get base.triggers id ≡ Some hist
         → IfSome (option_copied result) (Tells base id hist) }
     ensures there { IfSome result (λ _. IsSome kept.now) }
+    ensures found { (base : Base) (hist : Hist) → IfSome kept.now (AreKeptOf base)
+        → map.get base.triggers id ≡ Some hist → result ≡ None → kept.now ≡ None }
 {
     laws::kept_shelves();
     match kept {

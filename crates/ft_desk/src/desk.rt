@@ -44,6 +44,8 @@ impl<B: Board> Desk<B> {
     ghost use Rattle.ft_fields.specs.Traced.{Traced};
     ghost use Rattle.ft_replay.specs.Held.{event_at};
     ghost use Rattle.ft_replay.specs.Costs.{EditCounts, RepairCosts, AnswerCosts};
+    ghost use Rattle.ft_replay.specs.Deferral.{PutsNothingOff, IsNoHit, IsPlainHit, ReadsNothing};
+    ghost use Rattle.ft_replay.specs.Deferral.{WantsForTables};
     ghost use Rattle.ft_replay.specs.Edited.{EditGives, AnswersFrom, AnswerIs};
     ghost use Rattle.ft_replay.specs.Answers.{hist_text, totals, latencies, list_text};
     ghost use Rattle.ft_desk.specs.Edits.{after_load_text, after_insert_text};
@@ -88,6 +90,8 @@ impl<B: Board> Desk<B> {
         ensures counts { EditCounts self.old self.new result }
         ensures repairs { (event : Traced) → event_or_refused (line_of line.now) ≡ Ok event
             → RepairCosts event self.old self.new }
+        ensures now { (event : Traced) → event_or_refused (line_of line.now) ≡ Ok event
+            → IsNoHit self.old.base.triggers event → PutsNothingOff self.old self.new }
     {
         let event = event_in(line)?;
         self.board.insert(event)
@@ -102,6 +106,8 @@ impl<B: Board> Desk<B> {
         ensures counts { EditCounts self.old self.new result }
         ensures repairs { (event : Traced) → event_at self.old.base.lanes cpu line ≡ Some event
             → RepairCosts event self.old self.new }
+        ensures now { (event : Traced) → event_at self.old.base.lanes cpu line ≡ Some event
+            → IsPlainHit self.old.base.triggers event → PutsNothingOff self.old self.new }
     {
         self.board.strike(cpu, line)
     }
@@ -140,6 +146,7 @@ impl<B: Board> Desk<B> {
             self.old self.new result }
         ensures memory { result ≢ Err Memory }
         ensures counts { EditCounts self.old self.new result }
+        ensures now { ReadsNothing self.old.base.triggers id → PutsNothingOff self.old self.new }
     {
         self.board.remove(id)
     }
@@ -159,6 +166,7 @@ impl<B: Board> Desk<B> {
         ensures gives { AnswersFrom (λ totals. totals) (totals self.old.base id)
             self.old self.new result }
         ensures steps { AnswerCosts self.old self.new }
+        ensures memory { WantsForTables self.old self.new result }
     {
         self.board.totals(id)
     }

@@ -1,10 +1,14 @@
--- What an answer says and takes of a board that keeps no tables.
-use Rattle.std.proofs.Common.{◌≡◌, Bool, true, false, refl, subst, Result, Ok, Err}
+-- What an answer or an edit says and takes of a board that keeps no tables.
+use Rattle.std.proofs.Common.{◌≡◌, ◌*◌, Bool, true, false, refl, subst, Result, Ok, Err}
+use Rattle.std.proofs.Math.Nat.{le-add_right}
+use Rattle.ft_fields.specs.Traced.{Traced}
 use Rattle.ft_hist.specs.Steps.{Steps, StepsGrow}
+use Rattle.ft_hist.specs.Tests.{count_on}
 use Rattle.ft_base.specs.declared.refused.Refused.{Refused}
-use Rattle.ft_base.specs.Base.{Base}
-use Rattle.ft_replay.specs.Costs.{AnswerCosts}
+use Rattle.ft_base.specs.Base.{Base, Triggers}
+use Rattle.ft_replay.specs.Costs.{AnswerCosts, CostsOf}
 use Rattle.ft_replay.specs.Edited.{AnswerKeeps}
+use Rattle.ft_replay.specs.Merged.{Events, merged}
 use Rattle.ft_replay.specs.Shown.{Shown}
 
 -- a board that keeps no tables, with its steps
@@ -23,3 +27,11 @@ replayed_steps base work more shown is grow = subst (λ (s : Shown). AnswerCosts
 pub never-deferred : {S : Type 0} (answer : Result S Refused) → AnswerKeeps false false answer
 never-deferred (Ok answer) = refl
 never-deferred (Err refused) = (λ e. e, λ _. refl)
+
+-- no step is within what an event may cost
+pub no_step : (triggers : Triggers) (event : Traced) (before after : Events) (steps : Steps) → CostsOf triggers event before after steps steps
+no_step triggers event before after steps = record { evals = le-add_right steps.evals (count_on triggers event); puts = λ _. le-add_right steps.puts (3 * count_on triggers event) }
+
+-- and an edit takes none
+pub edited_costs : (base new : Base) (event : Traced) (work : Steps) (shown : Shown) → plain_shown base work ≡ shown → CostsOf shown.base.triggers event (merged shown.base.lanes) (merged new.lanes) shown.steps work
+edited_costs base new event work shown is = subst (λ (s : Shown). CostsOf s.base.triggers event (merged s.base.lanes) (merged new.lanes) s.steps work) is (no_step base.triggers event (merged base.lanes) (merged new.lanes) work)

@@ -1,8 +1,7 @@
 -- What a trigger answers, from its counter.
-use Rattle.std.proofs.Common.{◌≡◌, ℕ, Bool, true, false, List, ◌++◌, refl, sym, ap, subst, ◌∙◌, append_assoc, Some, None, Option, Result, Ok, Err, OnOk, if◌then◌else◌}
+use Rattle.std.proofs.Common.{◌≡◌, ℕ, Bool, true, false, refl, sym, ap, subst, ◌∙◌, Some, None, Option, Result, Ok, Err}
 use Rattle.std.specs.Prelude.{IsSome, option_map, unwrap_or, map as list_map}
 use Rattle.std.specs.Option.{option_map_or}
-use Rattle.std.specs.Result.{is_ok}
 use Rattle.std.specs.Cmp.{nat_cmp_total}
 use Rattle.std.specs.FinMap as map
 use Rattle.ft_hist.specs.Hist.{Hist}

@@ -6,7 +6,7 @@ use Rattle.ft_keys.specs.declared.key.Part.{Part}
 use Rattle.ft_hist.specs.Tests.{count_on}
 use Rattle.ft_pairs.specs.declared.role.Role.TheVariants.{Saves}
 use Rattle.ft_base.specs.declared.refused.Refused.{Refused}
-use Rattle.ft_base.specs.Base.{Triggers, Base}
+use Rattle.ft_base.specs.Base.{Triggers}
 use Rattle.ft_replay.specs.Merged.{Events, merged}
 use Rattle.ft_replay.specs.Operations.{is_admitted}
 use Rattle.ft_replay.specs.Replay.{replay}
@@ -32,9 +32,9 @@ pub record CostsOf (triggers : Triggers) (event : Traced) (before after : Events
   pub evals : new.evals ≤ old.evals + count_on triggers event
   pub puts : SaversStay triggers before after → new.puts ≤ old.puts + 3 * count_on triggers event
 
--- what an edit of one event costs a board that is up to date (our own choice)
+-- what an edit of one event costs a board, whether its tables lack an edit or not (our own choice)
 abbrev pub RepairCosts : Traced → Shown → Shown → Type 0
-RepairCosts event old new = IsUpToDate old → CostsOf old.base.triggers event (merged old.base.lanes) (merged new.base.lanes) old.steps new.steps
+RepairCosts event old new = CostsOf old.base.triggers event (merged old.base.lanes) (merged new.base.lanes) old.steps new.steps
 
 -- what an answer costs: nothing where the board is up to date; no count falls, and a board keeps tables just where it did before (our own choice)
 pub record AnswerCosts (old new : Shown) : Type 0 where

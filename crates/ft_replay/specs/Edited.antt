@@ -1,5 +1,5 @@
 -- What an edit or an answer of a board says, by what contracts see of the board before and after it.
-use Rattle.std.specs.Prelude.{◌≡◌, ◌≢◌, ◌⊎◌, ℕ, Bool, true, false, Result, Ok, Err}
+use Rattle.std.specs.Prelude.{◌≡◌, ◌≢◌, ◌⊎◌, Bool, true, false, Result, Ok, Err}
 use Rattle.ft_base.specs.declared.refused.Refused.{Refused}
 use Rattle.ft_base.specs.declared.refused.Refused.TheVariants.{Memory}
 use Rattle.ft_replay.specs.declared.done.Done.{Done}

@@ -11,6 +11,7 @@ pub mod Elsewhere
 pub mod Answers
 pub mod Edited
 pub mod Costs
+pub mod Deferral
 pub mod inner
 pub use Rattle.ft_base.specs.Refused
 pub use Rattle.ft_base.specs.Base

@@ -27,6 +27,8 @@ pub trait Board: Drop {
     ghost use Rattle.ft_base.specs.After.{after_attach, after_refilter, after_remove};
     ghost use Rattle.ft_replay.specs.Answers.{hist_text, totals, latencies, list_text};
     ghost use Rattle.ft_replay.specs.Costs.{EditCounts, RepairCosts, AnswerCosts};
+    ghost use Rattle.ft_replay.specs.Deferral.{PutsNothingOff, IsNoHit, IsPlainHit, ReadsNothing};
+    ghost use Rattle.ft_replay.specs.Deferral.{WantsForTables};
     ghost use Rattle.ft_replay.specs.Edited.{EditGives, AnswersFrom, AnswerIs};
     ghost use Rattle.ft_replay.specs.Shown.{Shown};
 
@@ -54,7 +56,9 @@ pub trait Board: Drop {
         ensures gives { EditGives (λ place. place) (after_insert (shown self.old).base event)
             (shown self.old) (shown self.new) result }
         ensures counts { EditCounts (shown self.old) (shown self.new) result }
-        ensures repairs { RepairCosts event (shown self.old) (shown self.new) };
+        ensures repairs { RepairCosts event (shown self.old) (shown self.new) }
+        ensures now { IsNoHit (shown self.old).base.triggers event
+            → PutsNothingOff (shown self.old) (shown self.new) };
 
     /// Takes the event of a CPU's line away: its place. The number is not given again while the
     /// lane is held. Refused where the lane is not held, or has no such line.
@@ -65,7 +69,11 @@ pub trait Board: Drop {
         ensures counts { EditCounts (shown self.old) (shown self.new) result }
         ensures repairs { (event : Traced)
             → event_at (shown self.old).base.lanes cpu line ≡ Some event
-            → RepairCosts event (shown self.old) (shown self.new) };
+            → RepairCosts event (shown self.old) (shown self.new) }
+        ensures now { (event : Traced)
+            → event_at (shown self.old).base.lanes cpu line ≡ Some event
+            → IsPlainHit (shown self.old).base.triggers event
+            → PutsNothingOff (shown self.old) (shown self.new) };
 
     /// Attaches a trigger: its id. Refused where 64 are attached or the ids are used up, where its
     /// variable's name is saved already, where nobody saves what it reads, where its keys don't
@@ -93,7 +101,9 @@ pub trait Board: Drop {
         ensures gives { EditGives (λ id. id) (after_remove (shown self.old).base id)
             (shown self.old) (shown self.new) result }
         ensures memory { result ≢ Err Memory }
-        ensures counts { EditCounts (shown self.old) (shown self.new) result };
+        ensures counts { EditCounts (shown self.old) (shown self.new) result }
+        ensures now { ReadsNothing (shown self.old).base.triggers id
+            → PutsNothingOff (shown self.old) (shown self.new) };
 
     /// The event that the trigger with an id is on. Takes no memory.
     fn name_of(&self, id: u32) -> Option<Name>
@@ -111,7 +121,8 @@ pub trait Board: Drop {
     fn totals(&mut self, id: u32) -> Result<Totals, Refused>
         ensures gives { AnswersFrom (λ totals. totals) (totals (shown self.old).base id)
             (shown self.old) (shown self.new) result }
-        ensures steps { AnswerCosts (shown self.old) (shown self.new) };
+        ensures steps { AnswerCosts (shown self.old) (shown self.new) }
+        ensures memory { WantsForTables (shown self.old) (shown self.new) result };
 
     /// What a reading trigger measured, in merged order of the reading, dropped hits too. Refused
     /// where no trigger has the id, where it reads no variable, or for memory.

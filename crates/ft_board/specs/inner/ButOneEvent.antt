@@ -9,6 +9,7 @@ use Rattle.ft_lanes.specs.Held.{event_at}
 use Rattle.ft_base.specs.declared.refused.Place.{Place}
 use Rattle.ft_base.specs.Base.{Base}
 use Rattle.ft_replay.specs.Costs.{CostsOf}
+use Rattle.ft_replay.specs.Deferral.{IsNoHit, IsPlainHit}
 use Rattle.ft_replay.specs.Merged.{Events, merged}
 use Rattle.ft_board.specs.KeptShelves.{AreKept}
 
@@ -39,3 +40,11 @@ abbrev pub GoesAtCost : Base → Place → Steps → Steps → Type 0
 GoesAtCost base place old new =
     (event : Traced) → event_at base.lanes place.cpu place.line ≡ Some event
     → CostsOf base.triggers event (merged base.lanes) (merged_without base place event) old new
+
+-- a line holds an event that is no hit of any trigger (our own choice)
+abbrev pub IsMissed : Base → Place → Type 0
+IsMissed base place = (event : Traced) × ((event_at base.lanes place.cpu place.line ≡ Some event) × IsNoHit base.triggers event)
+
+-- a line holds an event that is a hit of triggers without a variable alone (our own choice)
+abbrev pub IsPlain : Base → Place → Type 0
+IsPlain base place = (event : Traced) × ((event_at base.lanes place.cpu place.line ≡ Some event) × IsPlainHit base.triggers event)

@@ -1,5 +1,5 @@
 -- What is kept while one trigger joins the others or leaves them (our own choice).
-use Rattle.std.specs.Prelude.{◌≡◌, ℕ}
+use Rattle.std.specs.Prelude.{ℕ}
 use Rattle.std.specs.FinMap as map
 use Rattle.ft_kept.specs.Acts.{acts_of}
 use Rattle.ft_kept.specs.Entries.{IsKept}

@@ -1,5 +1,5 @@
 -- What replaying holds: the hits of each attached trigger, from which its rows follow, and the variables that are set.
-use Rattle.std.specs.Prelude.{◌≡◌, ℕ, ℤ, Bool, true, false, List, [], ◌∷◌, ◌++◌, Option, Some, None, if◌then◌else◌, fold, refl, IsSome}
+use Rattle.std.specs.Prelude.{◌≡◌, ℕ, ℤ, List, [], ◌∷◌, ◌++◌, Option, Some, None, if◌then◌else◌, fold, refl, IsSome}
 use Rattle.std.specs.declared.cmp.Ordering.TheVariants.{Less}
 use Rattle.std.specs.Coded.{Coded, code_by, coded×, coded_list}
 use Rattle.std.specs.Option.{option_map_or}
@@ -11,8 +11,6 @@ use Rattle.ft_fields.specs.declared.pos.Pos.{Pos}
 use Rattle.ft_hist.specs.Hist.{Hist}
 use Rattle.ft_hist.specs.Hit.{hit}
 use Rattle.ft_keys.specs.declared.key.Part.{Part}
-use Rattle.ft_hist.specs.declared.label.Var.{Var}
-use Rattle.ft_hist.specs.declared.label.Var.TheVariants as vars
 use Rattle.ft_maps.specs.Mapped.{map_by}
 use Rattle.ft_pairs.specs.Order.{at_cmp}
 use Rattle.ft_pairs.specs.declared.at.At.{At}

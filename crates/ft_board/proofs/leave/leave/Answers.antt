@@ -1,4 +1,4 @@
-use Rattle.std.proofs.Common.{◌≡◌, Option, None, sym, subst, ◌∙◌, ap}
+use Rattle.std.proofs.Common.{◌≡◌, Option, Some, None, sym, subst, ◌∙◌, ap}
 use Rattle.std.specs.FinMap as map
 use Rattle.std.specs.Option.{IfSome}
 use Rattle.ft_kept.specs.Shelves.{Shelves}
@@ -7,7 +7,7 @@ use Rattle.ft_board.specs.KeptShelves.{AreKeptOf, AreKept}
 use Rattle.ft_replay.specs.Merged.{merged}
 use Rattle.ft_board.specs.inner.ButOneTrigger.{AreKeptBut}
 use Rattle.ft_board.proofs.Alike.{rest_all}
-use Rattle.ft_board.proofs.Repaired.{repaired_if}
+use Rattle.ft_board.proofs.Repaired.{repaired_if, repaired_there}
 use Rattle.ft_board.proofs.leave.leave.Goals as goal
 
 pub returns-in_default-get-clause-kept : goal.returns-in_default-get-clause-kept
@@ -21,3 +21,9 @@ pub returns-clause-kept : goal.returns-clause-kept
 returns-clause-kept c =
     let base : Base = c.args.content.now in
     subst (λ (o : Option Shelves). IfSome o (AreKeptBut c.args.id base)) (sym c.put_back.ensures.kept) (repaired_if (AreKeptBut c.args.id base) c.take_trigger-repaired.new.tables c.take_trigger-repaired.result c.take_trigger-repaired.ensures.but)
+
+pub returns-clause-now : goal.returns-clause-now
+returns-clause-now c reads gone =
+    let base : Base = c.args.content.now in
+    let there : map.get base.triggers c.args.id ≡ Some c.in-Some-get.trigger.now = ap (λ (t : Triggers). map.get t c.args.id) (sym c.triggers.ensures) ∙ sym c.in-Some-get.ensures in
+    repaired_there c.take_trigger-repaired.new.tables c.take_trigger-repaired.result c.put_back.new.kept c.put_back.ensures.kept (c.take_trigger-repaired.ensures.memory (reads c.in-Some-get.trigger.now there)) gone

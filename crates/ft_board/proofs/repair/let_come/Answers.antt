@@ -1,4 +1,4 @@
-use Rattle.std.proofs.Common.{◌≡◌, sym, ap, subst, ◌∙◌, Option, Some}
+use Rattle.std.proofs.Common.{◌≡◌, sym, ap, subst, ◌∙◌, Option, Some, None, unwrap_or}
 use Rattle.std.specs.Option.{IfSome}
 use Rattle.ft_fields.specs.Traced.{Traced}
 use Rattle.ft_fields.specs.declared.pos.Pos.{Pos}
@@ -9,10 +9,11 @@ use Rattle.ft_kept.specs.Shelves.{Shelves}
 use Rattle.ft_base.specs.Base.{Base, Triggers}
 use Rattle.ft_board.specs.KeptShelves.{AreKeptOf}
 use Rattle.ft_board.specs.inner.ButOneEvent.{AreKeptWithout}
+use Rattle.ft_replay.specs.Deferral.{IsNoHit}
 use Rattle.ft_board.proofs.FewSteps.{come_cost}
 use Rattle.ft_board.proofs.KeptBoardForms.{all_shelved}
-use Rattle.ft_board.proofs.KeptBoardRepair.{pos_at, come_can, come_kept}
-use Rattle.ft_board.proofs.Repaired.{repaired_if, both_ok}
+use Rattle.ft_board.proofs.KeptBoardRepair.{come_can, come_kept}
+use Rattle.ft_board.proofs.Repaired.{repaired_if, repaired_there, both_ok}
 use Rattle.ft_board.proofs.repair.let_come.Goals as goal
 
 pub event_comes-repaired-requires-clause-shelved : goal.event_comes-repaired-requires-clause-shelved
@@ -56,3 +57,19 @@ returns-clause-costs c =
     let stamp : c.event.inside.stamp ≡ event.stamp = ap (λ (e : Traced). e.stamp) c.event.view_is in
     come_cost base c.args.place event there c.one_more_hit.ensures.rows c.one_more_hit.ensures.totals c.one_more_hit.ensures.members c.one_source.ensures c.in-Some.tables c.args.work.now c.event_comes-repaired.new.work
     _ (λ i. (c.triggers-triggers.ensures i, record { stamp = stamp i; cpu = c.args.place.cpu; line = c.args.place.line })) kept c.event_comes-repaired.ensures.evals c.event_comes-repaired.ensures.puts
+
+pub returns-in_default-get-clause-now : goal.returns-in_default-get-clause-now
+returns-in_default-get-clause-now c missed gone =
+    let both : ◌≡◌ {A = Option Traced} None (Some missed.0) =
+    c.in_default-get.ensures ∙ ap (λ (lanes : Lanes). event_at lanes c.args.place.cpu c.args.place.line) c.lanes-lanes.ensures.lanes ∙ missed.1.0 in
+    absurd cc
+
+pub returns-clause-now : goal.returns-clause-now
+returns-clause-now c missed gone =
+    let base : Base = c.args.content.now in
+    let event : Traced = c.in-Some-get.event.now in
+    let there : event_at base.lanes c.args.place.cpu c.args.place.line ≡ Some event = ap (λ (lanes : Lanes). event_at lanes c.args.place.cpu c.args.place.line) (sym c.lanes-lanes.ensures.lanes) ∙ sym c.in-Some-get.ensures in
+    let same : missed.0 ≡ event = ap (λ (o : Option Traced). unwrap_or o event) (sym missed.1.0 ∙ there) in
+    let none : IsNoHit base.triggers event = subst (IsNoHit base.triggers) same missed.1.1 in
+    repaired_there c.event_comes-repaired.new.self c.event_comes-repaired.result c.put_back.new.kept c.put_back.ensures.kept
+    (c.event_comes-repaired.ensures.memory (subst (λ (triggers : Triggers). IsNoHit triggers event) (sym c.triggers-triggers.ensures) none)) gone

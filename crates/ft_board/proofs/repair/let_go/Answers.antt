@@ -1,4 +1,4 @@
-use Rattle.std.proofs.Common.{◌≡◌, sym, ap, subst, ◌∙◌, Option, Some}
+use Rattle.std.proofs.Common.{◌≡◌, sym, ap, subst, ◌∙◌, Option, Some, None, unwrap_or}
 use Rattle.std.specs.Option.{IfSome}
 use Rattle.ft_fields.specs.Traced.{Traced}
 use Rattle.ft_fields.specs.declared.pos.Pos.{Pos}
@@ -9,10 +9,12 @@ use Rattle.ft_kept.specs.Shelves.{Shelves}
 use Rattle.ft_base.specs.Base.{Base, Triggers}
 use Rattle.ft_board.specs.KeptShelves.{AreKeptOf}
 use Rattle.ft_board.specs.inner.ButOneEvent.{AreKeptWithout}
+use Rattle.ft_kept.specs.Memory as memory
+use Rattle.ft_replay.specs.Deferral.{IsPlainHit}
 use Rattle.ft_board.proofs.FewSteps.{go_cost}
-use Rattle.ft_board.proofs.KeptBoardForms.{all_shelved}
-use Rattle.ft_board.proofs.KeptBoardRepair.{pos_at, go_can, go_kept}
-use Rattle.ft_board.proofs.Repaired.{repaired_if, both_ok}
+use Rattle.ft_board.proofs.KeptBoardForms.{all_shelved, plain_shelf}
+use Rattle.ft_board.proofs.KeptBoardRepair.{go_can, go_kept}
+use Rattle.ft_board.proofs.Repaired.{repaired_if, repaired_there, both_ok}
 use Rattle.ft_board.proofs.repair.let_go.Goals as goal
 
 pub event_goes-repaired-requires-clause-shelved : goal.event_goes-repaired-requires-clause-shelved
@@ -56,3 +58,21 @@ returns-clause-costs c =
     let stamp : c.event.inside.stamp ≡ event.stamp = ap (λ (e : Traced). e.stamp) c.event.view_is in
     go_cost base c.args.place event there c.one_more_hit.ensures.rows c.one_more_hit.ensures.totals c.one_more_hit.ensures.members c.one_source.ensures c.in-Some.tables c.args.work.now c.event_goes-repaired.new.work
     _ (λ i. (c.triggers-triggers.ensures i, record { stamp = stamp i; cpu = c.args.place.cpu; line = c.args.place.line })) kept c.event_goes-repaired.ensures.evals c.event_goes-repaired.ensures.puts
+
+pub returns-in_default-get-clause-now : goal.returns-in_default-get-clause-now
+returns-in_default-get-clause-now c plain gone =
+    let both : ◌≡◌ {A = Option Traced} None (Some plain.0) =
+    c.in_default-get.ensures ∙ ap (λ (lanes : Lanes). event_at lanes c.args.place.cpu c.args.place.line) c.lanes-lanes.ensures.lanes ∙ plain.1.0 in
+    absurd cc
+
+pub returns-clause-now : goal.returns-clause-now
+returns-clause-now c plain gone =
+    let base : Base = c.args.content.now in
+    let event : Traced = c.in-Some-get.event.now in
+    let kept : AreKeptOf c.args.content.now c.in-Some.tables = subst (λ (o : Option Shelves). IfSome o (AreKeptOf c.args.content.now)) (sym c.in-Some.ensures.value) c.requires in
+    let there : event_at base.lanes c.args.place.cpu c.args.place.line ≡ Some event = ap (λ (lanes : Lanes). event_at lanes c.args.place.cpu c.args.place.line) (sym c.lanes-lanes.ensures.lanes) ∙ sym c.in-Some-get.ensures in
+    let same : plain.0 ≡ event = ap (λ (o : Option Traced). unwrap_or o event) (sym plain.1.0 ∙ there) in
+    let hits : IsPlainHit base.triggers event = subst (IsPlainHit base.triggers) same plain.1.1 in
+    let acts : memory.IsPlainHit base.triggers c.in-Some.tables event = λ id hist attached key is. plain_shelf base.triggers c.in-Some.tables kept.each id hist attached (hits id hist attached key is) in
+    repaired_there c.event_goes-repaired.new.self c.event_goes-repaired.result c.put_back.new.kept c.put_back.ensures.kept
+    (c.event_goes-repaired.ensures.memory (subst (λ (triggers : Triggers). memory.IsPlainHit triggers c.in-Some.tables event) (sym c.triggers-triggers.ensures) acts)) gone

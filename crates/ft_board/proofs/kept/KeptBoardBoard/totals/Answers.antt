@@ -1,5 +1,6 @@
 use Rattle.std.proofs.Common.{◌≡◌, refl, sym, ap, ◌∙◌, inr, Some, None, Result, Ok}
 use Rattle.std.specs.FinMap as map
+use Rattle.std.specs.Option.{is_none}
 use Rattle.ft_hist.specs.Hist.{Hist}
 use Rattle.ft_table.specs.Rows.{totals_of}
 use Rattle.ft_table.specs.Tabled.{Tabled}
@@ -36,3 +37,11 @@ returns-clause-gives c =
 
 pub returns-clause-steps : goal.returns-clause-steps
 returns-clause-steps c = told_steps c.self.inside.content c.self.inside.kept c.catch_up.new.kept c.self.inside.work c.catch_up.new.work c.args.self.now c.self.view_is c.catch_up.ensures.none c.catch_up.ensures.grow
+
+pub returns-in_default-shelf_in-clause-memory : goal.returns-in_default-shelf_in-clause-memory
+returns-in_default-shelf_in-clause-memory c keeps wants =
+    let base : Base = c.self.inside.content in
+    let hist : Hist = c.in-Some.field-0.now in
+    let there : map.get base.triggers c.args.id ≡ Some hist = ap (λ (t : Triggers). map.get t c.args.id) (sym c.triggers.ensures) ∙ sym c.in-Some.ensures in
+    let gone : c.catch_up.new.kept ≡ None = c.in_default-shelf_in.ensures.found base hist c.catch_up.ensures.kept there refl in
+    (ap (λ (s : Shown). s.deferred) (sym c.self.view_is) ∙ ap is_none (c.catch_up.ensures.deferred gone), ap is_none gone)
