@@ -9,4 +9,9 @@ folder=$(mktemp -d)
 trap 'rm -rf -- "$folder"' EXIT
 git clone -q -- "$here/.." "$folder/clone"
 cd -- "$folder/clone"
-python3 "$here/gate.py" rt ci --anew
+# A kit that keeps what passed has a word against it.
+anew=()
+if grep -qe '--anew' -- "$(command -v rt)"; then
+    anew=(--anew)
+fi
+python3 "$here/gate.py" rt ci "${anew[@]}"
