@@ -1,5 +1,5 @@
 -- The parts of keys, and their order (kernel: histogram.rst, `keys`).
-use Rattle.std.specs.Prelude.{ℕ, ℤ, pos, List, []}
+use Rattle.std.specs.Prelude.{◌≡◌, ℕ, zero, suc, ℤ, pos, List, [], refl}
 use Rattle.std.specs.declared.cmp.Ordering.{Ordering}
 use Rattle.std.specs.Ordering.{nat_cmp, int_cmp, on, then_cmp}
 use Rattle.std.specs.Cmp.Lexicographic.{slice_cmp}
@@ -26,6 +26,20 @@ bytes_of (Num z) = []
 bytes_of (Log2 n) = []
 bytes_of (Bucket n) = []
 bytes_of (Text bytes) = bytes
+
+-- the part of this kind with this number or these bytes (our own choice)
+abbrev pub part_with : ℕ → ℤ → List ℕ → Part
+part_with (suc zero) (pos n) bytes = Log2 n
+part_with (suc (suc zero)) (pos n) bytes = Bucket n
+part_with (suc (suc (suc kind))) z bytes = Text bytes
+part_with kind z bytes = Num z
+
+-- a part is the one with its kind, number and bytes (our own choice)
+pub part_with-of : (part : Part) → part_with (kind_of part) (number_of part) (bytes_of part) ≡ part
+part_with-of (Num z) = refl
+part_with-of (Log2 n) = refl
+part_with-of (Bucket n) = refl
+part_with-of (Text bytes) = refl
 
 -- parts in order: by kind, then numbers as signed ones, then texts by their bytes (our own choice)
 abbrev pub part_cmp : Part → Part → Ordering

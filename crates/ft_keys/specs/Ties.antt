@@ -1,27 +1,11 @@
 -- Parts and keys that tie in the order are equal, by which finite maps tell them apart (our own choice).
-use Rattle.std.specs.Prelude.{◌≡◌, ℕ, zero, suc, ℤ, pos, List, refl}
+use Rattle.std.specs.Prelude.{ℕ, ℤ, List}
 use Rattle.std.specs.Ordering.{nat_cmp, int_cmp}
 use Rattle.std.specs.Cmp.Lexicographic.{slice_cmp}
 use Rattle.std.specs.FinMap.{IsAntisymmetric, slice_cmp-IsAntisymmetric}
 use Rattle.std.proofs.Common.{sym, ap, ◌∙◌}
 use Rattle.std.proofs.lemmas.Map.Lookups.{exact_pairs, exact_unsigned, exact_signed, exact_bytes}
-use Rattle.ft_keys.specs.declared.key.Part.{Part}
-use Rattle.ft_keys.specs.declared.key.Part.TheVariants.{Num, Log2, Bucket, Text}
-use Rattle.ft_keys.specs.Parts.{kind_of, number_of, bytes_of, part_cmp, key_cmp}
-
--- the part of this kind with this number or these bytes (our own choice)
-abbrev part_with : ℕ → ℤ → List ℕ → Part
-part_with (suc zero) (pos n) bytes = Log2 n
-part_with (suc (suc zero)) (pos n) bytes = Bucket n
-part_with (suc (suc (suc kind))) z bytes = Text bytes
-part_with kind z bytes = Num z
-
--- a part is the one with its kind, number and bytes (our own choice)
-part_with-of : (part : Part) → part_with (kind_of part) (number_of part) (bytes_of part) ≡ part
-part_with-of (Num z) = refl
-part_with-of (Log2 n) = refl
-part_with-of (Bucket n) = refl
-part_with-of (Text bytes) = refl
+use Rattle.ft_keys.specs.Parts.{kind_of, number_of, bytes_of, part_with, part_with-of, part_cmp, key_cmp}
 
 -- parts that tie are equal (our own choice)
 pub part_same : IsAntisymmetric part_cmp
