@@ -1,5 +1,5 @@
 -- An event that is asked about is a hit.
-use Rattle.std.proofs.Common.{◌≡◌, ℕ, Bool, true, false, List, [], ◌∷◌, Option, Some, None, option_map, refl, sym, ◌∙◌, subst}
+use Rattle.std.proofs.Common.{◌≡◌, Bool, true, false, List, [], ◌∷◌, Option, Some, None, option_map, refl, sym, ◌∙◌, subst}
 use Rattle.std.proofs.lemmas.Bool.{and_parts}
 use Rattle.std.specs.Prelude.{IfSome, if◌then◌else◌}
 use Rattle.std.specs.List.{list_all}
@@ -12,12 +12,12 @@ use Rattle.ft_fields.specs.declared.field.Value.TheVariants as values
 use Rattle.ft_fields.specs.Fields.{has_field, is_text, is_text_value, field_of}
 use Rattle.ft_fields.specs.Traced.{Traced, name_of}
 use Rattle.ft_hist.specs.declared.item.KeyItem.{KeyItem}
-use Rattle.ft_hist.specs.declared.item.Mode.{Mode}
-use Rattle.ft_hist.specs.declared.item.Mode.TheVariants as modes
 use Rattle.ft_keys.specs.declared.key.Part.{Part}
 use Rattle.ft_hist.specs.Hist.{Hist}
-use Rattle.ft_hist.specs.Hit.{value_part, part_of, key_of, same_name, is_asked, passes_filter, hit}
-use Rattle.ft_hist.specs.Sound.{mode_suits, key_suits}
+use Rattle.ft_hist.specs.Hit.{part_of, key_of, same_name, is_asked, passes_filter, hit}
+use Rattle.ft_hist.specs.Modifiers.{mode_suits, value_part}
+use Rattle.ft_hist.specs.Sound.{key_suits}
+use Rattle.ft_hist.proofs.ModifierLemmas.{text_made}
 
 -- what is known of fields
 pub record FieldLaws : Type 0 where
@@ -66,13 +66,6 @@ name_same names.Other b e = from b e
     from names.WakeupNew e = absurd cc
     from names.Switch e = absurd cc
     from names.Other e = refl
-
--- a modifier that suits a field of texts makes a part of a text
-text_made : (mode : Mode) (text : List ℕ) → mode_suits true mode ≡ true → is_some (value_part mode (values.Text text)) ≡ true
-text_made modes.Plain text h = refl
-text_made modes.Hex text h = absurd cc
-text_made modes.Log2 text h = absurd cc
-text_made (modes.Buckets size) text h = absurd cc
 
 module _ (laws : FieldLaws) (event : Traced) where
   -- a key item that suits the event makes a part

@@ -1,43 +1,10 @@
 -- Key items match where they make parts of the same kinds.
-use Rattle.std.specs.Prelude.{◌≡◌, ◌↔◌, ℕ, Bool, true, false, IsTrue, ◌&&◌, ◌==◌, List, [], ◌∷◌, map}
-use Rattle.std.proofs.Common.{refl, sym, ap, ◌∙◌, arith}
-use Rattle.std.proofs.lemmas.Bool.Decides.{nat_tests}
+use Rattle.std.specs.Prelude.{◌≡◌, ◌↔◌, Bool, true, false, IsTrue, ◌&&◌, List, [], ◌∷◌, map}
+use Rattle.std.proofs.Common.{refl, sym, ap, ◌∙◌}
 use Rattle.ft_hist.specs.declared.item.KeyItem.{KeyItem}
-use Rattle.ft_hist.specs.Matching.{Kind, Numbers, Powers, Multiples, Texts, item_kind, same_kind, keys_match}
-
--- numbers whose test passes are equal
-nat_same : (a b : ℕ) → (a == b) ≡ true → a ≡ b
-nat_same a b e = grind (arith, nat_tests)
-
--- a number passes the test against itself
-nat_itself : (a : ℕ) → (a == a) ≡ true
-nat_itself a = grind (arith, nat_tests)
-
--- kinds whose test passes are equal
-kind_same : (a b : Kind) → same_kind a b ≡ true → a ≡ b
-kind_same Numbers Numbers e = refl
-kind_same Numbers Powers e = cc
-kind_same Numbers (Multiples n) e = cc
-kind_same Numbers Texts e = cc
-kind_same Powers Numbers e = cc
-kind_same Powers Powers e = refl
-kind_same Powers (Multiples n) e = cc
-kind_same Powers Texts e = cc
-kind_same (Multiples m) Numbers e = cc
-kind_same (Multiples m) Powers e = cc
-kind_same (Multiples m) (Multiples n) e = ap Multiples (nat_same m n e)
-kind_same (Multiples m) Texts e = cc
-kind_same Texts Numbers e = cc
-kind_same Texts Powers e = cc
-kind_same Texts (Multiples n) e = cc
-kind_same Texts Texts e = refl
-
--- a kind passes the test against itself
-kind_itself : (a : Kind) → same_kind a a ≡ true
-kind_itself Numbers = refl
-kind_itself Powers = refl
-kind_itself (Multiples n) = nat_itself n
-kind_itself Texts = refl
+use Rattle.ft_hist.specs.Matching.{item_kind, keys_match}
+use Rattle.ft_hist.specs.Modifiers.{same_kind}
+use Rattle.ft_hist.proofs.ModifierLemmas.{kind_same, kind_itself}
 
 -- the first of two tests, where both pass
 first_true : (a b : Bool) → (a && b) ≡ true → a ≡ true

@@ -1,6 +1,5 @@
 -- Keys of hits fit the trigger's key items.
-use Rattle.std.specs.Prelude.{◌≡◌, ℕ, ◌/◌, ℤ, Bool, true, false, List, [], ◌∷◌, length, Option, Some, None, option_map, IfSome, if◌then◌else◌}
-use Rattle.std.specs.Int.{w64, cast_unsigned}
+use Rattle.std.specs.Prelude.{◌≡◌, Bool, true, false, List, [], ◌∷◌, length, Option, Some, None, option_map, IfSome, if◌then◌else◌}
 use Rattle.std.specs.Option.{option_and_then}
 use Rattle.std.proofs.Common.{refl, subst, arith}
 use Rattle.std.proofs.lemmas.Option.{same_Some}
@@ -10,28 +9,13 @@ use Rattle.ft_fields.specs.declared.field.Value.TheVariants as values
 use Rattle.ft_fields.specs.Fields.{field_of, is_text, is_text_value}
 use Rattle.ft_fields.specs.Traced.{Traced}
 use Rattle.ft_hist.specs.declared.item.KeyItem.{KeyItem}
-use Rattle.ft_hist.specs.declared.item.Mode.{Mode}
-use Rattle.ft_hist.specs.declared.item.Mode.TheVariants as modes
+use Rattle.ft_hist.specs.declared.modifier.Mode.{Mode}
 use Rattle.ft_keys.specs.declared.key.Part.{Part}
-use Rattle.ft_hist.specs.Matching.{Texts, number_kind}
-use Rattle.ft_hist.specs.Fitting.{IsOfKind, PartFits, KeyFits}
+use Rattle.ft_hist.specs.Fitting.{PartFits, KeyFits}
 use Rattle.ft_hist.specs.Hist.{Hist}
-use Rattle.ft_hist.specs.Hit.{number_part, text_part, value_part, part_of, key_of, is_asked, hit}
-use Rattle.ft_hist.proofs.PowerLemmas.{log2_of_few}
-
--- what a modifier makes of a number is of its kind
-number_fits : (mode : Mode) (z : ℤ) → IsOfKind (number_kind mode) (number_part mode z)
-number_fits modes.Plain z = tt
-number_fits modes.Hex z = tt
-number_fits modes.Log2 z = log2_of_few (cast_unsigned w64 z)
-number_fits (modes.Buckets size) z = (cast_unsigned w64 z / size, refl)
-
--- what a modifier makes of a text is a text
-text_fits : (mode : Mode) (text : List ℕ) (part : Part) → text_part mode text ≡ Some part → IsOfKind Texts part
-text_fits modes.Plain text part e = subst (IsOfKind Texts) (same_Some _ _ e) tt
-text_fits modes.Hex text part e = absurd cc
-text_fits modes.Log2 text part e = absurd cc
-text_fits (modes.Buckets size) text part e = absurd cc
+use Rattle.ft_hist.specs.Hit.{part_of, key_of, is_asked, hit}
+use Rattle.ft_hist.specs.Modifiers.{Texts, number_kind, value_part, IsOfKind}
+use Rattle.ft_hist.proofs.ModifierLemmas.{number_fits, text_fits}
 
 -- what a modifier makes of a field's value is of the field's kind
 value_fits : (text : Bool) (mode : Mode) (value : Value) (part : Part) → is_text_value value ≡ text → value_part mode value ≡ Some part → IsOfKind (if text then Texts else number_kind mode) part

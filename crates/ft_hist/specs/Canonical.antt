@@ -5,8 +5,6 @@ use Rattle.ft_fields.specs.Fields.{text_of}
 use Rattle.ft_filter.specs.Tree.{Tree}
 use Rattle.ft_filter.specs.Canonical.{canonical as filter_text}
 use Rattle.ft_hist.specs.declared.item.KeyItem.{KeyItem}
-use Rattle.ft_hist.specs.declared.item.Mode.{Mode}
-use Rattle.ft_hist.specs.declared.item.Mode.TheVariants as modes
 use Rattle.ft_hist.specs.declared.item.Item.{Item}
 use Rattle.ft_hist.specs.declared.item.Item.TheVariants as items
 use Rattle.ft_hist.specs.declared.item.SortBy.{SortBy}
@@ -15,6 +13,7 @@ use Rattle.ft_hist.specs.declared.item.SortItem.{SortItem}
 use Rattle.ft_hist.specs.declared.label.Var.{Var}
 use Rattle.ft_hist.specs.declared.label.Var.TheVariants as vars
 use Rattle.ft_hist.specs.Hist.{Hist}
+use Rattle.ft_hist.specs.Modifiers.{mode_text}
 
 -- texts, each behind a `,` (our own choice)
 abbrev pub more_items : List (List ℕ) → List ℕ
@@ -25,13 +24,6 @@ more_items (text ∷ texts) = codes "," ++ text ++ more_items texts
 abbrev pub listed : List (List ℕ) → List ℕ
 listed [] = []
 listed (text ∷ texts) = text ++ more_items texts
-
--- a modifier, as it stands behind its field (kernel: histogram.rst, modifiers)
-abbrev pub mode_text : Mode → List ℕ
-mode_text modes.Plain = []
-mode_text modes.Hex = codes ".hex"
-mode_text modes.Log2 = codes ".log2"
-mode_text (modes.Buckets size) = codes ".buckets=" ++ decimal size
 
 -- a key item: a field and its modifier (kernel: histogram.rst, `keys`)
 abbrev pub key_text : KeyItem → List ℕ

@@ -1,18 +1,9 @@
 -- Which keys the key items of a trigger can make (kernel: histogram.rst, `keys` and their modifiers).
-use Rattle.std.specs.Prelude.{◌≤◌, List, [], ◌∷◌}
+use Rattle.std.specs.Prelude.{List, [], ◌∷◌}
 use Rattle.ft_hist.specs.declared.item.KeyItem.{KeyItem}
 use Rattle.ft_keys.specs.declared.key.Part.{Part}
-use Rattle.ft_keys.specs.declared.key.Part.TheVariants.{Num, Log2, Bucket, Text}
-use Rattle.ft_hist.specs.Powers.{IsMultiple}
-use Rattle.ft_hist.specs.Matching.{Kind, Numbers, Powers, Multiples, Texts, item_kind}
-
--- the part is of the kind: a number, a power of at most 64, a multiple of the size, or a text (kernel: histogram.rst, `keys` and their modifiers)
-abbrev pub IsOfKind : Kind → Part → Type 0
-IsOfKind Numbers (Num z) = Unit {0}
-IsOfKind Powers (Log2 n) = n ≤ 64
-IsOfKind (Multiples size) (Bucket b) = IsMultiple size b
-IsOfKind Texts (Text bytes) = Unit {0}
-IsOfKind kind part = ⊥
+use Rattle.ft_hist.specs.Matching.{item_kind}
+use Rattle.ft_hist.specs.Modifiers.{IsOfKind}
 
 -- the part is one that the key item can make (kernel: histogram.rst, `keys` and their modifiers)
 abbrev pub PartFits : KeyItem → Part → Type 0

@@ -1,39 +1,16 @@
 -- What a trigger counts an event under (kernel: histogram.rst, hist triggers).
-use Rattle.std.specs.Prelude.{ℕ, Bool, true, false, ◌&&◌, List, [], ◌∷◌, Option, Some, None, option_map, ℤ, if◌then◌else◌}
-use Rattle.std.specs.Int.{w64, cast_unsigned}
+use Rattle.std.specs.Prelude.{Bool, true, false, ◌&&◌, List, [], ◌∷◌, Option, Some, None, option_map, if◌then◌else◌}
 use Rattle.std.specs.Option.{option_and_then, option_map_or}
 use Rattle.ft_fields.specs.declared.event.Name.{Name}
 use Rattle.ft_fields.specs.declared.event.Name.TheVariants as names
-use Rattle.ft_fields.specs.declared.field.Value.{Value}
-use Rattle.ft_fields.specs.declared.field.Value.TheVariants as values
 use Rattle.ft_fields.specs.Traced.{Traced, name_of}
 use Rattle.ft_fields.specs.Fields.{field_of}
 use Rattle.ft_filter.specs.Tree.{Tree}
 use Rattle.ft_filter.specs.Holds.{holds}
 use Rattle.ft_hist.specs.declared.item.KeyItem.{KeyItem}
-use Rattle.ft_hist.specs.declared.item.Mode.{Mode}
-use Rattle.ft_hist.specs.declared.item.Mode.TheVariants as modes
 use Rattle.ft_keys.specs.declared.key.Part.{Part}
-use Rattle.ft_keys.specs.declared.key.Part.TheVariants as parts
-use Rattle.ft_hist.specs.Powers.{log2_of, bucket_of}
 use Rattle.ft_hist.specs.Hist.{Hist}
-
--- what a modifier makes of a number; powers and multiples are of the number modulo 2 ^ 64 (kernel: histogram.rst, `keys` and their modifiers; modulo 2 ^ 64 is our own choice)
-abbrev pub number_part : Mode → ℤ → Part
-number_part modes.Plain z = parts.Num z
-number_part modes.Hex z = parts.Num z
-number_part modes.Log2 z = parts.Log2 (log2_of (cast_unsigned w64 z))
-number_part (modes.Buckets size) z = parts.Bucket (bucket_of size (cast_unsigned w64 z))
-
--- what a modifier makes of a text: only no modifier at all makes something (our own choice: modifiers are for numbers)
-abbrev pub text_part : Mode → List ℕ → Option Part
-text_part modes.Plain text = Some (parts.Text text)
-text_part mode text = None
-
--- what a modifier makes of a field's value (kernel: histogram.rst, `keys` and their modifiers)
-abbrev pub value_part : Mode → Value → Option Part
-value_part mode (values.Num z) = Some (number_part mode z)
-value_part mode (values.Text text) = text_part mode text
+use Rattle.ft_hist.specs.Modifiers.{value_part}
 
 -- the part of a key that a key item makes of an event, where the event has the item's field (kernel: histogram.rst, `keys`)
 abbrev pub part_of : KeyItem → Traced → Option Part

@@ -4,6 +4,7 @@ pub mod Fitting
 pub mod Hist
 pub mod Hit
 pub mod Matching
+pub mod Modifiers
 pub mod Powers
 pub mod Sound
 pub mod Steps

@@ -1,25 +1,17 @@
 -- What holds of every trigger that some text gives (kernel: histogram.rst, hist triggers).
-use Rattle.std.specs.Prelude.{ℕ, Bool, true, not, ◌&&◌, nat_le, nat_lt, ◌≡◌, length, Option}
+use Rattle.std.specs.Prelude.{ℕ, Bool, true, not, ◌&&◌, nat_lt, ◌≡◌, length, Option}
 use Rattle.std.specs.List.{list_all}
 use Rattle.std.specs.Option.{is_some}
 use Rattle.ft_fields.specs.declared.event.Name.{Name}
 use Rattle.ft_fields.specs.Fields.{has_field, is_text}
 use Rattle.ft_hist.specs.declared.item.KeyItem.{KeyItem}
-use Rattle.ft_hist.specs.declared.item.Mode.{Mode}
-use Rattle.ft_hist.specs.declared.item.Mode.TheVariants as modes
 use Rattle.ft_hist.specs.declared.item.Item.{Item}
 use Rattle.ft_hist.specs.declared.item.Item.TheVariants as items
 use Rattle.ft_hist.specs.declared.item.SortBy.{SortBy}
 use Rattle.ft_hist.specs.declared.item.SortBy.TheVariants as sorts
 use Rattle.ft_hist.specs.declared.label.Var.{Var}
 use Rattle.ft_hist.specs.Hist.{Hist}
-
--- the modifier may stand behind a field of texts, or behind one of numbers; buckets have a size (kernel: histogram.rst, modifiers)
-abbrev pub mode_suits : Bool → Mode → Bool
-mode_suits text modes.Plain = true
-mode_suits text modes.Hex = not text
-mode_suits text modes.Log2 = not text
-mode_suits text (modes.Buckets size) = not text && nat_le 1 size
+use Rattle.ft_hist.specs.Modifiers.{mode_suits}
 
 -- a key item is of a field that the event has (kernel: histogram.rst, `keys`)
 abbrev pub key_suits : Name → KeyItem → Bool

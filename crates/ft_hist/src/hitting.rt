@@ -3,15 +3,12 @@
 ghost use Rattle.std.specs.Prelude.{◌≡◌, ◌+◌, ◌<◌, ◌≤◌, length, option_map};
 ghost use Rattle.std.specs.Option.{option_copied};
 ghost use Rattle.ft_hist.specs.declared.item.KeyItem.{KeyItem};
-ghost use Rattle.ft_keys.specs.declared.key.Part.{Part};
-ghost use Rattle.ft_hist.specs.Powers.{log2_of, bucket_of};
-ghost use Rattle.ft_hist.specs.Hit.{number_part, text_part, value_part, part_of, key_of};
-ghost use Rattle.ft_hist.specs.Hit.{same_name, passes_filter, hit};
+ghost use Rattle.ft_hist.specs.Hit.{part_of, key_of, same_name, passes_filter, hit};
 
-use crate::item::{KeyItem, Mode};
+use crate::item::KeyItem;
 use crate::trigger::Trigger;
 use crate::work::Work;
-use ft_fields::{Comm, Event, Name, Value};
+use ft_fields::{Event, Name};
 use ft_filter::Filter;
 use ft_keys::{Key, Part};
 
@@ -73,60 +70,7 @@ pub(crate) fn part_of(item: KeyItem, event: &Event) -> Option<Part>
     ensures { result ≡ part_of item event.now }
 {
     match event.field(item.field) {
-        Some(value) => value_part(item.mode, value),
+        Some(value) => item.mode.part_of(value),
         None => None,
-    }
-}
-
-/// What a modifier makes of a field's value.
-fn value_part(modifier: Mode, value: Value) -> Option<Part>
-    ensures { result ≡ value_part modifier value }
-{
-    match value {
-        Value::Num(number) => Some(number_part(modifier, number)),
-        Value::Text(text) => text_part(modifier, text),
-    }
-}
-
-/// What a modifier makes of a number.
-fn number_part(modifier: Mode, number: i64) -> Part
-    ensures { result ≡ number_part modifier number }
-{
-    match modifier {
-        Mode::Plain | Mode::Hex => Part::Num(number),
-        Mode::Log2 => Part::Log2(log2_of(number.cast_unsigned())),
-        Mode::Buckets(size) => Part::Bucket(bucket_of(size, number.cast_unsigned())),
-    }
-}
-
-/// What a modifier makes of a text: only no modifier at all makes something.
-fn text_part(modifier: Mode, text: Comm) -> Option<Part>
-    ensures { result ≡ text_part modifier text }
-{
-    match modifier {
-        Mode::Plain => Some(Part::Text(text)),
-        Mode::Hex | Mode::Log2 | Mode::Buckets(_) => None,
-    }
-}
-
-/// The least n for which the value is at most 2 to the n.
-fn log2_of(value: u64) -> u8
-    ensures { result ≡ log2_of value }
-{
-    if value == 0 {
-        0
-    } else {
-        (64 - (value - 1).leading_zeros()) as u8
-    }
-}
-
-/// The greatest multiple of the size that is not above the value; of the size 0 it is 0.
-fn bucket_of(size: u32, value: u64) -> u64
-    ensures { result ≡ bucket_of size value }
-{
-    if size == 0 {
-        0
-    } else {
-        value / u64::from(size) * u64::from(size)
     }
 }

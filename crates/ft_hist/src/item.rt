@@ -1,5 +1,6 @@
 //! The items of a trigger's parts: what it counts under, what it sums, how its rows are sorted.
 
+use crate::modifier::Mode;
 use ft_fields::Field;
 
 /// A key item: a field, and its modifier.
@@ -9,19 +10,6 @@ pub struct KeyItem {
     pub field: Field,
     /// Its modifier: what is made of its value.
     pub mode: Mode,
-}
-
-/// A modifier: what a key item makes of its field's value.
-#[derive(Clone, Copy, Debug, PartialEq, Eq)]
-pub enum Mode {
-    /// No modifier: the value itself.
-    Plain,
-    /// `.hex`: the value itself, printed in hexadecimal.
-    Hex,
-    /// `.log2`: the least power of 2 that is not below the value.
-    Log2,
-    /// `.buckets=N`: the greatest multiple of N that is not above the value.
-    Buckets(u32),
 }
 
 /// A value item: what a trigger sums beside the count of hits.

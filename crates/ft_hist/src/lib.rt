@@ -22,16 +22,18 @@ mod item;
 mod label;
 pub mod laws;
 mod matching;
+mod modifier;
 mod trigger;
 mod values;
 mod work;
 mod writing;
 
 pub use ft_keys::{Key, Part};
-pub use item::{Item, KeyItem, Mode, SortBy, SortItem};
+pub use item::{Item, KeyItem, SortBy, SortItem};
 pub use label::{Label, Var};
 pub use laws::{
     asked_events, equal_keys, fitting_parts, multiples, one_key_order, powers, summed_fields,
 };
+pub use modifier::{Mode, mode_named};
 pub use trigger::Trigger;
 pub use work::Work;

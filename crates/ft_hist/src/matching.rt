@@ -1,9 +1,10 @@
 //! Whether the keys of two triggers can be the same.
 
 ghost use Rattle.std.specs.Prelude.{◌≡◌, ◌↔◌, IsTrue, map};
-ghost use Rattle.ft_hist.specs.Matching.{same_kind, number_kind, item_kind, keys_match};
+ghost use Rattle.ft_hist.specs.Matching.{item_kind, keys_match};
+ghost use Rattle.ft_hist.specs.Modifiers.{same_kind};
 
-use crate::item::{KeyItem, Mode};
+use crate::item::KeyItem;
 use crate::trigger::Trigger;
 
 impl Trigger {
@@ -38,19 +39,7 @@ fn is_same_kind(a: KeyItem, b: KeyItem) -> bool
 {
     match (a.field.is_text(), b.field.is_text()) {
         (true, true) => true,
-        (false, false) => modifiers_match(a.mode, b.mode),
-        _ => false,
-    }
-}
-
-/// Whether two modifiers make parts of the same kind of numbers.
-fn modifiers_match(a: Mode, b: Mode) -> bool
-    ensures { result ≡ same_kind (number_kind a) (number_kind b) }
-{
-    match (a, b) {
-        (Mode::Plain | Mode::Hex, Mode::Plain | Mode::Hex) => true,
-        (Mode::Log2, Mode::Log2) => true,
-        (Mode::Buckets(a), Mode::Buckets(b)) => a == b,
+        (false, false) => a.mode.matches(b.mode),
         _ => false,
     }
 }

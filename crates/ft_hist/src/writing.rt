@@ -5,11 +5,11 @@
 ghost use Rattle.std.specs.Prelude.{◌≡◌, ◌++◌, OnOk, OnErr, map, option_map, codes, decimal};
 ghost use Rattle.std.specs.Option.{option_copied};
 ghost use Rattle.ft_text.specs.Fronts.{IsFront};
-ghost use Rattle.ft_hist.specs.Canonical.{canonical, listed, more_items, key_text, mode_text};
+ghost use Rattle.ft_hist.specs.Canonical.{canonical, listed, more_items, key_text};
 ghost use Rattle.ft_hist.specs.Canonical.{value_text, by_text, sort_text};
 ghost use Rattle.ft_hist.specs.Canonical.{variable_text, if_text};
 
-use crate::item::{Item, KeyItem, Mode, SortBy, SortItem};
+use crate::item::{Item, KeyItem, SortBy, SortItem};
 use crate::label::{Label, Var};
 use crate::trigger::Trigger;
 use ft_fields::field_text;
@@ -94,23 +94,7 @@ fn write_key(key: KeyItem, text: &mut Vec<u8>) -> Result<(), AllocError>
     ensures err { OnErr result (IsFront text.old.items text.new.items) }
 {
     text.extend_from_slice(field_text(key.field))?;
-    write_modifier(key.mode, text)
-}
-
-/// Adds a modifier, where there is one.
-fn write_modifier(modifier: Mode, text: &mut Vec<u8>) -> Result<(), AllocError>
-    ensures ok { OnOk result (text.new.items ≡ text.old.items ++ mode_text modifier) }
-    ensures err { OnErr result (IsFront text.old.items text.new.items) }
-{
-    match modifier {
-        Mode::Plain => Ok(()),
-        Mode::Hex => text.extend_from_slice(b".hex"),
-        Mode::Log2 => text.extend_from_slice(b".log2"),
-        Mode::Buckets(size) => {
-            text.extend_from_slice(b".buckets=")?;
-            write_decimal(u64::from(size), text)
-        }
-    }
+    key.mode.write(text)
 }
 
 /// Adds the value items, each behind a `,`.
