@@ -1,7 +1,7 @@
 -- What has been read of a trigger's head, and what one more part or item adds to it (kernel: histogram.rst, hist triggers).
 use Rattle.std.specs.Prelude.{filter, option_map, ℕ, ◌+◌, ◌^◌, Bool, true, false, not, ◌&&◌, ◌||◌, ◌==◌, nat_le, List, [], ◌∷◌, ◌++◌, length, drop, Option, Some, None, Result, Ok, Err, if◌then◌else◌, codes}
 use Rattle.std.specs.List.{list_any, starts_with, find}
-use Rattle.std.specs.Option.{option_map_or, is_some}
+use Rattle.std.specs.Option.{option_map_or, option_or, is_some}
 use Rattle.std.specs.Str.{bytes_eq}
 use Rattle.std.specs.Str.Parse.{digits_value}
 use Rattle.ft_fields.specs.declared.event.Name.{Name}
@@ -10,12 +10,13 @@ use Rattle.ft_fields.specs.Fields.{is_named, all_fields, is_text, text_of}
 use Rattle.ft_head.specs.declared.fault.TriggerFault.{TriggerFault}
 use Rattle.ft_head.specs.declared.fault.TriggerFault.TheVariants.{Syntax, NoField, NotNumeric, TooMany, Duplicate, BadSize, BadSort, BadModifier, LeftOut}
 use Rattle.ft_hist.specs.declared.item.KeyItem.{KeyItem}
-use Rattle.ft_hist.specs.declared.item.Mode.{Mode}
-use Rattle.ft_hist.specs.declared.item.Mode.TheVariants as modes
+use Rattle.ft_hist.specs.declared.modifier.Mode.{Mode}
+use Rattle.ft_hist.specs.declared.modifier.Mode.TheVariants as modes
 use Rattle.ft_head.specs.declared.draft.Kind.{Kind}
 use Rattle.ft_head.specs.declared.draft.Kind.TheVariants.{Keys, Values, Sort, Size}
 use Rattle.ft_hist.specs.declared.label.Var.{Var}
 use Rattle.ft_hist.specs.declared.label.Var.TheVariants as vars
+use Rattle.ft_hist.specs.Modifiers.{named_modes, is_called}
 use Rattle.ft_hist.specs.Powers.{first_power}
 use Rattle.ft_head.specs.Words.{Piece, pieces, Word, word_of, is_number, number_in}
 use Rattle.ft_tokens.specs.Tokens.{name_at}
@@ -76,14 +77,18 @@ same_word a b = bytes_eq a.name b.name && (if a.dollar then b.dollar else not b.
 
 -- ---- keys
 
+-- buckets of a size (kernel: histogram.rst, modifiers)
+abbrev pub buckets_of : List ℕ → Option Mode
+buckets_of suffix = if starts_with ◌==◌ suffix (codes "buckets=") then option_map modes.Buckets (number_in 1 4294967295 (drop 8 suffix)) else None
+
+-- the modifier that stands behind a `.`: a name and nothing else, or buckets of a size (kernel: histogram.rst, modifiers)
+abbrev pub number_mode : List ℕ → Option Mode
+number_mode suffix = option_or (find (is_called suffix) named_modes) (buckets_of suffix)
+
 -- what a modifier makes of a field: those that there are need a field of numbers (kernel: histogram.rst, modifiers)
 abbrev pub mode_of : Bool → Option (List ℕ) → Option Mode
 mode_of text None = Some modes.Plain
-mode_of text (Some suffix) =
-    if text then None
-    else (if bytes_eq suffix (codes "hex") then Some modes.Hex
-    else (if bytes_eq suffix (codes "log2") then Some modes.Log2
-    else (if starts_with ◌==◌ suffix (codes "buckets=") then option_map modes.Buckets (number_in 1 4294967295 (drop 8 suffix)) else None)))
+mode_of text (Some suffix) = if text then None else number_mode suffix
 
 -- the field is a key's (our own choice)
 abbrev pub is_key : List KeyItem → Field → Bool

@@ -7,5 +7,6 @@ pub mod TriggerFault
 pub mod Words
 pub mod inner
 pub use Rattle.ft_fields.specs.Fields
+pub use Rattle.ft_hist.specs.Modifiers
 pub use Rattle.ft_hist.specs.Powers
 pub use Rattle.ft_tokens.specs.Tokens

@@ -6,7 +6,7 @@ ghost use Rattle.std.specs.List.{list_any};
 ghost use Rattle.ft_head.specs.declared.fault.TriggerFault.TheVariants.{Syntax, LeftOut, BadModifier};
 ghost use Rattle.ft_head.specs.declared.fault.TriggerFault.{TriggerFault};
 ghost use Rattle.ft_head.specs.Words.{Word, word_of};
-ghost use Rattle.ft_head.specs.Draft.{given_or, unless, items_of, with_key, with_value, with_sort, is_left_out, is_word, same_word, mode_of, is_key, besides_hitcount, value_fault, is_direction, is_no_key, with_field};
+ghost use Rattle.ft_head.specs.Draft.{given_or, unless, items_of, with_key, with_value, with_sort, is_left_out, is_word, same_word, mode_of, number_mode, buckets_of, is_key, besides_hitcount, value_fault, is_direction, is_no_key, with_field};
 ghost use Rattle.ft_head.specs.Given.{Gives};
 ghost use Rattle.ft_head.specs.inner.Leaving.{Leaves};
 
@@ -14,7 +14,7 @@ use crate::fault::TriggerFault;
 use crate::pieces::{Piece, Pieces};
 use crate::words::{Word, number_in, word_of};
 use ft_fields::{Field, Name, field_named, field_text};
-use ft_hist::{KeyItem, Mode};
+use ft_hist::{KeyItem, Mode, mode_named};
 use ft_text::is_same;
 use std::alloc::Global;
 
@@ -167,16 +167,20 @@ fn mode_of(is_text: bool, suffix: Option<&[u8]>) -> Option<Mode>
     }
 }
 
-/// What a modifier makes of a number.
+/// The modifier that stands behind a `.`: a name and nothing else, or buckets of a size.
 fn number_mode(suffix: &[u8]) -> Option<Mode>
-    ensures { result ≡ mode_of false (Some suffix.now) }
+    ensures { result ≡ number_mode suffix.now }
 {
-    if is_same(suffix, b"hex") {
-        return Some(Mode::Hex);
+    match mode_named(suffix) {
+        Some(mode) => Some(mode),
+        None => buckets_of(suffix),
     }
-    if is_same(suffix, b"log2") {
-        return Some(Mode::Log2);
-    }
+}
+
+/// Buckets of a size.
+fn buckets_of(suffix: &[u8]) -> Option<Mode>
+    ensures { result ≡ buckets_of suffix.now }
+{
     match suffix.strip_prefix(b"buckets=") {
         Some(size) => number_in(size, 1, u32::MAX).map(Mode::Buckets),
         None => None,
