@@ -2,7 +2,7 @@
 
 ghost use Rattle.std.specs.Prelude.{◌≡◌, ◌≤◌, ◌++◌, OnOk, OnErr, IsTrue, codes, decimal};
 ghost use Rattle.ft_fields.specs.Fields.{is_text};
-ghost use Rattle.ft_hist.specs.Sound.{mode_suits};
+ghost use Rattle.ft_hist.specs.Modifiers.{mode_suits};
 ghost use Rattle.ft_text.specs.Fronts.{IsFront};
 ghost use Rattle.ft_rows.specs.Text.{left_in, bucket_end, part_text, named_part};
 
