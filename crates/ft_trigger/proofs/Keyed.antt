@@ -1,10 +1,11 @@
 -- Key items that can be read, and how their texts are read.
-use Rattle.std.proofs.Common.{◌≡◌, ◌||◌, ℕ, Bool, true, false, List, [], ◌∷◌, ◌++◌, length, drop, Option, Some, None, option_map, Result, Ok, refl, sym, ap, ◌∙◌, subst, arith, codes, decimal, find, cond, ◌==◌, leb-true}
-use Rattle.std.proofs.lemmas.Bool.{and_parts, and_from, or_parts}
+use Rattle.std.proofs.Common.{◌≡◌, ◌&&◌, ◌||◌, ℕ, Bool, true, false, not, List, [], ◌∷◌, ◌++◌, length, drop, Option, Some, None, option_map, Result, Ok, refl, sym, ap, ◌∙◌, subst, arith, codes, find, cond, ◌==◌, leb-true}
+use Rattle.std.proofs.lemmas.Bool.{and_parts, and_from, or_parts, not-true}
 use Rattle.std.proofs.lemmas.List.Folds.{list_all-append}
 use Rattle.std.proofs.lemmas.Option.{same_Some}
 use Rattle.std.specs.Prelude.{nat_le}
 use Rattle.std.specs.List.{list_any, list_all, starts_with}
+use Rattle.std.specs.Option.{option_map_or, option_or}
 use Rattle.std.specs.Str.{bytes_eq}
 use Rattle.ft_fields.specs.declared.event.Name.{Name}
 use Rattle.ft_fields.specs.declared.field.Field.{Field}
@@ -12,10 +13,11 @@ use Rattle.ft_fields.specs.Fields.{is_named, all_fields, is_text, text_of, has_f
 use Rattle.ft_head.specs.declared.fault.TriggerFault.{TriggerFault}
 use Rattle.ft_head.specs.declared.fault.TriggerFault.TheVariants.{NoField, TooMany, Duplicate, BadModifier, LeftOut}
 use Rattle.ft_hist.specs.declared.item.KeyItem.{KeyItem}
-use Rattle.ft_hist.specs.declared.item.Mode.{Mode}
-use Rattle.ft_hist.specs.declared.item.Mode.TheVariants as modes
-use Rattle.ft_hist.specs.Canonical.{mode_text, key_text}
-use Rattle.ft_head.specs.Draft.{unless, given_or, is_left_out, mode_of, is_key, with_key}
+use Rattle.ft_hist.specs.declared.modifier.Mode.{Mode}
+use Rattle.ft_hist.specs.declared.modifier.Mode.TheVariants as modes
+use Rattle.ft_hist.specs.Canonical.{key_text}
+use Rattle.ft_hist.specs.Modifiers.{mode_name, named_modes, is_called, mode_suffix, mode_suits}
+use Rattle.ft_head.specs.Draft.{unless, given_or, is_left_out, mode_of, number_mode, buckets_of, is_key, with_key}
 use Rattle.ft_head.specs.Words.{Word, word_of, number_in}
 use Rattle.ft_trigger.proofs.Chains.{Steps, Again}
 use Rattle.ft_trigger.proofs.Inversions.{unless_parts, given_parts}
@@ -27,21 +29,17 @@ use Rattle.ft_head.proofs.Spellings.{IsName, suffix_text, IsSuffix, word_text, w
 abbrev unkept : List (List ℕ)
 unkept = codes "common_timestamp" ∷ codes "stacktrace" ∷ codes "common_stacktrace" ∷ []
 
--- the modifier that a mode is written as
-abbrev pub mode_suffix : Mode → Option (List ℕ)
-mode_suffix modes.Plain = None
-mode_suffix modes.Hex = Some (codes "hex")
-mode_suffix modes.Log2 = Some (codes "log2")
-mode_suffix (modes.Buckets size) = Some (codes "buckets=" ++ decimal size)
-
 -- a key's word
 abbrev pub key_word : KeyItem → Word
 key_word key = record { dollar = false; name = text_of key.field; suffix = mode_suffix key.mode }
 
--- the mode is one that can be read for a field of texts or of numbers
+-- the mode is one that can be read for a field of texts or of numbers, and suits it
 pub record ModeFits (text : Bool) (mode : Mode) : Type 0 where
   pub reads : mode_of text (mode_suffix mode) ≡ Some mode
   pub bare : list_all is_bare (suffix_text (mode_suffix mode)) ≡ true
+  pub kept : is_left_out (mode_suffix mode) ≡ false
+  pub some : IsSuffix (mode_suffix mode)
+  pub suits : mode_suits text mode ≡ true
 
 -- the key is one that can be read behind others
 pub record KeyFits (event : Name) (keys : List KeyItem) (key : KeyItem) : Type 0 where
@@ -61,11 +59,59 @@ find_passes test (y ∷ xs) x e = from (find_passes test xs x) (test y) refl e
     from later true is e = subst (λ z. test z ≡ true) (same_Some y x e) is
     from later false is e = later e
 
+-- what is found passes what all pass
+found_passes : {A : Type 0} (test all : A → Bool) (xs : List A) (x : A) → find test xs ≡ Some x → list_all all xs ≡ true → all x ≡ true
+found_passes test all [] x e h = absurd cc
+found_passes test all (y ∷ xs) x e h =
+    let both = and_parts (all y) (list_all all xs) h in
+    from both.0 (λ later. found_passes test all xs x later both.1) (test y) e
+  where
+    from : all y ≡ true → (find test xs ≡ Some x → all x ≡ true) → (b : Bool) → cond b (Some y) (find test xs) ≡ Some x → all x ≡ true
+    from here rest true e = subst (λ z. all z ≡ true) (same_Some y x e) here
+    from here rest false e = rest e
+
 -- a field that is found by a name has this name
 pub field_name : (event : Name) (name : List ℕ) (field : Field) → find (is_named event name) all_fields ≡ Some field → text_of field ≡ name
 field_name event name field e = bytes_same (text_of field) name (and_parts (bytes_eq (text_of field) name) (has_field event field) (find_passes (is_named event name) all_fields field e)).0
 
 -- ---- modes
+
+-- the suffix is the mode's name and nothing else, can be read, and suits a field of numbers
+abbrev is_bare_name : Mode → Bool
+is_bare_name mode =
+    option_map_or (bytes_eq (mode_name mode)) (mode_suffix mode) false
+    && (list_all is_bare (mode_name mode) && (not (is_left_out (Some (mode_name mode))) && (not (length (mode_name mode) == 0) && mode_suits false mode)))
+
+-- so it is of each that is a name and nothing else
+names_are_bare : list_all is_bare_name named_modes ≡ true
+names_are_bare = refl
+
+-- a suffix that is a name is this name
+suffix_named : (name : List ℕ) (suffix : Option (List ℕ)) → option_map_or (bytes_eq name) suffix false ≡ true → suffix ≡ Some name
+suffix_named name None e = absurd cc
+suffix_named name (Some suffix) e = ap Some (sym (bytes_same name suffix e))
+
+-- a name with a byte at least can be a suffix
+name_some : (name : List ℕ) → not (length name == 0) ≡ true → IsSuffix (Some name)
+name_some [] e = absurd cc
+name_some (byte ∷ name) e = tt
+
+-- a mode that is a name
+named_fits : (suffix : List ℕ) (mode : Mode) → find (is_called suffix) named_modes ≡ Some mode → ModeFits false mode
+named_fits suffix mode found =
+    let tests = and_parts _ _ (found_passes (is_called suffix) is_bare_name named_modes mode found names_are_bare) in
+    let more = and_parts _ _ tests.1 in
+    let rest = and_parts _ _ more.1 in
+    let last = and_parts _ _ rest.1 in
+    let called : mode_name mode ≡ suffix = bytes_same (mode_name mode) suffix (find_passes (is_called suffix) named_modes mode found) in
+    let is : mode_suffix mode ≡ Some (mode_name mode) = suffix_named (mode_name mode) (mode_suffix mode) tests.0 in
+    record {
+      reads = ap (mode_of false) (is ∙ ap Some called) ∙ ap (λ (o : Option Mode). option_or o (buckets_of suffix)) found;
+      bare = ap (λ (s : Option (List ℕ)). list_all is_bare (suffix_text s)) is ∙ more.0;
+      kept = ap is_left_out is ∙ not-true (is_left_out (Some (mode_name mode))) rest.0;
+      some = subst IsSuffix (sym is) (name_some (mode_name mode) last.0);
+      suits = last.1;
+    }
 
 -- buckets of a size
 buckets_fit : (text : List ℕ) (mode : Mode) → option_map modes.Buckets (number_in 1 4294967295 text) ≡ Some mode → ModeFits false mode
@@ -75,31 +121,33 @@ buckets_fit text mode e = from (number_in 1 4294967295 text) refl e
     made n is =
         let range = number_parts 1 4294967295 n text is in
         let high = leb-true n 4294967295 range.1 in
-        record { reads = ap (option_map modes.Buckets) (number_again 1 4294967295 n range.0 range.1 (omega arith)); bare = decimal_bare n (omega arith) }
+        record {
+          reads = ap (option_map modes.Buckets) (number_again 1 4294967295 n range.0 range.1 (omega arith));
+          bare = decimal_bare n (omega arith);
+          kept = refl;
+          some = tt;
+          suits = range.0;
+        }
 
     from : (o : Option ℕ) → number_in 1 4294967295 text ≡ o → option_map modes.Buckets o ≡ Some mode → ModeFits false mode
     from None is e = absurd cc
     from (Some n) is e = subst (ModeFits false) (same_Some (modes.Buckets n) mode e) (made n is)
 
 -- a modifier of a field of numbers
-suffix_fits : (suffix : List ℕ) (mode : Mode) → mode_of false (Some suffix) ≡ Some mode → ModeFits false mode
-suffix_fits suffix mode e = hex (bytes_eq suffix (codes "hex")) e
+suffix_fits : (suffix : List ℕ) (mode : Mode) → number_mode suffix ≡ Some mode → ModeFits false mode
+suffix_fits suffix mode e = from (find (is_called suffix) named_modes) refl e
   where
     buckets : (b : Bool) → cond b (option_map modes.Buckets (number_in 1 4294967295 (drop 8 suffix))) None ≡ Some mode → ModeFits false mode
     buckets true e = buckets_fit (drop 8 suffix) mode e
     buckets false e = absurd cc
 
-    log2 : (b : Bool) → cond b (Some modes.Log2) (cond (starts_with ◌==◌ suffix (codes "buckets=")) (option_map modes.Buckets (number_in 1 4294967295 (drop 8 suffix))) None) ≡ Some mode → ModeFits false mode
-    log2 true e = subst (ModeFits false) (same_Some modes.Log2 mode e) (record { reads = refl; bare = refl })
-    log2 false e = buckets (starts_with ◌==◌ suffix (codes "buckets=")) e
-
-    hex : (b : Bool) → cond b (Some modes.Hex) (cond (bytes_eq suffix (codes "log2")) (Some modes.Log2) (cond (starts_with ◌==◌ suffix (codes "buckets=")) (option_map modes.Buckets (number_in 1 4294967295 (drop 8 suffix))) None)) ≡ Some mode → ModeFits false mode
-    hex true e = subst (ModeFits false) (same_Some modes.Hex mode e) (record { reads = refl; bare = refl })
-    hex false e = log2 (bytes_eq suffix (codes "log2")) e
+    from : (o : Option Mode) → find (is_called suffix) named_modes ≡ o → option_or o (buckets_of suffix) ≡ Some mode → ModeFits false mode
+    from None is e = buckets (starts_with ◌==◌ suffix (codes "buckets=")) e
+    from (Some named) is e = subst (ModeFits false) (same_Some named mode e) (named_fits suffix named is)
 
 -- a mode that is read can be read again
 mode_fits : (text : Bool) (suffix : Option (List ℕ)) (mode : Mode) → mode_of text suffix ≡ Some mode → ModeFits text mode
-mode_fits text None mode e = subst (ModeFits text) (same_Some modes.Plain mode e) (record { reads = refl; bare = refl })
+mode_fits text None mode e = subst (ModeFits text) (same_Some modes.Plain mode e) (record { reads = refl; bare = refl; kept = refl; some = tt; suits = refl })
 mode_fits true (Some suffix) mode e = absurd cc
 mode_fits false (Some suffix) mode e = suffix_fits suffix mode e
 
@@ -169,30 +217,14 @@ key_shift event keys more place other word e =
 
 -- ---- what can be read is read again
 
--- a key's suffix is none that is left out
-suffix_kept : (mode : Mode) → is_left_out (mode_suffix mode) ≡ false
-suffix_kept modes.Plain = refl
-suffix_kept modes.Hex = refl
-suffix_kept modes.Log2 = refl
-suffix_kept (modes.Buckets size) = refl
-
--- a key's suffix is not empty
-suffix_some : (mode : Mode) → IsSuffix (mode_suffix mode)
-suffix_some modes.Plain = tt
-suffix_some modes.Hex = tt
-suffix_some modes.Log2 = tt
-suffix_some (modes.Buckets size) = tt
-
 -- a mode's text is its suffix's
-mode_spelled : (mode : Mode) → mode_text mode ≡ suffix_text (mode_suffix mode)
-mode_spelled modes.Plain = refl
-mode_spelled modes.Hex = refl
-mode_spelled modes.Log2 = refl
-mode_spelled (modes.Buckets size) = refl
+suffix_spelled : (suffix : Option (List ℕ)) → option_map_or (λ text. codes "." ++ text) suffix [] ≡ suffix_text suffix
+suffix_spelled None = refl
+suffix_spelled (Some suffix) = refl
 
 -- a key's text is its word's
 key_spelled : (key : KeyItem) → word_text (key_word key) ≡ key_text key
-key_spelled key = ap (λ (t : List ℕ). text_of key.field ++ t) (sym (mode_spelled key.mode))
+key_spelled key = ap (λ (t : List ℕ). text_of key.field ++ t) (sym (suffix_spelled (mode_suffix key.mode)))
 
 -- a key's text can stand in a list
 pub key_bare : (event : Name) (keys : List KeyItem) (key : KeyItem) → KeyFits event keys key → list_all is_bare (key_text key) ≡ true
@@ -203,13 +235,13 @@ key_bare event keys key h =
 -- a key's word adds it
 key_adds : (event : Name) (keys : List KeyItem) (key : KeyItem) (place : ℕ) → KeyFits event keys key → with_key event keys place (key_word key) ≡ Ok (keys ++ key ∷ [])
 unfolding with_key
-key_adds event keys key place h = rw (h.few, h.kept, h.owned, suffix_kept key.mode, h.suited.reads, h.apart) refl
+key_adds event keys key place h = rw (h.few, h.kept, h.owned, h.suited.kept, h.suited.reads, h.apart) refl
 
 -- a key's text is read
 pub key_again : (event : Name) (keys : List KeyItem) (key : KeyItem) → KeyFits event keys key → Again (with_key event) (KeyFits event) (key_text key) keys key
 key_again event keys key h = record {
   free = bare_free (key_text key) (key_bare event keys key h);
   word = key_word key;
-  reads = ap word_of (sym (key_spelled key)) ∙ word_again (key_word key) h.named (suffix_some key.mode);
+  reads = ap word_of (sym (key_spelled key)) ∙ word_again (key_word key) h.named h.suited.some;
   adds = λ place. key_adds event keys key place h;
 }

@@ -1,8 +1,8 @@
 -- A trigger that some text gives has items that are its event's.
-use Rattle.std.proofs.Common.{◌≡◌, ◌||◌, ℕ, Bool, true, false, not, List, [], ◌∷◌, ◌++◌, length, drop, take, Option, Some, None, option_map, Result, Ok, refl, sym, ap, subst, arith, codes, decimal, find, cond, ◌==◌, ◌-◌}
+use Rattle.std.proofs.Common.{◌≡◌, ◌||◌, ℕ, Bool, true, false, not, List, [], ◌∷◌, ◌++◌, length, drop, take, Option, Some, None, option_map, Result, Ok, refl, sym, ap, subst, arith, codes, find, cond, ◌==◌, ◌-◌}
 use Rattle.std.proofs.lemmas.Bool.{and_parts, and_from, lt-ltb}
 use Rattle.std.proofs.lemmas.Option.{same_Some, slice_get_within, cond_some}
-use Rattle.std.specs.Prelude.{nat_le, unwrap_or, if◌then◌else◌}
+use Rattle.std.specs.Prelude.{unwrap_or, if◌then◌else◌}
 use Rattle.std.specs.List.{list_all, starts_with}
 use Rattle.std.specs.Option.{option_map_or}
 use Rattle.std.specs.Str.{bytes_eq}
@@ -12,8 +12,6 @@ use Rattle.ft_fields.specs.Fields.{is_named, all_fields, is_text, text_of, has_f
 use Rattle.ft_head.specs.declared.fault.TriggerFault.{TriggerFault}
 use Rattle.ft_head.specs.declared.fault.TriggerFault.TheVariants.{NoField, NotNumeric, BadSort}
 use Rattle.ft_hist.specs.declared.item.KeyItem.{KeyItem}
-use Rattle.ft_hist.specs.declared.item.Mode.{Mode}
-use Rattle.ft_hist.specs.declared.item.Mode.TheVariants as modes
 use Rattle.ft_hist.specs.declared.item.Item.{Item}
 use Rattle.ft_hist.specs.declared.item.Item.TheVariants as items
 use Rattle.ft_hist.specs.declared.item.SortBy.{SortBy}
@@ -21,18 +19,17 @@ use Rattle.ft_hist.specs.declared.item.SortBy.TheVariants as sorts
 use Rattle.ft_hist.specs.declared.item.SortItem.{SortItem}
 use Rattle.ft_hist.specs.declared.label.Var.{Var}
 use Rattle.ft_hist.specs.declared.label.Var.TheVariants as vars
-use Rattle.ft_head.specs.Draft.{Draft, blank, ◌>>=◌, is_word, besides_hitcount, value_fault, mode_of, parts_from}
+use Rattle.ft_head.specs.Draft.{Draft, blank, ◌>>=◌, is_word, besides_hitcount, value_fault, parts_from}
 use Rattle.ft_hist.specs.Hist.{Hist}
 use Rattle.ft_filter.specs.Tree.{Tree}
-use Rattle.ft_hist.specs.Sound.{mode_suits, key_suits, value_suits, by_suits, IsSound}
+use Rattle.ft_hist.specs.Sound.{key_suits, value_suits, by_suits, IsSound}
 use Rattle.ft_trigger.specs.TriggerIs.{own_name, value_item, value_items, index_where, names_value, sort_by, is_descending, sorts_of, by_hits, sort_of, head_len, behind_head, tail_of, filter_in, finished, trigger_of}
-use Rattle.ft_head.specs.Words.{Word, number_in, pieces}
+use Rattle.ft_head.specs.Words.{Word, pieces}
 use Rattle.ft_trigger.proofs.Chains.{Chain}
 use Rattle.ft_trigger.proofs.Inversions.{then_parts, given_parts}
 use Rattle.ft_trigger.proofs.Drafts.{DraftFits, draft_fits}
 use Rattle.ft_trigger.proofs.ReadAgain.{Made, made_so, keys_of, words_of}
-use Rattle.ft_trigger.proofs.Keyed.{KeyFits, mode_suffix, find_passes}
-use Rattle.ft_head.proofs.Numerals.{number_parts}
+use Rattle.ft_trigger.proofs.Keyed.{KeyFits, find_passes}
 use Rattle.ft_trigger.proofs.ReadSo.{read_so}
 use Rattle.ft_trigger.proofs.Sorted.{index_parts}
 use Rattle.ft_head.proofs.Spellings.{bytes_same}
@@ -40,26 +37,11 @@ use Rattle.ft_trigger.proofs.Valued.{ValueFits, hits, others_fit}
 
 -- ---- keys
 
--- buckets that are read have a size
-bucket_sound : (size : ℕ) (o : Option ℕ) → number_in 1 4294967295 (decimal size) ≡ o → option_map modes.Buckets o ≡ Some (modes.Buckets size) → nat_le 1 size ≡ true
-bucket_sound size None is e = absurd cc
-bucket_sound size (Some n) is e = let same : n ≡ size = cc in subst (λ (m : ℕ). nat_le 1 m ≡ true) same (number_parts 1 4294967295 n (decimal size) is).0
-
--- a mode that is read for a field suits it
-mode_sound : (text : Bool) (mode : Mode) → mode_of text (mode_suffix mode) ≡ Some mode → mode_suits text mode ≡ true
-mode_sound text modes.Plain e = refl
-mode_sound false modes.Hex e = refl
-mode_sound true modes.Hex e = absurd cc
-mode_sound false modes.Log2 e = refl
-mode_sound true modes.Log2 e = absurd cc
-mode_sound false (modes.Buckets size) e = bucket_sound size (number_in 1 4294967295 (decimal size)) refl e
-mode_sound true (modes.Buckets size) e = absurd cc
-
 -- a key that is read suits its event
 key_sound : (event : Name) (keys : List KeyItem) (key : KeyItem) → KeyFits event keys key → key_suits event key ≡ true
 key_sound event keys key h =
     let found = find_passes (is_named event (text_of key.field)) all_fields key.field h.owned in
-    and_from _ _ (and_parts (bytes_eq (text_of key.field) (text_of key.field)) (has_field event key.field) found).1 (mode_sound (is_text key.field) key.mode h.suited.reads)
+    and_from _ _ (and_parts (bytes_eq (text_of key.field) (text_of key.field)) (has_field event key.field) found).1 h.suited.suits
 
 -- so do keys
 pub keys_sound : (event : Name) (more keys : List KeyItem) → Chain (KeyFits event) keys more → list_all (key_suits event) more ≡ true

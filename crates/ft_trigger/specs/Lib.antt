@@ -19,6 +19,7 @@ pub use Rattle.ft_hist.specs.Canonical
 pub use Rattle.ft_hist.specs.Hist
 pub use Rattle.ft_hist.specs.Hit
 pub use Rattle.ft_hist.specs.Matching
+pub use Rattle.ft_hist.specs.Modifiers
 pub use Rattle.ft_keys.specs.Orders
 pub use Rattle.ft_keys.specs.Parts
 pub use Rattle.ft_hist.specs.Powers
