@@ -127,16 +127,8 @@ fn add_detail(line: &mut Vec<u8>, refused: Refused) -> Result<(), AllocError>
             add_place(line, fault.place())
         }
         Refused::InUse(id) | Refused::NameTaken(id) => add(line, b": trigger ", u64::from(id)),
-        Refused::Memory
-        | Refused::NoFile
-        | Refused::NoEvent
-        | Refused::Full
-        | Refused::NoTrigger
-        | Refused::NoVariable
-        | Refused::KeyMismatch
-        | Refused::TooManyTriggers
-        | Refused::BadCommand
-        | Refused::NotReading => Ok(()),
+        // The number of any other says all.
+        _ => Ok(()),
     }
 }
 
