@@ -2,7 +2,7 @@
 
 use ft_board::KeptBoard;
 use ft_desk::{Desk, Done, Kept, Latency, Place, Refused, Totals};
-use ft_script::Command;
+use ft_script::{Command, Numbered};
 
 /// What a call answers that isn't refused.
 #[derive(Drop)]
@@ -30,20 +30,27 @@ pub(crate) fn call(
             let done = desk.load(nth_trace(traces, number)?)?;
             Ok(Answer::Number("loaded", done.value, done.kept))
         }
-        Command::Unload(cpu) => {
-            let done = desk.unload(cpu)?;
-            Ok(Answer::Number("unloaded", done.value, done.kept))
-        }
         Command::Insert(line) => Ok(of_place("inserted", desk.insert(line)?)),
         Command::Strike(cpu, line) => Ok(of_place("struck", desk.strike(cpu, line)?)),
         Command::Attach(event, text) => Ok(of_id("attached", desk.attach(event, text)?)),
         Command::Refilter(id, text) => Ok(of_id("refiltered", desk.refilter(id, text)?)),
-        Command::Remove(id) => Ok(of_id("removed", desk.remove(id)?)),
-        Command::Hist(id) => Ok(Answer::Text(desk.hist(id)?)),
-        Command::Totals(id) => Ok(Answer::Totals(desk.totals(id)?)),
-        Command::Latencies(id) => Ok(Answer::Latencies(desk.latencies(id)?)),
-        Command::Lane(cpu) => Ok(Answer::Text(desk.list(cpu)?)),
+        Command::About(what, number) => call_about(desk, what, number),
         Command::Nothing | Command::NoForm => Err(Refused::BadCommand),
+    }
+}
+
+/// Does what is asked of a desk about one number.
+fn call_about(desk: &mut Desk<KeptBoard>, what: Numbered, number: u32) -> Result<Answer, Refused> {
+    match what {
+        Numbered::Unload => {
+            let done = desk.unload(number)?;
+            Ok(Answer::Number("unloaded", done.value, done.kept))
+        }
+        Numbered::Remove => Ok(of_id("removed", desk.remove(number)?)),
+        Numbered::Hist => Ok(Answer::Text(desk.hist(number)?)),
+        Numbered::Totals => Ok(Answer::Totals(desk.totals(number)?)),
+        Numbered::Latencies => Ok(Answer::Latencies(desk.latencies(number)?)),
+        Numbered::Lane => Ok(Answer::Text(desk.list(number)?)),
     }
 }
 

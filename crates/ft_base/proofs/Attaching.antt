@@ -1,8 +1,7 @@
 -- A trigger at a new greatest id: each name that is saved keeps its saver, and the base stays reachable.
 use Rattle.std.proofs.Common.{◌≡◌, ℕ, ◌+◌, ◌<◌, ◌≤◌, ◌⊎◌, inl, inr, Bool, true, false, cond, true≢false, List, [], ◌∷◌, refl, sym, ap, subst, ◌∙◌, Option, Some, None, is_some, ⊎_elim, arith}
-use Rattle.std.specs.Prelude.{option_map, option_and_then, if◌then◌else◌}
+use Rattle.std.specs.Prelude.{option_map}
 use Rattle.std.specs.List as list
-use Rattle.std.specs.Option.{option_map_or}
 use Rattle.std.specs.Ordering.{nat_cmp, eq_by_cmp}
 use Rattle.std.specs.declared.cmp.Ordering.TheVariants.{Greater}
 use Rattle.std.specs.Cmp.{nat_cmp_total, nat_cmp_is, eq_by_cmp_equiv}
@@ -17,7 +16,7 @@ use Rattle.ft_hist.specs.declared.label.Var.TheVariants as vars
 use Rattle.ft_hist.specs.Hist.{Hist}
 use Rattle.ft_hist.specs.Matching.{keys_match}
 use Rattle.ft_base.specs.declared.refused.Refused.{Refused}
-use Rattle.ft_base.specs.declared.refused.Refused.TheVariants.{NameTaken, NoVariable, KeyMismatch}
+use Rattle.ft_base.specs.declared.refused.Refused.TheVariants.{NameTaken}
 use Rattle.ft_base.specs.Base.{Triggers, Base, id_limit, trigger_limit}
 use Rattle.ft_base.specs.Roles.{saves_name, saver_of}
 use Rattle.ft_base.specs.After.{reader_refused, variable_refused}
@@ -82,26 +81,22 @@ name-free triggers keys (Some (vars.Saves label)) name free saves =
     ap (saver_of triggers) (sym (same_text label name (sym saves)))
     ∙ elim (saver_of triggers label) as (λ o. option_map NameTaken o ≡ None → o ≡ None) [ None ↦ λ _. refl | Some id ↦ λ taken. cc ] free
 
-abbrev against_keys : List KeyItem → Option Hist → Option Refused
-against_keys keys saver = option_map_or (λ saver. if keys_match keys saver.keys then None else Some KeyMismatch) saver (Some NoVariable)
-
-reader_refused-is : (triggers : Triggers) (keys : List KeyItem) (source : List ℕ) → reader_refused triggers keys source ≡ against_keys keys (option_and_then (map.get triggers) (saver_of triggers source))
-unfolding reader_refused
-reader_refused-is triggers keys source = refl
+-- a test that passes, where the refusal behind it does not stand
+passed : (b : Bool) (refused : Refused) → cond b None (Some refused) ≡ None → b ≡ true
+passed true refused none = refl
+passed false refused none = cc
 
 -- what it reads has a saver
 reader-has : (triggers : Triggers) (keys : List KeyItem) (source : List ℕ) → reader_refused triggers keys source ≡ None → HasSaver triggers keys source
+unfolding reader_refused
 reader-has triggers keys source free =
-    elim (saver_of triggers source) as (λ o. saver_of triggers source ≡ o → against_keys keys (option_and_then (map.get triggers) o) ≡ None → HasSaver triggers keys source) [
-      | None ↦ λ _ none. cc
-      | Some id ↦ λ named stands. elim (map.get triggers id) as (λ o. map.get triggers id ≡ o → against_keys keys o ≡ None → HasSaver triggers keys source) [
-        | None ↦ λ _ none. cc
-        | Some saver ↦ λ attached match. elim (keys_match keys saver.keys) as (λ b. keys_match keys saver.keys ≡ b → cond b None (Some KeyMismatch) ≡ None → HasSaver triggers keys source) [
-          | true ↦ λ matching _. record { id = id; saver = saver; named = named; attached = attached; matching = matching }
-          | false ↦ λ _ other. cc
-        ] refl match
-      ] refl stands
-    ] refl (sym (reader_refused-is triggers keys source) ∙ free)
+    elim (saver_of triggers source) as (λ o. saver_of triggers source ≡ o → HasSaver triggers keys source) [
+      | None ↦ λ unnamed. absurd (let stands = rw unnamed at free in cc)
+      | Some id ↦ λ named. elim (map.get triggers id) as (λ o. map.get triggers id ≡ o → HasSaver triggers keys source) [
+        | None ↦ λ unattached. absurd (let stands = rw (named, unattached) at free in cc)
+        | Some saver ↦ λ attached. record { id = id; saver = saver; named = named; attached = attached; matching = passed (keys_match keys saver.keys) _ (rw (named, attached) at free) }
+      ] refl
+    ] refl
 
 -- ---- the base with the trigger
 

@@ -1,7 +1,6 @@
 pub mod Reading
 pub mod Edits
 pub mod Empty
-pub mod Outcomes
 pub mod LineLemmas
 pub mod OutputLemmas
 pub mod Progress

@@ -8,6 +8,8 @@ use Rattle.ft_replay.specs.After.{after_unload, after_strike, after_remove}
 use Rattle.ft_replay.specs.Answers.{hist_text, totals, latencies, list_text}
 use Rattle.ft_script.specs.Lines.{lines_of}
 use Rattle.ft_script.specs.Script.{Asked, asked_by}
+use Rattle.ft_script.specs.declared.script.Numbered.{Numbered}
+use Rattle.ft_script.specs.declared.script.Numbered.TheVariants as numbers
 use Rattle.ft_desk.specs.Answered.{totals_line, numbered, latency_lines}
 use Rattle.ft_desk.specs.Edits.{after_load_text, after_insert_text, after_attach_text, after_refilter_text}
 use Rattle.ft_desk.specs.Refusals.{refused_text}
@@ -36,20 +38,24 @@ abbrev pub answer_outcome : {T : Type 0} → (T → List ℕ) → Base → Resul
 answer_outcome shown base (Ok answer) = record { text = shown answer; base = base; refused = false }
 answer_outcome shown base (Err refused) = record { text = refused_text refused; base = base; refused = true }
 
+-- what a command about one number does: a lane's CPU, or a trigger's id
+unfoldable pub outcome_about : Base → Numbered → ℕ → Outcome
+outcome_about base numbers.Unload cpu = edit_outcome decimal base (codes "unloaded ") (after_unload base cpu)
+outcome_about base numbers.Remove id = edit_outcome decimal base (codes "removed ") (after_remove base id)
+outcome_about base numbers.Hist id = answer_outcome (λ text. text) base (hist_text base id)
+outcome_about base numbers.Totals id = answer_outcome totals_line base (totals base id)
+outcome_about base numbers.Latencies id = answer_outcome latency_lines base (latencies base id)
+outcome_about base numbers.Lane cpu = answer_outcome (λ text. text) base (list_text base cpu)
+
 -- what a command does
 unfoldable pub outcome : List (List ℕ) → Base → Asked → Outcome
 outcome files base Asked.Nothing = record { text = []; base = base; refused = false }
 outcome files base (Asked.Load n) = edit_outcome decimal base (codes "loaded ") (after_load_file files base n)
-outcome files base (Asked.Unload cpu) = edit_outcome decimal base (codes "unloaded ") (after_unload base cpu)
 outcome files base (Asked.Insert line) = edit_outcome numbered base (codes "inserted ") (after_insert_text base line)
 outcome files base (Asked.Strike cpu line) = edit_outcome numbered base (codes "struck ") (after_strike base cpu line)
 outcome files base (Asked.Attach name text) = edit_outcome decimal base (codes "attached ") (after_attach_text base name text)
 outcome files base (Asked.Refilter id text) = edit_outcome decimal base (codes "refiltered ") (after_refilter_text base id text)
-outcome files base (Asked.Remove id) = edit_outcome decimal base (codes "removed ") (after_remove base id)
-outcome files base (Asked.Hist id) = answer_outcome (λ text. text) base (hist_text base id)
-outcome files base (Asked.Totals id) = answer_outcome totals_line base (totals base id)
-outcome files base (Asked.Latencies id) = answer_outcome latency_lines base (latencies base id)
-outcome files base (Asked.Lane cpu) = answer_outcome (λ text. text) base (list_text base cpu)
+outcome files base (Asked.About what number) = outcome_about base what number
 outcome files base Asked.NoForm = record { text = refused_text BadCommand; base = base; refused = true }
 
 -- what lines of a script do, one after the other, from a base on

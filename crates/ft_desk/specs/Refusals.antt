@@ -7,7 +7,7 @@ use Rattle.ft_head.specs.declared.fault.TriggerFault.{TriggerFault}
 use Rattle.ft_head.specs.declared.fault.TriggerFault.TheVariants as faults
 use Rattle.ft_base.specs.Refused.{number_of}
 use Rattle.ft_base.specs.declared.refused.Refused.{Refused}
-use Rattle.ft_base.specs.declared.refused.Refused.TheVariants.{Memory, NoFile, BadLine, LaneHeld, NoLane, NoEvent, Full, BadTrigger, BadFilter, NoTrigger, InUse, NameTaken, NoVariable, KeyMismatch, TooManyTriggers, BadCommand, NotReading}
+use Rattle.ft_base.specs.declared.refused.Refused.TheVariants.{BadLine, LaneHeld, NoLane, BadTrigger, BadFilter, InUse, NameTaken}
 
 -- where a fault is, in a refusal's line
 abbrev pub place_text : Option ℕ → List ℕ
@@ -19,7 +19,7 @@ abbrev pub fault_detail : TriggerFault → List ℕ
 fault_detail (faults.BadFilter fault) = codes " filter " ++ decimal (filter_number fault) ++ place_text (filter_place fault)
 fault_detail fault = place_text (trigger_place fault)
 
--- what a refusal says beside its number
+-- what a refusal says beside its number, which of any other says all
 abbrev pub detail : Refused → List ℕ
 detail (BadLine line fault) = codes ": line " ++ decimal line ++ codes " fault " ++ decimal (line_number fault)
 detail (LaneHeld cpu) = codes ": cpu " ++ decimal cpu
@@ -28,16 +28,7 @@ detail (BadTrigger fault) = codes ": fault " ++ decimal (trigger_number fault) +
 detail (BadFilter fault) = codes ": filter " ++ decimal (filter_number fault) ++ place_text (filter_place fault)
 detail (InUse id) = codes ": trigger " ++ decimal id
 detail (NameTaken id) = codes ": trigger " ++ decimal id
-detail Memory = []
-detail NoFile = []
-detail NoEvent = []
-detail Full = []
-detail NoTrigger = []
-detail NoVariable = []
-detail KeyMismatch = []
-detail TooManyTriggers = []
-detail BadCommand = []
-detail NotReading = []
+detail refused = []
 
 -- the line of a refused command
 unfoldable pub refused_text : Refused → List ℕ

@@ -2,15 +2,16 @@
 
 ghost use Rattle.std.specs.Prelude.{◌≡◌, ◌≢◌, ◌++◌, true, codes, map, IfOk, OnOk, Some, None, MatchOption};
 ghost use Rattle.ft_replay.specs.Edited.{EditGives};
+ghost use Rattle.ft_script.specs.Command.{asked};
 ghost use Rattle.ft_script.specs.Script.{asked_by};
-ghost use Rattle.ft_desk.specs.Output.{outcome, file_at, after_load_file};
+ghost use Rattle.ft_desk.specs.Output.{outcome, outcome_about, file_at, after_load_file};
 ghost use Rattle.ft_desk.specs.Refusals.{refused_text};
-ghost use Rattle.ft_desk.specs.inner.Printed.{Prints};
+ghost use Rattle.ft_desk.specs.inner.Printed.{Prints, PrintsEdit, PrintsAnswer};
 
 use crate::desk::Desk;
 use crate::text::{Answer, EditValue, done_line, refused_line};
 use ft_replay::{Board, Done, Refused};
-use ft_script::{Command, read_command};
+use ft_script::{Command, Numbered, read_command};
 use std::alloc::{AllocError, Global};
 
 /// What a line of a script prints, and whether it was refused.
@@ -40,23 +41,52 @@ pub fn perform<B: Board>(
     ensures base { IfOk result (λ _. desk.new.base
         ≡ (outcome (map (λ f. f.items) files.now) desk.old.base (asked_by line.now)).base) }
 {
-    match read_command(line) {
+    obey(desk, alloc, files, read_command(line))
+}
+
+/// Does what a command asks of a desk.
+#[tactic(auto, unfolding(crate::specs::Output::outcome))]
+fn obey<B: Board>(
+    desk: &mut Desk<B>,
+    alloc: Global,
+    files: &[Vec<u8>],
+    command: Command<'_>,
+) -> Result<Performed, AllocError>
+    ensures { Prints (outcome (map (λ f. f.items) files.now) desk.old.base (asked command.entry))
+        desk.new.base result }
+{
+    match command {
         Command::Nothing => Ok(Performed {
             text: Vec::new(alloc),
             refused: false,
         }),
         Command::Load(number) => edited(alloc, b"loaded ", load_file(desk, files, number)),
-        Command::Unload(cpu) => edited(alloc, b"unloaded ", desk.unload(cpu)),
         Command::Insert(line) => edited(alloc, b"inserted ", desk.insert(line)),
         Command::Strike(cpu, line) => edited(alloc, b"struck ", desk.strike(cpu, line)),
         Command::Attach(event, text) => edited(alloc, b"attached ", desk.attach(event, text)),
         Command::Refilter(id, text) => edited(alloc, b"refiltered ", desk.refilter(id, text)),
-        Command::Remove(id) => edited(alloc, b"removed ", desk.remove(id)),
-        Command::Hist(id) => answered(alloc, desk.hist(id)),
-        Command::Totals(id) => answered(alloc, desk.totals(id)),
-        Command::Latencies(id) => answered(alloc, desk.latencies(id)),
-        Command::Lane(cpu) => answered(alloc, desk.list(cpu)),
+        Command::About(what, number) => about(desk, alloc, what, number),
         Command::NoForm => refused(alloc, Refused::BadCommand),
+    }
+}
+
+/// Does what is asked of a desk about one number: a lane's CPU, or a trigger's id.
+#[tactic(auto, unfolding(crate::specs::Output::outcome_about))]
+fn about<B: Board>(
+    desk: &mut Desk<B>,
+    alloc: Global,
+    what: Numbered,
+    number: u32,
+) -> Result<Performed, AllocError>
+    ensures { Prints (outcome_about desk.old.base what number) desk.new.base result }
+{
+    match what {
+        Numbered::Unload => edited(alloc, b"unloaded ", desk.unload(number)),
+        Numbered::Remove => edited(alloc, b"removed ", desk.remove(number)),
+        Numbered::Hist => answered(alloc, desk.hist(number)),
+        Numbered::Totals => answered(alloc, desk.totals(number)),
+        Numbered::Latencies => answered(alloc, desk.latencies(number)),
+        Numbered::Lane => answered(alloc, desk.list(number)),
     }
 }
 
@@ -92,7 +122,7 @@ fn edited<V: EditValue>(
     word: &[u8],
     edit: Result<Done<V>, Refused>,
 ) -> Result<Performed, AllocError>
-    ensures { Prints (λ done. word.now ++ V.shown done.value ++ codes "\n") edit result }
+    ensures { PrintsEdit V.shown word.now edit result }
 {
     match edit {
         Ok(done) => Ok(Performed {
@@ -105,7 +135,7 @@ fn edited<V: EditValue>(
 
 /// What an answer prints: its lines, or its refusal.
 fn answered<A: Answer>(alloc: Global, answer: Result<A, Refused>) -> Result<Performed, AllocError>
-    ensures { Prints A.lines answer result }
+    ensures { PrintsAnswer A.seen A.shown answer result }
 {
     match answer {
         Ok(answer) => Ok(Performed {

@@ -1,6 +1,8 @@
 //! The lines that commands print.
 
-ghost use Rattle.std.specs.Prelude.{◌≡◌, ◌++◌, codes, decimal, IfOk, OnOk};
+ghost use Rattle.std.specs.Prelude.{◌≡◌, ℕ, List, ◌++◌, codes, decimal, IfOk, OnOk};
+ghost use Rattle.ft_rows.specs.declared.row.Totals.{Totals};
+ghost use Rattle.ft_replay.specs.declared.pair.Latency.{Latency};
 ghost use Rattle.ft_desk.specs.Answered.{totals_line, numbered, latency_line, latency_lines};
 ghost use Rattle.ft_desk.specs.Refusals.{detail, fault_detail, place_text, refused_text};
 
@@ -50,16 +52,26 @@ impl EditValue for Place {
 pub(crate) trait Answer {
     ghost use Rattle.std.specs.Prelude.{◌≡◌, ℕ, List, IfOk};
 
-    /// Its lines.
-    ghost lines: { Self → List ℕ };
+    /// What contracts see of it.
+    ghost Seen: { Type 0 };
+
+    /// It, as contracts see it.
+    ghost seen: { Self → Seen };
+
+    /// The lines that show it.
+    ghost shown: { Seen → List ℕ };
 
     /// The text of its lines.
     fn into_lines(self, alloc: Global) -> Result<Vec<u8>, AllocError>
-        ensures { IfOk result (λ text. text.items ≡ lines self) };
+        ensures { IfOk result (λ text. text.items ≡ shown (seen self)) };
 }
 
 impl Answer for Vec<u8> {
-    ghost lines = { λ text. text.items };
+    ghost Seen = { List ℕ };
+
+    ghost seen = { λ text. text.items };
+
+    ghost shown = { λ text. text };
 
     fn into_lines(self, _alloc: Global) -> Result<Vec<u8>, AllocError> {
         Ok(self)
@@ -67,7 +79,11 @@ impl Answer for Vec<u8> {
 }
 
 impl Answer for Totals {
-    ghost lines = { totals_line };
+    ghost Seen = { Totals };
+
+    ghost seen = { λ totals. totals };
+
+    ghost shown = { totals_line };
 
     fn into_lines(self, alloc: Global) -> Result<Vec<u8>, AllocError> {
         totals_line(alloc, self)
@@ -75,7 +91,11 @@ impl Answer for Totals {
 }
 
 impl Answer for Vec<Latency> {
-    ghost lines = { λ latencies. latency_lines latencies.items };
+    ghost Seen = { List Latency };
+
+    ghost seen = { λ latencies. latencies.items };
+
+    ghost shown = { latency_lines };
 
     fn into_lines(self, alloc: Global) -> Result<Vec<u8>, AllocError> {
         latency_lines(alloc, &self)
@@ -127,16 +147,8 @@ fn add_detail(line: &mut Vec<u8>, refused: Refused) -> Result<(), AllocError>
             add_place(line, fault.place())
         }
         Refused::InUse(id) | Refused::NameTaken(id) => add(line, b": trigger ", u64::from(id)),
-        Refused::Memory
-        | Refused::NoFile
-        | Refused::NoEvent
-        | Refused::Full
-        | Refused::NoTrigger
-        | Refused::NoVariable
-        | Refused::KeyMismatch
-        | Refused::TooManyTriggers
-        | Refused::BadCommand
-        | Refused::NotReading => Ok(()),
+        // The number of any other says all.
+        _ => Ok(()),
     }
 }
 

@@ -1,5 +1,5 @@
 -- What a line of the script asks for. All of it is our own choice.
-use Rattle.std.specs.Prelude.{ℕ, Bool, not, ◌&&◌, ◌||◌, List, [], ◌∷◌, length, take, drop, reverse, Option, Some, None, nat_lt, nat_le, ◌==◌, if◌then◌else◌, codes, slice_index}
+use Rattle.std.specs.Prelude.{ℕ, Bool, not, ◌&&◌, ◌||◌, List, [], ◌∷◌, length, take, drop, reverse, Option, Some, None, option_map, nat_lt, nat_le, ◌==◌, if◌then◌else◌, codes, slice_index}
 use Rattle.std.specs.List.{list_all, find, take_while, before_first, after_first}
 use Rattle.std.specs.Option.{option_map_or}
 use Rattle.std.specs.Char.{is_ascii_digit}
@@ -7,21 +7,18 @@ use Rattle.std.specs.Str.{bytes_eq}
 use Rattle.std.specs.Str.Parse.{digits_value}
 use Rattle.ft_fields.specs.declared.event.Name.{Name}
 use Rattle.ft_fields.specs.Names.{name_called}
+use Rattle.ft_script.specs.declared.script.Numbered.{Numbered}
+use Rattle.ft_script.specs.declared.script.Numbered.TheVariants as numbers
 
 -- what is asked: nothing, an edit or an answer, or a command of no form
 pub data Asked : Type 0 where
   Nothing : Asked
   Load : ℕ → Asked
-  Unload : ℕ → Asked
   Insert : List ℕ → Asked
   Strike : ℕ → ℕ → Asked
   Attach : Name → List ℕ → Asked
   Refilter : ℕ → Option (List ℕ) → Asked
-  Remove : ℕ → Asked
-  Hist : ℕ → Asked
-  Totals : ℕ → Asked
-  Latencies : ℕ → Asked
-  Lane : ℕ → Asked
+  About : Numbered → ℕ → Asked
   NoForm : Asked
 
 -- the most bytes of a script line: twice those of a trace line, so that the longest one has room behind `insert`
@@ -101,14 +98,20 @@ unfoldable pub filter_in : List ℕ → Asked
 filter_in text = option_map_or (λ id. refilter_in id (after_word text)) (number_in (first_word text)) NoForm
 
 -- the words of the commands about one number, each with what it asks
-abbrev pub numbered_words : List (List ℕ × (ℕ → Asked))
+abbrev pub numbered_words : List (List ℕ × Numbered)
 numbered_words =
-    (codes "unload", Unload) ∷ (codes "remove", Remove) ∷ (codes "hist", Hist) ∷
-    (codes "totals", Totals) ∷ (codes "lat", Latencies) ∷ (codes "list", Lane) ∷ []
+    (codes "unload", numbers.Unload) ∷ (codes "remove", numbers.Remove) ∷ (codes "hist", numbers.Hist) ∷
+    (codes "totals", numbers.Totals) ∷ (codes "lat", numbers.Latencies) ∷ (codes "list", numbers.Lane) ∷ []
 
--- a command about one number, by its word
-abbrev pub numbered : List ℕ → ℕ → Asked
-numbered word number = option_map_or (λ form. form.1 number) (find (λ form. bytes_eq word form.0) numbered_words) NoForm
+-- what is asked about a number, by its word
+abbrev pub numbered_by : List ℕ → Option Numbered
+numbered_by word = option_map (λ form. form.1) (find (λ form. bytes_eq word form.0) numbered_words)
+
+-- a command about one number, where its word is one and the number is one
+abbrev pub about : Option Numbered → Option ℕ → Asked
+about what None = NoForm
+about None (Some number) = NoForm
+about (Some what) (Some number) = About what number
 
 -- the words of the other commands, each with how what is behind it is read
 abbrev pub worded_forms : List (List ℕ × (List ℕ → Asked))
@@ -118,7 +121,7 @@ worded_forms = (codes "load", load_in) ∷ (codes "strike", strike_in) ∷ (code
 unfoldable pub worded : List ℕ → Asked
 worded text =
     option_map_or (λ form. form.1 (after_word text)) (find (λ form. bytes_eq (first_word text) form.0) worded_forms)
-    (option_map_or (numbered (first_word text)) (number_in (after_word text)) NoForm)
+    (about (numbered_by (first_word text)) (number_in (after_word text)))
 
 -- what stands behind one space, or an end
 abbrev pub behind_space : List ℕ → Option (List ℕ)

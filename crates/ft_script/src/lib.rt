@@ -16,4 +16,4 @@ mod lines;
 mod script;
 
 pub use lines::next_line;
-pub use script::{Command, LINE_LIMIT, read_command};
+pub use script::{Command, LINE_LIMIT, Numbered, read_command};

@@ -3,7 +3,7 @@
 ghost use Rattle.std.specs.Prelude.{◌≡◌, ◌==◌, ◌||◌, reverse, slice_index, option_map};
 ghost use Rattle.std.specs.List.{list_all, prefix_len};
 ghost use Rattle.ft_script.specs.Command.{asked};
-ghost use Rattle.ft_script.specs.Script.{asked_by, inserted, worded, numbered, is_space, is_in_word, drop_while, trimmed, first_word, after_word, number_in, load_in, strike_in, struck, attach_in, filter_in, refilter_in};
+ghost use Rattle.ft_script.specs.Script.{asked_by, inserted, worded, numbered_by, about, is_space, is_in_word, drop_while, trimmed, first_word, after_word, number_in, load_in, strike_in, struck, attach_in, filter_in, refilter_in};
 
 use ft_fields::Name;
 use ft_text::{is_same, number_within};
@@ -23,8 +23,6 @@ pub enum Command<'a> {
     Nothing,
     /// To load the trace file of this number, from 1.
     Load(u32),
-    /// To unload the lane of this CPU.
-    Unload(u32),
     /// To insert the event of this trace line.
     Insert(&'a [u8]),
     /// To strike the event of this CPU's line of this number.
@@ -33,18 +31,27 @@ pub enum Command<'a> {
     Attach(Name, &'a [u8]),
     /// To give the trigger with this id the filter of this text, or none.
     Refilter(u32, Option<&'a [u8]>),
-    /// To remove the trigger with this id.
-    Remove(u32),
-    /// To print the table of the trigger with this id.
-    Hist(u32),
-    /// To print the totals of the trigger with this id.
-    Totals(u32),
-    /// To print the latencies of the trigger with this id.
-    Latencies(u32),
-    /// To print the lane of this CPU.
-    Lane(u32),
+    /// What is asked about this number.
+    About(Numbered, u32),
     /// No command has the line's form.
     NoForm,
+}
+
+/// What may be asked about one number: the CPU of a lane, or the id of a trigger.
+#[derive(Clone, Copy, Debug, PartialEq, Eq)]
+pub enum Numbered {
+    /// To unload the lane.
+    Unload,
+    /// To remove the trigger.
+    Remove,
+    /// To print the trigger's table.
+    Hist,
+    /// To print the trigger's totals.
+    Totals,
+    /// To print the trigger's latencies.
+    Latencies,
+    /// To print the lane.
+    Lane,
 }
 
 /// Reads a line of the script.
@@ -92,31 +99,38 @@ fn worded(text: &[u8]) -> Command<'_>
     } else if is_same(word, b"filter") {
         filter(rest)
     } else {
-        match number(rest) {
-            Some(number) => numbered(word, number),
-            None => Command::NoForm,
-        }
+        about(numbered_by(word), number(rest))
     }
 }
 
-/// A command about one number, by its word.
-fn numbered<'a>(word: &[u8], number: u32) -> Command<'a>
-    ensures { asked result ≡ numbered word.now number }
+/// What is asked about a number, by its word.
+fn numbered_by(word: &[u8]) -> Option<Numbered>
+    ensures { result ≡ numbered_by word.now }
 {
     if is_same(word, b"unload") {
-        Command::Unload(number)
+        Some(Numbered::Unload)
     } else if is_same(word, b"remove") {
-        Command::Remove(number)
+        Some(Numbered::Remove)
     } else if is_same(word, b"hist") {
-        Command::Hist(number)
+        Some(Numbered::Hist)
     } else if is_same(word, b"totals") {
-        Command::Totals(number)
+        Some(Numbered::Totals)
     } else if is_same(word, b"lat") {
-        Command::Latencies(number)
+        Some(Numbered::Latencies)
     } else if is_same(word, b"list") {
-        Command::Lane(number)
+        Some(Numbered::Lane)
     } else {
-        Command::NoForm
+        None
+    }
+}
+
+/// A command about one number, where its word is one and the number is one.
+fn about<'a>(what: Option<Numbered>, number: Option<u32>) -> Command<'a>
+    ensures { asked result ≡ about what number }
+{
+    match (what, number) {
+        (Some(what), Some(number)) => Command::About(what, number),
+        _ => Command::NoForm,
     }
 }
 

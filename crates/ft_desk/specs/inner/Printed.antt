@@ -1,18 +1,26 @@
 -- What an accepted or refused command prints. All of it is our own choice.
-use Rattle.std.specs.Prelude.{◌≡◌, ◌≢◌, ℕ, List, Result, Ok, Err, is_err, IfOk, OnOk}
+use Rattle.std.specs.Prelude.{◌≡◌, ℕ, List, Result, IfOk}
 use Rattle.std.specs.declared.alloc.AllocError.{AllocError}
 use Rattle.ft_base.specs.declared.refused.Refused.{Refused}
-use Rattle.ft_base.specs.declared.refused.Refused.TheVariants.{Memory}
+use Rattle.ft_replay.specs.declared.done.Done.{Done}
+use Rattle.ft_replay.specs.Base.{Base}
+use Rattle.ft_replay.specs.Edited.{EditGives, AnswerIs}
+use Rattle.ft_replay.specs.Shown.{Shown}
 use Rattle.ft_desk.specs.declared.performing.Performed.{Performed}
-use Rattle.ft_desk.specs.Refusals.{refused_text}
+use Rattle.ft_desk.specs.Output.{Outcome, edit_outcome, answer_outcome}
 
--- what an accepted command gives, as text shows it; or the line of its refusal
-abbrev pub printed : {T : Type 0} → (T → List ℕ) → Result T Refused → List ℕ
-printed text (Ok given) = text given
-printed text (Err refused) = refused_text refused
+-- what was printed, whether it was refused, and the base that was left are the outcome; want of memory prints nothing
+pub record Prints (outcome : Outcome) (left : Base) (result : Result Performed AllocError) : Type 0 where
+  pub text : IfOk result (λ done. done.text.items ≡ outcome.text)
+  pub refused : IfOk result (λ done. done.refused ≡ outcome.refused)
+  pub base : IfOk result (λ _. left ≡ outcome.base)
 
--- what a command gave is printed, as shown says, and whether it was refused is told; want of memory prints nothing
-pub record Prints {T : Type 0} (shown : T → List ℕ) (given : Result T Refused) (result : Result Performed AllocError) : Type 0 where
-  pub text : IfOk result (λ done. done.text.items ≡ printed shown given)
-  pub refused : IfOk result (λ done. done.refused ≡ is_err given)
-  pub memory : OnOk result (given ≢ Err Memory)
+-- what was printed is the outcome of any edit that answered so
+abbrev pub PrintsEdit : {T : Type 0} → (T → List ℕ) → List ℕ → Result (Done T) Refused → Result Performed AllocError → Type 0
+PrintsEdit {T = T} shown word edit result =
+    (old new : Shown) (after : Result (Base × T) Refused) → EditGives (λ value. value) after old new edit → Prints (edit_outcome shown old.base word after) new.base result
+
+-- what was printed is the outcome of any answer that is this, the base as it was
+abbrev pub PrintsAnswer : {S T : Type 0} → (S → T) → (T → List ℕ) → Result S Refused → Result Performed AllocError → Type 0
+PrintsAnswer {T = T} view shown answer result =
+    (old new : Base) (expected : Result T Refused) → new ≡ old → AnswerIs view expected answer → Prints (answer_outcome shown old expected) new result
