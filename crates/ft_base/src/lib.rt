@@ -29,4 +29,4 @@ mod roles;
 pub use content::Content;
 pub use laws::{one_saver, reachable_bases};
 pub use refused::{Place, Refused};
-pub use roles::{is_reader, role_of};
+pub use roles::{attached, is_reader, role_of};

@@ -1,8 +1,12 @@
 //! What an edit of one event answers, and why an edit or an answer is refused.
 
+ghost use Rattle.std.specs.Prelude.{◌≡◌};
+ghost use Rattle.ft_base.specs.declared.refused.Refused.TheVariants.{Memory};
+
 use ft_event::LineFault;
 use ft_filter::FilterFault;
 use ft_head::TriggerFault;
+use std::alloc::AllocError;
 
 /// Where an event stands: its lane, and its line number there.
 #[derive(Clone, Copy, Debug, PartialEq, Eq)]
@@ -50,6 +54,14 @@ pub enum Refused {
     BadCommand,
     /// The trigger reads no variable, so it has no latencies.
     NotReading,
+}
+
+impl From<AllocError> for Refused {
+    ghost from_gives = { λ _ refused. refused ≡ Memory };
+
+    fn from(_error: AllocError) -> Refused {
+        Refused::Memory
+    }
 }
 
 impl Refused {

@@ -1,17 +1,34 @@
-//! Which attached trigger saves a name or reads it, and what a trigger does with its variable.
+//! Which trigger has an id, which saves a name or reads it, and what a trigger does with its
+//! variable.
 
-ghost use Rattle.std.specs.Prelude.{◌≡◌};
+ghost use Rattle.std.specs.Prelude.{◌≡◌, Some, None, IfOk, IfErr};
 ghost use Rattle.std.specs.Ordering.{nat_cmp};
 ghost use Rattle.std.specs.Option.{option_copied};
+ghost use Rattle.std.specs.FinMap as map;
 ghost use Rattle.ft_maps.specs.Seen.{seen};
+ghost use Rattle.ft_base.specs.declared.refused.Refused.TheVariants.{NoTrigger};
 ghost use Rattle.ft_base.specs.After.{reader_on};
 ghost use Rattle.ft_base.specs.Roles.{saves_name, reads_name, saver_of, reader_of};
 ghost use Rattle.ft_base.specs.Roles.{is_reader, role_of};
 
+use crate::refused::Refused;
 use ft_hist::{Trigger, Var};
-use ft_maps::entries;
+use ft_maps::{entries, get};
 use ft_pairs::Role;
 use std::collections::BTreeMap;
+
+/// The attached trigger with an id. Refused where no trigger has it.
+pub fn attached(triggers: &BTreeMap<u32, Trigger>, id: u32) -> Result<&Trigger, Refused>
+    ensures there { IfOk result (λ trigger.
+        map.get (seen nat_cmp triggers.now) id ≡ Some trigger.now) }
+    ensures refused { IfErr result (λ refused. (refused ≡ NoTrigger)
+        × (map.get (seen nat_cmp triggers.now) id ≡ None)) }
+{
+    match get(triggers, &id) {
+        Some(trigger) => Ok(trigger),
+        None => Err(Refused::NoTrigger),
+    }
+}
 
 /// Whether a variable is saved under a name.
 fn saves_name(variable: Option<&Var>, name: &[u8]) -> bool

@@ -1,5 +1,5 @@
 -- What a board answers from what it keeps.
-use Rattle.std.proofs.Common.{◌≡◌, ℕ, Bool, true, false, not, inl, sym, ap, subst, ◌∙◌, List, Option, Some, None, Result, Ok, Err}
+use Rattle.std.proofs.Common.{◌≡◌, ℕ, true, false, not, inr, refl, sym, ap, subst, ◌∙◌, List, Option, Some, None, Result, Ok, Err}
 use Rattle.std.specs.Prelude.{IsSome, map as list_map}
 use Rattle.std.specs.Option.{option_map_or, is_none}
 use Rattle.std.specs.FinMap as map
@@ -9,38 +9,35 @@ use Rattle.ft_kept.specs.Shelves.{Shelves}
 use Rattle.ft_rows.specs.declared.row.Totals.{Totals}
 use Rattle.ft_replay.specs.declared.pair.Latency.{Latency}
 use Rattle.ft_base.specs.declared.refused.Refused.{Refused}
-use Rattle.ft_base.specs.declared.refused.Refused.TheVariants.{Memory, NoTrigger, NotReading}
+use Rattle.ft_base.specs.declared.refused.Refused.TheVariants.{NoTrigger, NotReading}
 use Rattle.ft_replay.specs.Answers.{hist_text, totals, latencies, tally_at, tally_text, latency_of, latencies_as}
-use Rattle.ft_base.specs.Base.{Base}
-use Rattle.ft_replay.specs.Edited.{AnswerIs, AnswerKeeps}
+use Rattle.ft_base.specs.Base.{Base, Triggers}
+use Rattle.ft_replay.specs.Edited.{AnswersFrom}
 use Rattle.ft_replay.specs.Merged.{merged}
 use Rattle.ft_base.specs.Roles.{is_reader}
 use Rattle.ft_replay.specs.Shown.{Shown}
 use Rattle.ft_replay.specs.Tally.{Tally, totals_in}
-use Rattle.ft_board.proofs.ToldSteps.{kept_shown}
 use Rattle.ft_replay.proofs.Answering.{latencies-reader, latencies-other}
 
--- the answer expected, or want of memory
-abbrev pub IsTold : {S T : Type 0} → (S → T) → Result T Refused → Result S Refused → Type 0
-IsTold view expected (Ok answer) = expected ≡ Ok (view answer)
-IsTold view expected (Err refused) = refused ≡ Memory
+-- a board that keeps tables, with its steps
+abbrev pub kept_shown : Base → Option Shelves → Steps → Shown
+kept_shown base kept steps = record { base = base; deferred = is_none kept; keeps = true; steps = steps }
 
-told_is : {S T : Type 0} (view : S → T) (expected : Result T Refused) (answer : Result S Refused) → IsTold view expected answer → AnswerIs view expected answer
-told_is view expected (Ok answer) is = is
-told_is view expected (Err refused) is = inl is
+-- an answer that is read off a shelf is that of the base, and no edit is missing in the tables then
+pub told : {S T : Type 0} (view : S → T) (expected : Base → Result T Refused) (shown : Shown) (content : Base) (kept new : Option Shelves) (work : Steps) (answer : S)
+    → kept_shown content kept work ≡ shown → IsSome new → expected content ≡ Ok (view answer)
+    → (content ≡ shown.base) × (expected shown.base ≡ Ok (view answer)) × (is_none new ≡ false)
+told view expected shown content kept new work answer is there tells =
+    (ap (λ (s : Shown). s.base) is, subst (λ (b : Base). expected b ≡ Ok (view answer)) (ap (λ (s : Shown). s.base) is) tells, ap not there)
 
-told_keeps : {S T : Type 0} (view : S → T) (expected : Result T Refused) (answer : Result S Refused) → IsTold view expected answer → (old new : Bool) → new ≡ false → AnswerKeeps old new answer
-told_keeps view expected (Ok answer) is old new now = now
-told_keeps view expected (Err refused) is old new now = (λ e. let both : ◌≡◌ {A = Bool} true false = sym e ∙ now in absurd cc, λ other. absurd (other is))
-
-pub told : {S T : Type 0} (view : S → T) (expected : Base → Result T Refused) (shown : Shown) (content : Base) (kept new : Option Shelves) (work : Steps) (answer : Result S Refused)
-    → kept_shown content kept work ≡ shown → IsSome new → IsTold view (expected content) answer
-    → (content ≡ shown.base) × AnswerIs view (expected shown.base) answer × AnswerKeeps shown.deferred (is_none new) answer
-told view expected shown content kept new work answer is there tells = (
-  ap (λ (s : Shown). s.base) is,
-  subst (λ (b : Base). AnswerIs view (expected b) answer) (ap (λ (s : Shown). s.base) is) (told_is view (expected content) answer tells),
-  told_keeps view (expected content) answer tells shown.deferred (is_none new) (ap not there),
-)
+-- where no trigger has the id, the refusal is the base's, and all is as it was
+pub unattached : {S T : Type 0} (view : S → T) (expected : Base → ℕ → Result T Refused) → ((base : Base) (id : ℕ) → map.get base.triggers id ≡ None → expected base id ≡ Err NoTrigger)
+    → (shown : Shown) (content : Base) (kept : Option Shelves) (work : Steps) (triggers : Triggers) (id : ℕ) (refused : Refused) (answer : Result S Refused)
+    → kept_shown content kept work ≡ shown → triggers ≡ content.triggers → (refused ≡ NoTrigger) × (map.get triggers id ≡ None) → answer ≡ Err refused → AnswersFrom view (expected shown.base id) shown shown answer
+unattached view expected missing shown content kept work triggers id refused answer is same none given =
+    let absent : map.get shown.base.triggers id ≡ None = ap (λ (s : Shown). map.get s.base.triggers id) (sym is) ∙ ap (λ (t : Triggers). map.get t id) (sym same) ∙ none.1 in
+    let now : answer ≡ Err NoTrigger = given ∙ ap (λ (r : Refused). let a : Result _ Refused = Err r in a) none.0 in
+    rw now (refl, inr (missing shown.base id absent), (λ e. e, λ _. refl))
 
 -- ---- refused
 

@@ -14,5 +14,4 @@ pub mod KeptShelves
 pub mod SaverHits
 pub mod SaverKeys
 pub mod FewSteps
-pub mod ToldSteps
 pub mod Repaired

@@ -7,12 +7,11 @@ use crate::leave::leave;
 use crate::rebuild::renew;
 use crate::repair::{let_come, let_go};
 use crate::told::{catch_up, latencies_in, shelf_in};
-use ft_base::{Content, Place, Refused, is_reader};
+use ft_base::{Content, Place, Refused, attached, is_reader};
 use ft_fields::{Event, Name};
 use ft_filter::Filter;
 use ft_hist::{Trigger, Work};
 use ft_kept::Tables;
-use ft_maps::get;
 use ft_replay::{Board, Done, Latency, table_text};
 use ft_table::Totals;
 use std::alloc::Global;
@@ -134,45 +133,27 @@ impl Board for KeptBoard {
     }
 
     fn hist(&mut self, id: u32) -> Result<Vec<u8>, Refused> {
-        let Some(trigger) = get(self.content.triggers(), &id) else {
-            return Err(Refused::NoTrigger);
-        };
+        let trigger = attached(self.content.triggers(), id)?;
         catch_up(&mut self.kept, self.alloc, &self.content, &mut self.work);
-        let Some(shelf) = shelf_in(&self.kept, id) else {
-            return Err(Refused::Memory);
-        };
-        match table_text(self.alloc, trigger, shelf.table()) {
-            Ok(text) => Ok(text),
-            Err(_) => Err(Refused::Memory),
-        }
+        let shelf = shelf_in(&self.kept, id)?;
+        Ok(table_text(self.alloc, trigger, shelf.table())?)
     }
 
     fn totals(&mut self, id: u32) -> Result<Totals, Refused> {
-        let Some(_) = get(self.content.triggers(), &id) else {
-            return Err(Refused::NoTrigger);
-        };
+        attached(self.content.triggers(), id)?;
         catch_up(&mut self.kept, self.alloc, &self.content, &mut self.work);
-        let Some(shelf) = shelf_in(&self.kept, id) else {
-            return Err(Refused::Memory);
-        };
+        let shelf = shelf_in(&self.kept, id)?;
         Ok(shelf.table().totals())
     }
 
     fn latencies(&mut self, id: u32) -> Result<Vec<Latency>, Refused> {
-        let Some(trigger) = get(self.content.triggers(), &id) else {
-            return Err(Refused::NoTrigger);
-        };
+        let trigger = attached(self.content.triggers(), id)?;
         if !is_reader(trigger) {
             return Err(Refused::NotReading);
         }
         catch_up(&mut self.kept, self.alloc, &self.content, &mut self.work);
-        let Some(shelf) = shelf_in(&self.kept, id) else {
-            return Err(Refused::Memory);
-        };
-        match latencies_in(self.alloc, shelf.readings()) {
-            Ok(latencies) => Ok(latencies),
-            Err(_) => Err(Refused::Memory),
-        }
+        let shelf = shelf_in(&self.kept, id)?;
+        Ok(latencies_in(self.alloc, shelf.readings())?)
     }
 
     fn list(&self, cpu: u32) -> Result<Vec<u8>, Refused> {

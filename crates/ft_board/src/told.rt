@@ -1,13 +1,14 @@
 //! What a board answers about an attached trigger, from what it keeps.
 
-ghost use Rattle.std.specs.Prelude.{◌≡◌, false, IfOk, IfSome, IsSome, Some, None, map as list_map};
-ghost use Rattle.std.specs.Option.{option_copied, is_none};
+ghost use Rattle.std.specs.Prelude.{◌≡◌, false, IfOk, IfErr, OnOk, OnErr, IfSome, IsSome, Some, None, map as list_map};
+ghost use Rattle.std.specs.Option.{is_none};
 ghost use Rattle.std.specs.FinMap as map;
 ghost use Rattle.ft_fields.specs.Places.{pos_cmp};
 ghost use Rattle.ft_hist.specs.Hist.{Hist};
 ghost use Rattle.ft_maps.specs.Seen.{seen};
 ghost use Rattle.ft_hist.specs.Steps.{StepsGrow};
 ghost use Rattle.ft_replay.specs.Answers.{latency_of};
+ghost use Rattle.ft_base.specs.declared.refused.Refused.TheVariants.{Memory};
 ghost use Rattle.ft_base.specs.Base.{Base};
 ghost use Rattle.ft_replay.specs.Found.{pairs_in};
 ghost use Rattle.ft_board.specs.KeptShelves.{AreKeptOf};
@@ -15,7 +16,7 @@ ghost use Rattle.ft_board.specs.inner.Told.{Tells};
 
 use crate::laws;
 use crate::rebuild::restore;
-use ft_base::Content;
+use ft_base::{Content, Refused};
 use ft_fields::Pos;
 use ft_hist::Work;
 use ft_kept::{Shelf, Tables};
@@ -37,19 +38,23 @@ pub(crate) fn catch_up(kept: &mut Option<Tables>, alloc: Global, content: &Conte
     }
 }
 
-/// What is kept of the trigger with an id, if there are tables and it is attached.
-pub(crate) fn shelf_in(kept: &Option<Tables>, id: u32) -> Option<&Shelf>
+/// What is kept of the attached trigger with an id. Refused for memory where there are no tables.
+pub(crate) fn shelf_in(kept: &Option<Tables>, id: u32) -> Result<&Shelf, Refused>
     ensures tells { (base : Base) (hist : Hist) → IfSome kept.now (AreKeptOf base)
         → map.get base.triggers id ≡ Some hist
-        → IfSome (option_copied result) (Tells base id hist) }
-    ensures there { IfSome result (λ _. IsSome kept.now) }
-    ensures found { (base : Base) (hist : Hist) → IfSome kept.now (AreKeptOf base)
-        → map.get base.triggers id ≡ Some hist → result ≡ None → kept.now ≡ None }
+        → IfOk result (λ shelf. Tells base id hist shelf.now) }
+    ensures there { OnOk result (IsSome kept.now) }
+    ensures memory { IfErr result (λ refused. refused ≡ Memory) }
+    ensures none { (base : Base) (hist : Hist) → IfSome kept.now (AreKeptOf base)
+        → map.get base.triggers id ≡ Some hist → OnErr result (kept.now ≡ None) }
 {
     laws::kept_shelves();
-    match kept {
-        Some(tables) => tables.shelf(id),
-        None => None,
+    let Some(tables) = kept else {
+        return Err(Refused::Memory);
+    };
+    match tables.shelf(id) {
+        Some(shelf) => Ok(shelf),
+        None => Err(Refused::Memory),
     }
 }
 

@@ -18,10 +18,9 @@ ghost use Rattle.ft_replay.specs.declared.pair.Pair.{Pair};
 use crate::counter::Counter;
 use crate::pair::{Latency, Pair, latency_of};
 use crate::replay::replayed;
-use ft_base::{Refused, is_reader};
+use ft_base::{Refused, attached, is_reader};
 use ft_hist::{Trigger, Work};
 use ft_lanes::Lanes;
-use ft_maps::get;
 use ft_table::{Table, Totals};
 use std::alloc::{AllocError, Global};
 use std::collections::BTreeMap;
@@ -39,16 +38,9 @@ pub(crate) fn hist_from(
         (hist_from (seen nat_cmp triggers.now) (merged lanes.now) id) result }
     ensures grow { StepsGrow work.old work.new }
 {
-    let Some(trigger) = get(triggers, &id) else {
-        return Err(Refused::NoTrigger);
-    };
-    let Ok(counter) = counter_at(alloc, lanes, triggers, id, work) else {
-        return Err(Refused::Memory);
-    };
-    match table_text(alloc, trigger, counter.table()) {
-        Ok(text) => Ok(text),
-        Err(_) => Err(Refused::Memory),
-    }
+    let trigger = attached(triggers, id)?;
+    let counter = counter_at(alloc, lanes, triggers, id, work)?;
+    Ok(table_text(alloc, trigger, counter.table())?)
 }
 
 /// The totals of the trigger with an id. Refused where no trigger has the id, or for memory.
@@ -63,12 +55,8 @@ pub(crate) fn totals_from(
         (totals_from (seen nat_cmp triggers.now) (merged lanes.now) id) result }
     ensures grow { StepsGrow work.old work.new }
 {
-    if get(triggers, &id).is_none() {
-        return Err(Refused::NoTrigger);
-    }
-    let Ok(counter) = counter_at(alloc, lanes, triggers, id, work) else {
-        return Err(Refused::Memory);
-    };
+    attached(triggers, id)?;
+    let counter = counter_at(alloc, lanes, triggers, id, work)?;
     Ok(counter.table().totals())
 }
 
@@ -85,19 +73,12 @@ pub(crate) fn latencies_from(
         (latencies_from (seen nat_cmp triggers.now) (merged lanes.now) id) result }
     ensures grow { StepsGrow work.old work.new }
 {
-    let Some(trigger) = get(triggers, &id) else {
-        return Err(Refused::NoTrigger);
-    };
+    let trigger = attached(triggers, id)?;
     if !is_reader(trigger) {
         return Err(Refused::NotReading);
     }
-    let Ok(counter) = counter_at(alloc, lanes, triggers, id, work) else {
-        return Err(Refused::Memory);
-    };
-    match latencies_of(alloc, counter.pairs()) {
-        Ok(latencies) => Ok(latencies),
-        Err(_) => Err(Refused::Memory),
-    }
+    let counter = counter_at(alloc, lanes, triggers, id, work)?;
+    Ok(latencies_of(alloc, counter.pairs())?)
 }
 
 /// The counter of an attached trigger after all held events. Refused for memory.

@@ -11,10 +11,10 @@ use Rattle.ft_replay.specs.Tally.{tally_of}
 use Rattle.ft_replay.proofs.Answering.{of_attached-some}
 use Rattle.ft_replay.proofs.answers.hist_from.Goals as goal
 
-pub returns-in-Ok-table_text-clause-gives : goal.returns-in-Ok-table_text-clause-gives
-returns-in-Ok-table_text-clause-gives c =
+pub returns-clause-gives : goal.returns-clause-gives
+returns-clause-gives c =
     let triggers : Triggers = seen nat_cmp c.args.triggers.now in
     let events : Events = merged c.args.lanes.now in
-    let hist : Hist = c.in-Some.trigger.now in
-    of_attached-some triggers c.args.id (λ (h : Hist). Ok (tally_text h (tally_at triggers events c.args.id))) hist (sym c.in-Some.ensures)
-    ∙ ap (λ (text : List ℕ). let answer : Result (List ℕ) Refused = Ok text in answer) (ap (tally_text hist) (sym c.in-Ok.ensures.tally ∙ ap (λ (t : Tabled). tally_of t c.in-Ok.counter.pairs) (sym c.table.ensures)) ∙ sym (c.in-Ok-table_text.ensures c.in-Ok.counter.pairs))
+    let hist : Hist = c.in_ok-trigger.trigger.now in
+    of_attached-some triggers c.args.id (λ (h : Hist). Ok (tally_text h (tally_at triggers events c.args.id))) hist c.in_ok-trigger.ensures.there
+    ∙ ap (λ (text : List ℕ). let answer : Result (List ℕ) Refused = Ok text in answer) (ap (tally_text hist) (sym c.in_ok-counter.ensures.tally ∙ ap (λ (t : Tabled). tally_of t c.in_ok-counter.counter.pairs) (sym c.table.ensures)) ∙ sym (c.in_ok-table_text.ensures c.in_ok-counter.counter.pairs))

@@ -14,15 +14,15 @@ use Rattle.ft_replay.proofs.Answering.{of_attached-some, latencies-reader}
 use Rattle.ft_replay.proofs.Growing.{pairs-tally}
 use Rattle.ft_replay.proofs.answers.latencies_from.Goals as goal
 
-pub returns-in-Ok-latencies_of-clause-gives : goal.returns-in-Ok-latencies_of-clause-gives
-returns-in-Ok-latencies_of-clause-gives c =
+pub returns-clause-gives : goal.returns-clause-gives
+returns-clause-gives c =
     let triggers : Triggers = seen nat_cmp c.args.triggers.now in
     let events : Events = merged c.args.lanes.now in
-    let hist : Hist = c.in-Some.trigger.now in
-    let counter = c.in-Ok.counter in
+    let hist : Hist = c.in_ok-trigger.trigger.now in
+    let counter = c.in_ok-counter.counter in
     let reads : is_reader hist.variable ≡ true = search rules in
-    of_attached-some triggers c.args.id (λ (h : Hist). latencies_as h.variable (tally_at triggers events c.args.id)) hist (sym c.in-Some.ensures)
-    ∙ ap (latencies_as hist.variable) (sym c.in-Ok.ensures.tally)
+    of_attached-some triggers c.args.id (λ (h : Hist). latencies_as h.variable (tally_at triggers events c.args.id)) hist c.in_ok-trigger.ensures.there
+    ∙ ap (latencies_as hist.variable) (sym c.in_ok-counter.ensures.tally)
     ∙ latencies-reader hist.variable (tally_in counter) reads
     ∙ ap (λ (pairs : List Pair). let answer : Result (List Latency) Refused = Ok (list_map latency_of pairs) in answer) (pairs-tally counter.table counter.pairs ∙ sym c.pairs.ensures)
-    ∙ ap (λ (latencies : List Latency). let answer : Result (List Latency) Refused = Ok latencies in answer) (sym c.in-Ok-latencies_of.ensures)
+    ∙ ap (λ (latencies : List Latency). let answer : Result (List Latency) Refused = Ok latencies in answer) (sym c.in_ok-latencies_of.ensures)

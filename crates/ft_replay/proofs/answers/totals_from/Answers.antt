@@ -17,7 +17,7 @@ pub returns-clause-gives : goal.returns-clause-gives
 returns-clause-gives c =
     let triggers : Triggers = seen nat_cmp c.args.triggers.now in
     let events : Events = merged c.args.lanes.now in
-    let counter = c.in-Ok.counter in
+    let counter = c.in_ok-counter.counter in
     of_attached-known triggers c.args.id (Ok (totals_in (tally_at triggers events c.args.id))) (search rules)
     ∙ ap (λ (totals : Totals). let answer : Result Totals Refused = Ok totals in answer)
-    (ap totals_in (sym c.in-Ok.ensures.tally) ∙ totals-tally counter.table counter.pairs ∙ ap (λ (t : Tabled). totals_of t) (sym c.table.ensures) ∙ sym c.totals.ensures)
+    (ap totals_in (sym c.in_ok-counter.ensures.tally) ∙ totals-tally counter.table counter.pairs ∙ ap (λ (t : Tabled). totals_of t) (sym c.table.ensures) ∙ sym c.totals.ensures)
