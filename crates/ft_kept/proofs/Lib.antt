@@ -13,6 +13,7 @@ pub mod HitGoes
 pub mod Hitting
 pub mod MovedPaid
 pub mod NextThere
+pub mod OneByOne
 pub mod Owing
 pub mod Paid
 pub mod Passing

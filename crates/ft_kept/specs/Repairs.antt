@@ -8,7 +8,7 @@ use Rattle.ft_fields.specs.Traced.{Traced}
 use Rattle.ft_fields.specs.declared.pos.Pos.{Pos}
 use Rattle.ft_hist.specs.Hist.{Hist}
 use Rattle.ft_keys.specs.declared.key.Part.{Part}
-use Rattle.ft_lanes.specs.Held.{Lanes}
+use Rattle.ft_lanes.specs.Held.{Lanes, event_at}
 use Rattle.ft_pairs.specs.declared.at.At.{At}
 use Rattle.ft_table.specs.Values.{values_by}
 use Rattle.ft_pairs.specs.declared.role.Role.TheVariants.{Reads}
@@ -87,3 +87,19 @@ EventHasGone triggers lanes pos event old new =
     (events : FinMap pos_cmp Traced) → map.get events pos ≡ Some event → AreHeld lanes (acts_of triggers events)
     → IsKept (role_on old) (values_by triggers) (admits_on old) (acts_of triggers events) (kept_on old)
     → IsKept (role_on old) (values_by triggers) (admits_on new) (acts_of triggers (map.remove events pos)) (kept_on new)
+
+-- ---- events one by one
+
+-- an event is held at a place, with the place's stamp (our own choice)
+abbrev pub IsHeldAt : Lanes → Pos → Traced → Type 0
+IsHeldAt lanes pos event = (event_at lanes pos.cpu pos.line ≡ Some event) × (event.stamp ≡ pos.stamp)
+
+-- each of some events is held at its place (our own choice)
+abbrev pub AllHeld : Lanes → FinMap pos_cmp Traced → Type 0
+AllHeld lanes events = (pos : Pos) (event : Traced) → map.get events pos ≡ Some event → IsHeldAt lanes pos event
+
+-- what is kept is right of some events, all of which are held (our own choice)
+pub record AreRight (triggers : FinMap nat_cmp Hist) (lanes : Lanes) (events : FinMap pos_cmp Traced) (shelves : Shelves) : Type 0 where
+  pub shelved : AreShelved triggers shelves
+  pub held : AllHeld lanes events
+  pub kept : IsKept (role_on shelves) (values_by triggers) (admits_on shelves) (acts_of triggers events) (kept_on shelves)

@@ -1,4 +1,7 @@
-//! New shelves.
+//! Shelves, and their repair as events come and go.
+
+mod repairs;
+mod trial;
 
 use ft_kept::*;
 use ft_pairs::Role;
