@@ -48,6 +48,14 @@ def answers(script, traces):
             yield number, line, text
 
 
+def shows(told, front, text):
+    """Whether a line shows the text behind `front`: whole, or where it is long a part of it, which dots may stand before."""
+    if not told.startswith(front):
+        return False
+    told = told[len(front) :]
+    return told.startswith(text) if len(text) <= 300 else told.removeprefix("..")[:100] in text
+
+
 def first_wrong(row, told):
     """What is wrong first in what explain told of a row, or None."""
     traces = [os.path.join(row, f"trace{number}") for number in range(1, 10)]
@@ -62,8 +70,7 @@ def first_wrong(row, told):
             continue
         front = f"  line {number}: "
         command = escaped(line.strip(" "))
-        shown = command if len(command) <= 300 else command[:100]
-        if not told[at : at + 1] or not told[at].startswith(front + shown):
+        if not told[at : at + 1] or not shows(told[at], front, command):
             return f"line {number}: not explained: {told[at : at + 1]}"
         at += 1
         if " at " in text and len(line) <= 300:
@@ -76,7 +83,7 @@ def first_wrong(row, told):
         bad = re.fullmatch("refused 3: line ([0-9]+) fault [0-9]", text)
         if bad and line.strip(" ").startswith("load"):
             trace = lines_of_traces[int(line.partition("@")[2]) - 1]
-            if told[at : at + 1] != ["    " + escaped(trace[int(bad[1]) - 1])]:
+            if not told[at : at + 1] or not shows(told[at], "    ", escaped(trace[int(bad[1]) - 1])):
                 return f"line {number}: not the trace's line: {told[at : at + 1]}"
             at += 1
     return None if at == len(told) else f"more is told: {told[at]}"

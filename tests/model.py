@@ -12,6 +12,9 @@ import sys
 
 # Nothing is written beside the sources.
 sys.dont_write_bytecode = True
+# A number may have thousands of digits, for which newer versions of Python want to be asked.
+if hasattr(sys, "set_int_max_str_digits"):
+    sys.set_int_max_str_digits(0)
 
 from model_filter import FilterFault, read_filter
 from model_line import EVENTS, LineFault, line_text, read_line

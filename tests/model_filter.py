@@ -1,5 +1,6 @@
 """Filters, for model.py: docs/FORMAT.md, section 2. A filter is a tree of tuples, by the word in front."""
 
+import functools
 import re
 
 from model_line import TEXTS
@@ -7,6 +8,7 @@ from model_line import TEXTS
 NAME = re.compile("[A-Za-z_][A-Za-z0-9_]*")
 RUN = re.compile("-?[A-Za-z0-9_]*")
 NUMBER = re.compile("-?(0|[1-9][0-9]*)|0x[0-9A-Fa-f]+")
+BYTES = frozenset(map(chr, range(256)))
 OPERATORS = ["==", "!=", "<=", ">=", "<", ">", "&", "~"]
 MEANINGS = {
     "==": lambda a, b: a == b,
@@ -16,7 +18,7 @@ MEANINGS = {
     "<": lambda a, b: a < b,
     ">": lambda a, b: a > b,
     "&": lambda a, b: (a & b) != 0,
-    "~": lambda text, pattern: read_pattern(pattern).fullmatch(text) is not None,
+    "~": lambda text, pattern: matches(read_pattern(pattern), text),
 }
 
 
@@ -134,24 +136,25 @@ def read_filter(text, fields):
     return tree
 
 
+@functools.cache
 def read_pattern(pattern):
-    """A regular expression for the pattern of `~`, or None where it is none."""
+    """The items of a pattern of `~`, None for `*` and else the bytes that one byte is of; None where it is no pattern."""
     if "\\" in pattern or pattern.startswith("!"):
         return None
-    items, at = "", 0
+    items, at = [], 0
     while at < len(pattern):
         if pattern[at] == "[":
             item, at = read_class(pattern, at + 1)
             if item is None:
                 return None
         else:
-            item, at = {"*": ".*", "?": "."}.get(pattern[at], re.escape(pattern[at])), at + 1
-        items += item
-    return re.compile(items, re.DOTALL)
+            item, at = {"*": None, "?": BYTES}.get(pattern[at], {pattern[at]}), at + 1
+        items.append(item)
+    return items
 
 
 def read_class(pattern, at):
-    """A class as a regular expression, or None, and the place behind it; `at` is behind the `[`."""
+    """The bytes of a class, or None, and the place behind it; `at` is behind the `[`."""
     turned = pattern.startswith("!", at)
     at += turned
     members = set()
@@ -162,11 +165,22 @@ def read_class(pattern, at):
             at += 2
         if first > last:
             return None, at
-        members |= set(range(ord(first), ord(last) + 1))
+        members |= set(map(chr, range(ord(first), ord(last) + 1)))
         at += 1
     if at == len(pattern) or not members:
         return None, at
-    return "[" + "^" * turned + "".join(f"\\x{member:02x}" for member in sorted(members)) + "]", at + 1
+    return BYTES - members if turned else members, at + 1
+
+
+def matches(items, text):
+    """Whether the items, each behind the one before it, are the whole text: by the places at which the items so far may end."""
+    ends = {0}
+    for item in items:
+        if item is None:
+            ends = set(range(min(ends, default=len(text) + 1), len(text) + 1))
+        else:
+            ends = {at + 1 for at in ends if at < len(text) and text[at] in item}
+    return len(text) in ends
 
 
 def passes(tree, value_of):

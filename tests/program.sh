@@ -1,10 +1,10 @@
 #!/usr/bin/env bash
 # program.sh [HISTDESK [PLAINDESK [CHECKROWS [ASKAGAIN]]]]: runs a program as a user would: the rows, the examples,
-# words, folders, full disks, limits of files, a script that is typed, growths of memory that are refused,
-# random scripts, and the tools around it (tools.sh). Where PLAINDESK is given, it runs the rows too, and so
-# does CHECKROWS in its own way; ASKAGAIN asks a second time for what found no memory, in some rows. Without
-# words, it runs the launcher and those of the other three that are built. It prints what went wrong, and a
-# last line with the counts.
+# words, folders, full disks, limits of files, full desks, a script that is typed, hostile bytes, growths of
+# memory that are refused, random scripts, and the tools around it (tools.sh). Where PLAINDESK is given, it runs
+# the rows, the full desks and the hostile bytes too, and CHECKROWS runs the rows in its own way; ASKAGAIN asks
+# a second time for what found no memory, in some rows. Without words, it runs the launcher and those of the
+# other three that are built. It prints what went wrong, and a last line with the counts.
 #
 # A row is a folder in tests/rows: a script, its traces, its whole output and its exit status.
 set -uo pipefail
@@ -144,6 +144,37 @@ comes() {
     done
 }
 
+# full_desk PROGRAM..: a trace of one event more than a desk holds, and what edits a desk takes that holds the most. What
+# may be refused for another reason is refused for that one.
+full_desk() {
+    local name program full=$folder/full
+    mkdir -p -- "$full"/{one_more,edits}
+    yes 'a-1 [000] 1.000000:' | head -n 1048577 >"$full/one_more/trace1"
+    head -n 1048576 -- "$full/one_more/trace1" >"$full/edits/trace1"
+    echo 'a-1 [001] 1.000000:' >"$full/edits/trace2"
+    printf '# no event\n\n' >"$full/edits/trace3"
+    echo 'load @1' >"$full/one_more/script"
+    echo 'refused 7' >"$full/one_more/expected"
+    printf '%s\n' 'load @1' 'insert a-1 [001] 1.000000:' 'insert a-1 [000] 1.000000:' 'insert # x' 'insert x' 'load @1' \
+        'load @2' 'load @3' 'list 1' 'strike 0:1048576' 'load @2' 'insert a-1 [000] 1.000000:' 'unload 1' \
+        'insert a-1 [000] 1.000000:' 'insert a-1 [000] 1.000000:' 'unload 0' 'load @2' >"$full/edits/script"
+    printf '%s\n' 'loaded 1048576' 'refused 7' 'refused 7' 'refused 6' 'refused 3: line 1 fault 1' 'refused 4: cpu 0' \
+        'refused 7' 'loaded 0' 'refused 5: cpu 1' 'struck 0:1048576' 'loaded 1' 'refused 7' 'unloaded 1' \
+        'inserted 0:1048577' 'refused 7' 'unloaded 1048576' 'loaded 1' >"$full/edits/expected"
+    for name in one_more edits; do
+        echo 1 >"$full/$name/status"
+        for program in "$@"; do
+            row "$program" "$full/$name"
+        done
+        rm -- "$full/$name/trace1"
+    done
+}
+
+# hostile PROGRAM..: a part of the hostile bytes, of which each program prints what the plain model does.
+hostile() {
+    holds "$here/hostile.py" --part 1 "$@"
+}
+
 # Who types a script sees a command's output before the next one, and its end ends the program.
 types() {
     local run status
@@ -254,16 +285,7 @@ gives endless_trace 2 "histdesk: cannot read /dev/zero" "$histdesk" "$folder/emp
 truncate -s 1073741825 "$folder/large"
 gives large_trace 2 "histdesk: cannot read $folder/large" "$histdesk" "$folder/empty" "$folder/large"
 gives full_disk 2 "histdesk: write failed" bash -c 'exec "$@" >/dev/full' - "$histdesk" "$folder/load"
-yes 'a-1 [000] 1.000000:' | head -n 1048576 >"$folder/million"
-gives million_lines 0 "" "$histdesk" "$folder/load" "$folder/million"
-says million_lines "loaded 1048576"
-printf 'load @1\ninsert a-1 [001] 1.000000:\n' >"$folder/one_more"
-gives insert_past_the_limit 1 "" "$histdesk" "$folder/one_more" "$folder/million"
-printf 'loaded 1048576\nrefused 7\n' >"$folder/refused"
-prints insert_past_the_limit "$folder/refused"
-echo 'a-1 [000] 1.000000:' >>"$folder/million"
-gives one_line_more 1 "" "$histdesk" "$folder/load" "$folder/million"
-says one_line_more "refused 7"
+full_desk "$histdesk" ${plaindesk:+"$plaindesk"}
 types
 
 # The launcher refuses these words by itself, before it builds anything; on a terminal the usage stands behind the line.
@@ -277,6 +299,7 @@ done
 if [[ $histdesk == "$launcher" ]]; then
     histdesk=$here/../crates/histdesk/out/histdesk
 fi
+hostile "$histdesk" ${plaindesk:+"$plaindesk"}
 growths "$histdesk" "${rows[@]}" "$folder"/short/*
 if [[ -n $askagain ]]; then
     asks_again "$askagain" one_latency full_table_and_early_insert dropped_saver_comes_in \
