@@ -12,3 +12,4 @@ pub mod Savers
 pub mod Apart
 pub mod OneSaver
 pub mod Unread
+pub mod Filters

@@ -1,6 +1,7 @@
 //! What a desk holds and what is attached to it, however a board keeps its tables.
 
-ghost use Rattle.std.specs.Prelude.{◌≡◌, ◌≢◌, IfOk, IsSome, Some, Ok, Err, option_map};
+ghost use Rattle.std.specs.Prelude.{◌≡◌, ◌≢◌, IfOk, OnOk, OnErr, IsSome, None, Some, Ok, Err};
+ghost use Rattle.std.specs.Prelude.{option_map};
 ghost use Rattle.std.specs.Option.{ForSome};
 ghost use Rattle.std.specs.Ordering.{nat_cmp};
 ghost use Rattle.std.specs.FinMap as map;
@@ -14,7 +15,7 @@ ghost use Rattle.ft_base.specs.After.{after_attach, after_refilter};
 ghost use Rattle.ft_base.specs.Answers.{AnswerIs, list_text};
 ghost use Rattle.ft_base.specs.Base.{empty_base};
 ghost use Rattle.ft_base.specs.Edited.{BaseGives, FindsToStrike, FindsToRemove};
-ghost use Rattle.ft_base.specs.OneTrigger.{IsUnread, JoinsAs, base_without};
+ghost use Rattle.ft_base.specs.OneTrigger.{IsUnread, JoinsAs, GetsFilter, base_without};
 ghost use Rattle.ft_base.specs.Reachable.{IsReachable};
 
 use crate::attach::variable_refused;
@@ -195,8 +196,10 @@ impl Content {
     pub fn refilter(&mut self, id: u32, filter: Option<Filter>) -> Result<u32, Refused>
         requires { (hist : Hist) → map.get self.old.triggers id ≡ Some hist
             → ForSome filter (λ f. f.event ≡ hist.event) }
-        ensures { BaseGives (after_refilter self.old id (option_map (λ f. f.tree) filter))
+        ensures gives { BaseGives (after_refilter self.old id (option_map (λ f. f.tree) filter))
             self.old self.new result }
+        ensures filters { OnOk result (GetsFilter id self.old self.new) }
+        ensures refused { OnErr result (map.get self.old.triggers id ≡ None) }
     {
         if !refilter_in(&mut self.triggers, id, filter) {
             return Err(Refused::NoTrigger);

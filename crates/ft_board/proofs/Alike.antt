@@ -36,7 +36,7 @@ use Rattle.ft_board.proofs.KeptBoardActs.{act_in}
 -- ---- acts
 
 -- a trigger that is the same has the same acts
-acts_same : (old new : Triggers) (events : Events) (at : At) → map.get new at.trigger ≡ map.get old at.trigger → acts_of new events at ≡ acts_of old events at
+pub acts_same : (old new : Triggers) (events : Events) (at : At) → map.get new at.trigger ≡ map.get old at.trigger → acts_of new events at ≡ acts_of old events at
 unfolding acts_of
 acts_same old new events at same = ap (λ (hist : Option Hist). option_and_then (λ (e : Traced). act_in hist e) (map.get events at.pos)) same
 
@@ -45,7 +45,7 @@ never_any None = refl
 never_any (Some x) = refl
 
 -- no trigger, no act
-no_act_of : (triggers : Triggers) (events : Events) (at : At) → map.get triggers at.trigger ≡ None → acts_of triggers events at ≡ None
+pub no_act_of : (triggers : Triggers) (events : Events) (at : At) → map.get triggers at.trigger ≡ None → acts_of triggers events at ≡ None
 unfolding acts_of
 no_act_of triggers events at none = ap (λ (hist : Option Hist). option_and_then (λ (e : Traced). act_in hist e) (map.get events at.pos)) none ∙ never_any (map.get events at.pos)
 

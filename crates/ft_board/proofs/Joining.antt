@@ -1,109 +1,124 @@
--- A trigger gets a shelf: nothing is kept of it, and of the others all stays.
-use Rattle.std.proofs.Common.{◌≡◌, ℕ, inr, List, refl, sym, ap, subst, ◌∙◌, Option, Some, None, ⊎_elim}
-use Rattle.std.specs.Prelude.{option_and_then}
-use Rattle.std.specs.Cmp.{nat_cmp_total}
+-- A family gets new shelves: nothing is kept of it, and of the others all stays.
+use Rattle.std.proofs.Common.{◌≡◌, ℕ, Bool, true, false, true≢false, inr, List, refl, sym, ap, subst, ◌∙◌, Option, Some, None}
+use Rattle.std.specs.Prelude.{option_and_then, if◌then◌else◌}
 use Rattle.std.specs.FinMap as map
-use Rattle.std.specs.FinMap.{get-empty, nat_cmp-IsAntisymmetric}
-use Rattle.std.proofs.lemmas.Bool.{cases_eq}
+use Rattle.std.specs.FinMap.{get-empty}
 use Rattle.ft_fields.specs.declared.pos.Pos.{Pos}
 use Rattle.ft_fields.specs.Places.{pos_cmp}
 use Rattle.ft_hist.specs.Hist.{Hist}
 use Rattle.ft_keys.specs.declared.key.Part.{Part}
-use Rattle.ft_maps.specs.Entries.{get-insert_same, get-insert_other}
+use Rattle.ft_lanes.specs.Held.{Lanes}
 use Rattle.ft_pairs.specs.ByKey.{ops_of}
 use Rattle.ft_pairs.specs.declared.at.At.{At}
+use Rattle.ft_pairs.specs.declared.role.Role.TheVariants.{Reads}
+use Rattle.ft_pairs.specs.declared.role.Variable.{Variable}
 use Rattle.ft_table.specs.Tabled.{Tabled}
+use Rattle.ft_table.specs.Values.{values_by}
 use Rattle.ft_kept.specs.Acts.{Acts, acts_of, op_of}
 use Rattle.ft_kept.specs.Entries.{IsRight, hits_here, read_here}
-use Rattle.ft_kept.specs.Shelves.{Shelved, Shelves, AddsShelf, admits_on, kept_on}
-use Rattle.ft_table.specs.Values.{values_by}
-use Rattle.ft_pairs.specs.declared.role.Variable.{Variable}
-use Rattle.ft_base.specs.Base.{Triggers, Base}
+use Rattle.ft_kept.specs.Shelves.{Shelved, Shelves, admits_on, kept_on}
+use Rattle.ft_base.specs.Base.{Triggers}
+use Rattle.ft_base.specs.Roles.{role_at}
+use Rattle.ft_replay.specs.Merged.{merged}
 use Rattle.ft_board.specs.KeptShelves.{HasItsShelf}
-use Rattle.ft_replay.specs.Merged.{Events, merged}
-use Rattle.ft_base.specs.OneTrigger.{IsUnread}
-use Rattle.ft_board.specs.inner.ButOneTrigger.{AreKeptBut, AreKeptIdle}
-use Rattle.ft_base.specs.Roles.{role_of, role_at}
-use Rattle.ft_board.proofs.Alike.{rest, rest_same, rest_none, rest_no_act, same_ops, no_ops, op_same, no_op_there, right_moves, right_none, all_right, shelf_same}
+use Rattle.ft_board.specs.inner.Built.{HasNewShelf}
+use Rattle.ft_board.specs.inner.Idle.{AreKeptIdle, AreKeptOutside, AreRenewed, acts_outside}
+use Rattle.ft_board.proofs.Alike.{same_ops, no_hits, no_read, no_ops, op_same, no_op_there, no_op_of, right_moves, right_none}
 
-module _ (base : Base) (id : ℕ) (hist : Hist) (attached : map.get base.triggers id ≡ Some hist) (unread : IsUnread base.triggers id)
-    (old new : Shelves) (but : AreKeptBut id base old) (adds : AddsShelf id (role_of base.triggers hist.variable) hist.size old new) where
-  abbrev others : Triggers
-  others = rest base.triggers id
+-- nothing is kept of a trigger
+record IsBare (shelves : Shelves) (id : ℕ) : Type 0 where
+  hits : (pos : Pos) (key : List Part) → hits_here (kept_on shelves) (record { pos = pos; trigger = id }) key ≡ None
+  read : (pos : Pos) → read_here (kept_on shelves) (record { pos = pos; trigger = id }) ≡ None
+  ops : (key : List Part) (at : At) → (kept_on shelves).ops (record { saver = id; key = key }) at ≡ None
 
-  abbrev events : Events
-  events = merged base.lanes
+bare_none : (shelves : Shelves) (id : ℕ) → map.get shelves id ≡ None → IsBare shelves id
+bare_none shelves id none = record {
+  hits = no_hits shelves id none;
+  read = no_read shelves id none;
+  ops = no_ops shelves id none;
+}
 
+bare_new : (triggers : Triggers) (hist : Hist) (shelves : Shelves) (id : ℕ) → HasNewShelf triggers (Some hist) (map.get shelves id) → IsBare shelves id
+unfolding kept_on
+bare_new triggers hist shelves id has = record {
+  hits = λ pos key. ap (λ (o : Option Shelved). option_and_then (λ (s : Shelved). map.get s.table.hits (record { pos = pos; key = key })) o) has.1.0
+      ∙ ap (λ (t : Tabled). map.get t.hits (record { pos = pos; key = key })) has.1.1.table ∙ get-empty _ _;
+  read = λ pos. ap (λ (o : Option Shelved). option_and_then (λ (s : Shelved). map.get s.readings pos) o) has.1.0
+      ∙ ap (λ m. map.get m pos) has.1.1.readings ∙ get-empty {X = Pos} pos_cmp pos;
+  ops = λ key at. ap (λ (o : Option Shelved). option_and_then (λ (s : Shelved). ops_of s.ops key at) o) has.1.0 ∙ has.1.1.ops key at;
+}
+
+its_new : (triggers : Triggers) (hist : Hist) (shelf : Option Shelved) → HasNewShelf triggers (Some hist) shelf → HasItsShelf triggers (Some hist) shelf
+its_new triggers hist shelf has = (has.0, (has.1.0, record { role = has.1.1.role; size = ap (λ (t : Tabled). t.size) has.1.1.table }))
+
+module _ (triggers : Triggers) (lanes : Lanes) (family : ℕ → Bool) (old new : Shelves) (outside : AreKeptOutside family triggers lanes old) (renewed : AreRenewed triggers family old new)
+    (closed : (reader saver : ℕ) → family reader ≡ false → family saver ≡ true → role_at triggers reader ≡ Reads saver → ⊥) where
   abbrev acts : Acts
-  acts = acts_of others events
+  acts = acts_outside family triggers lanes
 
-  shelf_here : map.get new id ≡ Some adds.0
-  shelf_here = ap (λ (s : Shelves). map.get s id) adds.1.0 ∙ get-insert_same nat_cmp_total old id adds.0
+  no_act : (at : At) → family at.trigger ≡ true → acts at ≡ None
+  no_act at inside = ap (λ (b : Bool). if b then None else acts_of triggers (merged lanes) at) inside
 
-  shelf_other : (other : ℕ) → (other ≡ id → ⊥) → map.get new other ≡ map.get old other
-  shelf_other other apart = ap (λ (s : Shelves). map.get s other) adds.1.0 ∙ get-insert_other nat_cmp_total nat_cmp-IsAntisymmetric old id adds.0 other apart
+  bare : (id : ℕ) → family id ≡ true → IsBare new id
+  bare id inside =
+      elim (map.get triggers id) as (λ (o : Option Hist). map.get triggers id ≡ o → IsBare new id) [
+        | None ↦ λ none. bare_none new id (renewed.none id none ∙ outside.none id none)
+        | Some hist ↦ λ there. bare_new triggers hist new id (renewed.fresh id hist inside there)
+      ] refl
 
-  -- it had none before
-  none_here : map.get old id ≡ None
-  none_here = subst (λ (o : Option Hist). HasItsShelf others o (map.get old id)) (rest_none base.triggers id id refl) (but.each id)
+  its_inside : (id : ℕ) → family id ≡ true → HasItsShelf triggers (map.get triggers id) (map.get new id)
+  its_inside id inside =
+      elim (map.get triggers id) as (λ (o : Option Hist). map.get triggers id ≡ o → HasItsShelf triggers o (map.get new id)) [
+        | None ↦ λ none. renewed.none id none ∙ outside.none id none
+        | Some hist ↦ λ there. its_new triggers hist (map.get new id) (renewed.fresh id hist inside there)
+      ] refl
 
-  -- ---- nothing is on the new shelf
+  its : (id : ℕ) → HasItsShelf triggers (map.get triggers id) (map.get new id)
+  its id =
+      elim (family id) as (λ (b : Bool). family id ≡ b → HasItsShelf triggers (map.get triggers id) (map.get new id)) [
+        | true ↦ λ inside. its_inside id inside
+        | false ↦ λ out. subst (HasItsShelf triggers (map.get triggers id)) (sym (renewed.stay id out)) (outside.each id out)
+      ] refl
 
-  new_hits : (pos : Pos) (key : List Part) → hits_here (kept_on new) (record { pos = pos; trigger = id }) key ≡ None
-  unfolding kept_on
-  new_hits pos key =
-      ap (λ (o : Option Shelved). option_and_then (λ (s : Shelved). map.get s.table.hits (record { pos = pos; key = key })) o) shelf_here
-      ∙ ap (λ (t : Tabled). map.get t.hits (record { pos = pos; key = key })) adds.1.1.table ∙ get-empty _ _
+  -- who acts on a variable of the family is inside
+  none_done : (variable : Variable) (at : At) → family variable.saver ≡ true → op_of (role_at triggers) (admits_on new) acts variable at ≡ None
+  none_done variable at inside =
+      elim (family at.trigger) as (λ (b : Bool). family at.trigger ≡ b → op_of (role_at triggers) (admits_on new) acts variable at ≡ None) [
+        | true ↦ λ there. no_op_there (role_at triggers) (admits_on new) acts variable at (no_act at there)
+        | false ↦ λ out. no_op_of (role_at triggers) (admits_on new) acts variable at
+            (λ _ same. true≢false (sym inside ∙ ap family (sym same) ∙ out))
+            (λ reads. closed at.trigger variable.saver out inside reads)
+      ] refl
 
-  new_read : (pos : Pos) → read_here (kept_on new) (record { pos = pos; trigger = id }) ≡ None
-  unfolding kept_on
-  new_read pos =
-      ap (λ (o : Option Shelved). option_and_then (λ (s : Shelved). map.get s.readings pos) o) shelf_here
-      ∙ ap (λ m. map.get m pos) adds.1.1.readings ∙ get-empty {X = Pos} pos_cmp pos
+  op_stays : (variable : Variable) (at : At) → op_of (role_at triggers) (admits_on new) acts variable at ≡ op_of (role_at triggers) (admits_on old) acts variable at
+  op_stays variable at =
+      elim (family at.trigger) as (λ (b : Bool). family at.trigger ≡ b → op_of (role_at triggers) (admits_on new) acts variable at ≡ op_of (role_at triggers) (admits_on old) acts variable at) [
+        | true ↦ λ there. no_op_there (role_at triggers) (admits_on new) acts variable at (no_act at there) ∙ sym (no_op_there (role_at triggers) (admits_on old) acts variable at (no_act at there))
+        | false ↦ λ out. op_same (role_at triggers) (role_at triggers) old new acts acts variable at refl (renewed.stay at.trigger out) refl
+      ] refl
 
-  new_ops : (key : List Part) (at : At) → (kept_on new).ops (record { saver = id; key = key }) at ≡ None
-  unfolding kept_on
-  new_ops key at = ap (λ (o : Option Shelved). option_and_then (λ (s : Shelved). ops_of s.ops key at) o) shelf_here ∙ adds.1.1.ops key at
+  ops : (variable : Variable) (at : At) → (kept_on new).ops variable at ≡ op_of (role_at triggers) (admits_on new) acts variable at
+  ops variable at =
+      elim (family variable.saver) as (λ (b : Bool). family variable.saver ≡ b → (kept_on new).ops variable at ≡ op_of (role_at triggers) (admits_on new) acts variable at) [
+        | true ↦ λ inside. (bare variable.saver inside).ops variable.key at ∙ sym (none_done variable at inside)
+        | false ↦ λ out. same_ops old new variable.saver (renewed.stay variable.saver out) variable.key at ∙ outside.ops variable at out ∙ sym (op_stays variable at)
+      ] refl
 
-  -- ---- all is as before
+  -- a trigger outside reads a saver outside
+  saver_stays : (at : At) → family at.trigger ≡ false → (saver : ℕ) → role_at triggers at.trigger ≡ Reads saver → map.get new saver ≡ map.get old saver
+  saver_stays at out saver reads =
+      elim (family saver) as (λ (b : Bool). family saver ≡ b → map.get new saver ≡ map.get old saver) [
+        | true ↦ λ inside. absurd (closed at.trigger saver out inside reads)
+        | false ↦ λ there. renewed.stay saver there
+      ] refl
 
-  ops_stay : (variable : Variable) (at : At) → (kept_on new).ops variable at ≡ (kept_on old).ops variable at
-  ops_stay variable at = ⊎_elim
-      (λ (its : variable.saver ≡ id). subst (λ (k : ℕ). (kept_on new).ops (record { saver = k; key = variable.key }) at ≡ (kept_on old).ops (record { saver = k; key = variable.key }) at) (sym its)
-      (new_ops variable.key at ∙ sym (no_ops old id none_here variable.key at)))
-      (λ apart. same_ops old new variable.saver (shelf_other variable.saver apart) variable.key at)
-      (cases_eq variable.saver id)
+  right : (at : At) → IsRight (role_at triggers) (values_by triggers) acts (kept_on new) at
+  right at =
+      elim (family at.trigger) as (λ (b : Bool). family at.trigger ≡ b → IsRight (role_at triggers) (values_by triggers) acts (kept_on new) at) [
+        | true ↦ λ inside. right_none (role_at triggers) (values_by triggers) acts (kept_on new) at (no_act at inside) ((bare at.trigger inside).read at.pos) (λ key. (bare at.trigger inside).hits at.pos key)
+        | false ↦ λ out. right_moves triggers triggers acts acts old new at refl refl refl (renewed.stay at.trigger out)
+            (λ saver reads key i q. same_ops old new saver (saver_stays at out saver reads) key q i) (outside.entries at out)
+      ] refl
 
-  op_stays : (variable : Variable) (at : At) → op_of (role_at base.triggers) (admits_on new) acts variable at ≡ op_of (role_at others) (admits_on old) acts variable at
-  op_stays variable at = ⊎_elim
-      (λ same.
-      let none = rest_no_act base.triggers id events at same in
-      no_op_there (role_at base.triggers) (admits_on new) acts variable at none ∙ sym (no_op_there (role_at others) (admits_on old) acts variable at none))
-      (λ apart. op_same (role_at others) (role_at base.triggers) old new acts acts variable at (sym (unread.others at.trigger apart)) (shelf_other at.trigger apart) refl)
-      (cases_eq at.trigger id)
-
-  right_here : (at : At) → at.trigger ≡ id → IsRight (role_at base.triggers) (values_by base.triggers) acts (kept_on new) at
-  right_here at same = right_none (role_at base.triggers) (values_by base.triggers) acts (kept_on new) at (rest_no_act base.triggers id events at same)
-      (subst (λ (k : ℕ). read_here (kept_on new) (record { pos = at.pos; trigger = k }) ≡ None) (sym same) (new_read at.pos))
-      (λ key. subst (λ (k : ℕ). hits_here (kept_on new) (record { pos = at.pos; trigger = k }) key ≡ None) (sym same) (new_hits at.pos key))
-
-  right_other : (at : At) → (at.trigger ≡ id → ⊥) → IsRight (role_at base.triggers) (values_by base.triggers) acts (kept_on new) at
-  right_other at apart = right_moves others base.triggers acts acts old new at (sym (rest_same base.triggers id at.trigger apart)) (sym (unread.others at.trigger apart)) refl (shelf_other at.trigger apart)
-      (λ saver _ key. (λ i q. ops_stay (record { saver = saver; key = key }) q i))
-      (all_right (role_at others) (values_by others) (admits_on old) acts (kept_on old) but.kept at)
-
-  its_own : HasItsShelf base.triggers (map.get base.triggers id) (map.get new id)
-  its_own = subst (λ (o : Option Hist). HasItsShelf base.triggers o (map.get new id)) (sym attached)
-      (adds.0, (shelf_here, record { role = adds.1.1.role; size = ap (λ (t : Tabled). t.size) adds.1.1.table }))
-
-  pub joins_idle : AreKeptIdle id base new
-  joins_idle = record {
-    each = λ other. ⊎_elim
-        (λ (same : other ≡ id). subst (λ (k : ℕ). HasItsShelf base.triggers (map.get base.triggers k) (map.get new k)) (sym same) its_own)
-        (λ apart. shelf_same others base.triggers old new other (sym (rest_same base.triggers id other apart)) (sym (unread.others other apart)) (shelf_other other apart) (but.each other))
-        (cases_eq other id);
-    kept = record {
-      ops = λ variable at. ops_stay variable at ∙ but.kept.ops variable at ∙ sym (op_stays variable at);
-      entries = λ at. inr (⊎_elim (right_here at) (right_other at) (cases_eq at.trigger id));
-    };
-  }
+  pub renewed_idle : AreKeptIdle family triggers lanes new
+  renewed_idle = record { each = its; kept = record { ops = ops; entries = λ at. inr (right at) } }

@@ -1,10 +1,11 @@
 -- The shelf of a trigger goes that no other reads: of the others all that is kept stays.
 use Rattle.std.proofs.Common.{◌≡◌, ℕ, Bool, true, false, inr, List, refl, sym, ap, subst, ◌∙◌, Option, Some, None, ⊎_elim}
+use Rattle.std.specs.Prelude.{◌==◌, if◌then◌else◌}
 use Rattle.std.specs.Option.{option_map_or}
 use Rattle.std.specs.Cmp.{nat_cmp_total}
 use Rattle.std.specs.FinMap as map
 use Rattle.std.specs.FinMap.{nat_cmp-IsAntisymmetric}
-use Rattle.std.proofs.lemmas.Bool.{cases_eq}
+use Rattle.std.proofs.lemmas.Bool.{cases_eq, eq-eqb, eqb-true}
 use Rattle.ft_hist.specs.Hist.{Hist}
 use Rattle.ft_hist.specs.declared.label.Var.{Var}
 use Rattle.ft_hist.specs.declared.label.Var.TheVariants as vars
@@ -23,7 +24,8 @@ use Rattle.ft_board.specs.KeptShelves.{AreKeptOf, HasItsShelf}
 use Rattle.ft_replay.specs.Merged.{Events, merged}
 use Rattle.ft_base.specs.Roles.{is_reader}
 use Rattle.ft_base.specs.OneTrigger.{IsUnread}
-use Rattle.ft_board.specs.inner.ButOneTrigger.{AreKeptBut, AreKeptIdle}
+use Rattle.ft_board.specs.inner.ButOneTrigger.{AreKeptBut}
+use Rattle.ft_board.specs.inner.Idle.{AreKeptIdle, acts_outside, is_one}
 use Rattle.ft_base.specs.Roles.{role_of, role_at}
 use Rattle.ft_board.proofs.Alike.{rest, rest_same, rest_none, rest_no_act, rest_act, same_ops, no_hits, no_read, no_ops, op_same, no_op_there, no_op_of, right_moves, right_none, all_right, shelf_same}
 
@@ -104,8 +106,19 @@ module _ (base : Base) (id : ℕ) (unread : IsUnread base.triggers id) (old : Sh
     }
 
   -- a trigger goes of which nothing is kept any more
-  pub idle_leaves : AreKeptIdle id base old → AreKeptBut id base new
-  idle_leaves idle = kept_left acts (λ at _. refl) idle.kept (λ variable at same _. no_op_there (role_at base.triggers) (admits_on old) acts variable at (rest_no_act base.triggers id events at same)) idle.each
+  pub idle_leaves : AreKeptIdle (is_one id) base.triggers base.lanes old → AreKeptBut id base new
+  idle_leaves idle =
+      let before : Acts = acts_outside (is_one id) base.triggers base.lanes in
+      kept_left before
+      (λ at apart. rest_act base.triggers id events at apart ∙ sym (act_left at apart)) idle.kept
+      (λ variable at same _. no_op_there (role_at base.triggers) (admits_on old) before variable at (ap (λ (b : Bool). if b then None else acts_of base.triggers events at) (eq-eqb at.trigger id same)))
+      idle.each
+    where
+      act_left : (at : At) → (at.trigger ≡ id → ⊥) → acts_outside (is_one id) base.triggers base.lanes at ≡ acts_of base.triggers events at
+      act_left at apart = elim (at.trigger == id) as (λ (b : Bool). (at.trigger == id) ≡ b → (if b then None else acts_of base.triggers events at) ≡ acts_of base.triggers events at) [
+        | true ↦ λ tie. absurd (apart (eqb-true at.trigger id tie))
+        | false ↦ λ _. refl
+      ] refl
 
   -- ---- a trigger that reads nothing
 

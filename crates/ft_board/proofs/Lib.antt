@@ -1,6 +1,9 @@
 pub mod KeptBoardForms
 pub mod Alike
 pub mod Joining
+pub mod Families
+pub mod Outside
+pub mod Putting
 pub mod Leaving
 pub mod KeptBoardActs
 pub mod KeptBoardBuilt

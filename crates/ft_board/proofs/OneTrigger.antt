@@ -1,15 +1,16 @@
 -- Event by event the acts of one trigger come to what is kept, or go from it, while those of the others stay.
 use Rattle.std.proofs.Common.{◌≡◌, ◌+◌, ◌<◌, ℕ, Bool, true, false, cond, List, [], ◌∷◌, drop, get_or, length, Bor, refl, sym, ap, subst, ◌∙◌, Option, Some, None}
-use Rattle.std.specs.Prelude.{fold, option_and_then, if◌then◌else◌}
+use Rattle.std.specs.Prelude.{◌==◌, fold, option_and_then, if◌then◌else◌}
 use Rattle.std.specs.List.{AllByRecursion}
 use Rattle.std.specs.List.Sorted.{IsStrictlySortedBy}
 use Rattle.std.specs.Map.{keys_of, lookup}
 use Rattle.std.specs.Map.Iter.{deref}
-use Rattle.std.specs.Ordering.{nat_cmp, is_eq, eq_by_cmp}
-use Rattle.std.specs.Cmp.{eq_by_cmp_equiv, nat_cmp_total}
+use Rattle.std.specs.Ordering.{is_eq, eq_by_cmp}
+use Rattle.std.specs.Cmp.{eq_by_cmp_equiv}
 use Rattle.std.specs.declared.cmp.Ordering.TheVariants.{Less}
 use Rattle.std.specs.FinMap as map
-use Rattle.std.specs.FinMap.{find, get-empty, get-entries, get-from_entries, get-insert, get-remove, entries_sorted, same_map, nat_cmp-IsAntisymmetric}
+use Rattle.std.specs.FinMap.{find, get-empty, get-entries, get-from_entries, get-insert, entries_sorted, same_map}
+use Rattle.std.proofs.lemmas.Bool.{eq-eqb, eqb-true}
 use Rattle.std.proofs.lemmas.List.{drop_more}
 use Rattle.std.proofs.lemmas.Map.Entries.{option_filter, lookup-filter-values}
 use Rattle.std.proofs.lemmas.Map.Keys.{sorted_head, sorted_tail, IsDistinct-from_sorted}
@@ -26,10 +27,10 @@ use Rattle.ft_kept.specs.Repairs.{CanCome, HasCome, CanGo, HasGone}
 use Rattle.ft_kept.specs.Shelves.{Shelves, FormsStay, admits_on, kept_on}
 use Rattle.ft_table.specs.Values.{values_by}
 use Rattle.ft_lanes.specs.Held.{Lanes, event_at}
-use Rattle.ft_maps.specs.Entries.{get-insert_same, get-insert_other, same_from_tie, strictly_sorted}
+use Rattle.ft_pairs.specs.declared.at.At.{At}
+use Rattle.ft_maps.specs.Entries.{get-insert_same, get-insert_other, strictly_sorted}
 use Rattle.ft_maps.specs.Mapped.{entries_by}
 use Rattle.ft_base.specs.Base.{Triggers}
-use Rattle.ft_board.specs.KeptShelves.{AreKept}
 use Rattle.ft_replay.specs.Merged.{Events, merged, merged_with, held_at}
 use Rattle.ft_replay.specs.Named.{events_on}
 use Rattle.ft_base.specs.Roles.{role_at}
@@ -99,27 +100,26 @@ events_of es = map.from_entries es
 
 -- ---- acts on the way
 
--- without a trigger there is no act
-no_trigger : (own : Option Traced) → act_by None own ≡ None
-no_trigger None = refl
-no_trigger (Some event) = refl
+-- at one trigger the acts are those at some events, and at the others given ones
+abbrev pub stage : Triggers → ℕ → Acts → Events → Acts
+stage triggers id others events at = if at.trigger == id then acts_of triggers events at else others at
 
--- at one trigger the acts are those at some events, and at all others those at all held events
-abbrev pub stage : Triggers → Lanes → ℕ → Events → Acts
-stage triggers lanes id events at = if eq_by_cmp nat_cmp at.trigger id then acts_of triggers events at else acts_of triggers (merged lanes) at
+-- no events, no acts
+none_at : (triggers : Triggers) (at : At) → acts_of triggers map.empty at ≡ None
+unfolding acts_of
+none_at triggers at = ap (act_by (map.get triggers at.trigger)) (get-empty {X = Traced} pos_cmp at.pos)
 
-module _ (triggers : Triggers) (lanes : Lanes) (id : ℕ) where
-  without_at : (tie : Bool) (hist : Option Hist) (own : Option Traced) (first : Option Act) → first ≡ None → cond tie first (act_by hist own) ≡ act_by (cond tie None hist) own
-  without_at true hist own first none = none ∙ sym (no_trigger own)
-  without_at false hist own first none = refl
+module _ (triggers : Triggers) (lanes : Lanes) (id : ℕ) (others : Acts) where
+  -- at no events they are the others without the trigger's
+  stage_none : (left : Acts) → ((at : At) → (if at.trigger == id then None else others at) ≡ left at) → stage triggers id others map.empty ≡ left
+  stage_none left are i at = (ap (λ (first : Option Act). if at.trigger == id then first else others at) (none_at triggers at) ∙ are at) i
 
-  -- at no events they are the acts without the trigger
-  pub stage_none : stage triggers lanes id map.empty ≡ acts_of (map.remove triggers id) (merged lanes)
-  unfolding acts_of
-  stage_none i at =
-      (without_at (eq_by_cmp nat_cmp at.trigger id) (map.get triggers at.trigger) (map.get (merged lanes) at.pos) (acts_of triggers map.empty at)
-      (ap (act_by (map.get triggers at.trigger)) (get-empty {X = Traced} pos_cmp at.pos))
-      ∙ ap (λ (hist : Option Hist). act_by hist (map.get (merged lanes) at.pos)) (sym (get-remove nat_cmp_total triggers id at.trigger))) i
+  -- and where it has none among them, they are these
+  stage_idle : ((at : At) → at.trigger ≡ id → others at ≡ None) → stage triggers id others map.empty ≡ others
+  stage_idle none = stage_none others (λ at. elim (at.trigger == id) as (λ (b : Bool). (at.trigger == id) ≡ b → cond b None (others at) ≡ others at) [
+    | true ↦ λ tie. sym (none at (eqb-true at.trigger id tie))
+    | false ↦ λ _. refl
+  ] refl)
 
   -- what shelves keep is that of these acts
   abbrev pub Keep : Shelves → Acts → Type 0
@@ -129,7 +129,7 @@ module _ (triggers : Triggers) (lanes : Lanes) (id : ℕ) where
   pub record IsJoined (hist : Hist) (shelves : Shelves) (rest : List (Pos × Traced)) : Type 0 where
     pub events : Events
     pub each : HaveShelves triggers shelves
-    pub kept : Keep shelves (stage triggers lanes id events)
+    pub kept : Keep shelves (stage triggers id others events)
     pub all : fold merged_with events rest ≡ own_events lanes hist
     pub held : AllHeld lanes events
     pub rest_held : AllByRecursion (λ e. held_at lanes e.0 ≡ Some e.1) rest
@@ -139,47 +139,51 @@ module _ (triggers : Triggers) (lanes : Lanes) (id : ℕ) where
   -- shelves are kept with the events of the trigger that are left
   pub record IsLeaving (shelves : Shelves) (rest : List (Pos × Traced)) : Type 0 where
     pub each : HaveShelves triggers shelves
-    pub kept : Keep shelves (stage triggers lanes id (events_of rest))
+    pub kept : Keep shelves (stage triggers id others (events_of rest))
     pub held : AllHeld lanes (events_of rest)
     pub sorted : IsStrictlySortedBy pos_cmp (keys_of rest)
 
   -- their events are held
-  stage_held : (events : Events) → AllHeld lanes events → AreHeld lanes (stage triggers lanes id events)
-  stage_held events held at key event is =
-      elim (eq_by_cmp nat_cmp at.trigger id) as (λ (b : Bool). cond b (acts_of triggers events at) (acts_of triggers (merged lanes) at) ≡ Some (key, event) → (event_at lanes at.pos.cpu at.pos.line ≡ Some event) × (event.stamp ≡ at.pos.stamp)) [
+  stage_held : AreHeld lanes others → (events : Events) → AllHeld lanes events → AreHeld lanes (stage triggers id others events)
+  stage_held others_held events held at key event is =
+      elim (at.trigger == id) as (λ (b : Bool). cond b (acts_of triggers events at) (others at) ≡ Some (key, event) → (event_at lanes at.pos.cpu at.pos.line ≡ Some event) × (event.stamp ≡ at.pos.stamp)) [
         | true ↦ λ here. acts_held triggers lanes events held at key event here
-        | false ↦ λ there. acts_held triggers lanes (merged lanes) (merged_held lanes) at key event there
+        | false ↦ λ there. others_held at key event there
       ] is
 
-  module _ (hist : Hist) (attached : map.get triggers id ≡ Some hist) where
-    -- at all events on its name they are all acts
-    stage_all : stage triggers lanes id (own_events lanes hist) ≡ acts_of triggers (merged lanes)
+  module _ (hist : Hist) (attached : map.get triggers id ≡ Some hist) (others_held : AreHeld lanes others) where
+    -- at all events on its name it has all its acts
+    own_acts : (at : At) → at.trigger ≡ id → acts_of triggers (own_events lanes hist) at ≡ acts_of triggers (merged lanes) at
     unfolding acts_of
-    stage_all i at =
-        (elim (eq_by_cmp nat_cmp at.trigger id) as (λ (b : Bool). eq_by_cmp nat_cmp at.trigger id ≡ b → cond b (acts_of triggers (own_events lanes hist) at) (acts_of triggers (merged lanes) at) ≡ acts_of triggers (merged lanes) at) [
-          | true ↦ λ tie.
-              let its : map.get triggers at.trigger ≡ Some hist = ap (map.get triggers) (same_from_tie nat_cmp-IsAntisymmetric at.trigger id tie) ∙ attached in
-              (λ j. act_by (its j) (get-events_on (same_name hist.event) (merged lanes) at.pos j))
-              ∙ on_name hist (map.get (merged lanes) at.pos)
-              ∙ ap (λ (h : Option Hist). act_by h (map.get (merged lanes) at.pos)) (sym its)
+    own_acts at same =
+        let its : map.get triggers at.trigger ≡ Some hist = ap (map.get triggers) same ∙ attached in
+        (λ j. act_by (its j) (get-events_on (same_name hist.event) (merged lanes) at.pos j))
+        ∙ on_name hist (map.get (merged lanes) at.pos)
+        ∙ ap (λ (h : Option Hist). act_by h (map.get (merged lanes) at.pos)) (sym its)
+
+    -- and so the acts are these
+    stage_all : (all : Acts) → ((at : At) → (if at.trigger == id then acts_of triggers (merged lanes) at else others at) ≡ all at) → stage triggers id others (own_events lanes hist) ≡ all
+    stage_all all is i at =
+        (elim (at.trigger == id) as (λ (b : Bool). (at.trigger == id) ≡ b → cond b (acts_of triggers (own_events lanes hist) at) (others at) ≡ cond b (acts_of triggers (merged lanes) at) (others at)) [
+          | true ↦ λ tie. own_acts at (eqb-true at.trigger id tie)
           | false ↦ λ _. refl
-        ] refl) i
+        ] refl ∙ is at) i
 
     -- an event more is an act more
     one_act : (events : Events) (pos : Pos) (event : Traced) → map.get events pos ≡ None
-        → Comes (record { pos = pos; trigger = id }) (with_event event (hit hist event)) (stage triggers lanes id events) (stage triggers lanes id (map.insert events pos event))
+        → Comes (record { pos = pos; trigger = id }) (with_event event (hit hist event)) (stage triggers id others events) (stage triggers id others (map.insert events pos event))
     unfolding acts_of
     one_act events pos event absent =
-        let tie : eq_by_cmp nat_cmp id id ≡ true = (eq_by_cmp_equiv nat_cmp_total).refl id in
+        let tie : (id == id) ≡ true = eq-eqb id id refl in
         record {
-          elsewhere = λ q other. elim (eq_by_cmp nat_cmp q.trigger id) as (λ (b : Bool). eq_by_cmp nat_cmp q.trigger id ≡ b
-              → cond b (acts_of triggers (map.insert events pos event) q) (acts_of triggers (merged lanes) q) ≡ cond b (acts_of triggers events q) (acts_of triggers (merged lanes) q)) [
+          elsewhere = λ q other. elim (q.trigger == id) as (λ (b : Bool). (q.trigger == id) ≡ b
+              → cond b (acts_of triggers (map.insert events pos event) q) (others q) ≡ cond b (acts_of triggers events q) (others q)) [
                 | true ↦ λ here. ap (act_by (map.get triggers q.trigger)) (get-insert_other pos_cmp_total pos_same events pos event q.pos (λ same.
-                    other (λ i. record { pos = same i; trigger = same_from_tie nat_cmp-IsAntisymmetric q.trigger id here i })))
+                    other (λ i. record { pos = same i; trigger = eqb-true q.trigger id here i })))
                 | false ↦ λ _. refl
               ] refl;
-          absent = ap (λ (b : Bool). cond b (act_by (map.get triggers id) (map.get events pos)) (act_by (map.get triggers id) (map.get (merged lanes) pos))) tie ∙ ap (act_by (map.get triggers id)) absent;
-          here = ap (λ (b : Bool). cond b (act_by (map.get triggers id) (map.get (map.insert events pos event) pos)) (act_by (map.get triggers id) (map.get (merged lanes) pos))) tie
+          absent = ap (λ (b : Bool). cond b (act_by (map.get triggers id) (map.get events pos)) (others (record { pos = pos; trigger = id }))) tie ∙ ap (act_by (map.get triggers id)) absent;
+          here = ap (λ (b : Bool). cond b (act_by (map.get triggers id) (map.get (map.insert events pos event) pos)) (others (record { pos = pos; trigger = id }))) tie
               ∙ (λ i. act_by (attached i) (get-insert_same pos_cmp_total events pos event i));
         }
 
@@ -187,14 +191,14 @@ module _ (triggers : Triggers) (lanes : Lanes) (id : ℕ) where
 
     -- at first none of its events has come
     pub joined_none : (shelves : Shelves) → HaveShelves triggers shelves
-        → Keep shelves (acts_of (map.remove triggers id) (merged lanes))
+        → ((at : At) → at.trigger ≡ id → others at ≡ None) → Keep shelves others
         → IsJoined hist shelves (map.entries (own_events lanes hist))
-    joined_none shelves each idle =
+    joined_none shelves each none idle =
         let events = own_events lanes hist in
         record {
           events = map.empty;
           each = each;
-          kept = subst (Keep shelves) (sym stage_none) idle;
+          kept = subst (Keep shelves) (sym (stage_idle none)) idle;
           all = from_entries triggers lanes events;
           held = λ pos event is. let both : ◌≡◌ {A = Option Traced} None (Some event) = sym (get-empty {X = Traced} pos_cmp pos) ∙ is in absurd cc;
           rest_held = all_held lanes events (on_held lanes (same_name hist.event));
@@ -206,11 +210,11 @@ module _ (triggers : Triggers) (lanes : Lanes) (id : ℕ) where
     pub act_can_come : (shelves : Shelves) (e : Pos × Traced) (rest : List (Pos × Traced)) → IsJoined hist shelves (e ∷ rest)
         → CanCome triggers lanes (record { pos = e.0; trigger = id }) (with_event e.1 (hit hist e.1)) shelves
     act_can_come shelves e rest is = record {
-      before = stage triggers lanes id is.events;
-      after = stage triggers lanes id (map.insert is.events e.0 e.1);
+      before = stage triggers id others is.events;
+      after = stage triggers id others (map.insert is.events e.0 e.1);
       comes = one_act is.events e.0 e.1 is.absent.0;
-      held = stage_held (map.insert is.events e.0 e.1) (more_held lanes is.events e.0 e.1 is.held is.rest_held.0);
-      kept = by_shelves triggers shelves is.each (admits_on shelves) (stage triggers lanes id is.events) (kept_on shelves) is.kept;
+      held = stage_held others_held (map.insert is.events e.0 e.1) (more_held lanes is.events e.0 e.1 is.held is.rest_held.0);
+      kept = by_shelves triggers shelves is.each (admits_on shelves) (stage triggers id others is.events) (kept_on shelves) is.kept;
     }
 
     -- and then one more has come
@@ -223,9 +227,9 @@ module _ (triggers : Triggers) (lanes : Lanes) (id : ℕ) where
         record {
           events = more;
           each = shelves_stay triggers old new is.each forms;
-          kept = by_triggers triggers old is.each (admits_on new) (stage triggers lanes id more) (kept_on new)
-              (come (stage triggers lanes id is.events) (stage triggers lanes id more) (one_act is.events e.0 e.1 is.absent.0) (stage_held more held)
-              (by_shelves triggers old is.each (admits_on old) (stage triggers lanes id is.events) (kept_on old) is.kept));
+          kept = by_triggers triggers old is.each (admits_on new) (stage triggers id others more) (kept_on new)
+              (come (stage triggers id others is.events) (stage triggers id others more) (one_act is.events e.0 e.1 is.absent.0) (stage_held others_held more held)
+              (by_shelves triggers old is.each (admits_on old) (stage triggers id others is.events) (kept_on old) is.kept));
           all = is.all;
           held = held;
           rest_held = is.rest_held.1;
@@ -233,12 +237,9 @@ module _ (triggers : Triggers) (lanes : Lanes) (id : ℕ) where
           sorted = sorted_tail pos_cmp e.0 (keys_of rest) is.sorted;
         }
 
-    -- with all events on its name what is kept is that of all acts
-    pub joined_all : (shelves : Shelves) → IsJoined hist shelves [] → AreKept triggers (merged lanes) shelves
-    joined_all shelves is = record {
-      each = is.each;
-      kept = subst (Keep shelves) (ap (stage triggers lanes id) is.all ∙ stage_all) is.kept;
-    }
+    -- with all events on its name what is kept is that of all its acts
+    pub joined_all : (all : Acts) → ((at : At) → (if at.trigger == id then acts_of triggers (merged lanes) at else others at) ≡ all at) → (shelves : Shelves) → IsJoined hist shelves [] → Keep shelves all
+    joined_all all are shelves is = subst (Keep shelves) (ap (stage triggers id others) is.all ∙ stage_all all are) is.kept
 
     -- ---- events go one by one
 
@@ -246,12 +247,12 @@ module _ (triggers : Triggers) (lanes : Lanes) (id : ℕ) where
     of_entries events = same_map pos_cmp_total pos_same (events_of (map.entries events)) events (λ q. get-from_entries pos_cmp_total (map.entries events) q ∙ sym (get-entries events q))
 
     -- at first all of its events are left
-    pub leaving_all : (shelves : Shelves) → AreKept triggers (merged lanes) shelves → IsLeaving shelves (map.entries (own_events lanes hist))
-    leaving_all shelves kept =
+    pub leaving_all : (all : Acts) → ((at : At) → (if at.trigger == id then acts_of triggers (merged lanes) at else others at) ≡ all at) → (shelves : Shelves) → HaveShelves triggers shelves → Keep shelves all → IsLeaving shelves (map.entries (own_events lanes hist))
+    leaving_all all are shelves each kept =
         let events = own_events lanes hist in
         record {
-          each = kept.each;
-          kept = subst (Keep shelves) (sym (ap (stage triggers lanes id) (of_entries events) ∙ stage_all)) kept.kept;
+          each = each;
+          kept = subst (Keep shelves) (sym (ap (stage triggers id others) (of_entries events) ∙ stage_all all are)) kept;
           held = subst (AllHeld lanes) (sym (of_entries events)) (on_held lanes (same_name hist.event));
           sorted = strictly_sorted pos_cmp (map.entries events) (entries_sorted events);
         }
@@ -268,11 +269,11 @@ module _ (triggers : Triggers) (lanes : Lanes) (id : ℕ) where
     pub act_can_go : (shelves : Shelves) (e : Pos × Traced) (rest : List (Pos × Traced)) → IsLeaving shelves (e ∷ rest)
         → CanGo triggers lanes (record { pos = e.0; trigger = id }) (with_event e.1 (hit hist e.1)) shelves
     act_can_go shelves e rest is = record {
-      before = stage triggers lanes id (events_of (e ∷ rest));
-      after = stage triggers lanes id (events_of rest);
+      before = stage triggers id others (events_of (e ∷ rest));
+      after = stage triggers id others (events_of rest);
       goes = one_act (events_of rest) e.0 e.1 (nothing_behind e.0 rest (sorted_head pos_cmp e.0 (keys_of rest) is.sorted));
-      held = stage_held (events_of (e ∷ rest)) is.held;
-      kept = by_shelves triggers shelves is.each (admits_on shelves) (stage triggers lanes id (events_of (e ∷ rest))) (kept_on shelves) is.kept;
+      held = stage_held others_held (events_of (e ∷ rest)) is.held;
+      kept = by_shelves triggers shelves is.each (admits_on shelves) (stage triggers id others (events_of (e ∷ rest))) (kept_on shelves) is.kept;
     }
 
     fewer_held : (e : Pos × Traced) (rest : List (Pos × Traced)) → IsStrictlySortedBy pos_cmp (keys_of (e ∷ rest)) → AllHeld lanes (events_of (e ∷ rest)) → AllHeld lanes (events_of rest)
@@ -289,16 +290,27 @@ module _ (triggers : Triggers) (lanes : Lanes) (id : ℕ) where
         let after = events_of rest in
         record {
           each = shelves_stay triggers old new is.each forms;
-          kept = by_triggers triggers old is.each (admits_on new) (stage triggers lanes id after) (kept_on new)
-              (gone (stage triggers lanes id before) (stage triggers lanes id after) (one_act after e.0 e.1 (nothing_behind e.0 rest (sorted_head pos_cmp e.0 (keys_of rest) is.sorted))) (stage_held before is.held)
-              (by_shelves triggers old is.each (admits_on old) (stage triggers lanes id before) (kept_on old) is.kept));
+          kept = by_triggers triggers old is.each (admits_on new) (stage triggers id others after) (kept_on new)
+              (gone (stage triggers id others before) (stage triggers id others after) (one_act after e.0 e.1 (nothing_behind e.0 rest (sorted_head pos_cmp e.0 (keys_of rest) is.sorted))) (stage_held others_held before is.held)
+              (by_shelves triggers old is.each (admits_on old) (stage triggers id others before) (kept_on old) is.kept));
           held = fewer_held e rest is.sorted is.held;
           sorted = sorted_tail pos_cmp e.0 (keys_of rest) is.sorted;
         }
 
-    -- with no events left what is kept is that of the others' acts
-    pub leaving_none : (shelves : Shelves) → IsLeaving shelves [] → Keep shelves (acts_of (map.remove triggers id) (merged lanes))
-    leaving_none shelves is = subst (Keep shelves) stage_none is.kept
+    -- with no events left what is kept is that of the others
+    pub leaving_none : (left : Acts) → ((at : At) → (if at.trigger == id then None else others at) ≡ left at) → (shelves : Shelves) → IsLeaving shelves [] → Keep shelves left
+    leaving_none left are shelves is = subst (Keep shelves) (stage_none left are) is.kept
+
+-- all acts are held
+pub all_acts_held : (triggers : Triggers) (lanes : Lanes) → AreHeld lanes (acts_of triggers (merged lanes))
+all_acts_held triggers lanes = acts_held triggers lanes (merged lanes) (merged_held lanes)
+
+-- one trigger's acts among all are those of all
+pub own_or_all : (triggers : Triggers) (lanes : Lanes) (id : ℕ) (at : At) → (if at.trigger == id then acts_of triggers (merged lanes) at else acts_of triggers (merged lanes) at) ≡ acts_of triggers (merged lanes) at
+own_or_all triggers lanes id at = elim (at.trigger == id) as (λ (b : Bool). cond b (acts_of triggers (merged lanes) at) (acts_of triggers (merged lanes) at) ≡ acts_of triggers (merged lanes) at) [
+  | true ↦ refl
+  | false ↦ refl
+]
 
 -- the first of the events that are left
 pub first_left : (es : List (Pos × Bor Traced)) (i : ℕ) (e : Pos × Bor Traced) → i < length es → e ≡ get_or es i e → entries_by deref (drop i es) ≡ (e.0, e.1.now) ∷ entries_by deref (drop (i + 1) es)

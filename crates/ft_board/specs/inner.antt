@@ -2,5 +2,6 @@
 pub mod Built
 pub mod ButOneEvent
 pub mod ButOneTrigger
+pub mod Idle
 pub mod Repaired
 pub mod Told

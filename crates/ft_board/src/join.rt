@@ -1,25 +1,33 @@
-//! Tables that one more trigger joins: the others' stay as they are.
+//! Tables that a trigger joins, with those that read what it saves: the others' stay as they are.
 
-ghost use Rattle.std.specs.Prelude.{◌≡◌, None, Some, IfSome, OnOk};
+ghost use Rattle.std.specs.Prelude.{◌≡◌, ◌+◌, ◌≤◌, None, Some, IfSome, OnOk};
 ghost use Rattle.std.specs.Option.{is_none};
+ghost use Rattle.std.specs.Ordering.{nat_cmp};
 ghost use Rattle.std.specs.FinMap as map;
 ghost use Rattle.ft_hist.specs.Steps.{StepsGrow};
+ghost use Rattle.ft_maps.specs.Seen.{seen};
+ghost use Rattle.ft_base.specs.OneTrigger.{is_kin, is_in_family};
+ghost use Rattle.ft_base.specs.Reachable.{HasSavers};
+ghost use Rattle.ft_replay.specs.Costs.{named_in, family_tests};
 ghost use Rattle.ft_replay.specs.Edited.{kept_of};
-ghost use Rattle.ft_board.specs.KeptShelves.{AreKeptOf};
-ghost use Rattle.ft_base.specs.OneTrigger.{IsUnread};
-ghost use Rattle.ft_board.specs.inner.ButOneTrigger.{AreKeptBut, AreKeptIdle};
+ghost use Rattle.ft_replay.specs.Merged.{merged};
+ghost use Rattle.ft_board.specs.KeptShelves.{AreKept, AreKeptOf};
+ghost use Rattle.ft_board.specs.inner.Idle.{AreKeptIdle, AreKeptOutside, AreRenewed};
+ghost use Rattle.ft_board.specs.inner.Idle.{CanJoin, HasJoined};
 
 use crate::repair::put_back;
 use ft_base::{Content, role_of};
 use ft_hist::{Trigger, Work};
 use ft_kept::Tables;
-use ft_maps::get;
-use ft_pairs::At;
+use ft_lanes::Lanes;
+use ft_maps::entries;
+use ft_pairs::{At, Role};
 use ft_replay::{Kept, Names, events_with};
 use std::alloc::{AllocError, Global};
+use std::collections::BTreeMap;
 
-/// A trigger that is attached already, and that no other reads, joins the tables. Where memory runs
-/// out, the tables are given up.
+/// A trigger that is attached joins the tables, with those that read what it saves: each of them
+/// gets a new shelf, and the events on its name. Where memory runs out, the tables are given up.
 pub(crate) fn join(
     kept: &mut Option<Tables>,
     alloc: Global,
@@ -27,43 +35,99 @@ pub(crate) fn join(
     id: u32,
     work: &mut Work,
 ) -> Kept
-    requires unread { IsUnread content.now.triggers id }
-    requires but { IfSome kept.old (AreKeptBut id content.now) }
+    requires { IfSome kept.old (AreKeptOutside (is_in_family content.now.triggers id)
+        content.now.triggers content.now.lanes) }
     ensures kept { IfSome kept.new (AreKeptOf content.now) }
     ensures deferred { kept.old ≡ None → kept.new ≡ None }
     ensures answer { result ≡ kept_of (is_none kept.new) }
+    ensures evals { work.new.evals
+        ≤ work.old.evals + family_tests content.now.triggers content.now.lanes id }
     ensures grow { StepsGrow work.old work.new }
 {
     let Some(mut tables) = kept.take() else {
         return Kept::Later;
     };
-    let Some(trigger) = get(content.triggers(), &id) else {
-        *kept = Some(tables);
-        return Kept::Now;
-    };
-    let repaired = add_trigger(&mut tables, alloc, content, id, trigger, work);
+    let (lanes, triggers) = (content.lanes(), content.triggers());
+    let repaired = join_family(&mut tables, alloc, lanes, triggers, id, work);
     put_back(kept, tables, repaired)
 }
 
-/// Gives a trigger a shelf, and lets the events come to it. Refused for memory, and then the tables
-/// are of no use any more.
-fn add_trigger(
+/// Gives a trigger and those that read what it saves new shelves, and their events. Refused for
+/// memory, and then the tables are of no use any more.
+fn join_family(
     tables: &mut Tables,
     alloc: Global,
-    content: &Content,
+    lanes: &Lanes,
+    triggers: &BTreeMap<u32, Trigger>,
     id: u32,
-    trigger: &Trigger,
     work: &mut Work,
 ) -> Result<(), AllocError>
-    requires unread { IsUnread content.now.triggers id }
-    requires attached { map.get content.now.triggers id ≡ Some trigger.now }
-    requires but { AreKeptBut id content.now tables.old }
-    ensures kept { OnOk result (AreKeptOf content.now tables.new) }
+    requires savers { HasSavers (seen nat_cmp triggers.now) }
+    requires outside { AreKeptOutside (is_in_family (seen nat_cmp triggers.now) id)
+        (seen nat_cmp triggers.now) lanes.now tables.old }
+    ensures kept { OnOk result (AreKept (seen nat_cmp triggers.now) (merged lanes.now) tables.new) }
+    ensures evals { work.new.evals
+        ≤ work.old.evals + family_tests (seen nat_cmp triggers.now) lanes.now id }
     ensures grow { StepsGrow work.old work.new }
 {
-    let role = role_of(content.triggers(), trigger.variable());
-    tables.add(id, role, trigger.size())?;
-    put_acts(tables, alloc, content, id, trigger, work)
+    renew_shelves(tables, triggers, id)?;
+    put_family(tables, alloc, lanes, triggers, id, work)
+}
+
+/// Whether a trigger with a role is the one with the first id, or reads what that one saves.
+fn is_kin(id: u32, other: u32, role: Role) -> bool
+    ensures { result ≡ is_kin id other role }
+{
+    match role {
+        Role::Plain | Role::Saves => other == id,
+        Role::Reads(saver) => other == id || saver == id,
+    }
+}
+
+/// Gives a trigger and those that read what it saves shelves without hits, in place of theirs.
+/// Refused for memory.
+fn renew_shelves(
+    tables: &mut Tables,
+    triggers: &BTreeMap<u32, Trigger>,
+    id: u32,
+) -> Result<(), AllocError>
+    ensures { OnOk result (AreRenewed (seen nat_cmp triggers.now)
+        (is_in_family (seen nat_cmp triggers.now) id) tables.old tables.new) }
+{
+    for (other, attached) in entries(triggers) {
+        let role = role_of(triggers, attached.variable());
+        if is_kin(id, *other, role) {
+            tables.add(*other, role, attached.size())?;
+        }
+    }
+    Ok(())
+}
+
+/// The events on their names come to a trigger and to those that read what it saves, one behind the
+/// other. Refused for memory, and then the tables are of no use any more.
+fn put_family(
+    tables: &mut Tables,
+    alloc: Global,
+    lanes: &Lanes,
+    triggers: &BTreeMap<u32, Trigger>,
+    id: u32,
+    work: &mut Work,
+) -> Result<(), AllocError>
+    requires savers { HasSavers (seen nat_cmp triggers.now) }
+    requires idle { AreKeptIdle (is_in_family (seen nat_cmp triggers.now) id)
+        (seen nat_cmp triggers.now) lanes.now tables.old }
+    ensures kept { OnOk result (AreKept (seen nat_cmp triggers.now) (merged lanes.now) tables.new) }
+    ensures evals { work.new.evals
+        ≤ work.old.evals + family_tests (seen nat_cmp triggers.now) lanes.now id }
+    ensures grow { StepsGrow work.old work.new }
+{
+    for (other, attached) in entries(triggers) {
+        let role = role_of(triggers, attached.variable());
+        if is_kin(id, *other, role) {
+            put_acts(tables, alloc, lanes, triggers, *other, attached, work)?;
+        }
+    }
+    Ok(())
 }
 
 /// The events on a trigger's name come to it, in merged order. Refused for memory, and then the
@@ -71,17 +135,20 @@ fn add_trigger(
 fn put_acts(
     tables: &mut Tables,
     alloc: Global,
-    content: &Content,
+    lanes: &Lanes,
+    triggers: &BTreeMap<u32, Trigger>,
     id: u32,
     trigger: &Trigger,
     work: &mut Work,
 ) -> Result<(), AllocError>
-    requires attached { map.get content.now.triggers id ≡ Some trigger.now }
-    requires idle { AreKeptIdle id content.now tables.old }
-    ensures kept { OnOk result (AreKeptOf content.now tables.new) }
+    requires savers { HasSavers (seen nat_cmp triggers.now) }
+    requires attached { map.get (seen nat_cmp triggers.now) id ≡ Some trigger.now }
+    requires can { CanJoin id (seen nat_cmp triggers.now) lanes.now tables.old }
+    ensures joined { OnOk result (HasJoined id (seen nat_cmp triggers.now) lanes.now
+        tables.old tables.new) }
+    ensures evals { work.new.evals ≤ work.old.evals + named_in lanes.now trigger.now }
     ensures grow { StepsGrow work.old work.new }
 {
-    let (lanes, triggers) = (content.lanes(), content.triggers());
     let events = events_with(alloc, lanes, Names::only(trigger.event()))?;
     for (pos, event) in &events {
         let at = At {

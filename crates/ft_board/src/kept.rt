@@ -5,6 +5,7 @@ ghost use Rattle.std.specs.Prelude.{◌≡◌, true, false};
 use crate::join::join;
 use crate::leave::leave;
 use crate::rebuild::renew;
+use crate::refilter::make_way;
 use crate::repair::{let_come, let_go};
 use crate::told::{catch_up, latencies_in, shelf_in};
 use ft_base::{Content, Place, Refused, attached, is_reader};
@@ -110,8 +111,21 @@ impl Board for KeptBoard {
     }
 
     fn refilter(&mut self, id: u32, filter: Option<Filter>) -> Result<Done<u32>, Refused> {
+        make_way(
+            &mut self.kept,
+            self.alloc,
+            &self.content,
+            id,
+            &mut self.work,
+        );
         let value = self.content.refilter(id, filter)?;
-        let kept = renew(&mut self.kept, self.alloc, &self.content, &mut self.work);
+        let kept = join(
+            &mut self.kept,
+            self.alloc,
+            &self.content,
+            id,
+            &mut self.work,
+        );
         Ok(Done { value, kept })
     }
 

@@ -9,7 +9,8 @@ ghost use Rattle.ft_replay.specs.Deferral.{ReadsNothing};
 ghost use Rattle.ft_replay.specs.Edited.{kept_of};
 ghost use Rattle.ft_board.specs.KeptShelves.{AreKeptOf};
 ghost use Rattle.ft_base.specs.OneTrigger.{IsUnread};
-ghost use Rattle.ft_board.specs.inner.ButOneTrigger.{AreKeptBut, AreKeptIdle};
+ghost use Rattle.ft_board.specs.inner.ButOneTrigger.{AreKeptBut};
+ghost use Rattle.ft_board.specs.inner.Idle.{AreKeptIdle, is_one};
 
 use crate::repair::put_back;
 use ft_base::{Content, is_reader};
@@ -35,6 +36,7 @@ pub(crate) fn leave(
     ensures deferred { kept.old ≡ None → kept.new ≡ None }
     ensures answer { result ≡ kept_of (is_none kept.new) }
     ensures now { ReadsNothing content.now.triggers id → kept.new ≡ None → kept.old ≡ None }
+    ensures none { ReadsNothing content.now.triggers id → work.new ≡ work.old }
     ensures grow { StepsGrow work.old work.new }
 {
     let Some(mut tables) = kept.take() else {
@@ -64,6 +66,7 @@ fn take_trigger(
     requires kept { AreKeptOf content.now tables.old }
     ensures but { OnOk result (AreKeptBut id content.now tables.new) }
     ensures memory { is_reader trigger.now.variable ≡ false → result ≡ Ok tt }
+    ensures none { is_reader trigger.now.variable ≡ false → work.new ≡ work.old }
     ensures grow { StepsGrow work.old work.new }
 {
     if is_reader(trigger) {
@@ -85,7 +88,8 @@ fn take_acts(
 ) -> Result<(), AllocError>
     requires attached { map.get content.now.triggers id ≡ Some trigger.now }
     requires kept { AreKeptOf content.now tables.old }
-    ensures idle { OnOk result (AreKeptIdle id content.now tables.new) }
+    ensures idle { OnOk result (AreKeptIdle (is_one id) content.now.triggers content.now.lanes
+        tables.new) }
     ensures grow { StepsGrow work.old work.new }
 {
     let (lanes, triggers) = (content.lanes(), content.triggers());

@@ -2,8 +2,9 @@
 //! answer replays the events.
 //!
 //! One event more or less changes a few entries. A trigger that is attached or removed leaves the
-//! tables of the others as they are; after other edits all are built anew. Where memory runs out for
-//! that, the edit stands, and the next answer builds them.
+//! tables of the others as they are; one that gets another filter leaves all but its own and those
+//! of the triggers that read what it saves. After other edits all are built anew. Where memory runs
+//! out for that, the edit stands, and the next answer builds them.
 //!
 //! ```ignore
 //! let mut board = KeptBoard::new(rt.alloc());
@@ -22,6 +23,7 @@ mod kept;
 pub mod laws;
 mod leave;
 mod rebuild;
+mod refilter;
 mod repair;
 mod told;
 

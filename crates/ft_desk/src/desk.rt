@@ -43,7 +43,7 @@ impl<B: Board> Desk<B> {
     ghost use Rattle.ft_event.specs.Line.{line_of};
     ghost use Rattle.ft_fields.specs.Traced.{Traced};
     ghost use Rattle.ft_replay.specs.Held.{event_at};
-    ghost use Rattle.ft_replay.specs.Costs.{EditCounts, RepairCosts, AnswerCosts};
+    ghost use Rattle.ft_replay.specs.Costs.{EditCounts, RepairCosts, FilterCosts, AnswerCosts};
     ghost use Rattle.ft_replay.specs.Deferral.{PutsNothingOff, IsNoHit, IsPlainHit, ReadsNothing};
     ghost use Rattle.ft_replay.specs.Deferral.{WantsForTables};
     ghost use Rattle.ft_replay.specs.Edited.{EditGives, AnswersFrom, AnswerIs};
@@ -133,6 +133,7 @@ impl<B: Board> Desk<B> {
             (after_refilter_text self.old.base id (option_copied text.entry))
             self.old self.new result }
         ensures counts { EditCounts self.old self.new result }
+        ensures costs { FilterCosts id self.old self.new }
     {
         let event = self.board.name_of(id).ok_or(Refused::NoTrigger)?;
         let filter = read_filter(self.alloc, event, text)?;

@@ -1,13 +1,21 @@
 -- What edits and answers cost, in steps (our own choice).
-use Rattle.std.specs.Prelude.{◌≡◌, ℕ, ◌+◌, ◌*◌, ◌≤◌, true, false, List, Result, Ok, Err}
+use Rattle.std.specs.Prelude.{◌≡◌, ℕ, ◌+◌, ◌*◌, ◌≤◌, true, false, List, Result, Ok, Err, if◌then◌else◌}
+use Rattle.std.specs.List.{sum_by}
+use Rattle.std.specs.FinMap as map
 use Rattle.ft_fields.specs.Traced.{Traced}
+use Rattle.ft_hist.specs.Hist.{Hist}
+use Rattle.ft_hist.specs.Hit.{same_name}
 use Rattle.ft_hist.specs.Steps.{Steps, StepsGrow}
 use Rattle.ft_keys.specs.declared.key.Part.{Part}
 use Rattle.ft_hist.specs.Tests.{count_on}
+use Rattle.ft_lanes.specs.Held.{Lanes}
 use Rattle.ft_pairs.specs.declared.role.Role.TheVariants.{Saves}
 use Rattle.ft_base.specs.declared.refused.Refused.{Refused}
 use Rattle.ft_base.specs.Base.{Triggers}
+use Rattle.ft_base.specs.OneTrigger.{is_in_family}
+use Rattle.ft_replay.specs.Deferral.{ReadsNothing}
 use Rattle.ft_replay.specs.Merged.{Events, merged}
+use Rattle.ft_replay.specs.Named.{events_on}
 use Rattle.ft_replay.specs.Operations.{is_admitted}
 use Rattle.ft_replay.specs.Replay.{replay}
 use Rattle.ft_base.specs.Roles.{role_at}
@@ -35,6 +43,18 @@ pub record CostsOf (triggers : Triggers) (event : Traced) (before after : Events
 -- what an edit of one event costs a board, whether its tables lack an edit or not (our own choice)
 abbrev pub RepairCosts : Traced → Shown → Shown → Type 0
 RepairCosts event old new = CostsOf old.base.triggers event (merged old.base.lanes) (merged new.base.lanes) old.steps new.steps
+
+-- how many held events are on a trigger's name (kernel: histogram.rst, hist triggers)
+abbrev pub named_in : Lanes → Hist → ℕ
+named_in lanes hist = map.len (events_on (same_name hist.event) (merged lanes))
+
+-- how many tests it takes that a trigger and those that read what it saves get the held events on their names (our own choice)
+abbrev pub family_tests : Triggers → Lanes → ℕ → ℕ
+family_tests triggers lanes id = sum_by (λ attached. if is_in_family triggers id attached.0 then named_in lanes attached.1 else 0) (map.entries triggers)
+
+-- what another filter costs a trigger that reads nothing: a test at most for each held event on its name, and for each on the name of a trigger that reads what it saves; whatever else is attached (our own choice)
+abbrev pub FilterCosts : ℕ → Shown → Shown → Type 0
+FilterCosts id old new = ReadsNothing old.base.triggers id → new.steps.evals ≤ old.steps.evals + family_tests new.base.triggers new.base.lanes id
 
 -- what an answer costs: nothing where the board is up to date; no count falls, and a board keeps tables just where it did before (our own choice)
 pub record AnswerCosts (old new : Shown) : Type 0 where

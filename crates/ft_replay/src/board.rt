@@ -26,7 +26,7 @@ pub trait Board: Drop {
     ghost use Rattle.ft_base.specs.After.{after_load, after_unload, after_insert, after_strike};
     ghost use Rattle.ft_base.specs.After.{after_attach, after_refilter, after_remove};
     ghost use Rattle.ft_replay.specs.Answers.{hist_text, totals, latencies, list_text};
-    ghost use Rattle.ft_replay.specs.Costs.{EditCounts, RepairCosts, AnswerCosts};
+    ghost use Rattle.ft_replay.specs.Costs.{EditCounts, RepairCosts, FilterCosts, AnswerCosts};
     ghost use Rattle.ft_replay.specs.Deferral.{PutsNothingOff, IsNoHit, IsPlainHit, ReadsNothing};
     ghost use Rattle.ft_replay.specs.Deferral.{WantsForTables};
     ghost use Rattle.ft_replay.specs.Edited.{EditGives, AnswersFrom, AnswerIs};
@@ -93,7 +93,8 @@ pub trait Board: Drop {
         ensures gives { EditGives (λ id. id)
             (after_refilter (shown self.old).base id (option_map (λ f. f.tree) filter))
             (shown self.old) (shown self.new) result }
-        ensures counts { EditCounts (shown self.old) (shown self.new) result };
+        ensures counts { EditCounts (shown self.old) (shown self.new) result }
+        ensures costs { FilterCosts id (shown self.old) (shown self.new) };
 
     /// Takes a trigger away: its id, which is not given again. Refused where no trigger has the
     /// id, or where it saves what another reads.

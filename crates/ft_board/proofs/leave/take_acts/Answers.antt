@@ -1,4 +1,4 @@
-use Rattle.std.proofs.Common.{rules, ◌≡◌, Bool, List, [], drop, Bor, sym, ap, subst, ◌∙◌}
+use Rattle.std.proofs.Common.{rules, refl, ◌≡◌, Bool, List, [], drop, Bor, sym, ap, subst, ◌∙◌}
 use Rattle.std.specs.Ordering.{nat_cmp}
 use Rattle.std.specs.Map.Iter.{deref}
 use Rattle.std.specs.FinMap as map
@@ -15,10 +15,11 @@ use Rattle.ft_base.specs.Base.{Triggers}
 use Rattle.ft_board.specs.KeptShelves.{AreKept}
 use Rattle.ft_replay.specs.Merged.{merged}
 use Rattle.ft_replay.specs.Named.{events_on, has_name}
-use Rattle.ft_board.specs.inner.ButOneTrigger.{AreKeptIdle}
+use Rattle.ft_kept.specs.Acts.{Acts, acts_of}
+use Rattle.ft_board.specs.inner.Idle.{AreKeptIdle, acts_outside, is_one}
 use Rattle.ft_base.specs.Reachable.{HasSavers}
 use Rattle.ft_board.proofs.KeptBoardForms.{all_shelved}
-use Rattle.ft_board.proofs.OneTrigger.{IsLeaving, own_events, leaving_all, act_can_go, leaving_fewer, leaving_none, first_left}
+use Rattle.ft_board.proofs.OneTrigger.{IsLeaving, own_events, leaving_all, act_can_go, leaving_fewer, leaving_none, first_left, all_acts_held, own_or_all}
 use Rattle.ft_board.proofs.leave.take_acts.Goals as goal
 
 pub loop-pos-init : goal.loop-pos-init
@@ -27,13 +28,14 @@ loop-pos-init c =
     let lanes : Lanes = c.lanes-lanes.result.now in
     let hist : Hist = c.args.trigger.now in
     let items : List (Pos × Bor Traced) = c.deref-pos-items.result.now in
+    let all : Acts = acts_of triggers (merged lanes) in
     let named : has_name c.only.result ≡ same_name hist.event = λ i other. (c.only.ensures other ∙ ap (λ (name : Name). same_name name other) c.event.ensures) i in
-    let all : entries_by deref items ≡ map.entries (own_events lanes hist) =
+    let own : entries_by deref items ≡ map.entries (own_events lanes hist) =
     ap (entries_by deref) c.deref-pos-items.ensures.value ∙ c.in_ok-events.ensures ∙ ap (λ (names : Name → Bool). map.entries (events_on names (merged lanes))) named in
     let kept : AreKept triggers (merged lanes) c.args.tables.now =
     subst (λ (held : Triggers × Lanes). AreKept held.0 (merged held.1) c.args.tables.now) (λ i. (sym c.triggers-triggers.ensures i, sym c.lanes-lanes.ensures.lanes i)) c.requires.kept in (
-      subst (λ (es : List (Pos × Traced)). IsLeaving triggers lanes c.args.id c.args.tables.now es) (sym all)
-          (leaving_all triggers lanes c.args.id hist (ap (λ (ts : Triggers). map.get ts c.args.id) c.triggers-triggers.ensures ∙ c.requires.attached) c.args.tables.now kept),
+      subst (λ (es : List (Pos × Traced)). IsLeaving triggers lanes c.args.id (acts_of triggers (merged lanes)) c.args.tables.now es) (sym own)
+          (leaving_all triggers lanes c.args.id all hist (ap (λ (ts : Triggers). map.get ts c.args.id) c.triggers-triggers.ensures ∙ c.requires.attached) (all_acts_held triggers lanes) all (own_or_all triggers lanes c.args.id) c.args.tables.now kept.each kept.kept),
       search rules,
     )
 
@@ -46,15 +48,15 @@ pub goes_from-requires-clause-can : goal.goes_from-requires-clause-can
 goes_from-requires-clause-can c =
     let triggers : Triggers = seen nat_cmp c.triggers-triggers.result.now in
     let more = first_left c.deref-pos-items.result.now c.loop-pos.pos-index c.loop-pos-item.result c.loop-pos-test.true c.loop-pos-item.is in
-    let leaving = subst (λ (es : List (Pos × Traced)). IsLeaving triggers c.lanes-lanes.result.now c.args.id c.loop-pos.tables es) more c.loop-pos.invariant.0 in
-    act_can_go triggers c.lanes-lanes.result.now c.args.id c.args.trigger.now (ap (λ (ts : Triggers). map.get ts c.args.id) c.triggers-triggers.ensures ∙ c.requires.attached) c.loop-pos.tables _ _ leaving
+    let leaving = subst (λ (es : List (Pos × Traced)). IsLeaving triggers c.lanes-lanes.result.now c.args.id (acts_of triggers (merged c.lanes-lanes.result.now)) c.loop-pos.tables es) more c.loop-pos.invariant.0 in
+    act_can_go triggers c.lanes-lanes.result.now c.args.id (acts_of triggers (merged c.lanes-lanes.result.now)) c.args.trigger.now (ap (λ (ts : Triggers). map.get ts c.args.id) c.triggers-triggers.ensures ∙ c.requires.attached) (all_acts_held triggers c.lanes-lanes.result.now) c.loop-pos.tables _ _ leaving
 
 pub loop-pos-preserved : goal.loop-pos-preserved
 loop-pos-preserved c =
     let triggers : Triggers = seen nat_cmp c.triggers-triggers.result.now in
     let more = first_left c.deref-pos-items.result.now c.loop-pos.pos-index c.loop-pos-item.result c.loop-pos-test.true c.loop-pos-item.is in
-    let leaving = subst (λ (es : List (Pos × Traced)). IsLeaving triggers c.lanes-lanes.result.now c.args.id c.loop-pos.tables es) more c.loop-pos.invariant.0 in (
-      leaving_fewer triggers c.lanes-lanes.result.now c.args.id c.args.trigger.now (ap (λ (ts : Triggers). map.get ts c.args.id) c.triggers-triggers.ensures ∙ c.requires.attached) c.loop-pos.tables c.goes_from.new.self _ _ leaving
+    let leaving = subst (λ (es : List (Pos × Traced)). IsLeaving triggers c.lanes-lanes.result.now c.args.id (acts_of triggers (merged c.lanes-lanes.result.now)) c.loop-pos.tables es) more c.loop-pos.invariant.0 in (
+      leaving_fewer triggers c.lanes-lanes.result.now c.args.id (acts_of triggers (merged c.lanes-lanes.result.now)) c.args.trigger.now (ap (λ (ts : Triggers). map.get ts c.args.id) c.triggers-triggers.ensures ∙ c.requires.attached) (all_acts_held triggers c.lanes-lanes.result.now) c.loop-pos.tables c.goes_from.new.self _ _ leaving
           c.in_ok-goes_from.ensures.forms c.in_ok-goes_from.ensures.right,
       search rules,
     )
@@ -65,9 +67,9 @@ returns-clause-idle c =
     let lanes : Lanes = c.lanes-lanes.result.now in
     let items : List (Pos × Bor Traced) = c.deref-pos-items.result.now in
     let none : entries_by deref (drop c.loop-pos.pos-index items) ≡ [] = ap (entries_by deref) (drop_all c.loop-pos.pos-index items c.loop-pos-test.false) in
-    let idle : AreKeptIdle c.args.id (record c.args.content.now { lanes = lanes; triggers = triggers }) c.loop-pos.tables = record {
+    let idle : AreKeptIdle (is_one c.args.id) triggers lanes c.loop-pos.tables = record {
       each = c.loop-pos.invariant.0.each;
-      kept = leaving_none triggers lanes c.args.id c.args.trigger.now (ap (λ (ts : Triggers). map.get ts c.args.id) c.triggers-triggers.ensures ∙ c.requires.attached) c.loop-pos.tables
-          (subst (λ (es : List (Pos × Traced)). IsLeaving triggers lanes c.args.id c.loop-pos.tables es) none c.loop-pos.invariant.0);
+      kept = leaving_none triggers lanes c.args.id (acts_of triggers (merged lanes)) c.args.trigger.now (ap (λ (ts : Triggers). map.get ts c.args.id) c.triggers-triggers.ensures ∙ c.requires.attached) (all_acts_held triggers lanes) (acts_outside (is_one c.args.id) triggers lanes) (λ at. refl) c.loop-pos.tables
+          (subst (λ (es : List (Pos × Traced)). IsLeaving triggers lanes c.args.id (acts_of triggers (merged lanes)) c.loop-pos.tables es) none c.loop-pos.invariant.0);
     } in
-    subst (λ (held : Triggers × Lanes). AreKeptIdle c.args.id (record c.args.content.now { lanes = held.1; triggers = held.0 }) c.loop-pos.tables) (λ i. (c.triggers-triggers.ensures i, c.lanes-lanes.ensures.lanes i)) idle
+    subst (λ (held : Triggers × Lanes). AreKeptIdle (is_one c.args.id) held.0 held.1 c.loop-pos.tables) (λ i. (c.triggers-triggers.ensures i, c.lanes-lanes.ensures.lanes i)) idle

@@ -1,0 +1,88 @@
+-- The family of a trigger: no other reads a saver of it.
+use Rattle.std.proofs.Common.{◌≡◌, ◌⊎◌, ℕ, Bool, true, false, true≢false, inl, inr, List, refl, sym, ap, ◌∙◌, Option, Some, None, Result, Ok, Err, unwrap_or, ⊎_elim}
+use Rattle.std.specs.Prelude.{◌==◌, ◌||◌}
+use Rattle.std.specs.Option.{option_map_or}
+use Rattle.std.specs.FinMap as map
+use Rattle.std.proofs.lemmas.Bool.{eq-eqb, eqb-true, eqb-false, or_parts}
+use Rattle.ft_hist.specs.Hist.{Hist}
+use Rattle.ft_hist.specs.declared.label.Var.{Var}
+use Rattle.ft_hist.specs.declared.label.Var.TheVariants as vars
+use Rattle.ft_pairs.specs.declared.role.Role.{Role}
+use Rattle.ft_pairs.specs.declared.role.Role.TheVariants.{Plain, Saves, Reads}
+use Rattle.ft_base.specs.After.{after_remove, reader_on}
+use Rattle.ft_base.specs.Base.{Base, Triggers}
+use Rattle.ft_base.specs.declared.refused.Refused.{Refused}
+use Rattle.ft_base.specs.OneTrigger.{reads_from, is_in_family}
+use Rattle.ft_base.specs.Reachable.{HasSaver, HasSavers}
+use Rattle.ft_base.specs.Roles.{saves_name, role_of, role_at}
+use Rattle.ft_base.proofs.Cases.{remove-ok}
+use Rattle.ft_base.proofs.Savers.{reads_of, saver-saves}
+
+reads_from_is : (id : ℕ) (role : Role) → reads_from id role ≡ true → role ≡ Reads id
+reads_from_is id Plain is = let both : ◌≡◌ {A = Bool} false true = is in absurd cc
+reads_from_is id Saves is = let both : ◌≡◌ {A = Bool} false true = is in absurd cc
+reads_from_is id (Reads saver) is = ap (λ (k : ℕ). Reads k) (eqb-true saver id is)
+
+module _ (triggers : Triggers) (id : ℕ) where
+  pub itself_inside : (other : ℕ) → other ≡ id → is_in_family triggers id other ≡ true
+  itself_inside other same = ap (λ (b : Bool). b || reads_from id (role_at triggers other)) (eq-eqb other id same)
+
+  pub outside_apart : (other : ℕ) → is_in_family triggers id other ≡ false → other ≡ id → ⊥
+  outside_apart other out same = eqb-false other id (or_parts (other == id) (reads_from id (role_at triggers other)) out).0 same
+
+  pub outside_reads : (other : ℕ) → is_in_family triggers id other ≡ false → role_at triggers other ≡ Reads id → ⊥
+  outside_reads other out reads =
+      true≢false (sym (ap (reads_from id) reads ∙ eq-eqb id id refl) ∙ (or_parts (other == id) (reads_from id (role_at triggers other)) out).1)
+
+  pub inside_is : (other : ℕ) → is_in_family triggers id other ≡ true → (other ≡ id) ⊎ (role_at triggers other ≡ Reads id)
+  inside_is other inside =
+      elim (other == id) as (λ (b : Bool). (other == id) ≡ b → (b || reads_from id (role_at triggers other)) ≡ true → (other ≡ id) ⊎ (role_at triggers other ≡ Reads id)) [
+        | true ↦ λ same _. inl (eqb-true other id same)
+        | false ↦ λ _ reads. inr (reads_from_is id (role_at triggers other) reads)
+      ] refl inside
+
+-- a trigger that saves a name is a saver
+saves_role : (triggers : Triggers) (name : List ℕ) (variable : Option Var) → saves_name name variable ≡ true → role_of triggers variable ≡ Saves
+saves_role triggers name None saves = let both : ◌≡◌ {A = Bool} false true = saves in absurd cc
+saves_role triggers name (Some (vars.Saves label)) saves = refl
+saves_role triggers name (Some (vars.Reads own source)) saves = let both : ◌≡◌ {A = Bool} false true = saves in absurd cc
+
+saver_of_hist : (triggers : Triggers) → HasSavers triggers → (reader : ℕ) (hist : Hist) (saver : ℕ) → map.get triggers reader ≡ Some hist → role_of triggers hist.variable ≡ Reads saver → role_at triggers saver ≡ Saves
+unfolding role_at
+saver_of_hist triggers savers reader hist saver there is =
+    let reads = reads_of triggers hist.variable saver is in
+    let has : HasSaver triggers hist.keys reads.1.0 = savers reader hist reads.0 reads.1.0 there reads.1.1.0 in
+    let same : has.id ≡ saver = ap (λ (o : Option ℕ). unwrap_or o 0) (sym has.named) ∙ reads.1.1.1 in
+    ap (λ (o : Option Hist). option_map_or (λ (h : Hist). role_of triggers h.variable) o Plain) (ap (map.get triggers) (sym same) ∙ has.attached)
+    ∙ saves_role triggers reads.1.0 has.saver.variable (saver-saves triggers reads.1.0 has.id has.saver has.attached has.named)
+
+-- what is read is a saver's
+pub read_saves : (triggers : Triggers) → HasSavers triggers → (reader saver : ℕ) → role_at triggers reader ≡ Reads saver → role_at triggers saver ≡ Saves
+unfolding role_at
+read_saves triggers savers reader saver is =
+    elim (map.get triggers reader) as (λ (o : Option Hist). map.get triggers reader ≡ o → option_map_or (λ (h : Hist). role_of triggers h.variable) o Plain ≡ Reads saver → role_at triggers saver ≡ Saves) [
+      | None ↦ λ _ h. let both : ◌≡◌ {A = Role} Plain (Reads saver) = h in absurd cc
+      | Some hist ↦ λ there h. saver_of_hist triggers savers reader hist saver there h
+    ] refl is
+
+-- who reads a saver of the family is of the family
+pub closed : (triggers : Triggers) (id : ℕ) → HasSavers triggers → (reader saver : ℕ) → is_in_family triggers id reader ≡ false → is_in_family triggers id saver ≡ true → role_at triggers reader ≡ Reads saver → ⊥
+closed triggers id savers reader saver out inside reads = ⊎_elim
+    (λ same. outside_reads triggers id reader out (reads ∙ ap (λ (k : ℕ). Reads k) same))
+    (λ other. let both : ◌≡◌ {A = Role} Saves (Reads id) = sym (read_saves triggers savers reader saver reads) ∙ other in absurd cc)
+    (inside_is triggers id saver inside)
+
+-- a trigger that is attached and can't be removed reads nothing
+pub quiet : (base : Base) (id : ℕ) (hist : Hist) (refused : Refused) → map.get base.triggers id ≡ Some hist → after_remove base id ≡ Err refused → (saver : ℕ) → role_at base.triggers id ≡ Reads saver → ⊥
+unfolding role_at
+quiet base id hist refused attached fails saver is =
+    let role : role_of base.triggers hist.variable ≡ Reads saver = sym (ap (λ (o : Option Hist). option_map_or (λ (h : Hist). role_of base.triggers h.variable) o Plain) attached) ∙ is in
+    let reads = reads_of base.triggers hist.variable saver role in
+    let removed = remove-ok base id hist attached (ap (reader_on base.triggers) reads.1.1.0) in
+    let both : ◌≡◌ {A = Result (Base × ℕ) Refused} (Ok (record base { triggers = map.remove base.triggers id }, id)) (Err refused) = sym removed ∙ fails in
+    absurd cc
+
+-- the role of a trigger that is attached
+pub role_there : (triggers : Triggers) (id : ℕ) (hist : Hist) → map.get triggers id ≡ Some hist → role_at triggers id ≡ role_of triggers hist.variable
+unfolding role_at
+role_there triggers id hist there = ap (λ (o : Option Hist). option_map_or (λ (h : Hist). role_of triggers h.variable) o Plain) there

@@ -1,0 +1,61 @@
+-- What is kept while some triggers are idle: their acts have gone, or have not come yet (our own choice).
+use Rattle.std.specs.Prelude.{◌≡◌, ◌==◌, ℕ, Bool, true, false, Option, Some, None, if◌then◌else◌}
+use Rattle.std.specs.FinMap as map
+use Rattle.ft_hist.specs.Hist.{Hist}
+use Rattle.ft_lanes.specs.Held.{Lanes}
+use Rattle.ft_pairs.specs.declared.at.At.{At}
+use Rattle.ft_pairs.specs.declared.role.Variable.{Variable}
+use Rattle.ft_kept.specs.Acts.{Acts, acts_of, op_of}
+use Rattle.ft_kept.specs.Entries.{IsKept, IsRight}
+use Rattle.ft_kept.specs.Shelves.{Shelves, admits_on, kept_on}
+use Rattle.ft_table.specs.Values.{values_by}
+use Rattle.ft_base.specs.Base.{Triggers}
+use Rattle.ft_base.specs.Roles.{role_at}
+use Rattle.ft_replay.specs.Merged.{merged}
+use Rattle.ft_board.specs.KeptShelves.{HasItsShelf}
+use Rattle.ft_board.specs.inner.Built.{HasNewShelf}
+
+-- the acts of triggers at all held events, but not those of idle ones (our own choice)
+abbrev pub acts_outside : (ℕ → Bool) → Triggers → Lanes → Acts
+acts_outside idle triggers lanes at = if idle at.trigger then None else acts_of triggers (merged lanes) at
+
+-- each attached trigger has its shelf, and what the shelves keep is that of all triggers' acts but those of idle ones, of which nothing is kept (our own choice)
+pub record AreKeptIdle (idle : ℕ → Bool) (triggers : Triggers) (lanes : Lanes) (shelves : Shelves) : Type 0 where
+  pub each : (id : ℕ) → HasItsShelf triggers (map.get triggers id) (map.get shelves id)
+  pub kept : IsKept (role_at triggers) (values_by triggers) (admits_on shelves) (acts_outside idle triggers lanes) (kept_on shelves)
+
+-- one trigger alone (our own choice)
+abbrev pub is_one : ℕ → ℕ → Bool
+is_one id other = other == id
+
+-- ---- a family gets new shelves
+
+-- outside a family, each trigger has its shelf, and what is kept is that of the acts outside; where no trigger is, no shelf is (our own choice)
+pub record AreKeptOutside (family : ℕ → Bool) (triggers : Triggers) (lanes : Lanes) (shelves : Shelves) : Type 0 where
+  pub each : (id : ℕ) → family id ≡ false → HasItsShelf triggers (map.get triggers id) (map.get shelves id)
+  pub none : (id : ℕ) → map.get triggers id ≡ None → map.get shelves id ≡ None
+  pub ops : (variable : Variable) (at : At) → family variable.saver ≡ false
+      → (kept_on shelves).ops variable at ≡ op_of (role_at triggers) (admits_on shelves) (acts_outside family triggers lanes) variable at
+  pub entries : (at : At) → family at.trigger ≡ false → IsRight (role_at triggers) (values_by triggers) (acts_outside family triggers lanes) (kept_on shelves) at
+
+-- the attached triggers of a family have new shelves, and all others what they had (our own choice)
+pub record AreRenewed (triggers : Triggers) (family : ℕ → Bool) (old new : Shelves) : Type 0 where
+  pub stay : (id : ℕ) → family id ≡ false → map.get new id ≡ map.get old id
+  pub none : (id : ℕ) → map.get triggers id ≡ None → map.get new id ≡ map.get old id
+  pub fresh : (id : ℕ) (hist : Hist) → family id ≡ true → map.get triggers id ≡ Some hist → HasNewShelf triggers (Some hist) (map.get new id)
+
+-- ---- a trigger gets its acts
+
+-- a trigger is idle (our own choice)
+pub record CanJoin (id : ℕ) (triggers : Triggers) (lanes : Lanes) (shelves : Shelves) : Type 0 where
+  pub idle : ℕ → Bool
+  pub here : idle id ≡ true
+  pub kept : AreKeptIdle idle triggers lanes shelves
+
+-- some triggers without one (our own choice)
+abbrev pub but_one : ℕ → (ℕ → Bool) → ℕ → Bool
+but_one id idle other = if other == id then false else idle other
+
+-- a trigger that was idle is so no more (our own choice)
+abbrev pub HasJoined : ℕ → Triggers → Lanes → Shelves → Shelves → Type 0
+HasJoined id triggers lanes old new = (idle : ℕ → Bool) → idle id ≡ true → AreKeptIdle idle triggers lanes old → AreKeptIdle (but_one id idle) triggers lanes new
