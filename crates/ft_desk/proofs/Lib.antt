@@ -5,4 +5,5 @@ pub mod LineLemmas
 pub mod OutputLemmas
 pub mod Progress
 pub mod Endings
+pub mod Written
 pub mod InMemory

@@ -2,6 +2,7 @@ pub mod Answered
 pub mod Edits
 pub mod Refusals
 pub mod Output
+pub mod Counts
 pub mod Run
 pub mod Steps
 pub mod Program

@@ -1,5 +1,5 @@
 -- How a run of a script ends, by the bytes that its reader and its writer tell. All of it is our own choice.
-use Rattle.std.specs.Prelude.{◌≡◌, ◌⊎◌, ℕ, Bool, true, false, List, [], ◌∷◌, ◌++◌, Option, IfSome, Result, Ok, Err}
+use Rattle.std.specs.Prelude.{◌≡◌, ◌≢◌, ◌≤◌, ◌⊎◌, ℕ, Bool, true, false, List, [], ◌∷◌, ◌++◌, length, Option, IfSome, Result, Ok, Err}
 use Rattle.std.specs.Io.{StartsWith}
 use Rattle.std.specs.Io.KnownBytes.{Appends, Consumes, IsAtEnd}
 use Rattle.ft_desk.specs.declared.running.Status.{Status}
@@ -7,28 +7,37 @@ use Rattle.ft_desk.specs.declared.running.Status.TheVariants.{AllAccepted, SomeR
 use Rattle.ft_desk.specs.declared.running.RunFault.{RunFault}
 use Rattle.ft_desk.specs.declared.running.RunFault.TheVariants as faults
 use Rattle.ft_script.specs.Lines.{lines_of, ended_lines}
-use Rattle.ft_desk.specs.Output.{output, output_of_lines}
+use Rattle.ft_script.specs.Script.{asked_by}
+use Rattle.ft_desk.specs.Output.{outcome, output, output_of_lines}
+
+-- how often a reader is asked at most
+abbrev pub asking_limit : ℕ
+asking_limit = 1073741824
 
 -- the status: whether some command was refused
 abbrev pub status_of : Bool → Status
 status_of true = SomeRefused
 status_of false = AllAccepted
 
+-- this was read, and its lines that byte 10 ended are no more than the turns that a reader has
+abbrev pub Reads : Option (List ℕ) → Option (List ℕ) → List ℕ → Type 0
+Reads reader rest read = Consumes reader rest read × (length (ended_lines read) ≤ asking_limit)
+
 -- this script was read to its end: the reader's, or some script where the reader tells nothing
 abbrev pub ReadsWhole : Option (List ℕ) → Option (List ℕ) → List ℕ → Type 0
-ReadsWhole reader rest script = Consumes reader rest script × IfSome reader (λ _. IsAtEnd rest)
+ReadsWhole reader rest script = Reads reader rest script × IfSome reader (λ _. IsAtEnd rest)
 
 -- this beginning of a script was read, and more is left
 abbrev pub ReadsFront : Option (List ℕ) → Option (List ℕ) → List ℕ → Type 0
-ReadsFront reader rest read = Consumes reader rest read × IfSome reader (λ _. IsAtEnd rest → ⊥)
+ReadsFront reader rest read = Reads reader rest read × IfSome reader (λ _. IsAtEnd rest → ⊥)
 
--- all lines of what was read are these: those that a byte 10 ended, and at the script's end a last one without
-abbrev pub ReadsLines : Option (List ℕ) → Option (List ℕ) → List (List ℕ) → Type 0
-ReadsLines reader rest lines = (read : List ℕ) × ((Consumes reader rest read × (lines ≡ ended_lines read)) ⊎ (ReadsWhole reader rest read × (lines ≡ lines_of read)))
+-- these lines were read, then this one, and nothing behind it: a byte 10 ended it, or the script's end
+abbrev pub ReadsTo : Option (List ℕ) → Option (List ℕ) → List (List ℕ) → List ℕ → Type 0
+ReadsTo reader rest lines last = (read : List ℕ) × ((Reads reader rest (read ++ 10 ∷ []) × (ended_lines (read ++ 10 ∷ []) ≡ lines ++ last ∷ [])) ⊎ (ReadsWhole reader rest read × (lines_of read ≡ lines ++ last ∷ [])))
 
--- a beginning of the text was written
-abbrev pub WritesFront : Option (List ℕ) → Option (List ℕ) → List ℕ → Type 0
-WritesFront before after text = (written : List ℕ) × Appends before after written × StartsWith text written
+-- the done bytes were written, and behind them a beginning of the text, of which something is left
+abbrev pub BreaksOff : Option (List ℕ) → Option (List ℕ) → List ℕ → List ℕ → Type 0
+BreaksOff before after done text = (front : List ℕ) × (left : List ℕ) × Appends before after (done ++ front) × (text ≡ front ++ left) × (left ≢ [])
 
 -- the script was read to its end, its whole output written, and its status told
 abbrev pub EndsWhole : List (List ℕ) → Status → Option (List ℕ) → Option (List ℕ) → Option (List ℕ) → Option (List ℕ) → Type 0
@@ -36,23 +45,43 @@ EndsWhole files status reader rest before after = (script : List ℕ) × ReadsWh
 
 -- the last line that was read found no memory for its command: the whole output of the lines before it is written
 abbrev pub EndsAtCommand : List (List ℕ) → Option (List ℕ) → Option (List ℕ) → Option (List ℕ) → Option (List ℕ) → Type 0
-EndsAtCommand files reader rest before after = (lines : List (List ℕ)) × (last : List ℕ) × ReadsLines reader rest (lines ++ last ∷ []) × Appends before after (output_of_lines files lines).text
+EndsAtCommand files reader rest before after = (lines : List (List ℕ)) × (last : List ℕ) × ReadsTo reader rest lines last × Appends before after (output_of_lines files lines).text
 
 -- no memory for bytes that are left: the whole output of the lines that had ended is written
 abbrev pub EndsInLine : List (List ℕ) → Option (List ℕ) → Option (List ℕ) → Option (List ℕ) → Option (List ℕ) → Type 0
 EndsInLine files reader rest before after = (read : List ℕ) × ReadsFront reader rest read × Appends before after (output_of_lines files (ended_lines read)).text
 
--- the reader failed: the whole output of the lines that had ended is written
+-- the reader failed, or was asked too often: the whole output of the lines that had ended is written
 abbrev pub EndsAtReader : List (List ℕ) → Option (List ℕ) → Option (List ℕ) → Option (List ℕ) → Option (List ℕ) → Type 0
-EndsAtReader files reader rest before after = (read : List ℕ) × Consumes reader rest read × Appends before after (output_of_lines files (ended_lines read)).text
+EndsAtReader files reader rest before after = (read : List ℕ) × Reads reader rest read × Appends before after (output_of_lines files (ended_lines read)).text
 
--- the writer failed: a beginning of the output of the lines that were read is written
+-- what a line prints, behind lines that are done
+abbrev pub text_behind : List (List ℕ) → List (List ℕ) → List ℕ → List ℕ
+text_behind files lines line = (outcome files (output_of_lines files lines).base (asked_by line)).text
+
+-- the writer failed at the last line that was read: the whole output of the lines before it is written, and a beginning of its own
 abbrev pub EndsAtWriter : List (List ℕ) → Option (List ℕ) → Option (List ℕ) → Option (List ℕ) → Option (List ℕ) → Type 0
-EndsAtWriter files reader rest before after = (lines : List (List ℕ)) × ReadsLines reader rest lines × WritesFront before after (output_of_lines files lines).text
+EndsAtWriter files reader rest before after = (lines : List (List ℕ)) × (last : List ℕ) × ReadsTo reader rest lines last × BreaksOff before after (output_of_lines files lines).text (text_behind files lines last)
+
+-- the flush failed: the script was read to its end, and its whole output written
+abbrev pub EndsAtFlush : List (List ℕ) → Option (List ℕ) → Option (List ℕ) → Option (List ℕ) → Option (List ℕ) → Type 0
+EndsAtFlush files reader rest before after = (script : List ℕ) × ReadsWhole reader rest script × Appends before after (output files script).text
 
 -- what was read and written, by how the run ended
 abbrev pub RunEnds : List (List ℕ) → Result Status RunFault → Option (List ℕ) → Option (List ℕ) → Option (List ℕ) → Option (List ℕ) → Type 0
 RunEnds files (Ok status) reader rest before after = EndsWhole files status reader rest before after
 RunEnds files (Err faults.Memory) reader rest before after = EndsAtCommand files reader rest before after ⊎ EndsInLine files reader rest before after
 RunEnds files (Err faults.Read) reader rest before after = EndsAtReader files reader rest before after
-RunEnds files (Err faults.Write) reader rest before after = EndsAtWriter files reader rest before after
+RunEnds files (Err faults.Write) reader rest before after = EndsAtWriter files reader rest before after ⊎ EndsAtFlush files reader rest before after
+
+-- all lines of what was read are these: those that a byte 10 ended, and at the script's end a last one without
+abbrev pub ReadsLines : Option (List ℕ) → Option (List ℕ) → List (List ℕ) → Type 0
+ReadsLines reader rest lines = (read : List ℕ) × ((Reads reader rest read × (lines ≡ ended_lines read)) ⊎ (ReadsWhole reader rest read × (lines ≡ lines_of read)))
+
+-- a beginning of the text was written
+abbrev pub WritesFront : Option (List ℕ) → Option (List ℕ) → List ℕ → Type 0
+WritesFront before after text = (written : List ℕ) × Appends before after written × StartsWith text written
+
+-- a beginning of the output of the lines that were read was written
+abbrev pub WritesInOrder : List (List ℕ) → Option (List ℕ) → Option (List ℕ) → Option (List ℕ) → Option (List ℕ) → Type 0
+WritesInOrder files reader rest before after = (lines : List (List ℕ)) × ReadsLines reader rest lines × WritesFront before after (output_of_lines files lines).text

@@ -9,7 +9,8 @@ use Rattle.ft_desk.specs.declared.running.RunFault.TheVariants as faults
 use Rattle.ft_replay.specs.Base.{Base}
 use Rattle.ft_script.specs.Script.{line_limit}
 use Rattle.ft_desk.specs.Output.{Outcome}
-use Rattle.ft_desk.specs.Run.{WritesFront}
+use Rattle.ft_desk.specs.Counts.{Counts}
+use Rattle.ft_desk.specs.Run.{asking_limit, BreaksOff}
 
 -- a line's end stands at this place, or the bytes end there
 abbrev pub CutsAt : Taken → List ℕ → ℕ → Type 0
@@ -30,14 +31,35 @@ TakingGives (Err faults.Read) left rest before after = Keeps left rest
 TakingGives (Err faults.Memory) left rest before after = Keeps left rest × IfSome left (λ bytes. bytes ≢ [])
 TakingGives (Err faults.Write) left rest before after = ⊥
 
--- what a line left: its base, and its text written whole; nothing written where it found no memory; or a beginning of its text
+-- what a line left: its base, and its text written whole; nothing written where it found no memory; or not all of its text
 abbrev pub LineGives : Outcome → Base → Option (List ℕ) → Option (List ℕ) → Result Bool RunFault → Type 0
 LineGives line base before after (Ok refused) = (refused ≡ line.refused) × (base ≡ line.base) × Appends before after line.text
 LineGives line base before after (Err faults.Memory) = Keeps before after
-LineGives line base before after (Err faults.Write) = WritesFront before after line.text
+LineGives line base before after (Err faults.Write) = BreaksOff before after [] line.text
 LineGives line base before after (Err faults.Read) = ⊥
 
--- what a flush at the end makes of the answer: a failing one spoils an `Ok` alone
-abbrev pub FlushGives : Result Status RunFault → Result Status RunFault → Type 0
-FlushGives (Ok status) result = (result ≡ Ok status) ⊎ (result ≡ Err faults.Write)
-FlushGives (Err fault) result = result ≡ Err fault
+-- how many failures of the reader an answer tells of
+abbrev pub read_failures : {T : Type 0} → Result T RunFault → ℕ
+read_failures (Ok taken) = 0
+read_failures (Err faults.Read) = 1
+read_failures (Err faults.Memory) = 0
+read_failures (Err faults.Write) = 0
+
+-- how often the reader was asked, by how a run ended: it failed once where the answer is `Read`, or had given no end in as many turns as it has; else it never failed
+abbrev pub AsksReader : Result Status RunFault → Counts → Type 0
+AsksReader (Ok status) asked = asked.failed ≡ 0
+AsksReader (Err faults.Read) asked = (asked.failed ≡ 1) ⊎ ((asked.failed ≡ 0) × (asked.made ≡ asking_limit))
+AsksReader (Err faults.Memory) asked = asked.failed ≡ 0
+AsksReader (Err faults.Write) asked = asked.failed ≡ 0
+
+-- how many failures an answer is
+abbrev pub failures_of : {T E : Type 0} → Result T E → ℕ
+failures_of (Ok done) = 0
+failures_of (Err error) = 1
+
+-- what the flush at the end makes of an answer: there is one, but none behind a failed write, and where it fails it spoils an `Ok` alone
+abbrev pub FlushGives : Result Status RunFault → Result Status RunFault → Counts → Type 0
+FlushGives (Ok status) result flushed = (flushed.made ≡ 1) × (((result ≡ Ok status) × (flushed.failed ≡ 0)) ⊎ ((result ≡ Err faults.Write) × (flushed.failed ≡ 1)))
+FlushGives (Err faults.Memory) result flushed = (flushed.made ≡ 1) × (result ≡ Err faults.Memory)
+FlushGives (Err faults.Read) result flushed = (flushed.made ≡ 1) × (result ≡ Err faults.Read)
+FlushGives (Err faults.Write) result flushed = (flushed.made ≡ 0) × (result ≡ Err faults.Write)

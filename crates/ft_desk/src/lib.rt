@@ -15,9 +15,11 @@
 //! ```
 #![tactic(auto)]
 
+mod calls;
 mod desk;
 mod events;
 mod in_memory;
+pub mod laws;
 mod performing;
 mod pieces;
 mod program;
@@ -33,6 +35,7 @@ pub use ft_table::Totals;
 pub use ft_trigger::TriggerFault;
 pub use ft_words::{FileFault, Words, WordsFault, read_file, read_whole, read_words};
 pub use in_memory::{Ran, run_text};
+pub use laws::{first_lines, what_runs_write};
 pub use performing::{Performed, perform};
 pub use program::histdesk;
 pub use running::{ASKING_LIMIT, RunFault, Status, run};

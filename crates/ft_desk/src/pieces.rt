@@ -1,9 +1,11 @@
 //! Reading a script by pieces of its lines.
 
-ghost use Rattle.std.specs.Prelude.{◌≡◌, ◌≢◌, ◌++◌, ◌+◌, ◌≤◌, take, All, OnOk, vec_len};
+ghost use Rattle.std.specs.Prelude.{◌≡◌, ◌≢◌, ◌++◌, ◌+◌, ◌<◌, ◌≤◌, take, All, OnOk, vec_len};
 ghost use Rattle.ft_script.specs.Script.{line_limit};
-ghost use Rattle.ft_desk.specs.Steps.{CutsAt, TakingGives};
+ghost use Rattle.ft_desk.specs.Run.{asking_limit};
+ghost use Rattle.ft_desk.specs.Steps.{CutsAt, TakingGives, read_failures};
 
+use crate::calls::Calls;
 use crate::running::RunFault;
 use ft_script::LINE_LIMIT;
 use memchr::memchr;
@@ -26,15 +28,28 @@ pub(crate) enum Taken {
 }
 
 /// Reads what the reader shows, up to and with a line's end, and adds the line's part to its piece.
-/// Memory and the reader can fail; an interrupted read is an error too.
-pub(crate) fn take_part<R: BufRead>(script: &mut R, piece: &mut Vec<u8>) -> Result<Taken, RunFault>
-    requires { vec_len piece.old ≤ line_limit + 1 }
-    ensures { TakingGives result (R.remaining script.old) (R.remaining script.new)
+/// Memory and the reader can fail; an interrupted read is an error too. Here alone the reader is
+/// asked, which is counted: not once more than the bound, and not after it failed.
+pub(crate) fn take_part<R: BufRead>(
+    script: &mut R,
+    asked: &mut Calls,
+    piece: &mut Vec<u8>,
+) -> Result<Taken, RunFault>
+    requires room { vec_len piece.old ≤ line_limit + 1 }
+    requires turn { asked.old.made < asking_limit }
+    requires well { asked.old.failed ≡ 0 }
+    ensures gives { TakingGives result (R.remaining script.old) (R.remaining script.new)
         piece.old.items piece.new.items }
+    ensures made { asked.new.made ≡ asked.old.made + 1 }
+    ensures failed { asked.new.failed ≡ read_failures result }
 {
+    asked.tick();
     let shown = match script.fill_buf() {
         Ok(shown) => shown,
-        Err(_) => return Err(RunFault::Read),
+        Err(_) => {
+            asked.tick_failed();
+            return Err(RunFault::Read);
+        }
     };
     if shown.is_empty() {
         return Ok(Taken::End);

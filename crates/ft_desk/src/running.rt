@@ -1,20 +1,21 @@
 //! Running a script.
 
-ghost use Rattle.std.specs.Prelude.{◌≡◌, map};
+ghost use Rattle.std.specs.Prelude.{◌≡◌, ◌+◌, ◌≤◌, map};
 ghost use Rattle.std.specs.Io.KnownBytes.{Keeps};
 ghost use Rattle.ft_replay.specs.Base.{empty_base};
 ghost use Rattle.ft_script.specs.Script.{asked_by};
 ghost use Rattle.ft_desk.specs.Output.{outcome};
-ghost use Rattle.ft_desk.specs.Run.{status_of, RunEnds};
-ghost use Rattle.ft_desk.specs.Steps.{LineGives, FlushGives};
+ghost use Rattle.ft_desk.specs.Run.{asking_limit, status_of, RunEnds};
+ghost use Rattle.ft_desk.specs.Steps.{LineGives, AsksReader, failures_of, FlushGives};
 
+use crate::calls::Calls;
 use crate::desk::Desk;
 use crate::performing::perform;
 use crate::pieces::{Taken, take_part};
 use crate::sending::send;
 use ft_replay::Board;
 use std::alloc::{AllocError, Global};
-use std::io::{BufRead, Write};
+use std::io::{self, BufRead, Write};
 use thiserror::Error;
 
 /// How often a script's reader is asked at most, so that a script without an end is given up: one of
@@ -41,8 +42,8 @@ pub enum RunFault {
     /// written.
     #[error("read failed")]
     Read,
-    /// The writer failed or took nothing. A beginning of the output of the lines that were read is
-    /// written.
+    /// The writer failed or took nothing. The output of the lines before the last that was read is
+    /// written whole, and a beginning of that one's; or all output, where the flush failed.
     #[error("write failed")]
     Write,
 }
@@ -66,28 +67,36 @@ pub fn run<B: Board, R: BufRead, W: Write>(
         (R.remaining script.old) (R.remaining script.new)
         (W.contents out.old) (W.contents out.new) }
 {
-    let answer = answer_script(alloc, board, files, script, out);
-    flush_after(answer, out)
+    let mut asked = Calls::none();
+    let answer = answer_script(alloc, board, files, script, &mut asked, out);
+    let mut flushed = Calls::none();
+    flush_after(answer, out, &mut flushed)
 }
 
-/// Answers the lines of a script, one after the other.
+/// Answers the lines of a script, one after the other. The reader is asked `ASKING_LIMIT` times at
+/// most, and not again once it failed.
 fn answer_script<B: Board, R: BufRead, W: Write>(
     alloc: Global,
     board: B,
     files: &[Vec<u8>],
     script: &mut R,
+    asked: &mut Calls,
     out: &mut W,
 ) -> Result<Status, RunFault>
-    requires { (B.shown board).base ≡ empty_base }
-    ensures { RunEnds (map (λ f. f.items) files.now) result
+    requires empty { (B.shown board).base ≡ empty_base }
+    requires first { asked.old.made ≡ 0 }
+    requires well { asked.old.failed ≡ 0 }
+    ensures ends { RunEnds (map (λ f. f.items) files.now) result
         (R.remaining script.old) (R.remaining script.new)
         (W.contents out.old) (W.contents out.new) }
+    ensures turns { asked.new.made ≤ asking_limit }
+    ensures asks { AsksReader result asked.new }
 {
     let mut desk = Desk::new(alloc, board);
     let mut piece = Vec::new(alloc);
     let mut refused = false;
-    for _ in 0..ASKING_LIMIT {
-        match take_part(script, &mut piece)? {
+    for _turn in 0..ASKING_LIMIT {
+        match take_part(script, asked, &mut piece)? {
             Taken::Part => {}
             Taken::Line => {
                 refused |= answer_line(&mut desk, alloc, files, &piece, out)?;
@@ -136,20 +145,40 @@ pub(crate) fn status_from(refused: bool) -> Status
     }
 }
 
-/// Flushes the writer, but not after a failed write. A failing flush spoils a status alone.
-fn flush_after<W: Write>(answer: Result<Status, RunFault>, out: &mut W) -> Result<Status, RunFault>
-    ensures answer { FlushGives answer result }
+/// Flushes the writer once, but not after a failed write. A failing flush spoils a status alone.
+fn flush_after<W: Write>(
+    answer: Result<Status, RunFault>,
+    out: &mut W,
+    flushed: &mut Calls,
+) -> Result<Status, RunFault>
+    requires first { flushed.old.made ≡ 0 }
+    requires well { flushed.old.failed ≡ 0 }
+    ensures answer { FlushGives answer result flushed.new }
     ensures kept { Keeps (W.contents out.old) (W.contents out.new) }
 {
     match answer {
         Err(RunFault::Write) => Err(RunFault::Write),
         Err(fault) => {
-            let _unheeded = out.flush();
+            let _unheeded = flush(out, flushed);
             Err(fault)
         }
-        Ok(status) => match out.flush() {
+        Ok(status) => match flush(out, flushed) {
             Ok(()) => Ok(status),
             Err(_) => Err(RunFault::Write),
         },
     }
+}
+
+/// Flushes the writer, which is counted. Here alone it is flushed.
+fn flush<W: Write>(out: &mut W, flushed: &mut Calls) -> io::Result<()>
+    ensures made { flushed.new.made ≡ flushed.old.made + 1 }
+    ensures failed { flushed.new.failed ≡ flushed.old.failed + failures_of result }
+    ensures kept { Keeps (W.contents out.old) (W.contents out.new) }
+{
+    flushed.tick();
+    let ended = out.flush();
+    if ended.is_err() {
+        flushed.tick_failed();
+    }
+    ended
 }

@@ -41,8 +41,8 @@ taking_gives takes.Line left rest before after shown part amount plain end is co
     (take part shown, subst (Consumes left rest) line consumed, (plain, kept))
 taking_gives takes.End left rest before after shown part amount plain end is consumed kept = absurd end
 
-pub returns : goal.returns
-returns g c =
+pub returns-clause-gives : goal.returns-clause-gives
+returns-clause-gives g c =
     let shown = c.in-Ok.shown.now in
     let took = c.cut-part.result.1 in
     let part = c.cut-part.result.0 in

@@ -1,57 +1,87 @@
-use Rattle.std.proofs.Common.{ℕ, map, List, Vec, Global, Ok, Err, length, sym, ap, ◌∙◌, arith}
+use Rattle.std.proofs.Common.{◌≡◌, ◌<◌, ℕ, map, List, Vec, Global, Ok, Err, inr, length, sym, ap, ◌∙◌, arith}
+use Rattle.std.proofs.KnownBytes.{Keeps-refl}
 use Rattle.std.proofs.lemmas.Bool.{eqb-true, eqb-false}
 use Rattle.std.proofs.lemmas.List.{nil_from_length}
 use Rattle.std.proofs.lemmas.Result.{err_from_is_err_and}
+use Rattle.ft_desk.specs.Run.{asking_limit}
 use Rattle.ft_desk.proofs.Progress.{begins, piece_within, reads_part, reads_line, line_of_piece}
-use Rattle.ft_desk.proofs.Endings.{line_begins, last_begins, ends, ends_with, taking_fails, line_fails}
+use Rattle.ft_desk.proofs.Endings.{line_begins, last_begins, ends, ends_with, gives_up, taking_fails, line_fails, asked_failing, asked_well}
 use Rattle.ft_desk.proofs.running.answer_script.Goals.{then-not-is_empty+in_ok-refused-in-End, else-not-is_empty, in-Part, in-Line+in_ok-refused-in-Line}
 use Rattle.ft_desk.proofs.running.answer_script.Goals as goal
 
 abbrev texts_of : List (Vec ℕ Global) → List (List ℕ)
 texts_of files = map (λ f. f.items) files
 
-pub loop-init : goal.loop-init
-loop-init g c = rw c.new-piece.ensures.items (begins _ _ _ _ (ap (λ s. s.base) c.new-desk.ensures ∙ c.requires))
+pub loop-turn-init : goal.loop-turn-init
+loop-turn-init g c = record {
+  progress = rw c.new-piece.ensures.items (begins _ _ _ _ _ (ap (λ s. s.base) c.new-desk.ensures ∙ c.requires.empty));
+  made = c.requires.first;
+  well = c.requires.well;
+}
 
 pub take_part-requires : goal.take_part-requires
-take_part-requires g c = omega (arith, piece_within _ c.loop.invariant)
+take_part-requires g c = record {
+  room = omega (arith, piece_within _ c.loop-turn.invariant.progress);
+  turn = omega (arith, c.loop-turn.invariant.made);
+  well = c.loop-turn.invariant.well;
+}
 
 pub returns-in_err-take_part : goal.returns-in_err-take_part
 returns-in_err-take_part g c =
     let p = err_from_is_err_and c.from_residual.result c.from_residual.ensures.1 in
-    rw (p.1, p.2) (taking_fails _ _ _ _ c.take_part.new.piece.items _ _ _ _ _ c.loop.invariant c.in_err-take_part.field-0.0 c.in_err-take_part.ensures)
+    let at = c.loop-turn.invariant in
+    let turn : c.loop-turn.asked.made < asking_limit = omega (arith, at.made) in
+    rw (p.1, p.2) (record {
+      ends = taking_fails _ _ _ _ c.take_part.new.piece.items _ _ _ _ _ _ at.progress c.in_err-take_part.field-0.0 turn c.in_err-take_part.ensures.gives;
+      turns = omega (arith, c.in_err-take_part.ensures.made);
+      asks = asked_failing c.in_err-take_part.field-0.0 c.take_part.new.asked c.in_err-take_part.ensures.failed;
+    })
 
 pub returns-in_err-refused-in-Line : goal.returns-in_err-refused-in-Line
 returns-in_err-refused-in-Line g c =
     let p = err_from_is_err_and c.from_residual-in_err-refused-in-Line.result c.from_residual-in_err-refused-in-Line.ensures.1 in
-    let took = rw c.in-Line.is at c.in_ok-take_part.ensures in
+    let at = c.loop-turn.invariant in
+    let turn : c.loop-turn.asked.made < asking_limit = omega (arith, at.made) in
+    let took = rw c.in-Line.is at c.in_ok-take_part.ensures.gives in
     let files = texts_of c.args.files.now in
     let piece = c.take_part.new.piece.items in
     let fault = c.in_err-refused-in-Line.field-0.0 in
     let rest = g.R.Read.remaining c.take_part.new.script in
     let later = g.W.Write.contents c.answer_line.new.out in
     let held = c.answer_line.new.desk.base in
-    let gives = line_of_piece files c.loop.desk.base held c.deref.result.now piece (g.W.Write.contents c.loop.out) later (Err fault) c.deref.ensures.value c.in_err-refused-in-Line.ensures in
-    let next = line_begins files _ _ _ piece _ _ rest _ _ c.loop.invariant took in
-    rw (p.1, p.2) (line_fails files _ _ _ piece _ _ rest _ _ c.loop.invariant fault later held next gives)
+    let gives = line_of_piece files c.loop-turn.desk.base held c.deref.result.now piece (g.W.Write.contents c.loop-turn.out) later (Err fault) c.deref.ensures.value c.in_err-refused-in-Line.ensures in
+    let next = line_begins files _ _ _ piece _ _ _ rest _ _ at.progress turn took in
+    rw (p.1, p.2) (record {
+      ends = line_fails files _ _ _ piece _ _ _ rest _ _ at.progress fault later held next gives;
+      turns = omega (arith, c.in_ok-take_part.ensures.made);
+      asks = asked_well files c.loop-turn.desk.base held piece fault _ later gives c.take_part.new.asked c.in_ok-take_part.ensures.failed;
+    })
 
 pub returns-in_err-refused-in-End : goal.returns-in_err-refused-in-End
 returns-in_err-refused-in-End g c =
     let p = err_from_is_err_and c.from_residual-in_err-refused-in-End.result c.from_residual-in_err-refused-in-End.ensures.1 in
-    let took = rw c.in-End.is at c.in_ok-take_part.ensures in
+    let at = c.loop-turn.invariant in
+    let turn : c.loop-turn.asked.made < asking_limit = omega (arith, at.made) in
+    let took = rw c.in-End.is at c.in_ok-take_part.ensures.gives in
     let files = texts_of c.args.files.now in
     let piece = c.take_part.new.piece.items in
     let fault = c.in_err-refused-in-End.field-0.0 in
     let rest = g.R.Read.remaining c.take_part.new.script in
     let later = g.W.Write.contents c.answer_line-then-not-is_empty.new.out in
     let held = c.answer_line-then-not-is_empty.new.desk.base in
-    let gives = line_of_piece files c.loop.desk.base held c.deref-then-not-is_empty.result.now piece (g.W.Write.contents c.loop.out) later (Err fault) c.deref-then-not-is_empty.ensures.value c.in_err-refused-in-End.ensures in
-    let next = last_begins files _ _ _ piece _ _ rest _ _ c.loop.invariant took (λ none. eqb-false _ 0 (sym c.is_empty.ensures ∙ c.if-not-is_empty.true) (omega (arith, ap length none))) in
-    rw (p.1, p.2) (line_fails files _ _ _ piece _ _ rest _ _ c.loop.invariant fault later held next gives)
+    let gives = line_of_piece files c.loop-turn.desk.base held c.deref-then-not-is_empty.result.now piece (g.W.Write.contents c.loop-turn.out) later (Err fault) c.deref-then-not-is_empty.ensures.value c.in_err-refused-in-End.ensures in
+    let next = last_begins files _ _ _ piece _ _ _ rest _ _ at.progress turn took (λ none. eqb-false _ 0 (sym c.is_empty.ensures ∙ c.if-not-is_empty.true) (omega (arith, ap length none))) in
+    rw (p.1, p.2) (record {
+      ends = line_fails files _ _ _ piece _ _ _ rest _ _ at.progress fault later held next gives;
+      turns = omega (arith, c.in_ok-take_part.ensures.made);
+      asks = asked_well files c.loop-turn.desk.base held piece fault _ later gives c.take_part.new.asked c.in_ok-take_part.ensures.failed;
+    })
 
-pub returns-in-End : goal.returns-in-End
-returns-in-End g c =
-    let took = rw c.in-End.is at c.in_ok-take_part.ensures in
+pub returns-in-End-clause-ends : goal.returns-in-End-clause-ends
+returns-in-End-clause-ends g c =
+    let at = c.loop-turn.invariant in
+    let turn : c.loop-turn.asked.made < asking_limit = omega (arith, at.made) in
+    let took = rw c.in-End.is at c.in_ok-take_part.ensures.gives in
     let files = texts_of c.args.files.now in
     let piece = c.take_part.new.piece.items in
     let rest = g.R.Read.remaining c.take_part.new.script in
@@ -60,25 +90,50 @@ returns-in-End g c =
           let told = w.in_ok-refused-in-End.field-0 in
           let later = g.W.Write.contents w.answer_line-then-not-is_empty.new.out in
           let held = w.answer_line-then-not-is_empty.new.desk.base in
-          let gives = line_of_piece files c.loop.desk.base held w.deref-then-not-is_empty.result.now piece (g.W.Write.contents c.loop.out) later (Ok told) w.deref-then-not-is_empty.ensures.value w.in_ok-refused-in-End.ensures in
-          rw (w.out-is, w.refused-is) (ends_with files _ _ _ piece _ _ rest _ _ c.loop.invariant took (λ none. eqb-false _ 0 (sym c.is_empty.ensures ∙ w.if-not-is_empty.true) (omega (arith, ap length none))) later held told gives)
-      | else-not-is_empty w ↦ rw (w.out-is, w.refused-is) (ends files _ _ _ piece _ _ rest _ _ c.loop.invariant took (nil_from_length piece (omega (arith, eqb-true _ 0 (sym c.is_empty.ensures ∙ w.if-not-is_empty.false)))))
+          let gives = line_of_piece files c.loop-turn.desk.base held w.deref-then-not-is_empty.result.now piece (g.W.Write.contents c.loop-turn.out) later (Ok told) w.deref-then-not-is_empty.ensures.value w.in_ok-refused-in-End.ensures in
+          rw (w.out-is, w.refused-is) (ends_with files _ _ _ piece _ _ _ rest _ _ at.progress turn took (λ none. eqb-false _ 0 (sym c.is_empty.ensures ∙ w.if-not-is_empty.true) (omega (arith, ap length none))) later held told gives)
+      | else-not-is_empty w ↦ rw (w.out-is, w.refused-is) (ends files _ _ _ piece _ _ _ rest _ _ at.progress turn took (nil_from_length piece (omega (arith, eqb-true _ 0 (sym c.is_empty.ensures ∙ w.if-not-is_empty.false)))))
     ])
 
-pub loop-preserved : goal.loop-preserved
-loop-preserved g c =
+pub returns-in-End-clause-turns : goal.returns-in-End-clause-turns
+returns-in-End-clause-turns g c = omega (arith, c.loop-turn.invariant.made, c.in_ok-take_part.ensures.made)
+
+pub returns-in-End-clause-asks : goal.returns-in-End-clause-asks
+returns-in-End-clause-asks g c = c.in_ok-take_part.ensures.failed
+
+pub returns : goal.returns
+returns g c =
+    let at = c.loop-turn.invariant in
+    let made : c.loop-turn.asked.made ≡ asking_limit = omega (arith, at.made) in
+    record {
+      ends = gives_up _ _ _ _ _ _ _ _ _ _ at.progress (omega arith) (Keeps-refl _);
+      turns = omega arith;
+      asks = inr (at.well, made);
+    }
+
+pub loop-turn-preserved : goal.loop-turn-preserved
+loop-turn-preserved g c =
+    let at = c.loop-turn.invariant in
     let files = texts_of c.args.files.now in
     let piece = c.take_part.new.piece.items in
     let rest = g.R.Read.remaining c.take_part.new.script in
     elim c.match-branch-2.branch [
       | in-Part w ↦
-          let took = rw w.in-Part.is at c.in_ok-take_part.ensures in
-          rw (w.out-is, w.desk-is, w.piece-is, w.refused-is) (reads_part files _ _ rest _ _ _ _ _ piece c.loop.invariant took)
+          let took = rw w.in-Part.is at c.in_ok-take_part.ensures.gives in
+          record {
+            progress = rw (w.out-is, w.desk-is, w.piece-is, w.refused-is) (reads_part files _ _ rest _ _ _ _ _ piece _ _ c.in_ok-take_part.ensures.made at.progress took);
+            made = omega (arith, at.made, c.in_ok-take_part.ensures.made);
+            well = c.in_ok-take_part.ensures.failed;
+          }
       | in-Line+in_ok-refused-in-Line w ↦
-          let took = rw w.in-Line.is at c.in_ok-take_part.ensures in
+          let took = rw w.in-Line.is at c.in_ok-take_part.ensures.gives in
           let told = w.in_ok-refused-in-Line.field-0 in
           let later = g.W.Write.contents w.answer_line.new.out in
           let held = w.answer_line.new.desk.base in
-          let gives = line_of_piece files c.loop.desk.base held w.deref.result.now piece (g.W.Write.contents c.loop.out) later (Ok told) w.deref.ensures.value w.in_ok-refused-in-Line.ensures in
-          rw (w.out-is, w.desk-is, w.piece-is, w.refused-is, w.clear.ensures.items) (reads_line files _ _ rest _ _ _ _ _ piece c.loop.invariant took later held told gives)
+          let gives = line_of_piece files c.loop-turn.desk.base held w.deref.result.now piece (g.W.Write.contents c.loop-turn.out) later (Ok told) w.deref.ensures.value w.in_ok-refused-in-Line.ensures in
+          record {
+            progress = rw (w.out-is, w.desk-is, w.piece-is, w.refused-is, w.clear.ensures.items) (reads_line files _ _ rest _ _ _ _ _ piece _ _ c.in_ok-take_part.ensures.made at.progress took later held told gives);
+            made = omega (arith, at.made, c.in_ok-take_part.ensures.made);
+            well = c.in_ok-take_part.ensures.failed;
+          }
     ]

@@ -4,4 +4,4 @@ use Rattle.ft_desk.proofs.running.run.Goals as goal
 
 pub returns : goal.returns
 returns g c =
-    flush_ends (map (λ f. f.items) c.args.files.now) _ _ _ _ _ _ _ c.answer_script-answer.ensures c.flush_after.ensures.kept c.flush_after.ensures.answer
+    flush_ends (map (λ f. f.items) c.args.files.now) _ _ _ _ _ _ _ _ c.answer_script-answer.ensures.ends c.flush_after.ensures.kept c.flush_after.ensures.answer
