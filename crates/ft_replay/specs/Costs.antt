@@ -1,9 +1,13 @@
 -- What edits and answers cost, in steps (our own choice).
-use Rattle.std.specs.Prelude.{◌≡◌, ℕ, ◌+◌, ◌*◌, ◌≤◌, true, false, List, Result, Ok, Err}
+use Rattle.std.specs.Prelude.{◌≡◌, ℕ, ◌+◌, ◌*◌, ◌≤◌, true, false, List, Some, Result, Ok, Err}
+use Rattle.std.specs.List.{sum_by}
+use Rattle.std.specs.Option.{option_map_or}
+use Rattle.std.specs.FinMap as map
 use Rattle.ft_fields.specs.Traced.{Traced}
 use Rattle.ft_hist.specs.Steps.{Steps, StepsGrow}
 use Rattle.ft_keys.specs.declared.key.Part.{Part}
 use Rattle.ft_hist.specs.Tests.{count_on}
+use Rattle.ft_lanes.specs.Held.{Lane, is_small}
 use Rattle.ft_pairs.specs.declared.role.Role.TheVariants.{Saves}
 use Rattle.ft_base.specs.declared.refused.Refused.{Refused}
 use Rattle.ft_base.specs.Base.{Triggers}
@@ -35,6 +39,16 @@ pub record CostsOf (triggers : Triggers) (event : Traced) (before after : Events
 -- what an edit of one event costs a board, whether its tables lack an edit or not (our own choice)
 abbrev pub RepairCosts : Traced → Shown → Shown → Type 0
 RepairCosts event old new = CostsOf old.base.triggers event (merged old.base.lanes) (merged new.base.lanes) old.steps new.steps
+
+-- how many triggers are on the name of each event of a lane, taken together (our own choice)
+abbrev pub count_on_lane : Triggers → Lane → ℕ
+count_on_lane triggers lane = sum_by (λ entry. count_on triggers entry.1) (map.entries lane.events)
+
+-- what it costs a board to unload a CPU's lane that has fewer events than all others together: one test at most for each of its events and each trigger on the event's name (our own choice)
+abbrev pub UnloadCosts : ℕ → Shown → Shown → Type 0
+UnloadCosts cpu old new =
+    (lane : Lane) → map.get old.base.lanes cpu ≡ Some lane → is_small old.base.lanes cpu ≡ true
+    → new.steps.evals ≤ old.steps.evals + count_on_lane old.base.triggers lane
 
 -- what an answer costs: nothing where the board is up to date; no count falls, and a board keeps tables just where it did before (our own choice)
 pub record AnswerCosts (old new : Shown) : Type 0 where
