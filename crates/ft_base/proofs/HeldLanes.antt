@@ -4,7 +4,7 @@ use Rattle.std.specs.Prelude.{IsSome, option_map, option_and_then}
 use Rattle.std.specs.Option.{option_map_or}
 use Rattle.std.specs.FinMap as map
 use Rattle.ft_fields.specs.Traced.{last_cpu}
-use Rattle.ft_lanes.specs.Held.{Lane, Lanes, event_at}
+use Rattle.ft_lanes.specs.Held.{Lane, Lanes, event_at, held_on}
 use Rattle.ft_lanes.specs.Edits.{lanes_without}
 use Rattle.ft_lanes.specs.Listing.{lane_text}
 use Rattle.ft_base.specs.declared.refused.Refused.{Refused}
@@ -23,9 +23,9 @@ no_lane-beyond lanes cpu low high =
     ] refl
 
 -- unloading a lane that is held
-pub unload-held : (base : Base) (cpu : ℕ) → IsSome (map.get base.lanes cpu) → after_unload base cpu ≡ Ok (record base { lanes = map.remove base.lanes cpu }, unwrap_or (option_map (λ lane. map.len lane.events) (map.get base.lanes cpu)) 0)
+pub unload-held : (base : Base) (cpu : ℕ) → IsSome (map.get base.lanes cpu) → after_unload base cpu ≡ Ok (record base { lanes = map.remove base.lanes cpu }, held_on base.lanes cpu)
 unload-held base cpu held =
-    elim (map.get base.lanes cpu) as (λ o. map.get base.lanes cpu ≡ o → IsSome o → after_unload base cpu ≡ Ok (record base { lanes = map.remove base.lanes cpu }, unwrap_or (option_map (λ lane. map.len lane.events) o) 0)) [
+    elim (map.get base.lanes cpu) as (λ o. map.get base.lanes cpu ≡ o → IsSome o → after_unload base cpu ≡ Ok (record base { lanes = map.remove base.lanes cpu }, option_map_or (λ lane. map.len lane.events) o 0)) [
       | None ↦ λ _ h. cc
       | Some lane ↦ λ is h. unload-ok base cpu lane is
     ] refl held

@@ -7,14 +7,14 @@ ghost use Rattle.std.specs.Ordering.{nat_cmp};
 ghost use Rattle.std.specs.FinMap as map;
 ghost use Rattle.ft_hist.specs.Hist.{Hist};
 ghost use Rattle.ft_lanes.specs.Edits.{lanes_without};
-ghost use Rattle.ft_lanes.specs.Held.{event_at};
+ghost use Rattle.ft_lanes.specs.Held.{event_at, held_on, is_small};
 ghost use Rattle.ft_maps.specs.Seen.{seen};
 ghost use Rattle.ft_base.specs.declared.refused.Refused.TheVariants.{Memory};
 ghost use Rattle.ft_base.specs.After.{after_load, after_unload, after_insert};
 ghost use Rattle.ft_base.specs.After.{after_attach, after_refilter};
 ghost use Rattle.ft_base.specs.Answers.{AnswerIs, list_text};
 ghost use Rattle.ft_base.specs.Base.{empty_base};
-ghost use Rattle.ft_base.specs.Edited.{BaseGives, FindsToStrike, FindsToRemove};
+ghost use Rattle.ft_base.specs.Edited.{BaseGives, FindsToUnload, FindsToStrike, FindsToRemove};
 ghost use Rattle.ft_base.specs.OneTrigger.{IsUnread, JoinsAs, GetsFilter, base_without};
 ghost use Rattle.ft_base.specs.Reachable.{IsReachable};
 
@@ -127,11 +127,37 @@ impl Content {
         ensures gives { BaseGives (after_unload self.old cpu) self.old self.new result }
         ensures memory { result ≢ Err Memory }
     {
-        let Some(lane) = held_lane(&self.lanes, cpu) else {
-            return Err(Refused::NoLane(cpu));
-        };
-        let count = self.lanes.take_lane(lane).unwrap_or(0);
-        Ok(count)
+        let lane = self.lane_of(cpu)?;
+        Ok(self.take_lane(lane))
+    }
+
+    /// The lane of a CPU that can be taken away.
+    pub fn lane_of(&self, cpu: u32) -> Result<u16, Refused>
+        ensures gives { FindsToUnload self.now cpu result }
+        ensures same { IfOk result (λ lane. lane ≡ cpu) }
+        ensures memory { result ≢ Err Memory }
+    {
+        match held_lane(&self.lanes, cpu) {
+            Some(lane) => Ok(lane),
+            None => Err(Refused::NoLane(cpu)),
+        }
+    }
+
+    /// Whether a CPU's lane has fewer events than all other lanes together.
+    pub fn is_small(&self, lane: u16) -> bool
+        ensures { result ≡ is_small self.now.lanes lane }
+    {
+        let count = self.lanes.held_on(lane);
+        count < self.lanes.len().saturating_sub(count)
+    }
+
+    /// Takes the lane of a CPU away, if there is one: how many events it had.
+    pub fn take_lane(&mut self, lane: u16) -> u64
+        ensures value { result ≡ held_on self.old.lanes lane }
+        ensures rest { self.new
+            ≡ record self.old { lanes = map.remove self.old.lanes lane } }
+    {
+        self.lanes.take_lane(lane).unwrap_or(0)
     }
 
     /// Adds an event at the next line of its CPU's lane: its place.

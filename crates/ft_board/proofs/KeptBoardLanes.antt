@@ -66,7 +66,7 @@ event_without lanes cpu line c l =
 -- ---- places
 
 -- a place ties where its stamp, its CPU and its line do
-tie_at : (q pos : Pos) → eq_by_cmp pos_cmp q pos ≡ (is_eq (nat_cmp q.stamp pos.stamp) && (eq_by_cmp nat_cmp q.cpu pos.cpu && eq_by_cmp nat_cmp q.line pos.line))
+pub tie_at : (q pos : Pos) → eq_by_cmp pos_cmp q pos ≡ (is_eq (nat_cmp q.stamp pos.stamp) && (eq_by_cmp nat_cmp q.cpu pos.cpu && eq_by_cmp nat_cmp q.line pos.line))
 tie_at q pos =
     tied_then (nat_cmp q.stamp pos.stamp) (ordering_then (nat_cmp q.cpu pos.cpu) (nat_cmp q.line pos.line))
     ∙ ap (λ (b : Bool). is_eq (nat_cmp q.stamp pos.stamp) && b) (tied_then (nat_cmp q.cpu pos.cpu) (nat_cmp q.line pos.line))

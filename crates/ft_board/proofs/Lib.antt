@@ -10,6 +10,7 @@ pub mod KeptBoardBuilt
 pub mod KeptBoardLanes
 pub mod OneTrigger
 pub mod KeptBoardRepair
+pub mod LaneGoes
 pub mod KeptBoardTold
 pub mod ByRole
 pub mod KeptEntries

@@ -1,6 +1,7 @@
 -- Words of private functions: what is kept while tables are built, repaired, joined and asked.
 pub mod Built
 pub mod ButOneEvent
+pub mod ButOneLane
 pub mod ButOneTrigger
 pub mod Idle
 pub mod Repaired

@@ -3,6 +3,7 @@
 ghost use Rattle.std.specs.Prelude.{◌≡◌, true, false};
 
 use crate::join::join;
+use crate::lane_goes::let_lane_go;
 use crate::leave::leave;
 use crate::rebuild::renew;
 use crate::refilter::make_way;
@@ -80,7 +81,13 @@ impl Board for KeptBoard {
     }
 
     fn unload(&mut self, cpu: u32) -> Result<Done<u64>, Refused> {
-        let value = self.content.unload(cpu)?;
+        let lane = self.content.lane_of(cpu)?;
+        if self.content.is_small(lane) {
+            let kept = let_lane_go(&mut self.kept, &self.content, lane, &mut self.work);
+            let value = self.content.take_lane(lane);
+            return Ok(Done { value, kept });
+        }
+        let value = self.content.take_lane(lane);
         let kept = renew(&mut self.kept, self.alloc, &self.content, &mut self.work);
         Ok(Done { value, kept })
     }

@@ -36,16 +36,17 @@ impl<B: Board> Model for Desk<B> {
 }
 
 impl<B: Board> Desk<B> {
-    ghost use Rattle.std.specs.Prelude.{◌≡◌, ◌≢◌, Some, Ok, Err};
+    ghost use Rattle.std.specs.Prelude.{◌≡◌, ◌≢◌, true, Some, Ok, Err};
     ghost use Rattle.std.specs.Option.{option_copied};
     ghost use Rattle.ft_base.specs.declared.refused.Refused.TheVariants.{Memory};
     ghost use Rattle.ft_replay.specs.After.{after_unload, after_strike, after_remove};
     ghost use Rattle.ft_event.specs.Line.{line_of};
     ghost use Rattle.ft_fields.specs.Traced.{Traced};
-    ghost use Rattle.ft_replay.specs.Held.{event_at};
-    ghost use Rattle.ft_replay.specs.Costs.{EditCounts, RepairCosts, FilterCosts, AnswerCosts};
-    ghost use Rattle.ft_replay.specs.Deferral.{PutsNothingOff, IsNoHit, IsPlainHit, ReadsNothing};
-    ghost use Rattle.ft_replay.specs.Deferral.{WantsForTables};
+    ghost use Rattle.ft_replay.specs.Held.{event_at, is_small};
+    ghost use Rattle.ft_replay.specs.Costs.{EditCounts, RepairCosts, UnloadCosts, FilterCosts};
+    ghost use Rattle.ft_replay.specs.Costs.{AnswerCosts};
+    ghost use Rattle.ft_replay.specs.Deferral.{PutsNothingOff, IsNoHit, IsPlainHit, IsPlainLane};
+    ghost use Rattle.ft_replay.specs.Deferral.{ReadsNothing, WantsForTables};
     ghost use Rattle.ft_replay.specs.Edited.{EditGives, AnswersFrom, AnswerIs};
     ghost use Rattle.ft_replay.specs.Answers.{hist_text, totals, latencies, list_text};
     ghost use Rattle.ft_desk.specs.Edits.{after_load_text, after_insert_text};
@@ -77,6 +78,10 @@ impl<B: Board> Desk<B> {
             self.old self.new result }
         ensures memory { result ≢ Err Memory }
         ensures counts { EditCounts self.old self.new result }
+        ensures repairs { UnloadCosts cpu self.old self.new }
+        ensures now { is_small self.old.base.lanes cpu ≡ true
+            → IsPlainLane self.old.base.triggers self.old.base.lanes cpu
+            → PutsNothingOff self.old self.new }
     {
         self.board.unload(cpu)
     }

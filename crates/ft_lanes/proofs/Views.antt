@@ -8,7 +8,7 @@ use Rattle.std.specs.FinMap as map
 use Rattle.std.specs.FinMap.{nat_cmp-IsAntisymmetric}
 use Rattle.ft_fields.specs.Traced.{Traced}
 use Rattle.ft_maps.specs.Mapped.{entries_by, entries-map_by, map_by-empty, get-map_by, map_by-insert}
-use Rattle.ft_lanes.specs.Held.{Lane, Lanes, event_at}
+use Rattle.ft_lanes.specs.Held.{Lane, Lanes, event_at, held_on}
 use Rattle.ft_lanes.specs.Edits.{new_lane, lane_with, lane_without, lanes_without}
 use Rattle.ft_lanes.specs.inner.Slots.{SlotsOf, AllSlots, no_slots, slots_with, all_with, slots_without, all_without, lane_by, lanes_by, AreWithin, stored_at, slots_in}
 use Rattle.ft_lanes.proofs.Counts.{within-none, len-map_by}
@@ -105,6 +105,14 @@ count-at f all cpu = at (map.get all cpu) ∙ ap (option_map (λ lane. map.len l
     at : (o : Option SlotsOf) → option_map (λ slots. map.len slots.places) o ≡ option_map (λ lane. map.len lane.events) (option_map (lane_by f) o)
     at None = refl
     at (Some slots) = ap Some (sym (len-map_by f slots.places))
+
+-- and none where there is no lane
+pub count-on : (f : ℕ → Traced) (all : AllSlots) (cpu : ℕ) → option_map_or (λ slots. map.len slots.places) (map.get all cpu) 0 ≡ held_on (lanes_by f all) cpu
+count-on f all cpu = at (map.get all cpu) ∙ ap (λ o. option_map_or (λ (lane : Lane). map.len lane.events) o 0) (sym (lane-found f all cpu))
+  where
+    at : (o : Option SlotsOf) → option_map_or (λ slots. map.len slots.places) o 0 ≡ option_map_or (λ lane. map.len lane.events) (option_map (lane_by f) o) 0
+    at None = refl
+    at (Some slots) = sym (len-map_by f slots.places)
 
 -- a clause on success, where a call did not fail
 pub at_ok : {T E P : Type 0} (r : Result T E) → false ≡ is_err r → OnOk r P → P

@@ -1,6 +1,7 @@
 -- What lanes hold.
-use Rattle.std.specs.Prelude.{ℕ, ◌≤◌, Option, option_and_then}
+use Rattle.std.specs.Prelude.{ℕ, ◌≤◌, Bool, Option, nat_lt, option_and_then}
 use Rattle.std.specs.List.{sum_by}
+use Rattle.std.specs.Option.{option_map_or}
 use Rattle.std.specs.Ordering.{nat_cmp}
 use Rattle.std.specs.FinMap as map
 use Rattle.std.specs.FinMap.{FinMap}
@@ -26,6 +27,14 @@ number_limit = 4294967295
 -- how many events the lanes hold together (our own choice)
 abbrev pub held_in : Lanes → ℕ
 held_in lanes = sum_by (λ lane. map.len lane.events) (map.values lanes)
+
+-- how many events a CPU's lane holds: none where there is no lane (our own choice)
+abbrev pub held_on : Lanes → ℕ → ℕ
+held_on lanes cpu = option_map_or (λ lane. map.len lane.events) (map.get lanes cpu) 0
+
+-- a CPU's lane holds fewer events than all other lanes together (our own choice)
+abbrev pub is_small : Lanes → ℕ → Bool
+is_small lanes cpu = nat_lt (held_on lanes cpu) (held_in (map.remove lanes cpu))
 
 -- the event of a lane's line, where there is one (our own choice)
 abbrev pub event_at : Lanes → ℕ → ℕ → Option Traced

@@ -1,7 +1,7 @@
 //! Edits of slots by CPU.
 
 ghost use Rattle.std.specs.Prelude.{◌≡◌, ◌+◌, ◌≤◌, OnOk, OnErr, IfOk, unwrap_or, option_map, option_and_then};
-ghost use Rattle.std.specs.Option.{option_len};
+ghost use Rattle.std.specs.Option.{option_len, option_map_or};
 ghost use Rattle.std.specs.Ordering.{nat_cmp};
 ghost use Rattle.std.specs.FinMap as map;
 ghost use Rattle.ft_maps.specs.Seen.{seen};
@@ -72,6 +72,17 @@ pub(crate) fn take_in(lanes: &mut BTreeMap<u16, Slots>, cpu: u16, line: u32) -> 
     match lanes.get_mut(&cpu) {
         Some(slots) => slots.take(line),
         None => None,
+    }
+}
+
+/// How many slots a CPU has: none where it has no lane.
+pub(crate) fn count_in(lanes: &BTreeMap<u16, Slots>, cpu: u16) -> u64
+    ensures { result ≡ option_map_or (λ slots. map.len slots.places)
+        (map.get (seen nat_cmp lanes.now) cpu) 0 }
+{
+    match lanes.get(&cpu) {
+        Some(slots) => slots.len() as u64,
+        None => 0,
     }
 }
 

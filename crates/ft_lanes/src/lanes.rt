@@ -2,7 +2,7 @@
 
 ghost use Rattle.std.specs.Prelude.{◌≡◌, ◌+◌, ◌≤◌, ◌<◌, ◌^◌, None, length, unwrap_or, option_map, OnOk, OnErr, IfOk, IfSome};
 
-use crate::edits::{next_in, place_in, push_in, take_in, take_lane_in};
+use crate::edits::{count_in, next_in, place_in, push_in, take_in, take_lane_in};
 use crate::load::{held_cpu_in, push_load};
 use crate::rebuild::copy_lane;
 use crate::slots::Slots;
@@ -46,7 +46,7 @@ impl Lanes {
     ghost use Rattle.std.specs.List.{AllByRecursion};
     ghost use Rattle.std.specs.Map.Iter.{ShowsInOrder};
     ghost use Rattle.ft_fields.specs.Traced.{Traced};
-    ghost use Rattle.ft_lanes.specs.Held.{Lane, event_limit, number_limit, event_at, held_in, HasCpu};
+    ghost use Rattle.ft_lanes.specs.Held.{Lane, event_limit, number_limit, event_at, held_in, held_on, HasCpu};
     ghost use Rattle.ft_lanes.specs.Walks.{shown, itself};
     ghost use Rattle.ft_lanes.specs.Loaded.{first_held, with_lanes};
     ghost use Rattle.ft_lanes.specs.Edits.{new_lane, lanes_with, lanes_without};
@@ -207,6 +207,13 @@ impl Lanes {
         ensures { result ≡ held_in self.now }
     {
         self.held
+    }
+
+    /// How many events a CPU's lane holds: none where there is no lane.
+    pub fn held_on(&self, cpu: u16) -> u64
+        ensures { result ≡ held_on self.now cpu }
+    {
+        count_in(&self.lanes, cpu)
     }
 
     /// Clears the store where nothing is held.

@@ -1,12 +1,12 @@
 -- What an answer or an edit says and takes of a board that keeps no tables.
-use Rattle.std.proofs.Common.{◌≡◌, ◌*◌, Bool, true, false, refl, subst, Result, Ok, Err}
+use Rattle.std.proofs.Common.{◌≡◌, ◌*◌, ℕ, Bool, true, false, refl, subst, Result, Ok, Err}
 use Rattle.std.proofs.Math.Nat.{le-add_right}
 use Rattle.ft_fields.specs.Traced.{Traced}
 use Rattle.ft_hist.specs.Steps.{Steps, StepsGrow}
 use Rattle.ft_hist.specs.Tests.{count_on}
 use Rattle.ft_base.specs.declared.refused.Refused.{Refused}
 use Rattle.ft_base.specs.Base.{Base, Triggers}
-use Rattle.ft_replay.specs.Costs.{AnswerCosts, CostsOf}
+use Rattle.ft_replay.specs.Costs.{AnswerCosts, CostsOf, UnloadCosts, count_on_lane}
 use Rattle.ft_replay.specs.Edited.{AnswerKeeps}
 use Rattle.ft_replay.specs.Merged.{Events, merged}
 use Rattle.ft_replay.specs.Shown.{Shown}
@@ -35,3 +35,7 @@ no_step triggers event before after steps = record { evals = le-add_right steps.
 -- and an edit takes none
 pub edited_costs : (base new : Base) (event : Traced) (work : Steps) (shown : Shown) → plain_shown base work ≡ shown → CostsOf shown.base.triggers event (merged shown.base.lanes) (merged new.lanes) shown.steps work
 edited_costs base new event work shown is = subst (λ (s : Shown). CostsOf s.base.triggers event (merged s.base.lanes) (merged new.lanes) s.steps work) is (no_step base.triggers event (merged base.lanes) (merged new.lanes) work)
+
+-- nor does it take one to unload a lane
+pub unload_costs : (base new : Base) (cpu : ℕ) (work : Steps) (shown : Shown) → plain_shown base work ≡ shown → UnloadCosts cpu shown (plain_shown new work)
+unload_costs base new cpu work shown is = subst (λ (s : Shown). UnloadCosts cpu s (plain_shown new work)) is (λ lane _ _. le-add_right work.evals (count_on_lane base.triggers lane))

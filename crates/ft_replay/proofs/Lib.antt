@@ -2,6 +2,7 @@ pub mod Merging
 pub mod Places
 pub mod Naming
 pub mod Placing
+pub mod Choosing
 pub mod Counted
 pub mod KeysApart
 pub mod Growing

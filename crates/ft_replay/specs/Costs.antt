@@ -1,5 +1,5 @@
 -- What edits and answers cost, in steps (our own choice).
-use Rattle.std.specs.Prelude.{◌≡◌, ℕ, ◌+◌, ◌*◌, ◌≤◌, true, false, List, Result, Ok, Err, if◌then◌else◌}
+use Rattle.std.specs.Prelude.{◌≡◌, ℕ, ◌+◌, ◌*◌, ◌≤◌, true, false, List, Some, Result, Ok, Err, if◌then◌else◌}
 use Rattle.std.specs.List.{sum_by}
 use Rattle.std.specs.FinMap as map
 use Rattle.ft_fields.specs.Traced.{Traced}
@@ -8,7 +8,7 @@ use Rattle.ft_hist.specs.Hit.{same_name}
 use Rattle.ft_hist.specs.Steps.{Steps, StepsGrow}
 use Rattle.ft_keys.specs.declared.key.Part.{Part}
 use Rattle.ft_hist.specs.Tests.{count_on}
-use Rattle.ft_lanes.specs.Held.{Lanes}
+use Rattle.ft_lanes.specs.Held.{Lane, Lanes, is_small}
 use Rattle.ft_pairs.specs.declared.role.Role.TheVariants.{Saves}
 use Rattle.ft_base.specs.declared.refused.Refused.{Refused}
 use Rattle.ft_base.specs.Base.{Triggers}
@@ -55,6 +55,16 @@ family_tests triggers lanes id = sum_by (λ attached. if is_in_family triggers i
 -- what another filter costs a trigger that reads nothing: a test at most for each held event on its name, and for each on the name of a trigger that reads what it saves; whatever else is attached (our own choice)
 abbrev pub FilterCosts : ℕ → Shown → Shown → Type 0
 FilterCosts id old new = ReadsNothing old.base.triggers id → new.steps.evals ≤ old.steps.evals + family_tests new.base.triggers new.base.lanes id
+
+-- how many triggers are on the name of each event of a lane, taken together (our own choice)
+abbrev pub count_on_lane : Triggers → Lane → ℕ
+count_on_lane triggers lane = sum_by (λ entry. count_on triggers entry.1) (map.entries lane.events)
+
+-- what it costs a board to unload a CPU's lane that has fewer events than all others together: one test at most for each of its events and each trigger on the event's name (our own choice)
+abbrev pub UnloadCosts : ℕ → Shown → Shown → Type 0
+UnloadCosts cpu old new =
+    (lane : Lane) → map.get old.base.lanes cpu ≡ Some lane → is_small old.base.lanes cpu ≡ true
+    → new.steps.evals ≤ old.steps.evals + count_on_lane old.base.triggers lane
 
 -- what an answer costs: nothing where the board is up to date; no count falls, and a board keeps tables just where it did before (our own choice)
 pub record AnswerCosts (old new : Shown) : Type 0 where

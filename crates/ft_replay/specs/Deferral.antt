@@ -7,6 +7,7 @@ use Rattle.ft_hist.specs.Hit.{hit}
 use Rattle.ft_keys.specs.declared.key.Part.{Part}
 use Rattle.ft_base.specs.declared.refused.Refused.{Refused}
 use Rattle.ft_base.specs.declared.refused.Refused.TheVariants.{Memory}
+use Rattle.ft_lanes.specs.Held.{Lanes, event_at}
 use Rattle.ft_base.specs.Base.{Triggers}
 use Rattle.ft_base.specs.Roles.{is_reader}
 use Rattle.ft_replay.specs.Shown.{Shown}
@@ -22,6 +23,10 @@ IsNoHit triggers event = (id : ℕ) (hist : Hist) → map.get triggers id ≡ So
 -- each attached trigger that the event is a hit of has no variable (kernel: histogram.rst, inter-event hist triggers)
 abbrev pub IsPlainHit : Triggers → Traced → Type 0
 IsPlainHit triggers event = (id : ℕ) (hist : Hist) → map.get triggers id ≡ Some hist → (key : List Part) → hit hist event ≡ Some key → hist.variable ≡ None
+
+-- each event of a CPU's lane is a hit of triggers without a variable alone (kernel: histogram.rst, inter-event hist triggers)
+abbrev pub IsPlainLane : Triggers → Lanes → ℕ → Type 0
+IsPlainLane triggers lanes cpu = (line : ℕ) (event : Traced) → event_at lanes cpu line ≡ Some event → IsPlainHit triggers event
 
 -- the trigger with an id, if there is one, reads no variable (kernel: histogram.rst, inter-event hist triggers)
 abbrev pub ReadsNothing : Triggers → ℕ → Type 0

@@ -1,6 +1,7 @@
 pub mod Shown
 pub mod Codes
 pub mod Merged
+pub mod Chosen
 pub mod Tally
 pub mod Replay
 pub mod Named

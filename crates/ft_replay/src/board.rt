@@ -16,19 +16,20 @@ use ft_table::Totals;
 /// A refused edit changes nothing, and drops what was handed in. `strike`, `unload` and `remove`
 /// never find memory wanting.
 pub trait Board: Drop {
-    ghost use Rattle.std.specs.Prelude.{◌≡◌, ◌≢◌, Some, Err, option_map};
+    ghost use Rattle.std.specs.Prelude.{◌≡◌, ◌≢◌, true, Some, Err, option_map};
     ghost use Rattle.std.specs.Option.{ForSome};
     ghost use Rattle.std.specs.FinMap as map;
     ghost use Rattle.ft_fields.specs.Traced.{Traced};
     ghost use Rattle.ft_hist.specs.Hist.{Hist};
-    ghost use Rattle.ft_lanes.specs.Held.{event_at};
+    ghost use Rattle.ft_lanes.specs.Held.{event_at, is_small};
     ghost use Rattle.ft_base.specs.declared.refused.Refused.TheVariants.{Memory};
     ghost use Rattle.ft_base.specs.After.{after_load, after_unload, after_insert, after_strike};
     ghost use Rattle.ft_base.specs.After.{after_attach, after_refilter, after_remove};
     ghost use Rattle.ft_replay.specs.Answers.{hist_text, totals, latencies, list_text};
-    ghost use Rattle.ft_replay.specs.Costs.{EditCounts, RepairCosts, FilterCosts, AnswerCosts};
-    ghost use Rattle.ft_replay.specs.Deferral.{PutsNothingOff, IsNoHit, IsPlainHit, ReadsNothing};
-    ghost use Rattle.ft_replay.specs.Deferral.{WantsForTables};
+    ghost use Rattle.ft_replay.specs.Costs.{EditCounts, RepairCosts, UnloadCosts, FilterCosts};
+    ghost use Rattle.ft_replay.specs.Costs.{AnswerCosts};
+    ghost use Rattle.ft_replay.specs.Deferral.{PutsNothingOff, IsNoHit, IsPlainHit, IsPlainLane};
+    ghost use Rattle.ft_replay.specs.Deferral.{ReadsNothing, WantsForTables};
     ghost use Rattle.ft_replay.specs.Edited.{EditGives, AnswersFrom, AnswerIs};
     ghost use Rattle.ft_replay.specs.Shown.{Shown};
 
@@ -47,7 +48,11 @@ pub trait Board: Drop {
         ensures gives { EditGives (λ count. count) (after_unload (shown self.old).base cpu)
             (shown self.old) (shown self.new) result }
         ensures memory { result ≢ Err Memory }
-        ensures counts { EditCounts (shown self.old) (shown self.new) result };
+        ensures counts { EditCounts (shown self.old) (shown self.new) result }
+        ensures repairs { UnloadCosts cpu (shown self.old) (shown self.new) }
+        ensures now { is_small (shown self.old).base.lanes cpu ≡ true
+            → IsPlainLane (shown self.old).base.triggers (shown self.old).base.lanes cpu
+            → PutsNothingOff (shown self.old) (shown self.new) };
 
     /// Adds an event at the next line of its CPU's lane, which is made where there is none: the
     /// event's place. Refused where too many events would be or the lane's line numbers are used

@@ -38,7 +38,7 @@ pub use laws::{
     counted_hits, kept_maps, matched_readings, merged_order, named_events, plain_board_keeps_none,
     same_elsewhere,
 };
-pub use merge::{events_with, merged_events};
+pub use merge::{events_with, merged_events, merged_events_but};
 pub use names::Names;
 pub use pair::{Latency, Pair, latency_of};
 pub use plain::PlainBoard;

@@ -1,6 +1,6 @@
 //! The merged order: held events by their places, as references into the lanes.
 
-ghost use Rattle.std.specs.Prelude.{◌≡◌, ◌++◌, IfOk, OnOk, IsPermutation, filter};
+ghost use Rattle.std.specs.Prelude.{◌≡◌, ◌++◌, [], cond, IfOk, OnOk, IsPermutation, filter};
 ghost use Rattle.std.specs.List.Sorted.{IsSortedByKey};
 ghost use Rattle.std.specs.Ordering.{nat_cmp};
 ghost use Rattle.std.specs.FinMap as map;
@@ -9,6 +9,7 @@ ghost use Rattle.ft_fields.specs.Places.{pos_cmp};
 ghost use Rattle.ft_fields.specs.Traced.{name_of};
 ghost use Rattle.ft_maps.specs.Mapped.{entries_by};
 ghost use Rattle.ft_maps.specs.Seen.{seen};
+ghost use Rattle.ft_replay.specs.Chosen.{is_among, lanes_but};
 ghost use Rattle.ft_replay.specs.Merged.{merged, placed};
 ghost use Rattle.ft_replay.specs.Named.{named, events_on, has_name};
 
@@ -32,6 +33,20 @@ pub fn merged_events<'a>(
     events_with(alloc, lanes, Names::of(triggers))
 }
 
+/// The events on whose name some trigger is, but those of some CPUs, with their places, in merged
+/// order. Refused for memory.
+pub fn merged_events_but<'a>(
+    alloc: Global,
+    lanes: &'a Lanes,
+    triggers: &BTreeMap<u32, Trigger>,
+    but: &[u16],
+) -> Result<Vec<(Pos, &'a Event)>, AllocError>
+    ensures { IfOk result (λ events. entries_by deref events.items
+        ≡ map.entries (named (seen nat_cmp triggers.now) (merged (lanes_but but.now lanes.now)))) }
+{
+    events_but(alloc, lanes, Names::of(triggers), but)
+}
+
 /// The events that have one of the names, with their places, in merged order. Refused for memory.
 pub fn events_with<'a>(
     alloc: Global,
@@ -41,12 +56,45 @@ pub fn events_with<'a>(
     ensures { IfOk result (λ events. entries_by deref events.items
         ≡ map.entries (events_on (has_name names) (merged lanes.now))) }
 {
+    events_but(alloc, lanes, names, &[])
+}
+
+/// The events that have one of the names, but those of some CPUs, with their places, in merged
+/// order. Refused for memory.
+fn events_but<'a>(
+    alloc: Global,
+    lanes: &'a Lanes,
+    names: Names,
+    but: &[u16],
+) -> Result<Vec<(Pos, &'a Event)>, AllocError>
+    ensures { IfOk result (λ events. entries_by deref events.items
+        ≡ map.entries (events_on (has_name names) (merged (lanes_but but.now lanes.now)))) }
+{
     let mut events = Vec::new(alloc);
     for (cpu, lane) in lanes.lanes() {
-        push_lane(&mut events, cpu, &lane, names)?;
+        push_unless(&mut events, but, cpu, &lane, names)?;
     }
     sort_by_place(&mut events)?;
     Ok(events)
+}
+
+/// Adds the events of a lane that have one of the names, with their places, unless its CPU is among
+/// some. What it added before a refusal for memory stays.
+fn push_unless<'a>(
+    events: &mut Vec<(Pos, &'a Event)>,
+    but: &[u16],
+    cpu: u16,
+    lane: &Lane<'a>,
+    names: Names,
+) -> Result<(), AllocError>
+    ensures { OnOk result (entries_by deref events.new.items ≡ entries_by deref events.old.items
+        ++ cond (is_among but.now cpu) []
+        (filter (λ entry. has_name names (name_of entry.1.body)) (placed (cpu, lane.now)))) }
+{
+    if but.contains(&cpu) {
+        return Ok(());
+    }
+    push_lane(events, cpu, lane, names)
 }
 
 /// Adds the events of a lane that have one of the names, with their places. What it added before a

@@ -1,0 +1,72 @@
+//! Tables from which the events of a lane go: what is kept of other lanes stays as it is.
+
+ghost use Rattle.std.specs.Prelude.{◌≡◌, ◌+◌, ◌≤◌, None, Some, Ok, IfSome, OnOk};
+ghost use Rattle.std.specs.Option.{is_none};
+ghost use Rattle.std.specs.FinMap as map;
+ghost use Rattle.ft_hist.specs.Steps.{StepsGrow};
+ghost use Rattle.ft_lanes.specs.Held.{Lane};
+ghost use Rattle.ft_replay.specs.Costs.{count_on_lane};
+ghost use Rattle.ft_replay.specs.Deferral.{IsPlainLane};
+ghost use Rattle.ft_replay.specs.Edited.{kept_of};
+ghost use Rattle.ft_board.specs.KeptShelves.{AreKeptOf};
+ghost use Rattle.ft_board.specs.inner.ButOneLane.{AreKeptWithoutLane};
+
+use crate::repair::put_back;
+use ft_base::Content;
+use ft_fields::Pos;
+use ft_hist::Work;
+use ft_kept::Tables;
+use ft_replay::Kept;
+use std::alloc::AllocError;
+
+/// The events of a CPU's lane, which is still held, go from the tables. Where memory runs out, the
+/// tables are given up; events that are hits of triggers without a variable alone take none.
+pub(crate) fn let_lane_go(
+    kept: &mut Option<Tables>,
+    content: &Content,
+    cpu: u16,
+    work: &mut Work,
+) -> Kept
+    requires { IfSome kept.old (AreKeptOf content.now) }
+    ensures kept { IfSome kept.new (AreKeptWithoutLane content.now cpu) }
+    ensures deferred { kept.old ≡ None → kept.new ≡ None }
+    ensures answer { result ≡ kept_of (is_none kept.new) }
+    ensures now { IsPlainLane content.now.triggers content.now.lanes cpu
+        → kept.new ≡ None → kept.old ≡ None }
+    ensures evals { (lane : Lane) → map.get content.now.lanes cpu ≡ Some lane
+        → work.new.evals ≤ work.old.evals + count_on_lane content.now.triggers lane }
+    ensures grow { StepsGrow work.old work.new }
+{
+    let Some(mut tables) = kept.take() else {
+        return Kept::Later;
+    };
+    let repaired = take_lane(&mut tables, content, cpu, work);
+    put_back(kept, tables, repaired)
+}
+
+/// The events of a CPU's lane go from tables, in order of their lines. Refused for memory, and then
+/// the tables are of no use any more.
+fn take_lane(
+    tables: &mut Tables,
+    content: &Content,
+    cpu: u16,
+    work: &mut Work,
+) -> Result<(), AllocError>
+    requires { AreKeptOf content.now tables.old }
+    ensures kept { OnOk result (AreKeptWithoutLane content.now cpu tables.new) }
+    ensures memory { IsPlainLane content.now.triggers content.now.lanes cpu → result ≡ Ok tt }
+    ensures evals { (lane : Lane) → map.get content.now.lanes cpu ≡ Some lane
+        → work.new.evals ≤ work.old.evals + count_on_lane content.now.triggers lane }
+    ensures grow { StepsGrow work.old work.new }
+{
+    let (lanes, triggers) = (content.lanes(), content.triggers());
+    let Some(lines) = lanes.lane(cpu) else {
+        return Ok(());
+    };
+    for (line, event) in lines {
+        let stamp = event.stamp;
+        let pos = Pos { stamp, cpu, line };
+        tables.event_goes(triggers, lanes, pos, event, work)?;
+    }
+    Ok(())
+}
