@@ -5,29 +5,35 @@
 
 writes FOLDER/script and FOLDER/trace1 and on, one for each CPU, of so many events together. Tables of the least size fill
 up, since keys are many; triggers save and read variables, lanes go and come again, and each kind of edit comes, some of
-them refused.
+them refused. Triggers and filters have every form that random_texts.py draws.
 """
 
 import random
 import sys
 
-NAMES = ["sched_waking", "sched_wakeup", "sched_wakeup_new", "sched_switch"]
-COMMS = ["cyclictest", "my app 2", "kworker/0:1", "sh"]
+# Nothing is written beside the sources.
+sys.dont_write_bytecode = True
+
+import random_texts
+from random_texts import COMMS, EVENTS, STATES
+
 CPUS, STAMPS = 3, 3 * 10**6
 
 
 def line(draw, cpu):
     stamp, pid = draw.randrange(STAMPS), draw.randrange(160)
-    comm, prio, name = draw.choice(COMMS), draw.randrange(-2, 140), draw.choice(NAMES)
+    comm, prio, name = draw.choice(COMMS), draw.randrange(-2, 140), draw.choice(EVENTS)
     head = f" sim-{draw.randrange(9)} [{cpu:03}] d.h.. {stamp // 10**6}.{stamp % 10**6:06}: {name}: "
     if name == "sched_switch":
-        return head + f"prev_comm=sim prev_pid=1 prev_prio=120 prev_state=S ==> next_comm={comm} next_pid={pid} next_prio={prio}"
+        return head + f"prev_comm=sim prev_pid=1 prev_prio=120 prev_state={draw.choice(STATES)} ==> next_comm={comm} next_pid={pid} next_prio={prio}"
     return head + f"comm={comm} pid={pid} prio={prio} target_cpu=001"
 
 
 def trigger(draw):
-    """A trigger's text: a saver on some event, a reader, or a plain one."""
-    event = draw.choice(NAMES)
+    """A trigger's text: one of any form, or a saver on some event, a reader or a plain one, whose keys often match."""
+    event = draw.choice(EVENTS)
+    if draw.randrange(3) == 0:
+        return f"attach {event} {random_texts.trigger(draw, event)}"
     side = "next_" if event == "sched_switch" else ""
     key = draw.choice(["pid"] * 8 + ["comm", "prio.log2", "pid.buckets=8", "comm,pid", "pid.hex"])
     keys = ",".join(side + item for item in key.split(","))
@@ -46,7 +52,9 @@ def trigger(draw):
 
 
 def condition(draw):
-    """A filter that each event name has the fields of."""
+    """A filter that each event name has the fields of, or one of any form on some event."""
+    if draw.randrange(2):
+        return random_texts.condition(draw, draw.choice(EVENTS))
     return draw.choice(["common_pid < 6", "common_cpu == 0", "common_cpu != 1 && common_pid & 3", "common_pid >= 2"])
 
 
