@@ -1,63 +1,57 @@
 //! What an event that comes or goes changes elsewhere. Each table has room for two keys.
 
-use super::trial::{READER, SAVER, Trial, runs, wakes};
+use super::trial::{Trial, What};
 use std::test::*;
+
+/// Three keys wake, and the third one runs.
+const THREE_KEYS: [What; 4] = [
+    What::Wakes(10, 1),
+    What::Wakes(20, 2),
+    What::Wakes(30, 3),
+    What::Runs(40, 3),
+];
+
+/// A key wakes twice and runs twice.
+const ONE_KEY: [What; 4] = [
+    What::Wakes(10, 1),
+    What::Wakes(20, 1),
+    What::Runs(30, 1),
+    What::Runs(45, 1),
+];
 
 /// A dropped hit saves nothing. As its key comes into the saver's table it saves, and as the key
 /// goes out it doesn't any more.
 #[test]
 fn a_key_that_comes_in_saves(rt: HostRuntime) -> Result<(), Fail> {
-    let events = [wakes(10, 1)?, wakes(20, 2)?, wakes(30, 3)?, runs(40, 3)?];
-    let trial = Trial::of(rt.alloc(), &events)?;
-    let full = trial.comes(1)?.comes(2)?.comes(3)?.comes(4)?;
-    assert_eq!(rt; full.totals(SAVER), Some((2, 2, 1)));
-    assert_eq!(rt; full.row(SAVER, 3), None);
-    assert_eq!(rt; full.totals(READER), Some((0, 0, 0)));
-    assert_eq!(rt; full.readings(), Some(0));
+    let full = Trial::of(rt.alloc(), &THREE_KEYS)?.come(&[1, 2, 3, 4])?;
+    assert!(rt; full.counts((2, 2, 1), (0, 0, 0)) && full.pairs_nothing());
     let room = full.goes(1)?;
-    assert_eq!(rt; room.totals(SAVER), Some((2, 2, 0)));
-    assert_eq!(rt; room.row(SAVER, 3), Some((1, 0)));
-    assert_eq!(rt; room.row(READER, 3), Some((1, 10)));
-    assert_eq!(rt; (room.readings(), room.found(4)), (Some(1), Some(3)));
+    assert!(rt; room.counts((2, 2, 0), (1, 1, 0)) && room.pairs(4, 3, 3, 10));
     let full = room.comes(1)?;
-    assert_eq!(rt; full.totals(SAVER), Some((2, 2, 1)));
-    assert_eq!(rt; full.totals(READER), Some((0, 0, 0)));
-    assert_eq!(rt; full.readings(), Some(0));
+    assert!(rt; full.counts((2, 2, 1), (0, 0, 0)) && full.pairs_nothing());
     Ok(())
 }
 
 /// A reading finds the last saving before it, and unsets the variable for the reading behind it.
 #[test]
 fn a_saving_comes_between(rt: HostRuntime) -> Result<(), Fail> {
-    let events = [wakes(10, 1)?, wakes(20, 1)?, runs(30, 1)?, runs(45, 1)?];
-    let trial = Trial::of(rt.alloc(), &events)?;
-    let older = trial.comes(1)?.comes(3)?.comes(4)?;
-    assert_eq!(rt; older.row(READER, 1), Some((1, 20)));
-    assert_eq!(rt; (older.readings(), older.found(3)), (Some(1), Some(1)));
+    let older = Trial::of(rt.alloc(), &ONE_KEY)?.come(&[1, 3, 4])?;
+    assert!(rt; older.counts((1, 1, 0), (1, 1, 0)) && older.pairs(3, 1, 1, 20));
     let newer = older.comes(2)?;
-    assert_eq!(rt; newer.totals(SAVER), Some((2, 1, 0)));
-    assert_eq!(rt; newer.row(READER, 1), Some((1, 10)));
-    assert_eq!(rt; (newer.readings(), newer.found(3)), (Some(1), Some(2)));
+    assert!(rt; newer.counts((2, 1, 0), (1, 1, 0)) && newer.pairs(3, 2, 1, 10));
     let later = newer.goes(3)?;
-    assert_eq!(rt; later.row(READER, 1), Some((1, 25)));
-    assert_eq!(rt; (later.readings(), later.found(4)), (Some(1), Some(2)));
+    assert!(rt; later.counts((2, 1, 0), (1, 1, 0)) && later.pairs(4, 2, 1, 25));
     Ok(())
 }
 
 /// A reading whose saving goes finds the one before, and where there is none it is no hit.
 #[test]
 fn a_saving_goes_that_was_found(rt: HostRuntime) -> Result<(), Fail> {
-    let events = [wakes(10, 1)?, wakes(20, 1)?, runs(30, 1)?];
-    let trial = Trial::of(rt.alloc(), &events)?;
-    let both = trial.comes(1)?.comes(2)?.comes(3)?;
-    assert_eq!(rt; both.row(READER, 1), Some((1, 10)));
-    assert_eq!(rt; (both.readings(), both.found(3)), (Some(1), Some(2)));
-    let older = both.goes(2)?;
-    assert_eq!(rt; older.row(READER, 1), Some((1, 20)));
-    assert_eq!(rt; (older.readings(), older.found(3)), (Some(1), Some(1)));
+    let newer = Trial::of(rt.alloc(), &ONE_KEY)?.come(&[1, 2, 3])?;
+    assert!(rt; newer.counts((2, 1, 0), (1, 1, 0)) && newer.pairs(3, 2, 1, 10));
+    let older = newer.goes(2)?;
+    assert!(rt; older.counts((1, 1, 0), (1, 1, 0)) && older.pairs(3, 1, 1, 20));
     let none = older.goes(1)?;
-    assert_eq!(rt; none.totals(SAVER), Some((0, 0, 0)));
-    assert_eq!(rt; none.totals(READER), Some((0, 0, 0)));
-    assert_eq!(rt; none.readings(), Some(0));
+    assert!(rt; none.counts((0, 0, 0), (0, 0, 0)) && none.pairs_nothing());
     Ok(())
 }

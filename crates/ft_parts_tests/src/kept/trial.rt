@@ -8,24 +8,32 @@ use ft_kept::Tables;
 use ft_lanes::Lanes;
 use ft_maps::{get, len, put, take};
 use ft_pairs::Role;
-use ft_table::Totals;
 use ft_trigger::parse;
-use std::alloc::{AllocError, Global};
+use std::alloc::Global;
 use std::collections::BTreeMap;
 use std::marker::Model;
 use std::test::*;
 
 /// The id of the trigger that saves the stamps of wakings, by PID.
-pub(super) const SAVER: u32 = 1;
+const SAVER: u32 = 1;
 
 /// The id of the one that reads them at switches, by the next PID.
-pub(super) const READER: u32 = 2;
+const READER: u32 = 2;
 
 /// The saver's text.
 const SAVES: &[u8] = b"hist:keys=pid:ts0=common_timestamp.usecs";
 
 /// The reader's text, which sums latencies.
 const READS: &[u8] = b"hist:keys=next_pid:vals=$lat:lat=common_timestamp.usecs-$ts0";
+
+/// What happens at a stamp to the task of a PID.
+#[derive(Clone, Copy)]
+pub(super) enum What {
+    /// It is woken.
+    Wakes(u16, i32),
+    /// CPU 0 switches to it.
+    Runs(u16, i32),
+}
 
 /// The two triggers, events that are held on CPU 0, and the tables that are kept of those of them
 /// that have come. A table has room for two keys.
@@ -56,8 +64,8 @@ impl Model for Trial {
 }
 
 impl Trial {
-    /// Events, held from line 1 on. None has come.
-    pub(super) fn of(alloc: Global, events: &[Event]) -> Result<Trial, Fail> {
+    /// What happens on CPU 0, held from line 1 on. None of it has come.
+    pub(super) fn of(alloc: Global, events: &[What]) -> Result<Trial, Fail> {
         let lanes = holding(alloc, events)?;
         let mut triggers = BTreeMap::new(alloc);
         let mut tables = Tables::new(alloc);
@@ -71,6 +79,15 @@ impl Trial {
             tables,
             come: BTreeMap::new(alloc),
         })
+    }
+
+    /// The events of lines come, one after the other.
+    pub(super) fn come(self, lines: &[u32]) -> Result<Trial, Fail> {
+        let mut trial = self;
+        for line in lines {
+            trial = trial.comes(*line)?;
+        }
+        Ok(trial)
     }
 
     /// The event of a line comes, which hasn't come yet.
@@ -123,30 +140,44 @@ impl Trial {
         })
     }
 
-    /// The hits, entries and drops of a trigger's table.
-    pub(super) fn totals(&self, id: u32) -> Option<(u64, u64, u64)> {
-        let Totals {
-            hits,
-            entries,
-            dropped,
-        } = self.tables.shelf(id)?.table().totals();
-        Some((hits, entries, dropped))
+    /// Whether the tables have these hits, entries and drops: the saver's, then the reader's.
+    pub(super) fn counts(&self, saver: (u64, u64, u64), reader: (u64, u64, u64)) -> bool {
+        self.totals(SAVER) == Some(saver) && self.totals(READER) == Some(reader)
     }
 
-    /// The row of a PID in a trigger's table: its hits, and the sum of its latencies.
-    pub(super) fn row(&self, id: u32, pid: i64) -> Option<(u64, u64)> {
+    /// The hits, entries and drops of a trigger's table.
+    fn totals(&self, id: u32) -> Option<(u64, u64, u64)> {
+        let totals = self.tables.shelf(id)?.table().totals();
+        Some((totals.hits, totals.entries, totals.dropped))
+    }
+
+    /// Whether one reading found something: that of a line found the saving of this line, and the
+    /// reader has one hit of this PID, with this latency.
+    pub(super) fn pairs(&self, read: u32, saved: u32, pid: i64, latency: u64) -> bool {
+        self.found(read) == Some(saved)
+            && self.readings() == Some(1)
+            && self.latencies(pid) == Some((1, latency))
+    }
+
+    /// Whether no reading found anything.
+    pub(super) fn pairs_nothing(&self) -> bool {
+        self.readings() == Some(0)
+    }
+
+    /// The reader's row of a PID: its hits, and the sum of their latencies.
+    fn latencies(&self, pid: i64) -> Option<(u64, u64)> {
         let key = Key::of_one(Part::Num(pid));
-        let row = self.tables.shelf(id)?.table().row(&key)?;
+        let row = self.tables.shelf(READER)?.table().row(&key)?;
         Some((row.hitcount, row.sums[0]))
     }
 
     /// How many readings found something.
-    pub(super) fn readings(&self) -> Option<usize> {
+    fn readings(&self) -> Option<usize> {
         Some(len(self.tables.shelf(READER)?.readings()))
     }
 
     /// The line of the saving that the reading of a line found.
-    pub(super) fn found(&self, line: u32) -> Option<u32> {
+    fn found(&self, line: u32) -> Option<u32> {
         let read = place(self.lanes.get(0, line)?, line);
         let saved = get(self.tables.shelf(READER)?.readings(), &read)?;
         Some(saved.line)
@@ -164,56 +195,50 @@ fn place(event: &Event, line: u32) -> Pos
     }
 }
 
-/// Lanes that hold events.
-fn holding(alloc: Global, events: &[Event]) -> Result<Lanes, AllocError> {
+/// Lanes that hold what happens.
+fn holding(alloc: Global, events: &[What]) -> Result<Lanes, Fail> {
     let mut lanes = Lanes::new(alloc);
-    for event in events {
+    for what in events {
+        let event = event_of(*what)?;
         if lanes.next_line(event.cpu) <= 4_294_967_295 {
-            lanes.push(*event)?;
+            lanes.push(event)?;
         }
     }
     Ok(lanes)
 }
 
-/// A task of such a PID wakes.
-pub(super) fn wakes(stamp: u16, pid: i32) -> Result<Event, &'static str> {
-    let (comm, prio, target_cpu) = (name()?, 120, 0);
-    let body = Body::Waking(Wake {
-        comm,
-        pid,
-        prio,
-        target_cpu,
-    });
-    event_of(stamp, body)
-}
-
-/// CPU 0 switches to a task of such a PID.
-pub(super) fn runs(stamp: u16, pid: i32) -> Result<Event, &'static str> {
-    let comm = name()?;
-    let body = Body::Switch(Turn {
-        prev_comm: comm,
-        prev_pid: 0,
-        prev_prio: 120,
-        prev_state: comm,
-        next_comm: comm,
-        next_pid: pid,
-        next_prio: 120,
-    });
-    event_of(stamp, body)
-}
-
-/// An event on CPU 0.
-fn event_of(stamp: u16, body: Body) -> Result<Event, &'static str> {
+/// The event that is traced of what happens.
+fn event_of(what: What) -> Result<Event, &'static str> {
+    let comm = Comm::of(b"w").ok_or("the text is too long for a name")?;
+    let prio = 120;
+    let (stamp, body) = match what {
+        What::Wakes(stamp, pid) => (
+            stamp,
+            Body::Waking(Wake {
+                comm,
+                pid,
+                prio,
+                target_cpu: 0,
+            }),
+        ),
+        What::Runs(stamp, next_pid) => (
+            stamp,
+            Body::Switch(Turn {
+                prev_comm: comm,
+                prev_pid: 0,
+                prev_prio: prio,
+                prev_state: comm,
+                next_comm: comm,
+                next_pid,
+                next_prio: prio,
+            }),
+        ),
+    };
     Ok(Event {
-        task: name()?,
+        task: comm,
         pid: 0,
         cpu: 0,
         stamp: u64::from(stamp),
         body,
     })
-}
-
-/// The name of every task.
-fn name() -> Result<Comm, &'static str> {
-    Comm::of(b"w").ok_or("the text is too long for a name")
 }
