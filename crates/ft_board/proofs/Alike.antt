@@ -143,7 +143,7 @@ entry_moves at values others same ops more hits read (Reads saver) (Some act) al
   λ key. is.1 key ∙ ap (λ (f : Pos → List ℤ). one_hit act.0 (option_map f read) key) (λ i saved. sym (same at.pos act.1 (Some saved)) i),
 )
 
-same_values : (old new : Triggers) (id : ℕ) → map.get new id ≡ map.get old id → (pos : Pos) (event : Traced) (saved : Option Pos) → values_by new id pos event saved ≡ values_by old id pos event saved
+pub same_values : (old new : Triggers) (id : ℕ) → map.get new id ≡ map.get old id → (pos : Pos) (event : Traced) (saved : Option Pos) → values_by new id pos event saved ≡ values_by old id pos event saved
 unfolding values_by
 same_values old new id same pos event saved = ap (λ (o : Option Hist). option_map_or (λ (h : Hist). values_at h pos event saved) o []) same
 

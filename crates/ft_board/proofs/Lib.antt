@@ -4,6 +4,7 @@ pub mod Joining
 pub mod Families
 pub mod Outside
 pub mod Putting
+pub mod Staying
 pub mod Leaving
 pub mod KeptBoardActs
 pub mod KeptBoardBuilt

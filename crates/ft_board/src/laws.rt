@@ -1,6 +1,6 @@
 //! Laws: functions that do nothing, whose clauses are proved.
 
-ghost use Rattle.std.specs.Prelude.{◌≡◌, ℕ, Some};
+ghost use Rattle.std.specs.Prelude.{◌≡◌, ℕ, false, Some};
 ghost use Rattle.std.specs.FinMap as map;
 ghost use Rattle.ft_hist.specs.Hist.{Hist};
 ghost use Rattle.ft_fields.specs.declared.pos.Pos.{Pos};
@@ -9,6 +9,7 @@ ghost use Rattle.ft_pairs.specs.declared.at.At.{At};
 ghost use Rattle.ft_pairs.specs.declared.role.Variable.{Variable};
 ghost use Rattle.ft_table.specs.Rows.{AllFit};
 ghost use Rattle.ft_base.specs.Base.{Triggers};
+ghost use Rattle.ft_base.specs.Roles.{is_reader};
 ghost use Rattle.ft_replay.specs.Merged.{Events};
 ghost use Rattle.ft_replay.specs.Found.{pairs_in, saving_found};
 ghost use Rattle.ft_replay.specs.Hits.{hits_of, table_for};
@@ -50,3 +51,13 @@ pub fn kept_shelves()
     ft_table::laws::one_more_hit();
     ft_pairs::laws::one_source();
 }
+
+/// A law: a trigger that reads nothing keeps its table, whatever other triggers come, go or get
+/// another filter.
+pub fn others_stay()
+    ensures { (triggers others : Triggers) (events : Events) (old new : Shelves)
+        → AreKept triggers events old → AreKept others events new → (id : ℕ) (hist : Hist)
+        → map.get triggers id ≡ Some hist → map.get others id ≡ Some hist
+        → is_reader hist.variable ≡ false → (shelf its : Shelved)
+        → map.get old id ≡ Some shelf → map.get new id ≡ Some its → its.table ≡ shelf.table }
+{}

@@ -29,4 +29,4 @@ mod repair;
 mod told;
 
 pub use kept::KeptBoard;
-pub use laws::{kept_board_keeps, kept_shelves};
+pub use laws::{kept_board_keeps, kept_shelves, others_stay};
