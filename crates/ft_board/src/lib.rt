@@ -3,8 +3,9 @@
 //!
 //! One event more or less changes a few entries. A trigger that is attached or removed leaves the
 //! tables of the others as they are; one that gets another filter leaves all but its own and those
-//! of the triggers that read what it saves. After other edits all are built anew. Where memory runs
-//! out for that, the edit stands, and the next answer builds them.
+//! of the triggers that read what it saves. The events of a lane that is smaller than what stays go
+//! one by one. After other edits all are built anew. Where memory runs out for that, the edit
+//! stands, and the next answer builds them.
 //!
 //! ```ignore
 //! let mut board = KeptBoard::new(rt.alloc());
