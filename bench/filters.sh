@@ -5,7 +5,7 @@
 set -euo pipefail
 
 here=$(dirname -- "$(realpath -- "${BASH_SOURCE[0]}")")
-histdesk=$here/../histdesk
+histdesk=${HISTDESK:-$here/../histdesk}
 events=${1:-1000000}
 times=5
 
