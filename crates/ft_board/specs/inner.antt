@@ -4,4 +4,5 @@ pub mod ButOneEvent
 pub mod ButOneLane
 pub mod ButOneTrigger
 pub mod Repaired
+pub mod SomeLanes
 pub mod Told

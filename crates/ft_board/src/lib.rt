@@ -20,6 +20,7 @@
 mod join;
 mod kept;
 mod lane_goes;
+mod lanes_come;
 pub mod laws;
 mod leave;
 mod rebuild;
