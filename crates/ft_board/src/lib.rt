@@ -2,8 +2,9 @@
 //! answer replays the events.
 //!
 //! One event more or less changes a few entries. A trigger that is attached or removed leaves the
-//! tables of the others as they are; after other edits all are built anew. Where memory runs out for
-//! that, the edit stands, and the next answer builds them.
+//! tables of the others as they are. Where fewer events are loaded or unloaded than stay, they come
+//! or go one by one; after other edits all is built anew. Where memory runs out for that, the edit
+//! stands, and the next answer builds it.
 //!
 //! ```ignore
 //! let mut board = KeptBoard::new(rt.alloc());
