@@ -67,6 +67,20 @@ load-reachable base es new count is at answer =
       ] refl
     ] refl (sym (after_load-cases base es) ∙ answer)
 
+-- what a load gives, where no event's lane was held
+pub load-gives : (base : Base) (es : List Traced) (new : Base) (count : ℕ) → after_load base es ≡ Ok (new, count) → (first_held base.lanes es ≡ None) × (record base { lanes = with_lanes base.lanes es } ≡ new)
+load-gives base es new count answer =
+    elim (first_held base.lanes es) as (λ o. loaded base es o (is_full base es) ≡ Ok (new, count) → (o ≡ None) × (record base { lanes = with_lanes base.lanes es } ≡ new)) [
+      | Some cpu ↦ λ e. cc
+      | None ↦ λ e. (
+        refl,
+        elim (is_full base es) as (λ b. loaded base es None b ≡ Ok (new, count) → record base { lanes = with_lanes base.lanes es } ≡ new) [
+          | true ↦ λ full. cc
+          | false ↦ λ few. same-base _ new (length es) count few
+        ] e,
+      )
+    ] (sym (after_load-cases base es) ∙ answer)
+
 -- the cases of an attachment, by the test of what is used up and by what stands against its variable
 abbrev attached : Base → Hist → Bool → Option Refused → Result (Base × ℕ) Refused
 attached base hist used refused =

@@ -198,6 +198,14 @@ free-from lanes (e ∷ es) none q is =
     let step = free-step lanes e es _ refl (sym (first_held-cons lanes e es) ∙ none) in
     ⊎_elim (λ h. ap (map.get lanes) (sym (eqb-true e.cpu q h)) ∙ step.0) (λ h. free-from lanes es step.1 q h) (or_cases _ _ is)
 
+-- so what was held stays as it was
+pub held-stays : (lanes : Lanes) (es : List Traced) → first_held lanes es ≡ None → (q : ℕ) (b : Bool) → map.contains_key lanes q ≡ b → cond b (map.get (with_lanes lanes es) q) None ≡ map.get lanes q
+held-stays lanes es none q true is = with_lanes-at lanes es q ∙ elim (has_cpu es q) as (λ b. has_cpu es q ≡ b → cond b (Some (lane_of q es)) (map.get lanes q) ≡ map.get lanes q) [
+  | true ↦ λ has. let both : ◌≡◌ {A = Bool} false true = ap is_some (sym (free-from lanes es none q has)) ∙ is in absurd cc
+  | false ↦ λ _. refl
+] refl
+held-stays lanes es none q false is = sym (missing (map.get lanes q) is)
+
 -- and new lanes have numbers for all that may be held
 pub room-from : (lanes : Lanes) (es : List Traced) → first_held lanes es ≡ None → length es ≤ event_limit → HasRoom lanes es
 room-from lanes es none few q is =

@@ -87,7 +87,7 @@ idle_in triggers id event none =
           ap (with_event event) (no_hit hist event other.1)
     ] refl
 
-named_at : (triggers : Triggers) (id : ℕ) (o : Option Traced) → option_and_then (λ (e : Traced). act_in (map.get triggers id) e) (option_filter (is_named triggers) o) ≡ option_and_then (λ (e : Traced). act_in (map.get triggers id) e) o
+pub named_at : (triggers : Triggers) (id : ℕ) (o : Option Traced) → option_and_then (λ (e : Traced). act_in (map.get triggers id) e) (option_filter (is_named triggers) o) ≡ option_and_then (λ (e : Traced). act_in (map.get triggers id) e) o
 named_at triggers id None = refl
 named_at triggers id (Some event) =
     elim (is_named triggers event) as (λ (b : Bool). is_named triggers event ≡ b → option_and_then (λ (e : Traced). act_in (map.get triggers id) e) (cond b (Some event) None) ≡ act_in (map.get triggers id) event) [

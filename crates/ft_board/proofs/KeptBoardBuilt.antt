@@ -124,11 +124,11 @@ more_held lanes events pos event all held q x is =
     ] refl (sym at ∙ is)
 
 module _ (triggers : Triggers) (lanes : Lanes) where
-  -- kept of some events, with which the rest is all that any trigger asks for
-  pub record IsBuilt (shelves : Shelves) (rest : List (Pos × Traced)) : Type 0 where
+  -- kept of some events, which with the rest are those that are wanted
+  pub record IsBuilt (wanted : Events) (shelves : Shelves) (rest : List (Pos × Traced)) : Type 0 where
     pub events : Events
     pub kept : AreKept triggers events shelves
-    pub all : fold merged_with events rest ≡ named triggers (merged lanes)
+    pub all : fold merged_with events rest ≡ wanted
     pub held : AllHeld lanes events
     pub rest_held : AllByRecursion (λ e. held_at lanes e.0 ≡ Some e.1) rest
     pub absent : AllByRecursion (λ e. map.get events e.0 ≡ None) rest
@@ -141,7 +141,7 @@ module _ (triggers : Triggers) (lanes : Lanes) where
       ∙ or_none (find pos_cmp q (map.entries events))
       ∙ sym (get-entries events q))
 
-  pub built_none : (shelves : Shelves) → AreNew triggers shelves → IsBuilt shelves (map.entries (named triggers (merged lanes)))
+  pub built_none : (shelves : Shelves) → AreNew triggers shelves → IsBuilt (named triggers (merged lanes)) shelves (map.entries (named triggers (merged lanes)))
   built_none shelves new =
       let events = named triggers (merged lanes) in
       record {
@@ -154,8 +154,8 @@ module _ (triggers : Triggers) (lanes : Lanes) where
         sorted = strictly_sorted pos_cmp (map.entries events) (entries_sorted events);
       }
 
-  pub can_come : (shelves : Shelves) (e : Pos × Traced) (rest : List (Pos × Traced)) → IsBuilt shelves (e ∷ rest) → EventCanCome triggers lanes e.0 e.1 shelves
-  can_come shelves e rest is = record {
+  pub can_come : (wanted : Events) (shelves : Shelves) (e : Pos × Traced) (rest : List (Pos × Traced)) → IsBuilt wanted shelves (e ∷ rest) → EventCanCome triggers lanes e.0 e.1 shelves
+  can_come wanted shelves e rest is = record {
     events = is.events;
     absent = is.absent.0;
     held = acts_held triggers lanes (map.insert is.events e.0 e.1) (more_held lanes is.events e.0 e.1 is.held is.rest_held.0);
@@ -171,8 +171,8 @@ module _ (triggers : Triggers) (lanes : Lanes) where
         (come events absent (acts_held triggers lanes (map.insert events pos event) held) (by_shelves triggers old kept.each (admits_on old) (acts_of triggers events) (kept_on old) kept.kept));
   }
 
-  pub built_more : (old new : Shelves) (e : Pos × Traced) (rest : List (Pos × Traced)) → IsBuilt old (e ∷ rest) → FormsStay old new → EventHasCome triggers lanes e.0 e.1 old new → IsBuilt new rest
-  built_more old new e rest is forms come =
+  pub built_more : (wanted : Events) (old new : Shelves) (e : Pos × Traced) (rest : List (Pos × Traced)) → IsBuilt wanted old (e ∷ rest) → FormsStay old new → EventHasCome triggers lanes e.0 e.1 old new → IsBuilt wanted new rest
+  built_more wanted old new e rest is forms come =
       let held = more_held lanes is.events e.0 e.1 is.held is.rest_held.0 in
       let apart = all_above pos_cmp e.0 (λ q. eq_by_cmp pos_cmp q e.0 ≡ false) (λ q less. above-is pos_cmp pos_cmp_total e.0 q less) rest (sorted_head pos_cmp e.0 (keys_of rest) is.sorted) in
       record {
@@ -186,7 +186,7 @@ module _ (triggers : Triggers) (lanes : Lanes) where
       }
 
   -- kept of the named events is kept of all
-  pub built_all : (shelves : Shelves) → IsBuilt shelves [] → AreKept triggers (merged lanes) shelves
+  pub built_all : (shelves : Shelves) → IsBuilt (named triggers (merged lanes)) shelves [] → AreKept triggers (merged lanes) shelves
   built_all shelves is =
       let kept = subst (λ (events : Events). AreKept triggers events shelves) is.all is.kept in
       record {

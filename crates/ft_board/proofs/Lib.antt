@@ -12,6 +12,7 @@ pub mod KeptBoardLanes
 pub mod OneTrigger
 pub mod KeptBoardRepair
 pub mod LaneGoes
+pub mod LanesCome
 pub mod KeptBoardTold
 pub mod ByRole
 pub mod KeptEntries

@@ -5,4 +5,5 @@ pub mod ButOneLane
 pub mod ButOneTrigger
 pub mod Idle
 pub mod Repaired
+pub mod SomeLanes
 pub mod Told

@@ -4,6 +4,7 @@ ghost use Rattle.std.specs.Prelude.{◌≡◌, true, false};
 
 use crate::join::join;
 use crate::lane_goes::let_lane_go;
+use crate::lanes_come::{cpus_before, let_lanes_come};
 use crate::leave::leave;
 use crate::rebuild::renew;
 use crate::refilter::make_way;
@@ -75,8 +76,18 @@ impl Board for KeptBoard {
     ghost shown = { λ b. b };
 
     fn load(&mut self, events: Vec<Event>) -> Result<Done<u64>, Refused> {
+        let before = cpus_before(self.alloc, self.content.lanes(), &events);
         let value = self.content.load(events)?;
-        let kept = renew(&mut self.kept, self.alloc, &self.content, &mut self.work);
+        let kept = match before {
+            Some(before) => let_lanes_come(
+                &mut self.kept,
+                self.alloc,
+                &self.content,
+                &before,
+                &mut self.work,
+            ),
+            None => renew(&mut self.kept, self.alloc, &self.content, &mut self.work),
+        };
         Ok(Done { value, kept })
     }
 

@@ -3,9 +3,9 @@
 //!
 //! One event more or less changes a few entries. A trigger that is attached or removed leaves the
 //! tables of the others as they are; one that gets another filter leaves all but its own and those
-//! of the triggers that read what it saves. The events of a lane that is smaller than what stays go
-//! one by one. After other edits all are built anew. Where memory runs out for that, the edit
-//! stands, and the next answer builds them.
+//! of the triggers that read what it saves. Where fewer events are loaded or unloaded than stay,
+//! they come or go one by one; where more are, all is built anew. Where memory runs out for that,
+//! the edit stands, and the next answer builds it.
 //!
 //! ```ignore
 //! let mut board = KeptBoard::new(rt.alloc());
@@ -22,6 +22,7 @@
 mod join;
 mod kept;
 mod lane_goes;
+mod lanes_come;
 pub mod laws;
 mod leave;
 mod rebuild;

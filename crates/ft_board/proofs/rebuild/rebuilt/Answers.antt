@@ -27,7 +27,7 @@ loop-pos-init c =
     let items : List (Pos × Bor Traced) = c.deref-pos-items.result.now in
     let all : entries_by deref items ≡ map.entries (named triggers (merged lanes)) = ap (entries_by deref) c.deref-pos-items.ensures.value ∙ c.in_ok-merged.ensures in
     record {
-      built = subst (λ (es : List (Pos × Traced)). IsBuilt triggers lanes c.in_ok-tables.tables es) (sym all) (built_none triggers lanes c.in_ok-tables.tables c.in_ok-tables.ensures);
+      built = subst (λ (es : List (Pos × Traced)). IsBuilt triggers lanes (named triggers (merged lanes)) c.in_ok-tables.tables es) (sym all) (built_none triggers lanes c.in_ok-tables.tables c.in_ok-tables.ensures);
       grow = grow_none _;
     }
 
@@ -38,23 +38,23 @@ pub event_comes-requires-clause-stamped : goal.event_comes-requires-clause-stamp
 event_comes-requires-clause-stamped c =
     let triggers : Triggers = seen nat_cmp c.args.triggers.now in
     let more = first c.deref-pos-items.result.now c.loop-pos.pos-index c.loop-pos-item.result c.loop-pos-test.true c.loop-pos-item.is in
-    let built = subst (λ (es : List (Pos × Traced)). IsBuilt triggers c.args.lanes.now c.loop-pos.tables es) more c.loop-pos.invariant.built in
+    let built = subst (λ (es : List (Pos × Traced)). IsBuilt triggers c.args.lanes.now (named triggers (merged c.args.lanes.now)) c.loop-pos.tables es) more c.loop-pos.invariant.built in
     (held_is c.args.lanes.now _ _ built.rest_held.0).1
 
 pub event_comes-requires-clause-can : goal.event_comes-requires-clause-can
 event_comes-requires-clause-can c =
     let triggers : Triggers = seen nat_cmp c.args.triggers.now in
     let more = first c.deref-pos-items.result.now c.loop-pos.pos-index c.loop-pos-item.result c.loop-pos-test.true c.loop-pos-item.is in
-    let built = subst (λ (es : List (Pos × Traced)). IsBuilt triggers c.args.lanes.now c.loop-pos.tables es) more c.loop-pos.invariant.built in
-    can_come triggers c.args.lanes.now c.loop-pos.tables _ _ built
+    let built = subst (λ (es : List (Pos × Traced)). IsBuilt triggers c.args.lanes.now (named triggers (merged c.args.lanes.now)) c.loop-pos.tables es) more c.loop-pos.invariant.built in
+    can_come triggers c.args.lanes.now (named triggers (merged c.args.lanes.now)) c.loop-pos.tables _ _ built
 
 pub loop-pos-preserved : goal.loop-pos-preserved
 loop-pos-preserved c =
     let triggers : Triggers = seen nat_cmp c.args.triggers.now in
     let more = first c.deref-pos-items.result.now c.loop-pos.pos-index c.loop-pos-item.result c.loop-pos-test.true c.loop-pos-item.is in
-    let built = subst (λ (es : List (Pos × Traced)). IsBuilt triggers c.args.lanes.now c.loop-pos.tables es) more c.loop-pos.invariant.built in
+    let built = subst (λ (es : List (Pos × Traced)). IsBuilt triggers c.args.lanes.now (named triggers (merged c.args.lanes.now)) c.loop-pos.tables es) more c.loop-pos.invariant.built in
     record {
-      built = built_more triggers c.args.lanes.now c.loop-pos.tables c.event_comes.new.self _ _ built c.in_ok-event_comes.ensures.forms c.in_ok-event_comes.ensures.right;
+      built = built_more triggers c.args.lanes.now (named triggers (merged c.args.lanes.now)) c.loop-pos.tables c.event_comes.new.self _ _ built c.in_ok-event_comes.ensures.forms c.in_ok-event_comes.ensures.right;
       grow = grow_more _ _ _ c.loop-pos.invariant.grow c.in_ok-event_comes.ensures.grow;
     }
 
@@ -63,4 +63,4 @@ returns-clause-kept c =
     let triggers : Triggers = seen nat_cmp c.args.triggers.now in
     let items : List (Pos × Bor Traced) = c.deref-pos-items.result.now in
     let none : entries_by deref (drop c.loop-pos.pos-index items) ≡ [] = ap (entries_by deref) (drop_all c.loop-pos.pos-index items c.loop-pos-test.false) in
-    built_all triggers c.args.lanes.now c.loop-pos.tables (subst (λ (es : List (Pos × Traced)). IsBuilt triggers c.args.lanes.now c.loop-pos.tables es) none c.loop-pos.invariant.built)
+    built_all triggers c.args.lanes.now c.loop-pos.tables (subst (λ (es : List (Pos × Traced)). IsBuilt triggers c.args.lanes.now (named triggers (merged c.args.lanes.now)) c.loop-pos.tables es) none c.loop-pos.invariant.built)

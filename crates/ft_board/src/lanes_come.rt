@@ -1,0 +1,87 @@
+//! Tables to which the events of new lanes come: what is kept of the others is repaired.
+
+ghost use Rattle.std.specs.Prelude.{◌≡◌, ◌+◌, ◌≤◌, None, IfOk, IfSome, OnOk};
+ghost use Rattle.std.specs.Option.{is_none};
+ghost use Rattle.std.specs.FinMap as map;
+ghost use Rattle.ft_hist.specs.Steps.{StepsGrow};
+ghost use Rattle.ft_replay.specs.Edited.{kept_of};
+ghost use Rattle.ft_board.specs.KeptShelves.{AreKeptOf};
+ghost use Rattle.ft_board.specs.inner.SomeLanes.{AreKeptOfLanes, count_coming};
+
+use crate::repair::put_back;
+use ft_base::Content;
+use ft_fields::Event;
+use ft_hist::Work;
+use ft_kept::Tables;
+use ft_lanes::Lanes;
+use ft_replay::{Kept, merged_events_but};
+use std::alloc::{AllocError, Global};
+
+/// The CPUs whose lanes are held, where fewer events come than are held and there is memory for it.
+pub(crate) fn cpus_before(alloc: Global, lanes: &Lanes, events: &[Event]) -> Option<Vec<u16>>
+    ensures { IfSome result (λ cpus. cpus.items ≡ map.keys lanes.now) }
+{
+    if events.len() as u64 >= lanes.len() {
+        return None;
+    }
+    match cpus_of(alloc, lanes) {
+        Ok(cpus) => Some(cpus),
+        Err(_) => None,
+    }
+}
+
+/// The CPUs of the lanes. Refused for memory.
+fn cpus_of(alloc: Global, lanes: &Lanes) -> Result<Vec<u16>, AllocError>
+    ensures { IfOk result (λ cpus. cpus.items ≡ map.keys lanes.now) }
+{
+    let mut cpus = Vec::new(alloc);
+    for (cpu, _) in lanes.lanes() {
+        cpus.push(cpu)?;
+    }
+    Ok(cpus)
+}
+
+/// The events of all lanes but those of some CPUs, which the tables have, come to the tables. Where
+/// memory runs out, the tables are given up.
+pub(crate) fn let_lanes_come(
+    kept: &mut Option<Tables>,
+    alloc: Global,
+    content: &Content,
+    before: &[u16],
+    work: &mut Work,
+) -> Kept
+    requires { IfSome kept.old (AreKeptOfLanes before.now content.now) }
+    ensures kept { IfSome kept.new (AreKeptOf content.now) }
+    ensures deferred { kept.old ≡ None → kept.new ≡ None }
+    ensures answer { result ≡ kept_of (is_none kept.new) }
+    ensures evals { work.new.evals ≤ work.old.evals + count_coming before.now content.now }
+    ensures grow { StepsGrow work.old work.new }
+{
+    let Some(mut tables) = kept.take() else {
+        return Kept::Later;
+    };
+    let repaired = put_lanes(&mut tables, alloc, content, before, work);
+    put_back(kept, tables, repaired)
+}
+
+/// The events of all lanes but those of some CPUs come to tables, in merged order. Refused for
+/// memory, and then the tables are of no use any more.
+fn put_lanes(
+    tables: &mut Tables,
+    alloc: Global,
+    content: &Content,
+    before: &[u16],
+    work: &mut Work,
+) -> Result<(), AllocError>
+    requires { AreKeptOfLanes before.now content.now tables.old }
+    ensures kept { OnOk result (AreKeptOf content.now tables.new) }
+    ensures evals { work.new.evals ≤ work.old.evals + count_coming before.now content.now }
+    ensures grow { StepsGrow work.old work.new }
+{
+    let (lanes, triggers) = (content.lanes(), content.triggers());
+    let events = merged_events_but(alloc, lanes, triggers, before)?;
+    for (pos, event) in &events {
+        tables.event_comes(triggers, lanes, *pos, event, work)?;
+    }
+    Ok(())
+}
