@@ -83,7 +83,9 @@ def first_wrong(row, told):
         bad = re.fullmatch("refused 3: line ([0-9]+) fault [0-9]", text)
         if bad and line.strip(" ").startswith("load"):
             trace = lines_of_traces[int(line.partition("@")[2]) - 1]
-            if not told[at : at + 1] or not shows(told[at], "    ", escaped(trace[int(bad[1]) - 1])):
+            shown = escaped(trace[int(bad[1]) - 1])
+            is_long = len(shown) > 300 and told[at : at + 1] and shows(told[at], "    ", shown)
+            if not is_long and told[at : at + 1] != ["    " + shown]:
                 return f"line {number}: not the trace's line: {told[at : at + 1]}"
             at += 1
     return None if at == len(told) else f"more is told: {told[at]}"
