@@ -1,7 +1,7 @@
 use Rattle.std.proofs.Common.{◌≡◌, List, ◌∷◌, [], ◌++◌, false, ap, ◌∙◌, refl}
 use Rattle.ft_fields.specs.declared.field.Field.TheVariants as fields
 use Rattle.ft_hist.specs.declared.item.KeyItem.{KeyItem}
-use Rattle.ft_hist.specs.declared.item.Mode.TheVariants as modes
+use Rattle.ft_hist.specs.declared.modifier.Mode.TheVariants as modes
 use Rattle.ft_hist.specs.declared.item.Item.{Item}
 use Rattle.ft_hist.specs.declared.item.SortItem.{SortItem}
 use Rattle.ft_hist.specs.declared.item.SortBy.TheVariants as sorts
