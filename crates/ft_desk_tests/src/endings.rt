@@ -22,6 +22,16 @@ fn printed_by(bytes: usize) -> &'static [u8] {
     }
 }
 
+/// What is printed of a script that ends behind the first bytes of this one.
+fn printed_of(bytes: usize) -> &'static [u8] {
+    match bytes {
+        0 => b"",
+        1..=6 => b"refused 16\n",
+        7..=12 => b"refused 16\nrefused 16\n",
+        _ => PRINTED,
+    }
+}
+
 /// Runs a script over a board without room and no files.
 fn ran(alloc: Global, script: &mut Source<'_>, out: &mut Sink) -> Result<Status, RunFault> {
     run(alloc, NoRoom, &[], script, out)
@@ -54,6 +64,40 @@ fn ends_where_the_reader_fails(rt: HostRuntime) {
 }
 
 #[test]
+fn asks_no_reader_again_that_failed(rt: HostRuntime) {
+    for kind in [
+        ErrorKind::Other,
+        ErrorKind::Interrupted,
+        ErrorKind::WouldBlock,
+        ErrorKind::OutOfMemory,
+    ] {
+        for bytes in 0..SCRIPT.len() {
+            let mut script = Source::new(&SCRIPT[..bytes], 3);
+            script.end = Some(kind);
+            script.more = &SCRIPT[bytes..];
+            let mut out = Sink::new(rt.alloc(), 3);
+            let ended = ran(rt.alloc(), &mut script, &mut out);
+            assert!(rt; matches!(ended, Err(RunFault::Read)), "after {bytes}");
+            assert!(rt; out.has(printed_by(bytes), 1), "after {bytes}");
+            assert!(rt; script.more.len() == SCRIPT.len() - bytes, "after {bytes}");
+        }
+    }
+}
+
+#[test]
+fn asks_no_reader_again_that_is_at_its_end(rt: HostRuntime) {
+    for bytes in 0..SCRIPT.len() {
+        let mut script = Source::new(&SCRIPT[..bytes], 3);
+        script.more = &SCRIPT[bytes..];
+        let mut out = Sink::new(rt.alloc(), 50);
+        let ended = ran(rt.alloc(), &mut script, &mut out);
+        assert!(rt; ended.is_ok(), "after {bytes}");
+        assert!(rt; out.has(printed_of(bytes), 1), "after {bytes}");
+        assert!(rt; script.more.len() == SCRIPT.len() - bytes, "after {bytes}");
+    }
+}
+
+#[test]
 fn ends_where_the_writer_fails(rt: HostRuntime) {
     for full in [None, Some(ErrorKind::Other), Some(ErrorKind::Interrupted)] {
         for room in 0..PRINTED.len() {
@@ -64,6 +108,41 @@ fn ends_where_the_writer_fails(rt: HostRuntime) {
             assert!(rt; matches!(ended, Err(RunFault::Write)), "after {room}");
             assert!(rt; out.has(&PRINTED[..room], 0), "after {room}");
         }
+    }
+}
+
+#[test]
+fn asks_no_writer_again_that_failed(rt: HostRuntime) {
+    for full in [
+        None,
+        Some(ErrorKind::Other),
+        Some(ErrorKind::Interrupted),
+        Some(ErrorKind::WouldBlock),
+        Some(ErrorKind::OutOfMemory),
+    ] {
+        for room in 0..PRINTED.len() {
+            let mut out = Sink::new(rt.alloc(), 4);
+            out.room = room;
+            out.full = full;
+            out.once = true;
+            let mut script = Source::new(SCRIPT, 50);
+            let ended = ran(rt.alloc(), &mut script, &mut out);
+            assert!(rt; matches!(ended, Err(RunFault::Write)), "after {room}");
+            assert!(rt; out.has(&PRINTED[..room], 0), "after {room}");
+        }
+    }
+}
+
+#[test]
+fn writes_what_a_command_prints_when_it_is_done(rt: HostRuntime) {
+    for room in 0..PRINTED.len() {
+        let mut out = Sink::new(rt.alloc(), 50);
+        out.room = room;
+        let mut script = Source::new(SCRIPT, 50);
+        let ended = ran(rt.alloc(), &mut script, &mut out);
+        assert!(rt; matches!(ended, Err(RunFault::Write)), "after {room}");
+        let left: &[u8] = if room < 11 { b"load @0\n" } else { b"" };
+        assert!(rt; script.text == left, "after {room}");
     }
 }
 

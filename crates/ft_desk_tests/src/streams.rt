@@ -3,12 +3,15 @@
 use std::alloc::Global;
 use std::io::{self, BufRead, ErrorKind, Read, Write};
 
-/// Shows at most `step` bytes at a time, and then its end or an error.
+/// Shows at most `step` bytes at a time, and then its end or an error. Where it has more, that comes
+/// once only: who asks again is shown the rest.
 #[derive(Drop)]
 pub(crate) struct Source<'a> {
     pub(crate) text: &'a [u8],
     pub(crate) step: usize,
     pub(crate) end: Option<ErrorKind>,
+    pub(crate) more: &'a [u8],
+    stopped: bool,
 }
 
 impl<'a> Source<'a> {
@@ -18,7 +21,22 @@ impl<'a> Source<'a> {
             text,
             step,
             end: None,
+            more: b"",
+            stopped: false,
         }
+    }
+
+    /// Takes up what it has more, where it has shown its end or its error before.
+    fn go_on(&mut self) {
+        if !self.text.is_empty() {
+            return;
+        }
+        if self.stopped && !self.more.is_empty() {
+            self.text = self.more;
+            self.more = b"";
+            self.end = None;
+        }
+        self.stopped = true;
     }
 }
 
@@ -30,6 +48,7 @@ impl Read for Source<'_> {
 
 impl BufRead for Source<'_> {
     fn fill_buf(&mut self) -> io::Result<&[u8]> {
+        self.go_on();
         match self.end {
             Some(kind) if self.text.is_empty() => Err(kind.into()),
             _ => {
@@ -45,13 +64,15 @@ impl BufRead for Source<'_> {
     }
 }
 
-/// Takes at most `step` bytes a call, and `room` bytes in all. Then it fails, or takes nothing.
+/// Takes at most `step` bytes a call, and `room` bytes in all. Then it fails, or takes nothing: for
+/// good, or once.
 #[derive(Drop)]
 pub(crate) struct Sink {
     pub(crate) bytes: Vec<u8>,
     pub(crate) step: usize,
     pub(crate) room: usize,
     pub(crate) full: Option<ErrorKind>,
+    pub(crate) once: bool,
     pub(crate) broken_flush: bool,
     pub(crate) flushes: u32,
 }
@@ -64,6 +85,7 @@ impl Sink {
             step,
             room: usize::MAX,
             full: None,
+            once: false,
             broken_flush: false,
             flushes: 0,
         }
@@ -78,6 +100,9 @@ impl Sink {
 impl Write for Sink {
     fn write(&mut self, buf: &[u8]) -> io::Result<usize> {
         let taken = self.step.min(self.room).min(buf.len());
+        if taken == 0 && self.once {
+            self.room = usize::MAX;
+        }
         match self.full {
             Some(kind) if taken == 0 => Err(kind.into()),
             _ => {
