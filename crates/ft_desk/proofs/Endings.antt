@@ -1,5 +1,5 @@
 -- How the endings of a run follow from what it has done.
-use Rattle.std.proofs.Common.{◌≡◌, ◌≢◌, ℕ, ◌+◌, ◌<◌, ◌≤◌, Bool, List, [], ◌∷◌, ◌++◌, Option, Result, Ok, Err, IfSome, length, inl, inr, refl, sym, ap, subst, ◌∙◌, append_assoc, length-append, arith}
+use Rattle.std.proofs.Common.{◌≡◌, ◌≢◌, ℕ, ◌<◌, ◌≤◌, Bool, List, [], ◌∷◌, ◌++◌, Option, Result, Ok, Err, IfSome, length, inl, inr, sym, ap, subst, ◌∙◌, append_assoc, length-append, arith}
 use Rattle.std.specs.Prelude.{◌||◌}
 use Rattle.std.specs.Io.KnownBytes.{Keeps, Appends, Consumes}
 use Rattle.std.proofs.KnownBytes.{Consumes-kept, Consumes-trans, Appends-trans, Appends-kept}
@@ -8,9 +8,9 @@ use Rattle.ft_desk.specs.declared.pieces.Taken.TheVariants as takes
 use Rattle.ft_desk.specs.declared.running.Status.{Status}
 use Rattle.ft_desk.specs.declared.running.RunFault.{RunFault}
 use Rattle.ft_desk.specs.declared.running.RunFault.TheVariants as faults
-use Rattle.ft_script.specs.Lines.{lines_of, ended_lines}
+use Rattle.ft_script.specs.Lines.{ended_lines}
 use Rattle.ft_script.specs.Script.{asked_by}
-use Rattle.ft_desk.specs.Output.{outcome, output, output_of_lines}
+use Rattle.ft_desk.specs.Output.{outcome, output_of_lines}
 use Rattle.ft_desk.specs.Counts.{Counts}
 use Rattle.ft_desk.specs.Run.{asking_limit, status_of, text_behind, BreaksOff, RunEnds}
 use Rattle.ft_desk.specs.Steps.{TakingGives, LineGives, FlushGives, AsksReader, read_failures}
