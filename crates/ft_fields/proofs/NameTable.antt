@@ -23,4 +23,5 @@ name_found text names.Waking e = subst (λ t. name_called t ≡ Some names.Wakin
 name_found text names.Wakeup e = subst (λ t. name_called t ≡ Some names.Wakeup) (same_text _ _ e) refl
 name_found text names.WakeupNew e = subst (λ t. name_called t ≡ Some names.WakeupNew) (same_text _ _ e) refl
 name_found text names.Switch e = subst (λ t. name_called t ≡ Some names.Switch) (same_text _ _ e) refl
+name_found text names.WakeupLatency e = subst (λ t. name_called t ≡ Some names.WakeupLatency) (same_text _ _ e) refl
 name_found text names.Other e = cc

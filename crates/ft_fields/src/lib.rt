@@ -1,7 +1,8 @@
 //! What an event is: its name, its fields, its place.
 //!
 //! An event says which task ran, on which CPU, when, and what was traced: that a task is woken, that
-//! a CPU switches to another task, or anything else. Filters and triggers speak of it by the names
+//! a CPU switches to another task, or anything else. One event is not of a trace: `wakeup_latency`,
+//! which a trigger makes where it measures a latency. Filters and triggers speak of it by the names
 //! of its fields. All events stand in one order: by stamp, then by CPU, then by line number.
 //!
 //! ```ignore
@@ -23,7 +24,7 @@ pub mod laws;
 mod pos;
 
 pub use comm::Comm;
-pub use event::{Body, Event, Name, Turn, Wake};
+pub use event::{Body, Event, Matched, Name, Turn, Wake};
 pub use field::{Field, Value, field_named, field_text};
 pub use laws::{one_order, values_of_fields};
 pub use pos::Pos;
