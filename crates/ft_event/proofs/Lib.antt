@@ -16,3 +16,4 @@ mod StampCuts
 mod Stamps
 mod TurnCuts
 mod WakeCuts
+mod Unmade

@@ -1,10 +1,12 @@
 //! Laws of lines, and those of places and of fields: a call of one makes it known to the caller's
 //! proof.
 
-ghost use Rattle.std.specs.Prelude.{◌≡◌, ℕ, List, Result};
+ghost use Rattle.std.specs.Prelude.{◌≡◌, ℕ, false, List, Result, Ok};
+ghost use Rattle.ft_fields.specs.Traced.{Traced, is_made};
 ghost use Rattle.ft_event.specs.Line.{line_of};
 ghost use Rattle.ft_event.specs.LineIs.{LineIs};
 ghost use Rattle.ft_event.specs.declared.fault.Line.{Line};
+ghost use Rattle.ft_event.specs.declared.fault.Line.TheVariants as lines;
 ghost use Rattle.ft_event.specs.declared.fault.LineFault.{LineFault};
 
 pub use ft_fields::laws::{one_order, values_of_fields};
@@ -14,4 +16,10 @@ pub fn one_answer()
     ensures found { (bytes : List ℕ) → LineIs bytes (line_of bytes) }
     ensures only { (bytes : List ℕ) (answer : Result Line LineFault) → LineIs bytes answer
         → answer ≡ line_of bytes }
+{}
+
+/// No line gives an event that triggers make.
+pub fn no_made_event()
+    ensures { (bytes : List ℕ) (event : Traced) → line_of bytes ≡ Ok (lines.Event event)
+        → is_made event.body ≡ false }
 {}
