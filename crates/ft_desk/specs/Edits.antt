@@ -76,6 +76,7 @@ trigger_for names.Waking text = trigger_or_refused (trigger_of names.Waking text
 trigger_for names.Wakeup text = trigger_or_refused (trigger_of names.Wakeup text)
 trigger_for names.WakeupNew text = trigger_or_refused (trigger_of names.WakeupNew text)
 trigger_for names.Switch text = trigger_or_refused (trigger_of names.Switch text)
+trigger_for names.WakeupLatency text = Err BadCommand
 trigger_for names.Other text = Err BadCommand
 
 -- attaching a trigger's text to an event

@@ -212,7 +212,7 @@ fn read_trigger(alloc: Global, event: Name, text: &[u8]) -> Result<Trigger, Refu
         Name::Waking | Name::Wakeup | Name::WakeupNew | Name::Switch => {
             named_trigger(alloc, event, text)
         }
-        Name::Other => Err(Refused::BadCommand),
+        Name::WakeupLatency | Name::Other => Err(Refused::BadCommand),
     }
 }
 

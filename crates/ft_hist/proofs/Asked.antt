@@ -33,6 +33,7 @@ name_same names.Waking b e = from b e
     from names.Wakeup e = absurd cc
     from names.WakeupNew e = absurd cc
     from names.Switch e = absurd cc
+    from names.WakeupLatency e = absurd cc
     from names.Other e = absurd cc
 name_same names.Wakeup b e = from b e
   where
@@ -41,6 +42,7 @@ name_same names.Wakeup b e = from b e
     from names.Wakeup e = refl
     from names.WakeupNew e = absurd cc
     from names.Switch e = absurd cc
+    from names.WakeupLatency e = absurd cc
     from names.Other e = absurd cc
 name_same names.WakeupNew b e = from b e
   where
@@ -49,6 +51,7 @@ name_same names.WakeupNew b e = from b e
     from names.Wakeup e = absurd cc
     from names.WakeupNew e = refl
     from names.Switch e = absurd cc
+    from names.WakeupLatency e = absurd cc
     from names.Other e = absurd cc
 name_same names.Switch b e = from b e
   where
@@ -57,6 +60,16 @@ name_same names.Switch b e = from b e
     from names.Wakeup e = absurd cc
     from names.WakeupNew e = absurd cc
     from names.Switch e = refl
+    from names.WakeupLatency e = absurd cc
+    from names.Other e = absurd cc
+name_same names.WakeupLatency b e = from b e
+  where
+    from : (b : Name) → same_name names.WakeupLatency b ≡ true → names.WakeupLatency ≡ b
+    from names.Waking e = absurd cc
+    from names.Wakeup e = absurd cc
+    from names.WakeupNew e = absurd cc
+    from names.Switch e = absurd cc
+    from names.WakeupLatency e = refl
     from names.Other e = absurd cc
 name_same names.Other b e = from b e
   where
@@ -65,6 +78,7 @@ name_same names.Other b e = from b e
     from names.Wakeup e = absurd cc
     from names.WakeupNew e = absurd cc
     from names.Switch e = absurd cc
+    from names.WakeupLatency e = absurd cc
     from names.Other e = refl
 
 module _ (laws : FieldLaws) (event : Traced) where

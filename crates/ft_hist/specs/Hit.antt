@@ -27,6 +27,7 @@ same_name names.Waking names.Waking = true
 same_name names.Wakeup names.Wakeup = true
 same_name names.WakeupNew names.WakeupNew = true
 same_name names.Switch names.Switch = true
+same_name names.WakeupLatency names.WakeupLatency = true
 same_name names.Other names.Other = true
 same_name a b = false
 

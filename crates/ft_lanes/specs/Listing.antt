@@ -47,12 +47,13 @@ next_text turn =
 unfoldable pub turn_text : Turn → List ℕ
 turn_text turn = prev_text turn ++ codes " ==> " ++ next_text turn
 
--- what a named event says (kernel: events.rst, the events of `sched`)
+-- what a named event says; an event that triggers make stands in no lane (kernel: events.rst, the events of `sched`)
 abbrev pub payload_text : Body → List ℕ
 payload_text (bodies.Waking wake) = wake_text wake
 payload_text (bodies.Wakeup wake) = wake_text wake
 payload_text (bodies.WakeupNew wake) = wake_text wake
 payload_text (bodies.Switch turn) = turn_text turn
+payload_text (bodies.WakeupLatency matched) = []
 payload_text bodies.Other = []
 
 -- an event's name, between a space and a colon (kernel: ftrace.rst, FUNCTION, where an event's name stands)

@@ -110,14 +110,14 @@ fn add_label(text: &mut Vec<u8>, name: &[u8]) -> Result<(), AllocError>
     text.extend_from_slice(b": ")
 }
 
-/// Adds what a named event says.
+/// Adds what a named event says. An event that triggers make stands in no lane.
 fn add_payload(text: &mut Vec<u8>, body: &Body) -> Result<(), AllocError>
     ensures { OnOk result (text.new.items ≡ text.old.items ++ payload_text body.now) }
 {
     match body {
         Body::Waking(wake) | Body::Wakeup(wake) | Body::WakeupNew(wake) => add_wake(text, wake),
         Body::Switch(turn) => add_turn(text, turn),
-        Body::Other => Ok(()),
+        Body::WakeupLatency(_) | Body::Other => Ok(()),
     }
 }
 

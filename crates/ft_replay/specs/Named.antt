@@ -32,4 +32,5 @@ has_name names kinds.Waking = names.waking
 has_name names kinds.Wakeup = names.wakeup
 has_name names kinds.WakeupNew = names.wakeup_new
 has_name names kinds.Switch = names.switch
+has_name names kinds.WakeupLatency = names.wakeup_latency
 has_name names kinds.Other = names.other

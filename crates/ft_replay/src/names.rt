@@ -19,6 +19,7 @@ pub struct Names {
     wakeup: bool,
     wakeup_new: bool,
     switch: bool,
+    wakeup_latency: bool,
     other: bool,
 }
 
@@ -32,6 +33,7 @@ impl Names {
             wakeup: is_on(triggers, Name::Wakeup),
             wakeup_new: is_on(triggers, Name::WakeupNew),
             switch: is_on(triggers, Name::Switch),
+            wakeup_latency: is_on(triggers, Name::WakeupLatency),
             other: is_on(triggers, Name::Other),
         }
     }
@@ -45,6 +47,7 @@ impl Names {
             wakeup: name == Name::Wakeup,
             wakeup_new: name == Name::WakeupNew,
             switch: name == Name::Switch,
+            wakeup_latency: name == Name::WakeupLatency,
             other: name == Name::Other,
         }
     }
@@ -58,9 +61,10 @@ impl Names {
             self.wakeup,
             self.wakeup_new,
             self.switch,
+            self.wakeup_latency,
             self.other,
         ) {
-            (false, false, false, false, false) => true,
+            (false, false, false, false, false, false) => true,
             _ => false,
         }
     }
@@ -74,6 +78,7 @@ impl Names {
             Name::Wakeup => self.wakeup,
             Name::WakeupNew => self.wakeup_new,
             Name::Switch => self.switch,
+            Name::WakeupLatency => self.wakeup_latency,
             Name::Other => self.other,
         }
     }
