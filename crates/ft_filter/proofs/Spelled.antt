@@ -69,6 +69,7 @@ name_again fields.NextPrio rest apart = name_found (field_text fields.NextPrio) 
 name_again fields.PrevComm rest apart = name_found (field_text fields.PrevComm) rest refl refl apart
 name_again fields.PrevState rest apart = name_found (field_text fields.PrevState) rest refl refl apart
 name_again fields.NextComm rest apart = name_found (field_text fields.NextComm) rest refl refl apart
+name_again fields.Lat rest apart = name_found (field_text fields.Lat) rest refl refl apart
 
 -- a letter begins a field's name
 pub name_first : (field : Field) (rest : List ℕ) → 45 ≤ slice_index (field_text field ++ rest) 0
@@ -85,6 +86,7 @@ name_first fields.NextPrio rest = omega arith
 name_first fields.PrevComm rest = omega arith
 name_first fields.PrevState rest = omega arith
 name_first fields.NextComm rest = omega arith
+name_first fields.Lat rest = omega arith
 
 -- a field of the event is found by its name
 pub field_again : (event : Name) (field : Field) → has_field event field ≡ true → find (is_named event (field_text field)) all_fields ≡ Some field
@@ -101,6 +103,7 @@ field_again event fields.NextPrio h = rw h refl
 field_again event fields.PrevComm h = rw h refl
 field_again event fields.PrevState h = rw h refl
 field_again event fields.NextComm h = rw h refl
+field_again event fields.Lat h = rw h refl
 
 -- an operator before a space is read
 pub op_again : (op : Op) (rest : List ℕ) → op_at (text_of op ++ 32 ∷ rest) ≡ Some (op, 32 ∷ rest)

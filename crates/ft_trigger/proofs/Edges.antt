@@ -122,6 +122,7 @@ field_opens fields.NextPrio = record { byte = _; rest = _; is = refl; seen = ref
 field_opens fields.PrevComm = record { byte = _; rest = _; is = refl; seen = refl }
 field_opens fields.PrevState = record { byte = _; rest = _; is = refl; seen = refl }
 field_opens fields.NextComm = record { byte = _; rest = _; is = refl; seen = refl }
+field_opens fields.Lat = record { byte = _; rest = _; is = refl; seen = refl }
 
 -- a predicate has such ends
 pred_edged : (pred : Pred) → Edged (pred_text pred)
