@@ -1,14 +1,15 @@
 -- The text of a lane (our own choice).
-use Rattle.std.specs.Prelude.{ℕ, ◌-◌, ◌/◌, ◌%◌, ℤ, pos, negsuc, suc, List, [], ◌++◌, length, replicate, codes, decimal}
+use Rattle.std.specs.Prelude.{ℕ, ◌-◌, ◌/◌, ◌%◌, ℤ, pos, negsuc, suc, List, [], ◌++◌, length, replicate, Option, None, if◌then◌else◌, codes, decimal}
 use Rattle.std.specs.Fmt.{signed_decimal}
 use Rattle.std.specs.List.{flat_map}
 use Rattle.std.specs.Option.{option_map_or}
 use Rattle.std.specs.FinMap as map
 use Rattle.ft_fields.specs.declared.event.Body.{Body}
 use Rattle.ft_fields.specs.declared.event.Body.TheVariants as bodies
+use Rattle.ft_fields.specs.declared.event.Name.{Name}
 use Rattle.ft_fields.specs.declared.event.Turn.{Turn}
 use Rattle.ft_fields.specs.declared.event.Wake.{Wake}
-use Rattle.ft_fields.specs.Names.{name_text}
+use Rattle.ft_fields.specs.Names.{name_text, is_traced}
 use Rattle.ft_fields.specs.Traced.{Traced, name_of}
 use Rattle.ft_lanes.specs.Held.{Lane}
 
@@ -47,7 +48,7 @@ next_text turn =
 unfoldable pub turn_text : Turn → List ℕ
 turn_text turn = prev_text turn ++ codes " ==> " ++ next_text turn
 
--- what a named event says; an event that triggers make stands in no lane (kernel: events.rst, the events of `sched`)
+-- what an event says that the kernel traces; one that triggers make stands in no lane (kernel: events.rst, the events of `sched`)
 abbrev pub payload_text : Body → List ℕ
 payload_text (bodies.Waking wake) = wake_text wake
 payload_text (bodies.Wakeup wake) = wake_text wake
@@ -60,9 +61,13 @@ payload_text bodies.Other = []
 abbrev pub label_text : List ℕ → List ℕ
 label_text name = codes " " ++ name ++ codes ": "
 
--- a named event's name and what it says; nothing of another event (kernel: ftrace.rst, the trace output)
+-- the name that a trace line shows: of the four events that the kernel traces (kernel: events.rst, the events of `sched`)
+abbrev pub shown_name : Name → Option (List ℕ)
+shown_name name = if is_traced name then name_text name else None
+
+-- the name that is shown and what the event says; nothing of another event (kernel: ftrace.rst, the trace output)
 abbrev pub body_text : Body → List ℕ
-body_text body = option_map_or (λ name. label_text name ++ payload_text body) (name_text (name_of body)) []
+body_text body = option_map_or (λ name. label_text name ++ payload_text body) (shown_name (name_of body)) []
 
 -- an event as a trace line shows it (kernel: ftrace.rst, the trace output)
 unfoldable pub event_text : Traced → List ℕ

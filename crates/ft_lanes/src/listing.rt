@@ -4,12 +4,13 @@ ghost use Rattle.std.specs.Prelude.{◌≡◌, ◌++◌, decimal, option_map, If
 ghost use Rattle.std.specs.Fmt.{signed_decimal};
 ghost use Rattle.std.specs.List.{flat_map};
 ghost use Rattle.ft_lanes.specs.Listing.{event_line, event_text, stamp_text, body_text, label_text};
+ghost use Rattle.ft_lanes.specs.Listing.{shown_name};
 ghost use Rattle.ft_lanes.specs.Listing.{payload_text, wake_text, turn_text, prev_text, next_text};
 ghost use Rattle.ft_lanes.specs.Listing.{target_text, zero_filled};
 
 use crate::lanes::Lanes;
 use crate::walk::Lines;
-use ft_fields::{Body, Comm, Event, Turn, Wake};
+use ft_fields::{Body, Comm, Event, Name, Turn, Wake};
 use ft_text::{write_decimal, write_right, write_signed};
 use std::alloc::{AllocError, Global};
 
@@ -88,17 +89,24 @@ fn add_stamp(text: &mut Vec<u8>, micros: u64) -> Result<(), AllocError>
     add_zero_filled(text, micros % MICROS_PER_SECOND, MICROS_WIDTH)
 }
 
-/// Adds a named event's name and what it says, behind a space.
+/// Adds the name that is shown of an event and what it says, behind a space.
 fn add_body(text: &mut Vec<u8>, event: &Event) -> Result<(), AllocError>
     ensures { OnOk result (text.new.items ≡ text.old.items ++ body_text event.now.body) }
 {
-    match event.name().text() {
+    match shown_name(event.name()) {
         Some(name) => {
             add_label(text, name)?;
             add_payload(text, &event.body)
         }
         None => Ok(()),
     }
+}
+
+/// The name that a trace line shows, where it shows one: of the four events that the kernel traces.
+fn shown_name(name: Name) -> Option<&'static [u8]>
+    ensures { option_map (λ text. text.now) result ≡ shown_name name }
+{
+    if name.is_traced() { name.text() } else { None }
 }
 
 /// Adds the name of an event between a space and a colon.
@@ -110,7 +118,7 @@ fn add_label(text: &mut Vec<u8>, name: &[u8]) -> Result<(), AllocError>
     text.extend_from_slice(b": ")
 }
 
-/// Adds what a named event says. An event that triggers make stands in no lane.
+/// Adds what an event says that the kernel traces. One that triggers make stands in no lane.
 fn add_payload(text: &mut Vec<u8>, body: &Body) -> Result<(), AllocError>
     ensures { OnOk result (text.new.items ≡ text.old.items ++ payload_text body.now) }
 {
