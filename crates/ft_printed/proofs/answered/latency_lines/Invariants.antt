@@ -1,7 +1,7 @@
 use Rattle.std.proofs.Common.{◌≡◌, take}
 use Rattle.std.specs.List.{flat_map}
-use Rattle.ft_desk.specs.Answered.{latency_line}
-use Rattle.ft_desk.proofs.text.latency_lines.Given as goal
+use Rattle.ft_printed.specs.Answered.{latency_line}
+use Rattle.ft_printed.proofs.answered.latency_lines.Given as goal
 
 -- the lines so far are there
 abbrev pub invariant-loop-latency : goal.invariant-loop-latency

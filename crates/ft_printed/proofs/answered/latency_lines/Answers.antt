@@ -1,8 +1,8 @@
 use Rattle.std.proofs.Common.{◌++◌, codes, decimal, length, ap, sym, ◌∙◌, append_assoc}
 use Rattle.std.specs.List.{flat_map}
 use Rattle.std.proofs.lemmas.List.{take_all}
-use Rattle.ft_desk.specs.Answered.{latency_line, latency_lines}
-use Rattle.ft_desk.proofs.text.latency_lines.Goals as goal
+use Rattle.ft_printed.specs.Answered.{latency_line, latency_lines}
+use Rattle.ft_printed.proofs.answered.latency_lines.Goals as goal
 
 pub returns : goal.returns
 unfolding latency_lines

@@ -2,7 +2,7 @@
 use Rattle.std.specs.Prelude.{ℕ, List, [], ◌++◌, Option, Some, None, codes, decimal}
 use Rattle.ft_event.specs.LineFault.{number_of as line_number}
 use Rattle.ft_filter.specs.FilterFault.{number_of as filter_number, place_of as filter_place}
-use Rattle.ft_trigger.specs.TriggerFault.{number_of as trigger_number, place_of as trigger_place}
+use Rattle.ft_head.specs.TriggerFault.{number_of as trigger_number, place_of as trigger_place}
 use Rattle.ft_head.specs.declared.fault.TriggerFault.{TriggerFault}
 use Rattle.ft_head.specs.declared.fault.TriggerFault.TheVariants as faults
 use Rattle.ft_base.specs.Refused.{number_of}
