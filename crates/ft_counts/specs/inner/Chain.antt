@@ -1,4 +1,4 @@
--- How a count of steps is held (our own choice).
+-- How a count is held (our own choice).
 use Rattle.std.specs.Prelude.{ℕ, ◌+◌, Option, Some, None}
 use Rattle.std.specs.declared.snapshot.Snapshot.{Snapshot}
 
