@@ -1,6 +1,4 @@
-pub mod Answered
 pub mod Edits
-pub mod Refusals
 pub mod Output
 pub mod Counts
 pub mod Run
@@ -28,3 +26,5 @@ pub use Rattle.ft_script.specs.Lines
 pub use Rattle.ft_script.specs.Script
 pub use Rattle.ft_words.specs.Files
 pub use Rattle.ft_words.specs.Words
+pub use Rattle.ft_printed.specs.Answered
+pub use Rattle.ft_printed.specs.Refusals

@@ -10,9 +10,9 @@ use Rattle.ft_script.specs.Lines.{lines_of}
 use Rattle.ft_script.specs.Script.{Asked, asked_by}
 use Rattle.ft_script.specs.declared.script.Numbered.{Numbered}
 use Rattle.ft_script.specs.declared.script.Numbered.TheVariants as numbers
-use Rattle.ft_desk.specs.Answered.{totals_line, numbered, latency_lines}
+use Rattle.ft_printed.specs.Answered.{totals_line, numbered, latency_lines}
+use Rattle.ft_printed.specs.Refusals.{refused_text}
 use Rattle.ft_desk.specs.Edits.{after_load_text, after_insert_text, after_attach_text, after_refilter_text}
-use Rattle.ft_desk.specs.Refusals.{refused_text}
 
 -- the Nth file, from 1
 abbrev pub file_at : List (List ℕ) → ℕ → Option (List ℕ)

@@ -1,4 +1,3 @@
 -- Words of private functions, which no public clause says.
 pub mod Reading
 pub mod Printed
-pub mod Counting

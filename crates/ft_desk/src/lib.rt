@@ -25,7 +25,6 @@ mod pieces;
 mod program;
 mod running;
 mod sending;
-mod text;
 
 pub use desk::Desk;
 pub use ft_event::{LineFault, Name};

@@ -4,12 +4,12 @@ ghost use Rattle.std.specs.Prelude.{◌≡◌, ◌≢◌, ◌++◌, true, codes,
 ghost use Rattle.ft_replay.specs.Edited.{EditGives};
 ghost use Rattle.ft_script.specs.Command.{asked};
 ghost use Rattle.ft_script.specs.Script.{asked_by};
+ghost use Rattle.ft_printed.specs.Refusals.{refused_text};
 ghost use Rattle.ft_desk.specs.Output.{outcome, outcome_about, file_at, after_load_file};
-ghost use Rattle.ft_desk.specs.Refusals.{refused_text};
 ghost use Rattle.ft_desk.specs.inner.Printed.{Prints, PrintsEdit, PrintsAnswer};
 
 use crate::desk::Desk;
-use crate::text::{Answer, EditValue, done_line, refused_line};
+use ft_printed::{Answer, EditValue, done_line, refused_line};
 use ft_replay::{Board, Done, Refused};
 use ft_script::{Command, Numbered, read_command};
 use std::alloc::{AllocError, Global};

@@ -1,3 +1,2 @@
 -- Words of private functions and types, which no public clause says (our own choice).
-pub mod Counts
 pub mod Triggers

@@ -2,9 +2,8 @@
 
 ghost use Rattle.std.specs.Prelude.{◌≡◌, ◌+◌};
 
+use ft_counts::Count;
 use std::marker::Model;
-use std::mem;
-use std::snapshot::Snapshot;
 
 /// Two counts of steps: how often an event was tested against a trigger, and how often something
 /// was put into a map.
@@ -12,29 +11,8 @@ use std::snapshot::Snapshot;
 /// Contracts see the two numbers, `evals` and `puts`. At run time it is nothing.
 #[derive(Drop)]
 pub struct Work {
-    evals: Snapshot<Count>,
-    puts: Snapshot<Count>,
-}
-
-/// A number of any size that contracts alone see: 0, or one more than another.
-#[derive(Drop)]
-struct Count {
-    before: Option<Snapshot<Count>>,
-}
-
-impl Model for Count {
-    ghost use Rattle.std.specs.Prelude.{ℕ};
-    ghost use Rattle.ft_hist.specs.inner.Counts.{one_above};
-
-    ghost Value = { ℕ };
-
-    ghost view = { λ c. one_above c.before };
-
-    ghost size = { λ n. n };
-
-    ghost use Rattle.std.proofs.Common.{arith};
-
-    ghost size_decreases = { Prim.grind (arith) };
+    evals: Count,
+    puts: Count,
 }
 
 impl Model for Work {
@@ -42,7 +20,7 @@ impl Model for Work {
 
     ghost Value = { Steps };
 
-    ghost view = { λ w. record { evals = w.evals.value; puts = w.puts.value } };
+    ghost view = { λ w. record { evals = w.evals; puts = w.puts } };
 }
 
 impl Work {
@@ -52,8 +30,8 @@ impl Work {
         ensures puts { result.puts ≡ 0 }
     {
         Work {
-            evals: zero(),
-            puts: zero(),
+            evals: Count::zero(),
+            puts: Count::zero(),
         }
     }
 
@@ -62,7 +40,7 @@ impl Work {
         ensures evals { self.new.evals ≡ self.old.evals + 1 }
         ensures puts { self.new.puts ≡ self.old.puts }
     {
-        raise(&mut self.evals);
+        self.evals.raise();
     }
 
     /// Counts one put into a map.
@@ -70,21 +48,6 @@ impl Work {
         ensures evals { self.new.evals ≡ self.old.evals }
         ensures puts { self.new.puts ≡ self.old.puts + 1 }
     {
-        raise(&mut self.puts);
+        self.puts.raise();
     }
-}
-
-/// The count 0.
-fn zero() -> Snapshot<Count>
-    ensures { result.value ≡ 0 }
-{
-    Snapshot::of(&Count { before: None })
-}
-
-/// Raises a count by one.
-fn raise(count: &mut Snapshot<Count>)
-    ensures { count.new.value ≡ count.old.value + 1 }
-{
-    let before = Some(mem::replace(count, zero()));
-    *count = Snapshot::of(&Count { before });
 }
