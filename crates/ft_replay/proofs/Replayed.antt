@@ -49,7 +49,7 @@ module _ (triggers : Triggers) (events : Events) where
         | false ↦ refl
       ]
 
-  started-is : (q : ℕ) → map.get (started triggers) q ≡ option_map (λ hist. empty_tally) (map.get triggers q)
+  pub started-is : (q : ℕ) → map.get (started triggers) q ≡ option_map (λ hist. empty_tally) (map.get triggers q)
   unfolding started
   started-is q = started_from map.empty (map.entries triggers) q
       ∙ ap (cond (is_some (find nat_cmp q (map.entries triggers))) (Some empty_tally)) (get-empty {X = Tally} nat_cmp q)

@@ -1,0 +1,35 @@
+//! Laws of made events: functions that do nothing, whose clauses are proved.
+
+ghost use Rattle.ft_made.specs.Laws.{FoundMakeAll, HeldAreCounted, MadeAreCounted, MadeBySpot};
+ghost use Rattle.ft_made.specs.Laws.{MadeInOrder, NamedMakeAll, OthersCountNone, SameIsMade};
+ghost use Rattle.ft_made.specs.Laws.{SpotsAreDistinct};
+
+/// A law: replaying with made events comes apart into two replays. Tallies of held events and
+/// variables are those of the replay that makes none. Beside them each attached trigger counts the
+/// made events, in order of their spots, and no other id counts any. Events on whose name no
+/// trigger is change nothing.
+pub fn counted_made()
+    ensures first { HeldAreCounted }
+    ensures second { MadeAreCounted }
+    ensures none { OthersCountNone }
+    ensures named { NamedMakeAll }
+{}
+
+/// A law: the made events are a finite map from spots. At a spot it has what the maker makes of the
+/// event there and of the saving that its reading finds in the replay that makes none; its entries
+/// are those of all attached triggers at all held events, in order, no two at one spot.
+pub fn made_by_spot()
+    ensures events { MadeBySpot }
+    ensures order { MadeInOrder }
+    ensures distinct { SpotsAreDistinct }
+{}
+
+/// A law: what is made depends on what readings find alone. Where a place keeps its event, its
+/// trigger and the trigger's role, and its reading finds what it found, it makes what it made. And
+/// what is kept of readings makes what the replay makes, where it is what they find.
+pub fn same_made()
+    ensures local { SameIsMade }
+    ensures kept { FoundMakeAll }
+{
+    ft_replay::same_elsewhere();
+}
