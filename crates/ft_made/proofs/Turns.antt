@@ -1,7 +1,7 @@
 -- Replaying with made events, turn by turn: the held events go past as ever, and the made ones in order of their spots.
-use Rattle.std.proofs.Common.{◌≡◌, ℕ, List, [], ◌∷◌, ◌++◌, map as list_map, refl, sym, ap, ◌∙◌, Some, Option}
-use Rattle.std.specs.Prelude.{fold, filter_map}
-use Rattle.std.specs.List.{AllByRecursion, flat_map}
+use Rattle.std.proofs.Common.{◌≡◌, ℕ, List, [], ◌∷◌, ◌++◌, map as list_map, refl, sym, ap, ◌∙◌, Some, None, Option}
+use Rattle.std.specs.Prelude.{fold, filter_map, option_map, option_and_then}
+use Rattle.std.specs.List.{AllByRecursion, cons_option, flat_map}
 use Rattle.std.specs.Option.{option_map_or}
 use Rattle.std.specs.Ordering.{nat_cmp}
 use Rattle.std.specs.Cmp.{nat_cmp_total}
@@ -16,11 +16,13 @@ use Rattle.ft_hist.specs.Hist.{Hist}
 use Rattle.ft_base.specs.Base.{Triggers}
 use Rattle.ft_base.proofs.Apart.{entries_found}
 use Rattle.ft_replay.specs.Merged.{Events}
+use Rattle.ft_replay.specs.Found.{saving_found}
 use Rattle.ft_replay.specs.Replay.{State, act_at, step, started, replay}
 use Rattle.ft_made.specs.Spots.{Spot}
 use Rattle.ft_made.specs.Making.{Makes, goes_past}
 use Rattle.ft_made.specs.ReplayMaking.{StateMaking, act_making, step_making, replay_making}
-use Rattle.ft_made.specs.MadeEvents.{made_there, spots_at, spots, made_list}
+use Rattle.ft_made.specs.MadeEvents.{made_at, made_there, spots_at, spots, made_list}
+use Rattle.ft_made.specs.Laws.{MakeNone}
 use Rattle.ft_made.proofs.Before.{begin, before-is}
 use Rattle.ft_made.proofs.Making.{made_now-is}
 use Rattle.ft_made.proofs.Views.{seen_fold, fold_option}
@@ -85,3 +87,28 @@ module _ (makes : Makes) (triggers : Triggers) (events : Events) where
   pub made-is : (replay_making makes triggers events).made ≡ fold (goes_past triggers) (started triggers) (made_list makes triggers events)
   unfolding replay_making made_list spots
   made-is = all_events [] (map.entries events) refl (entries_found pos_cmp pos_cmp_total events) _ refl
+
+-- ---- where none is made
+
+nothing_made : (f : Pos → Option Traced) → ((saved : Pos) → f saved ≡ None) → (o : Option Pos) → option_and_then f o ≡ None
+nothing_made f none None = refl
+nothing_made f none (Some saved) = none saved
+
+module _ (makes : Makes) (triggers : Triggers) (events : Events) (none : MakeNone makes triggers) where
+  none_at : (spot : Spot) → made_at makes triggers events spot ≡ None
+  unfolding made_at
+  none_at spot = elim (map.get events spot.pos) as (λ o. option_and_then (λ event. option_and_then (λ hist. option_and_then (makes hist spot.pos event) (saving_found triggers events spot.maker spot.pos)) (map.get triggers spot.maker)) o ≡ None) [
+    | None ↦ refl
+    | Some event ↦ elim (map.get triggers spot.maker) as (λ o. map.get triggers spot.maker ≡ o → option_and_then (λ hist. option_and_then (makes hist spot.pos event) (saving_found triggers events spot.maker spot.pos)) o ≡ None) [
+      | None ↦ λ _. refl
+      | Some hist ↦ λ attached. nothing_made (makes hist spot.pos event) (none spot.maker hist attached spot.pos event) (saving_found triggers events spot.maker spot.pos)
+    ] refl
+  ]
+
+  none_listed : (all : List Spot) → filter_map (made_there makes triggers events) all ≡ []
+  none_listed [] = refl
+  none_listed (spot ∷ all) = ap (λ o. cons_option (option_map (λ made. (spot, made)) o) (filter_map (made_there makes triggers events) all)) (none_at spot) ∙ none_listed all
+
+  pub none-made : (replay_making makes triggers events).made ≡ started triggers
+  unfolding made_list
+  none-made = made-is makes triggers events ∙ ap (fold (goes_past triggers) (started triggers)) (none_listed (spots triggers events))

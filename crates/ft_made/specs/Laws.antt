@@ -3,6 +3,7 @@ use Rattle.std.specs.Prelude.{◌≡◌, ℕ, Option, Some, None, fold}
 use Rattle.std.specs.List.Sorted.{IsStrictlySortedBy}
 use Rattle.std.specs.Map.{keys_of}
 use Rattle.std.specs.FinMap as map
+use Rattle.ft_fields.specs.Traced.{Traced}
 use Rattle.ft_fields.specs.declared.pos.Pos.{Pos}
 use Rattle.ft_hist.specs.Hist.{Hist}
 use Rattle.ft_pairs.specs.declared.at.At.{At}
@@ -11,7 +12,7 @@ use Rattle.ft_replay.specs.Merged.{Events}
 use Rattle.ft_replay.specs.Named.{named}
 use Rattle.ft_replay.specs.Elsewhere.{IsSameAct, FindsTheSame}
 use Rattle.ft_replay.specs.Found.{saving_found}
-use Rattle.ft_replay.specs.Replay.{replay}
+use Rattle.ft_replay.specs.Replay.{started, replay}
 use Rattle.ft_replay.specs.Tally.{empty_tally}
 use Rattle.ft_made.specs.Spots.{Spot, spot_cmp}
 use Rattle.ft_made.specs.Making.{Makes, count_made}
@@ -32,6 +33,14 @@ MadeAreCounted = (makes : Makes) (triggers : Triggers) (events : Events) (id : �
 -- no other id has a tally of made events (our own choice)
 abbrev pub OthersCountNone : Type 0
 OthersCountNone = (makes : Makes) (triggers : Triggers) (events : Events) (id : ℕ) → map.get triggers id ≡ None → map.get (replay_making makes triggers events).made id ≡ None
+
+-- no attached trigger makes an event, whatever it reads (our own choice)
+abbrev pub MakeNone : Makes → Triggers → Type 0
+MakeNone makes triggers = (id : ℕ) (hist : Hist) → map.get triggers id ≡ Some hist → (pos : Pos) (event : Traced) (saved : Pos) → makes hist pos event saved ≡ None
+
+-- where no attached trigger makes an event, nothing but held events is counted (our own choice)
+abbrev pub NoneIsMade : Type 0
+NoneIsMade = (makes : Makes) (triggers : Triggers) (events : Events) → MakeNone makes triggers → (replay_making makes triggers events).made ≡ started triggers
 
 -- an event on whose name no trigger is makes none, and changes nothing (our own choice)
 abbrev pub NamedMakeAll : Type 0

@@ -1,18 +1,19 @@
 //! Laws of made events: functions that do nothing, whose clauses are proved.
 
 ghost use Rattle.ft_made.specs.Laws.{FoundMakeAll, HeldAreCounted, MadeAreCounted, MadeBySpot};
-ghost use Rattle.ft_made.specs.Laws.{MadeInOrder, NamedMakeAll, OthersCountNone, SameIsMade};
-ghost use Rattle.ft_made.specs.Laws.{SpotsAreDistinct};
+ghost use Rattle.ft_made.specs.Laws.{MadeInOrder, NamedMakeAll, NoneIsMade, OthersCountNone};
+ghost use Rattle.ft_made.specs.Laws.{SameIsMade, SpotsAreDistinct};
 
 /// A law: replaying with made events comes apart into two replays. Tallies of held events and
 /// variables are those of the replay that makes none. Beside them each attached trigger counts the
 /// made events, in order of their spots, and no other id counts any. Events on whose name no
-/// trigger is change nothing.
+/// trigger is change nothing; where no trigger makes an event, nothing is counted beside them.
 pub fn counted_made()
     ensures first { HeldAreCounted }
     ensures second { MadeAreCounted }
     ensures none { OthersCountNone }
     ensures named { NamedMakeAll }
+    ensures idle { NoneIsMade }
 {}
 
 /// A law: the made events are a finite map from spots. At a spot it has what the maker makes of the
