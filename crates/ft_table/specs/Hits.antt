@@ -1,14 +1,15 @@
 -- Hits: values by spot and key.
-use Rattle.std.specs.Prelude.{ℕ, ◌%◌, ◌^◌, ℤ, pos, Bool, true, List, [], ◌∷◌, Option, Some, None, map as list_map, slice_index_or, if◌then◌else◌}
+use Rattle.std.specs.Prelude.{◌≡◌, ℕ, ◌%◌, ◌^◌, ℤ, pos, Bool, true, List, [], ◌∷◌, Option, Some, None, map as list_map, slice_index_or, if◌then◌else◌}
 use Rattle.std.specs.List.{filter, sum_by}
 use Rattle.std.specs.Int.{w64, cast_unsigned}
 use Rattle.std.specs.Ordering.{eq_by_cmp, is_lt}
 use Rattle.std.specs.FinMap as map
 use Rattle.std.specs.FinMap.{FinMap}
 use Rattle.ft_table.specs.declared.spot.Spot.{Spot}
-use Rattle.ft_table.specs.Spots.{spot_cmp}
+use Rattle.ft_table.specs.Spots.{IsMade, spot_cmp}
 use Rattle.ft_keys.specs.declared.key.Part.{Part}
 use Rattle.ft_keys.specs.Parts.{key_cmp}
+use Rattle.ft_table.specs.declared.mark.Mark.{Mark}
 use Rattle.ft_table.specs.Marks.{mark_cmp}
 
 -- the hits of a trigger: values by spot and key (our own choice)
@@ -18,6 +19,10 @@ Hits = FinMap mark_cmp (List ℤ)
 -- the hits of one key: values by spot (our own choice)
 abbrev pub EntryHits : Type 0
 EntryHits = FinMap spot_cmp (List ℤ)
+
+-- all hits are of events of the trace (our own choice)
+abbrev pub AreTraced : Hits → Type 0
+AreTraced hits = (m : Mark) → IsMade m.spot → map.get hits m ≡ None
 
 -- whether two keys are the same (our own choice)
 abbrev pub same_key : List Part → List Part → Bool

@@ -1,5 +1,5 @@
 -- Spots: where hits stand (our own choice).
-use Rattle.std.specs.Prelude.{ℕ}
+use Rattle.std.specs.Prelude.{◌≡◌, ℕ, ◌==◌, Option, Some, None, if◌then◌else◌}
 use Rattle.std.specs.declared.cmp.Ordering.{Ordering}
 use Rattle.std.specs.Ordering.{nat_cmp, on, then_cmp}
 use Rattle.std.specs.Cmp.{IsTotalOrder, on_total, then_total, nat_cmp_total}
@@ -13,6 +13,14 @@ use Rattle.ft_table.specs.declared.spot.Spot.{Spot}
 -- where a hit of an event of the trace stands: no trigger made the event (our own choice)
 abbrev pub traced : Pos → Spot
 traced pos = record { pos = pos; maker = 0 }
+
+-- the place of a spot where an event of the trace stands; where a trigger made the event, there is none (our own choice)
+abbrev pub traced_place : Spot → Option Pos
+traced_place spot = if spot.maker == 0 then Some spot.pos else None
+
+-- a trigger made the event that stands at a spot (kernel: histogram.rst, synthetic events)
+abbrev pub IsMade : Spot → Type 0
+IsMade spot = spot.maker ≡ 0 → ⊥
 
 -- spots in order: by the event's place, then by who made it (our own choice)
 abbrev pub spot_cmp : Spot → Spot → Ordering
