@@ -14,13 +14,13 @@ use Rattle.ft_keys.specs.declared.key.Part.{Part}
 use Rattle.ft_hist.specs.Hist.{Hist}
 use Rattle.ft_hist.specs.Hit.{hit}
 use Rattle.ft_maps.specs.Entries.{same_from_tie, get-insert_same}
+use Rattle.ft_table.specs.declared.spot.Spot.{Spot}
 use Rattle.ft_base.specs.Base.{Triggers}
 use Rattle.ft_base.proofs.Apart.{AreApart, entries_apart}
 use Rattle.ft_replay.specs.Merged.{Events}
 use Rattle.ft_replay.specs.Tally.{Tally, empty_tally}
 use Rattle.ft_replay.specs.Replay.{Tallies, started}
 use Rattle.ft_replay.proofs.Replayed.{started-is}
-use Rattle.ft_made.specs.Spots.{Spot}
 use Rattle.ft_made.specs.Making.{Makes, tell_made, count_made, count_at, goes_past}
 use Rattle.ft_made.specs.ReplayMaking.{replay_making}
 use Rattle.ft_made.specs.MadeEvents.{made_list, made_events}

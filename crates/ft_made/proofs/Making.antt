@@ -7,6 +7,8 @@ use Rattle.ft_fields.specs.declared.pos.Pos.{Pos}
 use Rattle.ft_hist.specs.Hist.{Hist}
 use Rattle.ft_hist.specs.Hit.{hit}
 use Rattle.ft_table.specs.Values.{values_at}
+use Rattle.ft_table.specs.declared.spot.Spot.{Spot}
+use Rattle.ft_table.specs.Spots.{traced}
 use Rattle.ft_pairs.specs.declared.at.At.{At}
 use Rattle.ft_pairs.specs.declared.role.Role.{Role}
 use Rattle.ft_pairs.specs.declared.role.Variable.{Variable}
@@ -16,7 +18,6 @@ use Rattle.ft_replay.specs.Merged.{Events}
 use Rattle.ft_replay.specs.Found.{saving_found}
 use Rattle.ft_replay.specs.Hits.{TriggerHit, state_before, found_at, read_as, hit_at}
 use Rattle.ft_replay.specs.Replay.{State}
-use Rattle.ft_made.specs.Spots.{Spot}
 use Rattle.ft_made.specs.Making.{Makes, saving_read, made_now}
 use Rattle.ft_made.specs.MadeEvents.{made_at, made_there}
 
@@ -41,7 +42,7 @@ module _ (makes : Makes) (triggers : Triggers) (events : Events) (e : Pos × Tra
   saving-is : saving_found triggers events t.0 e.0 ≡ option_and_then (saving_read role found) (hit t.1 e.1)
   unfolding saving_found hit_at
   saving-is = rw (there, attached) elim (hit t.1 e.1) as (λ o. option_and_then (λ (h : TriggerHit). h.saved) (option_and_then (λ key.
-      option_map (λ saved. record { pos = e.0; key = key; saved = saved; values = values_at t.1 e.0 e.1 saved }) (read_as role found key)) o) ≡ option_and_then (saving_read role found) o) [
+      option_map (λ saved. record { spot = traced e.0; key = key; saved = saved; values = values_at t.1 e.0 e.1 saved }) (read_as role found key)) o) ≡ option_and_then (saving_read role found) o) [
         | None ↦ refl
         | Some key ↦ saved_is _ (λ saved. refl) (read_as role found key)
       ]

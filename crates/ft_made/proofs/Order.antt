@@ -17,11 +17,12 @@ use Rattle.ft_fields.specs.declared.pos.Pos.{Pos}
 use Rattle.ft_fields.specs.Places.{pos_cmp, pos_cmp_total}
 use Rattle.ft_hist.specs.Hist.{Hist}
 use Rattle.ft_maps.specs.Entries.{entries-from_entries}
+use Rattle.ft_table.specs.declared.spot.Spot.{Spot}
+use Rattle.ft_table.specs.Spots.{spot_cmp, spot_cmp_total, spot_same}
 use Rattle.ft_base.specs.Base.{Triggers}
 use Rattle.ft_base.proofs.Apart.{AreApart, entries_apart, all_of, all_map}
 use Rattle.ft_replay.specs.Merged.{Events}
 use Rattle.ft_replay.proofs.Places.{tied_then}
-use Rattle.ft_made.specs.Spots.{Spot, spot_cmp, spot_cmp_total, spot_same}
 use Rattle.ft_made.specs.Making.{Makes}
 use Rattle.ft_made.specs.MadeEvents.{made_at, spots_at, spots, made_list, made_events}
 use Rattle.ft_made.proofs.Sorted.{standing_sorted, find-standing, sorted_append, all_list_map, all_flat_map}

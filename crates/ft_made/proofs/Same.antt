@@ -4,13 +4,13 @@ use Rattle.std.specs.Prelude.{option_and_then}
 use Rattle.std.specs.FinMap as map
 use Rattle.ft_fields.specs.declared.pos.Pos.{Pos}
 use Rattle.ft_hist.specs.Hist.{Hist}
+use Rattle.ft_table.specs.declared.spot.Spot.{Spot}
 use Rattle.ft_pairs.specs.declared.at.At.{At}
 use Rattle.ft_base.specs.Base.{Triggers}
 use Rattle.ft_replay.specs.Merged.{Events}
 use Rattle.ft_replay.specs.Elsewhere.{IsSameAct, FindsTheSame}
 use Rattle.ft_replay.specs.Found.{saving_found}
 use Rattle.ft_replay.specs.Hits.{hit_at}
-use Rattle.ft_made.specs.Spots.{Spot}
 use Rattle.ft_made.specs.Making.{Makes}
 use Rattle.ft_made.specs.MadeEvents.{made_by, made_at}
 use Rattle.ft_made.specs.Laws.{spot_of}

@@ -13,12 +13,12 @@ use Rattle.ft_fields.specs.Traced.{Traced}
 use Rattle.ft_fields.specs.declared.pos.Pos.{Pos}
 use Rattle.ft_fields.specs.Places.{pos_cmp, pos_cmp_total}
 use Rattle.ft_hist.specs.Hist.{Hist}
+use Rattle.ft_table.specs.declared.spot.Spot.{Spot}
 use Rattle.ft_base.specs.Base.{Triggers}
 use Rattle.ft_base.proofs.Apart.{entries_found}
 use Rattle.ft_replay.specs.Merged.{Events}
 use Rattle.ft_replay.specs.Found.{saving_found}
 use Rattle.ft_replay.specs.Replay.{State, act_at, step, started, replay}
-use Rattle.ft_made.specs.Spots.{Spot}
 use Rattle.ft_made.specs.Making.{Makes, goes_past}
 use Rattle.ft_made.specs.ReplayMaking.{StateMaking, act_making, step_making, replay_making}
 use Rattle.ft_made.specs.MadeEvents.{made_at, made_there, spots_at, spots, made_list}

@@ -1,23 +1,28 @@
 -- What the laws of made events say.
-use Rattle.std.specs.Prelude.{◌≡◌, ℕ, Option, Some, None, fold}
+use Rattle.std.specs.Prelude.{◌≡◌, ℕ, [], Option, Some, None, fold}
 use Rattle.std.specs.List.Sorted.{IsStrictlySortedBy}
 use Rattle.std.specs.Map.{keys_of}
 use Rattle.std.specs.FinMap as map
 use Rattle.ft_fields.specs.Traced.{Traced}
 use Rattle.ft_fields.specs.declared.pos.Pos.{Pos}
 use Rattle.ft_hist.specs.Hist.{Hist}
+use Rattle.ft_table.specs.Hits.{Hits}
+use Rattle.ft_table.specs.declared.mark.Mark.{Mark}
+use Rattle.ft_table.specs.declared.spot.Spot.{Spot}
+use Rattle.ft_table.specs.Spots.{spot_cmp}
 use Rattle.ft_pairs.specs.declared.at.At.{At}
 use Rattle.ft_base.specs.Base.{Triggers}
 use Rattle.ft_replay.specs.Merged.{Events}
 use Rattle.ft_replay.specs.Named.{named}
 use Rattle.ft_replay.specs.Elsewhere.{IsSameAct, FindsTheSame}
 use Rattle.ft_replay.specs.Found.{saving_found}
+use Rattle.ft_replay.specs.Hits.{table_for}
 use Rattle.ft_replay.specs.Replay.{started, replay}
-use Rattle.ft_replay.specs.Tally.{empty_tally}
-use Rattle.ft_made.specs.Spots.{Spot, spot_cmp}
+use Rattle.ft_replay.specs.Tally.{empty_tally, tally_of}
 use Rattle.ft_made.specs.Making.{Makes, count_made}
 use Rattle.ft_made.specs.ReplayMaking.{replay_making}
 use Rattle.ft_made.specs.MadeEvents.{made_by, made_at, made_list, made_events}
+use Rattle.ft_made.specs.MadeHits.{made_hits_of, values_made}
 
 -- ---- two replays, one after the other
 
@@ -29,6 +34,11 @@ HeldAreCounted = (makes : Makes) (triggers : Triggers) (events : Events) → (re
 abbrev pub MadeAreCounted : Type 0
 MadeAreCounted = (makes : Makes) (triggers : Triggers) (events : Events) (id : ℕ) (hist : Hist) → map.get triggers id ≡ Some hist
     → map.get (replay_making makes triggers events).made id ≡ Some (fold (count_made hist) empty_tally (map.entries (made_events makes triggers events)))
+
+-- what it counts is the tally of its hits among them (kernel: histogram.rst, synthetic events)
+abbrev pub MadeAreTallied : Type 0
+MadeAreTallied = (makes : Makes) (triggers : Triggers) (events : Events) (id : ℕ) (hist : Hist) → map.get triggers id ≡ Some hist
+    → map.get (replay_making makes triggers events).made id ≡ Some (tally_of (table_for hist (made_hits_of makes triggers events hist)) [])
 
 -- no other id has a tally of made events (our own choice)
 abbrev pub OthersCountNone : Type 0
@@ -77,3 +87,16 @@ abbrev pub FoundMakeAll : Type 0
 FoundMakeAll = (makes : Makes) (triggers : Triggers) (events : Events) (found : ℕ → Pos → Option Pos)
     → ((id : ℕ) (hist : Hist) → map.get triggers id ≡ Some hist → (pos : Pos) → found id pos ≡ saving_found triggers events id pos)
     → (spot : Spot) → made_by makes triggers events found spot ≡ made_at makes triggers events spot
+
+-- ---- maps that are kept beside the events
+
+-- a trigger's hits are at each spot and key what its hit there adds (kernel: histogram.rst, `values`)
+abbrev pub MadeHitsAre : Type 0
+MadeHitsAre = (makes : Makes) (triggers : Triggers) (events : Events) (hist : Hist) (mark : Mark)
+    → map.get (made_hits_of makes triggers events hist) mark ≡ values_made makes triggers events hist mark
+
+-- a map that holds what these hits add, by spot and key, gives the tally that replaying gives (our own choice)
+abbrev pub KeptAreTallied : Type 0
+KeptAreTallied = (makes : Makes) (triggers : Triggers) (events : Events) (id : ℕ) (hist : Hist) → map.get triggers id ≡ Some hist
+    → (values : Hits) → ((mark : Mark) → map.get values mark ≡ values_made makes triggers events hist mark)
+    → map.get (replay_making makes triggers events).made id ≡ Some (tally_of (table_for hist values) [])

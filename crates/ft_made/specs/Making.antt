@@ -7,6 +7,7 @@ use Rattle.ft_fields.specs.declared.pos.Pos.{Pos}
 use Rattle.ft_keys.specs.declared.key.Part.{Part}
 use Rattle.ft_hist.specs.Hist.{Hist}
 use Rattle.ft_hist.specs.Hit.{hit}
+use Rattle.ft_table.specs.declared.spot.Spot.{Spot}
 use Rattle.ft_pairs.specs.declared.role.Role.{Role}
 use Rattle.ft_pairs.specs.declared.role.Variable.{Variable}
 use Rattle.ft_base.specs.Base.{Triggers}
@@ -14,7 +15,6 @@ use Rattle.ft_base.specs.Roles.{role_of}
 use Rattle.ft_replay.specs.Hits.{read_as}
 use Rattle.ft_replay.specs.Replay.{Tallies, growth_by}
 use Rattle.ft_replay.specs.Tally.{Tally, tell}
-use Rattle.ft_made.specs.Spots.{Spot}
 
 -- ---- what a reading makes
 

@@ -1,6 +1,7 @@
 //! Laws of made events: functions that do nothing, whose clauses are proved.
 
-ghost use Rattle.ft_made.specs.Laws.{FoundMakeAll, HeldAreCounted, MadeAreCounted, MadeBySpot};
+ghost use Rattle.ft_made.specs.Laws.{FoundMakeAll, HeldAreCounted, KeptAreTallied};
+ghost use Rattle.ft_made.specs.Laws.{MadeAreCounted, MadeAreTallied, MadeBySpot, MadeHitsAre};
 ghost use Rattle.ft_made.specs.Laws.{MadeInOrder, NamedMakeAll, NoneIsMade, OthersCountNone};
 ghost use Rattle.ft_made.specs.Laws.{SameIsMade, SpotsAreDistinct};
 
@@ -33,4 +34,15 @@ pub fn same_made()
     ensures kept { FoundMakeAll }
 {
     ft_replay::same_elsewhere();
+}
+
+/// A law: what an attached trigger counts of made events is the tally of the table that its hits
+/// among them make. At each spot and key these are what its hit there adds; and any map that holds
+/// that gives the same tally.
+pub fn tallied_made()
+    ensures tally { MadeAreTallied }
+    ensures hits { MadeHitsAre }
+    ensures kept { KeptAreTallied }
+{
+    ft_table::laws::one_more_hit();
 }

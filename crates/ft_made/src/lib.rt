@@ -8,4 +8,4 @@
 
 pub mod laws;
 
-pub use laws::{counted_made, made_by_spot, same_made};
+pub use laws::{counted_made, made_by_spot, same_made, tallied_made};
