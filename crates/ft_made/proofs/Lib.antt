@@ -5,6 +5,6 @@ pub mod Turns
 pub mod Sorted
 pub mod Order
 pub mod Counting
-pub mod MadeHits
 pub mod Same
+pub mod MadeHits
 pub mod Naming

@@ -7,6 +7,7 @@ use Rattle.std.specs.Option.{option_map_or}
 use Rattle.std.specs.FinMap as map
 use Rattle.std.specs.FinMap.{contains_key-keys, entries_sorted, get-from_entries, same_map}
 use Rattle.ft_fields.specs.Traced.{Traced}
+use Rattle.ft_fields.specs.declared.pos.Pos.{Pos}
 use Rattle.ft_keys.specs.declared.key.Part.{Part}
 use Rattle.ft_hist.specs.Hist.{Hist}
 use Rattle.ft_hist.specs.Hit.{hit}
@@ -28,10 +29,12 @@ use Rattle.ft_replay.proofs.Listed.{Ascend, hit_in, made_ascend, made_in, find-e
 use Rattle.ft_replay.proofs.Tallied.{counted-tally}
 use Rattle.ft_made.specs.Making.{Makes, tell_made, count_made}
 use Rattle.ft_made.specs.ReplayMaking.{replay_making}
-use Rattle.ft_made.specs.MadeEvents.{made_at, made_events}
-use Rattle.ft_made.specs.MadeHits.{made_hit_at, made_hits, made_hits_of, values_made}
+use Rattle.ft_made.specs.MadeEvents.{made_by, made_at, made_events}
+use Rattle.ft_made.specs.MadeHits.{made_hit, made_hit_at, made_hits, made_hits_of, values_made, values_of_made}
+use Rattle.ft_made.specs.Laws.{AreFound}
 use Rattle.ft_made.proofs.Counting.{made_count}
 use Rattle.ft_made.proofs.Order.{get-made}
+use Rattle.ft_made.proofs.Same.{made_found}
 use Rattle.ft_made.proofs.Views.{fold_option}
 
 none_then : {X Y : Type 0} (f : X → Option Y) (o : Option X) → is_some o ≡ false → option_and_then f o ≡ None
@@ -42,19 +45,16 @@ module _ (makes : Makes) (triggers : Triggers) (events : Events) (hist : Hist) w
   abbrev hit_of : Spot → Option TriggerHit
   hit_of = made_hit_at makes triggers events hist
 
-  -- the hit of a key, and the hit that an event is, at a spot
+  -- the hit of a key, at a spot
   abbrev hit_under : Spot → Traced → List Part → TriggerHit
   hit_under s event key = record { spot = s; key = key; saved = None; values = values_at hist s.pos event None }
-
-  abbrev hit_by : Spot → Traced → Option TriggerHit
-  hit_by s event = option_map (hit_under s event) (hit hist event)
 
   -- ---- where the hits stand
 
   -- what holds of a hit of every key holds of the hit at a spot
   each_hit : (P : TriggerHit → Type 0) (s : Spot) → ((event : Traced) (key : List Part) → P (hit_under s event key)) → IfSome (hit_of s) P
   unfolding made_hit_at
-  each_hit P s h = elim (made_at makes triggers events s) as (λ o. IfSome (option_and_then (hit_by s) o) P) [
+  each_hit P s h = elim (made_at makes triggers events s) as (λ o. IfSome (option_and_then (made_hit hist s) o) P) [
     | None ↦ tt
     | Some event ↦ elim (hit hist event) as (λ o. IfSome (option_map (hit_under s event) o) P) [ None ↦ tt | Some key ↦ h event key ]
   ]
@@ -70,7 +70,7 @@ module _ (makes : Makes) (triggers : Triggers) (events : Events) (hist : Hist) w
 
   none_made : (s : Spot) → map.contains_key (made_events makes triggers events) s ≡ false → hit_of s ≡ None
   unfolding made_hit_at
-  none_made s none = none_then (hit_by s) (made_at makes triggers events s) (ap is_some (sym (get-made makes triggers events s)) ∙ none)
+  none_made s none = none_then (made_hit hist s) (made_at makes triggers events s) (ap is_some (sym (get-made makes triggers events s)) ∙ none)
 
   hit_in-hits : (s : Spot) → hit_in (made_hits makes triggers events hist) s ≡ hit_of s
   unfolding made_hits
@@ -84,7 +84,7 @@ module _ (makes : Makes) (triggers : Triggers) (events : Events) (hist : Hist) w
 
   -- the map of the hits holds what each of them adds
   pub get-made_hits_of : (m : Mark) → map.get (made_hits_of makes triggers events hist) m ≡ values_made makes triggers events hist m
-  unfolding made_hits_of values_made
+  unfolding made_hits_of values_made made_hit_at
   get-made_hits_of m =
       get-from_entries mark_cmp_total (list_map entry_of (made_hits makes triggers events hist)) m
       ∙ find-entries m (made_hits makes triggers events hist) hits_ascend ∙ ap (values_under m.key) (hit_in-hits m.spot)
@@ -95,7 +95,7 @@ module _ (makes : Makes) (triggers : Triggers) (events : Events) (hist : Hist) w
   unfolding made_hit_at
   one_counted tally e there =
       elim (hit hist e.1) as (λ o. option_map_or (λ key. tell_made hist e key tally) o tally ≡ option_map_or (counted hist.size tally) (option_map (hit_under e.0 e.1) o) tally) [ None ↦ refl | Some key ↦ refl ]
-      ∙ ap (λ o. option_map_or (counted hist.size tally) (option_and_then (hit_by e.0) o) tally) (sym there)
+      ∙ ap (λ o. option_map_or (counted hist.size tally) (option_and_then (made_hit hist e.0) o) tally) (sym there)
 
   all_counted : (tally : Tally) (es : List (Spot × Traced)) → AllByRecursion (λ e. made_at makes triggers events e.0 ≡ Some e.1) es
       → fold (count_made hist) tally es ≡ fold (counted hist.size) tally (filter_map hit_of (keys_of es))
@@ -141,3 +141,10 @@ module _ (makes : Makes) (triggers : Triggers) (events : Events) (hist : Hist) w
       tally-made_kept values is =
           tally-made ∙ ap (λ hits. Some (tally_of (table_for hist hits) []))
           (same_map mark_cmp_total mark_same _ _ (λ m. get-made_hits_of m ∙ sym (is m)))
+
+      -- and that of a map that holds what the events made of the readings add
+      pub tally-made_found : (found : ℕ → Pos → Option Pos) → AreFound triggers events found
+          → (values : Hits) → ((m : Mark) → map.get values m ≡ values_of_made hist m (made_by makes triggers events found m.spot))
+          → map.get (replay_making makes triggers events).made id ≡ Some (tally_of (table_for hist values) [])
+      unfolding values_made
+      tally-made_found found are values is = tally-made_kept values (λ m. is m ∙ ap (values_of_made hist m) (made_found makes triggers events found are m.spot))

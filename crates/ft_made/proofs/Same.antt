@@ -3,7 +3,6 @@ use Rattle.std.proofs.Common.{◌≡◌, ℕ, refl, ap, Some, None, Option}
 use Rattle.std.specs.Prelude.{option_and_then}
 use Rattle.std.specs.FinMap as map
 use Rattle.ft_fields.specs.declared.pos.Pos.{Pos}
-use Rattle.ft_hist.specs.Hist.{Hist}
 use Rattle.ft_table.specs.declared.spot.Spot.{Spot}
 use Rattle.ft_pairs.specs.declared.at.At.{At}
 use Rattle.ft_base.specs.Base.{Triggers}
@@ -13,7 +12,7 @@ use Rattle.ft_replay.specs.Found.{saving_found}
 use Rattle.ft_replay.specs.Hits.{hit_at}
 use Rattle.ft_made.specs.Making.{Makes}
 use Rattle.ft_made.specs.MadeEvents.{made_by, made_at}
-use Rattle.ft_made.specs.Laws.{spot_of}
+use Rattle.ft_made.specs.Laws.{AreFound, spot_of}
 
 -- what changes elsewhere changes no event that is made here
 pub made_local : ((triggers others : Triggers) (events more : Events) (at : At) → IsSameAct triggers others events more at → FindsTheSame triggers others events more at
@@ -26,8 +25,7 @@ made_local hits makes triggers others events more at same finds = λ i.
     (option_and_then (λ found. found.saved) (hits triggers others events more at same finds i))) (same.trigger i)) (same.event i)
 
 -- what the attached triggers' readings find makes what is made
-pub made_found : (makes : Makes) (triggers : Triggers) (events : Events) (found : ℕ → Pos → Option Pos)
-    → ((id : ℕ) (hist : Hist) → map.get triggers id ≡ Some hist → (pos : Pos) → found id pos ≡ saving_found triggers events id pos)
+pub made_found : (makes : Makes) (triggers : Triggers) (events : Events) (found : ℕ → Pos → Option Pos) → AreFound triggers events found
     → (spot : Spot) → made_by makes triggers events found spot ≡ made_at makes triggers events spot
 unfolding made_at
 made_found makes triggers events found is spot = elim (map.get events spot.pos) as (λ o.

@@ -22,7 +22,7 @@ use Rattle.ft_replay.specs.Tally.{empty_tally, tally_of}
 use Rattle.ft_made.specs.Making.{Makes, count_made}
 use Rattle.ft_made.specs.ReplayMaking.{replay_making}
 use Rattle.ft_made.specs.MadeEvents.{made_by, made_at, made_list, made_events}
-use Rattle.ft_made.specs.MadeHits.{made_hits_of, values_made}
+use Rattle.ft_made.specs.MadeHits.{made_hits_of, values_made, values_of_made}
 
 -- ---- two replays, one after the other
 
@@ -82,10 +82,13 @@ SameIsMade = (makes : Makes) (triggers others : Triggers) (events more : Events)
     → IsSameAct triggers others events more at → FindsTheSame triggers others events more at
     → made_at makes others more (spot_of at) ≡ made_at makes triggers events (spot_of at)
 
--- savings that are what the attached triggers' readings find make the same events (our own choice)
+-- these savings are, by trigger and place, what the attached triggers' readings find (our own choice)
+abbrev pub AreFound : Triggers → Events → (ℕ → Pos → Option Pos) → Type 0
+AreFound triggers events found = (id : ℕ) (hist : Hist) → map.get triggers id ≡ Some hist → (pos : Pos) → found id pos ≡ saving_found triggers events id pos
+
+-- such savings make the same events (our own choice)
 abbrev pub FoundMakeAll : Type 0
-FoundMakeAll = (makes : Makes) (triggers : Triggers) (events : Events) (found : ℕ → Pos → Option Pos)
-    → ((id : ℕ) (hist : Hist) → map.get triggers id ≡ Some hist → (pos : Pos) → found id pos ≡ saving_found triggers events id pos)
+FoundMakeAll = (makes : Makes) (triggers : Triggers) (events : Events) (found : ℕ → Pos → Option Pos) → AreFound triggers events found
     → (spot : Spot) → made_by makes triggers events found spot ≡ made_at makes triggers events spot
 
 -- ---- maps that are kept beside the events
@@ -99,4 +102,11 @@ MadeHitsAre = (makes : Makes) (triggers : Triggers) (events : Events) (hist : Hi
 abbrev pub KeptAreTallied : Type 0
 KeptAreTallied = (makes : Makes) (triggers : Triggers) (events : Events) (id : ℕ) (hist : Hist) → map.get triggers id ≡ Some hist
     → (values : Hits) → ((mark : Mark) → map.get values mark ≡ values_made makes triggers events hist mark)
+    → map.get (replay_making makes triggers events).made id ≡ Some (tally_of (table_for hist values) [])
+
+-- savings that are what the attached triggers' readings find, and a map that holds what the events made of them add, give it too (our own choice)
+abbrev pub ReadingsAreTallied : Type 0
+ReadingsAreTallied = (makes : Makes) (triggers : Triggers) (events : Events) (found : ℕ → Pos → Option Pos) → AreFound triggers events found
+    → (id : ℕ) (hist : Hist) → map.get triggers id ≡ Some hist
+    → (values : Hits) → ((mark : Mark) → map.get values mark ≡ values_of_made hist mark (made_by makes triggers events found mark.spot))
     → map.get (replay_making makes triggers events).made id ≡ Some (tally_of (table_for hist values) [])

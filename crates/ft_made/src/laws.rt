@@ -3,7 +3,7 @@
 ghost use Rattle.ft_made.specs.Laws.{FoundMakeAll, HeldAreCounted, KeptAreTallied};
 ghost use Rattle.ft_made.specs.Laws.{MadeAreCounted, MadeAreTallied, MadeBySpot, MadeHitsAre};
 ghost use Rattle.ft_made.specs.Laws.{MadeInOrder, NamedMakeAll, NoneIsMade, OthersCountNone};
-ghost use Rattle.ft_made.specs.Laws.{SameIsMade, SpotsAreDistinct};
+ghost use Rattle.ft_made.specs.Laws.{ReadingsAreTallied, SameIsMade, SpotsAreDistinct};
 
 /// A law: replaying with made events comes apart into two replays. Tallies of held events and
 /// variables are those of the replay that makes none. Beside them each attached trigger counts the
@@ -38,11 +38,12 @@ pub fn same_made()
 
 /// A law: what an attached trigger counts of made events is the tally of the table that its hits
 /// among them make. At each spot and key these are what its hit there adds; and any map that holds
-/// that gives the same tally.
+/// that gives the same tally, also where it is told by what is kept of readings.
 pub fn tallied_made()
     ensures tally { MadeAreTallied }
     ensures hits { MadeHitsAre }
     ensures kept { KeptAreTallied }
+    ensures readings { ReadingsAreTallied }
 {
     ft_table::laws::one_more_hit();
 }
