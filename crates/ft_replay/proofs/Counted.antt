@@ -12,7 +12,7 @@ grow values key row = grown values (unwrap_or row (empty_row key))
 
 -- one hit: its pair stands, and it is counted or dropped
 abbrev pub counted : ℕ → Tally → TriggerHit → Tally
-counted size tally found = count size found.key (grow found.values found.key) (with_pair found.pos found.saved tally)
+counted size tally found = count size found.key (grow found.values found.key) (with_pair found.spot.pos found.saved tally)
 
 -- all hits, in order
 abbrev pub counted_all : ℕ → List TriggerHit → Tally

@@ -24,6 +24,7 @@ use Rattle.ft_table.specs.Marks.{mark_cmp}
 use Rattle.ft_table.specs.Tabled.{is_in}
 use Rattle.ft_table.specs.declared.mark.Mark.{Mark}
 use Rattle.ft_lanes.specs.Held.{Lanes, event_at}
+use Rattle.ft_table.specs.Spots.{traced}
 use Rattle.ft_base.specs.Base.{Triggers}
 use Rattle.ft_replay.specs.Merged.{Events, merged, held_at}
 use Rattle.ft_replay.specs.Replay.{State, act_as, act, act_at, step, started, replay, growth_by}
@@ -60,9 +61,9 @@ module _ (triggers : Triggers) (entry : Pos × Traced) (state : State) (id : ℕ
 module _ (rows : RowsGrow) (totals : TotalsGrow) (members : InGrows) where
   -- ---- a hit
 
-  module _ (hist : Hist) (event : Traced) (at : At) (key : List Part) (counter : Counting) (last : ComesLast counter.table (record { pos = at.pos; key = key })) where
+  module _ (hist : Hist) (event : Traced) (at : At) (key : List Part) (counter : Counting) (last : ComesLast counter.table (record { spot = traced at.pos; key = key })) where
     abbrev mark : Mark
-    mark = record { pos = at.pos; key = key }
+    mark = record { spot = traced at.pos; key = key }
 
     abbrev values : Option Pos → List ℤ
     values = values_at hist at.pos event

@@ -18,6 +18,7 @@ use Rattle.ft_pairs.specs.Source.{Ops, IsSource}
 use Rattle.ft_pairs.specs.declared.role.Role.{Role}
 use Rattle.ft_pairs.specs.declared.role.Role.TheVariants.{Plain, Saves, Reads}
 use Rattle.ft_pairs.specs.declared.role.Variable.{Variable}
+use Rattle.ft_table.specs.Spots.{traced}
 use Rattle.ft_base.specs.Base.{Triggers}
 use Rattle.ft_replay.specs.Merged.{Events}
 use Rattle.ft_replay.specs.Elsewhere.{IsSameAct, FindsTheSame, AdmitsTheSame}
@@ -63,7 +64,7 @@ module _ (triggers others : Triggers) (events more : Events) where
 
     -- the hit of a trigger with a role at an event with a key, by what is found
     abbrev hit_as : (Variable → Option Pos) → Hist → Traced → List Part → Role → Option TriggerHit
-    hit_as found hist e key r = option_map (λ saved. record { pos = at.pos; key = key; saved = saved; values = values_at hist at.pos e saved }) (read_as r found key)
+    hit_as found hist e key r = option_map (λ saved. record { spot = traced at.pos; key = key; saved = saved; values = values_at hist at.pos e saved }) (read_as r found key)
 
     module _ (hist : Hist) (attached : map.get triggers at.trigger ≡ Some hist) where
       role-is : role_at triggers at.trigger ≡ role_of triggers hist.variable
@@ -91,7 +92,7 @@ module _ (triggers others : Triggers) (events more : Events) where
       same_with same e key held is Plain _ = refl
       same_with same e key held is Saves _ = refl
       same_with same e key held is (Reads saver) reads =
-          ap (λ o. option_map (λ saved. record { pos = at.pos; key = key; saved = saved; values = values_at hist at.pos e saved }) (option_map (λ saved. Some saved) o))
+          ap (λ o. option_map (λ saved. record { spot = traced at.pos; key = key; saved = saved; values = values_at hist at.pos e saved }) (option_map (λ saved. Some saved) o))
           (same (record { saver = saver; key = key }) (reads-is e key saver held is reads))
 
     pub same_hit : FindsTheSame triggers others events more at → hit_at others more at.trigger at.pos ≡ hit_at triggers events at.trigger at.pos

@@ -10,13 +10,13 @@ use Rattle.std.specs.FinMap as map
 use Rattle.std.specs.FinMap.{entries_sorted, get-retain_keys}
 use Rattle.std.proofs.lemmas.Cmp.{tied_itself}
 use Rattle.std.proofs.lemmas.Map.Keys.{sorted_head, sorted_tail}
-use Rattle.ft_fields.specs.declared.pos.Pos.{Pos}
-use Rattle.ft_fields.specs.Places.{pos_cmp, pos_same}
 use Rattle.ft_keys.specs.Ties.{key_same}
 use Rattle.ft_maps.specs.Entries.{strictly_sorted, same_from_tie}
 use Rattle.ft_table.specs.declared.mark.Mark.{Mark}
 use Rattle.ft_table.specs.Hits.{Hits, same_key, first_place}
 use Rattle.ft_table.specs.Marks.{mark_cmp, mark_cmp_total, mark_same}
+use Rattle.ft_table.specs.declared.spot.Spot.{Spot}
+use Rattle.ft_table.specs.Spots.{spot_cmp, spot_same}
 use Rattle.ft_table.specs.Tabled.{Tabled, is_first, first_hits, order_of, keys_in}
 use Rattle.ft_base.proofs.Apart.{all_map, entries_found}
 
@@ -41,9 +41,9 @@ order_first hits =
     (λ e is. is_first-some (is_first hits e.0) (map.get hits e.0) e.1 (sym (get-first_hits hits e.0) ∙ is)) (map.entries (first_hits hits))
     (entries_found mark_cmp mark_cmp_total (first_hits hits)))
 
-one_place : (first : Option Pos) (p q : Pos) → option_map_or (eq_by_cmp pos_cmp p) first false ≡ true → option_map_or (eq_by_cmp pos_cmp q) first false ≡ true → p ≡ q
-one_place None p q a b = absurd cc
-one_place (Some r) p q a b = same_from_tie pos_same p r a ∙ sym (same_from_tie pos_same q r b)
+one_spot : (first : Option Spot) (p q : Spot) → option_map_or (eq_by_cmp spot_cmp p) first false ≡ true → option_map_or (eq_by_cmp spot_cmp q) first false ≡ true → p ≡ q
+one_spot None p q a b = absurd cc
+one_spot (Some r) p q a b = same_from_tie spot_same p r a ∙ sym (same_from_tie spot_same q r b)
 
 module _ (hits : Hits) where
   -- first hits that stand one before the other have two keys
@@ -54,8 +54,8 @@ module _ (hits : Hits) where
       from false e = refl
       from true e =
           let keys : m.key ≡ q.key = same_from_tie key_same m.key q.key e in
-          let places : m.pos ≡ q.pos = one_place (first_place hits m.key) m.pos q.pos first (ap (λ k. option_map_or (eq_by_cmp pos_cmp q.pos) (first_place hits k) false) keys ∙ later) in
-          let marks : m ≡ q = λ i. record { pos = places i; key = keys i } in
+          let spots : m.spot ≡ q.spot = one_spot (first_place hits m.key) m.spot q.spot first (ap (λ k. option_map_or (eq_by_cmp spot_cmp q.spot) (first_place hits k) false) keys ∙ later) in
+          let marks : m ≡ q = λ i. record { spot = spots i; key = keys i } in
           sym (ap (λ x. is_lt (mark_cmp m x)) marks ∙ ap is_lt less) ∙ ap is_lt (tied_itself mark_cmp_total m)
 
   apart_all : (m : Mark) (ms : List Mark) (s : ℕ) → is_first hits m ≡ true → AllByRecursion (λ q. mark_cmp m q ≡ Less) ms → AllByRecursion (λ q. is_first hits q ≡ true) ms → AllByRecursion (λ k. same_key m.key k ≡ false) (list_map (λ q. q.key) (take s ms))

@@ -17,6 +17,7 @@ pub mod Stepping
 pub mod Acting
 pub mod Rooms
 pub mod Telling
+pub mod Spots
 pub mod Listed
 pub mod Tallied
 pub mod Reached

@@ -24,6 +24,7 @@ use Rattle.ft_replay.specs.declared.pair.Pair.{Pair}
 use Rattle.ft_pairs.specs.declared.role.Role.{Role}
 use Rattle.ft_pairs.specs.declared.role.Role.TheVariants.{Plain, Saves, Reads}
 use Rattle.ft_pairs.specs.declared.role.Variable.{Variable}
+use Rattle.ft_table.specs.Spots.{traced}
 use Rattle.ft_base.specs.Base.{Triggers}
 use Rattle.ft_replay.specs.Merged.{Events}
 use Rattle.ft_replay.specs.Hits.{TriggerHit, found_at, read_as, hit_at, trigger_hits, pair_of, pairs_of}
@@ -149,12 +150,12 @@ module _ (triggers : Triggers) (events : Events) where
 
   abbrev HitIsAfter : Option TriggerHit → Type 0
   HitIsAfter None = ⊤
-  HitIsAfter (Some found) = IsAfter found.pos found.saved
+  HitIsAfter (Some found) = IsAfter found.spot.pos found.saved
 
   module _ (id : ℕ) where
     -- the hit of a trigger with a role at an event with a key
     abbrev hit_as : Pos → Hist → Traced → List Part → Role → Option TriggerHit
-    hit_as at hist event key r = option_map (λ saved. record { pos = at; key = key; saved = saved; values = values_at hist at event saved })
+    hit_as at hist event key r = option_map (λ saved. record { spot = traced at; key = key; saved = saved; values = values_at hist at event saved })
         (read_as r (λ variable. found_at triggers events variable (record { pos = at; trigger = id })) key)
 
     role_after : (at : Pos) (hist : Hist) (event : Traced) (key : List Part) (r : Role) → HitIsAfter (hit_as at hist event key r)
@@ -162,7 +163,7 @@ module _ (triggers : Triggers) (events : Events) where
     role_after at hist event key Saves = tt
     role_after at hist event key (Reads saver) = elim (found_at triggers events (record { saver = saver; key = key }) (record { pos = at; trigger = id })) as (λ o.
         found_at triggers events (record { saver = saver; key = key }) (record { pos = at; trigger = id }) ≡ o
-        → HitIsAfter (option_map (λ saved. record { pos = at; key = key; saved = saved; values = values_at hist at event saved }) (option_map (λ saved. Some saved) o))) [
+        → HitIsAfter (option_map (λ saved. record { spot = traced at; key = key; saved = saved; values = values_at hist at event saved }) (option_map (λ saved. Some saved) o))) [
           | None ↦ λ _. tt
           | Some saved ↦ λ is. found_first (record { saver = saver; key = key }) (record { pos = at; trigger = id }) saved is
         ] refl
@@ -189,7 +190,7 @@ module _ (triggers : Triggers) (events : Events) where
 
     with_hit : (o : Option TriggerHit) (hits : List TriggerHit) → HitIsAfter o → All IsOrdered (filter_map pair_of hits) → All IsOrdered (filter_map pair_of (cons_option o hits))
     with_hit None hits h more = more
-    with_hit (Some found) hits h more = with_saved found.pos found.saved (filter_map pair_of hits) h more
+    with_hit (Some found) hits h more = with_saved found.spot.pos found.saved (filter_map pair_of hits) h more
 
     pairs_after : (places : List Pos) → All IsOrdered (filter_map pair_of (filter_map (hit_at triggers events id) places))
     pairs_after [] = All-nil IsOrdered

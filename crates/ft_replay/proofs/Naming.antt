@@ -58,11 +58,11 @@ module _ (names : Name → Bool) where
 
 -- ---- those on whose name some trigger is
 
-either-left : (a b : Bool) → (a || b) ≡ false → a ≡ false
+pub either-left : (a b : Bool) → (a || b) ≡ false → a ≡ false
 either-left true b h = h
 either-left false b h = refl
 
-either-right : (a b : Bool) → (a || b) ≡ false → b ≡ false
+pub either-right : (a b : Bool) → (a || b) ≡ false → b ≡ false
 either-right true b h = absurd cc
 either-right false b h = h
 

@@ -50,7 +50,7 @@ all_filter P p (x ∷ xs) h = elim (p x) as (λ b. AllByRecursion P (cond b (x �
   | false ↦ all_filter P p xs h.1
 ]
 
-lower-is : (i j : ℕ) → is_lt (nat_cmp i j) ≡ nat_lt i j
+pub lower-is : (i j : ℕ) → is_lt (nat_cmp i j) ≡ nat_lt i j
 lower-is i j = elim (nat_lt i j) as (λ b. is_lt (cond b Less (cond (i == j) Equal Greater)) ≡ b) [
   | true ↦ refl
   | false ↦ elim (i == j) as (λ b. is_lt (cond b Equal Greater) ≡ false) [ true ↦ refl | false ↦ refl ]
@@ -59,7 +59,7 @@ lower-is i j = elim (nat_lt i j) as (λ b. is_lt (cond b Less (cond (i == j) Equ
 module _ (triggers : Triggers) (at : At) where
   -- ---- the acts before the place, event by event
 
-  abbrev is_earlier : Pos × Traced → Bool
+  abbrev pub is_earlier : Pos × Traced → Bool
   is_earlier e = is_lt (pos_cmp e.0 at.pos)
 
   -- the triggers that act before, where the event is the place's own
@@ -152,7 +152,7 @@ module _ (triggers : Triggers) (at : At) where
   abbrev start : State
   start = record { tallies = started triggers; variables = map.empty }
 
-  earlier-entries : (events : Events) → map.entries (map.retain_keys events (λ place. is_lt (pos_cmp place at.pos))) ≡ filter is_earlier (map.entries events)
+  pub earlier-entries : (events : Events) → map.entries (map.retain_keys events (λ place. is_lt (pos_cmp place at.pos))) ≡ filter is_earlier (map.entries events)
   earlier-entries events =
       let p : Pos → Bool = λ place. is_lt (pos_cmp place at.pos) in
       let alike : (q x : Pos) → pos_cmp q x ≡ Equal → p x ≡ p q = λ q x tie. ap p (sym (pos_same q x tie)) in

@@ -21,6 +21,7 @@ use Rattle.ft_maps.specs.Entries.{same_from_tie}
 use Rattle.ft_table.specs.Growth.{empty_row}
 use Rattle.ft_pairs.specs.declared.role.Role.TheVariants.{Plain}
 use Rattle.ft_pairs.specs.declared.role.Variable.{Variable}
+use Rattle.ft_table.specs.Spots.{traced}
 use Rattle.ft_base.specs.Base.{Triggers}
 use Rattle.ft_replay.specs.Merged.{Events}
 use Rattle.ft_replay.specs.Hits.{TriggerHit, found_at, read_as, hit_at, trigger_hits}
@@ -49,7 +50,7 @@ module _ (triggers : Triggers) (events : Events) where
         | false ↦ refl
       ]
 
-  started-is : (q : ℕ) → map.get (started triggers) q ≡ option_map (λ hist. empty_tally) (map.get triggers q)
+  pub started-is : (q : ℕ) → map.get (started triggers) q ≡ option_map (λ hist. empty_tally) (map.get triggers q)
   unfolding started
   started-is q = started_from map.empty (map.entries triggers) q
       ∙ ap (cond (is_some (find nat_cmp q (map.entries triggers))) (Some empty_tally)) (get-empty {X = Tally} nat_cmp q)
@@ -75,7 +76,7 @@ module _ (triggers : Triggers) (events : Events) where
     -- ---- the trigger's hits among the acts
 
     abbrev hit_from : Act → Option Pos → TriggerHit
-    hit_from a saved = record { pos = a.at.pos; key = a.key; saved = saved; values = values_at hist a.at.pos a.event saved }
+    hit_from a saved = record { spot = traced a.at.pos; key = a.key; saved = saved; values = values_at hist a.at.pos a.event saved }
 
     -- what an act reads, by what is found where the trigger acts
     abbrev reads : Act → Option (Option Pos)
@@ -171,11 +172,11 @@ module _ (triggers : Triggers) (events : Events) where
       unfolding hit_at
       hit_at-is = elim (hit hist e.1) as (λ o. option_and_then hit_by (option_map (made e id) o) ≡ option_and_then (λ key. hit_by (made e id key)) o) [ None ↦ refl | Some key ↦ refl ]
           ∙ ap (option_and_then (λ h. option_and_then (λ key.
-          option_map (λ saved. record { pos = e.0; key = key; saved = saved; values = values_at h e.0 e.1 saved })
+          option_map (λ saved. record { spot = traced e.0; key = key; saved = saved; values = values_at h e.0 e.1 saved })
           (read_as (role_of triggers h.variable) (λ variable. found_at triggers events variable (record { pos = e.0; trigger = id })) key)
           ) (hit h e.1))) (sym attached)
           ∙ ap (option_and_then (λ event. option_and_then (λ h. option_and_then (λ key.
-          option_map (λ saved. record { pos = e.0; key = key; saved = saved; values = values_at h e.0 event saved })
+          option_map (λ saved. record { spot = traced e.0; key = key; saved = saved; values = values_at h e.0 event saved })
           (read_as (role_of triggers h.variable) (λ variable. found_at triggers events variable (record { pos = e.0; trigger = id })) key)
           ) (hit h event)) (map.get triggers id))) (sym there)
 

@@ -20,6 +20,7 @@ use Rattle.ft_table.specs.Growth.{ComesLast}
 use Rattle.ft_table.specs.Hits.{Hits}
 use Rattle.ft_table.specs.Marks.{mark_cmp, mark_cmp_total, mark_same}
 use Rattle.ft_table.specs.declared.mark.Mark.{Mark}
+use Rattle.ft_table.specs.Spots.{traced}
 use Rattle.ft_base.specs.Base.{Triggers}
 use Rattle.ft_table.specs.Values.{values_at}
 use Rattle.ft_replay.specs.inner.Counters.{Counting, Counters, Saved, counter_with, after_hit, after_act, IsFree, Suits, HasCounter, HaveCounters, StandBefore, AllBefore}
@@ -51,7 +52,7 @@ each_counter P counters id new all own q s there =
 
 -- a hit leaves its trigger's counter, or one with a hit more
 pub hit_or_not : (P : Counting → Type 0) (values : Option Pos → List ℤ) (role : Role) (at : At) (key : List Part) (counter : Counting) (saved : Saved)
-    → P counter → ((read : Option Pos) → P (counter_with (record { pos = at.pos; key = key }) read (values read) counter)) → P (after_hit values role at key (counter, saved)).0
+    → P counter → ((read : Option Pos) → P (counter_with (record { spot = traced at.pos; key = key }) read (values read) counter)) → P (after_hit values role at key (counter, saved)).0
 hit_or_not P values Plain at key counter saved none one = one None
 hit_or_not P values Saves at key counter saved none one = one None
 hit_or_not P values (Reads saver) at key counter saved none one =
@@ -72,19 +73,19 @@ module _ (at : At) (counters : Counters) (before : AllBefore at counters) where
   -- no hit stands where the trigger acts
   pub free_before : IsFree at counters
   free_before counter key there =
-      not_there counter.table.hits (record { pos = at.pos; key = key }) (λ m is same.
-      never_before at_cmp_total at (subst (λ (q : Mark). at_cmp (act_of q.pos at.trigger) at ≡ Less) same (before at.trigger counter there m is)))
+      not_there counter.table.hits (record { spot = traced at.pos; key = key }) (λ m is same.
+      never_before at_cmp_total at (subst (λ (q : Mark). at_cmp (act_of q.spot.pos at.trigger) at ≡ Less) same (before at.trigger counter there m is)))
 
   -- a hit there comes last
-  pub comes_last : (counter : Counting) (key : List Part) → map.get counters at.trigger ≡ Some counter → ComesLast counter.table (record { pos = at.pos; key = key })
+  pub comes_last : (counter : Counting) (key : List Part) → map.get counters at.trigger ≡ Some counter → ComesLast counter.table (record { spot = traced at.pos; key = key })
   comes_last counter key there = record {
     absent = free_before counter key there;
-    last = λ q is. ap (λ o. ordering_then o (key_cmp q.key key)) (place_before q.pos at.pos at.trigger (before at.trigger counter there q is));
+    last = λ q is. ap (λ o. ordering_then (ordering_then o (nat_cmp q.spot.maker 0)) (key_cmp q.key key)) (place_before q.spot.pos at.pos at.trigger (before at.trigger counter there q is));
   }
 
   -- all hits stand before a later act
   pub before_later : (next : At) → at_cmp at next ≡ Less → AllBefore next counters
-  before_later next less id counter there m is = at_cmp_total.trans (act_of m.pos id) at next (before id counter there m is) less
+  before_later next less id counter there m is = at_cmp_total.trans (act_of m.spot.pos id) at next (before id counter there m is) less
 
   -- and still after an event at the trigger
   pub after_act-before : (hist : Hist) (event : Traced) (saved : Saved) (next : At) → at_cmp at next ≡ Less → AllBefore next (after_act hist event at (counters, saved)).0
@@ -97,7 +98,7 @@ module _ (at : At) (counters : Counters) (before : AllBefore at counters) where
               let old : StandBefore next at.trigger counter = before_later next less at.trigger counter there in
               let new : StandBefore next at.trigger (after_hit (values_at hist at.pos event) counter.role at key (counter, saved)).0 =
               hit_or_not (StandBefore next at.trigger) (values_at hist at.pos event) counter.role at key counter saved old (λ read.
-              each_hit (λ m. at_cmp (act_of m.pos at.trigger) next ≡ Less) counter.table.hits (record { pos = at.pos; key = key }) (values_at hist at.pos event read) old less) in
+              each_hit (λ m. at_cmp (act_of m.spot.pos at.trigger) next ≡ Less) counter.table.hits (record { spot = traced at.pos; key = key }) (values_at hist at.pos event read) old less) in
               subst (λ (p : Counters × Saved). AllBefore next p.0) (sym (after_act-hit hist event at counters saved key counter is there))
               (each_counter (StandBefore next) counters at.trigger _ (before_later next less) new)
         ] refl
@@ -112,7 +113,7 @@ module _ (fits : (hist : Hist) (event : Traced) (parts : List Part) → hit hist
       hit_or_not (Suits triggers hist) (values_at hist at.pos event) counter.role at key counter saved suits (λ read. record {
         role = suits.role;
         size = suits.size;
-        fit = each_hit (λ m. KeyFits hist.keys m.key) counter.table.hits (record { pos = at.pos; key = key }) (values_at hist at.pos event read) suits.fit (fits hist event key is);
+        fit = each_hit (λ m. KeyFits hist.keys m.key) counter.table.hits (record { spot = traced at.pos; key = key }) (values_at hist at.pos event read) suits.fit (fits hist event key is);
       })
 
   -- a trigger has its counter as another one takes that of its own

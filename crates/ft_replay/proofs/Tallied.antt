@@ -10,13 +10,13 @@ use Rattle.std.proofs.lemmas.Cmp.{tied_itself}
 use Rattle.std.proofs.lemmas.List.{append-nil, append_assoc}
 use Rattle.std.proofs.lemmas.Map.Keys.{sorted_head, sorted_tail}
 use Rattle.ft_fields.specs.declared.pos.Pos.{Pos}
-use Rattle.ft_fields.specs.Places.{pos_cmp}
 use Rattle.ft_keys.specs.Parts.{key_cmp}
 use Rattle.ft_maps.specs.Entries.{same_from_tie}
 use Rattle.ft_table.specs.declared.mark.Mark.{Mark}
 use Rattle.ft_table.specs.Growth.{AreBefore, ComesLast, InGrows, RowsGrow, TotalsGrow}
 use Rattle.ft_table.specs.Hits.{Hits}
 use Rattle.ft_table.specs.Marks.{mark_cmp, mark_cmp_total, mark_same}
+use Rattle.ft_table.specs.Spots.{spot_cmp}
 use Rattle.ft_table.specs.Tabled.{Tabled}
 use Rattle.ft_replay.specs.declared.pair.Pair.{Pair}
 use Rattle.ft_replay.specs.Hits.{TriggerHit, entry_of, pair_of}
@@ -24,7 +24,7 @@ use Rattle.ft_replay.specs.Tally.{tally_of}
 use Rattle.ft_replay.proofs.Counted.{counted, counted_all}
 use Rattle.ft_replay.specs.inner.Counters.{pairs_with}
 use Rattle.ft_replay.proofs.Growing.{tally-empty, tally_grows_with}
-use Rattle.ft_replay.proofs.Listed.{Ascend, AreBehind, place_of, find-entries, none_in, values_under}
+use Rattle.ft_replay.proofs.Listed.{Ascend, AreBehind, spot_of, find-entries, none_in, values_under}
 
 -- where a hit stands in a map of hits
 abbrev pub mark_of : TriggerHit → Mark
@@ -56,13 +56,13 @@ before_more hits m v later before less q there = from (eq_by_cmp mark_cmp q m) r
     from true tie there = ap (λ x. mark_cmp x later) (same_from_tie mark_same q m tie) ∙ less
     from false apart there = before q there
 
--- a hit at an earlier place stands before
-by_place : (m : Mark) (found : TriggerHit) → pos_cmp m.pos found.pos ≡ Less → mark_cmp m (mark_of found) ≡ Less
-by_place m found less = ap (λ o. ordering_then o (key_cmp m.key found.key)) less
+-- a hit at an earlier spot stands before
+by_spot : (m : Mark) (found : TriggerHit) → spot_cmp m.spot found.spot ≡ Less → mark_cmp m (mark_of found) ≡ Less
+by_spot m found less = ap (λ o. ordering_then o (key_cmp m.key found.key)) less
 
-before_all : (hits : Hits) (m : Mark) (v : List ℤ) (found : List TriggerHit) → AllBefore hits found → AreBehind m.pos found → AllBefore (map.insert hits m v) found
+before_all : (hits : Hits) (m : Mark) (v : List ℤ) (found : List TriggerHit) → AllBefore hits found → AreBehind m.spot found → AllBefore (map.insert hits m v) found
 before_all hits m v [] before behind = tt
-before_all hits m v (first ∷ found) before behind = (before_more hits m v (mark_of first) before.0 (by_place m first behind.0), before_all hits m v found before.1 behind.1)
+before_all hits m v (first ∷ found) before behind = (before_more hits m v (mark_of first) before.0 (by_spot m first behind.0), before_all hits m v found before.1 behind.1)
 
 none_before : (found : List TriggerHit) → AllBefore map.empty found
 none_before [] = tt
@@ -82,7 +82,7 @@ or_none (Some x) = refl
 get-with_all : (hits : Hits) (found : List TriggerHit) → Ascend found → (q : Mark) → map.get (with_all hits found) q ≡ or_else (find mark_cmp q (list_map entry_of found)) (map.get hits q)
 get-with_all hits [] up q = refl
 get-with_all hits (first ∷ found) up q =
-    get-with_all (map.insert hits (mark_of first) first.values) found (sorted_tail pos_cmp first.pos (list_map place_of found) up) q
+    get-with_all (map.insert hits (mark_of first) first.values) found (sorted_tail spot_cmp first.spot (list_map spot_of found) up) q
     ∙ ap (or_else (find mark_cmp q (list_map entry_of found))) (get-insert mark_cmp_total hits (mark_of first) first.values q)
     ∙ from (eq_by_cmp mark_cmp q (mark_of first)) refl
   where
@@ -91,8 +91,8 @@ get-with_all hits (first ∷ found) up q =
     from true tie =
         let at : q ≡ mark_of first = same_from_tie mark_same q (mark_of first) tie in
         let none : find mark_cmp q (list_map entry_of found) ≡ None =
-        find-entries q found (sorted_tail pos_cmp first.pos (list_map place_of found) up)
-        ∙ ap (values_under q.key) (none_in q.pos found (subst (λ (m : Mark). AreBehind m.pos found) (sym at) (sorted_head pos_cmp first.pos (list_map place_of found) up))) in
+        find-entries q found (sorted_tail spot_cmp first.spot (list_map spot_of found) up)
+        ∙ ap (values_under q.key) (none_in q.spot found (subst (λ (m : Mark). AreBehind m.spot found) (sym at) (sorted_head spot_cmp first.spot (list_map spot_of found) up))) in
         ap (λ o. or_else o (Some first.values)) none
     from false apart = refl
 
@@ -106,12 +106,12 @@ with_all-map found up =
 -- ---- pairs
 
 -- the pairs of a hit and of those behind it
-more_pairs : (pairs : List Pair) (first : TriggerHit) (found : List TriggerHit) → pairs_with first.pos first.saved pairs ++ filter_map pair_of found ≡ pairs ++ filter_map pair_of (first ∷ found)
+more_pairs : (pairs : List Pair) (first : TriggerHit) (found : List TriggerHit) → pairs_with first.spot.pos first.saved pairs ++ filter_map pair_of found ≡ pairs ++ filter_map pair_of (first ∷ found)
 more_pairs pairs first found = from first.saved
   where
-    from : (o : Option Pos) → pairs_with first.pos o pairs ++ filter_map pair_of found ≡ pairs ++ filter_map pair_of (record first { saved = o } ∷ found)
+    from : (o : Option Pos) → pairs_with first.spot.pos o pairs ++ filter_map pair_of found ≡ pairs ++ filter_map pair_of (record first { saved = o } ∷ found)
     from None = refl
-    from (Some saved) = append_assoc pairs (record { saved = saved; read = first.pos } ∷ []) (filter_map pair_of found)
+    from (Some saved) = append_assoc pairs (record { saved = saved; read = first.spot.pos } ∷ []) (filter_map pair_of found)
 
 -- ---- tallies
 
@@ -124,9 +124,9 @@ module _ (rows : RowsGrow) (totals : TotalsGrow) (members : InGrows) (size : ℕ
       → fold (counted size) (tally_of (tabled hits) pairs) found ≡ tally_of (tabled (with_all hits found)) (pairs ++ filter_map pair_of found)
   counted_behind hits pairs [] before up = ap (tally_of (tabled hits)) (sym (append-nil pairs))
   counted_behind hits pairs (first ∷ found) before up =
-      ap (λ t. fold (counted size) t found) (sym (tally_grows_with rows totals members (tabled hits) (mark_of first) first.values (comes_last (tabled hits) (mark_of first) before.0) first.pos first.saved pairs))
-      ∙ counted_behind (map.insert hits (mark_of first) first.values) (pairs_with first.pos first.saved pairs) found
-      (before_all hits (mark_of first) first.values found before.1 (sorted_head pos_cmp first.pos (list_map place_of found) up)) (sorted_tail pos_cmp first.pos (list_map place_of found) up)
+      ap (λ t. fold (counted size) t found) (sym (tally_grows_with rows totals members (tabled hits) (mark_of first) first.values (comes_last (tabled hits) (mark_of first) before.0) first.spot.pos first.saved pairs))
+      ∙ counted_behind (map.insert hits (mark_of first) first.values) (pairs_with first.spot.pos first.saved pairs) found
+      (before_all hits (mark_of first) first.values found before.1 (sorted_head spot_cmp first.spot (list_map spot_of found) up)) (sorted_tail spot_cmp first.spot (list_map spot_of found) up)
       ∙ ap (tally_of (tabled (with_all (map.insert hits (mark_of first) first.values) found))) (more_pairs pairs first found)
 
   -- hits in order, counted one by one, come to the tally of their map

@@ -1,4 +1,4 @@
--- What maps that are kept beside the events hold: what each hit adds, by place and key, and what each reading found, by place (our own choice).
+-- What maps that are kept beside the events hold: what each hit adds, by spot and key, and what each reading found, by place (our own choice).
 use Rattle.std.specs.Prelude.{ℕ, ℤ, List, Option, Some, None, option_and_then, map as list_map, if◌then◌else◌}
 use Rattle.std.specs.FinMap as map
 use Rattle.std.specs.FinMap.{FinMap}
@@ -9,12 +9,12 @@ use Rattle.ft_table.specs.Hits.{same_key}
 use Rattle.ft_replay.specs.declared.pair.Pair.{Pair}
 use Rattle.ft_base.specs.Base.{Triggers}
 use Rattle.ft_replay.specs.Merged.{Events}
-use Rattle.ft_replay.specs.Hits.{hit_at}
+use Rattle.ft_replay.specs.Hits.{hit_at, hit_on}
 
--- what the trigger's hit at a place under a key adds to the sums, where there is one (kernel: histogram.rst, `values`)
+-- what the trigger's hit at a spot under a key adds to the sums, where there is one (kernel: histogram.rst, `values`)
 unfoldable pub values_found : Triggers → Events → ℕ → Mark → Option (List ℤ)
 values_found triggers events id mark =
-    option_and_then (λ found. if same_key mark.key found.key then Some found.values else None) (hit_at triggers events id mark.pos)
+    option_and_then (λ found. if same_key mark.key found.key then Some found.values else None) (hit_on triggers events id mark.spot)
 
 -- the place of the saving that the trigger's hit at a place read, where there is one and it read (kernel: histogram.rst, inter-event hist triggers)
 unfoldable pub saving_found : Triggers → Events → ℕ → Pos → Option Pos

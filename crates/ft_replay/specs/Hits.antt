@@ -10,6 +10,8 @@ use Rattle.ft_hist.specs.Hist.{Hist}
 use Rattle.ft_hist.specs.Hit.{hit}
 use Rattle.ft_pairs.specs.declared.at.At.{At}
 use Rattle.ft_table.specs.declared.mark.Mark.{Mark}
+use Rattle.ft_table.specs.declared.spot.Spot.{Spot}
+use Rattle.ft_table.specs.Spots.{traced, traced_place}
 use Rattle.ft_table.specs.Hits.{Hits}
 use Rattle.ft_table.specs.Tabled.{Tabled}
 use Rattle.ft_replay.specs.declared.pair.Pair.{Pair}
@@ -33,9 +35,9 @@ state_before triggers events at =
 abbrev pub found_at : Triggers → Events → Variable → At → Option Pos
 found_at triggers events variable at = map.get (state_before triggers events at).variables variable
 
--- a hit of a trigger: its place and key, the place of the saving that it read, if it read, and what it adds to the sums (our own choice)
+-- a hit of a trigger: its spot and key, the place of the saving that it read, if it read, and what it adds to the sums (our own choice)
 pub record TriggerHit : Type 0 where
-  pub pos : Pos
+  pub spot : Spot
   pub key : List Part
   pub saved : Option Pos
   pub values : List ℤ
@@ -50,17 +52,21 @@ read_as (Reads saver) found key = option_map (λ saved. Some saved) (found (reco
 unfoldable pub hit_at : Triggers → Events → ℕ → Pos → Option TriggerHit
 hit_at triggers events id at =
     option_and_then (λ event. option_and_then (λ hist. option_and_then (λ key.
-    option_map (λ saved. record { pos = at; key = key; saved = saved; values = values_at hist at event saved })
+    option_map (λ saved. record { spot = traced at; key = key; saved = saved; values = values_at hist at event saved })
     (read_as (role_of triggers hist.variable) (λ variable. found_at triggers events variable (record { pos = at; trigger = id })) key)
     ) (hit hist event)) (map.get triggers id)) (map.get events at)
+
+-- the hit of an attached trigger that stands at a spot, if one does; there are no hits but of events of the trace (our own choice)
+abbrev pub hit_on : Triggers → Events → ℕ → Spot → Option TriggerHit
+hit_on triggers events id spot = option_and_then (hit_at triggers events id) (traced_place spot)
 
 -- all hits of an attached trigger, in merged order (kernel: histogram.rst, hist triggers)
 unfoldable pub trigger_hits : Triggers → Events → ℕ → List TriggerHit
 trigger_hits triggers events id = filter_map (hit_at triggers events id) (map.keys events)
 
--- a hit as a table holds it: its values by its place and key (our own choice)
+-- a hit as a table holds it: its values by its spot and key (our own choice)
 abbrev pub entry_of : TriggerHit → Mark × List ℤ
-entry_of found = (record { pos = found.pos; key = found.key }, found.values)
+entry_of found = (record { spot = found.spot; key = found.key }, found.values)
 
 -- the map of hits that the table of a trigger is made of (our own choice)
 unfoldable pub hits_of : Triggers → Events → ℕ → Hits
@@ -72,7 +78,7 @@ table_for hist hits = record { hits = hits; size = hist.size }
 
 -- the pair of a hit, where it read (our own choice)
 abbrev pub pair_of : TriggerHit → Option Pair
-pair_of found = option_map (λ saved. record { saved = saved; read = found.pos }) found.saved
+pair_of found = option_map (λ saved. record { saved = saved; read = found.spot.pos }) found.saved
 
 -- the pairs that a trigger's readings make, in merged order of the reading, whether counted or dropped (our own choice)
 unfoldable pub pairs_of : Triggers → Events → ℕ → List Pair

@@ -5,6 +5,7 @@ ghost use Rattle.std.specs.Ordering.{nat_cmp};
 ghost use Rattle.std.specs.FinMap as map;
 ghost use Rattle.ft_fields.specs.declared.pos.Pos.{Pos};
 ghost use Rattle.ft_maps.specs.Seen.{seen};
+ghost use Rattle.ft_table.specs.Spots.{traced};
 ghost use Rattle.ft_table.specs.Tabled.{is_in};
 ghost use Rattle.ft_hist.specs.Steps.{StepsGrow};
 ghost use Rattle.ft_table.specs.Values.{values_at};
@@ -16,7 +17,7 @@ use ft_fields::{Event, Pos};
 use ft_hist::{Key, Trigger, Work};
 use ft_maps::{get, put, take};
 use ft_pairs::{At, Role, Variable};
-use ft_table::hit_with;
+use ft_table::{Spot, hit_with};
 use std::alloc::AllocError;
 use std::collections::BTreeMap;
 
@@ -57,23 +58,24 @@ fn act_as(
     work: &mut Work,
 ) -> Result<(), AllocError>
     requires stamped { at.pos.stamp ≡ event.now.stamp }
-    requires free { map.get counter.old.table.hits (record { pos = at.pos; key = key }) ≡ None }
+    requires free { map.get counter.old.table.hits (record { spot = traced at.pos; key = key }) ≡ None }
     ensures acts { OnOk result ((counter.new, seen variable_cmp saved.new)
         ≡ after_hit (values_at trigger.now at.pos event.now) counter.old.role at key
         (counter.old, seen variable_cmp saved.old)) }
     ensures grow { StepsGrow work.old work.new }
 {
+    let spot = Spot::traced(at.pos);
     match counter.role() {
-        Role::Plain => counter.add(hit_with(trigger, event, at.pos, key, None), None, work),
+        Role::Plain => counter.add(hit_with(trigger, event, spot, key, None), None, work),
         Role::Saves => {
-            counter.add(hit_with(trigger, event, at.pos, key, None), None, work)?;
+            counter.add(hit_with(trigger, event, spot, key, None), None, work)?;
             save(counter, at, key, saved)
         }
         Role::Reads(saver) => {
             let Some(place) = found(saved, Variable { saver, key }) else {
                 return Ok(());
             };
-            let hit = hit_with(trigger, event, at.pos, key, Some(place));
+            let hit = hit_with(trigger, event, spot, key, Some(place));
             counter.add(hit, Some(place), work)
         }
     }

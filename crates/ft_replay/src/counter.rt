@@ -77,15 +77,15 @@ impl Counter {
         read: Option<Pos>,
         work: &mut Work,
     ) -> Result<(), AllocError>
-        requires { map.get self.old.table.hits (record { pos = hit.pos; key = hit.key }) ≡ None }
+        requires { map.get self.old.table.hits (record { spot = hit.spot; key = hit.key }) ≡ None }
         ensures ok { OnOk result (self.new
-            ≡ counter_with (record { pos = hit.pos; key = hit.key }) read hit.values self.old) }
+            ≡ counter_with (record { spot = hit.spot; key = hit.key }) read hit.values self.old) }
         ensures grow { StepsGrow work.old work.new }
     {
         if let Some(saved) = read {
             self.pairs.push(Pair {
                 saved,
-                read: hit.pos,
+                read: hit.spot.pos,
             })?;
         }
         self.table.insert(hit, work)

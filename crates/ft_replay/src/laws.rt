@@ -98,7 +98,7 @@ pub fn same_elsewhere()
 }
 
 /// A law: replaying gives each attached trigger the tally of the table that its hits make, with
-/// the pairs of its readings, and no other trigger has a tally. The hits are at each place and key
+/// the pairs of its readings, and no other trigger has a tally. The hits are at each spot and key
 /// what the trigger's hit there adds; the pairs are what each reading found, in merged order of
 /// the reading. The tally's rows and totals are those of the table, and its keys those with a hit
 /// and with fewer than `size` other keys that have an earlier first hit.
@@ -132,7 +132,7 @@ pub fn counted_hits()
     ft_table::laws::first_keys();
 }
 
-/// A law: two maps that hold what an attached trigger's hits add, by place and key, and what its
+/// A law: two maps that hold what an attached trigger's hits add, by spot and key, and what its
 /// readings found, by place, give the tally that replaying gives it.
 pub fn kept_maps()
     ensures { (triggers : Triggers) (events : Events) (id : ℕ) (hist : Hist)

@@ -11,11 +11,11 @@ use Rattle.std.proofs.lemmas.Bool.{cases_lt, ltb-true, ltb-false}
 use Rattle.std.proofs.lemmas.Bool.Decides.{nat_tests}
 use Rattle.std.proofs.lemmas.Cmp.{tied_itself}
 use Rattle.std.proofs.lemmas.List.Edits.{insert_end}
-use Rattle.ft_fields.specs.declared.pos.Pos.{Pos}
+use Rattle.ft_table.specs.declared.spot.Spot.{Spot}
 use Rattle.ft_keys.specs.declared.key.Part.{Part}
 use Rattle.ft_keys.specs.Parts.{key_cmp}
 use Rattle.ft_table.specs.declared.mark.Mark.{Mark}
-use Rattle.ft_fields.specs.Places.{pos_cmp, pos_cmp_total}
+use Rattle.ft_table.specs.Spots.{spot_cmp, spot_cmp_total}
 use Rattle.ft_table.specs.Marks.{mark_cmp, mark_cmp_total}
 use Rattle.ft_table.specs.inner.Ascending.{IsRank}
 use Rattle.ft_table.specs.Hits.{Hits, hits_of, least_key, first_place, same_key}
@@ -31,44 +31,44 @@ use Rattle.ft_table.proofs.Members.{in-without, in-with}
 use Rattle.ft_table.proofs.Sorted.{rank-end, rank-keys}
 
 -- of two marks with one key the place decides
-earlier : (a b : Pos) (key : List Part) → mark_cmp (mark a key) (mark b key) ≡ Less → pos_cmp a b ≡ Less
+earlier : (a b : Spot) (key : List Part) → mark_cmp (mark a key) (mark b key) ≡ Less → spot_cmp a b ≡ Less
 earlier a b key less =
     let tie : key_cmp key key ≡ Equal = tied_itself key_cmp_total key in
-    only (pos_cmp a b) (key_cmp key key) tie less where
+    only (spot_cmp a b) (key_cmp key key) tie less where
       only : (r s : Ordering) → s ≡ Equal → ordering_then r s ≡ Less → r ≡ Less
       only Less s tie h = refl
       only Equal s tie h = cc
       only Greater s tie h = cc
 
 -- the first place of an entry, as one is put in
-pub first-empty : (p : Pos) (v : List ℤ) (es : List (Pos × List ℤ)) → least_key es ≡ None → least_key (put pos_cmp p v es) ≡ Some p
+pub first-empty : (p : Spot) (v : List ℤ) (es : List (Spot × List ℤ)) → least_key es ≡ None → least_key (put spot_cmp p v es) ≡ Some p
 first-empty p v [] none = refl
 first-empty p v (e ∷ es) none = cc
 
-first-later : (p f : Pos) (v : List ℤ) (es : List (Pos × List ℤ)) → least_key es ≡ Some f → pos_cmp p f ≡ Greater → least_key (put pos_cmp p v es) ≡ Some f
+first-later : (p f : Spot) (v : List ℤ) (es : List (Spot × List ℤ)) → least_key es ≡ Some f → spot_cmp p f ≡ Greater → least_key (put spot_cmp p v es) ≡ Some f
 first-later p f v [] is after = cc
 first-later p f v (e ∷ es) is after =
     let same : e.0 ≡ f = cc in
-    ap (λ o. least_key (map.Entries.by_order o ((p, v) ∷ e ∷ es) ((e.0, v) ∷ es) (e ∷ put pos_cmp p v es))) (ap (pos_cmp p) same ∙ after) ∙ is
+    ap (λ o. least_key (map.Entries.by_order o ((p, v) ∷ e ∷ es) ((e.0, v) ∷ es) (e ∷ put spot_cmp p v es))) (ap (spot_cmp p) same ∙ after) ∙ is
 
-pub first_place-insert : (hits : Hits) (m : Mark) (v : List ℤ) → first_place (map.insert hits m v) m.key ≡ least_key (put pos_cmp m.pos v (map.entries (hits_of hits m.key)))
-first_place-insert hits m v = ap (λ (l : FinMap pos_cmp (List ℤ)). least_key (map.entries l)) (hits_of-insert hits m v) ∙ ap least_key (entries-insert pos_cmp_total (hits_of hits m.key) m.pos v)
+pub first_place-insert : (hits : Hits) (m : Mark) (v : List ℤ) → first_place (map.insert hits m v) m.key ≡ least_key (put spot_cmp m.spot v (map.entries (hits_of hits m.key)))
+first_place-insert hits m v = ap (λ (l : FinMap spot_cmp (List ℤ)). least_key (map.entries l)) (hits_of-insert hits m v) ∙ ap least_key (entries-insert spot_cmp_total (hits_of hits m.key) m.spot v)
 
 some_has : {X : Type 0} (o : Option X) (x : X) → o ≡ Some x → IsSome o
 some_has o x is = ap is_some is
 
 -- a hit behind its key's first leaves the order
-pub order-behind : (hits : Hits) (m : Mark) (v : List ℤ) (f : Pos) → first_place hits m.key ≡ Some f → pos_cmp f m.pos ≡ Less → order_of (map.insert hits m v) ≡ order_of hits
+pub order-behind : (hits : Hits) (m : Mark) (v : List ℤ) (f : Spot) → first_place hits m.key ≡ Some f → spot_cmp f m.spot ≡ Less → order_of (map.insert hits m v) ≡ order_of hits
 order-behind hits m v f is less =
-    let turned : pos_cmp m.pos f ≡ Greater = pos_cmp_total.antisymm m.pos f ∙ ap ordering_reverse less in
-    let first : first_place (map.insert hits m v) m.key ≡ Some f = first_place-insert hits m v ∙ first-later m.pos f v (map.entries (hits_of hits m.key)) is turned in
+    let turned : spot_cmp m.spot f ≡ Greater = spot_cmp_total.antisymm m.spot f ∙ ap ordering_reverse less in
+    let first : first_place (map.insert hits m v) m.key ≡ Some f = first_place-insert hits m v ∙ first-later m.spot f v (map.entries (hits_of hits m.key)) is turned in
     order-some (map.insert hits m v) m.key f first ∙ order_before-beside hits (map.insert hits m v) m.key (Some f) (insert-beside hits m v) ∙ sym (order-some hits m.key f is)
 
 -- so does a known key's hit behind all others
-pub order-known : (hits : Hits) (m : Mark) (v : List ℤ) (f : Pos) → first_place hits m.key ≡ Some f → AreBefore hits m → order_of (map.insert hits m v) ≡ order_of hits
+pub order-known : (hits : Hits) (m : Mark) (v : List ℤ) (f : Spot) → first_place hits m.key ≡ Some f → AreBefore hits m → order_of (map.insert hits m v) ≡ order_of hits
 order-known hits m v f is before =
     let at = first_is_hit hits m.key f is in
-    order-behind hits m v f is (earlier f m.pos m.key (before (mark f m.key) (some_has _ at.0 at.1)))
+    order-behind hits m v f is (earlier f m.spot m.key (before (mark f m.key) (some_has _ at.0 at.1)))
 
 -- whatever is first is a hit
 pub first_hits-hit : (hits : Hits) (q : Mark) → is_some (map.get (first_hits hits) q) ≡ true → is_some (map.get hits q) ≡ true
@@ -81,10 +81,10 @@ first_hits-hit hits q some = of (is_first hits q) (ap is_some (sym (get-first_hi
 pub order-new : (hits : Hits) (m : Mark) (v : List ℤ) → first_place hits m.key ≡ None → AreBefore hits m → order_of (map.insert hits m v) ≡ order_of hits ++ m ∷ []
 order-new hits m v none before =
     let after : Hits = map.insert hits m v in
-    let first : first_place after m.key ≡ Some m.pos = first_place-insert hits m v ∙ first-empty m.pos v (map.entries (hits_of hits m.key)) none in
+    let first : first_place after m.key ≡ Some m.spot = first_place-insert hits m v ∙ first-empty m.spot v (map.entries (hits_of hits m.key)) none in
     let rest : order_of hits ≡ order_without hits m.key = order-none hits m.key none in
     let last : IsRank mark_cmp (order_of hits) m (length (order_of hits)) = rank-end mark_cmp (order_of hits) m (λ j d lt. before (get_or (order_of hits) j d) (first_hits-hit hits _ (listed (first_hits hits) j d lt))) in
-    order-some after m.key m.pos first ∙ order_before-beside hits after m.key (Some m.pos) (insert-beside hits m v)
+    order-some after m.key m.spot first ∙ order_before-beside hits after m.key (Some m.spot) (insert-beside hits m v)
     ∙ order-enter hits m (length (order_of hits)) (subst (λ ms. IsRank mark_cmp ms m (length (order_of hits))) rest last)
     ∙ ap (λ (ms : List Mark). insert ms (length (order_of hits)) m) (sym rest) ∙ insert_end (order_of hits) m
 
@@ -132,7 +132,7 @@ module _ {X Y : Type 0} (f : X → Y) where
   take-push xs x s false is = ap (list_map f) (take-front xs x s (ltb-false (length xs) s is))
 
 -- a key with hits is in where there is room
-pub known : (tabled : Tabled) (m : Mark) (f : Pos) → first_place tabled.hits m.key ≡ Some f → is_in tabled m.key ≡ false → nat_lt (length (keys_in tabled)) tabled.size ≡ true → ⊥
+pub known : (tabled : Tabled) (m : Mark) (f : Spot) → first_place tabled.hits m.key ≡ Some f → is_in tabled m.key ≡ false → nat_lt (length (keys_in tabled)) tabled.size ≡ true → ⊥
 known tabled m f is out few =
     let at : Mark = mark f m.key in
     let rank = rank-keys mark_cmp_total (map.insert (others tabled.hits m.key) at []) at in
@@ -150,7 +150,7 @@ keys_grow tabled m v last = by (first_place tabled.hits m.key) refl where
   key : Mark → List Part
   key m = m.key
 
-  by : (o : Option Pos) → first_place tabled.hits m.key ≡ o → keys_in (with_hit tabled m v) ≡ (if is_in tabled m.key then keys_in tabled else if nat_lt (length (keys_in tabled)) tabled.size then keys_in tabled ++ m.key ∷ [] else keys_in tabled)
+  by : (o : Option Spot) → first_place tabled.hits m.key ≡ o → keys_in (with_hit tabled m v) ≡ (if is_in tabled m.key then keys_in tabled else if nat_lt (length (keys_in tabled)) tabled.size then keys_in tabled ++ m.key ∷ [] else keys_in tabled)
   by None none =
       let out : is_in tabled m.key ≡ false = ap (λ (ms : List Mark). list_any (same_key m.key) (list_map (λ m. m.key) (take tabled.size ms))) (order-none tabled.hits m.key none) ∙ in-without tabled.hits tabled.size m.key in
       ap (λ (ms : List Mark). list_map (λ m. m.key) (take tabled.size ms)) (order-new tabled.hits m v none last.last)

@@ -5,10 +5,10 @@ use Rattle.std.specs.Ordering.{eq_by_cmp}
 use Rattle.std.specs.Cmp.{eq_by_cmp_equiv}
 use Rattle.std.specs.FinMap as map
 use Rattle.std.specs.FinMap.{get-insert, get-remove, len-insert, len-entries, same_map}
-use Rattle.ft_fields.specs.declared.pos.Pos.{Pos}
+use Rattle.ft_table.specs.declared.spot.Spot.{Spot}
 use Rattle.ft_keys.specs.declared.key.Part.{Part}
 use Rattle.ft_table.specs.declared.mark.Mark.{Mark}
-use Rattle.ft_fields.specs.Places.{pos_cmp, pos_cmp_total, pos_same}
+use Rattle.ft_table.specs.Spots.{spot_cmp, spot_cmp_total, spot_same}
 use Rattle.ft_table.specs.Marks.{mark_cmp, mark_cmp_total, mark_same}
 use Rattle.ft_table.specs.Hits.{Hits, same_key, hits_of, least_key, first_place, hitcount}
 use Rattle.ft_table.specs.Tabled.{order_of}
@@ -19,27 +19,27 @@ use Rattle.ft_table.proofs.Firsts.{SameBeside, hits_of-beside, others-beside, or
 -- other keys' hits are no part of it
 pub insert-beside : (hits : Hits) (m : Mark) (v : List ℤ) → SameBeside hits (map.insert hits m v) m.key
 insert-beside hits m v q apart =
-    get-insert mark_cmp_total hits m v q ∙ ap (λ b. cond b (Some v) (map.get hits q)) (marks_tie q m ∙ ap (λ b. eq_by_cmp pos_cmp q.pos m.pos && b) apart ∙ false_and _)
+    get-insert mark_cmp_total hits m v q ∙ ap (λ b. cond b (Some v) (map.get hits q)) (marks_tie q m ∙ ap (λ b. eq_by_cmp spot_cmp q.spot m.spot && b) apart ∙ false_and _)
 
 pub remove-beside : (hits : Hits) (m : Mark) → SameBeside hits (map.remove hits m) m.key
 remove-beside hits m q apart =
-    get-remove mark_cmp_total hits m q ∙ ap (λ b. cond b None (map.get hits q)) (marks_tie q m ∙ ap (λ b. eq_by_cmp pos_cmp q.pos m.pos && b) apart ∙ false_and _)
+    get-remove mark_cmp_total hits m q ∙ ap (λ b. cond b None (map.get hits q)) (marks_tie q m ∙ ap (λ b. eq_by_cmp spot_cmp q.spot m.spot && b) apart ∙ false_and _)
 
 -- among the hits of its own key
-tie_here : (m : Mark) (pos : Pos) → eq_by_cmp mark_cmp (mark pos m.key) m ≡ eq_by_cmp pos_cmp pos m.pos
-tie_here m pos = marks_tie (mark pos m.key) m ∙ ap (λ b. eq_by_cmp pos_cmp pos m.pos && b) (same_itself m.key) ∙ true_and _
+tie_here : (m : Mark) (spot : Spot) → eq_by_cmp mark_cmp (mark spot m.key) m ≡ eq_by_cmp spot_cmp spot m.spot
+tie_here m spot = marks_tie (mark spot m.key) m ∙ ap (λ b. eq_by_cmp spot_cmp spot m.spot && b) (same_itself m.key) ∙ true_and _
 
-pub hits_of-insert : (hits : Hits) (m : Mark) (v : List ℤ) → hits_of (map.insert hits m v) m.key ≡ map.insert (hits_of hits m.key) m.pos v
-hits_of-insert hits m v = same_map pos_cmp_total pos_same _ _ (λ pos.
-    get-hits_of (map.insert hits m v) pos m.key ∙ get-insert mark_cmp_total hits m v (mark pos m.key)
-    ∙ (λ i. cond (tie_here m pos i) (Some v) (sym (get-hits_of hits pos m.key) i))
-    ∙ sym (get-insert pos_cmp_total (hits_of hits m.key) m.pos v pos))
+pub hits_of-insert : (hits : Hits) (m : Mark) (v : List ℤ) → hits_of (map.insert hits m v) m.key ≡ map.insert (hits_of hits m.key) m.spot v
+hits_of-insert hits m v = same_map spot_cmp_total spot_same _ _ (λ spot.
+    get-hits_of (map.insert hits m v) spot m.key ∙ get-insert mark_cmp_total hits m v (mark spot m.key)
+    ∙ (λ i. cond (tie_here m spot i) (Some v) (sym (get-hits_of hits spot m.key) i))
+    ∙ sym (get-insert spot_cmp_total (hits_of hits m.key) m.spot v spot))
 
 module _ (hits : Hits) (m : Mark) (v : List ℤ) (absent : map.get hits m ≡ None) where
   pub count-insert : hitcount (map.insert hits m v) m.key ≡ hitcount hits m.key + 1
   count-insert =
-      ap map.len (hits_of-insert hits m v) ∙ len-insert pos_cmp_total (hits_of hits m.key) m.pos v
-      ∙ ap (λ o. cond (is_some o) (hitcount hits m.key) (hitcount hits m.key + 1)) (get-hits_of hits m.pos m.key ∙ absent)
+      ap map.len (hits_of-insert hits m v) ∙ len-insert spot_cmp_total (hits_of hits m.key) m.spot v
+      ∙ ap (λ o. cond (is_some o) (hitcount hits m.key) (hitcount hits m.key + 1)) (get-hits_of hits m.spot m.key ∙ absent)
 
   pub counts-insert : (q : List Part) (b : Bool) → same_key q m.key ≡ b → hitcount (map.insert hits m v) q ≡ cond b (hitcount hits m.key + 1) (hitcount hits q)
   counts-insert q true same = ap (hitcount (map.insert hits m v)) (same_is q m.key same) ∙ count-insert
@@ -68,8 +68,8 @@ put_back hits m v is = same_map mark_cmp_total mark_same _ _ (λ q.
 
 pub gone : (hits : Hits) (m : Mark) → map.get (map.remove hits m) m ≡ None
 gone hits m = get-remove mark_cmp_total hits m m ∙ ap (λ b. cond b None (map.get hits m)) (marks_tie m m ∙ (λ i. itself i && same_itself m.key i)) where
-  itself : eq_by_cmp pos_cmp m.pos m.pos ≡ true
-  itself = (eq_by_cmp_equiv pos_cmp_total).refl m.pos
+  itself : eq_by_cmp spot_cmp m.spot m.spot ≡ true
+  itself = (eq_by_cmp_equiv spot_cmp_total).refl m.spot
 
 some_is : {X : Type 0} (o : Option X) → is_some o ≡ true → (x : X) × (o ≡ Some x)
 some_is None is = cc
@@ -100,19 +100,19 @@ counts-more hits m has = λ i q. more hits m has q (same_key q m.key) refl i
 
 -- ---- the order, but for one key
 
-pub order-before : (hits : Hits) (key : List Part) (o : Option Pos) → first_place hits key ≡ o → order_of hits ≡ order_before hits key o
+pub order-before : (hits : Hits) (key : List Part) (o : Option Spot) → first_place hits key ≡ o → order_of hits ≡ order_before hits key o
 order-before hits key None is = order-none hits key is
-order-before hits key (Some pos) is = order-some hits key pos is
+order-before hits key (Some spot) is = order-some hits key spot is
 
-pub order_before-beside : (hits after : Hits) (key : List Part) (o : Option Pos) → SameBeside hits after key → order_before after key o ≡ order_before hits key o
+pub order_before-beside : (hits after : Hits) (key : List Part) (o : Option Spot) → SameBeside hits after key → order_before after key o ≡ order_before hits key o
 order_before-beside hits after key None same = ap map.keys (others-beside hits after key same)
-order_before-beside hits after key (Some pos) same = ap (λ (h : Hits). map.keys (map.insert h (mark pos key) [])) (others-beside hits after key same)
+order_before-beside hits after key (Some spot) same = ap (λ (h : Hits). map.keys (map.insert h (mark spot key) [])) (others-beside hits after key same)
 
 -- the order before a hit came, told by the hits after
-pub order-before-insert : (hits : Hits) (m : Mark) (v : List ℤ) (o : Option Pos) → first_place hits m.key ≡ o → order_of hits ≡ order_before (map.insert hits m v) m.key o
+pub order-before-insert : (hits : Hits) (m : Mark) (v : List ℤ) (o : Option Spot) → first_place hits m.key ≡ o → order_of hits ≡ order_before (map.insert hits m v) m.key o
 order-before-insert hits m v o first = order-before hits m.key o first ∙ sym (order_before-beside hits (map.insert hits m v) m.key o (insert-beside hits m v))
 
-no_list : {X : Type 0} (es : List (Pos × X)) → least_key es ≡ None → length es ≡ 0
+no_list : {X : Type 0} (es : List (Spot × X)) → least_key es ≡ None → length es ≡ 0
 no_list [] is = refl
 no_list (e ∷ es) is = cc
 

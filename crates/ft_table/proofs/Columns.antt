@@ -11,9 +11,9 @@ use Rattle.std.specs.FinMap.{FinMap, IsAntisymmetric, find, put, entries-insert,
 use Rattle.std.proofs.lemmas.List.Sums.{sum_by-cons}
 use Rattle.std.proofs.Math.Nat.{mod-add-mod}
 use Rattle.std.specs.Prelude.{ℤ}
-use Rattle.ft_fields.specs.declared.pos.Pos.{Pos}
+use Rattle.ft_table.specs.declared.spot.Spot.{Spot}
 use Rattle.ft_table.specs.Hits.{EntryHits, unsigned_at, column}
-use Rattle.ft_fields.specs.Places.{pos_cmp_total, pos_same}
+use Rattle.ft_table.specs.Spots.{spot_cmp_total, spot_same}
 
 tied : (r : Ordering) → is_eq r ≡ true → r ≡ Equal
 tied Less e = cc
@@ -54,11 +54,11 @@ module _ {K X : Type 0} {R : K → K → Ordering} (total : IsTotalOrder R) (sam
 -- ---- the three sums of an entry
 
 -- a sum and a value, and the sum with it
-pub column-more : (j : ℕ) (entry : EntryHits) (p : Pos) (v : List ℤ) (old new : ℕ) → map.get entry p ≡ None → old ≡ column j entry → new ≡ (old + unsigned_at j v) % 2 ^ 64 → new ≡ column j (map.insert entry p v)
+pub column-more : (j : ℕ) (entry : EntryHits) (p : Spot) (v : List ℤ) (old new : ℕ) → map.get entry p ≡ None → old ≡ column j entry → new ≡ (old + unsigned_at j v) % 2 ^ 64 → new ≡ column j (map.insert entry p v)
 column-more j entry p v old new none is e =
     e ∙ ap (λ n. (n + unsigned_at j v) % 2 ^ 64) is ∙ mod-add-mod (sum_by (unsigned_at j) (map.values entry)) (2 ^ 64) (unsigned_at j v)
-    ∙ ap (λ n. n % 2 ^ 64) (sym (sum-insert pos_cmp_total pos_same (unsigned_at j) entry p v none))
+    ∙ ap (λ n. n % 2 ^ 64) (sym (sum-insert spot_cmp_total spot_same (unsigned_at j) entry p v none))
 
 -- a sum is that of the others, and the value
-pub column-less : (j : ℕ) (entry : EntryHits) (p : Pos) (v : List ℤ) (old : ℕ) → map.get entry p ≡ Some v → old ≡ column j entry → old ≡ (sum_by (unsigned_at j) (map.values (map.remove entry p)) + unsigned_at j v) % 2 ^ 64
-column-less j entry p v old has is = is ∙ ap (λ n. n % 2 ^ 64) (sum-remove pos_cmp_total pos_same (unsigned_at j) entry p v has)
+pub column-less : (j : ℕ) (entry : EntryHits) (p : Spot) (v : List ℤ) (old : ℕ) → map.get entry p ≡ Some v → old ≡ column j entry → old ≡ (sum_by (unsigned_at j) (map.values (map.remove entry p)) + unsigned_at j v) % 2 ^ 64
+column-less j entry p v old has is = is ∙ ap (λ n. n % 2 ^ 64) (sum-remove spot_cmp_total spot_same (unsigned_at j) entry p v has)

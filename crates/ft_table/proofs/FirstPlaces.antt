@@ -10,11 +10,11 @@ use Rattle.std.specs.Map.{keys_of}
 use Rattle.std.specs.FinMap as map
 use Rattle.std.specs.FinMap.{is_sorted, entries_sorted}
 use Rattle.std.proofs.lemmas.Cmp.{tied_itself}
-use Rattle.ft_fields.specs.declared.pos.Pos.{Pos}
+use Rattle.ft_table.specs.declared.spot.Spot.{Spot}
 use Rattle.ft_keys.specs.declared.key.Part.{Part}
 use Rattle.ft_keys.specs.Parts.{key_cmp}
 use Rattle.ft_table.specs.declared.mark.Mark.{Mark}
-use Rattle.ft_fields.specs.Places.{pos_cmp, pos_cmp_total}
+use Rattle.ft_table.specs.Spots.{spot_cmp, spot_cmp_total}
 use Rattle.ft_table.specs.Marks.{mark_cmp}
 use Rattle.ft_table.specs.Hits.{Hits, same_key, hits_of}
 use Rattle.ft_keys.specs.Orders.{key_cmp_total}
@@ -25,8 +25,8 @@ abbrev Pair : Type 0
 Pair = Mark × List ℤ
 
 -- the hits of a key among others, by place
-abbrev pub of_key : List Part → List Pair → List (Pos × List ℤ)
-of_key key es = list_map (λ e. (e.0.pos, e.1)) (filter (λ e. same_key e.0.key key) es)
+abbrev pub of_key : List Part → List Pair → List (Spot × List ℤ)
+of_key key es = list_map (λ e. (e.0.spot, e.1)) (filter (λ e. same_key e.0.key key) es)
 
 and_left : (a b : Bool) → T (a && b) → T a
 and_left true b h = tt
@@ -47,22 +47,22 @@ only Equal s tie h = cc
 only Greater s tie h = cc
 
 -- marks of one key are ordered by their places
-by_place : (a b : Mark) → a.key ≡ b.key → mark_cmp a b ≡ Less → pos_cmp a.pos b.pos ≡ Less
-by_place a b same less = only (pos_cmp a.pos b.pos) (key_cmp a.key b.key) (ap (key_cmp a.key) (sym same) ∙ tied_itself key_cmp_total a.key) less
+by_place : (a b : Mark) → a.key ≡ b.key → mark_cmp a b ≡ Less → spot_cmp a.spot b.spot ≡ Less
+by_place a b same less = only (spot_cmp a.spot b.spot) (key_cmp a.key b.key) (ap (key_cmp a.key) (sym same) ∙ tied_itself key_cmp_total a.key) less
 
-below_of_key : (key : List Part) (m : Mark) (es : List Pair) → m.key ≡ key → T (map.Entries.below_all mark_cmp m es) → AllByRecursion (λ q. pos_cmp m.pos q ≡ Less) (keys_of (of_key key es))
+below_of_key : (key : List Part) (m : Mark) (es : List Pair) → m.key ≡ key → T (map.Entries.below_all mark_cmp m es) → AllByRecursion (λ q. spot_cmp m.spot q ≡ Less) (keys_of (of_key key es))
 below_of_key key m [] is h = tt
 below_of_key key m (e ∷ es) is h =
-    elim (same_key e.0.key key) as (λ b. same_key e.0.key key ≡ b → AllByRecursion (λ q. pos_cmp m.pos q ≡ Less) (keys_of (list_map (λ e. (e.0.pos, e.1)) (cond b (e ∷ filter (λ e. same_key e.0.key key) es) (filter (λ e. same_key e.0.key key) es))))) [
+    elim (same_key e.0.key key) as (λ b. same_key e.0.key key ≡ b → AllByRecursion (λ q. spot_cmp m.spot q ≡ Less) (keys_of (list_map (λ e. (e.0.spot, e.1)) (cond b (e ∷ filter (λ e. same_key e.0.key key) es) (filter (λ e. same_key e.0.key key) es))))) [
       | true ↦ λ same. (by_place m e.0 (is ∙ sym (same_is e.0.key key same)) (is_less _ (and_left _ _ h)), below_of_key key m es is (and_right _ _ h))
       | false ↦ λ apart. below_of_key key m es is (and_right _ _ h)
     ] refl
 
-sorted_of_key : (key : List Part) (es : List Pair) → T (is_sorted mark_cmp es) → IsStrictlySortedBy pos_cmp (keys_of (of_key key es))
+sorted_of_key : (key : List Part) (es : List Pair) → T (is_sorted mark_cmp es) → IsStrictlySortedBy spot_cmp (keys_of (of_key key es))
 unfolding IsStrictlySortedBy
 sorted_of_key key [] h = tt
 sorted_of_key key (e ∷ es) h =
-    elim (same_key e.0.key key) as (λ b. same_key e.0.key key ≡ b → IsStrictlySortedBy pos_cmp (keys_of (list_map (λ e. (e.0.pos, e.1)) (cond b (e ∷ filter (λ e. same_key e.0.key key) es) (filter (λ e. same_key e.0.key key) es))))) [
+    elim (same_key e.0.key key) as (λ b. same_key e.0.key key ≡ b → IsStrictlySortedBy spot_cmp (keys_of (list_map (λ e. (e.0.spot, e.1)) (cond b (e ∷ filter (λ e. same_key e.0.key key) es) (filter (λ e. same_key e.0.key key) es))))) [
       | true ↦ λ same. (below_of_key key e.0 es (same_is e.0.key key same) (and_left _ _ h), sorted_of_key key es (and_right _ _ h))
       | false ↦ λ apart. sorted_of_key key es (and_right _ _ h)
     ] refl
@@ -70,4 +70,4 @@ sorted_of_key key (e ∷ es) h =
 -- the entries of the hits of a key are those of its marks
 pub entries-hits_of : (hits : Hits) (key : List Part) → map.entries (hits_of hits key) ≡ of_key key (map.entries hits)
 unfolding hits_of
-entries-hits_of hits key = entries-from_entries pos_cmp_total (of_key key (map.entries hits)) (sorted_of_key key (map.entries hits) (entries_sorted hits))
+entries-hits_of hits key = entries-from_entries spot_cmp_total (of_key key (map.entries hits)) (sorted_of_key key (map.entries hits) (entries_sorted hits))

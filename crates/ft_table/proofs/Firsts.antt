@@ -7,10 +7,10 @@ use Rattle.std.specs.Ordering.{is_eq, eq_by_cmp}
 use Rattle.std.specs.FinMap as map
 use Rattle.std.specs.FinMap.{FinMap, find, get-entries, get-insert, get-retain_keys, same_map}
 use Rattle.std.proofs.lemmas.Cmp.{tied_itself}
-use Rattle.ft_fields.specs.declared.pos.Pos.{Pos}
+use Rattle.ft_table.specs.declared.spot.Spot.{Spot}
 use Rattle.ft_keys.specs.declared.key.Part.{Part}
 use Rattle.ft_table.specs.declared.mark.Mark.{Mark}
-use Rattle.ft_fields.specs.Places.{pos_cmp, pos_cmp_total, pos_same}
+use Rattle.ft_table.specs.Spots.{spot_cmp, spot_cmp_total, spot_same}
 use Rattle.ft_table.specs.Marks.{mark_cmp, mark_cmp_total, mark_same}
 use Rattle.ft_table.specs.inner.Ascending.{IsRank}
 use Rattle.ft_table.specs.Hits.{Hits, same_key, hits_of, least_key, first_place}
@@ -27,29 +27,29 @@ pub get-others : (hits : Hits) (key : List Part) (q : Mark) → map.get (others 
 unfolding others
 get-others hits key q = get-retain_keys (first_hits hits) (λ m. not (same_key m.key key)) q (λ x tie. ap (λ (m : Mark). not (same_key m.key key)) (sym (mark_same q x tie)))
 
-no_entries : {X : Type 0} (pos : Pos) (es : List (Pos × X)) → least_key es ≡ None → find pos_cmp pos es ≡ None
-no_entries pos [] none = refl
-no_entries pos (e ∷ es) none = cc
+no_entries : {X : Type 0} (spot : Spot) (es : List (Spot × X)) → least_key es ≡ None → find spot_cmp spot es ≡ None
+no_entries spot [] none = refl
+no_entries spot (e ∷ es) none = cc
 
-first_entry : {X : Type 0} (pos : Pos) (es : List (Pos × X)) → least_key es ≡ Some pos → (v : X) × (find pos_cmp pos es ≡ Some v)
-first_entry pos [] is = cc
-first_entry pos (e ∷ es) is = let same : e.0 ≡ pos = cc in (e.1, ap (λ (p : Pos). cond (eq_by_cmp pos_cmp p e.0) (Some e.1) (find pos_cmp p es)) (sym same) ∙ ap (λ o. cond (is_eq o) (Some e.1) (find pos_cmp e.0 es)) (tied_itself pos_cmp_total e.0))
+first_entry : {X : Type 0} (spot : Spot) (es : List (Spot × X)) → least_key es ≡ Some spot → (v : X) × (find spot_cmp spot es ≡ Some v)
+first_entry spot [] is = cc
+first_entry spot (e ∷ es) is = let same : e.0 ≡ spot = cc in (e.1, ap (λ (p : Spot). cond (eq_by_cmp spot_cmp p e.0) (Some e.1) (find spot_cmp p es)) (sym same) ∙ ap (λ o. cond (is_eq o) (Some e.1) (find spot_cmp e.0 es)) (tied_itself spot_cmp_total e.0))
 
 -- a key without a first hit has none
-pub no_first : (hits : Hits) (key : List Part) → first_place hits key ≡ None → (pos : Pos) → map.get hits (mark pos key) ≡ None
-no_first hits key none pos = sym (get-hits_of hits pos key) ∙ get-entries (hits_of hits key) pos ∙ no_entries pos (map.entries (hits_of hits key)) none
+pub no_first : (hits : Hits) (key : List Part) → first_place hits key ≡ None → (spot : Spot) → map.get hits (mark spot key) ≡ None
+no_first hits key none spot = sym (get-hits_of hits spot key) ∙ get-entries (hits_of hits key) spot ∙ no_entries spot (map.entries (hits_of hits key)) none
 
 -- and a first hit is a hit
-pub first_is_hit : (hits : Hits) (key : List Part) (pos : Pos) → first_place hits key ≡ Some pos → (v : List ℤ) × (map.get hits (mark pos key) ≡ Some v)
-first_is_hit hits key pos is =
-    let at = first_entry pos (map.entries (hits_of hits key)) is in
-    (at.0, sym (get-hits_of hits pos key) ∙ get-entries (hits_of hits key) pos ∙ at.1)
+pub first_is_hit : (hits : Hits) (key : List Part) (spot : Spot) → first_place hits key ≡ Some spot → (v : List ℤ) × (map.get hits (mark spot key) ≡ Some v)
+first_is_hit hits key spot is =
+    let at = first_entry spot (map.entries (hits_of hits key)) is in
+    (at.0, sym (get-hits_of hits spot key) ∙ get-entries (hits_of hits key) spot ∙ at.1)
 
 -- ---- one key's first hit, and the others'
 
 with_none : (hits : Hits) (key : List Part) → first_place hits key ≡ None → (q : Mark) (b : Bool) → same_key q.key key ≡ b → cond (is_first hits q) (map.get hits q) None ≡ cond (not b) (cond (is_first hits q) (map.get hits q) None) None
 with_none hits key none q true same =
-    let at : map.get hits q ≡ None = ap (λ (k : List Part). map.get hits (mark q.pos k)) (same_is q.key key same) ∙ no_first hits key none q.pos in
+    let at : map.get hits q ≡ None = ap (λ (k : List Part). map.get hits (mark q.spot k)) (same_is q.key key same) ∙ no_first hits key none q.spot in
     ap (λ o. cond (is_first hits q) o None) at ∙ elim (is_first hits q) as (λ b. ◌≡◌ {A = Option (List ℤ)} (cond b None None) None) [ true ↦ refl | false ↦ refl ]
 with_none hits key none q false same = refl
 
@@ -58,25 +58,25 @@ first_hits-none hits key none = same_map mark_cmp_total mark_same _ _ (λ q.
     get-first_hits hits q ∙ with_none hits key none q (same_key q.key key) refl
     ∙ sym (get-others hits key q ∙ ap (λ o. cond (not (same_key q.key key)) o None) (get-first_hits hits q)))
 
-with_first : (hits : Hits) (key : List Part) (pos : Pos) (v : List ℤ) → first_place hits key ≡ Some pos → map.get hits (mark pos key) ≡ Some v → (q : Mark) (b a : Bool) → same_key q.key key ≡ b → eq_by_cmp pos_cmp q.pos pos ≡ a
+with_first : (hits : Hits) (key : List Part) (spot : Spot) (v : List ℤ) → first_place hits key ≡ Some spot → map.get hits (mark spot key) ≡ Some v → (q : Mark) (b a : Bool) → same_key q.key key ≡ b → eq_by_cmp spot_cmp q.spot spot ≡ a
     → cond (is_first hits q) (map.get hits q) None ≡ cond (a && b) (Some v) (cond (not b) (cond (is_first hits q) (map.get hits q) None) None)
-with_first hits key pos v is has q true a same at =
+with_first hits key spot v is has q true a same at =
     let k : q.key ≡ key = same_is q.key key same in
-    let first : is_first hits q ≡ a = ap (λ o. option_map_or (eq_by_cmp pos_cmp q.pos) o false) (ap (first_place hits) k ∙ is) ∙ at in
+    let first : is_first hits q ≡ a = ap (λ o. option_map_or (eq_by_cmp spot_cmp q.spot) o false) (ap (first_place hits) k ∙ is) ∙ at in
     ap (λ b. cond b (map.get hits q) None) first ∙
-    elim a as (λ a. eq_by_cmp pos_cmp q.pos pos ≡ a → cond a (map.get hits q) None ≡ cond (a && true) (Some v) None) [
-      | true ↦ λ at. (λ i. map.get hits (mark (pos_same q.pos pos (is_equal _ at) i) (k i))) ∙ has
+    elim a as (λ a. eq_by_cmp spot_cmp q.spot spot ≡ a → cond a (map.get hits q) None ≡ cond (a && true) (Some v) None) [
+      | true ↦ λ at. (λ i. map.get hits (mark (spot_same q.spot spot (is_equal _ at) i) (k i))) ∙ has
       | false ↦ λ at. refl
     ] at
-with_first hits key pos v is has q false true same at = refl
-with_first hits key pos v is has q false false same at = refl
+with_first hits key spot v is has q false true same at = refl
+with_first hits key spot v is has q false false same at = refl
 
-pub first_hits-some : (hits : Hits) (key : List Part) (pos : Pos) (v : List ℤ) → first_place hits key ≡ Some pos → map.get hits (mark pos key) ≡ Some v → first_hits hits ≡ map.insert (others hits key) (mark pos key) v
-first_hits-some hits key pos v is has = same_map mark_cmp_total mark_same _ _ (λ q.
-    get-first_hits hits q ∙ with_first hits key pos v is has q (same_key q.key key) (eq_by_cmp pos_cmp q.pos pos) refl refl
-    ∙ sym (get-insert mark_cmp_total (others hits key) (mark pos key) v q
-    ∙ (λ i. cond (marks_tie q (mark pos key) i) (Some v) (get-others hits key q i))
-    ∙ ap (λ o. cond (eq_by_cmp pos_cmp q.pos pos && same_key q.key key) (Some v) (cond (not (same_key q.key key)) o None)) (get-first_hits hits q)))
+pub first_hits-some : (hits : Hits) (key : List Part) (spot : Spot) (v : List ℤ) → first_place hits key ≡ Some spot → map.get hits (mark spot key) ≡ Some v → first_hits hits ≡ map.insert (others hits key) (mark spot key) v
+first_hits-some hits key spot v is has = same_map mark_cmp_total mark_same _ _ (λ q.
+    get-first_hits hits q ∙ with_first hits key spot v is has q (same_key q.key key) (eq_by_cmp spot_cmp q.spot spot) refl refl
+    ∙ sym (get-insert mark_cmp_total (others hits key) (mark spot key) v q
+    ∙ (λ i. cond (marks_tie q (mark spot key) i) (Some v) (get-others hits key q i))
+    ∙ ap (λ o. cond (eq_by_cmp spot_cmp q.spot spot && same_key q.key key) (Some v) (cond (not (same_key q.key key)) o None)) (get-first_hits hits q)))
 
 pub not_among_others : (hits : Hits) (m : Mark) → map.get (others hits m.key) m ≡ None
 not_among_others hits m = get-others hits m.key m ∙ ap (λ b. cond (not b) (map.get (first_hits hits) m) None) (same_itself m.key)
@@ -86,10 +86,10 @@ not_among_others hits m = get-others hits m.key m ∙ ap (λ b. cond (not b) (ma
 pub order-none : (hits : Hits) (key : List Part) → first_place hits key ≡ None → order_of hits ≡ order_without hits key
 order-none hits key none = ap map.keys (first_hits-none hits key none)
 
-pub order-some : (hits : Hits) (key : List Part) (pos : Pos) → first_place hits key ≡ Some pos → order_of hits ≡ order_with hits (mark pos key)
-order-some hits key pos is =
-    let at = first_is_hit hits key pos is in
-    ap map.keys (first_hits-some hits key pos at.0 is at.1) ∙ keys-insert-any mark_cmp_total (others hits key) (mark pos key) at.0 []
+pub order-some : (hits : Hits) (key : List Part) (spot : Spot) → first_place hits key ≡ Some spot → order_of hits ≡ order_with hits (mark spot key)
+order-some hits key spot is =
+    let at = first_is_hit hits key spot is in
+    ap map.keys (first_hits-some hits key spot at.0 is at.1) ∙ keys-insert-any mark_cmp_total (others hits key) (mark spot key) at.0 []
 
 pub order-enter : (hits : Hits) (m : Mark) (i : ℕ) → IsRank mark_cmp (order_without hits m.key) m i → order_with hits m ≡ insert (order_without hits m.key) i m
 order-enter hits m i at = keys-insert mark_cmp_total (others hits m.key) m [] i (not_among_others hits m) at
@@ -103,12 +103,12 @@ abbrev pub SameBeside : Hits → Hits → List Part → Type 0
 SameBeside hits after key = (q : Mark) → same_key q.key key ≡ false → map.get after q ≡ map.get hits q
 
 pub hits_of-beside : (hits after : Hits) (key q : List Part) → SameBeside hits after key → same_key q key ≡ false → hits_of after q ≡ hits_of hits q
-hits_of-beside hits after key q same apart = same_map pos_cmp_total pos_same _ _ (λ pos. get-hits_of after pos q ∙ same (mark pos q) apart ∙ sym (get-hits_of hits pos q))
+hits_of-beside hits after key q same apart = same_map spot_cmp_total spot_same _ _ (λ spot. get-hits_of after spot q ∙ same (mark spot q) apart ∙ sym (get-hits_of hits spot q))
 
 others_at : (hits after : Hits) (key : List Part) → SameBeside hits after key → (q : Mark) (b : Bool) → same_key q.key key ≡ b → cond (not b) (cond (is_first after q) (map.get after q) None) None ≡ cond (not b) (cond (is_first hits q) (map.get hits q) None) None
 others_at hits after key same q true e = refl
 others_at hits after key same q false e =
-    let first : is_first after q ≡ is_first hits q = ap (λ (entry : FinMap pos_cmp (List ℤ)). option_map_or (eq_by_cmp pos_cmp q.pos) (least_key (map.entries entry)) false) (hits_of-beside hits after key q.key same e) in
+    let first : is_first after q ≡ is_first hits q = ap (λ (entry : FinMap spot_cmp (List ℤ)). option_map_or (eq_by_cmp spot_cmp q.spot) (least_key (map.entries entry)) false) (hits_of-beside hits after key q.key same e) in
     λ i. cond (first i) (same q e i) None
 
 pub others-beside : (hits after : Hits) (key : List Part) → SameBeside hits after key → others after key ≡ others hits key

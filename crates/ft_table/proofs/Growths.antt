@@ -6,8 +6,8 @@ use Rattle.std.specs.Ordering.{eq_by_cmp}
 use Rattle.std.specs.Map.{values_of}
 use Rattle.std.specs.FinMap as map
 use Rattle.std.specs.FinMap.{get-insert, get-retain_keys, len-insert, same_map}
-use Rattle.ft_fields.specs.declared.pos.Pos.{Pos}
-use Rattle.ft_fields.specs.Places.{pos_cmp}
+use Rattle.ft_table.specs.declared.spot.Spot.{Spot}
+use Rattle.ft_table.specs.Spots.{spot_cmp}
 use Rattle.ft_keys.specs.declared.key.Part.{Part}
 use Rattle.ft_table.specs.declared.mark.Mark.{Mark}
 use Rattle.ft_rows.specs.Counted.{Counted}
@@ -58,7 +58,7 @@ module _ (table : Tabled) (m : Mark) (v : List ℤ) (last : ComesLast table m) w
   -- a key that is not in, where there is room, has no hits yet
   pub new_key : is_in table m.key ≡ false → has_room table ≡ true → first_place table.hits m.key ≡ None
   new_key out room = by (first_place table.hits m.key) refl where
-    by : (o : Option Pos) → first_place table.hits m.key ≡ o → o ≡ None
+    by : (o : Option Spot) → first_place table.hits m.key ≡ o → o ≡ None
     by None none = refl
     by (Some f) is = absurd (known table m f is out room)
 
@@ -67,7 +67,7 @@ in_grows table m v key last = in_grows_at table m v last key (same_key key m.key
 
 -- ---- rows
 
-no_list : {X : Type 0} (es : List (Pos × X)) → least_key es ≡ None → es ≡ []
+no_list : {X : Type 0} (es : List (Spot × X)) → least_key es ≡ None → es ≡ []
 no_list [] is = refl
 no_list (e ∷ es) is = cc
 
@@ -75,16 +75,16 @@ no_list (e ∷ es) is = cc
 row-none : (hits : Hits) (key : List Part) → first_place hits key ≡ None → row_of hits key ≡ empty_row key
 row-none hits key none =
     let es : map.entries (hits_of hits key) ≡ [] = no_list (map.entries (hits_of hits key)) none in
-    let sum : (j : ℕ) → column j (hits_of hits key) ≡ 0 = λ j. ap (λ (es : List (Pos × List ℤ)). sum_by (unsigned_at j) (values_of es) % 2 ^ 64) es in
+    let sum : (j : ℕ) → column j (hits_of hits key) ≡ 0 = λ j. ap (λ (es : List (Spot × List ℤ)). sum_by (unsigned_at j) (values_of es) % 2 ^ 64) es in
     let count : hitcount hits key ≡ 0 = hitcount-none hits key none in
     λ i. record { key = key; hitcount = count i; sums = sum 0 i ∷ sum 1 i ∷ sum 2 i ∷ [] }
 
 row-more : (hits : Hits) (m : Mark) (v : List ℤ) → map.get hits m ≡ None → row_of (map.insert hits m v) m.key ≡ grown v (row_of hits m.key)
 row-more hits m v absent =
     let entry : EntryHits = hits_of hits m.key in
-    let free : map.get entry m.pos ≡ None = get-hits_of hits m.pos m.key ∙ absent in
+    let free : map.get entry m.spot ≡ None = get-hits_of hits m.spot m.key ∙ absent in
     let sum : (j : ℕ) → column j (hits_of (map.insert hits m v) m.key) ≡ (column j entry + unsigned_at j v) % 2 ^ 64 =
-    λ j. ap (column j) (hits_of-insert hits m v) ∙ sym (column-more j entry m.pos v (column j entry) ((column j entry + unsigned_at j v) % 2 ^ 64) free refl refl) in
+    λ j. ap (column j) (hits_of-insert hits m v) ∙ sym (column-more j entry m.spot v (column j entry) ((column j entry + unsigned_at j v) % 2 ^ 64) free refl refl) in
     let count : hitcount (map.insert hits m v) m.key ≡ hitcount hits m.key + 1 = count-insert hits m v absent in
     λ i. record { key = m.key; hitcount = count i; sums = sum 0 i ∷ sum 1 i ∷ sum 2 i ∷ [] }
 
@@ -143,13 +143,13 @@ module _ (table : Tabled) (m : Mark) (v : List ℤ) (last : ComesLast table m) w
         old : (a b : Bool) → is_in table m.key ≡ a → has_room table ≡ b → (a || b) ≡ true → map.get table.hits q ≡ cond (is_in table m.key) (map.get table.hits q) None
         old true b inside room c = sym (ap (λ b. cond b (map.get table.hits q) None) inside)
         old false true inside room c =
-            let none : map.get table.hits q ≡ None = ap (λ k. map.get table.hits (mark q.pos k)) (same_is q.key m.key is) ∙ no_first table.hits m.key (new_key table m v last inside room) q.pos in
+            let none : map.get table.hits q ≡ None = ap (λ k. map.get table.hits (mark q.spot k)) (same_is q.key m.key is) ∙ no_first table.hits m.key (new_key table m v last inside room) q.spot in
             none ∙ sym (ap (λ b. cond b (map.get table.hits q) None) inside)
         old false false inside room c = cc
   among c q false false tie is = ap (λ b. cond b (map.get table.hits q) None) (in-beside table m v last q.key is)
 
   -- where it isn't
-  apart : (c : is_counted table m.key ≡ false) (q : Mark) (tie same : Bool) → eq_by_cmp mark_cmp q m ≡ tie → same_key q.key m.key ≡ same → tie ≡ (eq_by_cmp pos_cmp q.pos m.pos && same)
+  apart : (c : is_counted table m.key ≡ false) (q : Mark) (tie same : Bool) → eq_by_cmp mark_cmp q m ≡ tie → same_key q.key m.key ≡ same → tie ≡ (eq_by_cmp spot_cmp q.spot m.spot && same)
       → cond (is_in after q.key) (cond tie (Some v) (map.get table.hits q)) None ≡ cond (is_in table q.key) (map.get table.hits q) None
   apart c q tie true at is both =
       ap (λ b. cond b (cond tie (Some v) (map.get table.hits q)) None) (ap (is_in after) (same_is q.key m.key is) ∙ in-here table m v last ∙ c)

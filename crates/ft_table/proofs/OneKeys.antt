@@ -9,11 +9,11 @@ use Rattle.std.specs.FinMap as map
 use Rattle.std.specs.FinMap.{find, put, is_sorted, entries_sorted, get-entries, get-remove}
 use Rattle.std.proofs.lemmas.List.{get_or_default}
 use Rattle.std.proofs.lemmas.List.Edits.{get_or-insert_below, get_or-insert_above, length-insert}
-use Rattle.ft_fields.specs.declared.pos.Pos.{Pos}
+use Rattle.ft_table.specs.declared.spot.Spot.{Spot}
 use Rattle.ft_keys.specs.declared.key.Part.{Part}
 use Rattle.ft_keys.specs.Parts.{key_cmp}
 use Rattle.ft_table.specs.declared.mark.Mark.{Mark}
-use Rattle.ft_fields.specs.Places.{pos_cmp, pos_cmp_total}
+use Rattle.ft_table.specs.Spots.{traced, spot_cmp, spot_cmp_total}
 use Rattle.ft_table.specs.Marks.{mark_cmp, mark_cmp_total}
 use Rattle.ft_table.specs.Hits.{Hits, same_key, hits_of, least_key, first_place}
 use Rattle.ft_table.specs.Tabled.{order_of}
@@ -33,9 +33,9 @@ not_it o q k ne is true same = absurd (ne (is ∙ ap (λ (x : List Part). Some x
 not_it o q k ne is false same = refl
 
 -- where the second place is less, the first mark isn't
-not_before : (a b : Pos) (key : List Part) → pos_cmp b a ≡ Less → mark_cmp (mark a key) (mark b key) ≡ Less → ⊥
+not_before : (a b : Spot) (key : List Part) → spot_cmp b a ≡ Less → mark_cmp (mark a key) (mark b key) ≡ Less → ⊥
 not_before a b key less h =
-    let turned : pos_cmp a b ≡ Greater = pos_cmp_total.antisymm a b ∙ ap ordering_reverse less in
+    let turned : spot_cmp a b ≡ Greater = spot_cmp_total.antisymm a b ∙ ap ordering_reverse less in
     let is : mark_cmp (mark a key) (mark b key) ≡ Greater = ap (λ o. ordering_then o (key_cmp key key)) turned in
     let both : Less ≡ Greater = sym h ∙ is in
     cc
@@ -53,26 +53,26 @@ is_less Less h = refl
 is_less Equal h = absurd h
 is_less Greater h = absurd h
 
-none_below : (g x : Pos) (es : List (Pos × List ℤ)) → pos_cmp g x ≡ Less → T (map.Entries.below_all pos_cmp x es) → find pos_cmp g es ≡ None
+none_below : (g x : Spot) (es : List (Spot × List ℤ)) → spot_cmp g x ≡ Less → T (map.Entries.below_all spot_cmp x es) → find spot_cmp g es ≡ None
 none_below g x [] less h = refl
 none_below g x (e ∷ es) less h =
-    ap (λ o. cond (is_eq o) (Some e.1) (find pos_cmp g es)) (pos_cmp_total.trans g x e.0 less (is_less _ (and_left _ _ h))) ∙ none_below g x es less (and_right _ _ h)
+    ap (λ o. cond (is_eq o) (Some e.1) (find spot_cmp g es)) (spot_cmp_total.trans g x e.0 less (is_less _ (and_left _ _ h))) ∙ none_below g x es less (and_right _ _ h)
 
 -- no hit of a key stands before its first
-least : (g f : Pos) (es : List (Pos × List ℤ)) (v : List ℤ) → T (is_sorted pos_cmp es) → least_key es ≡ Some f → find pos_cmp g es ≡ Some v → pos_cmp g f ≡ Less → ⊥
+least : (g f : Spot) (es : List (Spot × List ℤ)) (v : List ℤ) → T (is_sorted spot_cmp es) → least_key es ≡ Some f → find spot_cmp g es ≡ Some v → spot_cmp g f ≡ Less → ⊥
 least g f [] v h is at less = cc
 least g f (e ∷ es) v h is at less =
     let same : e.0 ≡ f = cc in
-    let before : pos_cmp g e.0 ≡ Less = ap (pos_cmp g) same ∙ less in
-    let none : find pos_cmp g (e ∷ es) ≡ None = ap (λ o. cond (is_eq o) (Some e.1) (find pos_cmp g es)) before ∙ none_below g e.0 es before (and_left _ _ h) in
+    let before : spot_cmp g e.0 ≡ Less = ap (spot_cmp g) same ∙ less in
+    let none : find spot_cmp g (e ∷ es) ≡ None = ap (λ o. cond (is_eq o) (Some e.1) (find spot_cmp g es)) before ∙ none_below g e.0 es before (and_left _ _ h) in
     let both : Some v ≡ None = sym at ∙ none in
     cc
 
-pub first_least : (hits : Hits) (key : List Part) (f g : Pos) (v : List ℤ) → first_place hits key ≡ Some f → map.get hits (mark g key) ≡ Some v → pos_cmp g f ≡ Less → ⊥
+pub first_least : (hits : Hits) (key : List Part) (f g : Spot) (v : List ℤ) → first_place hits key ≡ Some f → map.get hits (mark g key) ≡ Some v → spot_cmp g f ≡ Less → ⊥
 first_least hits key f g v is at = least g f (map.entries (hits_of hits key)) v (entries_sorted (hits_of hits key)) is (sym (get-entries (hits_of hits key) g) ∙ get-hits_of hits g key ∙ at)
 
 -- a mark isn't before another of its key, whose place isn't after it
-marks_not_before : (a b : Pos) (key : List Part) → (pos_cmp a b ≡ Less → ⊥) → (o : Ordering) → pos_cmp a b ≡ o → mark_cmp (mark a key) (mark b key) ≡ Less → key_cmp key key ≡ Equal → ⊥
+marks_not_before : (a b : Spot) (key : List Part) → (spot_cmp a b ≡ Less → ⊥) → (o : Ordering) → spot_cmp a b ≡ o → mark_cmp (mark a key) (mark b key) ≡ Less → key_cmp key key ≡ Equal → ⊥
 marks_not_before a b key ne Less is h tie = ne is
 marks_not_before a b key ne Equal is h tie = let both : Less ≡ Equal = sym h ∙ ap (λ o. ordering_then o (key_cmp key key)) is ∙ tie in cc
 marks_not_before a b key ne Greater is h tie = let both : Less ≡ Greater = sym h ∙ ap (λ o. ordering_then o (key_cmp key key)) is in cc
@@ -81,10 +81,10 @@ module _ (hits after : Hits) (key q : List Part) (apart : same_key q key ≡ fal
   abbrev listed : Hits → Bool
   listed h = list_any (same_key q) (list_map key_of (take (suc t) (order_of h)))
 
-  before-is : (a : Option Pos) → first_place hits key ≡ a → listed hits ≡ stands hits key q apart t a
+  before-is : (a : Option Spot) → first_place hits key ≡ a → listed hits ≡ stands hits key q apart t a
   before-is a is = ap (λ (ms : List Mark). list_any (same_key q) (list_map key_of (take (suc t) ms))) (order-before hits key a is)
 
-  after-is : (b : Option Pos) → first_place after key ≡ b → listed after ≡ stands hits key q apart t b
+  after-is : (b : Option Spot) → first_place after key ≡ b → listed after ≡ stands hits key q apart t b
   after-is b is = ap (λ (ms : List Mark). list_any (same_key q) (list_map key_of (take (suc t) ms))) (order-before after key b is ∙ order_before-beside hits after key b same)
 
   -- a key that isn't the last inside
@@ -94,7 +94,7 @@ module _ (hits after : Hits) (key q : List Part) (apart : same_key q key ≡ fal
       not_it _ q (get_or (order_without hits key) t d).key ne
       (ap (λ (ms : List Mark). slice_get (list_map key_of (take (suc t) ms)) (length (list_map key_of (take (suc t) ms)) - 1)) order ∙ last-taken key_of (same_key q) (order_without hits key) t d lt) _ refl
 
-  last_some : (slice_get (list_map key_of (take (suc t) (order_of hits))) (length (list_map key_of (take (suc t) (order_of hits))) - 1) ≡ Some q → ⊥) → (a : Pos) → first_place hits key ≡ Some a → t < (order-at hits key q apart t a).0 → NotAt hits key q apart t
+  last_some : (slice_get (list_map key_of (take (suc t) (order_of hits))) (length (list_map key_of (take (suc t) (order_of hits))) - 1) ≡ Some q → ⊥) → (a : Spot) → first_place hits key ≡ Some a → t < (order-at hits key q apart t a).0 → NotAt hits key q apart t
   last_some ne a is out d lt =
       let at = order-at hits key q apart t a in
       let w = at.1.0.within in
@@ -106,7 +106,7 @@ module _ (hits after : Hits) (key q : List Part) (apart : same_key q key ≡ fal
       ∙ ap (λ (m : Mark). Some m.key) (get_or-insert_below (order_without hits key) at.0 (mark a key) d t out w)) _ refl
 
   -- and one that isn't the first outside
-  first_some : (slice_get (list_map key_of (drop (suc t) (order_of hits))) 0 ≡ Some q → ⊥) → (a : Pos) → first_place hits key ≡ Some a → (order-at hits key q apart t a).0 ≤ t → NotAt hits key q apart t
+  first_some : (slice_get (list_map key_of (drop (suc t) (order_of hits))) 0 ≡ Some q → ⊥) → (a : Spot) → first_place hits key ≡ Some a → (order-at hits key q apart t a).0 ≤ t → NotAt hits key q apart t
   first_some ne a is le d lt =
       let at = order-at hits key q apart t a in
       let w = at.1.0.within in
@@ -119,12 +119,12 @@ module _ (hits after : Hits) (key q : List Part) (apart : same_key q key ≡ fal
       ∙ ap (λ (n : ℕ). Some (get_or (insert (order_without hits key) at.0 (mark a key)) n d).key) e
       ∙ ap (λ (m : Mark). Some m.key) (get_or-insert_above (order_without hits key) at.0 (mark a key) d t le w)) _ refl
 
-first_put : (p f : Pos) (v : List ℤ) (es : List (Pos × List ℤ)) → least_key es ≡ Some f → (o : Ordering) → pos_cmp p f ≡ o → least_key (put pos_cmp p v es) ≡ map.Entries.by_order o (Some p) (Some f) (Some f)
+first_put : (p f : Spot) (v : List ℤ) (es : List (Spot × List ℤ)) → least_key es ≡ Some f → (o : Ordering) → spot_cmp p f ≡ o → least_key (put spot_cmp p v es) ≡ map.Entries.by_order o (Some p) (Some f) (Some f)
 first_put p f v [] is o at = cc
 first_put p f v (e ∷ es) is o at =
     let same : e.0 ≡ f = cc in
-    ap (λ o. least_key (map.Entries.by_order o ((p, v) ∷ e ∷ es) ((e.0, v) ∷ es) (e ∷ put pos_cmp p v es))) (ap (pos_cmp p) same ∙ at) ∙
-    elim o as (λ o. least_key (map.Entries.by_order o ((p, v) ∷ e ∷ es) ((e.0, v) ∷ es) (e ∷ put pos_cmp p v es)) ≡ map.Entries.by_order o (Some p) (Some f) (Some f)) [ Less ↦ refl | Equal ↦ is | Greater ↦ is ]
+    ap (λ o. least_key (map.Entries.by_order o ((p, v) ∷ e ∷ es) ((e.0, v) ∷ es) (e ∷ put spot_cmp p v es))) (ap (spot_cmp p) same ∙ at) ∙
+    elim o as (λ o. least_key (map.Entries.by_order o ((p, v) ∷ e ∷ es) ((e.0, v) ∷ es) (e ∷ put spot_cmp p v es)) ≡ map.Entries.by_order o (Some p) (Some f) (Some f)) [ Less ↦ refl | Equal ↦ is | Greater ↦ is ]
 
 module _ (hits : Hits) (m : Mark) (v : List ℤ) (q : List Part) (apart : same_key q m.key ≡ false) (t : ℕ) where
   abbrev after : Hits
@@ -133,20 +133,20 @@ module _ (hits : Hits) (m : Mark) (v : List ℤ) (q : List Part) (apart : same_k
   abbrev beside : SameBeside hits after m.key
   beside = insert-beside hits m v
 
-  came : (slice_get (list_map key_of (take (suc t) (order_of hits))) (length (list_map key_of (take (suc t) (order_of hits))) - 1) ≡ Some q → ⊥) → (o : Option Pos) → first_place hits m.key ≡ o → listed hits after m.key q apart t beside after ≡ listed hits after m.key q apart t beside hits
+  came : (slice_get (list_map key_of (take (suc t) (order_of hits))) (length (list_map key_of (take (suc t) (order_of hits))) - 1) ≡ Some q → ⊥) → (o : Option Spot) → first_place hits m.key ≡ o → listed hits after m.key q apart t beside after ≡ listed hits after m.key q apart t beside hits
   came ne None none =
-      after-is hits after m.key q apart t beside (Some m.pos) (first_place-insert hits m v ∙ first-empty m.pos v (map.entries (hits_of hits m.key)) none)
-      ∙ stands-came hits m.key q apart t (last_none hits after m.key q apart t beside ne none) m.pos
+      after-is hits after m.key q apart t beside (Some m.spot) (first_place-insert hits m v ∙ first-empty m.spot v (map.entries (hits_of hits m.key)) none)
+      ∙ stands-came hits m.key q apart t (last_none hits after m.key q apart t beside ne none) m.spot
       ∙ sym (before-is hits after m.key q apart t beside None none)
-  came ne (Some f) is = by (pos_cmp m.pos f) refl where
-    first : (o : Ordering) → pos_cmp m.pos f ≡ o → first_place after m.key ≡ map.Entries.by_order o (Some m.pos) (Some f) (Some f)
-    first o at = first_place-insert hits m v ∙ first_put m.pos f v (map.entries (hits_of hits m.key)) is o at
+  came ne (Some f) is = by (spot_cmp m.spot f) refl where
+    first : (o : Ordering) → spot_cmp m.spot f ≡ o → first_place after m.key ≡ map.Entries.by_order o (Some m.spot) (Some f) (Some f)
+    first o at = first_place-insert hits m v ∙ first_put m.spot f v (map.entries (hits_of hits m.key)) is o at
 
-    by : (o : Ordering) → pos_cmp m.pos f ≡ o → listed hits after m.key q apart t beside after ≡ listed hits after m.key q apart t beside hits
+    by : (o : Ordering) → spot_cmp m.spot f ≡ o → listed hits after m.key q apart t beside after ≡ listed hits after m.key q apart t beside hits
     by Less at =
-        after-is hits after m.key q apart t beside (Some m.pos) (first Less at)
-        ∙ stands-before hits m.key q apart t f m.pos (last_some hits after m.key q apart t beside ne f is)
-        (rank-le (order_without hits m.key) m (mark f m.key) _ _ (order-at hits m.key q apart t m.pos).1.0 (order-at hits m.key q apart t f).1.0 (not_before f m.pos m.key at))
+        after-is hits after m.key q apart t beside (Some m.spot) (first Less at)
+        ∙ stands-before hits m.key q apart t f m.spot (last_some hits after m.key q apart t beside ne f is)
+        (rank-le (order_without hits m.key) m (mark f m.key) _ _ (order-at hits m.key q apart t m.spot).1.0 (order-at hits m.key q apart t f).1.0 (not_before f m.spot m.key at))
         ∙ sym (before-is hits after m.key q apart t beside (Some f) is)
     by Equal at = after-is hits after m.key q apart t beside (Some f) (first Equal at) ∙ sym (before-is hits after m.key q apart t beside (Some f) is)
     by Greater at = after-is hits after m.key q apart t beside (Some f) (first Greater at) ∙ sym (before-is hits after m.key q apart t beside (Some f) is)
@@ -164,7 +164,7 @@ module _ (hits : Hits) (m : Mark) (q : List Part) (apart : same_key q m.key ≡ 
   abbrev beside_less : SameBeside hits less_one m.key
   beside_less = remove-beside hits m
 
-  went : (slice_get (list_map key_of (drop (suc t) (order_of hits))) 0 ≡ Some q → ⊥) → (a b : Option Pos) → first_place hits m.key ≡ a → first_place less_one m.key ≡ b → listed hits less_one m.key q apart t beside_less less_one ≡ listed hits less_one m.key q apart t beside_less hits
+  went : (slice_get (list_map key_of (drop (suc t) (order_of hits))) 0 ≡ Some q → ⊥) → (a b : Option Spot) → first_place hits m.key ≡ a → first_place less_one m.key ≡ b → listed hits less_one m.key q apart t beside_less less_one ≡ listed hits less_one m.key q apart t beside_less hits
   went ne None None a b = after-is hits less_one m.key q apart t beside_less None b ∙ sym (before-is hits less_one m.key q apart t beside_less None a)
   went ne None (Some g) a b =
       let at = first_is_hit less_one m.key g b in
@@ -176,10 +176,10 @@ module _ (hits : Hits) (m : Mark) (q : List Part) (apart : same_key q m.key ≡ 
       ∙ sym (before-is hits less_one m.key q apart t beside_less (Some f) a)
   went ne (Some f) (Some g) a b =
       let at = first_is_hit less_one m.key g b in
-      let after_it : pos_cmp g f ≡ Less → ⊥ = first_least hits m.key f g at.0 a (kept_hit hits m (mark g m.key) at.0 at.1) in
+      let after_it : spot_cmp g f ≡ Less → ⊥ = first_least hits m.key f g at.0 a (kept_hit hits m (mark g m.key) at.0 at.1) in
       after-is hits less_one m.key q apart t beside_less (Some g) b
       ∙ stands-behind hits m.key q apart t f g (first_some hits less_one m.key q apart t beside_less ne f a)
-      (rank-le (order_without hits m.key) (mark f m.key) (mark g m.key) _ _ (order-at hits m.key q apart t f).1.0 (order-at hits m.key q apart t g).1.0 (λ h. marks_not_before g f m.key after_it (pos_cmp g f) refl h (tied_itself key_cmp_total m.key)))
+      (rank-le (order_without hits m.key) (mark f m.key) (mark g m.key) _ _ (order-at hits m.key q apart t f).1.0 (order-at hits m.key q apart t g).1.0 (λ h. marks_not_before g f m.key after_it (spot_cmp g f) refl h (tied_itself key_cmp_total m.key)))
       ∙ sym (before-is hits less_one m.key q apart t beside_less (Some f) a)
 
 -- keys that aren't equal don't tie
@@ -208,7 +208,7 @@ beside_of hits after key same q apart = same q (λ e. let both : true ≡ false 
 
 -- the key that stands in the way: at the table's edge among the others
 edge_mark : List Part → Mark
-edge_mark key = mark (record { stamp = 0; cpu = 0; line = 0 }) key
+edge_mark key = mark (traced (record { stamp = 0; cpu = 0; line = 0 })) key
 
 pub one_other_moves : OneOtherMoves
 one_other_moves table after key same = sized table.size where
@@ -222,11 +222,11 @@ one_other_moves table after key same = sized table.size where
     λ q ne other.
         let apart : same_key q key ≡ false = apart_of q key ne in
         let not_at : NotAt table.hits key q apart t = λ d lt. ap (λ (m : Mark). same_key q m.key) (get_or_default (order_without table.hits key) t d (edge_mark key) lt) ∙ apart_of q _ other in
-        let alike : (o : Option Pos) → stands table.hits key q apart t o ≡ stands table.hits key q apart t None = alike_of q apart t not_at in
+        let alike : (o : Option Spot) → stands table.hits key q apart t o ≡ stands table.hits key q apart t None = alike_of q apart t not_at in
         after-is table.hits after key q apart t beside (first_place after key) refl
         ∙ alike (first_place after key) ∙ sym (alike (first_place table.hits key))
         ∙ sym (before-is table.hits after key q apart t beside (first_place table.hits key) refl),
   ) where
-    alike_of : (q : List Part) (apart : same_key q key ≡ false) (t : ℕ) → NotAt table.hits key q apart t → (o : Option Pos) → stands table.hits key q apart t o ≡ stands table.hits key q apart t None
+    alike_of : (q : List Part) (apart : same_key q key ≡ false) (t : ℕ) → NotAt table.hits key q apart t → (o : Option Spot) → stands table.hits key q apart t o ≡ stands table.hits key q apart t None
     alike_of q apart t not_at None = refl
     alike_of q apart t not_at (Some b) = stands-came table.hits key q apart t not_at b

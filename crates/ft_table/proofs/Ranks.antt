@@ -10,8 +10,8 @@ use Rattle.std.specs.Cmp.{IsTotalOrder, eq_by_cmp_equiv}
 use Rattle.std.specs.FinMap as map
 use Rattle.std.proofs.lemmas.Bool.{ltb-true}
 use Rattle.std.proofs.lemmas.Bool.Decides.{nat_tests}
-use Rattle.ft_fields.specs.declared.pos.Pos.{Pos}
-use Rattle.ft_fields.specs.Places.{pos_cmp, pos_cmp_total, pos_same}
+use Rattle.ft_table.specs.declared.spot.Spot.{Spot}
+use Rattle.ft_table.specs.Spots.{spot_cmp, spot_cmp_total, spot_same}
 use Rattle.ft_keys.specs.declared.key.Part.{Part}
 use Rattle.ft_table.specs.declared.mark.Mark.{Mark}
 use Rattle.ft_table.specs.Marks.{mark_cmp, mark_cmp_total}
@@ -38,34 +38,34 @@ not_none (Some x) some none = cc
 -- ---- first hits
 
 -- no hit stands before its key's first
-least_of : (hits : Hits) (m : Mark) → first_place hits m.key ≡ Some m.pos → (p : Pos) → is_some (map.get hits (mark p m.key)) ≡ true → pos_cmp p m.pos ≡ Less → ⊥
-least_of hits m is p some = let at = some_is (map.get hits (mark p m.key)) some in first_least hits m.key m.pos p at.0 is at.1
+least_of : (hits : Hits) (m : Mark) → first_place hits m.key ≡ Some m.spot → (p : Spot) → is_some (map.get hits (mark p m.key)) ≡ true → spot_cmp p m.spot ≡ Less → ⊥
+least_of hits m is p some = let at = some_is (map.get hits (mark p m.key)) some in first_least hits m.key m.spot p at.0 is at.1
 
-is_first_hit : (hits : Hits) (m : Mark) → first_place hits m.key ≡ Some m.pos → IsFirstHit hits m
+is_first_hit : (hits : Hits) (m : Mark) → first_place hits m.key ≡ Some m.spot → IsFirstHit hits m
 is_first_hit hits m is =
-    let at = first_is_hit hits m.key m.pos is in
+    let at = first_is_hit hits m.key m.spot is in
     record { hit = ap is_some at.1; least = least_of hits m is }
 
 -- and what none stands before is the first
-first_from : (hits : Hits) (m : Mark) → IsFirstHit hits m → first_place hits m.key ≡ Some m.pos
+first_from : (hits : Hits) (m : Mark) → IsFirstHit hits m → first_place hits m.key ≡ Some m.spot
 first_from hits m first = by (first_place hits m.key) refl where
-  by : (o : Option Pos) → first_place hits m.key ≡ o → o ≡ Some m.pos
-  by None none = absurd (not_none (map.get hits m) first.hit (no_first hits m.key none m.pos))
+  by : (o : Option Spot) → first_place hits m.key ≡ o → o ≡ Some m.spot
+  by None none = absurd (not_none (map.get hits m) first.hit (no_first hits m.key none m.spot))
   by (Some f) is =
       let at = first_is_hit hits m.key f is in
-      let before : pos_cmp f m.pos ≡ Less → ⊥ = first.least f (ap is_some at.1) in
+      let before : spot_cmp f m.spot ≡ Less → ⊥ = first.least f (ap is_some at.1) in
       let v = some_is (map.get hits m) first.hit in
-      let after : pos_cmp m.pos f ≡ Less → ⊥ = first_least hits m.key f m.pos v.0 is v.1 in
-      ap (λ (p : Pos). Some p) (pos_same f m.pos (tie f (pos_cmp f m.pos) refl before after)) where
-        tie : (f : Pos) (o : Ordering) → pos_cmp f m.pos ≡ o → (pos_cmp f m.pos ≡ Less → ⊥) → (pos_cmp m.pos f ≡ Less → ⊥) → pos_cmp f m.pos ≡ Equal
+      let after : spot_cmp m.spot f ≡ Less → ⊥ = first_least hits m.key f m.spot v.0 is v.1 in
+      ap (λ (p : Spot). Some p) (spot_same f m.spot (tie f (spot_cmp f m.spot) refl before after)) where
+        tie : (f : Spot) (o : Ordering) → spot_cmp f m.spot ≡ o → (spot_cmp f m.spot ≡ Less → ⊥) → (spot_cmp m.spot f ≡ Less → ⊥) → spot_cmp f m.spot ≡ Equal
         tie f Less e before after = absurd (before e)
         tie f Equal e before after = e
-        tie f Greater e before after = absurd (after (pos_cmp_total.antisymm m.pos f ∙ ap ordering_reverse e))
+        tie f Greater e before after = absurd (after (spot_cmp_total.antisymm m.spot f ∙ ap ordering_reverse e))
 
-is_listed : (hits : Hits) (m : Mark) → first_place hits m.key ≡ Some m.pos → is_some (map.get (first_hits hits) m) ≡ true
+is_listed : (hits : Hits) (m : Mark) → first_place hits m.key ≡ Some m.spot → is_some (map.get (first_hits hits) m) ≡ true
 is_listed hits m is =
-    let at = first_is_hit hits m.key m.pos is in
-    let first : is_first hits m ≡ true = ap (λ o. option_map_or (eq_by_cmp pos_cmp m.pos) o false) is ∙ (eq_by_cmp_equiv pos_cmp_total).refl m.pos in
+    let at = first_is_hit hits m.key m.spot is in
+    let first : is_first hits m ≡ true = ap (λ o. option_map_or (eq_by_cmp spot_cmp m.spot) o false) is ∙ (eq_by_cmp_equiv spot_cmp_total).refl m.spot in
     ap is_some (get-first_hits hits m ∙ ap (λ b. cond b (map.get hits m) None) first ∙ at.1)
 
 pub firsts_are_first : FirstsAreFirst
@@ -92,7 +92,7 @@ module _ {K : Type 0} {R : K → K → Ordering} (total : IsTotalOrder R) where
       ∙ ap suc (below-rank xs k i (next_rank total x xs k i at))
 
 -- a key is in where fewer first hits than the size stand before its own
-in-rank : (table : Tabled) (key : List Part) (f : Pos) → first_place table.hits key ≡ Some f → is_in table key ≡ nat_lt (map.len (earlier_firsts table.hits (mark f key))) table.size
+in-rank : (table : Tabled) (key : List Part) (f : Spot) → first_place table.hits key ≡ Some f → is_in table key ≡ nat_lt (map.len (earlier_firsts table.hits (mark f key))) table.size
 in-rank table key f is =
     let hits : Hits = table.hits in
     let m : Mark = mark f key in
@@ -112,19 +112,19 @@ in-none table key none =
 
 among : (table : Tabled) (key : List Part) → is_in table key ≡ true → IsAmongFirst table key
 among table key inside = by (first_place table.hits key) refl where
-  by : (o : Option Pos) → first_place table.hits key ≡ o → IsAmongFirst table key
+  by : (o : Option Spot) → first_place table.hits key ≡ o → IsAmongFirst table key
   by None none = absurd (let both : true ≡ false = sym inside ∙ in-none table key none in cc)
   by (Some f) is = record {
-    place = f;
+    spot = f;
     first = is_first_hit table.hits (mark f key) is;
     few = ltb-true _ _ (sym (in-rank table key f is) ∙ inside);
   }
 
 inside : (table : Tabled) (key : List Part) → IsAmongFirst table key → is_in table key ≡ true
 inside table key first =
-    let is : first_place table.hits key ≡ Some first.place = first_from table.hits (mark first.place key) first.first in
+    let is : first_place table.hits key ≡ Some first.spot = first_from table.hits (mark first.spot key) first.first in
     let lt = first.few in
-    in-rank table key first.place is ∙ grind (arith, nat_tests, lt)
+    in-rank table key first.spot is ∙ grind (arith, nat_tests, lt)
 
 pub in_by_rank : InByRank
 in_by_rank table key = (among table key, inside table key)

@@ -13,8 +13,8 @@ use Rattle.std.proofs.lemmas.Cmp.{tied_itself}
 use Rattle.std.proofs.lemmas.List.{get_or_default, length-map}
 use Rattle.std.proofs.Math.Seq.{take-length}
 use Rattle.std.proofs.lemmas.List.Sums.{sum_by-cons, sum_by-take-drop}
-use Rattle.ft_fields.specs.declared.pos.Pos.{Pos}
-use Rattle.ft_fields.specs.Places.{pos_cmp, pos_same}
+use Rattle.ft_table.specs.declared.spot.Spot.{Spot}
+use Rattle.ft_table.specs.Spots.{spot_cmp, spot_same}
 use Rattle.ft_keys.specs.declared.key.Part.{Part}
 use Rattle.ft_table.specs.declared.mark.Mark.{Mark}
 use Rattle.ft_table.specs.Marks.{mark_cmp, mark_cmp_total, mark_same}
@@ -76,8 +76,8 @@ len-keys hits = len-entries hits ∙ sym (length-map (map.entries hits) (λ e. e
 
 -- ---- the hits of a key
 
-abbrev by_place : Mark × List ℤ → Pos × List ℤ
-by_place e = (e.0.pos, e.1)
+abbrev by_place : Mark × List ℤ → Spot × List ℤ
+by_place e = (e.0.spot, e.1)
 
 many-of_key : (key : List Part) (es : List (Mark × List ℤ)) → length (of_key key es) ≡ how_many (λ m. same_key m.key key) (keys_of es)
 many-of_key key [] = refl
@@ -94,13 +94,13 @@ all_count hits key = hitcount-many hits key ∙ sym (len-kept hits (λ m. same_k
 
 -- ---- each key stands once in the order
 
-first_is : (o : Option Pos) (p : Pos) → option_map_or (eq_by_cmp pos_cmp p) o false ≡ true → o ≡ Some p
+first_is : (o : Option Spot) (p : Spot) → option_map_or (eq_by_cmp spot_cmp p) o false ≡ true → o ≡ Some p
 first_is None p is = cc
-first_is (Some a) p is = ap (λ (q : Pos). Some q) (sym (pos_same p a (is_equal _ is)))
+first_is (Some a) p is = ap (λ (q : Spot). Some q) (sym (spot_same p a (is_equal _ is)))
 
 -- a mark among the first hits is its key's first
-pub first-listed : (hits : Hits) (m : Mark) → is_some (map.get (first_hits hits) m) ≡ true → first_place hits m.key ≡ Some m.pos
-first-listed hits m some = first_is (first_place hits m.key) m.pos (of (is_first hits m) (ap is_some (sym (get-first_hits hits m)) ∙ some)) where
+pub first-listed : (hits : Hits) (m : Mark) → is_some (map.get (first_hits hits) m) ≡ true → first_place hits m.key ≡ Some m.spot
+first-listed hits m some = first_is (first_place hits m.key) m.spot (of (is_first hits m) (ap is_some (sym (get-first_hits hits m)) ∙ some)) where
   of : (b : Bool) → is_some (cond b (map.get hits m) None) ≡ true → b ≡ true
   of true h = refl
   of false h = cc
@@ -109,8 +109,8 @@ first-listed hits m some = first_is (first_place hits m.key) m.pos (of (is_first
 pub apart_after : (hits : Hits) (i j : ℕ) (d : Mark) → i < j → j < length (order_of hits) → same_key (get_or (order_of hits) i d).key (get_or (order_of hits) j d).key ≡ false
 apart_after hits i j d before within =
     let m : Mark = get_or (order_of hits) i d in
-    let first : first_place hits m.key ≡ Some m.pos = first-listed hits m (listed (first_hits hits) i d (omega arith)) in
-    let order : order_of hits ≡ order_with hits m = order-some hits m.key m.pos first in
+    let first : first_place hits m.key ≡ Some m.spot = first-listed hits m (listed (first_hits hits) i d (omega arith)) in
+    let order : order_of hits ≡ order_with hits m = order-some hits m.key m.spot first in
     let tie : (e : Mark) → mark_cmp (get_or (order_of hits) i e) m ≡ Equal = λ e. ap (λ (q : Mark). mark_cmp q m) (get_or_default (order_of hits) i e d (omega arith)) ∙ tied_itself mark_cmp_total m in
     let at : IsRank mark_cmp (order_of hits) m i = rank-found mark_cmp_total (order_of hits) m i (rises-keys (first_hits hits)) (omega arith) tie in
     let away : same_key (get_or (order_with hits m) j d).key m.key ≡ false =
@@ -159,8 +159,8 @@ not_none (Some x) some none = cc
 -- each hit's key stands in the order
 in_order : (hits : Hits) (m : Mark) → is_some (map.get hits m) ≡ true → is_of (list_map key_of (take (length (order_of hits)) (order_of hits))) m ≡ true
 in_order hits m some = by (first_place hits m.key) refl where
-  by : (o : Option Pos) → first_place hits m.key ≡ o → is_of (list_map key_of (take (length (order_of hits)) (order_of hits))) m ≡ true
-  by None none = absurd (not_none (map.get hits m) some (no_first hits m.key none m.pos))
+  by : (o : Option Spot) → first_place hits m.key ≡ o → is_of (list_map key_of (take (length (order_of hits)) (order_of hits))) m ≡ true
+  by None none = absurd (not_none (map.get hits m) some (no_first hits m.key none m.spot))
   by (Some f) is =
       let first : Mark = mark f m.key in
       let at = rank-keys mark_cmp_total (map.insert (others hits m.key) first []) first in

@@ -5,7 +5,7 @@ use Rattle.std.specs.List.{insert, list_any}
 use Rattle.std.specs.declared.cmp.Ordering.TheVariants.{Less, Equal, Greater}
 use Rattle.std.specs.Ordering.{ordering_reverse}
 use Rattle.std.proofs.lemmas.Bool.{cases_lt}
-use Rattle.ft_fields.specs.declared.pos.Pos.{Pos}
+use Rattle.ft_table.specs.declared.spot.Spot.{Spot}
 use Rattle.ft_keys.specs.declared.key.Part.{Part}
 use Rattle.ft_table.specs.declared.mark.Mark.{Mark}
 use Rattle.ft_table.specs.Marks.{mark_cmp, mark_cmp_total}
@@ -86,10 +86,10 @@ module _ (hits : Hits) (key q : List Part) (apart : same_key q key ≡ false) (t
   rest = order_without hits key
 
   -- whether q is in a table for t + 1 keys, where the key has its first hit at o
-  abbrev pub stands : Option Pos → Bool
+  abbrev pub stands : Option Spot → Bool
   stands o = among key_of (same_key q) (suc t) (order_before hits key o)
 
-  pub order-at : (p : Pos) → (i : ℕ) × (IsRank mark_cmp rest (mark p key) i × (order_with hits (mark p key) ≡ insert rest i (mark p key)))
+  pub order-at : (p : Spot) → (i : ℕ) × (IsRank mark_cmp rest (mark p key) i × (order_with hits (mark p key) ≡ insert rest i (mark p key)))
   order-at p = let at = rank-keys mark_cmp_total (others hits key) (mark p key) in (at.0, (at.1, order-enter hits (mark p key) at.0 at.1))
 
   -- the one behind is q's not
@@ -99,13 +99,13 @@ module _ (hits : Hits) (key q : List Part) (apart : same_key q key ≡ false) (t
   stands-none : stands None ≡ among key_of (same_key q) (suc t) rest
   stands-none = refl
 
-  stands-in : (p : Pos) → (order-at p).0 ≤ t → stands (Some p) ≡ among key_of (same_key q) t rest
+  stands-in : (p : Spot) → (order-at p).0 ≤ t → stands (Some p) ≡ among key_of (same_key q) t rest
   stands-in p le =
       let at = order-at p in
       let w = at.1.0.within in
       ap (among key_of (same_key q) (suc t)) at.1.1 ∙ among-insert key_of (same_key q) rest t at.0 (mark p key) le w apart
 
-  stands-out : (p : Pos) → t < (order-at p).0 → stands (Some p) ≡ among key_of (same_key q) (suc t) rest
+  stands-out : (p : Spot) → t < (order-at p).0 → stands (Some p) ≡ among key_of (same_key q) (suc t) rest
   stands-out p lt =
       let at = order-at p in
       let w = at.1.0.within in
@@ -115,26 +115,26 @@ module _ (hits : Hits) (key q : List Part) (apart : same_key q key ≡ false) (t
   less not_at = among-less key_of (same_key q) rest t not_at
 
   -- a first hit that comes, or comes to stand before
-  pub stands-came : NotAt → (b : Pos) → stands (Some b) ≡ stands None
+  pub stands-came : NotAt → (b : Spot) → stands (Some b) ≡ stands None
   stands-came not_at b = elim (cases_lt t (order-at b).0) [
     | inl lt ↦ stands-out b lt
     | inr le ↦ stands-in b le ∙ sym (less not_at)
   ]
 
-  pub stands-before : (a b : Pos) → (t < (order-at a).0 → NotAt) → ((order-at b).0 ≤ (order-at a).0) → stands (Some b) ≡ stands (Some a)
+  pub stands-before : (a b : Spot) → (t < (order-at a).0 → NotAt) → ((order-at b).0 ≤ (order-at a).0) → stands (Some b) ≡ stands (Some a)
   stands-before a b not_at le = elim (cases_lt t (order-at a).0) [
     | inl lt ↦ stands-came (not_at lt) b ∙ sym (stands-came (not_at lt) a)
     | inr out ↦ stands-in b (omega arith) ∙ sym (stands-in a out)
   ]
 
   -- one that goes, or goes to stand behind
-  pub stands-went : (a : Pos) → ((order-at a).0 ≤ t → NotAt) → stands None ≡ stands (Some a)
+  pub stands-went : (a : Spot) → ((order-at a).0 ≤ t → NotAt) → stands None ≡ stands (Some a)
   stands-went a not_at = elim (cases_lt t (order-at a).0) [
     | inl lt ↦ sym (stands-out a lt)
     | inr le ↦ less (not_at le) ∙ sym (stands-in a le)
   ]
 
-  pub stands-behind : (a b : Pos) → ((order-at a).0 ≤ t → NotAt) → ((order-at a).0 ≤ (order-at b).0) → stands (Some b) ≡ stands (Some a)
+  pub stands-behind : (a b : Spot) → ((order-at a).0 ≤ t → NotAt) → ((order-at a).0 ≤ (order-at b).0) → stands (Some b) ≡ stands (Some a)
   stands-behind a b not_at le = elim (cases_lt t (order-at a).0) [
     | inl lt ↦ stands-out b (omega arith) ∙ sym (stands-out a lt)
     | inr out ↦ stands-came (not_at out) b ∙ sym (stands-came (not_at out) a)

@@ -3,8 +3,8 @@ use Rattle.std.specs.Prelude.{◌≡◌, ◌↔◌, ◌+◌, ◌<◌, not, List,
 use Rattle.std.specs.declared.cmp.Ordering.TheVariants.{Less}
 use Rattle.std.specs.Ordering.{is_lt}
 use Rattle.std.specs.FinMap as map
-use Rattle.ft_fields.specs.declared.pos.Pos.{Pos}
-use Rattle.ft_fields.specs.Places.{pos_cmp}
+use Rattle.ft_table.specs.declared.spot.Spot.{Spot}
+use Rattle.ft_table.specs.Spots.{spot_cmp}
 use Rattle.ft_keys.specs.declared.key.Part.{Part}
 use Rattle.ft_table.specs.declared.mark.Mark.{Mark}
 use Rattle.ft_table.specs.Marks.{mark_cmp}
@@ -15,7 +15,7 @@ use Rattle.ft_table.specs.Rows.{totals_of}
 -- a mark is that of its key's first hit: a hit stands there, and none of its key before (our own choice)
 pub record IsFirstHit (hits : Hits) (m : Mark) : Type 0 where
   pub hit : IsSome (map.get hits m)
-  pub least : (p : Pos) → IsSome (map.get hits (record m { pos = p })) → pos_cmp p m.pos ≡ Less → ⊥
+  pub least : (p : Spot) → IsSome (map.get hits (record m { spot = p })) → spot_cmp p m.spot ≡ Less → ⊥
 
 -- the first hits are these (our own choice)
 abbrev pub FirstsAreFirst : Type 0
@@ -27,9 +27,9 @@ earlier_firsts hits m = map.retain_keys (first_hits hits) (λ first. is_lt (mark
 
 -- a key has a first hit, and fewer than `size` other keys have an earlier one (kernel: histogram.rst, `size`)
 pub record IsAmongFirst (table : Tabled) (key : List Part) : Type 0 where
-  pub place : Pos
-  pub first : IsFirstHit table.hits (record { pos = place; key = key })
-  pub few : map.len (earlier_firsts table.hits (record { pos = place; key = key })) < table.size
+  pub spot : Spot
+  pub first : IsFirstHit table.hits (record { spot = spot; key = key })
+  pub few : map.len (earlier_firsts table.hits (record { spot = spot; key = key })) < table.size
 
 -- a key is in the table just where it has a hit, and fewer than `size` other keys have an earlier first hit (kernel: histogram.rst, `size`)
 abbrev pub InByRank : Type 0

@@ -1,5 +1,5 @@
 -- How the logic stores tables.
-use Rattle.std.specs.Prelude.{ℕ, List, refl}
+use Rattle.std.specs.Prelude.{ℕ, refl}
 use Rattle.std.specs.Coded.{Coded, code_by, coded×, coded_list, coded_ℤ, coded_ℕ}
 use Rattle.std.specs.FinMap as map
 use Rattle.ft_table.specs.contracts.mark.Mark as mark

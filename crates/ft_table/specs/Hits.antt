@@ -1,23 +1,28 @@
--- Hits: values by place and key.
-use Rattle.std.specs.Prelude.{ℕ, ◌%◌, ◌^◌, ℤ, pos, Bool, true, List, [], ◌∷◌, Option, Some, None, map as list_map, slice_index_or, if◌then◌else◌}
+-- Hits: values by spot and key.
+use Rattle.std.specs.Prelude.{◌≡◌, ℕ, ◌%◌, ◌^◌, ℤ, pos, Bool, true, List, [], ◌∷◌, Option, Some, None, map as list_map, slice_index_or, if◌then◌else◌}
 use Rattle.std.specs.List.{filter, sum_by}
 use Rattle.std.specs.Int.{w64, cast_unsigned}
 use Rattle.std.specs.Ordering.{eq_by_cmp, is_lt}
 use Rattle.std.specs.FinMap as map
 use Rattle.std.specs.FinMap.{FinMap}
-use Rattle.ft_fields.specs.declared.pos.Pos.{Pos}
-use Rattle.ft_fields.specs.Places.{pos_cmp}
+use Rattle.ft_table.specs.declared.spot.Spot.{Spot}
+use Rattle.ft_table.specs.Spots.{IsMade, spot_cmp}
 use Rattle.ft_keys.specs.declared.key.Part.{Part}
 use Rattle.ft_keys.specs.Parts.{key_cmp}
+use Rattle.ft_table.specs.declared.mark.Mark.{Mark}
 use Rattle.ft_table.specs.Marks.{mark_cmp}
 
--- the hits of a trigger: values by place and key (our own choice)
+-- the hits of a trigger: values by spot and key (our own choice)
 abbrev pub Hits : Type 0
 Hits = FinMap mark_cmp (List ℤ)
 
--- the hits of one key: values by place (our own choice)
+-- the hits of one key: values by spot (our own choice)
 abbrev pub EntryHits : Type 0
-EntryHits = FinMap pos_cmp (List ℤ)
+EntryHits = FinMap spot_cmp (List ℤ)
+
+-- all hits are of events of the trace (our own choice)
+abbrev pub AreTraced : Hits → Type 0
+AreTraced hits = (m : Mark) → IsMade m.spot → map.get hits m ≡ None
 
 -- whether two keys are the same (our own choice)
 abbrev pub same_key : List Part → List Part → Bool
@@ -25,7 +30,7 @@ same_key = eq_by_cmp key_cmp
 
 -- the hits of a key among all (our own choice)
 unfoldable pub hits_of : Hits → List Part → EntryHits
-hits_of hits key = map.from_entries (list_map (λ e. (e.0.pos, e.1)) (filter (λ e. same_key e.0.key key) (map.entries hits)))
+hits_of hits key = map.from_entries (list_map (λ e. (e.0.spot, e.1)) (filter (λ e. same_key e.0.key key) (map.entries hits)))
 
 -- how many hits a key has (kernel: histogram.rst, `hitcount`)
 abbrev pub hitcount : Hits → List Part → ℕ
@@ -48,25 +53,25 @@ abbrev pub least_key : {K X : Type 0} → List (K × X) → Option K
 least_key [] = None
 least_key (e ∷ es) = Some e.0
 
--- the place of a key's first hit (our own choice)
-abbrev pub first_place : Hits → List Part → Option Pos
+-- the spot of a key's first hit (our own choice)
+abbrev pub first_place : Hits → List Part → Option Spot
 first_place hits key = least_key (map.entries (hits_of hits key))
 
--- the first of places, as another comes (our own choice)
-abbrev pub first_with : Option Pos → Pos → Option Pos
+-- the first of spots, as another comes (our own choice)
+abbrev pub first_with : Option Spot → Spot → Option Spot
 first_with None p = Some p
-first_with (Some f) p = if is_lt (pos_cmp f p) then Some f else Some p
+first_with (Some f) p = if is_lt (spot_cmp f p) then Some f else Some p
 
 -- the first of a list (our own choice)
 abbrev pub first_entry : {X : Type 0} → List X → Option X
 first_entry [] = None
 first_entry (x ∷ xs) = Some x
 
--- whether a place is after another, if there is another (our own choice)
-abbrev pub is_after : Option Pos → Pos → Bool
+-- whether a spot is after another, if there is another (our own choice)
+abbrev pub is_after : Option Spot → Spot → Bool
 is_after None p = true
-is_after (Some a) p = is_lt (pos_cmp a p)
+is_after (Some a) p = is_lt (spot_cmp a p)
 
--- the hits after a place, in order; without a place all (our own choice)
-abbrev pub hits_after : Option Pos → EntryHits → List (Pos × List ℤ)
+-- the hits after a spot, in order; without a spot all (our own choice)
+abbrev pub hits_after : Option Spot → EntryHits → List (Spot × List ℤ)
 hits_after place hits = filter (λ e. is_after place e.0) (map.entries hits)

@@ -6,8 +6,8 @@ use Rattle.std.specs.Cmp.{IsTotalOrder, on_total, then_total}
 use Rattle.std.specs.FinMap.{IsAntisymmetric}
 use Rattle.std.proofs.Common.{ap}
 use Rattle.std.proofs.lemmas.Map.Lookups.{exact_pairs}
-use Rattle.ft_fields.specs.declared.pos.Pos.{Pos}
-use Rattle.ft_fields.specs.Places.{pos_cmp, pos_cmp_total, pos_same}
+use Rattle.ft_table.specs.declared.spot.Spot.{Spot}
+use Rattle.ft_table.specs.Spots.{spot_cmp, spot_cmp_total, spot_same}
 use Rattle.ft_keys.specs.declared.key.Part.{Part}
 use Rattle.ft_keys.specs.Parts.{key_cmp}
 use Rattle.ft_keys.specs.Orders.{key_cmp_total}
@@ -15,20 +15,20 @@ use Rattle.ft_keys.specs.Ties.{key_same}
 use Rattle.ft_table.specs.declared.hit.Hit.{Hit}
 use Rattle.ft_table.specs.declared.mark.Mark.{Mark}
 
--- marks in order: by place, then by key (our own choice)
+-- marks in order: by spot, then by key (our own choice)
 abbrev pub mark_cmp : Mark → Mark → Ordering
-mark_cmp = then_cmp (on (λ m. m.pos) pos_cmp) (on (λ m. m.key) key_cmp)
+mark_cmp = then_cmp (on (λ m. m.spot) spot_cmp) (on (λ m. m.key) key_cmp)
 
 -- the order of marks is total (our own choice)
 pub mark_cmp_total : IsTotalOrder mark_cmp
-mark_cmp_total = then_total (on_total (λ m. m.pos) pos_cmp_total) (on_total (λ m. m.key) key_cmp_total)
+mark_cmp_total = then_total (on_total (λ m. m.spot) spot_cmp_total) (on_total (λ m. m.key) key_cmp_total)
 
 -- marks that tie are equal (our own choice)
 pub mark_same : IsAntisymmetric mark_cmp
 mark_same a b h =
-    ap (λ (p : Pos × List Part). record { pos = p.0; key = p.1 })
-    (exact_pairs pos_cmp key_cmp pos_same key_same (a.pos, a.key) (b.pos, b.key) h)
+    ap (λ (p : Spot × List Part). record { spot = p.0; key = p.1 })
+    (exact_pairs spot_cmp key_cmp spot_same key_same (a.spot, a.key) (b.spot, b.key) h)
 
 -- where a hit stands (our own choice)
 abbrev pub mark_of : Hit → Mark
-mark_of hit = record { pos = hit.pos; key = hit.key }
+mark_of hit = record { spot = hit.spot; key = hit.key }

@@ -2,7 +2,7 @@
 use Rattle.std.specs.Prelude.{ℕ, List, length, map as list_map, Option, Some, None, option_map, if◌then◌else◌, IsSome}
 use Rattle.std.specs.List.{sum_by}
 use Rattle.std.specs.FinMap as map
-use Rattle.ft_fields.specs.declared.pos.Pos.{Pos}
+use Rattle.ft_table.specs.declared.spot.Spot.{Spot}
 use Rattle.ft_hist.specs.declared.item.SortItem.{SortItem}
 use Rattle.ft_keys.specs.declared.key.Part.{Part}
 use Rattle.ft_hist.specs.Fitting.{KeyFits}
@@ -32,9 +32,9 @@ rows_of table sort = in_order sort (list_map (row_of table.hits) (keys_in table)
 abbrev pub totals_of : Tabled → Totals
 totals_of table = record { hits = sum_by (hitcount table.hits) (keys_in table); entries = length (keys_in table); dropped = sum_by (hitcount table.hits) (keys_out table) }
 
--- the first hit of a key after a place; without a place its first (our own choice)
-abbrev pub hit_after : Hits → List Part → Option Pos → Option Hit
-hit_after hits key after = option_map (λ e. record { pos = e.0; key = key; values = e.1 }) (first_entry (hits_after after (hits_of hits key)))
+-- the first hit of a key after a spot; without a spot its first (our own choice)
+abbrev pub hit_after : Hits → List Part → Option Spot → Option Hit
+hit_after hits key after = option_map (λ e. record { spot = e.0; key = key; values = e.1 }) (first_entry (hits_after after (hits_of hits key)))
 
 -- the key of each hit fits the trigger's key items (our own choice)
 abbrev pub AllFit : Tabled → Hist → Type 0

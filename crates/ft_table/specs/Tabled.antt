@@ -4,14 +4,14 @@ use Rattle.std.specs.List.{list_any}
 use Rattle.std.specs.Option.{option_map_or}
 use Rattle.std.specs.Ordering.{eq_by_cmp}
 use Rattle.std.specs.FinMap as map
-use Rattle.ft_fields.specs.Places.{pos_cmp}
+use Rattle.ft_table.specs.Spots.{spot_cmp}
 use Rattle.ft_keys.specs.declared.key.Part.{Part}
 use Rattle.ft_table.specs.declared.mark.Mark.{Mark}
 use Rattle.ft_table.specs.Hits.{Hits, same_key, first_place}
 
 -- whether a hit is the first of its key (our own choice)
 abbrev pub is_first : Hits → Mark → Bool
-is_first hits m = option_map_or (eq_by_cmp pos_cmp m.pos) (first_place hits m.key) false
+is_first hits m = option_map_or (eq_by_cmp spot_cmp m.spot) (first_place hits m.key) false
 
 -- the first hits of all keys (our own choice)
 unfoldable pub first_hits : Hits → Hits

@@ -13,20 +13,20 @@ ghost use Rattle.ft_keys.specs.Parts.{key_cmp};
 ghost use Rattle.ft_maps.specs.Seen.{seen};
 ghost use Rattle.ft_table.specs.Rows.{hit_after};
 ghost use Rattle.ft_table.specs.inner.Held.{only};
-ghost use Rattle.ft_fields.specs.Places.{pos_cmp};
-ghost use Rattle.ft_fields.specs.declared.pos.Pos.{Pos};
+ghost use Rattle.ft_table.specs.Spots.{spot_cmp};
+ghost use Rattle.ft_table.specs.declared.spot.Spot.{Spot};
 
 use crate::hit::Hit;
 use crate::mark::Mark;
 use crate::series::{Series, added};
-use ft_fields::Pos;
+use crate::spot::Spot;
 use ft_hist::Key;
 use ft_maps::take;
 use std::alloc::{AllocError, Global};
 use std::collections::BTreeMap;
 use std::marker::Model;
 
-/// The hits of one key, by place, with the sums of their values modulo 2^64. One hit stands in the
+/// The hits of one key, by spot, with the sums of their values modulo 2^64. One hit stands in the
 /// entry itself, so that a key of one hit needs no tree.
 ///
 /// Contracts see the hits alone.
@@ -39,7 +39,7 @@ pub(crate) struct Entry {
 #[derive(Drop)]
 enum Held {
     Nothing,
-    One((Pos, [i64; 3])),
+    One((Spot, [i64; 3])),
     Many(Series),
 }
 
@@ -55,19 +55,19 @@ impl Model for Entry {
     ghost view = { λ e. hits_held e.held };
 }
 
-/// Whether a place is after another, if there is another.
-fn is_after(place: Option<Pos>, pos: Pos) -> bool
-    ensures { result ≡ is_after place pos }
+/// Whether a spot is after another, if there is another.
+fn is_after(place: Option<Spot>, spot: Spot) -> bool
+    ensures { result ≡ is_after place spot }
 {
     match place {
         None => true,
-        Some(before) => before < pos,
+        Some(before) => before < spot,
     }
 }
 
 /// The sums of the values of one hit.
 fn sums_of_one(values: [i64; 3]) -> [u64; 3]
-    ensures { (pos : Pos) → result ≡ sums_of (only (pos, values)) }
+    ensures { (spot : Spot) → result ≡ sums_of (only (spot, values)) }
 {
     [
         added(0, values[0]),
@@ -76,11 +76,11 @@ fn sums_of_one(values: [i64; 3]) -> [u64; 3]
     ]
 }
 
-/// Two hits at unlike places.
+/// Two hits at unlike spots.
 fn two_hits(
     alloc: Global,
-    first: (Pos, [i64; 3]),
-    second: (Pos, [i64; 3]),
+    first: (Spot, [i64; 3]),
+    second: (Spot, [i64; 3]),
 ) -> Result<Series, AllocError>
     requires { map.get (only first) second.0 ≡ None }
     ensures { IfOk result (λ hits. hits ≡ map.insert (only first) second.0 second.1) }
@@ -113,8 +113,8 @@ impl Entry {
         }
     }
 
-    /// The place of its first hit.
-    fn first(&self) -> Option<Pos>
+    /// The spot of its first hit.
+    fn first(&self) -> Option<Spot>
         ensures { result ≡ least_key (map.entries self.now) }
     {
         match &self.held {
@@ -124,8 +124,8 @@ impl Entry {
         }
     }
 
-    /// Its first hit after a place, or its first.
-    fn after(&self, place: Option<Pos>) -> Option<(Pos, [i64; 3])>
+    /// Its first hit after a spot, or its first.
+    fn after(&self, place: Option<Spot>) -> Option<(Spot, [i64; 3])>
         ensures { result ≡ first_entry (hits_after place self.now) }
     {
         match &self.held {
@@ -141,45 +141,45 @@ impl Entry {
         }
     }
 
-    /// Puts a hit at a place. Refused for memory, and then it is as it was.
-    fn insert(&mut self, alloc: Global, pos: Pos, values: [i64; 3]) -> Result<(), AllocError>
-        requires { map.get self.old pos ≡ None }
-        ensures ok { OnOk result (self.new ≡ map.insert self.old pos values) }
+    /// Puts a hit at a spot. Refused for memory, and then it is as it was.
+    fn insert(&mut self, alloc: Global, spot: Spot, values: [i64; 3]) -> Result<(), AllocError>
+        requires { map.get self.old spot ≡ None }
+        ensures ok { OnOk result (self.new ≡ map.insert self.old spot values) }
         ensures err { OnErr result (self.new ≡ self.old) }
     {
         match &mut self.held {
             Held::Nothing => {
-                self.held = Held::One((pos, values));
+                self.held = Held::One((spot, values));
                 Ok(())
             }
             Held::One(hit) => {
-                let series = two_hits(alloc, *hit, (pos, values))?;
+                let series = two_hits(alloc, *hit, (spot, values))?;
                 self.held = Held::Many(series);
                 Ok(())
             }
-            Held::Many(series) => series.insert(pos, values),
+            Held::Many(series) => series.insert(spot, values),
         }
     }
 
-    /// Puts a hit at a place behind its first hit, if it has one before that place: where the first
+    /// Puts a hit at a spot behind its first hit, if it has one before that spot: where the first
     /// stands. Else, and where it is refused for memory, it is as it was.
     fn insert_behind(
         &mut self,
         alloc: Global,
-        pos: Pos,
+        spot: Spot,
         values: [i64; 3],
-    ) -> Result<Option<Pos>, AllocError>
-        requires { map.get self.old pos ≡ None }
+    ) -> Result<Option<Spot>, AllocError>
+        requires { map.get self.old spot ≡ None }
         ensures ok { IfOk result (λ first. MatchOption first (self.new ≡ self.old)
-            (λ _. self.new ≡ map.insert self.old pos values)) }
+            (λ _. self.new ≡ map.insert self.old spot values)) }
         ensures first { IfOk result (λ first. IfSome first (λ at.
             least_key (map.entries self.old) ≡ Some at)) }
-        ensures behind { IfOk result (λ first. IfSome first (λ at. pos_cmp at pos ≡ Less)) }
+        ensures behind { IfOk result (λ first. IfSome first (λ at. spot_cmp at spot ≡ Less)) }
         ensures err { OnErr result (self.new ≡ self.old) }
     {
         match self.first() {
-            Some(first) if first < pos => {
-                self.insert(alloc, pos, values)?;
+            Some(first) if first < spot => {
+                self.insert(alloc, spot, values)?;
                 Ok(Some(first))
             }
             _ => Ok(None),
@@ -197,32 +197,32 @@ impl Entry {
         }
     }
 
-    /// Whether a hit stands at a place.
-    fn contains(&self, pos: Pos) -> bool
-        ensures { result ≡ map.contains_key self.now pos }
+    /// Whether a hit stands at a spot.
+    fn contains(&self, spot: Spot) -> bool
+        ensures { result ≡ map.contains_key self.now spot }
     {
         match &self.held {
             Held::Nothing => false,
-            Held::One(hit) => pos.cmp(&hit.0).is_eq(),
-            Held::Many(series) => series.contains(pos),
+            Held::One(hit) => spot.cmp(&hit.0).is_eq(),
+            Held::Many(series) => series.contains(spot),
         }
     }
 
-    /// Takes the hit at a place.
-    fn remove(&mut self, pos: Pos) -> bool
-        ensures left { self.new ≡ map.remove self.old pos }
-        ensures found { result ≡ map.contains_key self.old pos }
+    /// Takes the hit at a spot.
+    fn remove(&mut self, spot: Spot) -> bool
+        ensures left { self.new ≡ map.remove self.old spot }
+        ensures found { result ≡ map.contains_key self.old spot }
     {
         match &mut self.held {
             Held::Nothing => false,
             Held::One(hit) => {
-                if pos.cmp(&hit.0).is_ne() {
+                if spot.cmp(&hit.0).is_ne() {
                     return false;
                 }
                 self.held = Held::Nothing;
                 true
             }
-            Held::Many(series) => series.remove(pos),
+            Held::Many(series) => series.remove(spot),
         }
     }
 }
@@ -247,21 +247,21 @@ pub(crate) fn sums_at(by_key: &BTreeMap<Key, Entry>, key: &Key) -> [u64; 3]
     }
 }
 
-/// The first hit of a key after a place, or its first.
-pub(crate) fn next_hit(by_key: &BTreeMap<Key, Entry>, key: &Key, after: Option<Pos>) -> Option<Hit>
+/// The first hit of a key after a spot, or its first.
+pub(crate) fn next_hit(by_key: &BTreeMap<Key, Entry>, key: &Key, after: Option<Spot>) -> Option<Hit>
     ensures { result ≡ hit_after (hits_in by_key.now) key.now after }
 {
     let entry = by_key.get(key)?;
-    let (pos, values) = entry.after(after)?;
+    let (spot, values) = entry.after(after)?;
     Some(Hit {
-        pos,
+        spot,
         key: *key,
         values,
     })
 }
 
-/// The place of a key's first hit.
-pub(crate) fn first_at(by_key: &BTreeMap<Key, Entry>, key: &Key) -> Option<Pos>
+/// The spot of a key's first hit.
+pub(crate) fn first_at(by_key: &BTreeMap<Key, Entry>, key: &Key) -> Option<Spot>
     ensures { result ≡ first_place (hits_in by_key.now) key.now }
 {
     match by_key.get(key) {
@@ -275,7 +275,7 @@ pub(crate) fn holds(by_key: &BTreeMap<Key, Entry>, mark: Mark) -> bool
     ensures { result ≡ map.contains_key (hits_in by_key.now) mark }
 {
     match by_key.get(&mark.key) {
-        Some(entry) => entry.contains(mark.pos),
+        Some(entry) => entry.contains(mark.spot),
         None => false,
     }
 }
@@ -286,17 +286,17 @@ pub(crate) fn put_behind(
     alloc: Global,
     by_key: &mut BTreeMap<Key, Entry>,
     hit: &Hit,
-) -> Result<Option<Pos>, AllocError>
+) -> Result<Option<Spot>, AllocError>
     requires { map.get (hits_in by_key.old) (mark_of hit.now) ≡ None }
     ensures ok { IfOk result (λ first. MatchOption first (hits_in by_key.new ≡ hits_in by_key.old)
         (λ _. hits_in by_key.new ≡ map.insert (hits_in by_key.old) (mark_of hit.now) hit.now.values)) }
     ensures first { IfOk result (λ first. IfSome first (λ at.
         first_place (hits_in by_key.old) hit.now.key ≡ Some at)) }
-    ensures behind { IfOk result (λ first. IfSome first (λ at. pos_cmp at hit.now.pos ≡ Less)) }
+    ensures behind { IfOk result (λ first. IfSome first (λ at. spot_cmp at hit.now.spot ≡ Less)) }
     ensures err { OnErr result (hits_in by_key.new ≡ hits_in by_key.old) }
 {
     match by_key.get_mut(&hit.key) {
-        Some(entry) => entry.insert_behind(alloc, hit.pos, hit.values),
+        Some(entry) => entry.insert_behind(alloc, hit.spot, hit.values),
         None => Ok(None),
     }
 }
@@ -313,10 +313,10 @@ pub(crate) fn put_hit(
     ensures err { OnErr result (hits_in by_key.new ≡ hits_in by_key.old) }
 {
     if let Some(entry) = by_key.get_mut(&mark.key) {
-        return entry.insert(alloc, mark.pos, values);
+        return entry.insert(alloc, mark.spot, values);
     }
     let mut entry = Entry::new();
-    entry.insert(alloc, mark.pos, values)?;
+    entry.insert(alloc, mark.spot, values)?;
     by_key.insert(mark.key, entry)?;
     Ok(())
 }
@@ -337,7 +337,7 @@ fn take_from(by_key: &mut BTreeMap<Key, Entry>, mark: Mark) -> bool
     ensures found { result ≡ map.contains_key (hits_in by_key.old) mark }
 {
     match by_key.get_mut(&mark.key) {
-        Some(entry) => entry.remove(mark.pos),
+        Some(entry) => entry.remove(mark.spot),
         None => false,
     }
 }

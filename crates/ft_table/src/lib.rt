@@ -6,11 +6,12 @@
 //!
 //! ```ignore
 //! let mut table = Table::new(rt.alloc(), 128);
-//! let hit = hit_with(&trigger, &event, pos, key, None);
+//! let spot = Spot::traced(pos);
+//! let hit = hit_with(&trigger, &event, spot, key, None);
 //! table.insert(hit, &mut work)?;
 //! assert!(rt; table.is_in(&key) && table.totals().hits == 1);
 //! let text = table.text(rt.alloc(), &trigger)?;
-//! table.remove(pos, key);
+//! table.remove(spot, key);
 //! assert!(rt; table.row(&key).is_none());
 //! ```
 #![tactic(auto)]
@@ -22,6 +23,7 @@ mod mark;
 mod order;
 mod series;
 mod split;
+mod spot;
 mod table;
 mod values;
 
@@ -29,7 +31,9 @@ pub use ft_rows::{Row, Totals, one_row_order};
 pub use hit::Hit;
 pub use laws::{
     all_hits, first_keys, first_outside, fitting_keys, one_key, one_mark_order, one_more_hit,
+    one_spot_order,
 };
 pub use mark::Mark;
+pub use spot::Spot;
 pub use table::{Edge, Table};
 pub use values::hit_with;

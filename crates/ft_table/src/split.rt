@@ -16,7 +16,7 @@ use crate::entry::{Entry, count_of, first_at, put_behind, put_hit, take_hit};
 use crate::hit::Hit;
 use crate::mark::Mark;
 use crate::order::{last_rank_of, rank_of};
-use ft_fields::Pos;
+use crate::spot::Spot;
 use ft_hist::Key;
 use std::alloc::{AllocError, Global};
 use std::collections::BTreeMap;
@@ -142,7 +142,7 @@ pub(crate) fn settle(
     by_key: &BTreeMap<Key, Entry>,
     size: usize,
     key: Key,
-    before: Option<Pos>,
+    before: Option<Spot>,
 )
     requires some { 0 < size }
     requires room { before ≡ None → vec_len order.old < vec_capacity order.old }
@@ -158,28 +158,28 @@ pub(crate) fn settle(
     let after = first_at(by_key, &key);
     match (before, after) {
         (None, None) => {}
-        (None, Some(new)) => enter(order, split, by_key, size, Mark { pos: new, key }),
-        (Some(old), None) => leave(order, split, by_key, size, Mark { pos: old, key }),
+        (None, Some(new)) => enter(order, split, by_key, size, Mark { spot: new, key }),
+        (Some(old), None) => leave(order, split, by_key, size, Mark { spot: old, key }),
         (Some(old), Some(new)) => {
             if old != new {
-                leave(order, split, by_key, size, Mark { pos: old, key });
-                enter(order, split, by_key, size, Mark { pos: new, key });
+                leave(order, split, by_key, size, Mark { spot: old, key });
+                enter(order, split, by_key, size, Mark { spot: new, key });
             }
         }
     }
 }
 
-/// Counts a hit that came to a key, whose first hit stands at a place.
+/// Counts a hit that came to a key, whose first hit stands at a spot.
 fn count_up(
     order: &[Mark],
     split: &mut Split,
     by_key: &BTreeMap<Key, Entry>,
     size: usize,
-    first: Pos,
+    first: Spot,
     key: &Key,
 )
     requires order { order.now
-        ≡ order_with (hits_in by_key.now) (record { pos = first; key = key.now }) }
+        ≡ order_with (hits_in by_key.now) (record { spot = first; key = key.now }) }
     requires split { IsSplit (with_less (hitcount (hits_in by_key.now)) key.now) size order.now
         split.old.hits split.old.dropped }
     requires some { 0 < hitcount (hits_in by_key.now) key.now }
@@ -193,7 +193,7 @@ fn count_up(
         return;
     }
     let mark = Mark {
-        pos: first,
+        spot: first,
         key: *key,
     };
     if rank_of(order, &mark) < size {
@@ -257,7 +257,7 @@ pub(crate) fn add_hit(
         }
         None => {
             let mark = Mark {
-                pos: hit.pos,
+                spot: hit.spot,
                 key: hit.key,
             };
             add_and_settle(alloc, by_key, order, split, size, mark, hit.values)
@@ -293,9 +293,9 @@ fn add_and_settle(
     put_hit(alloc, by_key, mark, values)?;
     match before {
         None => settle(order, split, by_key, size, mark.key, None),
-        Some(pos) => {
-            count_up(order, split, by_key, size, pos, &mark.key);
-            settle(order, split, by_key, size, mark.key, Some(pos));
+        Some(spot) => {
+            count_up(order, split, by_key, size, spot, &mark.key);
+            settle(order, split, by_key, size, mark.key, Some(spot));
         }
     }
     Ok(())
@@ -320,10 +320,19 @@ pub(crate) fn drop_hit(
 {
     match first_at(by_key, &mark.key) {
         None => {}
-        Some(pos) => {
+        Some(spot) => {
             if take_hit(by_key, mark) {
-                count_down(order, split, by_key, size, Mark { pos, key: mark.key });
-                settle(order, split, by_key, size, mark.key, Some(pos));
+                count_down(
+                    order,
+                    split,
+                    by_key,
+                    size,
+                    Mark {
+                        spot,
+                        key: mark.key,
+                    },
+                );
+                settle(order, split, by_key, size, mark.key, Some(spot));
             }
         }
     }

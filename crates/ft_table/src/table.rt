@@ -12,7 +12,7 @@ use crate::hit::Hit;
 use crate::mark::Mark;
 use crate::order::rank_of;
 use crate::split::{Split, add_hit, drop_hit};
-use ft_fields::Pos;
+use crate::spot::Spot;
 use ft_hist::{Key, SortItem, Trigger, Work};
 use ft_rows::{Row, Totals, sort_rows, write_heading, write_rows};
 use std::alloc::{AllocError, Global};
@@ -30,7 +30,7 @@ pub struct Edge {
 
 /// The hits of one trigger, and for how many keys there is room.
 ///
-/// Contracts see the hits by place and key, and the size. Kept beside the hits are each key's sums,
+/// Contracts see the hits by spot and key, and the size. Kept beside the hits are each key's sums,
 /// the order of first hits and the totals, so that no question walks the hits.
 #[derive(Drop)]
 pub struct Table {
@@ -87,9 +87,9 @@ impl Table {
     /// Refused for memory, or where the hits would be too many for 64 bits, and then the table is
     /// as it was.
     pub fn insert(&mut self, hit: Hit, work: &mut Work) -> Result<(), AllocError>
-        requires { map.get self.old.hits (record { pos = hit.pos; key = hit.key }) ≡ None }
+        requires { map.get self.old.hits (record { spot = hit.spot; key = hit.key }) ≡ None }
         ensures ok { OnOk result (self.new
-            ≡ with_hit self.old (record { pos = hit.pos; key = hit.key }) hit.values) }
+            ≡ with_hit self.old (record { spot = hit.spot; key = hit.key }) hit.values) }
         ensures err { OnErr result (self.new ≡ self.old) }
         ensures puts { work.new.puts ≡ work.old.puts + 1 }
         ensures evals { work.new.evals ≡ work.old.evals }
@@ -106,23 +106,23 @@ impl Table {
     }
 
     /// Takes a hit away, if one stands there. It needs no memory.
-    pub fn remove(&mut self, pos: Pos, key: Key)
-        ensures { self.new ≡ without_hit self.old (record { pos = pos; key = key }) }
+    pub fn remove(&mut self, spot: Spot, key: Key)
+        ensures { self.new ≡ without_hit self.old (record { spot = spot; key = key }) }
     {
         drop_hit(
             &mut self.by_key,
             &mut self.order,
             &mut self.split,
             self.size as usize,
-            Mark { pos, key },
+            Mark { spot, key },
         );
     }
 
-    /// Whether a hit stands at a place under a key.
-    pub fn holds(&self, pos: Pos, key: Key) -> bool
-        ensures { result ≡ map.contains_key self.now.hits (record { pos = pos; key = key }) }
+    /// Whether a hit stands at a spot under a key.
+    pub fn holds(&self, spot: Spot, key: Key) -> bool
+        ensures { result ≡ map.contains_key self.now.hits (record { spot = spot; key = key }) }
     {
-        holds(&self.by_key, Mark { pos, key })
+        holds(&self.by_key, Mark { spot, key })
     }
 
     /// Whether a key is in the table.
@@ -130,7 +130,7 @@ impl Table {
         ensures { result ≡ is_in self.now key.now }
     {
         match first_at(&self.by_key, key) {
-            Some(pos) => rank_of(&self.order, &Mark { pos, key: *key }) < self.size as usize,
+            Some(spot) => rank_of(&self.order, &Mark { spot, key: *key }) < self.size as usize,
             None => false,
         }
     }
@@ -232,8 +232,8 @@ impl Table {
         Edge { last_in, first_out }
     }
 
-    /// The first hit of a key after a place, or its first of all.
-    pub fn hit_after(&self, key: &Key, after: Option<Pos>) -> Option<Hit>
+    /// The first hit of a key after a spot, or its first of all.
+    pub fn hit_after(&self, key: &Key, after: Option<Spot>) -> Option<Hit>
         ensures { result ≡ hit_after self.now.hits key.now after }
     {
         next_hit(&self.by_key, key, after)

@@ -5,22 +5,23 @@ ghost use Rattle.ft_fields.specs.declared.pos.Pos.{Pos};
 ghost use Rattle.ft_table.specs.Values.{own_value, values_at};
 
 use crate::hit::Hit;
+use crate::spot::Spot;
 use ft_fields::{Event, Pos};
 use ft_hist::{Key, Trigger};
 
-/// The hit of a trigger at an event, with its values by the place of the saving that it read, if
-/// it read.
-pub fn hit_with(trigger: &Trigger, event: &Event, pos: Pos, key: Key, read: Option<Pos>) -> Hit
-    requires { pos.stamp ≡ event.now.stamp }
+/// The hit of a trigger at an event that stands at a spot, with its values by the place of the
+/// saving that it read, if it read.
+pub fn hit_with(trigger: &Trigger, event: &Event, spot: Spot, key: Key, read: Option<Pos>) -> Hit
+    requires { spot.pos.stamp ≡ event.now.stamp }
     ensures { result ≡ record {
-      pos = pos;
+      spot = spot;
       key = key;
-      values = values_at trigger.now pos event.now read;
+      values = values_at trigger.now spot.pos event.now read;
     } }
 {
     let own = own_value(event, read);
     Hit {
-        pos,
+        spot,
         key,
         values: trigger.values_of(event, own),
     }

@@ -17,6 +17,7 @@ use Rattle.ft_pairs.specs.declared.at.At.{At}
 use Rattle.ft_table.specs.Codes.{tabled_code}
 use Rattle.ft_table.specs.Growth.{with_hit}
 use Rattle.ft_table.specs.Rows.{AllFit}
+use Rattle.ft_table.specs.Spots.{traced}
 use Rattle.ft_table.specs.Tabled.{Tabled, is_in}
 use Rattle.ft_table.specs.declared.mark.Mark.{Mark}
 use Rattle.ft_base.specs.Base.{Triggers}
@@ -80,17 +81,17 @@ pairs_with at (Some saved) pairs = pairs ++ record { saved = saved; read = at } 
 
 -- a counter with one more hit, and its pair where it read (our own choice)
 abbrev pub counter_with : Mark → Option Pos → List ℤ → Counting → Counting
-counter_with mark read values counter = record counter { table = with_hit counter.table mark values; pairs = pairs_with mark.pos read counter.pairs }
+counter_with mark read values counter = record counter { table = with_hit counter.table mark values; pairs = pairs_with mark.spot.pos read counter.pairs }
 
 -- a counter and the variables after a hit of a key (kernel: histogram.rst, inter-event hist triggers)
 abbrev pub after_hit : (Option Pos → List ℤ) → Role → At → List Part → Counting × Saved → Counting × Saved
-after_hit values Plain at key (counter, saved) = (counter_with (record { pos = at.pos; key = key }) None (values None) counter, saved)
+after_hit values Plain at key (counter, saved) = (counter_with (record { spot = traced at.pos; key = key }) None (values None) counter, saved)
 after_hit values Saves at key (counter, saved) =
-    let after = counter_with (record { pos = at.pos; key = key }) None (values None) counter in
+    let after = counter_with (record { spot = traced at.pos; key = key }) None (values None) counter in
     (after, if is_in after.table key then map.insert saved (record { saver = at.trigger; key = key }) at.pos else saved)
 after_hit values (Reads saver) at key (counter, saved) =
     option_map_or (λ place. (
-      counter_with (record { pos = at.pos; key = key }) (Some place) (values (Some place)) counter,
+      counter_with (record { spot = traced at.pos; key = key }) (Some place) (values (Some place)) counter,
       map.remove saved (record { saver = saver; key = key }),
     )) (map.get saved (record { saver = saver; key = key })) (counter, saved)
 
@@ -110,7 +111,7 @@ after_act hist event at held = option_map_or (after_key hist event at held) (hit
 
 -- no hit stands at an act's place in the trigger's counter (our own choice)
 abbrev pub IsFree : At → Counters → Type 0
-IsFree at counters = (counter : Counting) (key : List Part) → map.get counters at.trigger ≡ Some counter → map.get counter.table.hits (record { pos = at.pos; key = key }) ≡ None
+IsFree at counters = (counter : Counting) (key : List Part) → map.get counters at.trigger ≡ Some counter → map.get counter.table.hits (record { spot = traced at.pos; key = key }) ≡ None
 
 -- a counter is as a trigger's: with its role and its size, and only keys that fit it (our own choice)
 pub record Suits (triggers : Triggers) (hist : Hist) (counter : Counting) : Type 0 where
@@ -130,7 +131,7 @@ HaveCounters triggers counters = (id : ℕ) (hist : Hist) → map.get triggers i
 
 -- all hits of a counter stand before an act (our own choice)
 abbrev pub StandBefore : At → ℕ → Counting → Type 0
-StandBefore at id counter = (m : Mark) → IsSome (map.get counter.table.hits m) → at_cmp (record { pos = m.pos; trigger = id }) at ≡ Less
+StandBefore at id counter = (m : Mark) → IsSome (map.get counter.table.hits m) → at_cmp (record { pos = m.spot.pos; trigger = id }) at ≡ Less
 
 -- all hits of all counters stand before an act (our own choice)
 abbrev pub AllBefore : At → Counters → Type 0

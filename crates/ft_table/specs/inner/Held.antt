@@ -1,13 +1,13 @@
 -- The hits that an entry holds.
 use Rattle.std.specs.Prelude.{ℤ, List}
 use Rattle.std.specs.FinMap as map
-use Rattle.ft_fields.specs.declared.pos.Pos.{Pos}
+use Rattle.ft_table.specs.declared.spot.Spot.{Spot}
 use Rattle.ft_table.specs.declared.entry.Held.{Held}
 use Rattle.ft_table.specs.declared.entry.Held.TheVariants.{Nothing, One, Many}
 use Rattle.ft_table.specs.Hits.{EntryHits}
 
--- one hit: a place and values (our own choice)
-abbrev pub only : Pos × List ℤ → EntryHits
+-- one hit: a spot and values (our own choice)
+abbrev pub only : Spot × List ℤ → EntryHits
 only hit = map.insert map.empty hit.0 hit.1
 
 -- none, one, or those of a tree (our own choice)

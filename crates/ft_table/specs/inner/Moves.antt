@@ -1,7 +1,7 @@
 -- The order of first hits, as one key comes, goes or moves.
 use Rattle.std.specs.Prelude.{ℕ, ◌-◌, ◌+◌, not, List, [], Option, Some, None, cond}
 use Rattle.std.specs.FinMap as map
-use Rattle.ft_fields.specs.declared.pos.Pos.{Pos}
+use Rattle.ft_table.specs.declared.spot.Spot.{Spot}
 use Rattle.ft_keys.specs.declared.key.Part.{Part}
 use Rattle.ft_table.specs.declared.mark.Mark.{Mark}
 use Rattle.ft_table.specs.Hits.{Hits, same_key}
@@ -19,10 +19,10 @@ order_without hits key = map.keys (others hits key)
 abbrev pub order_with : Hits → Mark → List Mark
 order_with hits m = map.keys (map.insert (others hits m.key) m [])
 
--- the same with that key at a place, if it has one (our own choice)
-abbrev pub order_before : Hits → List Part → Option Pos → List Mark
+-- the same with that key at a spot, if it has one (our own choice)
+abbrev pub order_before : Hits → List Part → Option Spot → List Mark
 order_before hits key None = order_without hits key
-order_before hits key (Some pos) = order_with hits (record { pos = pos; key = key })
+order_before hits key (Some spot) = order_with hits (record { spot = spot; key = key })
 
 -- counts of hits with one more at a key (our own choice)
 abbrev pub with_more : (List Part → ℕ) → List Part → List Part → ℕ

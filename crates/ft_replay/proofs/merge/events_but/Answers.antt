@@ -1,4 +1,4 @@
-use Rattle.std.proofs.Common.{◌≡◌, ℕ, Bool, List, [], ◌∷◌, ◌++◌, cond, Bor, sym, ap, subst, ◌∙◌}
+use Rattle.std.proofs.Common.{◌≡◌, ℕ, Bool, List, ◌∷◌, ◌++◌, Bor, sym, ap, subst, ◌∙◌}
 use Rattle.std.specs.Prelude.{filter, not}
 use Rattle.std.specs.List.{flat_map}
 use Rattle.std.specs.FinMap as map

@@ -2,7 +2,7 @@
 use Rattle.std.proofs.Common.{◌≡◌, sym, ap, ◌∙◌, Some, None, unwrap_or}
 use Rattle.std.specs.FinMap as map
 use Rattle.ft_keys.specs.Parts.{key_cmp}
-use Rattle.ft_fields.specs.Places.{pos_cmp}
+use Rattle.ft_table.specs.Spots.{spot_cmp}
 use Rattle.ft_maps.specs.Seen.{seen, get-seen}
 use Rattle.ft_keys.specs.Orders.{key_cmp_total}
 use Rattle.ft_table.proofs.Flat.{hits_of-flat}
@@ -18,4 +18,4 @@ returns-in-Some c =
 pub returns-in-None : goal.returns-in-None
 returns-in-None c =
     let at : map.get (seen key_cmp c.args.by_key.now) c.args.key.now ≡ None = get-seen key_cmp_total c.args.by_key.now c.args.key.now ∙ sym c.in-None.ensures.value in
-    sym (ap map.len (hits_of-flat (seen key_cmp c.args.by_key.now) c.args.key.now ∙ ap (λ o. unwrap_or o map.empty) at) ∙ len-empty pos_cmp (List ℤ))
+    sym (ap map.len (hits_of-flat (seen key_cmp c.args.by_key.now) c.args.key.now ∙ ap (λ o. unwrap_or o map.empty) at) ∙ len-empty spot_cmp (List ℤ))

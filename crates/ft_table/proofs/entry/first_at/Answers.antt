@@ -4,7 +4,7 @@ use Rattle.std.specs.Prelude.{ℤ, List}
 use Rattle.std.specs.FinMap as map
 use Rattle.std.specs.FinMap.{FinMap}
 use Rattle.ft_keys.specs.Parts.{key_cmp}
-use Rattle.ft_fields.specs.Places.{pos_cmp}
+use Rattle.ft_table.specs.Spots.{spot_cmp}
 use Rattle.ft_maps.specs.Seen.{seen, get-seen}
 use Rattle.ft_table.specs.Hits.{least_key}
 use Rattle.ft_keys.specs.Orders.{key_cmp_total}
@@ -15,9 +15,9 @@ use Rattle.ft_table.proofs.entry.first_at.Goals as goal
 pub returns-in-Some : goal.returns-in-Some
 returns-in-Some c =
     let at : map.get (seen key_cmp c.args.by_key.now) c.args.key.now ≡ Some c.in-Some.entry.now = get-seen key_cmp_total c.args.by_key.now c.args.key.now ∙ sym c.in-Some.ensures.value in
-    c.first.ensures ∙ sym (ap (λ (l : FinMap pos_cmp (List ℤ)). least_key (map.entries l)) (hits_of-flat (seen key_cmp c.args.by_key.now) c.args.key.now ∙ ap (λ o. unwrap_or o map.empty) at))
+    c.first.ensures ∙ sym (ap (λ (l : FinMap spot_cmp (List ℤ)). least_key (map.entries l)) (hits_of-flat (seen key_cmp c.args.by_key.now) c.args.key.now ∙ ap (λ o. unwrap_or o map.empty) at))
 
 pub returns-in-None : goal.returns-in-None
 returns-in-None c =
     let at : map.get (seen key_cmp c.args.by_key.now) c.args.key.now ≡ None = get-seen key_cmp_total c.args.by_key.now c.args.key.now ∙ sym c.in-None.ensures.value in
-    sym (ap (λ (l : FinMap pos_cmp (List ℤ)). least_key (map.entries l)) (hits_of-flat (seen key_cmp c.args.by_key.now) c.args.key.now ∙ ap (λ o. unwrap_or o map.empty) at) ∙ ap least_key (entries-empty {X = List ℤ} pos_cmp))
+    sym (ap (λ (l : FinMap spot_cmp (List ℤ)). least_key (map.entries l)) (hits_of-flat (seen key_cmp c.args.by_key.now) c.args.key.now ∙ ap (λ o. unwrap_or o map.empty) at) ∙ ap least_key (entries-empty {X = List ℤ} spot_cmp))

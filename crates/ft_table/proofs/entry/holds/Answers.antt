@@ -11,10 +11,10 @@ pub returns-in-Some : goal.returns-in-Some
 returns-in-Some c =
     let m = c.args.by_key.now in
     let at : map.get (seen key_cmp m) c.args.mark.key ≡ Some c.in-Some.entry.now = get-seen key_cmp_total m c.args.mark.key ∙ sym c.in-Some.ensures.value in
-    c.contains.ensures ∙ sym (ap is_some (get-flat (seen key_cmp m) c.args.mark ∙ ap (option_and_then (λ entry. map.get entry c.args.mark.pos)) at))
+    c.contains.ensures ∙ sym (ap is_some (get-flat (seen key_cmp m) c.args.mark ∙ ap (option_and_then (λ entry. map.get entry c.args.mark.spot)) at))
 
 pub returns-in-None : goal.returns-in-None
 returns-in-None c =
     let m = c.args.by_key.now in
     let none : map.get (seen key_cmp m) c.args.mark.key ≡ None = get-seen key_cmp_total m c.args.mark.key ∙ sym c.in-None.ensures.value in
-    sym (ap is_some (get-flat (seen key_cmp m) c.args.mark ∙ ap (option_and_then (λ entry. map.get entry c.args.mark.pos)) none))
+    sym (ap is_some (get-flat (seen key_cmp m) c.args.mark ∙ ap (option_and_then (λ entry. map.get entry c.args.mark.spot)) none))

@@ -4,9 +4,9 @@ use Rattle.std.specs.Prelude.{ℤ}
 use Rattle.std.specs.List.{sum_by}
 use Rattle.std.specs.Map.{values_of}
 use Rattle.std.specs.FinMap as map
-use Rattle.ft_fields.specs.declared.pos.Pos.{Pos}
+use Rattle.ft_table.specs.declared.spot.Spot.{Spot}
 use Rattle.ft_keys.specs.Parts.{key_cmp}
-use Rattle.ft_fields.specs.Places.{pos_cmp}
+use Rattle.ft_table.specs.Spots.{spot_cmp}
 use Rattle.ft_table.specs.Hits.{unsigned_at, sums_of}
 use Rattle.ft_maps.specs.Seen.{seen, get-seen}
 use Rattle.ft_keys.specs.Orders.{key_cmp_total}
@@ -14,7 +14,7 @@ use Rattle.ft_maps.specs.Entries.{entries-empty}
 use Rattle.ft_table.proofs.Flat.{hits_of-flat}
 use Rattle.ft_table.proofs.entry.sums_at.Goals as goal
 
-abbrev total : ℕ → List (Pos × List ℤ) → ℕ
+abbrev total : ℕ → List (Spot × List ℤ) → ℕ
 total j es = sum_by (unsigned_at j) (values_of es) % 2 ^ 64
 
 pub returns-in-Some : goal.returns-in-Some
@@ -26,4 +26,4 @@ pub returns-in-None : goal.returns-in-None
 returns-in-None c =
     let at : map.get (seen key_cmp c.args.by_key.now) c.args.key.now ≡ None = get-seen key_cmp_total c.args.by_key.now c.args.key.now ∙ sym c.in-None.ensures.value in
     sym (ap sums_of (hits_of-flat (seen key_cmp c.args.by_key.now) c.args.key.now ∙ ap (λ o. unwrap_or o map.empty) at)
-    ∙ ap (λ (es : List (Pos × List ℤ)). total 0 es ∷ total 1 es ∷ total 2 es ∷ []) (entries-empty {X = List ℤ} pos_cmp))
+    ∙ ap (λ (es : List (Spot × List ℤ)). total 0 es ∷ total 1 es ∷ total 2 es ∷ []) (entries-empty {X = List ℤ} spot_cmp))

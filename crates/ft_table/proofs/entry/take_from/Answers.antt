@@ -29,10 +29,10 @@ pub returns-in-Some-clause-found : goal.returns-in-Some-clause-found
 returns-in-Some-clause-found c =
     let m = c.args.by_key.now in
     let at : map.get (seen key_cmp m) c.args.mark.key ≡ Some c.in-Some.entry.now = get-seen key_cmp_total m c.args.mark.key ∙ sym c.in-Some.ensures.value in
-    c.remove.ensures.found ∙ sym (ap is_some (get-flat (seen key_cmp m) c.args.mark ∙ ap (option_and_then (λ entry. map.get entry c.args.mark.pos)) at))
+    c.remove.ensures.found ∙ sym (ap is_some (get-flat (seen key_cmp m) c.args.mark ∙ ap (option_and_then (λ entry. map.get entry c.args.mark.spot)) at))
 
 pub returns-in-None-clause-found : goal.returns-in-None-clause-found
 returns-in-None-clause-found c =
     let m = c.args.by_key.now in
     let none : map.get (seen key_cmp m) c.args.mark.key ≡ None = get-seen key_cmp_total m c.args.mark.key ∙ sym c.in-None.ensures.value in
-    sym (ap is_some (get-flat (seen key_cmp m) c.args.mark ∙ ap (option_and_then (λ entry. map.get entry c.args.mark.pos)) none))
+    sym (ap is_some (get-flat (seen key_cmp m) c.args.mark ∙ ap (option_and_then (λ entry. map.get entry c.args.mark.spot)) none))

@@ -2,7 +2,7 @@
 use Rattle.std.proofs.Common.{◌≡◌, List, [], ◌∷◌, length, sym, ap, ◌∙◌, refl, Some, None}
 use Rattle.std.specs.Prelude.{slice_get}
 use Rattle.ft_table.specs.Hits.{least_key}
-use Rattle.ft_fields.specs.Places.{pos_cmp_total}
+use Rattle.ft_table.specs.Spots.{spot_cmp_total}
 use Rattle.ft_maps.specs.Seen.{entries-seen}
 use Rattle.ft_table.proofs.series.least.Goals as goal
 
@@ -16,10 +16,10 @@ first_none (x ∷ es) is = cc
 
 pub returns-in-Some : goal.returns-in-Some
 returns-in-Some c =
-    sym (ap least_key (entries-seen pos_cmp_total c.args.hits.now c.len.ensures.ordered)
-    ∙ first_got c.args.hits.now.entries (c.in-Some.pos.now, c.in-Some.field-0-1.now) c.in-Some.ensures.first)
+    sym (ap least_key (entries-seen spot_cmp_total c.args.hits.now c.len.ensures.ordered)
+    ∙ first_got c.args.hits.now.entries (c.in-Some.spot.now, c.in-Some.field-0-1.now) c.in-Some.ensures.first)
 
 pub returns-then-len-eq0 : goal.returns-then-len-eq0
 returns-then-len-eq0 c =
-    sym (ap least_key (entries-seen pos_cmp_total c.args.hits.now c.len.ensures.ordered)
+    sym (ap least_key (entries-seen spot_cmp_total c.args.hits.now c.len.ensures.ordered)
     ∙ first_none c.args.hits.now.entries (sym c.len.ensures.len ∙ c.if-len-eq0.true))

@@ -2,7 +2,7 @@
 use Rattle.std.proofs.Common.{◌≡◌, ℕ, false, List, sym, ap, subst, ◌∙◌, arith, Some, None, Option}
 use Rattle.std.specs.Prelude.{ℤ}
 use Rattle.std.specs.FinMap as map
-use Rattle.ft_fields.specs.declared.pos.Pos.{Pos}
+use Rattle.ft_table.specs.declared.spot.Spot.{Spot}
 use Rattle.ft_keys.specs.declared.key.Part.{Part}
 use Rattle.ft_table.specs.declared.mark.Mark.{Mark}
 use Rattle.ft_table.specs.inner.Split.{IsSplit}
@@ -16,7 +16,7 @@ use Rattle.ft_table.proofs.Counts.{split-without}
 use Rattle.ft_table.proofs.split.add_and_settle.Goals as goal
 
 -- the order before is the one but for the key's move
-before : (hits : Hits) (m : Mark) (v : List ℤ) (order : List Mark) (o : Option Pos) → order ≡ order_of hits → first_place hits m.key ≡ o → (after : Hits) → after ≡ map.insert hits m v → order ≡ order_before after m.key o
+before : (hits : Hits) (m : Mark) (v : List ℤ) (order : List Mark) (o : Option Spot) → order ≡ order_of hits → first_place hits m.key ≡ o → (after : Hits) → after ≡ map.insert hits m v → order ≡ order_before after m.key o
 before hits m v order o is first after e =
     is ∙ order-before-insert hits m v o first ∙ ap (λ (h : Hits). order_before h m.key o) (sym e)
 
@@ -44,7 +44,7 @@ settle-requires-clause-few c _ =
 
 pub count_up-requires-clause-order : goal.count_up-requires-clause-order
 count_up-requires-clause-order c =
-    before (hits_in c.args.by_key.now) c.args.mark c.args.values c.deref.result.now (Some c.in-Some.pos) (c.deref.ensures.value ∙ c.reserve.ensures.items ∙ c.requires.order) (sym c.first_at-before.ensures ∙ c.in-Some.is) (hits_in c.put_hit.new.by_key) c.in_ok-put_hit.ensures.ok
+    before (hits_in c.args.by_key.now) c.args.mark c.args.values c.deref.result.now (Some c.in-Some.spot) (c.deref.ensures.value ∙ c.reserve.ensures.items ∙ c.requires.order) (sym c.first_at-before.ensures ∙ c.in-Some.is) (hits_in c.put_hit.new.by_key) c.in_ok-put_hit.ensures.ok
 
 pub count_up-requires-clause-split : goal.count_up-requires-clause-split
 count_up-requires-clause-split c =
@@ -60,4 +60,4 @@ count_up-requires-clause-some c =
 
 pub settle-requires-in-Some-clause-order : goal.settle-requires-in-Some-clause-order
 settle-requires-in-Some-clause-order c =
-    before (hits_in c.args.by_key.now) c.args.mark c.args.values c.reserve.new.self.items (Some c.in-Some.pos) (c.reserve.ensures.items ∙ c.requires.order) (sym c.first_at-before.ensures ∙ c.in-Some.is) (hits_in c.put_hit.new.by_key) c.in_ok-put_hit.ensures.ok
+    before (hits_in c.args.by_key.now) c.args.mark c.args.values c.reserve.new.self.items (Some c.in-Some.spot) (c.reserve.ensures.items ∙ c.requires.order) (sym c.first_at-before.ensures ∙ c.in-Some.is) (hits_in c.put_hit.new.by_key) c.in_ok-put_hit.ensures.ok

@@ -3,8 +3,8 @@ use Rattle.std.proofs.Common.{◌≡◌, ℕ, List, sym, ap, subst, ◌∙◌, a
 use Rattle.std.specs.Prelude.{IfSome, MatchOption}
 use Rattle.std.specs.declared.cmp.Ordering.TheVariants.{Less}
 use Rattle.std.specs.FinMap as map
-use Rattle.ft_fields.specs.declared.pos.Pos.{Pos}
-use Rattle.ft_fields.specs.Places.{pos_cmp}
+use Rattle.ft_table.specs.declared.spot.Spot.{Spot}
+use Rattle.ft_table.specs.Spots.{spot_cmp}
 use Rattle.ft_keys.specs.declared.key.Part.{Part}
 use Rattle.ft_table.specs.declared.mark.Mark.{Mark}
 use Rattle.ft_table.specs.inner.Split.{IsSplit}
@@ -17,11 +17,11 @@ use Rattle.ft_table.proofs.Appends.{order-behind}
 use Rattle.ft_table.proofs.Changes.{count-insert, counts-less, order-before-insert}
 use Rattle.ft_table.proofs.split.add_hit.Goals as goal
 
-inserted : (A B : Type 0) (o : Option Pos) (pos : Pos) → o ≡ Some pos → MatchOption o A (λ _. B) → B
-inserted A B o pos is h = subst (λ (o : Option Pos). MatchOption o A (λ _. B)) is h
+inserted : (A B : Type 0) (o : Option Spot) (spot : Spot) → o ≡ Some spot → MatchOption o A (λ _. B) → B
+inserted A B o spot is h = subst (λ (o : Option Spot). MatchOption o A (λ _. B)) is h
 
-told : (P : Pos → Type 0) (o : Option Pos) (pos : Pos) → o ≡ Some pos → IfSome o P → P pos
-told P o pos is h = subst (λ (o : Option Pos). IfSome o P) is h
+told : (P : Spot → Type 0) (o : Option Spot) (spot : Spot) → o ≡ Some spot → IfSome o P → P spot
+told P o spot is h = subst (λ (o : Option Spot). IfSome o P) is h
 
 pub count_up-requires-clause-order : goal.count_up-requires-clause-order
 count_up-requires-clause-order c =
@@ -52,5 +52,5 @@ returns-in-Some-clause-order c =
     let hits : Hits = hits_in c.args.by_key.now in
     let after : hits_in c.put_behind.new.by_key ≡ map.insert hits (mark_of c.args.hit.now) c.args.hit.now.values = inserted _ _ c.in_ok-first.field-0 c.in-Some.first c.in-Some.is c.in_ok-first.ensures.ok in
     let first = told (λ at. first_place hits c.args.hit.now.key ≡ Some at) c.in_ok-first.field-0 c.in-Some.first c.in-Some.is c.in_ok-first.ensures.first in
-    let behind = told (λ at. pos_cmp at c.args.hit.now.pos ≡ Less) c.in_ok-first.field-0 c.in-Some.first c.in-Some.is c.in_ok-first.ensures.behind in
+    let behind = told (λ at. spot_cmp at c.args.hit.now.spot ≡ Less) c.in_ok-first.field-0 c.in-Some.first c.in-Some.is c.in_ok-first.ensures.behind in
     c.requires.order ∙ sym (order-behind hits (mark_of c.args.hit.now) c.args.hit.now.values c.in-Some.first first behind) ∙ ap order_of (sym after)

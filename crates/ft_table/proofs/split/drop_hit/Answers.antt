@@ -2,7 +2,7 @@
 use Rattle.std.proofs.Common.{◌≡◌, ℕ, false, List, sym, ap, subst, ◌∙◌, Some, Option}
 use Rattle.std.specs.Prelude.{is_some}
 use Rattle.std.specs.FinMap as map
-use Rattle.ft_fields.specs.declared.pos.Pos.{Pos}
+use Rattle.ft_table.specs.declared.spot.Spot.{Spot}
 use Rattle.ft_keys.specs.declared.key.Part.{Part}
 use Rattle.ft_table.specs.declared.mark.Mark.{Mark}
 use Rattle.ft_table.specs.inner.Split.{IsSplit}
@@ -14,18 +14,18 @@ use Rattle.ft_table.proofs.Firsts.{no_first}
 use Rattle.ft_table.proofs.Changes.{remove-beside, remove-none, counts-more, order-before, order_before-beside}
 use Rattle.ft_table.proofs.split.drop_hit.Goals as goal
 
-before : (hits : Hits) (m : Mark) (order : List Mark) (o : Option Pos) → order ≡ order_of hits → first_place hits m.key ≡ o → (after : Hits) → after ≡ map.remove hits m → order ≡ order_before after m.key o
+before : (hits : Hits) (m : Mark) (order : List Mark) (o : Option Spot) → order ≡ order_of hits → first_place hits m.key ≡ o → (after : Hits) → after ≡ map.remove hits m → order ≡ order_before after m.key o
 before hits m order o is first after e =
     is ∙ order-before hits m.key o first ∙ sym (order_before-beside hits (map.remove hits m) m.key o (remove-beside hits m)) ∙ ap (λ (h : Hits). order_before h m.key o) (sym e)
 
 pub returns-in-None-clause-hits : goal.returns-in-None-clause-hits
 returns-in-None-clause-hits c =
     let hits : Hits = hits_in c.args.by_key.now in
-    sym (remove-none hits c.args.mark (ap is_some (no_first hits c.args.mark.key (sym c.first_at.ensures ∙ c.in-None.is) c.args.mark.pos)))
+    sym (remove-none hits c.args.mark (ap is_some (no_first hits c.args.mark.key (sym c.first_at.ensures ∙ c.in-None.is) c.args.mark.spot)))
 
 pub count_down-requires-clause-order : goal.count_down-requires-clause-order
 count_down-requires-clause-order c =
-    before (hits_in c.args.by_key.now) c.args.mark c.deref.result.now (Some c.in-Some.pos) (c.deref.ensures.value ∙ c.requires.order) (sym c.first_at.ensures ∙ c.in-Some.is) (hits_in c.take_hit.new.by_key) c.take_hit.ensures.left
+    before (hits_in c.args.by_key.now) c.args.mark c.deref.result.now (Some c.in-Some.spot) (c.deref.ensures.value ∙ c.requires.order) (sym c.first_at.ensures ∙ c.in-Some.is) (hits_in c.take_hit.new.by_key) c.take_hit.ensures.left
 
 pub count_down-requires-clause-split : goal.count_down-requires-clause-split
 count_down-requires-clause-split c =
@@ -36,7 +36,7 @@ count_down-requires-clause-split c =
 
 pub settle-requires-clause-order : goal.settle-requires-clause-order
 settle-requires-clause-order c =
-    before (hits_in c.args.by_key.now) c.args.mark c.args.order.now.items (Some c.in-Some.pos) c.requires.order (sym c.first_at.ensures ∙ c.in-Some.is) (hits_in c.take_hit.new.by_key) c.take_hit.ensures.left
+    before (hits_in c.args.by_key.now) c.args.mark c.args.order.now.items (Some c.in-Some.spot) c.requires.order (sym c.first_at.ensures ∙ c.in-Some.is) (hits_in c.take_hit.new.by_key) c.take_hit.ensures.left
 
 same : (hits after : Hits) (m : Mark) → after ≡ map.remove hits m → map.contains_key hits m ≡ false → hits ≡ after
 same hits after m is none = sym (is ∙ remove-none hits m none)

@@ -1,6 +1,6 @@
 -- The order before and after, by where the key's first hit stood and where it stands.
 use Rattle.std.proofs.Common.{◌≡◌, sym, ap, ◌∙◌, rules}
-use Rattle.ft_fields.specs.declared.pos.Pos.{Pos}
+use Rattle.ft_table.specs.declared.spot.Spot.{Spot}
 use Rattle.ft_table.specs.inner.ByKey.{hits_in}
 use Rattle.ft_table.specs.inner.Moves.{order_before, order_with}
 use Rattle.ft_table.proofs.Flat.{mark}
@@ -28,5 +28,5 @@ pub returns-else-ne-clause-order : goal.returns-else-ne-clause-order
 returns-else-ne-clause-order c =
     let same : c.in-Some-Some.old ≡ c.in-Some-Some.new = search rules in
     c.requires.order ∙ ap (order_before (hits_in c.args.by_key.now) c.args.key) c.in-Some-Some.is-0
-    ∙ ap (λ (p : Pos). order_with (hits_in c.args.by_key.now) (mark p c.args.key)) same
+    ∙ ap (λ (p : Spot). order_with (hits_in c.args.by_key.now) (mark p c.args.key)) same
     ∙ sym (order-some (hits_in c.args.by_key.now) c.args.key c.in-Some-Some.new (sym c.first_at-after.ensures ∙ c.in-Some-Some.is-1))

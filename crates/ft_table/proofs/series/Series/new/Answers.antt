@@ -4,20 +4,20 @@ use Rattle.std.specs.Prelude.{ℤ}
 use Rattle.std.specs.List.{sum_by}
 use Rattle.std.specs.Map.{values_of}
 use Rattle.std.specs.FinMap as map
-use Rattle.ft_fields.specs.declared.pos.Pos.{Pos}
-use Rattle.ft_fields.specs.Places.{pos_cmp}
+use Rattle.ft_table.specs.declared.spot.Spot.{Spot}
+use Rattle.ft_table.specs.Spots.{spot_cmp}
 use Rattle.ft_table.specs.Hits.{EntryHits, unsigned_at, sums_of, least_key}
 use Rattle.ft_maps.specs.Seen.{seen, seen-empty}
 use Rattle.ft_maps.specs.Entries.{entries-empty}
 use Rattle.ft_table.proofs.series.Series.new.Goals as goal
 
-abbrev total : ℕ → List (Pos × List ℤ) → ℕ
+abbrev total : ℕ → List (Spot × List ℤ) → ℕ
 total j es = sum_by (unsigned_at j) (values_of es) % 2 ^ 64
 
 pub invariant_of-result : goal.invariant_of-result
 invariant_of-result c =
     let none : EntryHits = map.empty in
-    let empty : seen pos_cmp c.new.result ≡ none = seen-empty pos_cmp c.new.result c.new.ensures.empty in (
-      sym (ap sums_of empty ∙ ap (λ (es : List (Pos × List ℤ)). total 0 es ∷ total 1 es ∷ total 2 es ∷ []) (entries-empty {X = List ℤ} pos_cmp)),
-      sym (ap (λ (l : EntryHits). least_key (map.entries l)) empty ∙ ap least_key (entries-empty {X = List ℤ} pos_cmp)),
+    let empty : seen spot_cmp c.new.result ≡ none = seen-empty spot_cmp c.new.result c.new.ensures.empty in (
+      sym (ap sums_of empty ∙ ap (λ (es : List (Spot × List ℤ)). total 0 es ∷ total 1 es ∷ total 2 es ∷ []) (entries-empty {X = List ℤ} spot_cmp)),
+      sym (ap (λ (l : EntryHits). least_key (map.entries l)) empty ∙ ap least_key (entries-empty {X = List ℤ} spot_cmp)),
     )

@@ -19,8 +19,8 @@ pub returns-in-Some : goal.returns-in-Some
 returns-in-Some c =
     let hits = hits_in c.self.inside.by_key in
     let key = c.args.key.now in
-    let order = order-some hits key c.in-Some.pos (sym c.first_at.ensures ∙ c.in-Some.is) in
-    sym (in-with hits c.self.inside.size (mark c.in-Some.pos key) c.rank_of.result (subst (λ ms. IsRank mark_cmp ms (mark c.in-Some.pos key) c.rank_of.result) (c.deref.ensures.value ∙ c.self.invariant.order ∙ order) c.rank_of.ensures))
+    let order = order-some hits key c.in-Some.spot (sym c.first_at.ensures ∙ c.in-Some.is) in
+    sym (in-with hits c.self.inside.size (mark c.in-Some.spot key) c.rank_of.result (subst (λ ms. IsRank mark_cmp ms (mark c.in-Some.spot key) c.rank_of.result) (c.deref.ensures.value ∙ c.self.invariant.order ∙ order) c.rank_of.ensures))
     ∙ ap (λ (ms : List Mark). list_any (same_key key) (list_map (λ m. m.key) (take c.self.inside.size ms))) (sym order)
     ∙ ap (λ (t : Tabled). is_in t key) c.self.view_is
 

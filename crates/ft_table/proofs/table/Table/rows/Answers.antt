@@ -1,11 +1,11 @@
 -- What was sorted is the rows of the keys in the table, no two of one key.
-use Rattle.std.proofs.Common.{◌≡◌, List, map as list_map, sym, ap, subst, ◌∙◌}
+use Rattle.std.proofs.Common.{List, sym, ap, subst, ◌∙◌}
 use Rattle.ft_rows.specs.Counted.{Counted}
 use Rattle.ft_rows.specs.Sorting.{in_order, HasDistinctKeys}
 use Rattle.ft_table.specs.inner.ByKey.{hits_in}
 use Rattle.ft_table.specs.inner.InStep.{table_of}
-use Rattle.ft_table.specs.Rows.{row_of, rows_of}
-use Rattle.ft_table.specs.Tabled.{Tabled, keys_in}
+use Rattle.ft_table.specs.Rows.{rows_of}
+use Rattle.ft_table.specs.Tabled.{Tabled}
 use Rattle.ft_table.proofs.Distinct.{rows_distinct, rows-listed}
 use Rattle.ft_table.proofs.table.Table.rows.Goals as goal
 

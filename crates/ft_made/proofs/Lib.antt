@@ -1,0 +1,10 @@
+pub mod Before
+pub mod Views
+pub mod Making
+pub mod Turns
+pub mod Sorted
+pub mod Order
+pub mod Counting
+pub mod Same
+pub mod MadeHits
+pub mod Naming

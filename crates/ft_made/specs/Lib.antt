@@ -1,0 +1,16 @@
+pub mod Making
+pub mod ReplayMaking
+pub mod MadeEvents
+pub mod MadeHits
+pub mod Laws
+pub use Rattle.ft_base.specs.Base
+pub use Rattle.ft_fields.specs.Traced
+pub use Rattle.ft_hist.specs.Hist
+pub use Rattle.ft_replay.specs.Elsewhere
+pub use Rattle.ft_replay.specs.Found
+pub use Rattle.ft_replay.specs.Hits
+pub use Rattle.ft_replay.specs.Merged
+pub use Rattle.ft_replay.specs.Named
+pub use Rattle.ft_replay.specs.Replay
+pub use Rattle.ft_replay.specs.Tally
+pub use Rattle.ft_table.specs.Spots

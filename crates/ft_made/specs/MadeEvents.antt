@@ -1,0 +1,46 @@
+-- The events that are made in a whole replay, by what its readings find.
+use Rattle.std.specs.Prelude.{ℕ, List, Option, option_map, option_and_then, filter_map, map as list_map}
+use Rattle.std.specs.List.{flat_map}
+use Rattle.std.specs.FinMap as map
+use Rattle.std.specs.FinMap.{FinMap}
+use Rattle.ft_fields.specs.Traced.{Traced}
+use Rattle.ft_fields.specs.declared.pos.Pos.{Pos}
+use Rattle.ft_table.specs.declared.spot.Spot.{Spot}
+use Rattle.ft_table.specs.Spots.{spot_cmp}
+use Rattle.ft_base.specs.Base.{Triggers}
+use Rattle.ft_replay.specs.Merged.{Events}
+use Rattle.ft_replay.specs.Found.{saving_found}
+use Rattle.ft_made.specs.Making.{Makes}
+
+-- made events by spot (our own choice)
+abbrev pub Made : Type 0
+Made = FinMap spot_cmp Traced
+
+-- the event that is made at a spot, where readings find these savings, by trigger and place (kernel: histogram.rst, `onmatch`)
+abbrev pub made_by : Makes → Triggers → Events → (ℕ → Pos → Option Pos) → Spot → Option Traced
+made_by makes triggers events found spot =
+    option_and_then (λ event. option_and_then (λ hist. option_and_then (makes hist spot.pos event) (found spot.maker spot.pos)) (map.get triggers spot.maker)) (map.get events spot.pos)
+
+-- the event that is made at a spot, by what readings find as the events are replayed (kernel: histogram.rst, `onmatch`)
+unfoldable pub made_at : Makes → Triggers → Events → Spot → Option Traced
+made_at makes triggers events spot = made_by makes triggers events (saving_found triggers events) spot
+
+-- a spot with the event that is made there, if one is (our own choice)
+abbrev pub made_there : Makes → Triggers → Events → Spot → Option (Spot × Traced)
+made_there makes triggers events spot = option_map (λ made. (spot, made)) (made_at makes triggers events spot)
+
+-- the spots at one event, in order of the triggers' ids (our own choice)
+abbrev pub spots_at : Triggers → Pos × Traced → List Spot
+spots_at triggers entry = list_map (λ attached. record { pos = entry.0; maker = attached.0 }) (map.entries triggers)
+
+-- all spots, in merged order of the events (our own choice)
+unfoldable pub spots : Triggers → Events → List Spot
+spots triggers events = flat_map (spots_at triggers) (map.entries events)
+
+-- all made events, in order of their spots (our own choice)
+unfoldable pub made_list : Makes → Triggers → Events → List (Spot × Traced)
+made_list makes triggers events = filter_map (made_there makes triggers events) (spots triggers events)
+
+-- the made events by spot (our own choice)
+unfoldable pub made_events : Makes → Triggers → Events → Made
+made_events makes triggers events = map.from_entries (made_list makes triggers events)
