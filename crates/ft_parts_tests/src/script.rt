@@ -16,5 +16,9 @@ fn lines_of_a_script_and_what_they_ask_for(rt: HostRuntime) {
         read_command(attach),
         Command::Attach(Name::Waking, b"hist:keys=pid")
     );
+    assert_eq!(rt;
+        read_command(b"attach wakeup_latency hist:keys=lat"),
+        Command::Attach(Name::WakeupLatency, b"hist:keys=lat")
+    );
     assert_eq!(rt; read_command(strike), Command::Strike(0, 7));
 }

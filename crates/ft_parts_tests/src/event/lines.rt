@@ -1,7 +1,10 @@
 //! What lines say, and what is wrong with them.
 
 use super::{comm_of, event_in};
-use ft_event::{Body, Event, Line, LineFault, Turn, Wake, one_answer, read_cut_line, read_line};
+use ft_event::{
+    Body, Event, Line, LineFault, Name, Turn, Wake, no_made_event, one_answer, read_cut_line,
+    read_line,
+};
 use std::test::*;
 
 #[test]
@@ -30,6 +33,15 @@ fn a_line_has_an_event_or_is_skipped_or_has_a_fault(rt: HostRuntime) -> Result<(
     assert_eq!(rt; fault.number(), 4);
     // Texts are cut at byte 10, so a direct caller alone meets one.
     assert_eq!(rt; read_line(b"a-1 [000] 1.000000:\n"), Err(LineFault::NoTask));
+    Ok(())
+}
+
+#[test]
+fn a_line_of_what_triggers_make_is_of_any_other_event(rt: HostRuntime) -> Result<(), Fail> {
+    no_made_event();
+    let line = b"a-1 [000] 1.000000: wakeup_latency: lat=5 pid=42 prio=120";
+    let event = event_in(line).ok_or("the line has no event")?;
+    assert_eq!(rt; event.name(), Name::Other);
     Ok(())
 }
 

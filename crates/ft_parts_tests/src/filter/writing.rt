@@ -27,3 +27,15 @@ fn old_bytes_after_want_of_memory(rt: HostRuntime) -> Result<(), Fail> {
     assert_eq!(rt; line.strip_prefix(before), Some(canonical));
     Ok(())
 }
+
+#[test]
+fn a_filter_of_latencies(rt: HostRuntime) -> Result<(), Fail> {
+    let event = Name::WakeupLatency;
+    let filter = parse(rt.alloc(), b"lat>5&&prio<100", event)?;
+    let mut line = Vec::new(rt.alloc());
+    filter.write(&mut line)?;
+    assert_eq!(rt; line.as_slice(), b"lat > 5 && prio < 100".as_slice());
+    let fault = parse(rt.alloc(), b"comm == \"x\"", event).err();
+    assert_eq!(rt; fault, Some(FilterFault::NoField(0)));
+    Ok(())
+}
