@@ -1,7 +1,7 @@
 -- Event by event the acts of one trigger come to what is kept, or go from it, while those of the others stay.
 use Rattle.std.proofs.Common.{◌≡◌, ◌+◌, ◌<◌, ℕ, Bool, true, false, cond, List, [], ◌∷◌, drop, get_or, length, Bor, refl, sym, ap, subst, ◌∙◌, Option, Some, None}
-use Rattle.std.specs.Prelude.{◌==◌, fold, option_and_then, if◌then◌else◌}
-use Rattle.std.specs.List.{AllByRecursion}
+use Rattle.std.specs.Prelude.{◌==◌, fold, option_and_then, if◌then◌else◌, IsPermutation}
+use Rattle.std.specs.List.{AllByRecursion, IsDistinct}
 use Rattle.std.specs.List.Sorted.{IsStrictlySortedBy}
 use Rattle.std.specs.Map.{keys_of, lookup}
 use Rattle.std.specs.Map.Iter.{deref}
@@ -12,8 +12,9 @@ use Rattle.std.specs.FinMap as map
 use Rattle.std.specs.FinMap.{find, get-empty, get-entries, get-from_entries, get-insert, entries_sorted, same_map}
 use Rattle.std.proofs.lemmas.Bool.{eq-eqb, eqb-true}
 use Rattle.std.proofs.lemmas.List.{drop_more}
+use Rattle.std.proofs.lemmas.List.Sorted.{IsPermutation-map}
 use Rattle.std.proofs.lemmas.Map.Entries.{option_filter, lookup-filter-values}
-use Rattle.std.proofs.lemmas.Map.Keys.{sorted_head, sorted_tail, IsDistinct-from_sorted}
+use Rattle.std.proofs.lemmas.Map.Keys.{sorted_head, sorted_tail, IsDistinct-from_sorted, IsDistinct-head, IsDistinct-tail, IsDistinct-IsPermutation}
 use Rattle.ft_fields.specs.Places.{pos_cmp, pos_cmp_total, pos_same}
 use Rattle.ft_fields.specs.Traced.{Traced, name_of}
 use Rattle.ft_fields.specs.declared.event.Name.{Name}
@@ -36,6 +37,7 @@ use Rattle.ft_replay.specs.Named.{events_on}
 use Rattle.ft_base.specs.Roles.{role_at}
 use Rattle.ft_base.proofs.Apart.{above-is, all_of, all_map, all_both, entries_found}
 use Rattle.ft_replay.proofs.Earlier.{all_above}
+use Rattle.ft_replay.proofs.Placing.{find-moved}
 use Rattle.ft_board.proofs.KeptBoardActs.{AllHeld, act_in, with_event, merged_held, acts_held, no_hit}
 use Rattle.ft_board.proofs.KeptBoardBuilt.{from_entries, more_held}
 use Rattle.ft_board.proofs.KeptBoardForms.{HaveShelves, shelves_stay, by_shelves, by_triggers}
@@ -141,7 +143,7 @@ module _ (triggers : Triggers) (lanes : Lanes) (id : ℕ) (others : Acts) where
     pub each : HaveShelves triggers shelves
     pub kept : Keep shelves (stage triggers id others (events_of rest))
     pub held : AllHeld lanes (events_of rest)
-    pub sorted : IsStrictlySortedBy pos_cmp (keys_of rest)
+    pub apart : IsDistinct (eq_by_cmp pos_cmp) (keys_of rest)
 
   -- their events are held
   stage_held : AreHeld lanes others → (events : Events) → AllHeld lanes events → AreHeld lanes (stage triggers id others events)
@@ -243,27 +245,42 @@ module _ (triggers : Triggers) (lanes : Lanes) (id : ℕ) (others : Acts) where
 
     -- ---- events go one by one
 
-    of_entries : (events : Events) → events_of (map.entries events) ≡ events
-    of_entries events = same_map pos_cmp_total pos_same (events_of (map.entries events)) events (λ q. get-from_entries pos_cmp_total (map.entries events) q ∙ sym (get-entries events q))
+    -- the events of a map, in any order, stand apart
+    all_apart : (events : Events) (es : List (Pos × Traced)) → IsPermutation (map.entries events) es → IsDistinct (eq_by_cmp pos_cmp) (keys_of es)
+    all_apart events es moved =
+        IsDistinct-IsPermutation (eq_by_cmp pos_cmp) (eq_by_cmp_equiv pos_cmp_total).symm (map.keys events) (keys_of es) (IsPermutation-map (λ e. e.0) (map.entries events) es moved) (entries_apart events)
+      where
+        entries_apart : (m : Events) → IsDistinct (eq_by_cmp pos_cmp) (map.keys m)
+        entries_apart m = IsDistinct-from_sorted pos_cmp (map.keys m) (strictly_sorted pos_cmp (map.entries m) (entries_sorted m))
 
-    -- at first all of its events are left
-    pub leaving_all : (all : Acts) → ((at : At) → (if at.trigger == id then acts_of triggers (merged lanes) at else others at) ≡ all at) → (shelves : Shelves) → HaveShelves triggers shelves → Keep shelves all → IsLeaving shelves (map.entries (own_events lanes hist))
-    leaving_all all are shelves each kept =
-        let events = own_events lanes hist in
+    -- and are that map's
+    of_entries : (events : Events) (es : List (Pos × Traced)) → IsPermutation (map.entries events) es → events_of es ≡ events
+    of_entries events es moved =
+        let sorted = strictly_sorted pos_cmp (map.entries events) (entries_sorted events) in
+        same_map pos_cmp_total pos_same (events_of es) events (λ q.
+        get-from_entries pos_cmp_total es q
+        ∙ sym (find-moved pos_cmp_total pos_same q (map.entries events) es moved (IsDistinct-from_sorted pos_cmp (map.keys events) sorted) (all_apart events es moved))
+        ∙ sym (get-entries events q))
+
+    -- at first all of its events are left, in any order
+    pub leaving_all : (all : Acts) → ((at : At) → (if at.trigger == id then acts_of triggers (merged lanes) at else others at) ≡ all at) → (shelves : Shelves) → HaveShelves triggers shelves → Keep shelves all
+        → (es : List (Pos × Traced)) → IsPermutation (map.entries (own_events lanes hist)) es → IsLeaving shelves es
+    leaving_all all are shelves each kept es moved =
+        let is = of_entries (own_events lanes hist) es moved in
         record {
           each = each;
-          kept = subst (Keep shelves) (sym (ap (stage triggers id others) (of_entries events) ∙ stage_all all are)) kept;
-          held = subst (AllHeld lanes) (sym (of_entries events)) (on_held lanes (same_name hist.event));
-          sorted = strictly_sorted pos_cmp (map.entries events) (entries_sorted events);
+          kept = subst (Keep shelves) (sym (ap (stage triggers id others) is ∙ stage_all all are)) kept;
+          held = subst (AllHeld lanes) (sym is) (on_held lanes (same_name hist.event));
+          apart = all_apart (own_events lanes hist) es moved;
         }
 
-    -- behind a place there is nothing at it
-    nothing_behind : (k : Pos) (rest : List (Pos × Traced)) → AllByRecursion (λ q. pos_cmp k q ≡ Less) (keys_of rest) → map.get (events_of rest) k ≡ None
-    nothing_behind k rest above = get-from_entries pos_cmp_total rest k ∙ none rest above
+    -- of the others none is at its place
+    nothing_behind : (k : Pos) (rest : List (Pos × Traced)) → AllByRecursion (λ q. eq_by_cmp pos_cmp k q ≡ false) (keys_of rest) → map.get (events_of rest) k ≡ None
+    nothing_behind k rest apart = get-from_entries pos_cmp_total rest k ∙ none rest apart
       where
-        none : (es : List (Pos × Traced)) → AllByRecursion (λ q. pos_cmp k q ≡ Less) (keys_of es) → find pos_cmp k es ≡ None
+        none : (es : List (Pos × Traced)) → AllByRecursion (λ q. eq_by_cmp pos_cmp k q ≡ false) (keys_of es) → find pos_cmp k es ≡ None
         none [] h = refl
-        none (e ∷ es) h = ap (λ (b : Bool). cond b (Some e.1) (find pos_cmp k es)) (ap is_eq h.0) ∙ none es h.1
+        none (e ∷ es) h = ap (λ (b : Bool). cond b (Some e.1) (find pos_cmp k es)) h.0 ∙ none es h.1
 
     -- the next one can go
     pub act_can_go : (shelves : Shelves) (e : Pos × Traced) (rest : List (Pos × Traced)) → IsLeaving shelves (e ∷ rest)
@@ -271,14 +288,14 @@ module _ (triggers : Triggers) (lanes : Lanes) (id : ℕ) (others : Acts) where
     act_can_go shelves e rest is = record {
       before = stage triggers id others (events_of (e ∷ rest));
       after = stage triggers id others (events_of rest);
-      goes = one_act (events_of rest) e.0 e.1 (nothing_behind e.0 rest (sorted_head pos_cmp e.0 (keys_of rest) is.sorted));
+      goes = one_act (events_of rest) e.0 e.1 (nothing_behind e.0 rest (IsDistinct-head (eq_by_cmp pos_cmp) e.0 (keys_of rest) is.apart));
       held = stage_held others_held (events_of (e ∷ rest)) is.held;
       kept = by_shelves triggers shelves is.each (admits_on shelves) (stage triggers id others (events_of (e ∷ rest))) (kept_on shelves) is.kept;
     }
 
-    fewer_held : (e : Pos × Traced) (rest : List (Pos × Traced)) → IsStrictlySortedBy pos_cmp (keys_of (e ∷ rest)) → AllHeld lanes (events_of (e ∷ rest)) → AllHeld lanes (events_of rest)
-    fewer_held e rest sorted held pos event is =
-        let none = nothing_behind e.0 rest (sorted_head pos_cmp e.0 (keys_of rest) sorted) in
+    fewer_held : (e : Pos × Traced) (rest : List (Pos × Traced)) → IsDistinct (eq_by_cmp pos_cmp) (keys_of (e ∷ rest)) → AllHeld lanes (events_of (e ∷ rest)) → AllHeld lanes (events_of rest)
+    fewer_held e rest apart held pos event is =
+        let none = nothing_behind e.0 rest (IsDistinct-head (eq_by_cmp pos_cmp) e.0 (keys_of rest) apart) in
         held pos event (get-insert_other pos_cmp_total pos_same (events_of rest) e.0 e.1 pos (λ same.
         let both : ◌≡◌ {A = Option Traced} None (Some event) = sym none ∙ ap (map.get (events_of rest)) (sym same) ∙ is in absurd cc) ∙ is)
 
@@ -291,10 +308,10 @@ module _ (triggers : Triggers) (lanes : Lanes) (id : ℕ) (others : Acts) where
         record {
           each = shelves_stay triggers old new is.each forms;
           kept = by_triggers triggers old is.each (admits_on new) (stage triggers id others after) (kept_on new)
-              (gone (stage triggers id others before) (stage triggers id others after) (one_act after e.0 e.1 (nothing_behind e.0 rest (sorted_head pos_cmp e.0 (keys_of rest) is.sorted))) (stage_held others_held before is.held)
+              (gone (stage triggers id others before) (stage triggers id others after) (one_act after e.0 e.1 (nothing_behind e.0 rest (IsDistinct-head (eq_by_cmp pos_cmp) e.0 (keys_of rest) is.apart))) (stage_held others_held before is.held)
               (by_shelves triggers old is.each (admits_on old) (stage triggers id others before) (kept_on old) is.kept));
-          held = fewer_held e rest is.sorted is.held;
-          sorted = sorted_tail pos_cmp e.0 (keys_of rest) is.sorted;
+          held = fewer_held e rest is.apart is.held;
+          apart = IsDistinct-tail (eq_by_cmp pos_cmp) e.0 (keys_of rest) is.apart;
         }
 
     -- with no events left what is kept is that of the others

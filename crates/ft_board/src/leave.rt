@@ -76,8 +76,9 @@ fn take_trigger(
     Ok(())
 }
 
-/// The events on a trigger's name go from it, in merged order. Refused for memory, and then the
-/// tables are of no use any more.
+/// The events on a trigger's name go from it, the last in merged order first, so that the first hit
+/// of a key moves only as the key goes. Refused for memory, and then the tables are of no use any
+/// more.
 fn take_acts(
     tables: &mut Tables,
     alloc: Global,
@@ -93,7 +94,8 @@ fn take_acts(
     ensures grow { StepsGrow work.old work.new }
 {
     let (lanes, triggers) = (content.lanes(), content.triggers());
-    let events = events_with(alloc, lanes, Names::only(trigger.event()))?;
+    let mut events = events_with(alloc, lanes, Names::only(trigger.event()))?;
+    events.reverse();
     for (pos, event) in &events {
         let at = At {
             pos: *pos,

@@ -65,7 +65,7 @@ module _ {K X : Type 0} {R : K → K → Ordering} (total : IsTotalOrder R) (sam
       found q ys ∙ lookup-from_Contains (eq_by_cmp_equiv total) q v ys distinct
       (Contains-permutation xs ys (q, v) moved (Contains-from_lookup (same_from_tie same) q v xs (sym (found q xs) ∙ is)))
 
-  find-moved : (q : K) (xs ys : List (K × X)) → IsPermutation xs ys → AreDistinct xs → AreDistinct ys → find R q xs ≡ find R q ys
+  pub find-moved : (q : K) (xs ys : List (K × X)) → IsPermutation xs ys → AreDistinct xs → AreDistinct ys → find R q xs ≡ find R q ys
   find-moved q xs ys moved one other = as_other (find R q xs) (find R q ys) (λ v. has q v xs ys moved other) (λ v. has q v ys xs (IsPermutation-sym xs ys moved) one)
 
   find-filter : (p : X → Bool) (q : K) (es : List (K × X)) → AreDistinct es → find R q (filter (λ e. p e.1) es) ≡ option_filter p (find R q es)

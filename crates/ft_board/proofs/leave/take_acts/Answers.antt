@@ -1,8 +1,10 @@
 use Rattle.std.proofs.Common.{rules, refl, ◌≡◌, Bool, List, [], drop, Bor, sym, ap, subst, ◌∙◌}
 use Rattle.std.specs.Ordering.{nat_cmp}
+use Rattle.std.specs.Prelude.{IsPermutation}
 use Rattle.std.specs.Map.Iter.{deref}
 use Rattle.std.specs.FinMap as map
 use Rattle.std.proofs.lemmas.List.{drop_all}
+use Rattle.std.proofs.lemmas.List.Sorted.{IsPermutation-map}
 use Rattle.ft_fields.specs.Traced.{Traced}
 use Rattle.ft_fields.specs.declared.event.Name.{Name}
 use Rattle.ft_fields.specs.declared.pos.Pos.{Pos}
@@ -30,12 +32,13 @@ loop-pos-init c =
     let items : List (Pos × Bor Traced) = c.deref-pos-items.result.now in
     let all : Acts = acts_of triggers (merged lanes) in
     let named : has_name c.only.result ≡ same_name hist.event = λ i other. (c.only.ensures other ∙ ap (λ (name : Name). same_name name other) c.event.ensures) i in
-    let own : entries_by deref items ≡ map.entries (own_events lanes hist) =
-    ap (entries_by deref) c.deref-pos-items.ensures.value ∙ c.in_ok-events.ensures ∙ ap (λ (names : Name → Bool). map.entries (events_on names (merged lanes))) named in
+    let own : entries_by deref c.in_ok-events.events.items ≡ map.entries (own_events lanes hist) = c.in_ok-events.ensures ∙ ap (λ (names : Name → Bool). map.entries (events_on names (merged lanes))) named in
+    let moved : IsPermutation (map.entries (own_events lanes hist)) (entries_by deref items) =
+    subst (λ (es : List (Pos × Traced)). IsPermutation es (entries_by deref items)) own
+    (IsPermutation-map (λ (e : Pos × Bor Traced). (e.0, e.1.now)) c.in_ok-events.events.items items (subst (IsPermutation c.in_ok-events.events.items) (sym c.deref-pos-items.ensures.value) c.reverse.ensures.permutation)) in
     let kept : AreKept triggers (merged lanes) c.args.tables.now =
     subst (λ (held : Triggers × Lanes). AreKept held.0 (merged held.1) c.args.tables.now) (λ i. (sym c.triggers-triggers.ensures i, sym c.lanes-lanes.ensures.lanes i)) c.requires.kept in (
-      subst (λ (es : List (Pos × Traced)). IsLeaving triggers lanes c.args.id (acts_of triggers (merged lanes)) c.args.tables.now es) (sym own)
-          (leaving_all triggers lanes c.args.id all hist (ap (λ (ts : Triggers). map.get ts c.args.id) c.triggers-triggers.ensures ∙ c.requires.attached) (all_acts_held triggers lanes) all (own_or_all triggers lanes c.args.id) c.args.tables.now kept.each kept.kept),
+      leaving_all triggers lanes c.args.id all hist (ap (λ (ts : Triggers). map.get ts c.args.id) c.triggers-triggers.ensures ∙ c.requires.attached) (all_acts_held triggers lanes) all (own_or_all triggers lanes c.args.id) c.args.tables.now kept.each kept.kept (entries_by deref items) moved,
       search rules,
     )
 
