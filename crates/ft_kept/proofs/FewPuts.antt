@@ -14,6 +14,7 @@ use Rattle.ft_keys.specs.declared.key.Part.{Part}
 use Rattle.ft_pairs.specs.Source.{Ops}
 use Rattle.ft_pairs.specs.declared.at.At.{At}
 use Rattle.ft_table.specs.Tabled.{Tabled}
+use Rattle.ft_table.specs.Spots.{traced}
 use Rattle.ft_kept.specs.inner.OneAct.{IsDoneToo}
 use Rattle.ft_kept.specs.Bounds.{TableEdit, TableMoves, SaverMoves, SomeSaverMoves, OtherSaversStay, table_on}
 use Rattle.ft_hist.specs.Tests.{asked}
@@ -77,7 +78,7 @@ reading_savers id saver key edit old put mid new h first last =
     savers_trans id old put new (read_forms saver key edit old put h) (savers_of_ops id saver key edit old put h) (savers_of_readers id put new (readers_trans put mid new first last))
 
 -- and goes: its hit, its read, and then what the next reading counts and reads
-pub reading_less_savers : (at : At) (saver : ℕ) (key : List Part) (edit : Ops → Ops) (old took less new : Shelves) → ChangesShelf at.trigger (TakesHit (record { pos = at.pos; key = key })) old took
+pub reading_less_savers : (at : At) (saver : ℕ) (key : List Part) (edit : Ops → Ops) (old took less new : Shelves) → ChangesShelf at.trigger (TakesHit (record { spot = traced at.pos; key = key })) old took
     → ChangesShelf saver (OpsChange key edit) took less → ReadersChange less new → OtherSaversStay at.trigger old new
 reading_less_savers at saver key edit old took less new hit h last =
     savers_trans at.trigger old took new (take_forms old took at key hit) (savers_but at.trigger old took hit.others)

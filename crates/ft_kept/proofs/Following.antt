@@ -21,6 +21,7 @@ use Rattle.ft_pairs.specs.declared.at.At.{At}
 use Rattle.ft_pairs.specs.declared.at.Op.{Op}
 use Rattle.ft_pairs.specs.declared.at.Op.TheVariants.{Save, Read}
 use Rattle.ft_table.specs.Hits.{Hits, same_key}
+use Rattle.ft_table.specs.Spots.{traced}
 use Rattle.ft_kept.specs.Acts.{Acts, Comes, op_of}
 use Rattle.ft_kept.specs.inner.OneAct.{IsOneAct}
 use Rattle.ft_kept.specs.Entries.{one_hit}
@@ -101,8 +102,8 @@ module _ (role : ℕ → Role) (was now : Admits) (before after : Acts) (c : At)
 
   -- a key that comes in gets a save at each hit of it in the saver's table
   module _ (k : List Part) (out : was c.trigger k ≡ false) (come : now c.trigger k ≡ true) (hits : Hits)
-      (told : (p : Pos) → ((after (record { pos = p; trigger = c.trigger }) ≡ None) × (map.get hits (record { pos = p; key = k }) ≡ None))
-      ⊎ ((b : List Part × Traced) × (v : List ℤ) × ((after (record { pos = p; trigger = c.trigger }) ≡ Some b) × (map.get hits (record { pos = p; key = k }) ≡ one_hit b.0 (Some v) k)))) where
+      (told : (p : Pos) → ((after (record { pos = p; trigger = c.trigger }) ≡ None) × (map.get hits (record { spot = traced p; key = k }) ≡ None))
+      ⊎ ((b : List Part × Traced) × (v : List ℤ) × ((after (record { pos = p; trigger = c.trigger }) ≡ Some b) × (map.get hits (record { spot = traced p; key = k }) ≡ one_hit b.0 (Some v) k)))) where
     abbrev Comes-in : At → Type 0
     Comes-in q = op_of role now after (variable k) q ≡ with_saves hits c.trigger k (op_of role was before (variable k)) q
 
@@ -122,7 +123,7 @@ module _ (role : ℕ → Role) (was now : Admits) (before after : Acts) (c : At)
           | false ↦ λ _. refl
         ] refl
 
-    at_saver : (p : Pos) → op_of role now after (variable k) (record { pos = p; trigger = c.trigger }) ≡ (if is_some (map.get hits (record { pos = p; key = k })) then Some Save else None)
+    at_saver : (p : Pos) → op_of role now after (variable k) (record { pos = p; trigger = c.trigger }) ≡ (if is_some (map.get hits (record { spot = traced p; key = k })) then Some Save else None)
     at_saver p = elim (told p) [
       | inl h ↦ op_absent role now after (variable k) (record { pos = p; trigger = c.trigger }) h.0 ∙ sym (ap (λ o. if is_some o then Some Save else None) h.1)
       | inr h ↦
@@ -136,15 +137,15 @@ module _ (role : ℕ → Role) (was now : Admits) (before after : Acts) (c : At)
     here_in : (p : Pos) → Comes-in (record { pos = p; trigger = c.trigger })
     here_in p =
         at_saver p
-        ∙ ap (λ (o : Option Op). if is_some (map.get hits (record { pos = p; key = k })) then Some Save else o) (sym (none_old (record { pos = p; trigger = c.trigger }) saves))
-        ∙ sym (ap (λ b. if b && is_some (map.get hits (record { pos = p; key = k })) then Some Save else op_of role was before (variable k) (record { pos = p; trigger = c.trigger })) (itself nat_cmp_total c.trigger))
+        ∙ ap (λ (o : Option Op). if is_some (map.get hits (record { spot = traced p; key = k })) then Some Save else o) (sym (none_old (record { pos = p; trigger = c.trigger }) saves))
+        ∙ sym (ap (λ b. if b && is_some (map.get hits (record { spot = traced p; key = k })) then Some Save else op_of role was before (variable k) (record { pos = p; trigger = c.trigger })) (itself nat_cmp_total c.trigger))
 
     pub comes_in : (q : At) → Comes-in q
     comes_in q = elim (eq_by_cmp nat_cmp q.trigger c.trigger) as (λ b. eq_by_cmp nat_cmp q.trigger c.trigger ≡ b → Comes-in q) [
       | true ↦ λ tie. subst (λ i. Comes-in (record { pos = q.pos; trigger = i })) (sym (tied nat_cmp_total nat_cmp-IsAntisymmetric q.trigger c.trigger tie)) (here_in q.pos)
       | false ↦ λ apart.
           elsewhere (λ e. true≢false (sym (itself nat_cmp_total c.trigger) ∙ ap (λ (p : At). eq_by_cmp nat_cmp p.trigger c.trigger) (sym e) ∙ apart)) apart
-          ∙ sym (ap (λ b. if b && is_some (map.get hits (record { pos = q.pos; key = k })) then Some Save else op_of role was before (variable k) q) apart)
+          ∙ sym (ap (λ b. if b && is_some (map.get hits (record { spot = traced q.pos; key = k })) then Some Save else op_of role was before (variable k) q) apart)
     ] refl
       where
         other_saver : (b : List Part × Traced) → eq_by_cmp nat_cmp q.trigger c.trigger ≡ false → variable_of Saves q.trigger b.0 ≡ Some (variable k) → ⊥
@@ -210,8 +211,8 @@ none_outside role admits acts q k saves out = by (acts q) refl
 -- ---- all keys of a saver whose act comes
 
 module _ (role : ℕ → Role) (was now : Admits) (before after : Acts) (c : At) (act : List Part × Traced) (comes : Comes c (Some act) before after) (saves : role c.trigger ≡ Saves) (hits : Hits)
-    (told : (k : List Part) (p : Pos) → ((after (record { pos = p; trigger = c.trigger }) ≡ None) × (map.get hits (record { pos = p; key = k }) ≡ None))
-    ⊎ ((b : List Part × Traced) × (v : List ℤ) × ((after (record { pos = p; trigger = c.trigger }) ≡ Some b) × (map.get hits (record { pos = p; key = k }) ≡ one_hit b.0 (Some v) k)))) where
+    (told : (k : List Part) (p : Pos) → ((after (record { pos = p; trigger = c.trigger }) ≡ None) × (map.get hits (record { spot = traced p; key = k }) ≡ None))
+    ⊎ ((b : List Part × Traced) × (v : List ℤ) × ((after (record { pos = p; trigger = c.trigger }) ≡ Some b) × (map.get hits (record { spot = traced p; key = k }) ≡ one_hit b.0 (Some v) k)))) where
   one_act : IsOneAct c act before after
   one_act = record { elsewhere = comes.elsewhere; here = inl (comes.absent, comes.here) }
 

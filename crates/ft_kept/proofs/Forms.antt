@@ -1,5 +1,5 @@
 -- What shelves tell, and what of it stays as their hits and operations change.
-use Rattle.std.proofs.Common.{◌≡◌, ℕ, Bool, true, false, cond, List, refl, sym, ap, subst, ◌∙◌, Some, None, Option}
+use Rattle.std.proofs.Common.{◌≡◌, ℕ, ℤ, Bool, true, false, cond, List, refl, sym, ap, subst, ◌∙◌, Some, None, Option}
 use Rattle.std.specs.Prelude.{◌&&◌, is_some, option_and_then}
 use Rattle.std.specs.Option.{option_map_or}
 use Rattle.std.specs.Ordering.{nat_cmp, eq_by_cmp}
@@ -13,15 +13,18 @@ use Rattle.ft_hist.specs.Hist.{Hist}
 use Rattle.ft_keys.specs.declared.key.Part.{Part}
 use Rattle.ft_keys.specs.Orders.{key_cmp_total}
 use Rattle.ft_keys.specs.Ties.{key_same}
-use Rattle.ft_maps.specs.Entries.{same_from_tie}
+use Rattle.ft_maps.specs.Entries.{get-remove_other, get-insert_other, same_from_tie}
 use Rattle.ft_pairs.specs.ByKey.{ops_of, same_key}
 use Rattle.ft_pairs.specs.Source.{Ops}
 use Rattle.ft_pairs.specs.declared.at.At.{At}
-use Rattle.ft_table.specs.Tabled.{is_in}
+use Rattle.ft_table.specs.Tabled.{Tabled, is_in}
 use Rattle.ft_table.specs.declared.mark.Mark.{Mark}
+use Rattle.ft_table.specs.Spots.{IsMade, traced}
+use Rattle.ft_table.specs.Hits.{Hits}
+use Rattle.ft_table.specs.Marks.{mark_same, mark_cmp_total}
 use Rattle.ft_kept.specs.inner.Edits.{OpsStay}
 use Rattle.ft_kept.specs.Repairs.{AreShelved}
-use Rattle.ft_kept.specs.Shelves.{Shelved, Shelves, KeepsForm, FormStays, FormsStay}
+use Rattle.ft_kept.specs.Shelves.{MadeStay, Shelved, Shelves, KeepsForm, FormStays, FormsStay}
 use Rattle.ft_kept.specs.inner.Edits.{ReaderChanges, ReadersChange, OpsChange, ChangesShelf}
 use Rattle.ft_kept.specs.Shelves.{is_saver, role_on, admits_on, kept_on}
 use Rattle.ft_pairs.specs.declared.role.Role.{Role}
@@ -30,9 +33,21 @@ use Rattle.ft_pairs.specs.declared.role.Variable.{Variable}
 
 -- ---- forms
 
+-- a hit of an event that a trigger made stands at no spot of an event of the trace
+not_traced : (pos : Pos) (key : List Part) (m : Mark) → IsMade m.spot → m ≡ record { spot = traced pos; key = key } → ⊥
+not_traced pos key m made same = made (ap (λ (x : Mark). x.spot.maker) same)
+
+-- and so it stays, as a hit of an event of the trace comes
+pub made_with : (hits : Hits) (pos : Pos) (key : List Part) (v : List ℤ) → MadeStay hits (map.insert hits (record { spot = traced pos; key = key }) v)
+made_with hits pos key v m made = get-insert_other mark_cmp_total mark_same hits (record { spot = traced pos; key = key }) v m (not_traced pos key m made)
+
+-- or goes
+pub made_without : (hits : Hits) (pos : Pos) (key : List Part) → MadeStay hits (map.remove hits (record { spot = traced pos; key = key }))
+made_without hits pos key m made = get-remove_other mark_cmp_total mark_same hits (record { spot = traced pos; key = key }) m (not_traced pos key m made)
+
 -- a shelf has the form that it has
 pub same_form : (shelf : Shelved) → KeepsForm shelf shelf
-same_form shelf = record { role = refl; size = refl }
+same_form shelf = record { role = refl; size = refl; made = λ m _. refl }
 
 form_refl : (o : Option Shelved) → FormStays o o
 form_refl None = refl
@@ -45,7 +60,7 @@ form_trans : (a b c : Option Shelved) → FormStays a b → FormStays b c → Fo
 form_trans None b c h k = subst (λ o. FormStays o c) h k
 form_trans (Some shelf) b c h k =
     let next : FormStays (Some h.0) c = subst (λ o. FormStays o c) h.1.0 k in
-    (next.0, (next.1.0, record { role = next.1.1.role ∙ h.1.1.role; size = next.1.1.size ∙ h.1.1.size }))
+    (next.0, (next.1.0, record { role = next.1.1.role ∙ h.1.1.role; size = next.1.1.size ∙ h.1.1.size; made = λ m made. next.1.1.made m made ∙ h.1.1.made m made }))
 
 pub forms_trans : (a b c : Shelves) → FormsStay a b → FormsStay b c → FormsStay a c
 forms_trans a b c h k id = form_trans (map.get a id) (map.get b id) (map.get c id) (h id) (k id)
@@ -91,7 +106,7 @@ reader_trans (Some shelf) b c h k =
       (
         next.1.0,
         (
-          record { role = next.1.1.0.role ∙ role; size = next.1.1.0.size ∙ h.1.1.0.size },
+          record { role = next.1.1.0.role ∙ role; size = next.1.1.0.size ∙ h.1.1.0.size; made = λ m made. next.1.1.0.made m made ∙ h.1.1.0.made m made },
           (next.1.1.1.0 ∙ h.1.1.1.0, λ other. next.1.1.1.1 (λ saver is. other saver (sym role ∙ is)) ∙ h.1.1.1.1 other),
         ),
       ),
@@ -209,7 +224,7 @@ by_id P id here others i = by (eq_by_cmp nat_cmp i id) refl
     by true tie = subst P (sym (same_from_tie exact_unsigned i id tie)) here
     by false apart = others i (λ same. true≢false (sym ((eq_by_cmp_equiv nat_cmp_total).refl id) ∙ ap (λ j. eq_by_cmp nat_cmp j id) (sym same) ∙ apart))
 
--- a shelf is written back that keeps its role and its size, and the others stay
+-- a shelf is written back that keeps its form, and the others stay
 module _ (old new : Shelves) (id : ℕ) (shelf after : Shelved) (was : map.get old id ≡ Some shelf) (is : map.get new id ≡ Some after)
     (others : (i : ℕ) → (i ≡ id → ⊥) → map.get new i ≡ map.get old i) where
   pub edited : KeepsForm shelf after → FormsStay old new
@@ -230,7 +245,7 @@ module _ (saver : ℕ) (key : List Part) (edit : Ops → Ops) (old new : Shelves
   read_form None is = subst (λ s. FormStays s (map.get new saver)) (sym is) (h.none is)
   read_form (Some shelf) is =
       let after = h.here shelf is in
-      subst (λ s. FormStays s (map.get new saver)) (sym is) (after.0, (after.1.0, record { role = after.1.1.role; size = ap (λ table. table.size) after.1.1.table }))
+      subst (λ s. FormStays s (map.get new saver)) (sym is) (after.0, (after.1.0, record { role = after.1.1.role; size = ap (λ table. table.size) after.1.1.table; made = λ m _. ap (λ (table : Tabled). map.get table.hits m) after.1.1.table }))
 
   pub read_forms : FormsStay old new
   read_forms = by_id (λ i. FormStays (map.get old i) (map.get new i)) saver (read_form (map.get old saver) refl)

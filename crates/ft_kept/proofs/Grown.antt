@@ -33,7 +33,7 @@ pub record IsGrown (id : ℕ) (m : Mark) (v : List ℤ) (old new : Shelved) : Ty
   pub readings : new.readings ≡ old.readings
   pub table : new.table ≡ with_hit old.table m v
   pub ops : (k : List Part) (q : At) → ops_of new.ops k q
-      ≡ cond (same_key k m.key) (with_own (is_in old.table m.key && is_in (with_hit old.table m v) m.key) (record { pos = m.pos; trigger = id }) (ops_of old.ops k) q) (ops_of old.ops k q)
+      ≡ cond (same_key k m.key) (with_own (is_in old.table m.key && is_in (with_hit old.table m v) m.key) (record { pos = m.spot.pos; trigger = id }) (ops_of old.ops k) q) (ops_of old.ops k q)
 
 -- the saves of a key are dropped, if there is a key
 abbrev pub Drops : Option (List Part) → Shelved → Shelved → Type 0
@@ -53,13 +53,13 @@ module _ (id : ℕ) (m : Mark) (v : List ℤ) (old grown : Shelved) (is : grown 
     readings = ap (λ (s : Shelved). s.readings) is;
     table = ap (λ (s : Shelved). s.table) is;
     ops = λ k q. same_ops k q ∙ same_both (same_key k m.key) (ops_of old.ops k q)
-        ∙ sym (ap (λ b. cond (same_key k m.key) (with_own b (record { pos = m.pos; trigger = id }) (ops_of old.ops k) q) (ops_of old.ops k q)) apart);
+        ∙ sym (ap (λ b. cond (same_key k m.key) (with_own b (record { pos = m.spot.pos; trigger = id }) (ops_of old.ops k) q) (ops_of old.ops k q)) apart);
   }
 
-  pub grown_with : (new : Shelved) → OpsChange m.key (with_op (record { pos = m.pos; trigger = id }) Save) grown new
+  pub grown_with : (new : Shelved) → OpsChange m.key (with_op (record { pos = m.spot.pos; trigger = id }) Save) grown new
       → is_in old.table m.key ≡ true → is_in (with_hit old.table m v) m.key ≡ true → IsGrown id m v old new
   grown_with new put was now =
-      let at : At = record { pos = m.pos; trigger = id } in
+      let at : At = record { pos = m.spot.pos; trigger = id } in
       record {
         role = put.role ∙ ap (λ (s : Shelved). s.role) is;
         readings = put.readings ∙ ap (λ (s : Shelved). s.readings) is;
@@ -109,7 +109,7 @@ module _ (law : LastGoesOut) (id : ℕ) (m : Mark) (v : List ℤ) (old grown swi
   after = with_hit old.table m v
 
   abbrev at : At
-  at = record { pos = m.pos; trigger = id }
+  at = record { pos = m.spot.pos; trigger = id }
 
   table_is : final.table ≡ after
   table_is = drops_table o switch final drops ∙ switches.table ∙ grows.table

@@ -8,6 +8,7 @@ use Rattle.ft_hist.specs.Hist.{Hist}
 use Rattle.ft_keys.specs.declared.key.Part.{Part}
 use Rattle.ft_lanes.specs.Held.{Lanes}
 use Rattle.ft_pairs.specs.declared.at.At.{At}
+use Rattle.ft_table.specs.Spots.{traced}
 use Rattle.ft_kept.specs.Repairs.{HasGone}
 use Rattle.ft_pairs.specs.Roles.{variable_of}
 use Rattle.ft_kept.specs.Shelves.{Shelves, role_on, admits_on, kept_on}
@@ -20,7 +21,7 @@ use Rattle.ft_kept.proofs.Owing.{kept_as, one_act_right, owes_more}
 use Rattle.ft_kept.proofs.Putting.{never_switched}
 use Rattle.ft_kept.proofs.Taking.{take_admits, take_ops, take_stays, take_unread, take_gone, one_goes, there_own, gone_ops, nothing_right}
 
-pub plain_goes : (old new : Shelves) (at : At) (key : List Part) → ChangesShelf at.trigger (TakesHit (record { pos = at.pos; key = key })) old new → role_on old at.trigger ≡ Plain
+pub plain_goes : (old new : Shelves) (at : At) (key : List Part) → ChangesShelf at.trigger (TakesHit (record { spot = traced at.pos; key = key })) old new → role_on old at.trigger ≡ Plain
     → (triggers : FinMap nat_cmp Hist) (lanes : Lanes) (event : Traced) → HasGone triggers lanes at (Some (key, event)) old new
 plain_goes old new at key h plain triggers lanes event before after goes held kept =
     let values = values_by triggers in

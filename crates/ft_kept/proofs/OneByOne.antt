@@ -24,6 +24,7 @@ use Rattle.ft_table.specs.Marks.{mark_cmp}
 use Rattle.ft_table.specs.Tabled.{Tabled}
 use Rattle.ft_table.specs.Values.{ValuesBy, values_by}
 use Rattle.ft_table.specs.declared.mark.Mark.{Mark}
+use Rattle.ft_table.specs.Spots.{traced}
 use Rattle.ft_kept.specs.Acts.{Acts, AreHeld, acts_of, op_of}
 use Rattle.ft_kept.specs.Entries.{IsEntry, IsKept, hits_here, read_here}
 use Rattle.ft_kept.specs.Repairs.{AreShelved, EventCanCome, EventHasCome, EventCanGo, EventHasGone, IsHeldAt, AllHeld, AreRight}
@@ -78,7 +79,7 @@ none_kept triggers role values admits shelves bare =
       entries = λ at. inr (subst
           (λ (act : Option (List Part × Traced)). IsEntry values (kept_on shelves).ops at (role at.trigger) act (hits_here (kept_on shelves) at) (read_here (kept_on shelves) at))
           (sym (no_act at))
-          (no_reading (map.get shelves at.trigger) (bare at.trigger) at.pos, λ key. no_hit (map.get shelves at.trigger) (bare at.trigger) (record { pos = at.pos; key = key })));
+          (no_reading (map.get shelves at.trigger) (bare at.trigger) at.pos, λ key. no_hit (map.get shelves at.trigger) (bare at.trigger) (record { spot = traced at.pos; key = key })));
     }
 
 -- ---- new shelves

@@ -19,6 +19,9 @@ use Rattle.ft_pairs.specs.declared.at.At.{At}
 use Rattle.ft_table.specs.Growth.{with_hit}
 use Rattle.ft_table.specs.Marks.{mark_cmp, mark_cmp_total, mark_same}
 use Rattle.ft_table.specs.declared.mark.Mark.{Mark}
+use Rattle.ft_table.specs.Spots.{traced}
+use Rattle.ft_table.specs.declared.hit.Hit.{Hit}
+use Rattle.ft_table.specs.declared.spot.Spot.{Spot}
 use Rattle.ft_kept.specs.Acts.{Acts, Comes}
 use Rattle.ft_kept.specs.inner.OneAct.{IsOneAct}
 use Rattle.ft_kept.specs.Entries.{IsEntry, IsKept, hits_here, one_hit, read_here}
@@ -34,6 +37,15 @@ use Rattle.ft_pairs.specs.declared.role.Variable.{Variable}
 use Rattle.ft_kept.proofs.Decided.{itself, untied, decided}
 use Rattle.ft_kept.proofs.Forms.{hits_by, read_by, same_hits, same_read}
 use Rattle.ft_kept.proofs.Owing.{same_differ}
+
+-- the hit of an event on a spot, of a key, by what it read, if it read
+abbrev hit_there : Hist → Traced → List Part → Option Pos → Spot → Hit
+hit_there hist event key read spot = record { spot = spot; key = key; values = values_at hist spot.pos event read }
+
+-- it stands on the spot that is given, which is that of an event of the trace
+pub traced_hit : (hist : Hist) (event : Traced) (key : List Part) (read : Option Pos) (spot : Spot) (hit : Hit) (pos : Pos)
+    → hit ≡ hit_there hist event key read spot → spot ≡ traced pos → hit ≡ hit_there hist event key read (traced pos)
+traced_hit hist event key read spot hit pos made on = made ∙ ap (hit_there hist event key read) on
 
 id_decided : (i j : ℕ) → (i ≡ j) ⊎ (i ≡ j → ⊥)
 id_decided = decided nat_cmp_total nat_cmp-IsAntisymmetric
@@ -92,13 +104,13 @@ never_switched role admits acts q = by (role q.trigger) (acts q)
 
 module _ (old new : Shelves) (at : At) (shelf after : Shelved) (was : map.get old at.trigger ≡ Some shelf) (is : map.get new at.trigger ≡ Some after)
     (others : (i : ℕ) → (i ≡ at.trigger → ⊥) → map.get new i ≡ map.get old i) (key : List Part) (v : List ℤ)
-    (table : after.table ≡ with_hit shelf.table (record { pos = at.pos; key = key }) v) (readings : after.readings ≡ shelf.readings) where
-  put_hits : (mark : Mark) → (kept_on new).hits at.trigger mark ≡ (if eq_by_cmp mark_cmp mark (record { pos = at.pos; key = key }) then Some v else (kept_on old).hits at.trigger mark)
+    (table : after.table ≡ with_hit shelf.table (record { spot = traced at.pos; key = key }) v) (readings : after.readings ≡ shelf.readings) where
+  put_hits : (mark : Mark) → (kept_on new).hits at.trigger mark ≡ (if eq_by_cmp mark_cmp mark (record { spot = traced at.pos; key = key }) then Some v else (kept_on old).hits at.trigger mark)
   put_hits mark =
       hits_by new at.trigger (Some after) is mark
       ∙ ap (λ t. map.get t.hits mark) table
-      ∙ get-insert mark_cmp_total shelf.table.hits (record { pos = at.pos; key = key }) v mark
-      ∙ ap (λ o. if eq_by_cmp mark_cmp mark (record { pos = at.pos; key = key }) then Some v else o) (sym (hits_by old at.trigger (Some shelf) was mark))
+      ∙ get-insert mark_cmp_total shelf.table.hits (record { spot = traced at.pos; key = key }) v mark
+      ∙ ap (λ o. if eq_by_cmp mark_cmp mark (record { spot = traced at.pos; key = key }) then Some v else o) (sym (hits_by old at.trigger (Some shelf) was mark))
 
   put_readings : (pos : Pos) → (kept_on new).read at.trigger pos ≡ (kept_on old).read at.trigger pos
   put_readings pos = read_by new at.trigger (Some after) is pos ∙ ap (λ r. map.get r pos) readings ∙ sym (read_by old at.trigger (Some shelf) was pos)
@@ -106,23 +118,23 @@ module _ (old new : Shelves) (at : At) (shelf after : Shelved) (was : map.get ol
   -- hits and readings stay at other places
   pub put_stays : StaysBut at (kept_on old) (kept_on new)
   put_stays q apart = elim (id_decided q.trigger at.trigger) [
-    | inl same ↦ subst (λ i. ((k : List Part) → (kept_on new).hits i (record { pos = q.pos; key = k }) ≡ (kept_on old).hits i (record { pos = q.pos; key = k })) × ((kept_on new).read i q.pos ≡ (kept_on old).read i q.pos)) (sym same) (
-      λ k. put_hits (record { pos = q.pos; key = k }) ∙ ap (λ b. if b then Some v else (kept_on old).hits at.trigger (record { pos = q.pos; key = k }))
-          (untied mark_cmp_total mark_same (record { pos = q.pos; key = k }) (record { pos = at.pos; key = key }) (λ e. apart (λ i. record { pos = (e i).pos; trigger = same i }))),
+    | inl same ↦ subst (λ i. ((k : List Part) → (kept_on new).hits i (record { spot = traced q.pos; key = k }) ≡ (kept_on old).hits i (record { spot = traced q.pos; key = k })) × ((kept_on new).read i q.pos ≡ (kept_on old).read i q.pos)) (sym same) (
+      λ k. put_hits (record { spot = traced q.pos; key = k }) ∙ ap (λ b. if b then Some v else (kept_on old).hits at.trigger (record { spot = traced q.pos; key = k }))
+          (untied mark_cmp_total mark_same (record { spot = traced q.pos; key = k }) (record { spot = traced at.pos; key = key }) (λ e. apart (λ i. record { pos = (e i).spot.pos; trigger = same i }))),
       put_readings q.pos,
     )
-    | inr other ↦ (λ k. same_hits old new q.trigger (others q.trigger other) (record { pos = q.pos; key = k }), same_read old new q.trigger (others q.trigger other) q.pos)
+    | inr other ↦ (λ k. same_hits old new q.trigger (others q.trigger other) (record { spot = traced q.pos; key = k }), same_read old new q.trigger (others q.trigger other) q.pos)
   ]
 
   -- the hit stands at its own place
   pub put_here : ((k : List Part) → hits_here (kept_on old) at k ≡ None) → (k : List Part) → hits_here (kept_on new) at k ≡ one_hit key (Some v) k
-  put_here none k = put_hits (record { pos = at.pos; key = k }) ∙ elim (decided key_cmp_total key_same k key) [
+  put_here none k = put_hits (record { spot = traced at.pos; key = k }) ∙ elim (decided key_cmp_total key_same k key) [
     | inl own ↦
-        ap (λ x. if eq_by_cmp mark_cmp (record { pos = at.pos; key = x }) (record { pos = at.pos; key = key }) then Some v else (kept_on old).hits at.trigger (record { pos = at.pos; key = k })) own
-        ∙ ap (λ b. if b then Some v else (kept_on old).hits at.trigger (record { pos = at.pos; key = k })) (itself mark_cmp_total (record { pos = at.pos; key = key }))
+        ap (λ x. if eq_by_cmp mark_cmp (record { spot = traced at.pos; key = x }) (record { spot = traced at.pos; key = key }) then Some v else (kept_on old).hits at.trigger (record { spot = traced at.pos; key = k })) own
+        ∙ ap (λ b. if b then Some v else (kept_on old).hits at.trigger (record { spot = traced at.pos; key = k })) (itself mark_cmp_total (record { spot = traced at.pos; key = key }))
         ∙ sym (ap (λ x. one_hit key (Some v) x) own ∙ ap (λ b. if b then Some v else None) (itself key_cmp_total key))
     | inr apart ↦
-        ap (λ b. if b then Some v else (kept_on old).hits at.trigger (record { pos = at.pos; key = k })) (untied mark_cmp_total mark_same (record { pos = at.pos; key = k }) (record { pos = at.pos; key = key }) (λ e. apart (ap (λ (m : Mark). m.key) e)))
+        ap (λ b. if b then Some v else (kept_on old).hits at.trigger (record { spot = traced at.pos; key = k })) (untied mark_cmp_total mark_same (record { spot = traced at.pos; key = k }) (record { spot = traced at.pos; key = key }) (λ e. apart (ap (λ (m : Mark). m.key) e)))
         ∙ none k
         ∙ sym (ap (λ b. if b then Some v else None) (untied key_cmp_total key_same k key apart))
   ]

@@ -13,6 +13,7 @@ use Rattle.ft_pairs.specs.Order.{at_cmp_total, at_same}
 use Rattle.ft_pairs.specs.declared.at.At.{At}
 use Rattle.ft_pairs.specs.declared.at.Op.{Op}
 use Rattle.ft_pairs.specs.declared.at.Op.TheVariants.{Read}
+use Rattle.ft_table.specs.Spots.{traced}
 use Rattle.ft_kept.specs.Acts.{Acts, Comes, op_of}
 use Rattle.ft_kept.specs.Entries.{IsEntry, IsKept, IsKeptBut, IsOwn, IsRight, hits_here, read_here}
 use Rattle.ft_kept.specs.inner.Edits.{StaysBut}
@@ -62,7 +63,7 @@ module _ (triggers : FinMap nat_cmp Hist) (lanes : Lanes) (old put : Shelves) (a
 
     -- nothing stands at its place yet
     pub put_own : CanCome triggers lanes at (Some (key, event)) old → IsOwn (Some (key, event)) (hits_here (kept_on put) at)
-    put_own can k = inl (read_hits saver key (with_op at Read) old put h at.trigger (record { pos = at.pos; key = k })
+    put_own can k = inl (read_hits saver key (with_op at Read) old put h at.trigger (record { spot = traced at.pos; key = k })
         ∙ absent_hits (role_on old) (values_by triggers) (admits_on old) can.before (kept_on old) can.kept at can.comes.absent k)
 
     module _ (settled : Shelves) (readers : ReadersChange put settled) (others : StaysBut at (kept_on put) (kept_on settled))
@@ -75,7 +76,7 @@ module _ (triggers : FinMap nat_cmp Hist) (lanes : Lanes) (old put : Shelves) (a
 
       settled_stays : StaysBut at (kept_on old) (kept_on settled)
       settled_stays q apart = (
-        λ k. (others q apart).0 k ∙ read_hits saver key (with_op at Read) old put h q.trigger (record { pos = q.pos; key = k }),
+        λ k. (others q apart).0 k ∙ read_hits saver key (with_op at Read) old put h q.trigger (record { spot = traced q.pos; key = k }),
         (others q apart).1 ∙ read_readings saver key (with_op at Read) old put h q.trigger q.pos,
       )
 

@@ -13,6 +13,7 @@ use Rattle.ft_pairs.specs.Next.{IsNext}
 use Rattle.ft_pairs.specs.Order.{at_cmp_total, at_same}
 use Rattle.ft_pairs.specs.declared.at.At.{At}
 use Rattle.ft_pairs.specs.declared.at.Op.{Op}
+use Rattle.ft_table.specs.Spots.{traced}
 use Rattle.ft_kept.specs.Acts.{Acts, Comes}
 use Rattle.ft_kept.specs.Entries.{IsKept, IsKeptBut}
 use Rattle.ft_kept.specs.inner.Edits.{StaysBut}
@@ -43,7 +44,7 @@ left_alone false b never e = sym never ∙ e
 
 module _ (triggers : FinMap nat_cmp Hist) (lanes : Lanes) (old mid put : Shelves) (at : At) (saver : ℕ) (key : List Part)
     (reads : role_on old at.trigger ≡ Reads saver) (shelved : AreShelved triggers old)
-    (h : ChangesShelf at.trigger (TakesHit (record { pos = at.pos; key = key })) old mid) (k : ChangesShelf saver (OpsChange key (without_op at)) mid put) where
+    (h : ChangesShelf at.trigger (TakesHit (record { spot = traced at.pos; key = key })) old mid) (k : ChangesShelf saver (OpsChange key (without_op at)) mid put) where
   abbrev variable : Variable
   variable = record { saver = saver; key = key }
 
@@ -58,7 +59,7 @@ module _ (triggers : FinMap nat_cmp Hist) (lanes : Lanes) (old mid put : Shelves
 
   went_stays : StaysBut at (kept_on old) (kept_on put)
   went_stays q apart = (
-    λ x. read_hits saver key (without_op at) mid put k q.trigger (record { pos = q.pos; key = x }) ∙ (take_stays old mid at key h q apart).0 x,
+    λ x. read_hits saver key (without_op at) mid put k q.trigger (record { spot = traced q.pos; key = x }) ∙ (take_stays old mid at key h q apart).0 x,
     read_readings saver key (without_op at) mid put k q.trigger q.pos ∙ (take_stays old mid at key h q apart).1,
   )
 
@@ -107,7 +108,7 @@ module _ (triggers : FinMap nat_cmp Hist) (lanes : Lanes) (old mid put : Shelves
         went_stays
         (nothing_right role values after (kept_on put) at goes.absent
         (read_readings saver key (without_op at) mid put k at.trigger at.pos ∙ take_unread old mid at key h)
-        (λ x. read_hits saver key (without_op at) mid put k at.trigger (record { pos = at.pos; key = x }) ∙ take_gone old mid at key h event own x))))
+        (λ x. read_hits saver key (without_op at) mid put k at.trigger (record { spot = traced at.pos; key = x }) ∙ take_gone old mid at key h event own x))))
 
   -- what is kept is that of some acts, but for the next reading
   pub went_partly : (event : Traced) → CanGo triggers lanes at (Some (key, event)) old → IsPartly triggers lanes put

@@ -21,8 +21,9 @@ use Rattle.ft_pairs.specs.Order.{at_cmp_total, at_same}
 use Rattle.ft_pairs.specs.Source.{Ops}
 use Rattle.ft_pairs.specs.declared.at.At.{At}
 use Rattle.ft_table.specs.Hits.{Hits}
-use Rattle.ft_table.specs.Tabled.{is_in}
+use Rattle.ft_table.specs.Tabled.{Tabled, is_in}
 use Rattle.ft_table.specs.declared.mark.Mark.{Mark}
+use Rattle.ft_table.specs.Spots.{traced}
 use Rattle.ft_kept.specs.Acts.{Acts, Comes, op_of}
 use Rattle.ft_kept.specs.inner.OneAct.{IsOneAct}
 use Rattle.ft_kept.specs.Entries.{HitsHere, IsEntry, IsKept, hits_here, one_hit, read_here}
@@ -40,7 +41,7 @@ use Rattle.ft_pairs.specs.declared.role.Role.TheVariants.{Saves}
 use Rattle.ft_pairs.specs.declared.role.Variable.{Variable}
 use Rattle.ft_kept.proofs.Decided.{at_decided, decided, itself, key_decided, untied}
 use Rattle.ft_kept.proofs.Following.{comes_in, goes_out, none_outside, other_stays}
-use Rattle.ft_kept.proofs.Forms.{admits_by, by_id, edited, hits_by, ops_by, read_by, role_at, same_admits, same_hits, same_ops, same_read}
+use Rattle.ft_kept.proofs.Forms.{made_without, admits_by, by_id, edited, hits_by, ops_by, read_by, role_at, same_admits, same_hits, same_ops, same_read}
 use Rattle.ft_kept.proofs.Owing.{one_act_right, op_absent, op_elsewhere, op_none}
 use Rattle.ft_kept.proofs.Shelving.{shelf_changes}
 use Rattle.ft_kept.proofs.Taking.{nothing_right, one_goes, take_gone, take_stays, take_unread, there_own}
@@ -48,8 +49,8 @@ use Rattle.ft_kept.proofs.Taking.{nothing_right, one_goes, take_gone, take_stays
 -- ---- all keys of a saver whose act goes
 
 module _ (role : ℕ → Role) (was now : Admits) (before after : Acts) (c : At) (act : List Part × Traced) (goes : Comes c (Some act) after before) (saves : role c.trigger ≡ Saves) (hits : Hits)
-    (told : (k : List Part) (p : Pos) → ((after (record { pos = p; trigger = c.trigger }) ≡ None) × (map.get hits (record { pos = p; key = k }) ≡ None))
-    ⊎ ((b : List Part × Traced) × (v : List ℤ) × ((after (record { pos = p; trigger = c.trigger }) ≡ Some b) × (map.get hits (record { pos = p; key = k }) ≡ one_hit b.0 (Some v) k)))) where
+    (told : (k : List Part) (p : Pos) → ((after (record { pos = p; trigger = c.trigger }) ≡ None) × (map.get hits (record { spot = traced p; key = k }) ≡ None))
+    ⊎ ((b : List Part × Traced) × (v : List ℤ) × ((after (record { pos = p; trigger = c.trigger }) ≡ Some b) × (map.get hits (record { spot = traced p; key = k }) ≡ one_hit b.0 (Some v) k)))) where
   one_act : IsOneAct c act before after
   one_act = one_goes c act before after goes
 
@@ -130,10 +131,14 @@ saver_told values ops q (Some b) hits read e k = inr (b, values q.trigger q.pos 
 
 module _ (triggers : FinMap nat_cmp Hist) (lanes : Lanes) (old new : Shelves) (at : At) (shelf after : Shelved) (was : map.get old at.trigger ≡ Some shelf) (is : map.get new at.trigger ≡ Some after)
     (others : (i : ℕ) → (i ≡ at.trigger → ⊥) → map.get new i ≡ map.get old i) (key : List Part) (saves : role_on old at.trigger ≡ Saves)
-    (follows : HitLessFollows at.trigger (record { pos = at.pos; key = key }) shelf after) where
+    (follows : HitLessFollows at.trigger (record { spot = traced at.pos; key = key }) shelf after) where
   -- its shelf keeps its form
   pub gone_forms : FormsStay old new
-  gone_forms = edited old new at.trigger shelf after was is others (record { role = follows.role; size = ap (λ t. t.size) follows.table })
+  gone_forms = edited old new at.trigger shelf after was is others (record {
+    role = follows.role;
+    size = ap (λ t. t.size) follows.table;
+    made = λ m made. ap (λ (t : Tabled). map.get t.hits m) follows.table ∙ made_without shelf.table.hits at.pos key m made;
+  })
 
   admits_new : (k : List Part) → admits_on new at.trigger k ≡ is_in after.table k
   admits_new k = admits_by new at.trigger (Some after) is k ∙ ap (λ r. is_saver r && is_in after.table k) (follows.role ∙ shelf_saves triggers lanes old at shelf was key saves)
@@ -150,7 +155,7 @@ module _ (triggers : FinMap nat_cmp Hist) (lanes : Lanes) (old new : Shelves) (a
 
   -- hits and readings are those of the shelf without the hit
   abbrev mark : Mark
-  mark = record { pos = at.pos; key = key }
+  mark = record { spot = traced at.pos; key = key }
 
   abbrev mid : Shelves
   mid = map.insert old at.trigger (without_hit_on mark shelf)
@@ -170,28 +175,28 @@ module _ (triggers : FinMap nat_cmp Hist) (lanes : Lanes) (old new : Shelves) (a
 
   gone_stays : StaysBut at (kept_on old) (kept_on new)
   gone_stays q apart = (
-    λ k. hits_same q.trigger (record { pos = q.pos; key = k }) ∙ (take_stays old mid at key taken q apart).0 k,
+    λ k. hits_same q.trigger (record { spot = traced q.pos; key = k }) ∙ (take_stays old mid at key taken q apart).0 k,
     read_same q.trigger q.pos ∙ (take_stays old mid at key taken q apart).1,
   )
 
   module _ (event : Traced) (before acts : Acts) (goes : Comes at (Some (key, event)) acts before) (kept : IsKept (role_on old) (values_by triggers) (admits_on old) before (kept_on old)) where
     none_left : (k : List Part) → hits_here (kept_on new) at k ≡ None
-    none_left k = hits_same at.trigger (record { pos = at.pos; key = k })
+    none_left k = hits_same at.trigger (record { spot = traced at.pos; key = k })
         ∙ take_gone old mid at key taken event (there_own (role_on old) (values_by triggers) (admits_on old) before (kept_on old) kept at (key, event) goes.here) k
 
     -- hits and acts of the saver tell of each other
-    told : (k : List Part) (p : Pos) → ((acts (record { pos = p; trigger = at.trigger }) ≡ None) × (map.get after.table.hits (record { pos = p; key = k }) ≡ None))
-        ⊎ ((b : List Part × Traced) × (v : List ℤ) × ((acts (record { pos = p; trigger = at.trigger }) ≡ Some b) × (map.get after.table.hits (record { pos = p; key = k }) ≡ one_hit b.0 (Some v) k)))
+    told : (k : List Part) (p : Pos) → ((acts (record { pos = p; trigger = at.trigger }) ≡ None) × (map.get after.table.hits (record { spot = traced p; key = k }) ≡ None))
+        ⊎ ((b : List Part × Traced) × (v : List ℤ) × ((acts (record { pos = p; trigger = at.trigger }) ≡ Some b) × (map.get after.table.hits (record { spot = traced p; key = k }) ≡ one_hit b.0 (Some v) k)))
     told k p = elim (at_decided (record { pos = p; trigger = at.trigger }) at) [
-      | inl own ↦ inl (ap acts own ∙ goes.absent, sym (hits_by new at.trigger (Some after) is (record { pos = p; key = k })) ∙ ap (λ (x : At). (kept_on new).hits at.trigger (record { pos = x.pos; key = k })) own ∙ none_left k)
+      | inl own ↦ inl (ap acts own ∙ goes.absent, sym (hits_by new at.trigger (Some after) is (record { spot = traced p; key = k })) ∙ ap (λ (x : At). (kept_on new).hits at.trigger (record { spot = traced x.pos; key = k })) own ∙ none_left k)
       | inr apart ↦ elim before_told [
         | inl h ↦ inl (sym (goes.elsewhere (record { pos = p; trigger = at.trigger }) apart) ∙ h.0, same apart ∙ h.1)
         | inr h ↦ inr (h.0, h.1, (sym (goes.elsewhere (record { pos = p; trigger = at.trigger }) apart) ∙ h.2.0, same apart ∙ h.2.1))
       ]
     ]
       where
-        same : ((record { pos = p; trigger = at.trigger }) ≡ at → ⊥) → map.get after.table.hits (record { pos = p; key = k }) ≡ hits_here (kept_on old) (record { pos = p; trigger = at.trigger }) k
-        same apart = sym (hits_by new at.trigger (Some after) is (record { pos = p; key = k })) ∙ (gone_stays (record { pos = p; trigger = at.trigger }) apart).0 k
+        same : ((record { pos = p; trigger = at.trigger }) ≡ at → ⊥) → map.get after.table.hits (record { spot = traced p; key = k }) ≡ hits_here (kept_on old) (record { pos = p; trigger = at.trigger }) k
+        same apart = sym (hits_by new at.trigger (Some after) is (record { spot = traced p; key = k })) ∙ (gone_stays (record { pos = p; trigger = at.trigger }) apart).0 k
 
         before_told : ((before (record { pos = p; trigger = at.trigger }) ≡ None) × (hits_here (kept_on old) (record { pos = p; trigger = at.trigger }) k ≡ None)) ⊎ ((b : List Part × Traced) × (v : List ℤ) × ((before (record { pos = p; trigger = at.trigger }) ≡ Some b) × (hits_here (kept_on old) (record { pos = p; trigger = at.trigger }) k ≡ one_hit b.0 (Some v) k)))
         before_told = saver_told (values_by triggers) (kept_on old).ops (record { pos = p; trigger = at.trigger }) (before (record { pos = p; trigger = at.trigger })) (hits_here (kept_on old) (record { pos = p; trigger = at.trigger })) (read_here (kept_on old) (record { pos = p; trigger = at.trigger }))

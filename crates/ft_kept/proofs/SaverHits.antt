@@ -17,7 +17,8 @@ use Rattle.ft_pairs.specs.ByKey.{ops_of}
 use Rattle.ft_pairs.specs.Next.{IsNext}
 use Rattle.ft_pairs.specs.Source.{Ops}
 use Rattle.ft_pairs.specs.declared.at.At.{At}
-use Rattle.ft_table.specs.Tabled.{is_in}
+use Rattle.ft_table.specs.Tabled.{Tabled, is_in}
+use Rattle.ft_table.specs.Spots.{traced}
 use Rattle.ft_kept.specs.Acts.{Acts, Comes, op_of}
 use Rattle.ft_kept.specs.Entries.{HitsHere, IsEntry, IsKept, IsRight, hits_here, one_hit, read_here}
 use Rattle.ft_kept.specs.Repairs.{CanCome}
@@ -32,7 +33,7 @@ use Rattle.ft_pairs.specs.declared.role.Role.TheVariants.{Saves}
 use Rattle.ft_pairs.specs.declared.role.Variable.{Variable}
 use Rattle.ft_kept.proofs.Decided.{at_decided, decided, itself, key_decided, untied}
 use Rattle.ft_kept.proofs.Following.{none_outside, other_follows, own_follows}
-use Rattle.ft_kept.proofs.Forms.{admits_by, edited, hits_by, ops_by, role_at, same_admits, same_ops}
+use Rattle.ft_kept.proofs.Forms.{made_with, admits_by, edited, hits_by, ops_by, role_at, same_admits, same_ops}
 use Rattle.ft_kept.proofs.Owing.{one_act_right, op_absent, op_elsewhere, op_none}
 use Rattle.ft_kept.proofs.Putting.{absent_hits, absent_read, one_comes, put_here, put_right, put_stays, values_there}
 
@@ -52,9 +53,9 @@ module _ (triggers : FinMap nat_cmp Hist) (lanes : Lanes) (old : Shelves) (at : 
   ops_old k q = ops_by old at.trigger (Some shelf) was k q
 
   module _ (can : CanCome triggers lanes at (Some (key, event)) old) where
-    pub saver_free : map.get shelf.table.hits (record { pos = at.pos; key = key }) ≡ None
+    pub saver_free : map.get shelf.table.hits (record { spot = traced at.pos; key = key }) ≡ None
     saver_free =
-        sym (hits_by old at.trigger (Some shelf) was (record { pos = at.pos; key = key }))
+        sym (hits_by old at.trigger (Some shelf) was (record { spot = traced at.pos; key = key }))
         ∙ absent_hits (role_on old) (values_by triggers) (admits_on old) can.before (kept_on old) can.kept at can.comes.absent key
 
     pub saver_unsaved : ops_of shelf.ops key at ≡ None
@@ -77,10 +78,14 @@ saver_told values ops q (Some b) hits read e k = inr (b, values q.trigger q.pos 
 module _ (triggers : FinMap nat_cmp Hist) (lanes : Lanes) (old new : Shelves) (at : At) (shelf after : Shelved) (was : map.get old at.trigger ≡ Some shelf) (is : map.get new at.trigger ≡ Some after)
     (others : (i : ℕ) → (i ≡ at.trigger → ⊥) → map.get new i ≡ map.get old i) (key : List Part) (event : Traced) (hist : Hist) (attached : map.get triggers at.trigger ≡ Some hist)
     (saves : role_on old at.trigger ≡ Saves)
-    (follows : HitFollows at.trigger (record { pos = at.pos; key = key }) (values_at hist at.pos event None) shelf after) where
+    (follows : HitFollows at.trigger (record { spot = traced at.pos; key = key }) (values_at hist at.pos event None) shelf after) where
   -- its shelf keeps its form
   pub saver_forms : FormsStay old new
-  saver_forms = edited old new at.trigger shelf after was is others (record { role = follows.role; size = ap (λ t. t.size) follows.table })
+  saver_forms = edited old new at.trigger shelf after was is others (record {
+    role = follows.role;
+    size = ap (λ t. t.size) follows.table;
+    made = λ m made. ap (λ (t : Tabled). map.get t.hits m) follows.table ∙ made_with shelf.table.hits at.pos key (values_at hist at.pos event None) m made;
+  })
 
   pub admits_new : (k : List Part) → admits_on new at.trigger k ≡ is_in after.table k
   admits_new k = admits_by new at.trigger (Some after) is k ∙ ap (λ r. is_saver r && is_in after.table k) (follows.role ∙ shelf_saves triggers lanes old at shelf was key event saves)
@@ -103,15 +108,15 @@ module _ (triggers : FinMap nat_cmp Hist) (lanes : Lanes) (old new : Shelves) (a
     worth = values_at hist at.pos event None
 
     -- hits and acts of the saver tell of each other
-    told : (k : List Part) (p : Pos) → ((acts (record { pos = p; trigger = at.trigger }) ≡ None) × (map.get after.table.hits (record { pos = p; key = k }) ≡ None))
-        ⊎ ((b : List Part × Traced) × (v : List ℤ) × ((acts (record { pos = p; trigger = at.trigger }) ≡ Some b) × (map.get after.table.hits (record { pos = p; key = k }) ≡ one_hit b.0 (Some v) k)))
+    told : (k : List Part) (p : Pos) → ((acts (record { pos = p; trigger = at.trigger }) ≡ None) × (map.get after.table.hits (record { spot = traced p; key = k }) ≡ None))
+        ⊎ ((b : List Part × Traced) × (v : List ℤ) × ((acts (record { pos = p; trigger = at.trigger }) ≡ Some b) × (map.get after.table.hits (record { spot = traced p; key = k }) ≡ one_hit b.0 (Some v) k)))
     told k p = elim (at_decided (record { pos = p; trigger = at.trigger }) at) [
       | inl own ↦ inr (
         (key, event),
         values_at hist at.pos event None,
         (
           ap acts own ∙ comes.here,
-          sym (hits_by new at.trigger (Some after) is (record { pos = p; key = k })) ∙ ap (λ (x : At). (kept_on new).hits at.trigger (record { pos = x.pos; key = k })) own
+          sym (hits_by new at.trigger (Some after) is (record { spot = traced p; key = k })) ∙ ap (λ (x : At). (kept_on new).hits at.trigger (record { spot = traced x.pos; key = k })) own
               ∙ put_here old new at shelf after was is others key (values_at hist at.pos event None) follows.table follows.readings none_here k,
         ),
       )
@@ -121,9 +126,9 @@ module _ (triggers : FinMap nat_cmp Hist) (lanes : Lanes) (old new : Shelves) (a
       ]
     ]
       where
-        same : ((record { pos = p; trigger = at.trigger }) ≡ at → ⊥) → map.get after.table.hits (record { pos = p; key = k }) ≡ hits_here (kept_on old) (record { pos = p; trigger = at.trigger }) k
+        same : ((record { pos = p; trigger = at.trigger }) ≡ at → ⊥) → map.get after.table.hits (record { spot = traced p; key = k }) ≡ hits_here (kept_on old) (record { pos = p; trigger = at.trigger }) k
         same apart =
-            sym (hits_by new at.trigger (Some after) is (record { pos = p; key = k }))
+            sym (hits_by new at.trigger (Some after) is (record { spot = traced p; key = k }))
             ∙ (put_stays old new at shelf after was is others key (values_at hist at.pos event None) follows.table follows.readings (record { pos = p; trigger = at.trigger }) apart).0 k
 
         before_told : ((before (record { pos = p; trigger = at.trigger }) ≡ None) × (hits_here (kept_on old) (record { pos = p; trigger = at.trigger }) k ≡ None)) ⊎ ((b : List Part × Traced) × (v : List ℤ) × ((before (record { pos = p; trigger = at.trigger }) ≡ Some b) × (hits_here (kept_on old) (record { pos = p; trigger = at.trigger }) k ≡ one_hit b.0 (Some v) k)))
@@ -139,9 +144,9 @@ module _ (triggers : FinMap nat_cmp Hist) (lanes : Lanes) (old new : Shelves) (a
     own_ops k q =
         ops_by new at.trigger (Some after) is k q
         ∙ follows.ops k q
-        ∙ ap (λ (f : Ops). followed shelf.table after.table at.trigger (record { pos = at.pos; key = key }) k f q) (early_ops k)
+        ∙ ap (λ (f : Ops). followed shelf.table after.table at.trigger (record { spot = traced at.pos; key = key }) k f q) (early_ops k)
         ∙ elim (key_decided k key) [
-          | inl own ↦ subst (λ x. followed shelf.table after.table at.trigger (record { pos = at.pos; key = key }) x (op_of (role_on old) (admits_on old) before (record { saver = at.trigger; key = x })) q
+          | inl own ↦ subst (λ x. followed shelf.table after.table at.trigger (record { spot = traced at.pos; key = key }) x (op_of (role_on old) (admits_on old) before (record { saver = at.trigger; key = x })) q
               ≡ op_of (role_on old) (admits_on new) acts (record { saver = at.trigger; key = x }) q) (sym own)
               (ap (λ (b : Bool). (if b then switched_with (is_in shelf.table key) (is_in after.table key) after.table.hits at key (op_of (role_on old) (admits_on old) before (record { saver = at.trigger; key = key }))
               else switched (is_in shelf.table key) (is_in after.table key) after.table.hits at.trigger key (op_of (role_on old) (admits_on old) before (record { saver = at.trigger; key = key }))) q) (itself key_cmp_total key)

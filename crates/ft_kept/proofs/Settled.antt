@@ -22,15 +22,16 @@ use Rattle.ft_pairs.specs.declared.at.At.{At}
 use Rattle.ft_table.specs.Hits.{same_key}
 use Rattle.ft_table.specs.Marks.{mark_cmp_total, mark_same}
 use Rattle.ft_table.specs.declared.mark.Mark.{Mark}
+use Rattle.ft_table.specs.Spots.{traced}
 use Rattle.ft_kept.specs.Entries.{HitsHere, hits_here, read_here, one_hit, IsEntry, IsOwn}
 use Rattle.ft_kept.specs.inner.Edits.{StaysBut}
 use Rattle.ft_kept.specs.Repairs.{AreShelved}
-use Rattle.ft_kept.specs.Shelves.{Shelved, Shelves, role_on, kept_on}
+use Rattle.ft_kept.specs.Shelves.{MadeStay, Shelved, Shelves, role_on, kept_on}
 use Rattle.ft_kept.specs.inner.Edits.{ReadersChange, with_hit_on, without_hit_on}
 use Rattle.ft_table.specs.Values.{ValuesBy, values_by, values_at}
 use Rattle.ft_pairs.specs.declared.role.Role.TheVariants.{Reads}
 use Rattle.ft_pairs.specs.declared.role.Variable.{Variable}
-use Rattle.ft_kept.proofs.Forms.{by_id, role_at, hits_by, read_by, same_hits, same_read, edited_reader, readers_ops}
+use Rattle.ft_kept.proofs.Forms.{made_without, made_with, by_id, role_at, hits_by, read_by, same_hits, same_read, edited_reader, readers_ops}
 use Rattle.ft_kept.proofs.Paid.{own_same, agreed_source}
 
 -- ---- a reader's entry
@@ -59,15 +60,15 @@ module _ (values : ValuesBy) (ops : Variable → Ops) (at : At) (saver : ℕ) (k
 
 module _ (pos : Pos) (key : List Part) (shelf : Shelved) where
   abbrev pub cleared : Shelved
-  cleared = without_hit_on (record { pos = pos; key = key }) shelf
+  cleared = without_hit_on (record { spot = traced pos; key = key }) shelf
 
-  pub cleared_hit : (event : Traced) → IsOwn (Some (key, event)) (λ k. map.get shelf.table.hits (record { pos = pos; key = k })) → (k : List Part) → map.get cleared.table.hits (record { pos = pos; key = k }) ≡ None
-  cleared_hit event own k = elim (same_key k key) as (λ b. same_key k key ≡ b → map.get cleared.table.hits (record { pos = pos; key = k }) ≡ None) [
+  pub cleared_hit : (event : Traced) → IsOwn (Some (key, event)) (λ k. map.get shelf.table.hits (record { spot = traced pos; key = k })) → (k : List Part) → map.get cleared.table.hits (record { spot = traced pos; key = k }) ≡ None
+  cleared_hit event own k = elim (same_key k key) as (λ b. same_key k key ≡ b → map.get cleared.table.hits (record { spot = traced pos; key = k }) ≡ None) [
     | true ↦ λ tie.
-        ap (λ other. map.get cleared.table.hits (record { pos = pos; key = other })) (same_from_tie key_same k key tie)
-        ∙ get-remove_same mark_cmp_total shelf.table.hits (record { pos = pos; key = key })
+        ap (λ other. map.get cleared.table.hits (record { spot = traced pos; key = other })) (same_from_tie key_same k key tie)
+        ∙ get-remove_same mark_cmp_total shelf.table.hits (record { spot = traced pos; key = key })
     | false ↦ λ apart.
-        get-remove_other mark_cmp_total mark_same shelf.table.hits (record { pos = pos; key = key }) (record { pos = pos; key = k })
+        get-remove_other mark_cmp_total mark_same shelf.table.hits (record { spot = traced pos; key = key }) (record { spot = traced pos; key = k })
         (λ same. other_key k apart (ap (λ (m : Mark). m.key) same))
         ∙ elim (own k) [
           | inl none ↦ none
@@ -81,23 +82,26 @@ module _ (pos : Pos) (key : List Part) (shelf : Shelved) where
   pub cleared_read : map.get cleared.readings pos ≡ None
   cleared_read = get-remove_same pos_cmp_total shelf.readings pos
 
-  pub cleared_others : (mark : Mark) → (mark.pos ≡ pos → ⊥) → map.get cleared.table.hits mark ≡ map.get shelf.table.hits mark
-  cleared_others mark other = get-remove_other mark_cmp_total mark_same shelf.table.hits (record { pos = pos; key = key }) mark (λ same. other (ap (λ (m : Mark). m.pos) same))
+  pub cleared_others : (mark : Mark) → (mark.spot.pos ≡ pos → ⊥) → map.get cleared.table.hits mark ≡ map.get shelf.table.hits mark
+  cleared_others mark other = get-remove_other mark_cmp_total mark_same shelf.table.hits (record { spot = traced pos; key = key }) mark (λ same. other (ap (λ (m : Mark). m.spot.pos) same))
+
+  pub cleared_made : MadeStay shelf.table.hits cleared.table.hits
+  cleared_made = made_without shelf.table.hits pos key
 
   pub cleared_readings : (p : Pos) → (p ≡ pos → ⊥) → map.get cleared.readings p ≡ map.get shelf.readings p
   cleared_readings p other = get-remove_other pos_cmp_total pos_same shelf.readings pos p other
 
   module _ (values : List ℤ) (saved : Pos) where
     abbrev pub filled : Shelved
-    filled = with_hit_on (record { pos = pos; key = key }) values (Some saved) cleared
+    filled = with_hit_on (record { spot = traced pos; key = key }) values (Some saved) cleared
 
-    pub filled_hit : (event : Traced) → IsOwn (Some (key, event)) (λ k. map.get shelf.table.hits (record { pos = pos; key = k })) → (k : List Part) → map.get filled.table.hits (record { pos = pos; key = k }) ≡ one_hit key (Some values) k
-    filled_hit event own k = elim (same_key k key) as (λ b. same_key k key ≡ b → map.get filled.table.hits (record { pos = pos; key = k }) ≡ cond b (Some values) None) [
+    pub filled_hit : (event : Traced) → IsOwn (Some (key, event)) (λ k. map.get shelf.table.hits (record { spot = traced pos; key = k })) → (k : List Part) → map.get filled.table.hits (record { spot = traced pos; key = k }) ≡ one_hit key (Some values) k
+    filled_hit event own k = elim (same_key k key) as (λ b. same_key k key ≡ b → map.get filled.table.hits (record { spot = traced pos; key = k }) ≡ cond b (Some values) None) [
       | true ↦ λ tie.
-          ap (λ other. map.get filled.table.hits (record { pos = pos; key = other })) (same_from_tie key_same k key tie)
-          ∙ get-insert_same mark_cmp_total cleared.table.hits (record { pos = pos; key = key }) values
+          ap (λ other. map.get filled.table.hits (record { spot = traced pos; key = other })) (same_from_tie key_same k key tie)
+          ∙ get-insert_same mark_cmp_total cleared.table.hits (record { spot = traced pos; key = key }) values
       | false ↦ λ apart.
-          get-insert_other mark_cmp_total mark_same cleared.table.hits (record { pos = pos; key = key }) values (record { pos = pos; key = k })
+          get-insert_other mark_cmp_total mark_same cleared.table.hits (record { spot = traced pos; key = key }) values (record { spot = traced pos; key = k })
           (λ same. true≢false (sym ((eq_by_cmp_equiv key_cmp_total).refl key) ∙ ap (λ other. same_key other key) (sym (ap (λ (m : Mark). m.key) same)) ∙ apart))
           ∙ cleared_hit event own k
     ] refl
@@ -105,10 +109,13 @@ module _ (pos : Pos) (key : List Part) (shelf : Shelved) where
     pub filled_read : map.get filled.readings pos ≡ Some saved
     filled_read = get-insert_same pos_cmp_total cleared.readings pos saved
 
-    pub filled_others : (mark : Mark) → (mark.pos ≡ pos → ⊥) → map.get filled.table.hits mark ≡ map.get shelf.table.hits mark
+    pub filled_others : (mark : Mark) → (mark.spot.pos ≡ pos → ⊥) → map.get filled.table.hits mark ≡ map.get shelf.table.hits mark
     filled_others mark other =
-        get-insert_other mark_cmp_total mark_same cleared.table.hits (record { pos = pos; key = key }) values mark (λ same. other (ap (λ (m : Mark). m.pos) same))
+        get-insert_other mark_cmp_total mark_same cleared.table.hits (record { spot = traced pos; key = key }) values mark (λ same. other (ap (λ (m : Mark). m.spot.pos) same))
         ∙ cleared_others mark other
+
+    pub filled_made : MadeStay shelf.table.hits filled.table.hits
+    filled_made m made = made_with cleared.table.hits pos key values m made ∙ cleared_made m made
 
     pub filled_readings : (p : Pos) → (p ≡ pos → ⊥) → map.get filled.readings p ≡ map.get shelf.readings p
     filled_readings p other = get-insert_other pos_cmp_total pos_same cleared.readings pos saved p other ∙ cleared_readings p other
@@ -128,35 +135,35 @@ module _ (old new : Shelves) (at : At) (shelf after : Shelved) (was : map.get ol
   elsewhere : (i : ℕ) → (i ≡ at.trigger → ⊥) → map.get new i ≡ map.get old i
   elsewhere i other = ap (λ (shelves : Shelves). map.get shelves i) is ∙ get-insert_other nat_cmp_total exact_unsigned old at.trigger after i other
 
-  pub written_readers : (saver : ℕ) → shelf.role ≡ Reads saver → after.role ≡ shelf.role → after.table.size ≡ shelf.table.size → after.ops ≡ shelf.ops → ReadersChange old new
-  written_readers saver reads role size ops = edited_reader old new at.trigger shelf after was there elsewhere saver reads (record { role = role; size = size }) ops
+  pub written_readers : (saver : ℕ) → shelf.role ≡ Reads saver → after.role ≡ shelf.role → after.table.size ≡ shelf.table.size → MadeStay shelf.table.hits after.table.hits → after.ops ≡ shelf.ops → ReadersChange old new
+  written_readers saver reads role size made ops = edited_reader old new at.trigger shelf after was there elsewhere saver reads (record { role = role; size = size; made = made }) ops
 
   abbrev Stays : At → Type 0
   Stays q = ((key : List Part) → hits_here (kept_on new) q key ≡ hits_here (kept_on old) q key) × (read_here (kept_on new) q ≡ read_here (kept_on old) q)
 
-  pub written_others : ((mark : Mark) → (mark.pos ≡ at.pos → ⊥) → map.get after.table.hits mark ≡ map.get shelf.table.hits mark)
+  pub written_others : ((mark : Mark) → (mark.spot.pos ≡ at.pos → ⊥) → map.get after.table.hits mark ≡ map.get shelf.table.hits mark)
       → ((p : Pos) → (p ≡ at.pos → ⊥) → map.get after.readings p ≡ map.get shelf.readings p) → StaysBut at (kept_on old) (kept_on new)
   written_others hits readings q other = by_id (λ i. (i ≡ q.trigger) → Stays q) at.trigger
       (λ here.
       let own : q.pos ≡ at.pos → ⊥ = λ same. other (λ i. record { pos = same i; trigger = sym here i }) in
       let now : map.get new q.trigger ≡ Some after = ap (map.get new) (sym here) ∙ there in
       let before : map.get old q.trigger ≡ Some shelf = ap (map.get old) (sym here) ∙ was in (
-        λ key. hits_by new q.trigger (Some after) now (record { pos = q.pos; key = key }) ∙ hits (record { pos = q.pos; key = key }) own ∙ sym (hits_by old q.trigger (Some shelf) before (record { pos = q.pos; key = key })),
+        λ key. hits_by new q.trigger (Some after) now (record { spot = traced q.pos; key = key }) ∙ hits (record { spot = traced q.pos; key = key }) own ∙ sym (hits_by old q.trigger (Some shelf) before (record { spot = traced q.pos; key = key })),
         read_by new q.trigger (Some after) now q.pos ∙ readings q.pos own ∙ sym (read_by old q.trigger (Some shelf) before q.pos),
       ))
       (λ i far here. let same : map.get new q.trigger ≡ map.get old q.trigger = elsewhere q.trigger (λ e. far (here ∙ e)) in
-      (λ key. same_hits old new q.trigger same (record { pos = q.pos; key = key }), same_read old new q.trigger same q.pos))
+      (λ key. same_hits old new q.trigger same (record { spot = traced q.pos; key = key }), same_read old new q.trigger same q.pos))
       q.trigger refl
 
   -- what is kept there is what the shelf has
-  pub written_hits : (key : List Part) → hits_here (kept_on new) at key ≡ map.get after.table.hits (record { pos = at.pos; key = key })
-  written_hits key = hits_by new at.trigger (Some after) there (record { pos = at.pos; key = key })
+  pub written_hits : (key : List Part) → hits_here (kept_on new) at key ≡ map.get after.table.hits (record { spot = traced at.pos; key = key })
+  written_hits key = hits_by new at.trigger (Some after) there (record { spot = traced at.pos; key = key })
 
   pub written_read : read_here (kept_on new) at ≡ map.get after.readings at.pos
   written_read = read_by new at.trigger (Some after) there at.pos
 
-  pub old_hits : (key : List Part) → map.get shelf.table.hits (record { pos = at.pos; key = key }) ≡ hits_here (kept_on old) at key
-  old_hits key = sym (hits_by old at.trigger (Some shelf) was (record { pos = at.pos; key = key }))
+  pub old_hits : (key : List Part) → map.get shelf.table.hits (record { spot = traced at.pos; key = key }) ≡ hits_here (kept_on old) at key
+  old_hits key = sym (hits_by old at.trigger (Some shelf) was (record { spot = traced at.pos; key = key }))
 
 -- a trigger that reads has a shelf
 pub reads_shelved : (shelves : Shelves) (id saver : ℕ) → role_on shelves id ≡ Reads saver → map.get shelves id ≡ None → ⊥
@@ -181,8 +188,8 @@ values_there triggers id hist attached pos event saved = ap (λ (o : Option Hist
 
 module _ (values : ValuesBy) (old new : Shelves) (at : At) (saver : ℕ) (key : List Part) (event : Traced) (shelf : Shelved)
     (was : map.get old at.trigger ≡ Some shelf) (reads : role_on old at.trigger ≡ Reads saver) (own : IsOwn (Some (key, event)) (hits_here (kept_on old) at)) where
-  pub shelf_own : IsOwn (Some (key, event)) (λ k. map.get shelf.table.hits (record { pos = at.pos; key = k }))
-  shelf_own = own_same (Some (key, event)) (hits_here (kept_on old) at) (λ k. map.get shelf.table.hits (record { pos = at.pos; key = k })) (old_hits old old at shelf shelf was same) own
+  pub shelf_own : IsOwn (Some (key, event)) (λ k. map.get shelf.table.hits (record { spot = traced at.pos; key = k }))
+  shelf_own = own_same (Some (key, event)) (hits_here (kept_on old) at) (λ k. map.get shelf.table.hits (record { spot = traced at.pos; key = k })) (old_hits old old at shelf shelf was same) own
     where
       same : old ≡ map.insert old at.trigger shelf
       same = sym (insert_same nat_cmp_total exact_unsigned old at.trigger shelf was)
@@ -194,7 +201,7 @@ module _ (values : ValuesBy) (old new : Shelves) (at : At) (saver : ℕ) (key : 
   -- where the reading finds nothing, its hit is taken
   pub settled_unset : new ≡ map.insert old at.trigger (cleared at.pos key shelf) → IsSource ((kept_on old).ops (record { saver = saver; key = key })) at None → IsSettled values at saver key event old new
   settled_unset is source =
-      let readers = written_readers old new at shelf (cleared at.pos key shelf) was is saver (reads_there old at.trigger saver shelf reads was) refl refl refl in
+      let readers = written_readers old new at shelf (cleared at.pos key shelf) was is saver (reads_there old at.trigger saver shelf reads was) refl refl (cleared_made at.pos key shelf) refl in
       record {
         readers = readers;
         others = written_others old new at shelf (cleared at.pos key shelf) was is (cleared_others at.pos key shelf) (cleared_readings at.pos key shelf);
@@ -209,7 +216,7 @@ module _ (values : ValuesBy) (old new : Shelves) (at : At) (saver : ℕ) (key : 
       → IsSource ((kept_on old).ops (record { saver = saver; key = key })) at (Some saved) → IsSettled values at saver key event old new
   settled_set saved added adds is source =
       let after = filled at.pos key shelf added saved.pos in
-      let readers = written_readers old new at shelf after was is saver (reads_there old at.trigger saver shelf reads was) refl refl refl in
+      let readers = written_readers old new at shelf after was is saver (reads_there old at.trigger saver shelf reads was) refl refl (filled_made at.pos key shelf added saved.pos) refl in
       record {
         readers = readers;
         others = written_others old new at shelf after was is (filled_others at.pos key shelf added saved.pos) (filled_readings at.pos key shelf added saved.pos);

@@ -49,13 +49,13 @@ module _ (id : ℕ) (old new : Shelved) where
   brings_other (Some key) h k apart q = h.ops k q ∙ ap (λ b. cond b (switched false (is_in old.table key) old.table.hits id key (ops_of old.ops k) q) (ops_of old.ops k q)) apart
 
 module _ (law : FirstComesIn) (outside : FirstIsOut) (id : ℕ) (m : Mark) (old taken less switch : Shelved) (was : Bool)
-    (takes : taken ≡ without_hit_on m old) (lessens : OpsChange m.key (without_op (record { pos = m.pos; trigger = id })) taken less) (known : was ≡ is_in old.table m.key)
+    (takes : taken ≡ without_hit_on m old) (lessens : OpsChange m.key (without_op (record { pos = m.spot.pos; trigger = id })) taken less) (known : was ≡ is_in old.table m.key)
     (switches : OpsChange m.key (switched was (is_in less.table m.key) less.table.hits id m.key) less switch) where
   abbrev after : Tabled
   after = without_hit old.table m
 
   abbrev at : At
-  at = record { pos = m.pos; trigger = id }
+  at = record { pos = m.spot.pos; trigger = id }
 
   pub less_table : less.table ≡ after
   less_table = lessens.table ∙ ap (λ (s : Shelved). s.table) takes

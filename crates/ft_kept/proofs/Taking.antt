@@ -16,6 +16,7 @@ use Rattle.ft_pairs.specs.declared.at.At.{At}
 use Rattle.ft_table.specs.Marks.{mark_cmp, mark_cmp_total, mark_same}
 use Rattle.ft_table.specs.Tabled.{is_in}
 use Rattle.ft_table.specs.declared.mark.Mark.{Mark}
+use Rattle.ft_table.specs.Spots.{traced}
 use Rattle.ft_kept.specs.Acts.{Acts, AreHeld, Comes, op_of}
 use Rattle.ft_kept.specs.inner.OneAct.{IsOneAct}
 use Rattle.ft_kept.specs.Entries.{IsEntry, IsKept, IsOwn, IsRight, hits_here, read_here}
@@ -29,7 +30,7 @@ use Rattle.ft_pairs.specs.declared.role.Role.TheVariants.{Plain, Saves, Reads}
 use Rattle.ft_pairs.specs.declared.role.Variable.{Variable}
 use Rattle.ft_kept.proofs.Between.{held_fewer}
 use Rattle.ft_kept.proofs.Decided.{at_decided, decided, itself, untied, variable_decided}
-use Rattle.ft_kept.proofs.Forms.{admits_by, by_id, forms_refl, hits_by, ops_by, read_by, role_at, same_admits, same_hits, same_ops, same_read}
+use Rattle.ft_kept.proofs.Forms.{made_without, admits_by, by_id, forms_refl, hits_by, ops_by, read_by, role_at, same_admits, same_hits, same_ops, same_read}
 use Rattle.ft_kept.proofs.Owing.{op_absent, op_elsewhere, op_none, right_own}
 
 none_either : {X : Type 0} (b : Bool) → None ≡ (if b then None else (let none : Option X = None in none))
@@ -43,9 +44,9 @@ not_saver (Reads saver) other = refl
 
 -- ---- a hit less
 
-module _ (old new : Shelves) (at : At) (key : List Part) (h : ChangesShelf at.trigger (TakesHit (record { pos = at.pos; key = key })) old new) where
+module _ (old new : Shelves) (at : At) (key : List Part) (h : ChangesShelf at.trigger (TakesHit (record { spot = traced at.pos; key = key })) old new) where
   abbrev mark : List Part → Mark
-  mark k = record { pos = at.pos; key = k }
+  mark k = record { spot = traced at.pos; key = k }
 
   -- its shelf keeps its form
   pub take_forms : FormsStay old new
@@ -56,7 +57,17 @@ module _ (old new : Shelves) (at : At) (key : List Part) (h : ChangesShelf at.tr
       here None is = subst (λ s. FormStays s (map.get new at.trigger)) (sym is) (h.none is)
       here (Some shelf) is =
           let after = h.here shelf is in
-          subst (λ s. FormStays s (map.get new at.trigger)) (sym is) (after.0, (after.1.0, record { role = ap (λ s. s.role) after.1.1; size = ap (λ s. s.table.size) after.1.1 }))
+          subst (λ s. FormStays s (map.get new at.trigger)) (sym is) (
+            after.0,
+            (
+              after.1.0,
+              record {
+                role = ap (λ s. s.role) after.1.1;
+                size = ap (λ s. s.table.size) after.1.1;
+                made = λ m made. ap (λ (s : Shelved). map.get s.table.hits m) after.1.1 ∙ made_without shelf.table.hits at.pos key m made;
+              },
+            ),
+          )
 
   -- operations stay
   pub take_ops : (v : Variable) (q : At) → (kept_on new).ops v q ≡ (kept_on old).ops v q
@@ -117,12 +128,12 @@ module _ (old new : Shelves) (at : At) (key : List Part) (h : ChangesShelf at.tr
   -- hits and readings stay at other places
   pub take_stays : StaysBut at (kept_on old) (kept_on new)
   take_stays q apart = elim (decided nat_cmp_total nat_cmp-IsAntisymmetric q.trigger at.trigger) [
-    | inl same ↦ subst (λ i. ((k : List Part) → (kept_on new).hits i (record { pos = q.pos; key = k }) ≡ (kept_on old).hits i (record { pos = q.pos; key = k })) × ((kept_on new).read i q.pos ≡ (kept_on old).read i q.pos)) (sym same) (
-      λ k. take_hits (record { pos = q.pos; key = k }) ∙ ap (λ b. if b then None else (kept_on old).hits at.trigger (record { pos = q.pos; key = k }))
-          (untied mark_cmp_total mark_same (record { pos = q.pos; key = k }) (mark key) (λ e. apart (λ i. record { pos = (e i).pos; trigger = same i }))),
+    | inl same ↦ subst (λ i. ((k : List Part) → (kept_on new).hits i (record { spot = traced q.pos; key = k }) ≡ (kept_on old).hits i (record { spot = traced q.pos; key = k })) × ((kept_on new).read i q.pos ≡ (kept_on old).read i q.pos)) (sym same) (
+      λ k. take_hits (record { spot = traced q.pos; key = k }) ∙ ap (λ b. if b then None else (kept_on old).hits at.trigger (record { spot = traced q.pos; key = k }))
+          (untied mark_cmp_total mark_same (record { spot = traced q.pos; key = k }) (mark key) (λ e. apart (λ i. record { pos = (e i).spot.pos; trigger = same i }))),
       take_reads q.pos ∙ ap (λ b. if b then None else (kept_on old).read at.trigger q.pos) (untied pos_cmp_total pos_same q.pos at.pos (λ e. apart (λ i. record { pos = e i; trigger = same i }))),
     )
-    | inr other ↦ (λ k. same_hits old new q.trigger (h.others q.trigger other) (record { pos = q.pos; key = k }), same_read old new q.trigger (h.others q.trigger other) q.pos)
+    | inr other ↦ (λ k. same_hits old new q.trigger (h.others q.trigger other) (record { spot = traced q.pos; key = k }), same_read old new q.trigger (h.others q.trigger other) q.pos)
   ]
 
   -- at its own place nothing is left

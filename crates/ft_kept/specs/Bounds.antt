@@ -10,6 +10,7 @@ use Rattle.ft_hist.specs.Hist.{Hist}
 use Rattle.ft_hist.specs.Hit.{hit}
 use Rattle.ft_table.specs.Growth.{with_hit}
 use Rattle.ft_table.specs.OneKey.{without_hit}
+use Rattle.ft_table.specs.Spots.{traced}
 use Rattle.ft_table.specs.Tabled.{Tabled, is_in}
 use Rattle.ft_table.specs.Values.{values_at}
 use Rattle.ft_pairs.specs.declared.role.Role.TheVariants.{Saves}
@@ -22,11 +23,11 @@ TableEdit = Hist → Tabled → Tabled
 
 -- a saver's table as an event comes: with its hit, if it is one (kernel: histogram.rst, hist triggers)
 abbrev pub with_hit_of : Pos → Traced → TableEdit
-with_hit_of pos event hist table = option_map_or (λ key. with_hit table (record { pos = pos; key = key }) (values_at hist pos event None)) (hit hist event) table
+with_hit_of pos event hist table = option_map_or (λ key. with_hit table (record { spot = traced pos; key = key }) (values_at hist pos event None)) (hit hist event) table
 
 -- a table as an event goes: without its hit, if it was one (kernel: histogram.rst, hist triggers)
 abbrev pub without_hit_of : Pos → Traced → TableEdit
-without_hit_of pos event hist table = option_map_or (λ key. without_hit table (record { pos = pos; key = key })) (hit hist event) table
+without_hit_of pos event hist table = option_map_or (λ key. without_hit table (record { spot = traced pos; key = key })) (hit hist event) table
 
 -- a trigger's table, where it has a shelf (our own choice)
 abbrev pub table_on : Shelves → ℕ → Option Tabled

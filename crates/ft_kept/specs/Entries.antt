@@ -6,6 +6,7 @@ use Rattle.ft_keys.specs.declared.key.Part.{Part}
 use Rattle.ft_pairs.specs.Source.{Ops, IsSource}
 use Rattle.ft_pairs.specs.declared.at.At.{At}
 use Rattle.ft_table.specs.Hits.{same_key}
+use Rattle.ft_table.specs.Spots.{traced}
 use Rattle.ft_pairs.specs.Roles.{Admits}
 use Rattle.ft_table.specs.Values.{ValuesBy}
 use Rattle.ft_pairs.specs.declared.role.Role.{Role}
@@ -20,7 +21,7 @@ HitsHere = List Part → Option (List ℤ)
 
 -- the hits of the trigger at a place, by key (our own choice)
 abbrev pub hits_here : Kept → At → HitsHere
-hits_here kept at key = kept.hits at.trigger (record { pos = at.pos; key = key })
+hits_here kept at key = kept.hits at.trigger (record { spot = traced at.pos; key = key })
 
 -- what the trigger's reading at a place found (our own choice)
 abbrev pub read_here : Kept → At → Option Pos

@@ -14,6 +14,8 @@ use Rattle.ft_pairs.specs.Codes.{by_key_code}
 use Rattle.ft_pairs.specs.Source.{Ops}
 use Rattle.ft_pairs.specs.declared.at.At.{At}
 use Rattle.ft_table.specs.Codes.{tabled_code}
+use Rattle.ft_table.specs.Hits.{Hits}
+use Rattle.ft_table.specs.Spots.{IsMade}
 use Rattle.ft_table.specs.Tabled.{Tabled, is_in}
 use Rattle.ft_table.specs.declared.mark.Mark.{Mark}
 use Rattle.ft_pairs.specs.Roles.{Admits}
@@ -58,7 +60,7 @@ is_saver other = false
 unfoldable pub admits_on : Shelves → Admits
 admits_on shelves id key = option_map_or (λ shelf. is_saver shelf.role && is_in shelf.table key) (map.get shelves id) false
 
--- what is kept: what each hit adds, by trigger, place and key; the operations on each variable; and the place of the saving that each reading found (our own choice)
+-- what is kept: what each hit adds, by trigger, spot and key; the operations on each variable; and the place of the saving that each reading found (our own choice)
 pub record Kept : Type 0 where
   pub hits : ℕ → Mark → Option (List ℤ)
   pub ops : Variable → Ops
@@ -74,10 +76,15 @@ kept_on shelves = record {
 
 -- ---- what stays, while hits and operations change
 
--- a shelf keeps its role and its size (our own choice)
+-- the hits of events that triggers made stay (our own choice)
+abbrev pub MadeStay : Hits → Hits → Type 0
+MadeStay old new = (m : Mark) → IsMade m.spot → map.get new m ≡ map.get old m
+
+-- a shelf keeps its role, its size, and the hits of events that triggers made (our own choice)
 pub record KeepsForm (old new : Shelved) : Type 0 where
   pub role : new.role ≡ old.role
   pub size : new.table.size ≡ old.table.size
+  pub made : MadeStay old.table.hits new.table.hits
 
 -- a shelf stays, with its role and its size; where there is none, there is none afterwards (our own choice)
 abbrev pub FormStays : Option Shelved → Option Shelved → Type 0

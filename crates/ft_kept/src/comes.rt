@@ -23,7 +23,7 @@ use ft_hist::{Trigger, Work};
 use ft_lanes::Lanes;
 use ft_maps::entries;
 use ft_pairs::{At, Role, Variable};
-use ft_table::hit_with;
+use ft_table::{Spot, hit_with};
 use std::alloc::AllocError;
 use std::collections::BTreeMap;
 
@@ -122,7 +122,13 @@ fn hit_comes(
     let Some(shelf) = tables.shelves.get_mut(&act.at.trigger) else {
         return Ok(());
     };
-    let hit = hit_with(act.trigger, act.event, act.at.pos, act.key, None);
+    let hit = hit_with(
+        act.trigger,
+        act.event,
+        Spot::traced(act.at.pos),
+        act.key,
+        None,
+    );
     shelf.put_hit(hit, None, work)
 }
 

@@ -21,7 +21,7 @@ use crate::shelf::Shelf;
 use crate::tables::Tables;
 use ft_hist::{Key, Work};
 use ft_pairs::{At, Op};
-use ft_table::{Hit, Table, hit_with, one_key};
+use ft_table::{Hit, Spot, Table, hit_with, one_key};
 use std::alloc::AllocError;
 
 /// A saver's hit comes. Refused for memory.
@@ -59,7 +59,13 @@ fn put_saving(
     ensures evals { work.new.evals ≡ work.old.evals }
     ensures grow { StepsGrow work.old work.new }
 {
-    let hit = hit_with(act.trigger, act.event, act.at.pos, act.key, None);
+    let hit = hit_with(
+        act.trigger,
+        act.event,
+        Spot::traced(act.at.pos),
+        act.key,
+        None,
+    );
     match tables.shelves.get_mut(&act.at.trigger) {
         Some(shelf) => put_saver_hit(shelf, act.at.trigger, hit, work),
         None => Ok(Moved {
@@ -72,18 +78,18 @@ fn put_saving(
 /// Puts a hit on a saver's shelf: each key's operations follow as it comes into the table, goes out
 /// or stays. Answers which keys moved. Refused for memory.
 fn put_saver_hit(shelf: &mut Shelf, id: u32, hit: Hit, work: &mut Work) -> Result<Moved, AllocError>
-    requires free { map.get shelf.old.table.hits (record { pos = hit.pos; key = hit.key }) ≡ None }
-    requires unsaved { ops_of shelf.old.ops hit.key (record { pos = hit.pos; trigger = id })
+    requires free { map.get shelf.old.table.hits (record { spot = hit.spot; key = hit.key }) ≡ None }
+    requires unsaved { ops_of shelf.old.ops hit.key (record { pos = hit.spot.pos; trigger = id })
         ≡ None }
     requires outside { (k : List Part) → is_in shelf.old.table k ≡ false
         → (pos : Pos) → ops_of shelf.old.ops k (record { pos = pos; trigger = id }) ≡ None }
-    ensures follows { OnOk result (HitFollows id (record { pos = hit.pos; key = hit.key }) hit.values
+    ensures follows { OnOk result (HitFollows id (record { spot = hit.spot; key = hit.key }) hit.values
         shelf.old shelf.new) }
     ensures moved { IfOk result (λ moved. MovesKeys hit.key moved
         (is_in shelf.old.table) (is_in shelf.new.table)) }
     ensures puts { (work.new.puts ≤ work.old.puts + 2)
         ⊎ HasMoved (is_in shelf.old.table) (is_in
-        (with_hit shelf.old.table (record { pos = hit.pos; key = hit.key }) hit.values)) }
+        (with_hit shelf.old.table (record { spot = hit.spot; key = hit.key }) hit.values)) }
     ensures evals { work.new.evals ≡ work.old.evals }
     ensures grow { StepsGrow work.old work.new }
 {
@@ -91,7 +97,7 @@ fn put_saver_hit(shelf: &mut Shelf, id: u32, hit: Hit, work: &mut Work) -> Resul
     one_key();
     let key = hit.key;
     let at = At {
-        pos: hit.pos,
+        pos: hit.spot.pos,
         trigger: id,
     };
     let was_in = shelf.table().is_in(&key);

@@ -7,6 +7,7 @@ ghost use Rattle.ft_keys.specs.declared.key.Part.{Part};
 ghost use Rattle.ft_pairs.specs.ByKey.{ops_of};
 ghost use Rattle.ft_pairs.specs.declared.role.Role.TheVariants.{Saves};
 ghost use Rattle.ft_table.specs.OneKey.{without_hit};
+ghost use Rattle.ft_table.specs.Spots.{traced};
 ghost use Rattle.ft_table.specs.Tabled.{is_in};
 ghost use Rattle.ft_kept.specs.Bounds.{TableMoves};
 ghost use Rattle.ft_kept.specs.Shelves.{role_on};
@@ -72,13 +73,13 @@ fn take_saving(
 fn take_saver_hit(shelf: &mut Shelf, key: Key, at: At, work: &mut Work) -> Result<Moved, AllocError>
     requires { (k : List Part) → is_in shelf.old.table k ≡ false → (pos : Pos)
         → ops_of shelf.old.ops k (record { pos = pos; trigger = at.trigger }) ≡ None }
-    ensures follows { OnOk result (HitLessFollows at.trigger (record { pos = at.pos; key = key })
+    ensures follows { OnOk result (HitLessFollows at.trigger (record { spot = traced at.pos; key = key })
         shelf.old shelf.new) }
     ensures moved { IfOk result (λ moved. MovesKeys key moved
         (is_in shelf.old.table) (is_in shelf.new.table)) }
     ensures puts { (work.new.puts ≤ work.old.puts)
         ⊎ HasMoved (is_in shelf.old.table)
-        (is_in (without_hit shelf.old.table (record { pos = at.pos; key = key }))) }
+        (is_in (without_hit shelf.old.table (record { spot = traced at.pos; key = key }))) }
     ensures evals { work.new.evals ≡ work.old.evals }
     ensures grow { StepsGrow work.old work.new }
 {

@@ -19,7 +19,7 @@ use crate::tables::Tables;
 use ft_fields::Event;
 use ft_hist::Work;
 use ft_pairs::{At, Op, Variable, one_next};
-use ft_table::hit_with;
+use ft_table::{Spot, hit_with};
 use std::alloc::AllocError;
 
 /// Makes the reading of a key at a place right. Refused for memory.
@@ -57,7 +57,7 @@ pub(crate) fn settle(
         Some(saved) => {
             let read = Some(saved.pos);
             shelf.put_hit(
-                hit_with(trigger, event, at.pos, variable.key, read),
+                hit_with(trigger, event, Spot::traced(at.pos), variable.key, read),
                 read,
                 work,
             )

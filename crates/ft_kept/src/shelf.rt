@@ -6,22 +6,23 @@ ghost use Rattle.ft_fields.specs.Places.{pos_cmp};
 ghost use Rattle.ft_fields.specs.declared.pos.Pos.{Pos};
 ghost use Rattle.ft_keys.specs.declared.key.Part.{Part};
 ghost use Rattle.ft_maps.specs.Seen.{seen};
-ghost use Rattle.ft_pairs.specs.ByKey.{ops_of, ops_left};
+ghost use Rattle.ft_pairs.specs.ByKey.{ChangesKey, ops_of, ops_left};
 ghost use Rattle.ft_pairs.specs.Edits.{with_op, without_op, reads_alone};
 ghost use Rattle.ft_pairs.specs.Next.{IsNext};
 ghost use Rattle.ft_pairs.specs.Source.{IsSource};
 ghost use Rattle.ft_pairs.specs.declared.at.At.{At};
+ghost use Rattle.ft_table.specs.Spots.{traced};
 ghost use Rattle.ft_table.specs.Tabled.{is_in};
 ghost use Rattle.ft_hist.specs.Steps.{StepsGrow};
 ghost use Rattle.ft_kept.specs.Shelves.{IsNewShelf};
 ghost use Rattle.ft_kept.specs.inner.Edits.{OpsChange, with_hit_on, without_hit_on};
-ghost use Rattle.ft_kept.specs.inner.Following.{with_saves, switched};
+ghost use Rattle.ft_kept.specs.inner.Following.{with_save, with_saves, switched};
 
 use ft_fields::Pos;
 use ft_hist::{Key, Work};
 use ft_maps::{put, take};
 use ft_pairs::{At, Op, Pairs, Role};
-use ft_table::{Hit, Table};
+use ft_table::{Hit, Spot, Table};
 use std::alloc::{AllocError, Global};
 use std::collections::BTreeMap;
 use std::marker::Model;
@@ -113,24 +114,25 @@ impl Shelf {
         read: Option<Pos>,
         work: &mut Work,
     ) -> Result<(), AllocError>
-        requires { map.get self.old.table.hits (record { pos = hit.pos; key = hit.key }) ≡ None }
+        requires { map.get self.old.table.hits (record { spot = hit.spot; key = hit.key }) ≡ None }
         ensures ok { OnOk result (self.new
-            ≡ with_hit_on (record { pos = hit.pos; key = hit.key }) hit.values read self.old) }
+            ≡ with_hit_on (record { spot = hit.spot; key = hit.key }) hit.values read self.old) }
         ensures puts { work.new.puts ≤ work.old.puts + 1 }
         ensures evals { work.new.evals ≡ work.old.evals }
         ensures grow { StepsGrow work.old work.new }
     {
         if let Some(saved) = read {
-            put(&mut self.readings, hit.pos, saved)?;
+            put(&mut self.readings, hit.spot.pos, saved)?;
         }
         self.table.insert(hit, work)
     }
 
-    /// Takes what stands at a place: the hit under a key, and what the reading there found.
+    /// Takes what stands at a place: the hit of the event there under a key, and what the reading
+    /// there found.
     pub(crate) fn take_hit(&mut self, pos: Pos, key: Key)
-        ensures { self.new ≡ without_hit_on (record { pos = pos; key = key }) self.old }
+        ensures { self.new ≡ without_hit_on (record { spot = traced pos; key = key }) self.old }
     {
-        self.table.remove(pos, key);
+        self.table.remove(Spot::traced(pos), key);
         take(&mut self.readings, &pos);
     }
 
@@ -203,13 +205,33 @@ impl Shelf {
     {
         let mut next = self.table.hit_after(&key, None);
         while let Some(hit) = next {
-            let at = At {
-                pos: hit.pos,
-                trigger: id,
-            };
-            self.pairs.insert(key, at, Op::Save, work)?;
-            next = self.table.hit_after(&key, Some(hit.pos));
+            put_save(&mut self.pairs, id, key, hit.spot, work)?;
+            next = self.table.hit_after(&key, Some(hit.spot));
         }
         Ok(())
     }
+}
+
+/// Puts a save of a saver at a hit of a key, where none stands yet, if the hit is of an event of
+/// the trace: no other saves. Refused for memory.
+fn put_save(
+    pairs: &mut Pairs,
+    id: u32,
+    key: Key,
+    spot: Spot,
+    work: &mut Work,
+) -> Result<(), AllocError>
+    requires { spot.maker ≡ 0 → ops_of pairs.old key (record { pos = spot.pos; trigger = id }) ≡ None }
+    ensures ok { OnOk result (ChangesKey key (with_save id spot) pairs.old pairs.new) }
+    ensures evals { work.new.evals ≡ work.old.evals }
+    ensures grow { StepsGrow work.old work.new }
+{
+    if spot.maker != 0 {
+        return Ok(());
+    }
+    let at = At {
+        pos: spot.pos,
+        trigger: id,
+    };
+    pairs.insert(key, at, Op::Save, work)
 }

@@ -8,6 +8,7 @@ ghost use Rattle.ft_pairs.specs.Edits.{with_op, without_op};
 ghost use Rattle.ft_pairs.specs.Next.{IsNext};
 ghost use Rattle.ft_pairs.specs.Source.{IsSource};
 ghost use Rattle.ft_pairs.specs.declared.at.Op.TheVariants.{Read};
+ghost use Rattle.ft_table.specs.Spots.{traced};
 ghost use Rattle.ft_kept.specs.Shelves.{AddsShelf, role_on, kept_on};
 ghost use Rattle.ft_kept.specs.inner.Edits.{ChangesShelf, OpsChange, TakesHit, left_on};
 
@@ -141,7 +142,7 @@ impl Tables {
 
     /// Takes the hit of a key at a place away, and what the reading there found, if they are there.
     pub(crate) fn take_hit(&mut self, key: Key, at: At)
-        ensures { ChangesShelf at.trigger (TakesHit (record { pos = at.pos; key = key }))
+        ensures { ChangesShelf at.trigger (TakesHit (record { spot = traced at.pos; key = key }))
             self.old self.new }
     {
         if let Some(shelf) = self.shelves.get_mut(&at.trigger) {

@@ -10,6 +10,7 @@ use Rattle.ft_maps.specs.Seen.{seen}
 use Rattle.ft_pairs.specs.declared.role.Variable.{Variable}
 use Rattle.ft_table.specs.Growth.{with_hit}
 use Rattle.ft_table.specs.OneKey.{without_hit}
+use Rattle.ft_table.specs.Spots.{traced}
 use Rattle.ft_table.specs.Tabled.{Tabled}
 use Rattle.ft_table.specs.Values.{values_at}
 use Rattle.ft_kept.specs.Bounds.{OtherSaversStay, table_on}
@@ -34,11 +35,11 @@ own_variable act = record { saver = act.at.trigger; key = act.key }
 
 -- a saver's table with an act's hit (our own choice)
 abbrev pub with_act : Act → Tabled → Tabled
-with_act act table = with_hit table (record { pos = act.at.pos; key = act.key }) (values_at act.trigger.now act.at.pos act.event.now None)
+with_act act table = with_hit table (record { spot = traced act.at.pos; key = act.key }) (values_at act.trigger.now act.at.pos act.event.now None)
 
 -- a table without an act's hit (our own choice)
 abbrev pub without_act : Act → Tabled → Tabled
-without_act act table = without_hit table (record { pos = act.at.pos; key = act.key })
+without_act act table = without_hit table (record { spot = traced act.at.pos; key = act.key })
 
 -- readings can be settled: each trigger has its shelf, and what is kept is right but for what is owed (our own choice)
 pub record CanSettle (scene : Scene) (shelves : Shelves) : Type 0 where

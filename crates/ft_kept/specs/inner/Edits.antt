@@ -22,11 +22,11 @@ readings_with readings at (Some saved) = map.insert readings at saved
 
 -- a shelf with one more hit, and with what it read, if it read (our own choice)
 abbrev pub with_hit_on : Mark → List ℤ → Option Pos → Shelved → Shelved
-with_hit_on mark values saved shelf = record shelf { table = with_hit shelf.table mark values; readings = readings_with shelf.readings mark.pos saved }
+with_hit_on mark values saved shelf = record shelf { table = with_hit shelf.table mark values; readings = readings_with shelf.readings mark.spot.pos saved }
 
 -- a shelf without a hit, and without what it read (our own choice)
 abbrev pub without_hit_on : Mark → Shelved → Shelved
-without_hit_on mark shelf = record shelf { table = without_hit shelf.table mark; readings = map.remove shelf.readings mark.pos }
+without_hit_on mark shelf = record shelf { table = without_hit shelf.table mark; readings = map.remove shelf.readings mark.spot.pos }
 
 -- a hit goes from the shelf, and what it read (our own choice)
 abbrev pub TakesHit : Mark → Shelved → Shelved → Type 0

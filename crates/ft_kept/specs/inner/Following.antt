@@ -1,5 +1,5 @@
 -- How the operations on what a saver saves follow the keys of its table.
-use Rattle.std.specs.Prelude.{◌≡◌, ◌&&◌, ℕ, ℤ, Bool, true, false, not, List, Option, Some, is_some, if◌then◌else◌, refl}
+use Rattle.std.specs.Prelude.{◌≡◌, ◌==◌, ◌&&◌, ℕ, ℤ, Bool, true, false, not, List, Option, Some, is_some, if◌then◌else◌, refl}
 use Rattle.std.specs.Coded.{Coded, code_by, coded×, coded_bool, coded_list, coded_option}
 use Rattle.std.specs.Option.{option_map_or}
 use Rattle.std.specs.Ordering.{nat_cmp, eq_by_cmp}
@@ -14,14 +14,16 @@ use Rattle.ft_pairs.specs.declared.at.Op.TheVariants.{Save}
 use Rattle.ft_table.specs.Growth.{with_hit}
 use Rattle.ft_table.specs.OneKey.{without_hit}
 use Rattle.ft_table.specs.Hits.{Hits, same_key}
+use Rattle.ft_table.specs.Spots.{traced}
 use Rattle.ft_table.specs.Tabled.{Tabled, is_in}
 use Rattle.ft_table.specs.declared.mark.Mark.{Mark}
+use Rattle.ft_table.specs.declared.spot.Spot.{Spot}
 use Rattle.ft_kept.specs.Switches.{differ, Members}
 use Rattle.ft_kept.specs.Shelves.{Shelved}
 
 -- the operations on a key's variable with a save at each hit of the key (kernel: histogram.rst, inter-event hist triggers)
 abbrev pub with_saves : Hits → ℕ → List Part → Ops → Ops
-with_saves hits id key ops q = if eq_by_cmp nat_cmp q.trigger id && is_some (map.get hits (record { pos = q.pos; key = key })) then Some Save else ops q
+with_saves hits id key ops q = if eq_by_cmp nat_cmp q.trigger id && is_some (map.get hits (record { spot = traced q.pos; key = key })) then Some Save else ops q
 
 -- the operations on a key's variable as the key comes into its saver's table, goes out, or does neither (kernel: histogram.rst, inter-event hist triggers, `size`)
 abbrev pub switched : Bool → Bool → Hits → ℕ → List Part → Ops → Ops
@@ -34,8 +36,12 @@ switched_with was now hits at key ops = switched was now hits at.trigger key (if
 -- the operations on a key's variable, as a hit comes to a saver's table: of the hit's own key or of another (kernel: histogram.rst, inter-event hist triggers, `size`)
 abbrev pub followed : Tabled → Tabled → ℕ → Mark → List Part → Ops → Ops
 followed old new id mark key ops =
-    if same_key key mark.key then switched_with (is_in old key) (is_in new key) new.hits (record { pos = mark.pos; trigger = id }) key ops
+    if same_key key mark.key then switched_with (is_in old key) (is_in new key) new.hits (record { pos = mark.spot.pos; trigger = id }) key ops
     else switched (is_in old key) (is_in new key) new.hits id key ops
+
+-- the operations on a key's variable with a save at a hit of the key, where that is of an event of the trace (kernel: histogram.rst, inter-event hist triggers)
+abbrev pub with_save : ℕ → Spot → Ops → Ops
+with_save id spot ops = if spot.maker == 0 then with_op (record { pos = spot.pos; trigger = id }) Save ops else ops
 
 -- a saver's shelf with one more hit, where each key's operations follow its table (our own choice)
 pub record HitFollows (id : ℕ) (mark : Mark) (values : List ℤ) (old new : Shelved) : Type 0 where
@@ -47,12 +53,12 @@ pub record HitFollows (id : ℕ) (mark : Mark) (values : List ℤ) (old new : Sh
 -- the operations on a key's variable, as a hit goes from a saver's table: of the hit's own key or of another (kernel: histogram.rst, inter-event hist triggers, `size`)
 abbrev pub followed_less : Tabled → Tabled → ℕ → Mark → List Part → Ops → Ops
 followed_less old new id mark key ops =
-    switched (is_in old key) (is_in new key) new.hits id key (if same_key key mark.key then without_op (record { pos = mark.pos; trigger = id }) ops else ops)
+    switched (is_in old key) (is_in new key) new.hits id key (if same_key key mark.key then without_op (record { pos = mark.spot.pos; trigger = id }) ops else ops)
 
 -- a saver's shelf with one hit less, where each key's operations follow its table (our own choice)
 pub record HitLessFollows (id : ℕ) (mark : Mark) (old new : Shelved) : Type 0 where
   pub role : new.role ≡ old.role
-  pub readings : new.readings ≡ map.remove old.readings mark.pos
+  pub readings : new.readings ≡ map.remove old.readings mark.spot.pos
   pub table : new.table ≡ without_hit old.table mark
   pub ops : (key : List Part) (q : At) → ops_of new.ops key q ≡ followed_less old.table new.table id mark key (ops_of old.ops key) q
 

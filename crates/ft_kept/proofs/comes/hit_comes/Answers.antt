@@ -6,17 +6,19 @@ use Rattle.std.specs.Cmp.{nat_cmp_total}
 use Rattle.std.specs.FinMap as map
 use Rattle.std.specs.FinMap.{nat_cmp-IsAntisymmetric}
 use Rattle.ft_maps.specs.Seen.{seen, get-seen, seen-found}
+use Rattle.ft_table.specs.Spots.{traced}
+use Rattle.ft_table.specs.declared.spot.Spot.{Spot}
 use Rattle.ft_kept.specs.Shelves.{Shelves, kept_on}
 use Rattle.ft_kept.specs.inner.Edits.{with_hit_on}
 use Rattle.ft_kept.proofs.FewPuts.{savers_but}
 use Rattle.ft_kept.proofs.Forms.{hits_by}
 use Rattle.ft_table.specs.Values.{values_at}
 use Rattle.ft_kept.proofs.Plainly.{plain_comes, plain_forms}
-use Rattle.ft_kept.proofs.Putting.{stamped, written, unwritten, shelved_there, absent_hits}
+use Rattle.ft_kept.proofs.Putting.{stamped, traced_hit, written, unwritten, shelved_there, absent_hits}
 use Rattle.ft_kept.proofs.comes.hit_comes.Goals as goal
 
 pub hit_with-hit-requires : goal.hit_with-hit-requires
-hit_with-hit-requires c = sym (stamped (seen nat_cmp c.args.scene.now.triggers.now) c.args.scene.now.lanes.now c.args.tables.now c.args.act.now.at c.args.act.now.key c.args.act.now.event.now c.requires.comes.can)
+hit_with-hit-requires c = ap (λ (s : Spot). s.pos.stamp) c.traced.ensures ∙ sym (stamped (seen nat_cmp c.args.scene.now.triggers.now) c.args.scene.now.lanes.now c.args.tables.now c.args.act.now.at c.args.act.now.key c.args.act.now.event.now c.requires.comes.can)
 
 found-none : (c : goal.After-tables-in_default-2-1) → ⊥
 found-none c = shelved_there (seen nat_cmp c.args.scene.now.triggers.now) c.args.tables.now c.args.act.now.at.trigger c.args.act.now.trigger.now c.requires.comes.shelved c.requires.comes.attached
@@ -33,17 +35,17 @@ back c =
     seen-found nat_cmp_total nat_cmp-IsAntisymmetric c.tables.inside.shelves (c.get_mut.follows.lender c.put_hit.new.self) c.args.act.now.at.trigger c.in-Some.shelf.now c.put_hit.new.self c.in-Some.ensures.value (c.get_mut.follows.holds c.put_hit.new.self)
     ∙ ap (λ (t : Shelves). map.insert t c.args.act.now.at.trigger c.put_hit.new.self) c.tables.view_is
 
-put_is : (c : goal.After-tables-2-1) → c.put_hit.new.self ≡ with_hit_on (record { pos = c.hit_with-hit.result.pos; key = c.hit_with-hit.result.key }) c.hit_with-hit.result.values None c.in-Some.shelf.now
-    → c.put_hit.new.self ≡ with_hit_on (record { pos = c.args.act.now.at.pos; key = c.args.act.now.key }) (values_at c.args.act.now.trigger.now c.args.act.now.at.pos c.args.act.now.event.now None) None c.in-Some.shelf.now
-put_is c e = e ∙ ap (λ hit. with_hit_on (record { pos = hit.pos; key = hit.key }) hit.values None c.in-Some.shelf.now) c.hit_with-hit.ensures
+put_is : (c : goal.After-tables-2-1) → c.put_hit.new.self ≡ with_hit_on (record { spot = c.hit_with-hit.result.spot; key = c.hit_with-hit.result.key }) c.hit_with-hit.result.values None c.in-Some.shelf.now
+    → c.put_hit.new.self ≡ with_hit_on (record { spot = traced c.args.act.now.at.pos; key = c.args.act.now.key }) (values_at c.args.act.now.trigger.now c.args.act.now.at.pos c.args.act.now.event.now None) None c.in-Some.shelf.now
+put_is c e = e ∙ ap (λ hit. with_hit_on (record { spot = hit.spot; key = hit.key }) hit.values None c.in-Some.shelf.now) (traced_hit c.args.act.now.trigger.now c.args.act.now.event.now c.args.act.now.key None c.traced.result c.hit_with-hit.result c.args.act.now.at.pos c.hit_with-hit.ensures c.traced.ensures)
 
 pub put_hit-requires : goal.put_hit-requires
 put_hit-requires c =
     let was : map.get c.args.tables.now c.args.act.now.at.trigger ≡ Some c.in-Some.shelf.now =
     ap (λ (t : Shelves). map.get t c.args.act.now.at.trigger) (sym c.tables.view_is) ∙ get-seen nat_cmp_total c.tables.inside.shelves c.args.act.now.at.trigger ∙ sym c.in-Some.ensures.value in
     let can = c.requires.comes.can in
-    ap (λ hit. map.get c.in-Some.shelf.now.table.hits (record { pos = hit.pos; key = hit.key })) c.hit_with-hit.ensures
-    ∙ sym (hits_by c.args.tables.now c.args.act.now.at.trigger (Some c.in-Some.shelf.now) was (record { pos = c.args.act.now.at.pos; key = c.args.act.now.key }))
+    ap (λ hit. map.get c.in-Some.shelf.now.table.hits (record { spot = hit.spot; key = hit.key })) (traced_hit c.args.act.now.trigger.now c.args.act.now.event.now c.args.act.now.key None c.traced.result c.hit_with-hit.result c.args.act.now.at.pos c.hit_with-hit.ensures c.traced.ensures)
+    ∙ sym (hits_by c.args.tables.now c.args.act.now.at.trigger (Some c.in-Some.shelf.now) was (record { spot = traced c.args.act.now.at.pos; key = c.args.act.now.key }))
     ∙ absent_hits _ _ _ can.before (kept_on c.args.tables.now) can.kept c.args.act.now.at can.comes.absent c.args.act.now.key
 
 pub returns-clause-came : goal.returns-clause-came

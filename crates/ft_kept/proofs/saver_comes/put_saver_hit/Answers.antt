@@ -19,7 +19,7 @@ use Rattle.ft_kept.proofs.saver_comes.put_saver_hit.Goals.{Joined-was_in, in-Som
 
 -- where a hit stands
 abbrev mark : Hit → Mark
-mark hit = record { pos = hit.pos; key = hit.key }
+mark hit = record { spot = hit.spot; key = hit.key }
 
 grown_table : (c : goal.Joined-was_in) → c.put_hit.new.self.table ≡ with_hit c.args.shelf.now.table (mark c.args.hit) c.args.hit.values
 grown_table c = ap (λ (s : Shelved). s.table) c.in_ok-put_hit.ensures.ok

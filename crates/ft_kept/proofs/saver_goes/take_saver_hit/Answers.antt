@@ -9,6 +9,7 @@ use Rattle.ft_table.specs.Tabled.{Tabled, is_in, first_out}
 use Rattle.ft_table.specs.declared.mark.Mark.{Mark}
 use Rattle.ft_pairs.specs.ByKey.{ops_of}
 use Rattle.ft_pairs.specs.declared.at.At.{At}
+use Rattle.ft_table.specs.Spots.{traced}
 use Rattle.ft_kept.specs.Shelves.{Shelved}
 use Rattle.ft_kept.specs.inner.Following.{first_is_in, MovesKeys}
 use Rattle.ft_kept.specs.Switches.{differ, HasMoved}
@@ -28,7 +29,7 @@ came_so key old now first m o own is table edge =
 
 -- where a hit of a key stands
 abbrev mark : List Part → At → Mark
-mark key at = record { pos = at.pos; key = key }
+mark key at = record { spot = traced at.pos; key = key }
 
 was_is : (c : goal.After-switch) → c.is_in-was_in.result ≡ is_in c.args.shelf.now.table c.args.key
 was_is c = c.is_in-was_in.ensures ∙ ap (λ (t : Tabled). is_in t c.args.key) c.table.ensures

@@ -7,7 +7,7 @@ use Rattle.ft_table.specs.declared.hit.Hit.{Hit}
 use Rattle.ft_kept.specs.Shelves.{Shelved}
 use Rattle.ft_kept.specs.inner.Following.{with_saves}
 use Rattle.ft_kept.proofs.Hitting.{next_there}
-use Rattle.ft_kept.proofs.Saving.{with_saves_till, hits_left, begun, one_further, fewer_left}
+use Rattle.ft_kept.proofs.Saving.{with_saves_till, hits_left, begun, unsaved, one_further, fewer_left}
 use Rattle.ft_kept.proofs.shelf.Shelf.put_saves.Goals as goal
 
 pub loop-next-init : goal.loop-next-init
@@ -23,6 +23,12 @@ loop-next-init c =
       puts = omega arith;
     }
 
+pub put_save-requires : goal.put_save-requires
+put_save-requires c =
+    let hits = c.loop-next.self-inside.table.hits in
+    unsaved hits c.args.id c.args.key c.in-Some.hit c.args.self.now.ops c.loop-next.self-inside.pairs
+    (subst (λ (n : Option Hit). ChangesKey c.args.key (with_saves_till hits c.args.id c.args.key n) c.args.self.now.ops c.loop-next.self-inside.pairs) c.in-Some.is c.loop-next.invariant.saved) c.requires
+
 pub loop-next-smaller : goal.loop-next-smaller
 loop-next-smaller c =
     let hits = c.loop-next.self-inside.table.hits in
@@ -36,16 +42,16 @@ loop-next-preserved c =
     let old = c.args.self.now.ops in
     let mid = c.loop-next.self-inside.pairs in
     let known = c.loop-next.invariant in
-    let next : hit_after hits key (Some c.in-Some.hit.pos) ≡ c.hit_after-next-in-Some.result = sym c.hit_after-next-in-Some.ensures in
+    let next : hit_after hits key (Some c.in-Some.hit.spot) ≡ c.hit_after-next-in-Some.result = sym c.hit_after-next-in-Some.ensures in
     record {
       role = known.role;
       table = known.table;
       readings = known.readings;
-      there = λ hit is. ap is_some (next_there hits key (Some c.in-Some.hit.pos) hit (next ∙ is));
-      saved = one_further hits c.args.id key c.in-Some.hit c.hit_after-next-in-Some.result next (known.there c.in-Some.hit c.in-Some.is) old mid c.insert.new.self
-          (subst (λ (n : Option Hit). ChangesKey key (with_saves_till hits c.args.id key n) old mid) c.in-Some.is known.saved) c.in_ok-insert.ensures.ok;
-      evals = c.insert.ensures.evals ∙ known.evals;
-      puts = let before = known.puts in let one = c.insert.ensures.puts in omega (arith, before, one);
+      there = λ hit is. ap is_some (next_there hits key (Some c.in-Some.hit.spot) hit (next ∙ is));
+      saved = one_further hits c.args.id key c.in-Some.hit c.hit_after-next-in-Some.result next (known.there c.in-Some.hit c.in-Some.is) old mid c.put_save.new.pairs
+          (subst (λ (n : Option Hit). ChangesKey key (with_saves_till hits c.args.id key n) old mid) c.in-Some.is known.saved) c.in_ok-put_save.ensures.ok;
+      evals = c.put_save.ensures.evals ∙ known.evals;
+      puts = let before = known.puts in let one = c.put_save.ensures.grow.puts in omega (arith, before, one);
     }
 
 pub returns-clause-ok : goal.returns-clause-ok

@@ -13,7 +13,7 @@ invariant-loop-next l = record {
   role : l.self-inside.role ≡ l.fn.self.role;
   table : l.self-inside.table ≡ l.fn.self.table;
   readings : seen pos_cmp l.self-inside.readings ≡ l.fn.self.readings;
-  there : (hit : Hit) → l.next ≡ Some hit → is_some (map.get l.self-inside.table.hits (record { pos = hit.pos; key = l.key })) ≡ true;
+  there : (hit : Hit) → l.next ≡ Some hit → is_some (map.get l.self-inside.table.hits (record { spot = hit.spot; key = l.key })) ≡ true;
   saved : ChangesKey l.key (with_saves_till l.self-inside.table.hits l.id l.key l.next) l.fn.self.ops l.self-inside.pairs;
   evals : l.work.evals ≡ l.fn.work.evals;
   puts : l.fn.work.puts ≤ l.work.puts;

@@ -12,6 +12,7 @@ use Rattle.ft_maps.specs.Seen.{seen}
 use Rattle.ft_pairs.specs.declared.at.At.{At}
 use Rattle.ft_table.specs.Growth.{with_hit}
 use Rattle.ft_table.specs.Values.{values_at}
+use Rattle.ft_table.specs.Spots.{traced}
 use Rattle.ft_kept.specs.Repairs.{CanCome, HasCome}
 use Rattle.ft_kept.specs.Shelves.{Shelves}
 use Rattle.ft_kept.proofs.Between.{none_came}
@@ -93,6 +94,6 @@ returns-in-Reads-clause-right c = on_ok_weaker c.reading_comes.result (λ h.
 pub returns-in-Saves-clause-puts : goal.returns-in-Saves-clause-puts
 returns-in-Saves-clause-puts c =
     let one : hit c.args.trigger.now c.args.event.now ≡ Some c.in-Some.key = sym c.key_at.ensures.key ∙ c.in-Some.is in
-    act_few (λ key table. with_hit table (record { pos = c.args.at.pos; key = key }) (values_at c.args.trigger.now c.args.at.pos c.args.event.now None))
+    act_few (λ key table. with_hit table (record { spot = traced c.args.at.pos; key = key }) (values_at c.args.trigger.now c.args.at.pos c.args.event.now None))
     c.args.trigger.now c.args.event.now c.in-Some.key one c.args.self.now c.args.at.trigger (sym c.role.ensures ∙ c.in-Saves.is)
     c.args.work.now.puts c.key_at.new.work.puts c.saving_comes.new.work.puts 3 (omega arith) c.key_at.ensures.puts c.saving_comes.ensures.puts

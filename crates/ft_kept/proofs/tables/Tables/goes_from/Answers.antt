@@ -11,6 +11,7 @@ use Rattle.ft_lanes.specs.Held.{Lanes}
 use Rattle.ft_maps.specs.Seen.{seen}
 use Rattle.ft_pairs.specs.declared.at.At.{At}
 use Rattle.ft_table.specs.OneKey.{without_hit}
+use Rattle.ft_table.specs.Spots.{traced}
 use Rattle.ft_kept.specs.Repairs.{CanGo, HasGone}
 use Rattle.ft_kept.specs.Shelves.{Shelves}
 use Rattle.ft_kept.proofs.Between.{none_went}
@@ -83,6 +84,6 @@ returns-in-Plain-clause-right c =
 pub returns-in-Saves-clause-puts : goal.returns-in-Saves-clause-puts
 returns-in-Saves-clause-puts c =
     let one : hit c.args.trigger.now c.args.event.now ≡ Some c.in-Some.key = sym c.key_at.ensures.key ∙ c.in-Some.is in
-    act_few (λ key table. without_hit table (record { pos = c.args.at.pos; key = key }))
+    act_few (λ key table. without_hit table (record { spot = traced c.args.at.pos; key = key }))
     c.args.trigger.now c.args.event.now c.in-Some.key one c.args.self.now c.args.at.trigger (sym c.role.ensures ∙ c.in-Saves.is)
     c.args.work.now.puts c.key_at.new.work.puts c.saving_goes.new.work.puts 1 (omega arith) c.key_at.ensures.puts c.saving_goes.ensures.puts

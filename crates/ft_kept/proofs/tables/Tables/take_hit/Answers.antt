@@ -5,6 +5,7 @@ use Rattle.std.specs.Cmp.{nat_cmp_total}
 use Rattle.std.specs.FinMap as map
 use Rattle.std.proofs.lemmas.Map.Lookups.{exact_unsigned}
 use Rattle.ft_maps.specs.Seen.{seen, get-seen, seen-found}
+use Rattle.ft_table.specs.Spots.{traced}
 use Rattle.ft_kept.specs.Shelves.{Shelves}
 use Rattle.ft_kept.specs.inner.Edits.{TakesHit, ChangesShelf}
 use Rattle.ft_kept.specs.declared.tables.Tables.TheInside.{Inside}
@@ -25,12 +26,12 @@ returns c =
           ap (λ (i : Inside). seen nat_cmp i.shelves) w.self-inside-is
           ∙ seen-found nat_cmp_total exact_unsigned tree (c.get_mut.follows.lender after) id w.in-Some.shelf.now after w.in-Some.ensures.value (c.get_mut.follows.holds after)
           ∙ ap (λ (m : Shelves). map.insert m id after) c.self.view_is in
-          subst (ChangesShelf id (TakesHit (record { pos = c.args.at.pos; key = c.args.key })) now) (sym written)
-          (shelf_changes id (TakesHit (record { pos = c.args.at.pos; key = c.args.key })) now w.in-Some.shelf.now after at w.take_hit.ensures)
+          subst (ChangesShelf id (TakesHit (record { spot = traced c.args.at.pos; key = c.args.key })) now) (sym written)
+          (shelf_changes id (TakesHit (record { spot = traced c.args.at.pos; key = c.args.key })) now w.in-Some.shelf.now after at w.take_hit.ensures)
       | in_default w ↦
           let none : map.get now id ≡ None = ap (λ (m : Shelves). map.get m id) (sym c.self.view_is) ∙ get-seen nat_cmp_total tree id ∙ sym w.in_default.ensures.value in
           let same : seen nat_cmp c.match-get_mut.self-inside.shelves ≡ now =
           ap (λ (i : Inside). seen nat_cmp i.shelves) w.self-inside-is ∙ ap (seen nat_cmp) c.get_mut.follows.holds-at-none ∙ c.self.view_is in
-          subst (ChangesShelf id (TakesHit (record { pos = c.args.at.pos; key = c.args.key })) now) (sym same)
-          (no_shelf id (TakesHit (record { pos = c.args.at.pos; key = c.args.key })) now none)
+          subst (ChangesShelf id (TakesHit (record { spot = traced c.args.at.pos; key = c.args.key })) now) (sym same)
+          (no_shelf id (TakesHit (record { spot = traced c.args.at.pos; key = c.args.key })) now none)
     ]
