@@ -2,3 +2,4 @@
 pub mod Reading
 pub mod Printed
 pub mod Counting
+pub mod Ends
