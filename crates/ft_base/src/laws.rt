@@ -1,18 +1,20 @@
 //! Laws of bases: functions that do nothing, whose clauses are proved.
 
-ghost use Rattle.std.specs.Prelude.{◌≡◌, ℕ, List, Option, Some, true};
+ghost use Rattle.std.specs.Prelude.{◌≡◌, ℕ, ◌+◌, ◌<◌, List, Option, Some, None, Ok, Err, true};
 ghost use Rattle.std.specs.FinMap as map;
 ghost use Rattle.std.specs.List.{AllByRecursion};
 ghost use Rattle.ft_fields.specs.Traced.{Traced};
 ghost use Rattle.ft_filter.specs.Tree.{Tree};
 ghost use Rattle.ft_hist.specs.Hist.{Hist};
 ghost use Rattle.ft_hist.specs.declared.label.Var.TheVariants as vars;
-ghost use Rattle.ft_lanes.specs.Held.{HasCpu};
+ghost use Rattle.ft_lanes.specs.Edits.{lanes_with};
+ghost use Rattle.ft_lanes.specs.Held.{Lane, HasCpu, event_limit, number_limit, held_in};
 ghost use Rattle.ft_pairs.specs.declared.role.Role.TheVariants.{Reads};
 ghost use Rattle.ft_base.specs.declared.refused.Place.{Place};
+ghost use Rattle.ft_base.specs.declared.refused.Refused.TheVariants.{Full, TooManyTriggers};
 ghost use Rattle.ft_base.specs.After.{after_load, after_unload, after_insert, after_strike};
-ghost use Rattle.ft_base.specs.After.{after_attach, after_refilter, after_remove};
-ghost use Rattle.ft_base.specs.Base.{Base, Triggers, empty_base};
+ghost use Rattle.ft_base.specs.After.{after_attach, after_refilter, after_remove, variable_refused};
+ghost use Rattle.ft_base.specs.Base.{Base, Triggers, empty_base, trigger_limit, id_limit};
 ghost use Rattle.ft_base.specs.Reachable.{IsReachable, HasOneSaver};
 ghost use Rattle.ft_base.specs.Roles.{role_of, saves_name, saver_of};
 
@@ -49,4 +51,31 @@ pub fn one_saver()
         → (name : List ℕ) (id : ℕ) (hist : Hist)
         → map.get triggers id ≡ Some hist → saves_name name hist.variable ≡ true
         → (own : List ℕ) → role_of triggers (Some (vars.Reads own name)) ≡ Reads id }
+{}
+
+/// A law of the last numbers: the greatest line number of a lane is still given to an event, and the
+/// greatest id to a trigger; behind each, the next event of the lane and the next trigger are refused.
+pub fn last_numbers()
+    ensures last_line { (base : Base) (event : Traced) (lane : Lane)
+        → map.get base.lanes event.cpu ≡ Some lane → lane.next ≡ number_limit
+        → held_in base.lanes < event_limit
+        → after_insert base event ≡ Ok (
+          record base { lanes = lanes_with base.lanes event },
+          record { cpu = event.cpu; line = number_limit },
+        ) }
+    ensures no_line { (base : Base) (event : Traced) (lane : Lane)
+        → map.get base.lanes event.cpu ≡ Some lane → lane.next ≡ number_limit + 1
+        → after_insert base event ≡ Err Full }
+    ensures last_id { (base : Base) (hist : Hist)
+        → base.next_id ≡ id_limit → map.len base.triggers < trigger_limit
+        → variable_refused base.triggers hist.keys hist.variable ≡ None
+        → after_attach base hist ≡ Ok (
+          record base {
+            triggers = map.insert base.triggers id_limit hist;
+            next_id = id_limit + 1;
+          },
+          id_limit,
+        ) }
+    ensures no_id { (base : Base) (hist : Hist)
+        → base.next_id ≡ id_limit + 1 → after_attach base hist ≡ Err TooManyTriggers }
 {}

@@ -27,6 +27,6 @@ mod refused;
 mod roles;
 
 pub use content::Content;
-pub use laws::{one_saver, reachable_bases};
+pub use laws::{last_numbers, one_saver, reachable_bases};
 pub use refused::{Place, Refused};
 pub use roles::{attached, is_reader, role_of};

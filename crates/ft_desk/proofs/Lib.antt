@@ -7,3 +7,4 @@ pub mod Progress
 pub mod Endings
 pub mod Written
 pub mod InMemory
+pub mod Ends

@@ -1,17 +1,21 @@
 //! The program: its words, its files, the run of its script, and its exit status.
 
-ghost use Rattle.std.specs.Prelude.{◌≡◌, ◌≤◌, length, IfOk};
+ghost use Rattle.std.specs.Prelude.{◌≡◌, ◌≤◌, map, string_bytes};
+ghost use Rattle.std.specs.Result.{result_map_both};
 ghost use Rattle.ft_replay.specs.Base.{empty_base};
+ghost use Rattle.ft_words.specs.Files.{Told, TellsReader};
+ghost use Rattle.ft_words.specs.Words.{named_in};
 ghost use Rattle.ft_desk.specs.Program.{exit_status_of, told_of_words, told_of_run, told_of_file};
+ghost use Rattle.ft_desk.specs.inner.Ends.{FilesGive, RunTells, ProgramEnds};
 ghost use Rattle.ft_desk.specs.declared.program.Fault.TheVariants.{Memory};
 
 use crate::running::{RunFault, Status, run};
 use ft_replay::Board;
-use ft_words::{FileFault, WordsFault, read_file, read_words};
+use ft_words::{FileFault, Paths, WordsFault, read_file, read_words};
 use std::alloc::{AllocError, AllocFailed, Global};
 use std::io::{BufReader, ErrorKind, Read};
 use std::rt::{Env, Files};
-use std::{env, fs, io};
+use std::{env, io};
 use thiserror::Error;
 
 /// How many bytes of the script are read at once.
@@ -135,9 +139,10 @@ fn exit_status<P: Eprint>(rt: &P, ended: Result<Status, Fault<'_>>) -> u8
 /// Reads the words, then the trace files in order, then runs the script: the first fault decides.
 fn run_words<'a, P, B>(rt: &P, board: B, args: &'a [String]) -> Result<Status, Fault<'a>>
 where
-    P: Files + Input + Print + AllocGlobal,
+    P: Paths + Input + Print + AllocGlobal,
     B: Board,
     requires { (B.shown board).base ≡ empty_base }
+    ensures { ProgramEnds (P.told rt.now) (named_in (map string_bytes args.entry.now)) result }
 {
     let alloc = rt.alloc();
     let words = read_words(alloc, args)?;
@@ -145,19 +150,20 @@ where
     let Some(path) = words.script else {
         return run_script(rt, board, traces.as_slice(), rt.reader());
     };
-    match fs::open(rt, path) {
+    match rt.open_at(path) {
         Ok(script) => run_script(rt, board, traces.as_slice(), script),
         Err(error) => Err(Fault::at(path, FileFault::from(error))),
     }
 }
 
 /// The trace files at these paths, each read whole.
-fn read_traces<'a, F: Files>(
+fn read_traces<'a, P: Paths>(
     alloc: Global,
-    files: &F,
+    files: &P,
     paths: &[&'a str],
 ) -> Result<Vec<Vec<u8>>, Fault<'a>>
-    ensures { IfOk result (λ traces. length traces.items ≡ length paths.now) }
+    ensures { FilesGive (P.told files.now) (map (λ path. path.now) paths.now)
+        (result_map_both (λ traces. map (λ trace. trace.items) traces.items) (λ fault. fault) result) }
 {
     let mut traces = Vec::with_capacity(alloc, paths.len())?;
     for path in paths {
@@ -181,6 +187,8 @@ where
     B: Board,
     R: Read + Drop,
     requires { (B.shown board).base ≡ empty_base }
+    ensures { (told : Told) → TellsReader told (R.remaining script)
+        → RunTells (map (λ trace. trace.items) traces.now) told result }
 {
     let alloc = rt.alloc();
     let mut script = BufReader::with_capacity(alloc, BUFFER, script).map_err(|_| Fault::Memory)?;

@@ -3,7 +3,7 @@
 ghost use Rattle.std.specs.Prelude.{◌≡◌, ◌≢◌, ◌+◌, ◌≤◌, ◌<◌, length, Err, IfOk, IsOk};
 ghost use Rattle.std.specs.IoError.{error_kind};
 ghost use Rattle.std.specs.Io.KnownBytes.{IsAtEnd};
-ghost use Rattle.ft_words.specs.Files.{ReadsWhole, file_limit};
+ghost use Rattle.ft_words.specs.Files.{ReadsWhole, TellsBytes, file_limit};
 ghost use Rattle.ft_words.specs.inner.Given.{GivesTo};
 ghost use Rattle.ft_words.specs.declared.files.FileFault.TheVariants.{Memory, Unreadable};
 ghost use Rattle.std.specs.declared.io.ErrorKind.TheVariants.{OutOfMemory};
@@ -55,15 +55,53 @@ impl From<io::Error> for FileFault {
     }
 }
 
+/// Files by their paths, as those of the system are. Contracts see what is told of a path.
+pub trait Paths {
+    ghost use Rattle.std.specs.Prelude.{List, ℕ, IfOk};
+    ghost use Rattle.ft_words.specs.Files.{Told, TellsReader};
+
+    /// A file that was opened.
+    type Opened: Read + Drop;
+
+    /// What is told of the file at a path.
+    ghost told: { Self → List ℕ → Told };
+
+    /// Opens the file at a path.
+    fn open_at(&self, path: &str) -> io::Result<Self::Opened>
+        ensures { IfOk result (λ file.
+            TellsReader (told self.now path.now) (Self.Opened.remaining file)) };
+
+    /// How many bytes an open file has, as far as that is known: a guess.
+    fn size_of(&self, file: &Self::Opened) -> u64;
+}
+
+/// The system's files, of which nothing is told.
+impl<F: Files> Paths for F {
+    ghost use Rattle.ft_words.specs.Files.{Told};
+
+    type Opened = F::File;
+
+    ghost told = { λ _ _. Told.Untold };
+
+    fn open_at(&self, path: &str) -> io::Result<F::File> {
+        fs::open(self, path)
+    }
+
+    fn size_of(&self, file: &F::File) -> u64 {
+        match file.metadata() {
+            Ok(metadata) => metadata.len(),
+            Err(_) => 0,
+        }
+    }
+}
+
 /// Reads the file at a path, whole.
-pub fn read_file<F: Files>(alloc: Global, files: &F, path: &str) -> Result<Vec<u8>, FileFault>
-    ensures { IfOk result (λ bytes. length bytes.items ≤ file_limit) }
+pub fn read_file<P: Paths>(alloc: Global, files: &P, path: &str) -> Result<Vec<u8>, FileFault>
+    ensures whole { IfOk result (λ bytes. TellsBytes (P.told files.now path.now) bytes.items) }
+    ensures limit { IfOk result (λ bytes. length bytes.items ≤ file_limit) }
 {
-    let mut file = fs::open(files, path)?;
-    let size = match file.metadata() {
-        Ok(metadata) => metadata.len(),
-        Err(_) => 0,
-    };
+    let mut file = files.open_at(path)?;
+    let size = files.size_of(&file);
     read_whole(alloc, size, &mut file)
 }
 

@@ -16,5 +16,5 @@
 mod files;
 mod words;
 
-pub use files::{FILE_LIMIT, FileFault, READ_LIMIT, read_file, read_whole};
+pub use files::{FILE_LIMIT, FileFault, Paths, READ_LIMIT, read_file, read_whole};
 pub use words::{Words, WordsFault, read_words};
