@@ -18,6 +18,7 @@ use Rattle.ft_pairs.specs.declared.at.At.{At}
 use Rattle.ft_pairs.specs.declared.at.Op.{Op}
 use Rattle.ft_pairs.specs.declared.at.Op.TheVariants.{Save, Read}
 use Rattle.ft_table.specs.Tabled.{is_in}
+use Rattle.ft_table.specs.Spots.{traced}
 use Rattle.ft_kept.specs.Acts.{Acts, acts_of, op_of}
 use Rattle.ft_kept.specs.Entries.{HitsHere, Finds, IsEntry, IsKept, IsRight, hits_here, one_hit, read_here}
 use Rattle.ft_pairs.specs.Roles.{Admits, op_as}
@@ -54,7 +55,7 @@ no_act_of triggers events at none = ap (λ (hist : Option Hist). option_and_then
 module _ (old new : Shelves) (id : ℕ) (same : map.get new id ≡ map.get old id) where
   pub same_hits : (pos : Pos) (key : List Part) → hits_here (kept_on new) (record { pos = pos; trigger = id }) key ≡ hits_here (kept_on old) (record { pos = pos; trigger = id }) key
   unfolding kept_on
-  same_hits pos key = ap (λ (o : Option Shelved). option_and_then (λ (s : Shelved). map.get s.table.hits (record { pos = pos; key = key })) o) same
+  same_hits pos key = ap (λ (o : Option Shelved). option_and_then (λ (s : Shelved). map.get s.table.hits (record { spot = traced pos; key = key })) o) same
 
   pub same_read : (pos : Pos) → read_here (kept_on new) (record { pos = pos; trigger = id }) ≡ read_here (kept_on old) (record { pos = pos; trigger = id })
   unfolding kept_on
@@ -72,7 +73,7 @@ module _ (old new : Shelves) (id : ℕ) (same : map.get new id ≡ map.get old i
 module _ (shelves : Shelves) (id : ℕ) (none : map.get shelves id ≡ None) where
   pub no_hits : (pos : Pos) (key : List Part) → hits_here (kept_on shelves) (record { pos = pos; trigger = id }) key ≡ None
   unfolding kept_on
-  no_hits pos key = ap (λ (o : Option Shelved). option_and_then (λ (s : Shelved). map.get s.table.hits (record { pos = pos; key = key })) o) none
+  no_hits pos key = ap (λ (o : Option Shelved). option_and_then (λ (s : Shelved). map.get s.table.hits (record { spot = traced pos; key = key })) o) none
 
   pub no_read : (pos : Pos) → read_here (kept_on shelves) (record { pos = pos; trigger = id }) ≡ None
   unfolding kept_on
@@ -175,7 +176,7 @@ its_same : (triggers others : Triggers) (hist : Option Hist) (shelf : Option She
     → option_map_or (λ (h : Hist). role_of others h.variable) hist Plain ≡ option_map_or (λ (h : Hist). role_of triggers h.variable) hist Plain
     → HasItsShelf triggers hist shelf → HasItsShelf others hist shelf
 its_same triggers others None shelf same has = has
-its_same triggers others (Some hist) shelf same has = (has.0, (has.1.0, record { role = has.1.1.role ∙ sym same; size = has.1.1.size }))
+its_same triggers others (Some hist) shelf same has = (has.0, (has.1.0, record { role = has.1.1.role ∙ sym same; size = has.1.1.size; traced = has.1.1.traced }))
 
 -- a trigger that stays, with its role and its shelf, has its shelf
 pub shelf_same : (triggers others : Triggers) (old new : Shelves) (id : ℕ)

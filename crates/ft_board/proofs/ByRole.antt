@@ -10,6 +10,7 @@ use Rattle.ft_hist.specs.Hit.{hit}
 use Rattle.ft_keys.specs.declared.key.Part.{Part}
 use Rattle.ft_table.specs.Values.{values_at}
 use Rattle.ft_pairs.specs.declared.role.Role.{Role}
+use Rattle.ft_table.specs.Spots.{traced}
 use Rattle.ft_base.specs.Base.{Triggers}
 use Rattle.ft_replay.specs.Merged.{Events}
 use Rattle.ft_replay.specs.Hits.{TriggerHit, found_at, hit_at, read_as}
@@ -18,7 +19,7 @@ use Rattle.ft_base.specs.Roles.{role_of}
 module _ (triggers : Triggers) (events : Events) (id : ℕ) (at : Pos) where
   -- a hit of the trigger there, with what it read
   abbrev pub hit_with : Hist → Traced → List Part → Option Pos → TriggerHit
-  hit_with hist event key saved = record { pos = at; key = key; saved = saved; values = values_at hist at event saved }
+  hit_with hist event key saved = record { spot = traced at; key = key; saved = saved; values = values_at hist at event saved }
 
   -- the hit of a key there, if it is one, where the trigger has this role
   abbrev pub hit_as : Role → Hist → Traced → List Part → Option TriggerHit

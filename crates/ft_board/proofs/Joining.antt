@@ -14,6 +14,7 @@ use Rattle.ft_pairs.specs.declared.role.Role.TheVariants.{Reads}
 use Rattle.ft_pairs.specs.declared.role.Variable.{Variable}
 use Rattle.ft_table.specs.Tabled.{Tabled}
 use Rattle.ft_table.specs.Values.{values_by}
+use Rattle.ft_table.specs.Spots.{traced}
 use Rattle.ft_kept.specs.Acts.{Acts, acts_of, op_of}
 use Rattle.ft_kept.specs.Entries.{IsRight, hits_here, read_here}
 use Rattle.ft_kept.specs.Shelves.{Shelved, Shelves, admits_on, kept_on}
@@ -41,15 +42,25 @@ bare_none shelves id none = record {
 bare_new : (triggers : Triggers) (hist : Hist) (shelves : Shelves) (id : ℕ) → HasNewShelf triggers (Some hist) (map.get shelves id) → IsBare shelves id
 unfolding kept_on
 bare_new triggers hist shelves id has = record {
-  hits = λ pos key. ap (λ (o : Option Shelved). option_and_then (λ (s : Shelved). map.get s.table.hits (record { pos = pos; key = key })) o) has.1.0
-      ∙ ap (λ (t : Tabled). map.get t.hits (record { pos = pos; key = key })) has.1.1.table ∙ get-empty _ _;
+  hits = λ pos key. ap (λ (o : Option Shelved). option_and_then (λ (s : Shelved). map.get s.table.hits (record { spot = traced pos; key = key })) o) has.1.0
+      ∙ ap (λ (t : Tabled). map.get t.hits (record { spot = traced pos; key = key })) has.1.1.table ∙ get-empty _ _;
   read = λ pos. ap (λ (o : Option Shelved). option_and_then (λ (s : Shelved). map.get s.readings pos) o) has.1.0
       ∙ ap (λ m. map.get m pos) has.1.1.readings ∙ get-empty {X = Pos} pos_cmp pos;
   ops = λ key at. ap (λ (o : Option Shelved). option_and_then (λ (s : Shelved). ops_of s.ops key at) o) has.1.0 ∙ has.1.1.ops key at;
 }
 
 its_new : (triggers : Triggers) (hist : Hist) (shelf : Option Shelved) → HasNewShelf triggers (Some hist) shelf → HasItsShelf triggers (Some hist) shelf
-its_new triggers hist shelf has = (has.0, (has.1.0, record { role = has.1.1.role; size = ap (λ (t : Tabled). t.size) has.1.1.table }))
+its_new triggers hist shelf has = (
+  has.0,
+  (
+    has.1.0,
+    record {
+      role = has.1.1.role;
+      size = ap (λ (t : Tabled). t.size) has.1.1.table;
+      traced = λ m _. ap (λ (t : Tabled). map.get t.hits m) has.1.1.table ∙ get-empty _ m;
+    },
+  ),
+)
 
 module _ (triggers : Triggers) (lanes : Lanes) (family : ℕ → Bool) (old new : Shelves) (outside : AreKeptOutside family triggers lanes old) (renewed : AreRenewed triggers family old new)
     (closed : (reader saver : ℕ) → family reader ≡ false → family saver ≡ true → role_at triggers reader ≡ Reads saver → ⊥) where

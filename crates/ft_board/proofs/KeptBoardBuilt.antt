@@ -15,6 +15,7 @@ use Rattle.ft_fields.specs.Places.{pos_cmp, pos_cmp_total, pos_same}
 use Rattle.ft_fields.specs.declared.pos.Pos.{Pos}
 use Rattle.ft_hist.specs.Hist.{Hist}
 use Rattle.ft_keys.specs.declared.key.Part.{Part}
+use Rattle.ft_table.specs.Spots.{traced}
 use Rattle.ft_kept.specs.Acts.{Acts, acts_of, op_of}
 use Rattle.ft_kept.specs.Entries.{IsEntry, IsKept, hits_here, read_here}
 use Rattle.ft_kept.specs.Repairs.{EventCanCome, EventHasCome}
@@ -47,7 +48,17 @@ use Rattle.ft_replay.proofs.Placing.{get-inserted, or_none}
 
 its_new : (triggers : Triggers) (hist : Option Hist) (shelf : Option Shelved) → HasNewShelf triggers hist shelf → HasItsShelf triggers hist shelf
 its_new triggers None shelf has = has
-its_new triggers (Some hist) shelf has = (has.0, (has.1.0, record { role = has.1.1.role; size = ap (λ (t : Tabled). t.size) has.1.1.table }))
+its_new triggers (Some hist) shelf has = (
+  has.0,
+  (
+    has.1.0,
+    record {
+      role = has.1.1.role;
+      size = ap (λ (t : Tabled). t.size) has.1.1.table;
+      traced = λ m _. ap (λ (t : Tabled). map.get t.hits m) has.1.1.table ∙ get-empty _ m;
+    },
+  ),
+)
 
 module _ (triggers : Triggers) where
   no_hit : (hist : Option Hist) (shelf : Option Shelved) → HasNewShelf triggers hist shelf → (mark : Mark) → option_and_then (λ (s : Shelved). map.get s.table.hits mark) shelf ≡ None
@@ -83,7 +94,7 @@ module _ (triggers : Triggers) where
       entries = λ at. inr (subst
           (λ (act : Option (List Part × Traced)). IsEntry (values_by triggers) (kept_on shelves).ops at (role_at triggers at.trigger) act (hits_here (kept_on shelves) at) (read_here (kept_on shelves) at))
           (sym (no_act at))
-          (no_reading (map.get triggers at.trigger) (map.get shelves at.trigger) (new at.trigger) at.pos, λ key. no_hit (map.get triggers at.trigger) (map.get shelves at.trigger) (new at.trigger) (record { pos = at.pos; key = key })));
+          (no_reading (map.get triggers at.trigger) (map.get shelves at.trigger) (new at.trigger) at.pos, λ key. no_hit (map.get triggers at.trigger) (map.get shelves at.trigger) (new at.trigger) (record { spot = traced at.pos; key = key })));
     };
   }
 

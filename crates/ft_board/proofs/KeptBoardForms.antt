@@ -33,8 +33,17 @@ same_there triggers (Some hist) shelf has = ap is_some has.1.0
 its_stays : (triggers : Triggers) (hist : Option Hist) (old new : Option Shelved) → HasItsShelf triggers hist old → FormStays old new → HasItsShelf triggers hist new
 its_stays triggers None old new has stays = subst (λ (o : Option Shelved). FormStays o new) has stays
 its_stays triggers (Some hist) old new has stays =
-    let after = subst (λ (o : Option Shelved). FormStays o new) has.1.0 stays in
-    (after.0, (after.1.0, record { role = after.1.1.role ∙ has.1.1.role; size = after.1.1.size ∙ has.1.1.size }))
+    let after = subst (λ (o : Option Shelved). FormStays o new) has.1.0 stays in (
+      after.0,
+      (
+        after.1.0,
+        record {
+          role = after.1.1.role ∙ has.1.1.role;
+          size = after.1.1.size ∙ has.1.1.size;
+          traced = λ m made. after.1.1.made m made ∙ has.1.1.traced m made;
+        },
+      ),
+    )
 
 pub shelves_stay : (triggers : Triggers) (old new : Shelves) → HaveShelves triggers old → FormsStay old new → HaveShelves triggers new
 shelves_stay triggers old new has stays id = its_stays triggers (map.get triggers id) (map.get old id) (map.get new id) (has id) (stays id)

@@ -14,6 +14,7 @@ use Rattle.ft_pairs.specs.declared.at.At.{At}
 use Rattle.ft_pairs.specs.declared.at.Op.{Op}
 use Rattle.ft_pairs.specs.declared.at.Op.TheVariants.{Save}
 use Rattle.ft_table.specs.Hits.{same_key}
+use Rattle.ft_table.specs.Spots.{traced}
 use Rattle.ft_kept.specs.Acts.{acts_of, op_of}
 use Rattle.ft_kept.specs.Entries.{Finds, IsEntry, IsKept, hits_here, one_hit, read_here}
 use Rattle.ft_pairs.specs.Roles.{Admits, op_as}
@@ -44,7 +45,7 @@ AdmitsAsReplayed triggers events admits =
 
 -- what is kept at a place is what replaying gives there
 pub record IsReplayedAt (triggers : Triggers) (events : Events) (kept : Kept) (id : ℕ) (at : Pos) : Type 0 where
-  pub hits : (key : List Part) → kept.hits id (record { pos = at; key = key }) ≡ values_found triggers events id (record { pos = at; key = key })
+  pub hits : (key : List Part) → kept.hits id (record { spot = traced at; key = key }) ≡ values_found triggers events id (record { spot = traced at; key = key })
   pub read : kept.read id at ≡ saving_found triggers events id at
 
 -- the place of a saving, there and back

@@ -1,6 +1,6 @@
 -- What kept shelves hold is what replaying gives.
-use Rattle.std.proofs.Common.{◌≡◌, ℕ, true, false, List, refl, sym, ap, subst, ◌∙◌, Some, None, Option}
-use Rattle.std.specs.Prelude.{◌&&◌, IsSome, IfSome, if◌then◌else◌, option_and_then}
+use Rattle.std.proofs.Common.{◌≡◌, ℕ, Bool, true, false, cond, List, refl, sym, ap, subst, ◌∙◌, Some, None, Option}
+use Rattle.std.specs.Prelude.{◌==◌, ◌&&◌, IsSome, IfSome, if◌then◌else◌, option_and_then}
 use Rattle.std.specs.Option.{option_map_or}
 use Rattle.std.specs.FinMap as map
 use Rattle.std.proofs.lemmas.Option.{same_Some}
@@ -24,13 +24,14 @@ use Rattle.ft_table.specs.Tabled.{Tabled, is_in}
 use Rattle.ft_table.specs.declared.mark.Mark.{Mark}
 use Rattle.ft_base.specs.Base.{Triggers}
 use Rattle.ft_replay.specs.Merged.{Events}
-use Rattle.ft_replay.specs.Hits.{TriggerHit, hit_at, hits_of, table_for}
+use Rattle.ft_replay.specs.Hits.{TriggerHit, hit_at, hit_on, hits_of, table_for}
 use Rattle.ft_replay.specs.Found.{values_found, saving_found, pairs_in}
 use Rattle.ft_board.specs.KeptShelves.{AreKept, HasItsShelf, IsShelfOf}
 use Rattle.ft_replay.specs.Operations.{is_admitted, ops_on}
 use Rattle.ft_replay.specs.Replay.{replay}
 use Rattle.ft_base.specs.Roles.{role_at}
 use Rattle.ft_replay.specs.Tally.{tally_of}
+use Rattle.ft_board.proofs.Spots.{mark_at, each_mark, none_made}
 use Rattle.ft_board.proofs.ByRole.{key_fits}
 use Rattle.ft_board.proofs.KeptEntries.{OneSource, AdmitsAsReplayed, IsReplayedAt, role-is, ops-are, as-replayed}
 use Rattle.ft_replay.proofs.KeptMaps.{values-are}
@@ -64,7 +65,9 @@ module _ (rows : RowsGrow) (totals : TotalsGrow) (members : InGrows) (one : OneS
     AllReplayed = (at : Pos) → IsReplayedAt triggers events (kept_on shelves) id at
 
     hits-replayed : AllReplayed → (mark : Mark) → map.get shelf.table.hits mark ≡ values_found triggers events id mark
-    hits-replayed replayed mark = sym (hits-on mark) ∙ (replayed mark.pos).hits mark.key
+    hits-replayed replayed = each_mark (λ mark. map.get shelf.table.hits mark ≡ values_found triggers events id mark)
+        (λ pos key. sym (hits-on (mark_at pos key)) ∙ (replayed pos).hits key)
+        (λ mark made. own.traced mark made ∙ sym (none_made triggers events id mark made))
 
     -- the keys in a saver's table are those that replaying has there
     admits-is : AllReplayed → role_at triggers id ≡ Saves → (key : List Part) → admits_on shelves id key ≡ is_admitted (replay triggers events) id key
@@ -117,8 +120,12 @@ module _ (rows : RowsGrow) (totals : TotalsGrow) (members : InGrows) (one : OneS
     -- and the keys of its hits fit the trigger's key items
     pub fit-on : ((hist : Hist) (event : Traced) (parts : List Part) → hit hist event ≡ Some parts → KeyFits hist.keys parts) → AllFit shelf.table hist
     unfolding values_found
-    fit-on fits mark is = by_hit (hit_at triggers events id mark.pos) (key_fits triggers events id mark.pos hist attached fits) (subst IsSome (hits-are mark) is)
+    fit-on fits mark is = by_hit (hit_on triggers events id mark.spot) (on_spot (mark.spot.maker == 0)) (subst IsSome (hits-are mark) is)
       where
+        on_spot : (b : Bool) → IfSome (option_and_then (hit_at triggers events id) (cond b (Some mark.spot.pos) None)) (λ found. KeyFits hist.keys found.key)
+        on_spot true = key_fits triggers events id mark.spot.pos hist attached fits
+        on_spot false = tt
+
         by_hit : (o : Option TriggerHit) → IfSome o (λ found. KeyFits hist.keys found.key)
             → IsSome (option_and_then (λ (found : TriggerHit). if same_key mark.key found.key then Some found.values else None) o) → KeyFits hist.keys mark.key
         by_hit None fit some = absurd cc

@@ -1,9 +1,9 @@
 -- The events of new lanes come to what is kept of the others.
 use Rattle.std.proofs.Common.{◌≡◌, ◌+◌, ◌≤◌, ℕ, Bool, true, false, cond, List, [], ◌∷◌, refl, sym, ap, subst, ◌∙◌, Option, Some, None, Ok, is_some, arith}
 use Rattle.std.specs.Prelude.{◌==◌, ◌||◌, fold, not, option_and_then, if◌then◌else◌}
-use Rattle.std.specs.List.{AllByRecursion, list_any, sum_by}
+use Rattle.std.specs.List.{sum_by}
 use Rattle.std.specs.Option.{IfSome, option_or}
-use Rattle.std.specs.Ordering.{nat_cmp, is_eq, eq_by_cmp}
+use Rattle.std.specs.Ordering.{nat_cmp, eq_by_cmp}
 use Rattle.std.specs.Cmp.{nat_cmp_total, nat_eq_equiv, unsigned_tied}
 use Rattle.std.specs.Map.{keys_of}
 use Rattle.std.specs.FinMap as map

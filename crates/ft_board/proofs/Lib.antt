@@ -15,6 +15,7 @@ pub mod LaneGoes
 pub mod LanesCome
 pub mod KeptBoardTold
 pub mod ByRole
+pub mod Spots
 pub mod KeptEntries
 pub mod KeptShelves
 pub mod SaverHits

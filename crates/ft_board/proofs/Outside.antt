@@ -1,5 +1,5 @@
 -- What is kept outside a family, where the triggers outside are as before.
-use Rattle.std.proofs.Common.{◌≡◌, ℕ, Bool, true, false, true≢false, List, refl, sym, ap, subst, ◌∙◌, Option, Some, None, ⊎_elim}
+use Rattle.std.proofs.Common.{◌≡◌, ℕ, Bool, true, false, true≢false, refl, sym, ap, subst, ◌∙◌, Option, Some, None, ⊎_elim}
 use Rattle.std.specs.Prelude.{if◌then◌else◌}
 use Rattle.std.specs.Option.{IfSome}
 use Rattle.std.specs.FinMap as map
@@ -8,7 +8,7 @@ use Rattle.ft_hist.specs.Hist.{Hist}
 use Rattle.ft_lanes.specs.Held.{Lanes}
 use Rattle.ft_pairs.specs.declared.at.At.{At}
 use Rattle.ft_pairs.specs.declared.role.Role.{Role}
-use Rattle.ft_pairs.specs.declared.role.Role.TheVariants.{Plain, Reads}
+use Rattle.ft_pairs.specs.declared.role.Role.TheVariants.{Reads}
 use Rattle.ft_pairs.specs.declared.role.Variable.{Variable}
 use Rattle.ft_kept.specs.Acts.{Acts, acts_of, op_of}
 use Rattle.ft_kept.specs.Shelves.{Shelves, admits_on, kept_on}
@@ -21,7 +21,7 @@ use Rattle.ft_board.specs.KeptShelves.{AreKept, AreKeptOf, HasItsShelf}
 use Rattle.ft_board.specs.inner.ButOneTrigger.{AreKeptBut, AwaitFilter}
 use Rattle.ft_board.specs.inner.Idle.{AreKeptOutside, acts_outside}
 use Rattle.ft_board.proofs.Alike.{acts_same, rest_same, rest_none, rest_no_act, op_same, no_op_there, no_op_of, right_moves, all_right, shelf_same}
-use Rattle.ft_board.proofs.Families.{itself_inside, outside_apart, inside_is}
+use Rattle.ft_board.proofs.Families.{outside_apart, inside_is}
 
 -- the shelves are kept of triggers, which outside the family are those of before; and inside nothing was done to variables outside
 module _ (before after : Triggers) (lanes : Lanes) (family : ℕ → Bool) (shelves : Shelves) (kept : AreKept before (merged lanes) shelves)

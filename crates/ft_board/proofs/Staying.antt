@@ -15,18 +15,18 @@ use Rattle.ft_pairs.specs.declared.at.At.{At}
 use Rattle.ft_pairs.specs.declared.role.Role.{Role}
 use Rattle.ft_pairs.specs.declared.role.Role.TheVariants.{Plain, Saves, Reads}
 use Rattle.ft_pairs.specs.declared.role.Variable.{Variable}
-use Rattle.ft_table.specs.Hits.{Hits}
+use Rattle.ft_table.specs.Hits.{AreTraced}
 use Rattle.ft_table.specs.Marks.{mark_cmp_total, mark_same}
-use Rattle.ft_table.specs.Tabled.{Tabled}
 use Rattle.ft_table.specs.Values.{ValuesBy, values_by}
 use Rattle.ft_table.specs.declared.mark.Mark.{Mark}
-use Rattle.ft_kept.specs.Acts.{Acts, acts_of}
+use Rattle.ft_kept.specs.Acts.{acts_of}
 use Rattle.ft_kept.specs.Entries.{HitsHere, IsEntry, IsRight, hits_here, one_hit, read_here}
 use Rattle.ft_kept.specs.Shelves.{Shelved, Shelves, admits_on, kept_on}
 use Rattle.ft_base.specs.Base.{Triggers}
 use Rattle.ft_base.specs.Roles.{is_reader, role_of, role_at}
 use Rattle.ft_replay.specs.Merged.{Events}
-use Rattle.ft_board.specs.KeptShelves.{AreKept, HasItsShelf, IsShelfOf}
+use Rattle.ft_board.specs.KeptShelves.{AreKept, HasItsShelf}
+use Rattle.ft_board.proofs.Spots.{mark_at, same_traced}
 use Rattle.ft_board.proofs.Alike.{acts_same, all_right, same_values}
 use Rattle.ft_board.proofs.Families.{role_there}
 
@@ -55,6 +55,11 @@ its_size triggers hist shelves id shelf attached there has =
     let its : HasItsShelf triggers (Some hist) (Some shelf) = subst (λ (x : Option Hist × Option Shelved). HasItsShelf triggers x.0 x.1) (λ i. (attached i, there i)) has in
     ap (λ (o : Option Shelved). option_map_or (λ (s : Shelved). s.table.size) o 0) its.1.0 ∙ its.1.1.size
 
+its_traced : (triggers : Triggers) (hist : Hist) (shelves : Shelves) (id : ℕ) (shelf : Shelved) → map.get triggers id ≡ Some hist → map.get shelves id ≡ Some shelf → HasItsShelf triggers (map.get triggers id) (map.get shelves id) → AreTraced shelf.table.hits
+its_traced triggers hist shelves id shelf attached there has m made =
+    let its : HasItsShelf triggers (Some hist) (Some shelf) = subst (λ (x : Option Hist × Option Shelved). HasItsShelf triggers x.0 x.1) (λ i. (attached i, there i)) has in
+    ap (λ (o : Option Shelved). option_map_or (λ (s : Shelved). map.get s.table.hits m) o None) its.1.0 ∙ its.1.1.traced m made
+
 module _ (triggers others : Triggers) (events : Events) (old new : Shelves) (kept : AreKept triggers events old) (will : AreKept others events new)
     (id : ℕ) (hist : Hist) (attached : map.get triggers id ≡ Some hist) (still : map.get others id ≡ Some hist) (quiet : is_reader hist.variable ≡ false) where
   role_is : role_at others id ≡ role_at triggers id
@@ -74,9 +79,10 @@ module _ (triggers others : Triggers) (events : Events) (old new : Shelves) (kep
   pub table_stays : (shelf its : Shelved) → map.get old id ≡ Some shelf → map.get new id ≡ Some its → its.table ≡ shelf.table
   unfolding kept_on
   table_stays shelf its there is =
-      let mark_stays : (mark : Mark) → map.get its.table.hits mark ≡ map.get shelf.table.hits mark = λ mark.
-      sym (ap (λ (o : Option Shelved). option_and_then (λ (s : Shelved). map.get s.table.hits mark) o) is) ∙ hits_stay mark.pos mark.key
-      ∙ ap (λ (o : Option Shelved). option_and_then (λ (s : Shelved). map.get s.table.hits mark) o) there in
+      let mark_stays : (mark : Mark) → map.get its.table.hits mark ≡ map.get shelf.table.hits mark = same_traced its.table.hits shelf.table.hits
+      (its_traced others hist new id its still is (will.each id)) (its_traced triggers hist old id shelf attached there (kept.each id)) (λ pos key. let mark : Mark = mark_at pos key in
+      sym (ap (λ (o : Option Shelved). option_and_then (λ (s : Shelved). map.get s.table.hits mark) o) is) ∙ hits_stay pos key
+      ∙ ap (λ (o : Option Shelved). option_and_then (λ (s : Shelved). map.get s.table.hits mark) o) there) in
       let hits : its.table.hits ≡ shelf.table.hits = same_map mark_cmp_total mark_same its.table.hits shelf.table.hits mark_stays in
       let size : its.table.size ≡ shelf.table.size = its_size others hist new id its still is (will.each id) ∙ sym (its_size triggers hist old id shelf attached there (kept.each id)) in
       λ i. record { hits = hits i; size = size i }

@@ -2,6 +2,7 @@
 use Rattle.std.specs.Prelude.{◌≡◌, ℕ, Option, Some, None}
 use Rattle.std.specs.FinMap as map
 use Rattle.ft_hist.specs.Hist.{Hist}
+use Rattle.ft_table.specs.Hits.{AreTraced}
 use Rattle.ft_kept.specs.Acts.{acts_of}
 use Rattle.ft_kept.specs.Entries.{IsKept}
 use Rattle.ft_kept.specs.Shelves.{Shelved, Shelves, admits_on, kept_on}
@@ -10,10 +11,11 @@ use Rattle.ft_base.specs.Base.{Base, Triggers}
 use Rattle.ft_replay.specs.Merged.{Events, merged}
 use Rattle.ft_base.specs.Roles.{role_of, role_at}
 
--- a shelf has the role and the size of a trigger (our own choice)
+-- a shelf has the role and the size of a trigger, and hits of events of the trace alone (our own choice)
 pub record IsShelfOf (triggers : Triggers) (hist : Hist) (shelf : Shelved) : Type 0 where
   pub role : shelf.role ≡ role_of triggers hist.variable
   pub size : shelf.table.size ≡ hist.size
+  pub traced : AreTraced shelf.table.hits
 
 -- a trigger has its shelf, and without a trigger there is none (our own choice)
 abbrev pub HasItsShelf : Triggers → Option Hist → Option Shelved → Type 0

@@ -23,6 +23,11 @@ fn at(stamp: u64) -> Pos {
     }
 }
 
+/// The spot of an event of the trace on a line 1 of CPU 0.
+fn on(stamp: u64) -> Spot {
+    Spot::traced(at(stamp))
+}
+
 /// The key of a PID.
 fn pid(number: i64) -> Key {
     Key::of_one(Part::Num(number))
@@ -31,7 +36,7 @@ fn pid(number: i64) -> Key {
 /// A hit of a PID.
 fn hit(stamp: u64, number: i64, values: [i64; 3]) -> Hit {
     Hit {
-        pos: at(stamp),
+        spot: on(stamp),
         key: pid(number),
         values,
     }
@@ -43,7 +48,7 @@ fn put(table: &mut Table, hit: Hit) -> Result<(), AllocError>
         → AllFit table.new hist }
 {
     fitting_keys();
-    if table.holds(hit.pos, hit.key) {
+    if table.holds(hit.spot, hit.key) {
         return Ok(());
     }
     table.insert(hit, &mut Work::new())
@@ -75,7 +80,7 @@ fn is_row(table: &Table, key: Key, numbers: Option<(u64, [u64; 3])>) -> bool {
 /// The mark of a PID at a place.
 fn mark(stamp: u64, number: i64) -> Mark {
     Mark {
-        pos: at(stamp),
+        spot: on(stamp),
         key: pid(number),
     }
 }

@@ -1,5 +1,5 @@
 -- What is kept while some triggers are idle: their acts have gone, or have not come yet (our own choice).
-use Rattle.std.specs.Prelude.{◌≡◌, ◌==◌, ℕ, Bool, true, false, Option, Some, None, if◌then◌else◌}
+use Rattle.std.specs.Prelude.{◌≡◌, ◌==◌, ℕ, Bool, true, false, Some, None, if◌then◌else◌}
 use Rattle.std.specs.FinMap as map
 use Rattle.ft_hist.specs.Hist.{Hist}
 use Rattle.ft_lanes.specs.Held.{Lanes}

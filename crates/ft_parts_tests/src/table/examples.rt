@@ -21,7 +21,7 @@ fn has_two_hits(table: &Table) -> bool {
         && is_edge(table, Some(pid(6)), None)
         && is_row(table, pid(5), Some((1, [1, 0, 0])))
         && is_row(table, pid(6), Some((1, [2, 0, 0])))
-        && !table.holds(at(30), pid(7))
+        && !table.holds(on(30), pid(7))
 }
 
 /// Whether it has these two and one of PID 7 at stamp 30, which is dropped.
@@ -34,8 +34,8 @@ fn has_three_hits(table: &Table) -> bool {
         && is_row(table, pid(5), Some((1, [1, 0, 0])))
         && is_row(table, pid(6), Some((1, [2, 0, 0])))
         && is_row(table, pid(7), None)
-        && table.holds(at(30), pid(7))
-        && !table.holds(at(5), pid(7))
+        && table.holds(on(30), pid(7))
+        && !table.holds(on(5), pid(7))
 }
 
 /// Whether it has these three and one of PID 7 at stamp 5, so that PID 6 finds no room.
@@ -58,11 +58,11 @@ fn hits_of_a_key_in_order(rt: HostRuntime) -> Result<(), Fail> {
     put(&mut table, hit(20, 6, [2, 0, 0]))?;
     let first = table.hit_after(&pid(5), None);
     assert!(rt; first.map(|hit| hit.values) == Some([1, 0, 0]));
-    let second = table.hit_after(&pid(5), Some(at(10)));
+    let second = table.hit_after(&pid(5), Some(on(10)));
     assert!(rt; second.map(|hit| hit.values) == Some([3, 0, 0]));
-    assert!(rt; table.hit_after(&pid(5), Some(at(30))).is_none());
-    let other = table.hit_after(&pid(6), Some(at(10)));
-    assert!(rt; other.map(|hit| hit.pos) == Some(at(20)));
+    assert!(rt; table.hit_after(&pid(5), Some(on(30))).is_none());
+    let other = table.hit_after(&pid(6), Some(on(10)));
+    assert!(rt; other.map(|hit| hit.spot) == Some(on(20)));
     Ok(())
 }
 
@@ -114,7 +114,7 @@ fn unchanged_after_want_of_memory(rt: HostRuntime) -> Result<(), Fail> {
         put(&mut table, hit(5, 7, [4, 0, 0]))?;
     }
     assert!(rt; has_four_hits(&table));
-    table.remove(at(5), pid(7));
+    table.remove(on(5), pid(7));
     assert!(rt; has_three_hits(&table));
     Ok(())
 }
@@ -146,6 +146,7 @@ fn rows_that_tie_stand_by_key(rt: HostRuntime) -> Result<(), Fail> {
 #[test]
 fn marks_stand_by_place_then_key(rt: HostRuntime) {
     one_mark_order();
+    one_spot_order();
     assert!(rt; mark(10, 6) < mark(20, 5));
     assert!(rt; mark(10, -1) < mark(10, 5));
     assert!(rt; mark(10, 5) == mark(10, 5));

@@ -4,7 +4,7 @@ ghost use Rattle.std.specs.Prelude.{◌≡◌, ◌≤◌, IfOk};
 
 use ft_event::{Body, Comm, Event, Field, Name, Pos, Wake};
 use ft_hist::{Item, Key, KeyItem, Mode, Part, SortBy, SortItem, Trigger};
-use ft_table::hit_with;
+use ft_table::{Spot, hit_with};
 use std::alloc::{AllocError, Global};
 use std::test::*;
 
@@ -61,8 +61,9 @@ fn a_hit_has_its_events_values(rt: HostRuntime) -> Result<(), Fail> {
     let trigger = by_pid(rt.alloc())?;
     let event = waking(1_000_100)?;
     let key = Key::of_one(Part::Num(42));
-    let hit = hit_with(&trigger, &event, at(1_000_100), key, Some(at(1_000_000)));
-    assert_eq!(rt; hit.pos, at(1_000_100));
+    let spot = Spot::traced(at(1_000_100));
+    let hit = hit_with(&trigger, &event, spot, key, Some(at(1_000_000)));
+    assert_eq!(rt; hit.spot, spot);
     assert_eq!(rt; hit.key, key);
     assert_eq!(rt; hit.values, [120, 0, 0]);
     Ok(())

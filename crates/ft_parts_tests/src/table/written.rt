@@ -81,7 +81,8 @@ fn feed(
                 cpu: event.cpu,
                 line,
             };
-            put(table, Hit { pos, key, values })
+            let spot = Spot::traced(pos);
+            put(table, Hit { spot, key, values })
         }
         None => Ok(()),
     }

@@ -1,4 +1,4 @@
-use Rattle.std.proofs.Common.{ℕ, ◌≡◌, ◌+◌, ◌≤◌, ◌∷◌, [], true, false, List, refl, sym, ap, subst, ◌∙◌, arith}
+use Rattle.std.proofs.Common.{ℕ, ◌≡◌, ◌∷◌, [], true, false, List, sym, ap, subst, ◌∙◌, arith}
 use Rattle.std.specs.Ordering.{nat_cmp}
 use Rattle.std.specs.FinMap as map
 use Rattle.std.specs.Map.Iter.{deref_pair}
@@ -9,7 +9,6 @@ use Rattle.ft_maps.specs.Seen.{seen}
 use Rattle.ft_base.specs.Base.{Triggers}
 use Rattle.ft_base.specs.OneTrigger.{is_kin, is_in_family}
 use Rattle.ft_base.specs.Roles.{role_of}
-use Rattle.ft_replay.specs.Costs.{named_in}
 use Rattle.ft_replay.proofs.Stepping.{grow_none, grow_more}
 use Rattle.ft_board.proofs.Families.{role_there}
 use Rattle.ft_board.proofs.Putting.{IsPut, tests_in, put_none, put_skip, put_more, put_all, first_idle, left_in, tests_member, tests_other}

@@ -1,7 +1,5 @@
-use Rattle.std.proofs.Common.{ℕ, ◌≡◌, ◌∷◌, [], true, false, List, refl, sym, ap, subst, ◌∙◌}
-use Rattle.std.specs.Option.{option_map_or}
+use Rattle.std.proofs.Common.{ℕ, ◌≡◌, ◌∷◌, [], true, false, List, sym, ap, subst, ◌∙◌}
 use Rattle.std.specs.Ordering.{nat_cmp}
-use Rattle.std.specs.FinMap as map
 use Rattle.std.specs.Map.Iter.{deref_pair}
 use Rattle.std.proofs.lemmas.Map.Iter.{rest_more, rest_all}
 use Rattle.ft_hist.specs.Hist.{Hist}
@@ -10,7 +8,7 @@ use Rattle.ft_pairs.specs.declared.role.Role.{Role}
 use Rattle.ft_maps.specs.Seen.{seen}
 use Rattle.ft_base.specs.Base.{Triggers}
 use Rattle.ft_base.specs.OneTrigger.{is_kin, is_in_family}
-use Rattle.ft_base.specs.Roles.{role_of, role_at}
+use Rattle.ft_base.specs.Roles.{role_of}
 use Rattle.ft_board.proofs.Families.{role_there}
 use Rattle.ft_board.proofs.Putting.{AreRenewedBut, renewed_none, renewed_skip, renewed_more, renewed_all}
 use Rattle.ft_board.proofs.join.renew_shelves.Goals as goal

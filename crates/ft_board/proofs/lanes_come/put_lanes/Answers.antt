@@ -1,4 +1,4 @@
-use Rattle.std.proofs.Common.{◌≡◌, ◌+◌, ◌≤◌, ℕ, List, [], ◌∷◌, drop, Bor, sym, ap, subst, ◌∙◌, arith}
+use Rattle.std.proofs.Common.{◌≡◌, ◌+◌, ◌≤◌, ℕ, List, [], drop, Bor, sym, ap, subst, ◌∙◌, arith}
 use Rattle.std.specs.FinMap as map
 use Rattle.std.specs.Map.Iter.{deref}
 use Rattle.std.specs.Ordering.{nat_cmp}
@@ -12,7 +12,7 @@ use Rattle.ft_base.specs.Base.{Triggers}
 use Rattle.ft_base.specs.Reachable.{HasSavers}
 use Rattle.ft_board.specs.KeptShelves.{AreKept}
 use Rattle.ft_replay.specs.Chosen.{lanes_of, lanes_but}
-use Rattle.ft_replay.specs.Merged.{Events, merged}
+use Rattle.ft_replay.specs.Merged.{merged}
 use Rattle.ft_replay.specs.Named.{named}
 use Rattle.ft_replay.proofs.Stepping.{grow_none, grow_more}
 use Rattle.ft_board.proofs.KeptBoardActs.{held_is}

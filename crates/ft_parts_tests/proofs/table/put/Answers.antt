@@ -13,6 +13,6 @@ either P (Err e) old more new ok err with without = subst P (sym err) without
 
 pub returns : goal.returns
 returns c hist all fits =
-    let m : Mark = record { pos = c.args.hit.pos; key = c.args.hit.key } in
+    let m : Mark = record { spot = c.args.hit.spot; key = c.args.hit.key } in
     either (λ t. AllFit t hist) c.insert.result c.args.table.now (with_hit c.args.table.now m c.args.hit.values) c.insert.new.self
     c.insert.ensures.ok c.insert.ensures.err (c.fitting_keys.ensures.comes c.args.table.now hist m c.args.hit.values all fits) all
