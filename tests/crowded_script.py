@@ -3,11 +3,11 @@
 
     crowded_script.py EDITS SEED FOLDER > COUNTS
 
-writes FOLDER/script, FOLDER/trace1 and on, one for each CPU, FOLDER/expected and FOLDER/status. More keys are held than the tables have room for,
-savers and readers among them, and events come and go about where the tables are full, so that keys of savers are taken
-in and out. Behind each edit all attached triggers' totals are asked, and one table or list of latencies. The one line
-that is printed says how many edits were accepted, how many keys were held at the most and how many of the edits
-switched a key of some saver.
+writes FOLDER/script, FOLDER/trace1 and on, one for each CPU, FOLDER/expected and FOLDER/status. More keys are held
+than the tables have room for, savers and readers among them, some of which make events that are counted, and events
+come and go about where the tables are full, so that keys of savers are taken in and out. Behind each edit all
+attached triggers' totals are asked, and one table or list of latencies. The one line that is printed says how many
+edits were accepted, how many keys were held at the most and how many of the edits switched a key of some saver.
 """
 
 import os
@@ -21,13 +21,17 @@ from model import Desk, Refused
 KEYS, EVENTS, CPUS = 500, 900, 3
 # Microseconds over which events come; the first third of them fills the tables.
 SPAN = 3 * 10**6
+# What some readers make of their latencies, and the size of their tables.
+MAKES = "wakeup_latency($lat,next_pid,next_prio):size=128"
 TRIGGERS = [
     "sched_waking hist:keys=pid:a=common_timestamp.usecs:size=128",
-    "sched_switch hist:keys=next_pid:vals=$lat:lat=common_timestamp.usecs-$a:size=128",
+    f"sched_switch hist:keys=next_pid:vals=$lat:lat=common_timestamp.usecs-$a:onmatch(sched.sched_waking).{MAKES}",
     "sched_switch hist:keys=next_pid:lat=common_timestamp.usecs-$a:sort=next_pid",
     "sched_wakeup hist:keys=pid:vals=$b:b=common_timestamp.usecs:size=128 if prio < 130",
-    "sched_switch hist:keys=next_pid:vals=$own,next_prio:own=common_timestamp.usecs-$b:size=128",
+    f"sched_switch hist:keys=next_pid:vals=$lat:lat=common_timestamp.usecs-$b:onmatch(sched.sched_wakeup).{MAKES}",
     "sched_switch hist:keys=next_pid:vals=next_prio:size=128:sort=next_prio.descending",
+    "wakeup_latency hist:keys=pid:vals=lat:size=128",
+    "wakeup_latency hist:keys=lat.log2,prio:vals=lat:sort=lat if lat > 1000",
 ]
 FILTERS = ["none", "if common_cpu != 1", "if common_pid < 7", "if common_pid & 3 || common_cpu == 0"]
 

@@ -13,11 +13,13 @@ import os
 import subprocess
 import sys
 
-WAKE, TURN = "attach sched_waking hist:", "attach sched_switch hist:"
+WAKE, TURN, MADE = "attach sched_waking hist:", "attach sched_switch hist:", "attach wakeup_latency hist:"
 FIRST = ["load @1", "# one saver, one reader, one without", WAKE + "keys=pid:ts0=common_timestamp.usecs", ""]
 FIRST += [TURN + "keys=next_pid:lat=common_timestamp.usecs-$ts0", "   ", WAKE + "keys=comm"]
 TRACES = {"good.trace": "a-1 [001] 1.000000:\n", "bad.trace": "# tracer: nop\na-1 [001] 1.000000:\nb-2 [001] 1.00\n"}
 LINE = "insert a-1 [000] 1.000000: "
+MAKER = TURN + "keys=next_pid:l=common_timestamp.usecs-$ts0:onmatch(sched.sched_"
+SECOND = "onmatch(sched.sched_waking).wakeup_latency($l,pid,prio)"
 BAD_SWITCH = LINE + "sched_switch: bash:1 [120] S ==> idle:0 [120]"
 
 REFUSALS = [
@@ -30,6 +32,7 @@ REFUSALS = [
     ("remove 1", "11: trigger 2", "trigger 2 (line 5) reads the variable", None),
     (WAKE + "keys=pid:ts0=common_timestamp.usecs", "12: trigger 1", "trigger 1 (line 3) saves a variable", None),
     (TURN + "keys=next_pid:l=common_timestamp.usecs-$ts1", "13", "saves the variable ts1; did you mean ts0?", None),
+    (MAKER + "wakeup).wakeup_latency($l,next_pid,next_prio)", "13", "saves ts0, on sched_waking and not on", None),
     (TURN + "keys=next_comm:l=common_timestamp.usecs-$ts0", "14", "don't match those of trigger 1 (line 3)", None),
     ("lat 3", "17", "reads no variable", None),
     ("lat 3 ", "17", "those that do: 2", None),
@@ -44,6 +47,7 @@ COMMANDS = [
     ("#" * 8193, "16", "more than 8,192 bytes", None),
     ("attach sched_wakin hist:keys=pid", "16", "did you mean sched_waking?", "sched_wakin hist:keys=pid"),
     ("attach  sched:sched_waking hist:", "16", "did you mean sched_waking?", "sched:sched_waking hist:"),
+    ("attach wakeup_late hist:keys=lat", "16", "did you mean wakeup_latency?", "wakeup_late hist:keys=lat"),
     ("attach wakeup_new hist:keys=pid", "16", "did you mean sched_wakeup_new?", "wakeup_new hist:keys=pid"),
     ("load bad.trace", "16", "did you mean load @2?", "bad.trace"),
     ("load 1", "16", "did you mean load @1?", "1"),
@@ -118,6 +122,15 @@ TRIGGERS = [
     (WAKE + "keys=pid.execname", "10 at 10", "the kernel has this form", "pid.execname"),
     (WAKE + "keys=pid:pause", "10 at 14", "the kernel has this form", "pause"),
     (WAKE + "kyes=pid", "10 at 5", "did you mean keys=?", "kyes=pid"),
+    (MAKER + "waking).wakeup_latency($l,pid,next_prio)", "3", "sched_switch (the wake events have", "pid,next_prio)"),
+    (MAKER + "waking).wakeup_latency($l,next_pid,next_comm)", "4", "a number is due", "next_comm)"),
+    (MAKER + "waking).wakeup_latency($t,next_pid,next_pid)", "3", "of a trigger that reads", "$t,next_pid,next_pid)"),
+    (MAKER + f"waking).wakeup_latency($l,next_pid,next_prio):{SECOND}", "6", "second part of its form", SECOND),
+    (WAKE + "keys=pid,lat", "3", "(wakeup_latency has it)", "lat"),
+    (MADE + "keys=comm", "3", "no such field of wakeup_latency (the wake events have it)", "comm"),
+    (MADE + "keys=lat:v=common_timestamp.usecs", "10 at 14", "has no variable", "v=common_timestamp.usecs"),
+    (MADE + "keys=lat:onmatch(x).y()", "10 at 14", "makes no events", "onmatch(x).y()"),
+    (MAKER + "waking).trace(x)", "10 at 49", "wakeup_latency($OWN,F,G)", "onmatch(sched.sched_waking).trace(x)"),
 ]
 
 

@@ -25,8 +25,9 @@ import tempfile
 sys.dont_write_bytecode = True
 
 import hostile_texts as texts
+from hostile_texts import ATTACHED
 from model import Desk, Refused
-from model_line import EVENTS, fields_of
+from model_line import MADE, fields_of
 
 PARTS = 100
 LINES, FILTERS, TRIGGERS, SCRIPTS = 200, 50, 50, 20
@@ -36,6 +37,9 @@ TRACE = 5
 LIMIT = 120
 # So many bytes of an output are shown.
 SHOWN = 200
+# A trigger on switches that reads t and makes events.
+MAKER = "hist:keys=next_pid:v=common_timestamp.usecs-$t"
+MAKER += ":onmatch(sched.sched_waking).wakeup_latency($v,next_pid,next_prio)"
 
 
 class Session:
@@ -120,15 +124,18 @@ def held(draw, count):
 
 
 def filters_session(draw, name):
-    """Filters of a trigger for each event, and of triggers as they come; tables have a row for each event that passes."""
+    """Filters of a trigger for each event, and of triggers as they come; tables have a row for each event that passes.
+    Two triggers save and read, so that there are events that triggers make."""
     session = Session(name, [held(draw, 40)])
     session.perform("load @1")
-    keys = {event: ",".join([fields_of(event)[2], fields_of(event)[3], "common_cpu"]) for event in EVENTS}
-    for event in EVENTS:
+    keys = {event: ",".join([fields_of(event)[2], fields_of(event)[3], "common_cpu"]) for event in ATTACHED}
+    for event in ATTACHED:
         session.perform(f"attach {event} hist:keys={keys[event]}")
+    session.perform("attach sched_waking hist:keys=pid:t=common_timestamp.usecs")
+    session.perform(f"attach sched_switch {MAKER}")
     for _ in range(FILTERS):
-        number = draw.randrange(len(EVENTS))
-        event = EVENTS[number]
+        number = draw.randrange(len(ATTACHED))
+        event = ATTACHED[number]
         text = texts.hostile_filter(draw, event)
         if draw.random() < 0.7:
             if session.perform(f"filter {number + 1} if {text}"):
@@ -141,15 +148,18 @@ def filters_session(draw, name):
 
 
 def triggers_session(draw, name):
-    """Triggers beside two savers, whose variables they may read; each that is accepted goes again."""
+    """Triggers beside two savers, whose variables they may read, and one on the event that they may make. Each that is
+    accepted goes again."""
     session = Session(name, [held(draw, 40)])
     session.perform("load @1")
     session.perform("attach sched_waking hist:keys=pid:t=common_timestamp.usecs")
     session.perform("attach sched_switch hist:keys=next_comm,next_prio.log2:s=common_timestamp.usecs:size=128")
+    session.perform(f"attach {MADE} hist:keys=lat,pid.log2:vals=prio")
     for _ in range(TRIGGERS):
-        event = draw.choice(EVENTS)
+        event = draw.choice(ATTACHED)
         if session.perform(f"attach {event} {texts.hostile_trigger(draw, event)}"):
             session.ask_trigger(session.attached())
+            session.perform("hist 3")
             session.perform(f"remove {session.attached()}")
     session.ask_all()
     return session

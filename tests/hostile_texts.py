@@ -5,7 +5,7 @@ A character stands for each byte, as in model.py. Each call takes a `random.Rand
 
 import re
 
-from model_line import EVENTS, TEXTS, fields_of
+from model_line import EVENTS, MADE, TEXTS, fields_of
 
 # What is put into texts: most often a byte that says something there.
 SIGNS = " \t\r&|!()=<>~'\"$.,:;-+[]*?\\#@_0123456789abefhimnopstxzAZ"
@@ -26,7 +26,7 @@ EDGES = {
     "seconds": ["4294967295", "4294967296", "4294967294", "0000000001", "00000000001", "", "-1", "1a", "9999999999"],
     "micros": ["000000", "00000", "0000000", "999999", "00000a", "", "-00001", "000000:"],
     "end": [":", "", "::", ": ", " :", ":x"],
-    "label": [*EVENTS, "sched_waking_", "sched_wakeup_ne", "Sched_waking", "sched_switch ", "update_curr", ""],
+    "label": [*EVENTS, "sched_waking_", "sched_wakeup_ne", "Sched_waking", "sched_switch ", MADE, "update_curr", ""],
     "text": [*COMMS, "x" * 31, "x" * 32, "x" * 30, "\xff" * 31],
     "number": NUMBERS,
     "count": [*ENDS, "000", "8191", "", "1a", "0" * 40],
@@ -55,6 +55,8 @@ SKIPPED = ["# tracer: nop", "##### CPU 2 buffer started ####", "CPU:1 [LOST 7 EV
 SKIPPED += ["", " ", "\t ", "hello"]
 PATTERNS = ["*", "cyc*", "*app*", "?h", "[a-z]*", "[!a]*", "[a-]", "*[0-9]", "w", "", "[a-c-e]?", "*a*b*", "[!!]*"]
 OPERATORS = ["==", "!=", "<", "<=", ">", ">=", "&", "~"]
+# What triggers are attached to.
+ATTACHED = [*EVENTS, MADE]
 # Commands, each good somewhere.
 ANSWERS = ["hist", "totals", "lat"]
 
@@ -205,7 +207,7 @@ def strange_value(draw, event):
 def strange_pattern(draw, event):
     """A pattern that is good or near it."""
     pattern = near(draw, near(draw, draw.choice(PATTERNS))).replace('"', "")
-    field = draw.choice([field for field in fields_of(event) if field in TEXTS])
+    field = draw.choice([field for field in fields_of(event) if field in TEXTS] or ["lat"])
     return f'{field} ~ "{pattern}"'
 
 
@@ -219,7 +221,7 @@ def hostile_filter(draw, event):
         return torn(draw, condition(draw, event), condition(draw, event))
     if kind == 3:
         # Fields of another event.
-        return condition(draw, draw.choice(EVENTS))
+        return condition(draw, draw.choice(ATTACHED))
     if kind == 4:
         return doubled(draw, condition(draw, event), r"[a-z_]+|&&|\|\||[()!]|[<>=~&]+|-?\d+")
     if kind == 5:
@@ -237,12 +239,33 @@ def modified(draw, field):
     return field + draw.choice(["", "", ".hex", ".log2", ".buckets=8", ".buckets=4294967295"])
 
 
+def making(draw, event, own="v", saver="sched_waking"):
+    """A part that makes events of latencies. It may hand on a text or another event's field, or name another saver."""
+    fields = fields_of(event if draw.random() < 0.95 else draw.choice(ATTACHED))
+    handed = [draw.choice([field for field in fields if field not in TEXTS or draw.random() < 0.1]) for _ in range(2)]
+    saver = draw.choice([*[saver] * 8, *EVENTS])
+    return f"onmatch(sched.{saver}).wakeup_latency(${own},{','.join(handed)})"
+
+
+def maker(draw, event):
+    """A trigger that makes events of the latencies that it has with one of the savers of hostile.py, t and s."""
+    number = draw.choice([field for field in fields_of(event) if field not in TEXTS])
+    text = draw.choice([field for field in fields_of(event) if field in TEXTS] or ["common_pid"])
+    forms = [("t", number, "sched_waking"), ("s", f"{text},{number}.log2", "sched_switch")]
+    name, keys, saver = draw.choice(forms)
+    parts = [f"keys={keys}", f"v=common_timestamp.usecs-${name}", making(draw, event, saver=saver)]
+    parts += draw.choice([[], ["size=256"], ["vals=$v"], ["sort=hitcount.descending"]])
+    draw.shuffle(parts)
+    return "hist:" + ":".join(parts) + draw.choice(["", "", " if " + condition(draw, event, 1)])
+
+
 def trigger(draw, event):
     """A trigger's text for the event; there may be an item too many, a size out of range, a variable that isn't there."""
     fields = fields_of(event)
     keys = [modified(draw, field) for field in draw.sample(fields, draw.choice([1, 1, 1, 1, 2, 2, 3, 3, 4]))]
+    is_made = event == MADE and draw.random() < 0.8
     numbers = [field for field in fields if field not in TEXTS or draw.random() < 0.02]
-    values = draw.sample([*numbers, "hitcount", "$v"], draw.choice([0, 0, 0, 1, 2, 3, 4]))
+    values = draw.sample([*numbers, "hitcount", *["$v"][is_made:]], draw.choice([0, 0, 0, 1, 2, 3, 4]))
     names = [*values, *(item.split(".")[0] for item in keys), "hitcount"]
     sorted_by = draw.sample(names, min(len(names), draw.choice([1, 1, 2, 2, 3])))
     sorts = [name + draw.choice(["", "", ".ascending", ".descending"]) for name in sorted_by]
@@ -253,8 +276,10 @@ def trigger(draw, event):
         parts.append("sort=" + ",".join(sorts))
     if draw.random() < 0.4:
         parts.append("size=" + draw.choice(["64", "65", "128", "128", "129", "2048", "131072", "131073", "0128"]))
-    if "$v" in values or draw.random() < 0.3:
+    if "$v" in values or not is_made and draw.random() < 0.3:
         parts.append("v=common_timestamp.usecs" + draw.choice(["", "-$t", "-$s"]))
+    if draw.random() < (0.4 if "-$" in parts[-1] else 0.03):
+        parts.append(making(draw, event))
     draw.shuffle(parts)
     tail = draw.choice(["", "", " if ", "\tif\t "])
     return "hist:" + ":".join(parts) + (tail and tail + condition(draw, event, 1))
@@ -265,7 +290,11 @@ def strange_trigger(draw, event):
     parts = ["pause", "cont", "clear", "nohitcount", "name=x", "clock=global", "onmax($v).save(comm)", "onchange($v)"]
     parts += ["onmatch(x.y).z()", "", "keys", "keys=pid", "vals=", "sort=", "size=", "size=-1", "1=2", "v =pid"]
     parts += ["w=common_timestamp.usecs", "pid=common_timestamp.usecs", "hitcount=common_timestamp.usecs"]
-    parts += ["v=common_timestamp.usecs-$v", "v=common_timestamp", "v=pid"]
+    parts += ["v=common_timestamp.usecs-$v", "v=common_timestamp", "v=pid", "onmatch", "onmatch(", "onmatch=pid"]
+    parts += ["onmatch(sched.sched_waking)", "onmatch(sched.sched_waking).wakeup_latency($v,pid)"]
+    parts += ["onmatch(sched.wakeup_latency).wakeup_latency($v,common_pid,common_cpu)", making(draw, event)]
+    parts += ["onmatch(sched.sched_waking).wakeup_latency($v,common_pid,lat)", making(draw, event, "t")]
+    parts += ["onmatch(sched.sched_waking).trace(wakeup_latency,$v,common_pid,common_cpu)"]
     items = [".execname", ".sym-offset", ".percent", ".graph", ".stacktrace", ".usecs", ".", ".hex.hex"]
     items += [".buckets=0", ".buckets=4294967296", ",stacktrace", ",common_stacktrace", ",common_timestamp", ",$v"]
     items += [",common_timestamp.usecs", ",", ",nope", ",hitcount", ",pid", ",comm"]
@@ -275,16 +304,18 @@ def strange_trigger(draw, event):
 
 
 def hostile_trigger(draw, event):
-    kind = draw.randrange(12)
+    kind = draw.randrange(14)
     if kind == 0:
         return torn(draw, trigger(draw, event), trigger(draw, event))
     if kind == 1:
-        return doubled(draw, trigger(draw, event), r"[a-z_]+=?|[:,.=$]|\d+")
+        return doubled(draw, trigger(draw, event), r"[a-z_]+=?|[:,.=$()]|\d+")
     if kind == 2:
-        return trigger(draw, draw.choice(EVENTS))
+        return trigger(draw, draw.choice(ATTACHED))
     if kind < 5:
         return strange_trigger(draw, event)
-    return near(draw, trigger(draw, event)) if kind < 9 else trigger(draw, event)
+    if kind < 7:
+        return maker(draw, event) if kind == 5 else near(draw, maker(draw, event))
+    return near(draw, trigger(draw, event)) if kind < 11 else trigger(draw, event)
 
 
 # ---- commands
@@ -292,13 +323,17 @@ def hostile_trigger(draw, event):
 
 def command(draw):
     """A good command, or one that is good on another desk."""
-    event, cpu, number = draw.choice(EVENTS), draw.choice([0, 0, 1, 3]), draw.choice([1, 1, 2, 3])
+    event, cpu, number = draw.choice(ATTACHED), draw.choice([0, 0, 1, 3]), draw.choice([1, 1, 2, 3])
     kind = draw.randrange(12)
     if kind < 2:
         return f"load @{draw.randrange(1, 4)}"
     if kind < 4:
         side = "next_" if event == "sched_switch" else ""
         variable = draw.choice([":t=common_timestamp.usecs", ":vals=$v:v=common_timestamp.usecs-$t", ""])
+        if event == MADE and draw.random() < 0.9:
+            return f"attach {event} hist:keys={modified(draw, draw.choice(['lat', 'pid', 'prio']))}:size=128"
+        if "-" in variable and draw.random() < 0.5:
+            variable += f":{making(draw, event)}"
         return f"attach {event} hist:keys={side}pid{variable}:size=128"
     if kind < 6:
         return "insert " + line(draw)

@@ -4,7 +4,7 @@
     model.py SCRIPT [TRACE]... > OUTPUT
 
 It was written from docs/FORMAT.md and docs/MEANING.md, and shares nothing with the program. Its other parts are
-model_line.py, model_filter.py and model_trigger.py. It knows nothing of what is planned there.
+model_line.py, model_filter.py and model_trigger.py.
 """
 
 import re
@@ -17,7 +17,7 @@ if hasattr(sys, "set_int_max_str_digits"):
     sys.set_int_max_str_digits(0)
 
 from model_filter import FilterFault, read_filter
-from model_line import EVENTS, LineFault, line_text, read_line
+from model_line import EVENTS, MADE, LineFault, line_text, read_line
 from model_trigger import MASK, Trigger, TriggerFault, field_of
 
 MOST_EVENTS = 1048576
@@ -101,7 +101,7 @@ class Desk:
             raise Refused(f"12: trigger {self.saver_of(trigger.saves)}")
         if trigger.reads:
             saver = self.saver_of(trigger.reads)
-            if saver is None:
+            if saver is None or trigger.matched not in (None, self.triggers[saver].event):
                 raise Refused("13")
             if self.triggers[saver].kinds() != trigger.kinds():
                 raise Refused("14")
@@ -138,14 +138,17 @@ class Desk:
         state = {i: {"table": {}, "dropped": 0, "pairs": []} for i in self.triggers}
         variables = {}
         for pos in merged:
-            event = self.lanes[pos[1]]["events"][pos[2]]
-            for number, trigger in sorted(self.triggers.items()):
-                if trigger.is_hit(event):
-                    self.act(number, trigger, pos, event, state[number], variables)
+            self.passes_by(pos, self.lanes[pos[1]]["events"][pos[2]], state, variables)
         return state
 
-    def act(self, number, trigger, pos, event, told, variables):
-        key = trigger.key_of(event)
+    def passes_by(self, pos, event, state, variables):
+        """An event goes past the triggers on its name, in order of id."""
+        for number, trigger in sorted(self.triggers.items()):
+            if trigger.is_hit(event):
+                self.act(number, trigger, pos, event, state, variables)
+
+    def act(self, number, trigger, pos, event, state, variables):
+        key, told = trigger.key_of(event), state[number]
         own = pos[0]
         if trigger.reads:
             saved = variables.pop((self.saver_of(trigger.reads), key), None)
@@ -153,6 +156,8 @@ class Desk:
                 return
             told["pairs"].append((saved, pos))
             own = pos[0] - saved[0]
+            if trigger.making:
+                self.passes_by(pos, trigger.made_of(event, own), state, variables)
         if key not in told["table"] and len(told["table"]) >= trigger.size:
             told["dropped"] += 1
             return
@@ -220,7 +225,7 @@ class Desk:
             return self.insert(line[7:])
         if word == "attach":
             event, text = split(rest)
-            if event not in EVENTS:
+            if event not in (*EVENTS, MADE):
                 raise Refused("16")
             return self.attach(event, text)
         if word == "load":

@@ -13,6 +13,8 @@ WAKE_FIELDS = ["comm", "pid", "prio", "success", "target_cpu"]
 TURN_FIELDS = ["prev_comm", "prev_pid", "prev_prio", "prev_state", "next_comm", "next_pid", "next_prio"]
 TEXTS = {"comm", "prev_comm", "prev_state", "next_comm"}
 EVENTS = ["sched_waking", "sched_wakeup", "sched_wakeup_new", "sched_switch"]
+# The event that triggers make: no line is read as one.
+MADE, MADE_FIELDS = "wakeup_latency", ["lat", "pid", "prio"]
 
 
 class LineFault(Exception):
@@ -21,7 +23,7 @@ class LineFault(Exception):
 
 def fields_of(name):
     """The fields of an event's name, those of every event first."""
-    own = TURN_FIELDS if name == "sched_switch" else [field for field in WAKE_FIELDS if field != "success"]
+    own = {"sched_switch": TURN_FIELDS, MADE: MADE_FIELDS}.get(name) or [field for field in WAKE_FIELDS if field != "success"]
     return ["common_pid", "common_cpu"] + own
 
 

@@ -3,13 +3,14 @@
 import re
 
 from model_filter import FilterFault, filter_text, passes, read_filter
-from model_line import TEXTS, fields_of
+from model_line import EVENTS, MADE, TEXTS, fields_of
 
 MASK = (1 << 64) - 1
 NAME = "[A-Za-z_][A-Za-z0-9_]*"
 ITEM = re.compile(rf"(\$?{NAME})(?:\.(.+))?", re.DOTALL)
 VARIABLE = re.compile(rf"({NAME})=common_timestamp\.usecs(?:-\$({NAME}))?")
 ASSIGNED = re.compile(f"{NAME}=")
+MAKING = re.compile(rf"onmatch\(sched\.({'|'.join(EVENTS)})\)\.wakeup_latency\(\$({NAME}),({NAME}),({NAME})\)")
 KINDS = {"keys": "keys", "key": "keys", "values": "vals", "vals": "vals", "val": "vals", "sort": "sort", "size": "size"}
 LEFT_OUT = ["pause", "cont", "clear", "nohitcount"]
 LEFT_OUT_BEGINS = ("name=", "clock=", "onmax(", "onchange(", "onmatch(")
@@ -31,6 +32,8 @@ class Trigger:
         self.parts, self.keys, self.values, self.sort, self.size = set(), [], [], [], 2048
         self.own = self.saves = self.reads = self.filter = None
         self.value_items, self.variable = set(), ""
+        # What events are made of at latencies: the event that must have saved, the variable and the fields handed on.
+        self.making, self.matched, self.handed = "", None, ()
         head = re.match("[^ \t]*", text)[0]
         self.read_head(head)
         self.read_tail(text.rstrip(" \t"), len(head))
@@ -46,6 +49,7 @@ class Trigger:
         fail_if(not self.keys, 2, len(head))
         for value in self.values:
             fail_if(value.startswith("$") and value[1:] != self.own, 3)
+        fail_if(self.making and not (self.reads and self.own == self.handed[0]), 3)
         self.sort = self.sort or [("hitcount", False)]
         names = ["hitcount", *self.values, *(field for field, _ in self.keys)]
         for name, _ in self.sort:
@@ -62,12 +66,16 @@ class Trigger:
             raise TriggerFault(f"fault 11 {fault.text()}")
 
     def read_part(self, part, at):
+        making = MAKING.fullmatch(part)
+        if making and self.event != MADE:
+            self.read_making(part, making)
+            return
         word, _, rest = part.partition("=")
         kind = KINDS.get(word) if "=" in part else None
         variable = VARIABLE.fullmatch(part)
         left_out = part in LEFT_OUT or part.startswith(LEFT_OUT_BEGINS)
         fail_if(not (kind or left_out or ASSIGNED.match(part)), 2, at)
-        fail_if(left_out or not kind and (not variable or self.own), 10, at)
+        fail_if(left_out or not kind and (not variable or self.own or self.event == MADE), 10, at)
         if not kind:
             self.read_variable(part, variable)
             return
@@ -87,6 +95,13 @@ class Trigger:
         own, other = variable.groups()
         fail_if(own in self.fields or own in ("hitcount", other), 6)
         self.own, self.reads, self.saves, self.variable = own, other, None if other else own, f":{part}"
+
+    def read_making(self, part, making):
+        fail_if(self.making, 6)
+        self.making, self.matched, self.handed = f":{part}", making[1], making.groups()[1:]
+        for field in self.handed[1:]:
+            fail_if(field not in self.fields, 3)
+            fail_if(field in TEXTS, 4)
 
     def read_key(self, name, modifier, at, number):
         fail_if(number > 3, 5)
@@ -133,7 +148,7 @@ class Trigger:
         keys = ",".join(field + ("." + mode if mode else "") for field, mode in self.keys)
         values = "".join("," + value for value in self.values)
         sort = ",".join(name + (".descending" if down else "") for name, down in self.sort)
-        head = f"hist:keys={keys}:vals=hitcount{values}{self.variable}:sort={sort}:size={self.size}"
+        head = f"hist:keys={keys}:vals=hitcount{values}{self.variable}:sort={sort}:size={self.size}{self.making}"
         return head + (f" if {filter_text(self.filter)}" if self.filter else "")
 
     def kinds(self):
@@ -141,6 +156,12 @@ class Trigger:
 
     def is_hit(self, event):
         return self.event == event["name"] and (not self.filter or passes(self.filter, lambda field: field_of(event, field)))
+
+    def made_of(self, event, latency):
+        """The event that is made of a latency, which has what the reading event has in front."""
+        _, pid, prio = self.handed
+        said = {"lat": latency, "pid": field_of(event, pid), "prio": field_of(event, prio)}
+        return event | {"name": MADE, "said": said}
 
     def key_of(self, event):
         return tuple(component(field_of(event, field), mode) for field, mode in self.keys)

@@ -262,6 +262,8 @@ gives filters 0 "" "$histdesk" "$examples/filters.script" "$examples/who-wakes.t
 prints filters "$examples/filters.expected"
 gives wakeups 0 "" "$histdesk" "$examples/wakeups.script" "$examples/wakeups.trace"
 prints wakeups "$examples/wakeups.expected"
+gives latencies 0 "" "$histdesk" "$examples/latencies.script" "$examples/wakeups.trace"
+prints latencies "$examples/latencies.expected"
 gives edits 0 "" "$histdesk" "$examples/edits.script" "$examples/wakeups.trace"
 prints edits "$examples/edits.expected"
 gives full_table 0 "" "$histdesk" "$examples/full-table.script" "$examples/full-table.trace"
@@ -303,7 +305,8 @@ hostile "$histdesk" ${plaindesk:+"$plaindesk"}
 growths "$histdesk" "${rows[@]}" "$folder"/short/*
 if [[ -n $askagain ]]; then
     asks_again "$askagain" one_latency full_table_and_early_insert dropped_saver_comes_in \
-        dropped_reading_still_pairs strikes_and_removes each_edit_with_answers edits_in_a_row
+        dropped_reading_still_pairs strikes_and_removes each_edit_with_answers edits_in_a_row \
+        latencies_by_powers_of_two made_events_come_and_go
 fi
 tools
 holds "$here/documents.py"

@@ -15,9 +15,11 @@ import sys
 sys.dont_write_bytecode = True
 
 import random_texts
-from random_texts import COMMS, EVENTS, STATES
+from random_texts import ATTACHED, COMMS, EVENTS, STATES
 
 CPUS, STAMPS = 3, 3 * 10**6
+# What the first reader makes of its latencies, in some scripts.
+FIRST_MAKING = "onmatch(sched.sched_waking).wakeup_latency($lat,next_pid,next_prio)"
 
 
 def line(draw, cpu):
@@ -31,8 +33,12 @@ def line(draw, cpu):
 
 def trigger(draw):
     """A trigger's text: one of any form, or a saver on some event, a reader or a plain one, whose keys often match."""
-    event = draw.choice(EVENTS)
-    if draw.randrange(3) == 0:
+    event = draw.choice(ATTACHED)
+    if event == "wakeup_latency" and draw.randrange(2):
+        key = draw.choice(["lat.log2", "lat.log2,pid", "pid", "prio,lat.buckets=100000", "lat", "common_cpu"])
+        tail = draw.choice(["", ":vals=lat", ":vals=lat,prio:sort=lat.descending", ":size=128", " if lat < 500000"])
+        return f"attach {event} hist:keys={key}{tail}"
+    if draw.randrange(3) == 0 or event == "wakeup_latency":
         return f"attach {event} {random_texts.trigger(draw, event)}"
     side = "next_" if event == "sched_switch" else ""
     key = draw.choice(["pid"] * 8 + ["comm", "prio.log2", "pid.buckets=8", "comm,pid", "pid.hex"])
@@ -45,7 +51,10 @@ def trigger(draw):
     if kind == 0:
         value, variable = draw.choice(["", f":vals=${name}"]), f":{name}=common_timestamp.usecs"
     elif kind < 3:
+        name = draw.choice(["a", name])
         value, variable = draw.choice(["", ":vals=$lat"]), f":lat=common_timestamp.usecs-${name}"
+        if draw.randrange(2):
+            variable += ":" + random_texts.making(draw, event, "lat")
     else:
         variable = ""
     return f"attach {event} hist:keys={keys}{value}{variable}{sort}{size}"
@@ -54,7 +63,7 @@ def trigger(draw):
 def condition(draw):
     """A filter that each event name has the fields of, or one of any form on some event."""
     if draw.randrange(2):
-        return random_texts.condition(draw, draw.choice(EVENTS))
+        return random_texts.condition(draw, draw.choice(ATTACHED))
     return draw.choice(["common_pid < 6", "common_cpu == 0", "common_cpu != 1 && common_pid & 3", "common_pid >= 2"])
 
 
@@ -94,7 +103,11 @@ def main():
         for cpu in range(CPUS):
             script.write(f"load @{cpu + 1}\n")
         script.write("attach sched_waking hist:keys=pid:a=common_timestamp.usecs:size=128\n")
-        script.write("attach sched_switch hist:keys=next_pid:vals=$lat:lat=common_timestamp.usecs-$a:size=128\n")
+        making = draw.choice(["", ":" + FIRST_MAKING, ":" + FIRST_MAKING])
+        reader = "hist:keys=next_pid:vals=$lat:lat=common_timestamp.usecs-$a:size=128"
+        script.write(f"attach sched_switch {reader}{making}\n")
+        if making:
+            script.write("attach wakeup_latency hist:keys=lat.log2:vals=lat\n")
         for _ in range(commands):
             script.write(command(draw, 2 * events // CPUS, ids) + "\n")
 

@@ -3,8 +3,11 @@ now and then one that is spoilt, so that faults and their places are compared to
 
 WAKE = ["pid", "prio", "target_cpu"], ["comm"]
 SWITCH = ["prev_pid", "prev_prio", "next_pid", "next_prio"], ["prev_comm", "prev_state", "next_comm"]
+MADE = ["lat", "pid", "prio"], []
 COMMON = ["common_pid", "common_cpu"]
 EVENTS = ["sched_waking", "sched_wakeup", "sched_wakeup_new", "sched_switch"]
+# What triggers are attached to: the events of traces, and the one that triggers make.
+ATTACHED = [*EVENTS, "wakeup_latency"]
 # Names of tasks, with each kind of quote and with what stands for more in a pattern.
 COMMS = ["cyclictest", "my app 2", "kworker/0:1", "sh", "it's me", 'say "hi"', "[x]-y"]
 STATES = ["S", "R+", "D"]
@@ -13,11 +16,11 @@ SPOILS = "!()&|<>=~[]*?\\'\"$,.:-_ \t0x9azZ"
 
 
 def numeric(event):
-    return (SWITCH if event == "sched_switch" else WAKE)[0] + COMMON
+    return {"sched_switch": SWITCH, "wakeup_latency": MADE}.get(event, WAKE)[0] + COMMON
 
 
 def textual(event):
-    return (SWITCH if event == "sched_switch" else WAKE)[1]
+    return {"sched_switch": SWITCH, "wakeup_latency": MADE}.get(event, WAKE)[1]
 
 
 def spoilt(draw, text):
@@ -77,7 +80,7 @@ def pattern(draw, text):
 
 
 def predicate(draw, event):
-    if draw.randrange(3):
+    if draw.randrange(3) or not textual(event):
         field, operator = draw.choice(numeric(event)), draw.choice(["==", "!=", "<", "<=", ">", ">=", "&"])
         value = number(draw)
     else:
@@ -117,7 +120,7 @@ def condition(draw, event):
 
 
 def key(draw, event):
-    if draw.randrange(4) == 0:
+    if draw.randrange(4) == 0 and textual(event):
         return draw.choice(textual(event))
     return draw.choice(numeric(event)) + draw.choice(["", "", ".hex", ".log2", f".buckets={draw.choice(['3', '8', '010', '4294967295'])}"])
 
@@ -126,11 +129,22 @@ def direction(draw):
     return draw.choice(["", "", ".ascending", ".descending", ".descending"])
 
 
+def making(draw, event, own):
+    """A part that makes events of latencies, mostly a good one in a reader that has this variable."""
+    saver, handed = draw.choice(["sched_waking"] * 4 + EVENTS), [draw.choice(numeric(event)) for _ in range(2)]
+    if draw.randrange(10) == 0:
+        handed[draw.randrange(2)] = draw.choice([*textual(event), "lat", "pid", "next_pid"])
+    text = f"onmatch(sched.{saver}).wakeup_latency(${own},{','.join(handed)})"
+    return spoilt(draw, text) if draw.randrange(10) == 0 else text
+
+
 def trigger(draw, event):
     """The text of a trigger on an event, with any of the forms: items of each list as they come, parts in any order."""
     keys = {item.partition(".")[0]: item for item in (key(draw, event) for _ in range(draw.choice([1, 1, 2, 3])))}
     parts = [draw.choice(["keys=", "keys=", "key="]) + ",".join(keys.values())]
-    variable = draw.choice(["", "", "", "c=common_timestamp.usecs", "lat=common_timestamp.usecs-$" + draw.choice("abc")])
+    # The event that triggers make has no variables.
+    empty = [""] * (40 if event == "wakeup_latency" else 3)
+    variable = draw.choice([*empty, "c=common_timestamp.usecs", "lat=common_timestamp.usecs-$" + draw.choice("abc")])
     own = ["$" + variable.partition("=")[0]] if variable else []
     values = draw.sample(numeric(event) + ["hitcount"] + own, draw.randrange(4))
     if values:
@@ -144,6 +158,10 @@ def trigger(draw, event):
     draw.shuffle(parts)
     if variable:
         parts.insert(draw.randrange(len(parts) + 1), variable)
+    for _ in range(draw.choice([0, 1, 1] if "$" in variable else [0] * 15 + [1])):
+        parts.insert(draw.randrange(len(parts) + 1), making(draw, event, draw.choice(["lat"] * 9 + ["a"])))
+        if draw.randrange(20) == 0:
+            parts.append(making(draw, event, "lat"))
     text = "hist:" + ":".join(parts)
     if draw.randrange(3):
         text += draw.choice([" ", "  ", "\t"]) + "if" + draw.choice([" ", "\t "]) + condition(draw, event)

@@ -78,6 +78,101 @@ else
     fail "explained as it is typed: $(<"$folder/seen")"
 fi
 
+# ---- bars
+
+cat >"$folder/tables" <<'END'
+loaded 9
+# event histogram
+#
+# trigger info: hist:keys=lat.log2:vals=hitcount,lat:sort=lat:size=2048 [active]
+#
+
+{ lat: ~ 2^0  } hitcount:          9  lat:          0
+{ lat: ~ 2^3  } hitcount:        120  lat:        700
+{ lat: ~ 2^4  } hitcount:          1  lat:         16
+{ lat: ~ 2^26 } hitcount:         40  lat:   99999999
+
+Totals:
+    Hits: 170
+    Entries: 4
+    Dropped: 0
+# event histogram
+#
+# trigger info: hist:keys=prio.buckets=10:vals=hitcount:sort=prio:size=2048 if pid != 1 && lat > 0 [active]
+#
+
+{ prio: ~ 90-99 } hitcount:          1
+{ prio: ~ 120-129 } hitcount:          2
+{ prio: ~ 18446744073709551600-18446744073709551609 } hitcount:          1
+
+Totals:
+    Hits: 4
+# trigger info: hist:keys=pid.log2:vals=hitcount:sort=pid.descending:size=2048 [active]
+{ pid: ~ 2^5  } hitcount:          1
+{ pid: ~ 2^2  } hitcount:          1
+
+# trigger info: hist:keys=comm:vals=hitcount:sort=hitcount:size=2048 [active]
+{ comm: a, b: ~ 2^7                                        } hitcount:          3
+{ comm: x } hitcount:          8                           } hitcount: 18446744073709551615
+
+# trigger info: hist:keys=comm,pid:vals=hitcount:sort=hitcount:size=2048 [active]
+{ comm: a                                                 , pid:          7 } hitcount:          3
+0:1 -> 0:2: 50 us
+END
+cat >"$folder/drawn" <<'END'
+loaded 9
+# event histogram
+#
+# trigger info: hist:keys=lat.log2:vals=hitcount,lat:sort=lat:size=2048 [active]
+#
+
+lat: ~ 2^0           9  @@@
+lat: ~ 2^1           0
+lat: ~ 2^2           0
+lat: ~ 2^3         120  @@@@@@@@@@@@@@@@@@@@@@@@@@@@@@@@@@@@@@@@
+lat: ~ 2^4           1  @
+..
+lat: ~ 2^26         40  @@@@@@@@@@@@@@
+
+Totals:
+    Hits: 170
+    Entries: 4
+    Dropped: 0
+# event histogram
+#
+# trigger info: hist:keys=prio.buckets=10:vals=hitcount:sort=prio:size=2048 if pid != 1 && lat > 0 [active]
+#
+
+prio: ~ 90-99                                              1  @@@@@@@@@@@@@@@@@@@@
+prio: ~ 100-109                                            0
+prio: ~ 110-119                                            0
+prio: ~ 120-129                                            2  @@@@@@@@@@@@@@@@@@@@@@@@@@@@@@@@@@@@@@@@
+..
+prio: ~ 18446744073709551600-18446744073709551609          1  @@@@@@@@@@@@@@@@@@@@
+
+Totals:
+    Hits: 4
+# trigger info: hist:keys=pid.log2:vals=hitcount:sort=pid.descending:size=2048 [active]
+pid: ~ 2^5          1  @@@@@@@@@@@@@@@@@@@@@@@@@@@@@@@@@@@@@@@@
+pid: ~ 2^2          1  @@@@@@@@@@@@@@@@@@@@@@@@@@@@@@@@@@@@@@@@
+
+# trigger info: hist:keys=comm:vals=hitcount:sort=hitcount:size=2048 [active]
+comm: a, b: ~ 2^7                       3  @
+comm: x } hitcount:          8 18446744073709551615  @@@@@@@@@@@@@@@@@@@@@@@@@@@@@@@@@@@@@@@@
+
+# trigger info: hist:keys=comm,pid:vals=hitcount:sort=hitcount:size=2048 [active]
+{ comm: a                                                 , pid:          7 } hitcount:          3
+0:1 -> 0:2: 50 us
+END
+gives bars 0 "" "$tools/bars" "$folder/tables"
+prints bars "$(<"$folder/drawn")"
+gives bars_of_standard_input 0 "" "$tools/bars" <"$folder/tables"
+prints bars_of_standard_input "$(<"$folder/drawn")"
+gives bars_of_nothing 0 "" "$tools/bars" /dev/null
+prints bars_of_nothing ""
+gives bars_usage 0 "" "$tools/bars" --help
+gives bars_of_no_file 1 "cat: $folder/none: No such file or directory" "$tools/bars" "$folder/none"
+
 # ---- from-perf and from-trace-cmd
 
 cat >"$folder/perf" <<'END'

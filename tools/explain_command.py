@@ -3,7 +3,7 @@
 import os
 import re
 
-from explain_texts import EVENTS, near, nearest, shown
+from explain_texts import ATTACHED, EVENTS, near, nearest, shown
 
 FORMS = {
     "load": "load @N",
@@ -21,6 +21,8 @@ FORMS = {
 NUMBER = re.compile("[0-9]{1,10}")
 NAME = "[A-Za-z_][A-Za-z0-9_]*"
 VARIABLE = re.compile(rf"({NAME})=common_timestamp\.usecs(?:-\$({NAME}))?")
+ONMATCH = re.compile(rf"onmatch\(sched\.({'|'.join(EVENTS)})\)\.wakeup_latency\(\$({NAME}),({NAME}),({NAME})\)")
+ONMATCH_FORM = "onmatch(sched.EVENT).wakeup_latency($OWN,F,G)"
 
 
 def split_command(text):
@@ -57,6 +59,15 @@ def variable_of(trigger):
     return None, None
 
 
+def matched_event(trigger):
+    """The event that a trigger's onmatch part names, or None where there is no such part."""
+    for part in re.match("[^ \t]*", trigger)[0].split(":"):
+        found = ONMATCH.fullmatch(part)
+        if found:
+            return found[1]
+    return None
+
+
 def bad_command(asked, traces):
     """Why the line is no command, and the place of the part that is wrong, if it is known."""
     if len(asked) > 8192:
@@ -87,10 +98,10 @@ def bad_event(rest, at):
         return f"no event is named; the form is {FORMS['attach']}", at
     # The kernel names an event with its system in front, in some way or other.
     last = re.split("[:/.]", event)[-1]
-    if last in EVENTS:
+    if last in ATTACHED:
         return f"no such event; did you mean {last}?", at
-    found = near(last, EVENTS) or near("sched_" + last, EVENTS)
-    return f"no such event: triggers are attached to {', '.join(EVENTS)}{found}", at
+    found = near(last, ATTACHED) or near("sched_" + last, EVENTS)
+    return f"no such event: triggers are attached to {', '.join(ATTACHED)}{found}", at
 
 
 def bad_load(rest, at, traces):

@@ -2,8 +2,9 @@
 
 import re
 
+from explain_command import ONMATCH_FORM
 from explain_trigger import offender
-from explain_texts import EVENTS, TEXT_FIELDS, field_meant, nearest
+from explain_texts import EVENTS, MADE, TEXT_FIELDS, field_meant, nearest
 
 LINE_FAULTS = {
     1: "no TASK-PID [CPU] and a space begin the line",
@@ -27,7 +28,7 @@ TRIGGER_FAULTS = {
     1: "memory ran out",
     2: "the trigger can't be read here",
     3: "no such field",
-    4: "a value is a number, and this field is a text",
+    4: "a number is due, and this field is a text",
     5: "too many: 3 keys, 3 values besides hitcount and 2 sort items are the most",
     6: "it stands twice",
     7: "the size is no number from 65 to 131,072",
@@ -143,7 +144,7 @@ def trigger_fault(event, text, numbers, is_placed):
     if fault == 2:
         return f"{words}: {bad_form(text, more[0])}", more[0]
     if fault == 10:
-        return words + left_out(text[more[0] :]), more[0]
+        return words + left_out(event, text[more[0] :]), more[0]
     place, said = offender(event, text, fault) or (None, "")
     if fault == 3 and not said.startswith(":"):
         return f"{words} of {event}{said}", place
@@ -168,11 +169,17 @@ def bad_form(text, place):
     return "no such part" + (f"; did you mean {found}=?" if found and found != "pause" else "")
 
 
-def left_out(rest):
+def left_out(event, rest):
     word, sign, _ = re.split("[:, \t]", rest)[0].partition("=")
+    if rest.startswith("onmatch(") and event == MADE:
+        return f"; a trigger on {MADE} makes no events"
+    if rest.startswith("onmatch("):
+        return f"; of its forms the desk has {ONMATCH_FORM}, with EVENT one of {', '.join(EVENTS)}"
     if not sign or word in ("name", "clock"):
         return ""
     found = nearest(word, ["keys", "vals", "values", "sort", "size"])
     if found:
         return f"; did you mean {found}=?"
+    if event == MADE:
+        return f"; a trigger on {MADE} has no variable"
     return "; a variable is NAME=common_timestamp.usecs or NAME=common_timestamp.usecs-$OTHER, and a trigger has one"

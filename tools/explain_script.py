@@ -5,7 +5,8 @@ import os
 import re
 from collections import deque
 
-from explain_command import bad_command, filter_start, numbers_of, split_command, trigger_start, variable_of
+from explain_command import bad_command, filter_start, matched_event, numbers_of, split_command, trigger_start
+from explain_command import variable_of
 from explain_faults import filter_fault, line_fault, trigger_fault
 from explain_texts import near, shown, with_caret
 
@@ -186,7 +187,7 @@ class Walk:
         if number == 12:
             return f"trigger {more[0]}{self.line_of_trigger(more[0])} saves a variable of that name already"
         if number in (13, 14):
-            return self.unmatched(number, variable_of(split_command(rest)[1])[1])
+            return self.unmatched(number, split_command(rest)[1])
         if number == 15:
             return "no more triggers: 64 are attached, or the next id would pass 4,294,967,295"
         if number == 17:
@@ -213,12 +214,15 @@ class Walk:
         found = [str(id) for id, (_, _, text) in sorted(self.triggers.items()) if variable_of(text)[1]]
         return f"; those that do: {', '.join(found)}" if found else ""
 
-    def unmatched(self, number, read):
-        savers = {}
+    def unmatched(self, number, trigger):
+        savers, read = {}, variable_of(trigger)[1]
         for id, (_, _, text) in sorted(self.triggers.items()):
             own, other = variable_of(text)
             if own and not other:
                 savers[own] = id
+        event = matched_event(trigger)
+        if number == 13 and event and read in savers:
+            return self.elsewhere(savers[read], read, event)
         if number == 13:
             return f"no attached trigger saves the variable {shown(read or '')[0]}{near(read, savers)}"
         id = savers.get(read)
@@ -229,6 +233,10 @@ class Walk:
             f"its keys don't match those of trigger {id}{self.line_of_trigger(id)}, which saves {read}: "
             f"{keys[1] if keys else ''}; as many are wanted, in turn text or number and with the same modifier"
         )
+
+    def elsewhere(self, id, read, event):
+        saved = f"trigger {id}{self.line_of_trigger(id)} saves {shown(read)[0]}, on {self.triggers[id][1]}"
+        return f"{saved} and not on {event}, which onmatch names; did you mean sched.{self.triggers[id][1]}?"
 
 
 def line_of(path, number):

@@ -4,17 +4,21 @@ import difflib
 import re
 
 EVENTS = ["sched_waking", "sched_wakeup", "sched_wakeup_new", "sched_switch"]
+# The event that triggers make, and what triggers are attached to.
+MADE = "wakeup_latency"
+ATTACHED = [*EVENTS, MADE]
 COMMON = ["common_pid", "common_cpu"]
 TEXT_FIELDS = {"comm", "prev_comm", "prev_state", "next_comm"}
 WAKE_FIELDS = ["comm", "pid", "prio", "target_cpu", *COMMON]
 SWITCH_FIELDS = ["prev_comm", "prev_pid", "prev_prio", "prev_state", "next_comm", "next_pid", "next_prio", *COMMON]
+MADE_FIELDS = ["lat", "pid", "prio", *COMMON]
 
 # What is shown of a long text.
 MOST_SHOWN = 300
 
 
 def fields_of(event):
-    return SWITCH_FIELDS if event == "sched_switch" else WAKE_FIELDS
+    return {"sched_switch": SWITCH_FIELDS, MADE: MADE_FIELDS}.get(event, WAKE_FIELDS)
 
 
 def shown(text, place=None):
@@ -66,8 +70,9 @@ def field_meant(word, event):
     found = near(word, fields_of(event))
     if not found:
         found = f"; it has {', '.join(fields_of(event))}"
-    for other in ("sched_switch", "sched_waking"):
+    # All wake events have the same fields.
+    told = [("sched_switch", "sched_switch has"), ("sched_waking", "the wake events have"), (MADE, f"{MADE} has")]
+    for other, who in told:
         if word in fields_of(other):
-            # All wake events have the same fields.
-            return f" ({'the wake events have' if other != 'sched_switch' else 'sched_switch has'} it){found}"
+            return f" ({who} it){found}"
     return found

@@ -3,7 +3,7 @@ the order of docs/FORMAT.md, 3.2. Each test asks for its own fault alone: what c
 
 import re
 
-from explain_command import VARIABLE, variable_of
+from explain_command import ONMATCH, VARIABLE, variable_of
 from explain_texts import TEXT_FIELDS, field_meant, fields_of, near
 
 KINDS = {"keys": "keys", "key": "keys", "values": "vals", "vals": "vals", "val": "vals", "sort": "sort", "size": "size"}
@@ -26,6 +26,8 @@ def offender(event, text, fault):
 def in_part(event, part, fault, seen):
     word, sign, rest = part.partition("=")
     kind = KINDS.get(word) if sign else None
+    if ONMATCH.fullmatch(part):
+        return in_onmatch(event, ONMATCH.fullmatch(part), fault, seen)
     if not kind:
         variable = VARIABLE.fullmatch(part)
         if fault == 6 and variable and (variable[1] in ["hitcount", *fields_of(event)] or variable[1] == variable[2]):
@@ -43,6 +45,19 @@ def in_part(event, part, fault, seen):
             return at, said
         at += len(item) + 1
         items.append(item)
+    return None
+
+
+def in_onmatch(event, words, fault, seen):
+    """The place in an onmatch part, and what is said of it, or None; its variable is tested behind all parts."""
+    if fault == 6 and "onmatch" in seen:
+        return 0, ": this is the second part of its form"
+    seen["onmatch"] = []
+    for number in (3, 4):
+        if fault == 3 and words[number] not in fields_of(event):
+            return words.start(number), field_meant(words[number], event)
+        if fault == 4 and words[number] in TEXT_FIELDS:
+            return words.start(number), ""
     return None
 
 
@@ -88,9 +103,11 @@ def bad_modifier(kind, name, modifier):
 
 def behind_parts(head, fault):
     """The faults that are found where all parts have been read."""
-    own, _ = variable_of(head)
-    names, sorts, values, at = ["hitcount"], [], [], 5
+    own, read = variable_of(head)
+    names, sorts, values, handed, at = ["hitcount"], [], [], None, 5
     for part in head[5:].split(":"):
+        making = ONMATCH.fullmatch(part)
+        handed = (at + making.start(2) - 1, making[2]) if making else handed
         word, sign, rest = part.partition("=")
         kind = KINDS.get(word) if sign else None
         place = at + len(word) + 1
@@ -104,6 +121,9 @@ def behind_parts(head, fault):
             if name.startswith("$") and name[1:] != own:
                 meant = near(name, [f"${own}"] if own else [])
                 return place, f": a value with a $ is the trigger's own variable{meant}"
+        if handed:
+            meant = near(handed[1], [own] if own and read else [])
+            return handed[0], f": what onmatch hands on first is the own variable of a trigger that reads one{meant}"
     names += [name for _, name in values]
     if fault == 8:
         for place, name in sorts:

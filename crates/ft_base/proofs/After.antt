@@ -91,7 +91,7 @@ abbrev is_used : Base → Bool
 is_used base = leb trigger_limit (map.len base.triggers) || ltb id_limit base.next_id
 
 abbrev against : Base → Hist → Option Refused
-against base hist = variable_refused base.triggers hist.keys hist.variable
+against base hist = variable_refused base.triggers hist hist.variable
 
 after_attach-cases : (base : Base) (hist : Hist) → after_attach base hist ≡ attached base hist (is_used base) (against base hist)
 unfolding after_attach

@@ -19,7 +19,7 @@ use Rattle.ft_base.specs.declared.refused.Refused.{Refused}
 use Rattle.ft_base.specs.declared.refused.Refused.TheVariants.{NameTaken}
 use Rattle.ft_base.specs.Base.{Triggers, Base, id_limit, trigger_limit}
 use Rattle.ft_base.specs.Roles.{saves_name, saver_of}
-use Rattle.ft_base.specs.After.{reader_refused, variable_refused}
+use Rattle.ft_base.specs.After.{saves_for, reader_refused, variable_refused}
 use Rattle.ft_base.specs.Reachable.{HasOneSaver, HasSaver, HasSavers, IsReachable}
 use Rattle.ft_maps.specs.Entries.{get-insert_same, get-insert_other}
 use Rattle.ft_base.proofs.Savers.{saver_among, saver_of-among, saves-none}
@@ -74,10 +74,10 @@ HasSaver-insert triggers next hist keys name below is = record {
 -- ---- a variable that nothing stands against
 
 -- its name is free
-name-free : (triggers : Triggers) (keys : List KeyItem) (variable : Option Var) (name : List ℕ) → variable_refused triggers keys variable ≡ None → saves_name name variable ≡ true → saver_of triggers name ≡ None
-name-free triggers keys None name free saves = cc
-name-free triggers keys (Some (vars.Reads own source)) name free saves = cc
-name-free triggers keys (Some (vars.Saves label)) name free saves =
+name-free : (triggers : Triggers) (hist : Hist) (variable : Option Var) (name : List ℕ) → variable_refused triggers hist variable ≡ None → saves_name name variable ≡ true → saver_of triggers name ≡ None
+name-free triggers hist None name free saves = cc
+name-free triggers hist (Some (vars.Reads own source)) name free saves = cc
+name-free triggers hist (Some (vars.Saves label)) name free saves =
     ap (saver_of triggers) (sym (same_text label name (sym saves)))
     ∙ elim (saver_of triggers label) as (λ o. option_map NameTaken o ≡ None → o ≡ None) [ None ↦ λ _. refl | Some id ↦ λ taken. cc ] free
 
@@ -86,21 +86,27 @@ passed : (b : Bool) (refused : Refused) → cond b None (Some refused) ≡ None 
 passed true refused none = refl
 passed false refused none = cc
 
+-- of two tests that pass, the second
+second : (a b : Bool) (refused other : Refused) → cond a (cond b None (Some refused)) (Some other) ≡ None → b ≡ true
+second true b refused other none = passed b refused none
+second false b refused other none = cc
+
 -- what it reads has a saver
-reader-has : (triggers : Triggers) (keys : List KeyItem) (source : List ℕ) → reader_refused triggers keys source ≡ None → HasSaver triggers keys source
+reader-has : (triggers : Triggers) (reader : Hist) (source : List ℕ) → reader_refused triggers reader source ≡ None → HasSaver triggers reader.keys source
 unfolding reader_refused
-reader-has triggers keys source free =
+reader-has triggers reader source free =
+    let keys = reader.keys in
     elim (saver_of triggers source) as (λ o. saver_of triggers source ≡ o → HasSaver triggers keys source) [
       | None ↦ λ unnamed. absurd (let stands = rw unnamed at free in cc)
       | Some id ↦ λ named. elim (map.get triggers id) as (λ o. map.get triggers id ≡ o → HasSaver triggers keys source) [
         | None ↦ λ unattached. absurd (let stands = rw (named, unattached) at free in cc)
-        | Some saver ↦ λ attached. record { id = id; saver = saver; named = named; attached = attached; matching = passed (keys_match keys saver.keys) _ (rw (named, attached) at free) }
+        | Some saver ↦ λ attached. record { id = id; saver = saver; named = named; attached = attached; matching = second (saves_for reader saver) (keys_match keys saver.keys) _ _ (rw (named, attached) at free) }
       ] refl
     ] refl
 
 -- ---- the base with the trigger
 
-module _ (triggers : Triggers) (next : ℕ) (hist : Hist) (below : AreBelow triggers next) (free : variable_refused triggers hist.keys hist.variable ≡ None) where
+module _ (triggers : Triggers) (next : ℕ) (hist : Hist) (below : AreBelow triggers next) (free : variable_refused triggers hist hist.variable ≡ None) where
   -- at an id stands the new trigger or one of the old
   at-insert : (id : ℕ) (other : Hist) → map.get (map.insert triggers next hist) id ≡ Some other → ((id ≡ next) × (hist ≡ other)) ⊎ (map.get triggers id ≡ Some other)
   at-insert id other found =
@@ -112,7 +118,7 @@ module _ (triggers : Triggers) (next : ℕ) (hist : Hist) (below : AreBelow trig
   -- no old trigger saves the new one's name
   not-both : (id : ℕ) (old new : Hist) (name : List ℕ) → hist ≡ new → map.get triggers id ≡ Some old → saves_name name old.variable ≡ true → saves_name name new.variable ≡ true → ⊥
   not-both id old new name same found saves also =
-      let none = name-free triggers hist.keys hist.variable name free (ap (λ (h : Hist). saves_name name h.variable) same ∙ also) in
+      let none = name-free triggers hist hist.variable name free (ap (λ (h : Hist). saves_name name h.variable) same ∙ also) in
       true≢false (sym saves ∙ saves-none triggers name id old none found)
 
   one_saver-insert : HasOneSaver triggers → HasOneSaver (map.insert triggers next hist)
@@ -130,7 +136,7 @@ module _ (triggers : Triggers) (next : ℕ) (hist : Hist) (below : AreBelow trig
   savers-insert : HasSavers triggers → HasSavers (map.insert triggers next hist)
   savers-insert savers id other own source found reads = HasSaver-insert triggers next hist other.keys source below (elim (at-insert id other found) [
     | inl new ↦ subst (λ (h : Hist). HasSaver triggers h.keys source) new.1
-        (reader-has triggers hist.keys source (ap (variable_refused triggers hist.keys) (sym (ap (λ (h : Hist). h.variable) new.1 ∙ reads)) ∙ free))
+        (reader-has triggers hist source (ap (variable_refused triggers hist) (sym (ap (λ (h : Hist). h.variable) new.1 ∙ reads)) ∙ free))
     | inr old ↦ savers id other own source old reads
   ])
 
@@ -139,7 +145,7 @@ at_most true n few = omega arith
 at_most false n few = omega arith
 
 -- attaching a trigger keeps the base reachable
-pub attach-IsReachable : (base : Base) (hist : Hist) → IsReachable base → map.len base.triggers < trigger_limit → base.next_id ≤ id_limit → variable_refused base.triggers hist.keys hist.variable ≡ None → IsReachable (record base { triggers = map.insert base.triggers base.next_id hist; next_id = base.next_id + 1 })
+pub attach-IsReachable : (base : Base) (hist : Hist) → IsReachable base → map.len base.triggers < trigger_limit → base.next_id ≤ id_limit → variable_refused base.triggers hist hist.variable ≡ None → IsReachable (record base { triggers = map.insert base.triggers base.next_id hist; next_id = base.next_id + 1 })
 attach-IsReachable base hist is few low free =
     let below : AreBelow base.triggers base.next_id = λ id other found. (is.ids id other found).1 in
     record {

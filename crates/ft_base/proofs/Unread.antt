@@ -111,7 +111,7 @@ next_free base is =
     ] refl
 
 -- a trigger that is attached joins as the next id's
-pub attached_joins : (base : Base) (hist : Hist) → IsReachable base → map.len base.triggers < trigger_limit → base.next_id ≤ id_limit → variable_refused base.triggers hist.keys hist.variable ≡ None
+pub attached_joins : (base : Base) (hist : Hist) → IsReachable base → map.len base.triggers < trigger_limit → base.next_id ≤ id_limit → variable_refused base.triggers hist hist.variable ≡ None
     → JoinsAs base.next_id hist base (record base { triggers = map.insert base.triggers base.next_id hist; next_id = base.next_id + 1 })
 attached_joins base hist is few low free =
     let with : Triggers = map.insert base.triggers base.next_id hist in

@@ -1,13 +1,13 @@
 -- What an edit makes of a base, or why it is refused.
-use Rattle.std.specs.Prelude.{ℕ, ◌+◌, List, length, Option, Some, None, Result, Ok, Err, nat_lt, nat_le, ◌||◌, if◌then◌else◌, option_map, option_and_then}
+use Rattle.std.specs.Prelude.{ℕ, Bool, true, ◌+◌, List, length, Option, Some, None, Result, Ok, Err, nat_lt, nat_le, ◌||◌, if◌then◌else◌, option_map, option_and_then}
 use Rattle.std.specs.Option.{option_map_or}
 use Rattle.std.specs.FinMap as map
 use Rattle.ft_fields.specs.Traced.{Traced}
 use Rattle.ft_filter.specs.Tree.{Tree}
-use Rattle.ft_hist.specs.declared.item.KeyItem.{KeyItem}
 use Rattle.ft_hist.specs.declared.label.Var.{Var}
 use Rattle.ft_hist.specs.declared.label.Var.TheVariants as vars
 use Rattle.ft_hist.specs.Hist.{Hist, with_filter}
+use Rattle.ft_hist.specs.Hit.{same_name}
 use Rattle.ft_hist.specs.Matching.{keys_match}
 use Rattle.ft_lanes.specs.Held.{event_limit, number_limit, held_in}
 use Rattle.ft_lanes.specs.Edits.{lane_or_new, lanes_with, lanes_without}
@@ -48,23 +48,31 @@ after_strike base cpu line =
 
 -- ---- triggers
 
--- why a reader of a name with these keys can't be attached: no attached trigger saves the name, or its saver's keys are others (kernel: histogram.rst, inter-event hist triggers)
-unfoldable pub reader_refused : Triggers → List KeyItem → List ℕ → Option Refused
-reader_refused triggers keys source =
-    option_map_or (λ saver. if keys_match keys saver.keys then None else Some KeyMismatch)
-    (option_and_then (map.get triggers) (saver_of triggers source)) (Some NoVariable)
+-- a saver is on the event that a reader's onmatch part names, where it has one (kernel: histogram.rst, the `onmatch` handler)
+abbrev pub saves_for : Hist → Hist → Bool
+saves_for reader saver = option_map_or (λ onmatch. same_name onmatch.event saver.event) reader.onmatch true
 
--- why a trigger's variable can't be attached: its name is saved already, or nothing that it could read is (kernel: histogram.rst, inter-event hist triggers; one saver a name is our own choice)
-abbrev pub variable_refused : Triggers → List KeyItem → Option Var → Option Refused
-variable_refused triggers keys None = None
-variable_refused triggers keys (Some (vars.Saves label)) = option_map NameTaken (saver_of triggers label)
-variable_refused triggers keys (Some (vars.Reads own source)) = reader_refused triggers keys source
+-- what stands between a reader and a saver: that it saves at another event, or under keys that don't match (kernel: histogram.rst, inter-event hist triggers; in this order is our own choice)
+abbrev pub saver_refused : Hist → Hist → Option Refused
+saver_refused reader saver =
+    if saves_for reader saver then (if keys_match reader.keys saver.keys then None else Some KeyMismatch) else Some NoVariable
+
+-- why a reader of a name can't be attached: no attached trigger saves the name, or what stands between it and the saver (kernel: histogram.rst, inter-event hist triggers)
+unfoldable pub reader_refused : Triggers → Hist → List ℕ → Option Refused
+reader_refused triggers reader source =
+    option_map_or (saver_refused reader) (option_and_then (map.get triggers) (saver_of triggers source)) (Some NoVariable)
+
+-- why a trigger with this variable can't be attached: its name is saved already, or nothing that it could read is (kernel: histogram.rst, inter-event hist triggers; one saver a name is our own choice)
+abbrev pub variable_refused : Triggers → Hist → Option Var → Option Refused
+variable_refused triggers hist None = None
+variable_refused triggers hist (Some (vars.Saves label)) = option_map NameTaken (saver_of triggers label)
+variable_refused triggers hist (Some (vars.Reads own source)) = reader_refused triggers hist source
 
 -- attaching a trigger: at the next id, unless the triggers or the ids are used up, or its variable stands against it (our own choice)
 unfoldable pub after_attach : Base → Hist → Result (Base × ℕ) Refused
 after_attach base hist =
     if nat_le trigger_limit (map.len base.triggers) || nat_lt id_limit base.next_id then Err TooManyTriggers
-    else option_map_or Err (variable_refused base.triggers hist.keys hist.variable)
+    else option_map_or Err (variable_refused base.triggers hist hist.variable)
     (Ok (record base { triggers = map.insert base.triggers base.next_id hist; next_id = base.next_id + 1 }, base.next_id))
 
 -- giving an attached trigger another filter, or none, for the events held before and for those to come (our own choice)

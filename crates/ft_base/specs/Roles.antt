@@ -6,6 +6,7 @@ use Rattle.std.specs.Str.{bytes_eq}
 use Rattle.std.specs.FinMap as map
 use Rattle.ft_hist.specs.declared.label.Var.{Var}
 use Rattle.ft_hist.specs.declared.label.Var.TheVariants as vars
+pub use Rattle.ft_hist.specs.Sound.{is_reader}
 use Rattle.ft_pairs.specs.declared.role.Role.{Role}
 use Rattle.ft_pairs.specs.declared.role.Role.TheVariants.{Plain, Saves, Reads}
 use Rattle.ft_base.specs.Base.{Triggers}
@@ -27,11 +28,6 @@ reads_name name variable = false
 -- an attached trigger that reads a name, the first by id (kernel: histogram.rst, inter-event hist triggers)
 unfoldable pub reader_of : Triggers → List ℕ → Option ℕ
 reader_of triggers name = option_map (λ attached. attached.0) (find (λ attached. reads_name name attached.1.variable) (map.entries triggers))
-
--- a trigger with this variable reads one, and so has latencies (kernel: histogram.rst, inter-event hist triggers)
-abbrev pub is_reader : Option Var → Bool
-is_reader (Some (vars.Reads own source)) = true
-is_reader variable = false
 
 -- what a trigger does with its variable; where nobody saves what it reads, it reads that of 0, who is nobody (our own choice)
 abbrev pub role_of : Triggers → Option Var → Role

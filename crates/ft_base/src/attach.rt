@@ -3,7 +3,7 @@
 ghost use Rattle.std.specs.Prelude.{◌≡◌};
 ghost use Rattle.std.specs.Ordering.{nat_cmp};
 ghost use Rattle.ft_maps.specs.Seen.{seen};
-ghost use Rattle.ft_base.specs.After.{reader_refused, variable_refused};
+ghost use Rattle.ft_base.specs.After.{reader_refused, saver_refused, saves_for, variable_refused};
 
 use crate::refused::Refused;
 use crate::roles::saver_of;
@@ -12,13 +12,13 @@ use ft_maps::get;
 use std::collections::BTreeMap;
 
 /// What stands against a trigger's variable: its name is saved already, nobody saves what it reads,
-/// or the saver's keys don't match.
+/// or the saver doesn't match.
 pub(crate) fn variable_refused(
     triggers: &BTreeMap<u32, Trigger>,
     trigger: &Trigger,
 ) -> Option<Refused>
     ensures { result ≡ variable_refused (seen nat_cmp triggers.now)
-        trigger.now.keys trigger.now.variable }
+        trigger.now trigger.now.variable }
 {
     match trigger.variable() {
         None => None,
@@ -34,11 +34,34 @@ fn reader_refused(
     reader: &Trigger,
     source: &[u8],
 ) -> Option<Refused>
-    ensures { result ≡ reader_refused (seen nat_cmp triggers.now) reader.now.keys source.now }
+    ensures { result ≡ reader_refused (seen nat_cmp triggers.now) reader.now source.now }
 {
     match saver_of(triggers, source).and_then(|id| get(triggers, &id)) {
         None => Some(Refused::NoVariable),
-        Some(saver) if reader.keys_match(saver) => None,
-        Some(_) => Some(Refused::KeyMismatch),
+        Some(saver) => saver_refused(reader, saver),
+    }
+}
+
+/// What stands between a reader and a saver: it saves at another event than the reader's onmatch
+/// part names, or its keys don't match.
+fn saver_refused(reader: &Trigger, saver: &Trigger) -> Option<Refused>
+    ensures { result ≡ saver_refused reader.now saver.now }
+{
+    if !saves_for(reader, saver) {
+        Some(Refused::NoVariable)
+    } else if !reader.keys_match(saver) {
+        Some(Refused::KeyMismatch)
+    } else {
+        None
+    }
+}
+
+/// Whether a saver is on the event that a reader's onmatch part names, if it has one.
+fn saves_for(reader: &Trigger, saver: &Trigger) -> bool
+    ensures { result ≡ saves_for reader.now saver.now }
+{
+    match reader.onmatch() {
+        None => true,
+        Some(onmatch) => onmatch.event == saver.event(),
     }
 }

@@ -68,7 +68,7 @@ pub fn last_numbers()
         → after_insert base event ≡ Err Full }
     ensures last_id { (base : Base) (hist : Hist)
         → base.next_id ≡ id_limit → map.len base.triggers < trigger_limit
-        → variable_refused base.triggers hist.keys hist.variable ≡ None
+        → variable_refused base.triggers hist hist.variable ≡ None
         → after_attach base hist ≡ Ok (
           record base {
             triggers = map.insert base.triggers id_limit hist;

@@ -85,12 +85,12 @@ module _ (shelves : Shelves) (id : ℕ) (none : map.get shelves id ≡ None) whe
 
 -- ---- operations
 
-op_as_same : (old new : Admits) (id : ℕ) → ((key : List Part) → new id key ≡ old id key) → (role : Role) (variable : Variable) (key : List Part) → op_as new role variable id key ≡ op_as old role variable id key
+pub op_as_same : (old new : Admits) (id : ℕ) → ((key : List Part) → new id key ≡ old id key) → (role : Role) (variable : Variable) (key : List Part) → op_as new role variable id key ≡ op_as old role variable id key
 op_as_same old new id same Plain variable key = refl
 op_as_same old new id same Saves variable key = ap (λ (b : Bool). cond (eq_by_cmp variable_cmp variable (record { saver = id; key = key })) (cond b (Some Save) None) None) (same key)
 op_as_same old new id same (Reads saver) variable key = refl
 
-abbrev by_act : Admits → Role → Variable → At → List Part × Traced → Option Op
+abbrev pub by_act : Admits → Role → Variable → At → List Part × Traced → Option Op
 by_act admits role variable at act = op_as admits role variable at.trigger act.0
 
 -- an act of a trigger with the same role and the same shelf is the same operation

@@ -18,7 +18,7 @@ use Rattle.ft_base.specs.Roles.{saves_name, role_of, role_at}
 use Rattle.ft_base.proofs.Cases.{remove-ok}
 use Rattle.ft_base.proofs.Savers.{reads_of, saver-saves}
 
-reads_from_is : (id : ℕ) (role : Role) → reads_from id role ≡ true → role ≡ Reads id
+pub reads_from_is : (id : ℕ) (role : Role) → reads_from id role ≡ true → role ≡ Reads id
 reads_from_is id Plain is = let both : ◌≡◌ {A = Bool} false true = is in absurd cc
 reads_from_is id Saves is = let both : ◌≡◌ {A = Bool} false true = is in absurd cc
 reads_from_is id (Reads saver) is = ap (λ (k : ℕ). Reads k) (eqb-true saver id is)

@@ -17,7 +17,7 @@ use Rattle.ft_base.specs.declared.refused.Place.{Place}
 use Rattle.ft_base.specs.After.{after_insert}
 use Rattle.ft_base.specs.Base.{Base, Triggers}
 use Rattle.ft_board.specs.inner.ButOneEvent.{ComesAtCost, GoesAtCost, merged_without, pos_at, AreKeptWithout}
-use Rattle.ft_replay.specs.Costs.{CostsOf, SaversStay}
+use Rattle.ft_answers.specs.Costs.{CostsOf, SaversStay}
 use Rattle.ft_board.specs.KeptShelves.{AreKeptOf}
 use Rattle.ft_replay.specs.Merged.{Events, merged}
 use Rattle.ft_base.specs.Reachable.{IsReachable}

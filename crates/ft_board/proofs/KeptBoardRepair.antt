@@ -19,7 +19,7 @@ use Rattle.ft_base.specs.After.{after_insert}
 use Rattle.ft_base.specs.Base.{Base}
 use Rattle.ft_board.specs.KeptShelves.{AreKeptOf, AreKept}
 use Rattle.ft_board.specs.inner.ButOneEvent.{AreKeptWithout, IsMissed}
-use Rattle.ft_replay.specs.Deferral.{IsNoHit}
+use Rattle.ft_answers.specs.Deferral.{IsNoHit}
 use Rattle.ft_replay.specs.Merged.{Events, merged}
 use Rattle.ft_base.specs.Reachable.{IsReachable}
 use Rattle.ft_base.proofs.Cases.{insert-gives}

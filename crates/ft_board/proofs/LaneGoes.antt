@@ -25,7 +25,7 @@ use Rattle.ft_maps.specs.Entries.{same_from_tie, strictly_sorted}
 use Rattle.ft_table.specs.Values.{values_by}
 use Rattle.ft_base.specs.Base.{Triggers}
 use Rattle.ft_board.specs.KeptShelves.{AreKept}
-use Rattle.ft_replay.specs.Deferral.{IsPlainLane}
+use Rattle.ft_answers.specs.Deferral.{IsPlainLane}
 use Rattle.ft_replay.specs.Merged.{Events, merged, held_at, place_of}
 use Rattle.ft_replay.proofs.Places.{merged_at, none_later}
 use Rattle.ft_board.proofs.KeptBoardActs.{AllHeld, merged_held, acts_held, held_is}

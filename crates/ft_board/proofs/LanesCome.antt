@@ -150,7 +150,7 @@ among_keys cpu (e ∷ es) =
     (λ i. sym (unsigned_tied cpu e.0 ∙ nat_eq_equiv.symm cpu e.0) i || among_keys cpu es i)
     ∙ sym (some_or (eq_by_cmp nat_cmp cpu e.0) e.1 (find nat_cmp cpu es))
 
-among_lanes : (lanes : Lanes) (cpu : ℕ) → is_among (map.keys lanes) cpu ≡ map.contains_key lanes cpu
+pub among_lanes : (lanes : Lanes) (cpu : ℕ) → is_among (map.keys lanes) cpu ≡ map.contains_key lanes cpu
 among_lanes lanes cpu = among_keys cpu (map.entries lanes) ∙ ap is_some (sym (get-entries lanes cpu))
 
 lanes_before : (lanes : Lanes) (es : List Traced) → first_held lanes es ≡ None → lanes_of (map.keys lanes) (with_lanes lanes es) ≡ lanes

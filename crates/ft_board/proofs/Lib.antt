@@ -13,7 +13,13 @@ pub mod OneTrigger
 pub mod KeptBoardRepair
 pub mod LaneGoes
 pub mod LanesCome
+pub mod CountComing
 pub mod KeptBoardTold
+pub mod MadeShelves
+pub mod Makers
+pub mod MissedStay
+pub mod MissedEdits
+pub mod CountingNone
 pub mod ByRole
 pub mod Spots
 pub mod KeptEntries

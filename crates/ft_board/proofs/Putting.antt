@@ -27,7 +27,7 @@ use Rattle.ft_kept.specs.Shelves.{Shelves, AddsShelf, admits_on, kept_on}
 use Rattle.ft_base.specs.Base.{Triggers}
 use Rattle.ft_base.specs.Roles.{role_of, role_at}
 use Rattle.ft_base.proofs.Apart.{entries_found}
-use Rattle.ft_replay.specs.Costs.{named_in}
+use Rattle.ft_answers.specs.Costs.{named_in}
 use Rattle.ft_replay.specs.Merged.{merged}
 use Rattle.ft_board.specs.KeptShelves.{AreKept}
 use Rattle.ft_board.specs.inner.Built.{HasNewShelf}

@@ -17,7 +17,7 @@ use Rattle.ft_table.specs.Growth.{InGrows, RowsGrow, TotalsGrow}
 use Rattle.ft_table.specs.Tabled.{Tabled, is_in}
 use Rattle.ft_base.specs.Base.{Triggers}
 use Rattle.ft_replay.specs.Merged.{Events}
-use Rattle.ft_replay.specs.Costs.{SaversStay}
+use Rattle.ft_answers.specs.Costs.{SaversStay}
 use Rattle.ft_replay.specs.Hits.{hits_of, table_for}
 use Rattle.ft_board.specs.KeptShelves.{AreKept}
 use Rattle.ft_replay.specs.Operations.{is_admitted}

@@ -1,9 +1,12 @@
 pub mod KeptShelves
+pub mod MadeShelves
+pub mod MissedMore
+pub mod Staying
 pub mod inner
 pub use Rattle.ft_kept.specs.Shelves
-pub use Rattle.ft_replay.specs.Shown
+pub use Rattle.ft_answers.specs.Shown
 pub use Rattle.ft_base.specs.OneTrigger
-pub use Rattle.ft_replay.specs.Edited
-pub use Rattle.ft_replay.specs.Costs
-pub use Rattle.ft_replay.specs.Answers
+pub use Rattle.ft_answers.specs.Edited
+pub use Rattle.ft_answers.specs.Costs
+pub use Rattle.ft_answers.specs.Answers
 pub use Rattle.ft_base.specs.Base

@@ -1,15 +1,13 @@
 //! Tables that a trigger joins, with those that read what it saves: the others' stay as they are.
 
 ghost use Rattle.std.specs.Prelude.{◌≡◌, ◌+◌, ◌≤◌, None, Some, IfSome, OnOk};
-ghost use Rattle.std.specs.Option.{is_none};
 ghost use Rattle.std.specs.Ordering.{nat_cmp};
 ghost use Rattle.std.specs.FinMap as map;
 ghost use Rattle.ft_hist.specs.Steps.{StepsGrow};
 ghost use Rattle.ft_maps.specs.Seen.{seen};
 ghost use Rattle.ft_base.specs.OneTrigger.{is_kin, is_in_family};
 ghost use Rattle.ft_base.specs.Reachable.{HasSavers};
-ghost use Rattle.ft_replay.specs.Costs.{named_in, family_tests};
-ghost use Rattle.ft_replay.specs.Edited.{kept_of};
+ghost use Rattle.ft_answers.specs.Costs.{named_in, family_tests};
 ghost use Rattle.ft_replay.specs.Merged.{merged};
 ghost use Rattle.ft_board.specs.KeptShelves.{AreKept, AreKeptOf};
 ghost use Rattle.ft_board.specs.inner.Idle.{AreKeptIdle, AreKeptOutside, AreRenewed};
@@ -22,7 +20,7 @@ use ft_kept::Tables;
 use ft_lanes::Lanes;
 use ft_maps::entries;
 use ft_pairs::{At, Role};
-use ft_replay::{Kept, Names, events_with};
+use ft_replay::{Names, events_with};
 use std::alloc::{AllocError, Global};
 use std::collections::BTreeMap;
 
@@ -34,22 +32,21 @@ pub(crate) fn join(
     content: &Content,
     id: u32,
     work: &mut Work,
-) -> Kept
+)
     requires { IfSome kept.old (AreKeptOutside (is_in_family content.now.triggers id)
         content.now.triggers content.now.lanes) }
     ensures kept { IfSome kept.new (AreKeptOf content.now) }
     ensures deferred { kept.old ≡ None → kept.new ≡ None }
-    ensures answer { result ≡ kept_of (is_none kept.new) }
     ensures evals { work.new.evals
         ≤ work.old.evals + family_tests content.now.triggers content.now.lanes id }
     ensures grow { StepsGrow work.old work.new }
 {
     let Some(mut tables) = kept.take() else {
-        return Kept::Later;
+        return;
     };
     let (lanes, triggers) = (content.lanes(), content.triggers());
     let repaired = join_family(&mut tables, alloc, lanes, triggers, id, work);
-    put_back(kept, tables, repaired)
+    put_back(kept, tables, repaired);
 }
 
 /// Gives a trigger and those that read what it saves new shelves, and their events. Refused for

@@ -5,37 +5,46 @@ ghost use Rattle.std.specs.Prelude.{◌≡◌, true, false};
 use crate::join::join;
 use crate::lane_goes::let_lane_go;
 use crate::lanes_come::{cpus_before, let_lanes_come};
+use crate::laws::missed_stay;
 use crate::leave::leave;
+use crate::made::remake;
+use crate::missed::{is_missed, kept_still};
 use crate::rebuild::renew;
 use crate::refilter::make_way;
 use crate::repair::{let_come, let_go};
-use crate::told::{catch_up, latencies_in, shelf_in};
+use crate::told::{catch_up, latencies_in, shelf_in, text_in, totals_in};
+use ft_answers::{Board, Done, Latency};
 use ft_base::{Content, Place, Refused, attached, is_reader};
 use ft_fields::{Event, Name};
 use ft_filter::Filter;
 use ft_hist::{Trigger, Work};
 use ft_kept::Tables;
-use ft_replay::{Board, Done, Latency, table_text};
-use ft_table::Totals;
+use ft_table::{Table, Totals};
 use std::alloc::Global;
+use std::collections::BTreeMap;
 use std::marker::Model;
 
-/// Lanes of events, attached triggers, and what is kept of them. Where memory ran out for that,
-/// there is nothing kept, and the next answer that reads it builds it anew.
+/// Lanes of events, attached triggers, and what is kept of them: a shelf of each trigger, and beside
+/// the shelves a table of each trigger that counts the events that readings make. Where memory ran
+/// out for that, nothing is told by it, and the next answer that reads it builds it anew.
 #[derive(Drop)]
 pub struct KeptBoard {
     alloc: Global,
     content: Content,
     kept: Option<Tables>,
+    made: BTreeMap<u32, Table>,
     work: Work,
 }
 
 impl Model for KeptBoard {
     ghost use Rattle.std.specs.Prelude.{IfSome, true};
     ghost use Rattle.std.specs.Option.{is_none};
-    ghost use Rattle.ft_replay.specs.Codes.{shown_code};
+    ghost use Rattle.std.specs.Ordering.{nat_cmp};
+    ghost use Rattle.ft_maps.specs.Seen.{seen};
+    ghost use Rattle.ft_answers.specs.Codes.{shown_code};
     ghost use Rattle.ft_board.specs.KeptShelves.{AreKeptOf};
-    ghost use Rattle.ft_replay.specs.Shown.{Shown};
+    ghost use Rattle.ft_board.specs.MadeShelves.{AreMade};
+    ghost use Rattle.ft_answers.specs.Shown.{Shown};
 
     ghost Value = { Shown };
 
@@ -48,7 +57,8 @@ impl Model for KeptBoard {
       steps = b.work;
     } };
 
-    ghost invariant = { λ b. IfSome b.kept (AreKeptOf b.content) };
+    ghost invariant = { λ b. IfSome b.kept (AreKeptOf b.content)
+        × IfSome b.kept (λ _. AreMade b.content (seen nat_cmp b.made)) };
 }
 
 impl KeptBoard {
@@ -67,6 +77,7 @@ impl KeptBoard {
             alloc,
             content: Content::new(alloc),
             kept: Some(Tables::new(alloc)),
+            made: BTreeMap::new(alloc),
             work: Work::new(),
         }
     }
@@ -78,51 +89,105 @@ impl Board for KeptBoard {
     fn load(&mut self, events: Vec<Event>) -> Result<Done<u64>, Refused> {
         let before = cpus_before(self.alloc, self.content.lanes(), &events);
         let value = self.content.load(events)?;
-        let kept = match before {
-            Some(before) => let_lanes_come(
+        match before {
+            Ok(Some(before)) => let_lanes_come(
                 &mut self.kept,
                 self.alloc,
                 &self.content,
                 &before,
                 &mut self.work,
             ),
-            None => renew(&mut self.kept, self.alloc, &self.content, &mut self.work),
-        };
+            Ok(None) => renew(&mut self.kept, self.alloc, &self.content, &mut self.work),
+            Err(_) => self.kept = None,
+        }
+        let kept = remake(
+            &mut self.kept,
+            &mut self.made,
+            self.alloc,
+            &self.content,
+            &mut self.work,
+        );
         Ok(Done { value, kept })
     }
 
     fn unload(&mut self, cpu: u32) -> Result<Done<u64>, Refused> {
         let lane = self.content.lane_of(cpu)?;
         if self.content.is_small(lane) {
-            let kept = let_lane_go(&mut self.kept, &self.content, lane, &mut self.work);
+            let_lane_go(&mut self.kept, &self.content, lane, &mut self.work);
             let value = self.content.take_lane(lane);
+            let kept = remake(
+                &mut self.kept,
+                &mut self.made,
+                self.alloc,
+                &self.content,
+                &mut self.work,
+            );
             return Ok(Done { value, kept });
         }
         let value = self.content.take_lane(lane);
-        let kept = renew(&mut self.kept, self.alloc, &self.content, &mut self.work);
+        renew(&mut self.kept, self.alloc, &self.content, &mut self.work);
+        let kept = remake(
+            &mut self.kept,
+            &mut self.made,
+            self.alloc,
+            &self.content,
+            &mut self.work,
+        );
         Ok(Done { value, kept })
     }
 
     fn insert(&mut self, event: Event) -> Result<Done<Place>, Refused> {
         let place = self.content.insert(event)?;
-        let kept = let_come(&mut self.kept, &self.content, place, &mut self.work);
+        if is_missed(&self.content, place, &mut self.work) {
+            missed_stay();
+            let kept = kept_still(&self.kept);
+            return Ok(Done { value: place, kept });
+        }
+        let_come(&mut self.kept, &self.content, place, &mut self.work);
+        let kept = remake(
+            &mut self.kept,
+            &mut self.made,
+            self.alloc,
+            &self.content,
+            &mut self.work,
+        );
         Ok(Done { value: place, kept })
     }
 
     fn strike(&mut self, cpu: u32, line: u32) -> Result<Done<Place>, Refused> {
         let place = self.content.place_of(cpu, line)?;
-        let kept = let_go(&mut self.kept, &self.content, place, &mut self.work);
+        if is_missed(&self.content, place, &mut self.work) {
+            missed_stay();
+            self.content.strike(place);
+            let kept = kept_still(&self.kept);
+            return Ok(Done { value: place, kept });
+        }
+        let_go(&mut self.kept, &self.content, place, &mut self.work);
         self.content.strike(place);
+        let kept = remake(
+            &mut self.kept,
+            &mut self.made,
+            self.alloc,
+            &self.content,
+            &mut self.work,
+        );
         Ok(Done { value: place, kept })
     }
 
     fn attach(&mut self, trigger: Trigger) -> Result<Done<u32>, Refused> {
         let id = self.content.attach(trigger)?;
-        let kept = join(
+        join(
             &mut self.kept,
             self.alloc,
             &self.content,
             id,
+            &mut self.work,
+        );
+        let kept = remake(
+            &mut self.kept,
+            &mut self.made,
+            self.alloc,
+            &self.content,
             &mut self.work,
         );
         Ok(Done { value: id, kept })
@@ -137,11 +202,18 @@ impl Board for KeptBoard {
             &mut self.work,
         );
         let value = self.content.refilter(id, filter)?;
-        let kept = join(
+        join(
             &mut self.kept,
             self.alloc,
             &self.content,
             id,
+            &mut self.work,
+        );
+        let kept = remake(
+            &mut self.kept,
+            &mut self.made,
+            self.alloc,
+            &self.content,
             &mut self.work,
         );
         Ok(Done { value, kept })
@@ -149,7 +221,7 @@ impl Board for KeptBoard {
 
     fn remove(&mut self, id: u32) -> Result<Done<u32>, Refused> {
         self.content.removable(id)?;
-        let kept = leave(
+        leave(
             &mut self.kept,
             self.alloc,
             &self.content,
@@ -157,6 +229,13 @@ impl Board for KeptBoard {
             &mut self.work,
         );
         self.content.remove(id);
+        let kept = remake(
+            &mut self.kept,
+            &mut self.made,
+            self.alloc,
+            &self.content,
+            &mut self.work,
+        );
         Ok(Done { value: id, kept })
     }
 
@@ -166,16 +245,40 @@ impl Board for KeptBoard {
 
     fn hist(&mut self, id: u32) -> Result<Vec<u8>, Refused> {
         let trigger = attached(self.content.triggers(), id)?;
-        catch_up(&mut self.kept, self.alloc, &self.content, &mut self.work);
-        let shelf = shelf_in(&self.kept, id)?;
-        Ok(table_text(self.alloc, trigger, shelf.table())?)
+        catch_up(
+            &mut self.kept,
+            &mut self.made,
+            self.alloc,
+            &self.content,
+            &mut self.work,
+        );
+        text_in(
+            &self.kept,
+            &self.made,
+            self.alloc,
+            &self.content,
+            id,
+            trigger,
+        )
     }
 
     fn totals(&mut self, id: u32) -> Result<Totals, Refused> {
-        attached(self.content.triggers(), id)?;
-        catch_up(&mut self.kept, self.alloc, &self.content, &mut self.work);
-        let shelf = shelf_in(&self.kept, id)?;
-        Ok(shelf.table().totals())
+        let trigger = attached(self.content.triggers(), id)?;
+        catch_up(
+            &mut self.kept,
+            &mut self.made,
+            self.alloc,
+            &self.content,
+            &mut self.work,
+        );
+        totals_in(
+            &self.kept,
+            &self.made,
+            self.alloc,
+            &self.content,
+            id,
+            trigger,
+        )
     }
 
     fn latencies(&mut self, id: u32) -> Result<Vec<Latency>, Refused> {
@@ -183,7 +286,13 @@ impl Board for KeptBoard {
         if !is_reader(trigger) {
             return Err(Refused::NotReading);
         }
-        catch_up(&mut self.kept, self.alloc, &self.content, &mut self.work);
+        catch_up(
+            &mut self.kept,
+            &mut self.made,
+            self.alloc,
+            &self.content,
+            &mut self.work,
+        );
         let shelf = shelf_in(&self.kept, id)?;
         Ok(latencies_in(self.alloc, shelf.readings())?)
     }

@@ -1,13 +1,11 @@
 //! Tables from which the events of a lane go: what is kept of other lanes stays as it is.
 
 ghost use Rattle.std.specs.Prelude.{◌≡◌, ◌+◌, ◌≤◌, None, Some, Ok, IfSome, OnOk};
-ghost use Rattle.std.specs.Option.{is_none};
 ghost use Rattle.std.specs.FinMap as map;
 ghost use Rattle.ft_hist.specs.Steps.{StepsGrow};
 ghost use Rattle.ft_lanes.specs.Held.{Lane};
-ghost use Rattle.ft_replay.specs.Costs.{count_on_lane};
-ghost use Rattle.ft_replay.specs.Deferral.{IsPlainLane};
-ghost use Rattle.ft_replay.specs.Edited.{kept_of};
+ghost use Rattle.ft_answers.specs.Costs.{count_on_lane};
+ghost use Rattle.ft_answers.specs.Deferral.{IsPlainLane};
 ghost use Rattle.ft_board.specs.KeptShelves.{AreKeptOf};
 ghost use Rattle.ft_board.specs.inner.ButOneLane.{AreKeptWithoutLane};
 
@@ -16,21 +14,14 @@ use ft_base::Content;
 use ft_fields::Pos;
 use ft_hist::Work;
 use ft_kept::Tables;
-use ft_replay::Kept;
 use std::alloc::AllocError;
 
 /// The events of a CPU's lane, which is still held, go from the tables. Where memory runs out, the
 /// tables are given up; events that are hits of triggers without a variable alone take none.
-pub(crate) fn let_lane_go(
-    kept: &mut Option<Tables>,
-    content: &Content,
-    cpu: u16,
-    work: &mut Work,
-) -> Kept
+pub(crate) fn let_lane_go(kept: &mut Option<Tables>, content: &Content, cpu: u16, work: &mut Work)
     requires { IfSome kept.old (AreKeptOf content.now) }
     ensures kept { IfSome kept.new (AreKeptWithoutLane content.now cpu) }
     ensures deferred { kept.old ≡ None → kept.new ≡ None }
-    ensures answer { result ≡ kept_of (is_none kept.new) }
     ensures now { IsPlainLane content.now.triggers content.now.lanes cpu
         → kept.new ≡ None → kept.old ≡ None }
     ensures evals { (lane : Lane) → map.get content.now.lanes cpu ≡ Some lane
@@ -38,10 +29,10 @@ pub(crate) fn let_lane_go(
     ensures grow { StepsGrow work.old work.new }
 {
     let Some(mut tables) = kept.take() else {
-        return Kept::Later;
+        return;
     };
     let repaired = take_lane(&mut tables, content, cpu, work);
-    put_back(kept, tables, repaired)
+    put_back(kept, tables, repaired);
 }
 
 /// The events of a CPU's lane go from tables, in order of their lines. Refused for memory, and then

@@ -1,10 +1,9 @@
 //! Tables to which the events of new lanes come: what is kept of the others is repaired.
 
-ghost use Rattle.std.specs.Prelude.{◌≡◌, ◌+◌, ◌≤◌, None, IfOk, IfSome, OnOk};
-ghost use Rattle.std.specs.Option.{is_none};
+ghost use Rattle.std.specs.Prelude.{◌≡◌, ◌+◌, ◌≤◌, length, nat_lt, is_some, None, IfOk, IfSome, OnOk};
 ghost use Rattle.std.specs.FinMap as map;
 ghost use Rattle.ft_hist.specs.Steps.{StepsGrow};
-ghost use Rattle.ft_replay.specs.Edited.{kept_of};
+ghost use Rattle.ft_lanes.specs.Held.{held_in};
 ghost use Rattle.ft_board.specs.KeptShelves.{AreKeptOf};
 ghost use Rattle.ft_board.specs.inner.SomeLanes.{AreKeptOfLanes, count_coming};
 
@@ -14,20 +13,24 @@ use ft_fields::Event;
 use ft_hist::Work;
 use ft_kept::Tables;
 use ft_lanes::Lanes;
-use ft_replay::{Kept, merged_events_but};
+use ft_replay::merged_events_but;
 use std::alloc::{AllocError, Global};
 
-/// The CPUs whose lanes are held, where fewer events come than are held and there is memory for it.
-pub(crate) fn cpus_before(alloc: Global, lanes: &Lanes, events: &[Event]) -> Option<Vec<u16>>
-    ensures { IfSome result (λ cpus. cpus.items ≡ map.keys lanes.now) }
+/// The CPUs whose lanes are held, where fewer events come than are held. Refused for memory.
+pub(crate) fn cpus_before(
+    alloc: Global,
+    lanes: &Lanes,
+    events: &[Event],
+) -> Result<Option<Vec<u16>>, AllocError>
+    ensures fewer { IfOk result (λ cpus.
+        is_some cpus ≡ nat_lt (length events.now) (held_in lanes.now)) }
+    ensures cpus { IfOk result (λ cpus.
+        IfSome cpus (λ before. before.items ≡ map.keys lanes.now)) }
 {
     if events.len() as u64 >= lanes.len() {
-        return None;
+        return Ok(None);
     }
-    match cpus_of(alloc, lanes) {
-        Ok(cpus) => Some(cpus),
-        Err(_) => None,
-    }
+    Ok(Some(cpus_of(alloc, lanes)?))
 }
 
 /// The CPUs of the lanes. Refused for memory.
@@ -49,19 +52,18 @@ pub(crate) fn let_lanes_come(
     content: &Content,
     before: &[u16],
     work: &mut Work,
-) -> Kept
+)
     requires { IfSome kept.old (AreKeptOfLanes before.now content.now) }
     ensures kept { IfSome kept.new (AreKeptOf content.now) }
     ensures deferred { kept.old ≡ None → kept.new ≡ None }
-    ensures answer { result ≡ kept_of (is_none kept.new) }
     ensures evals { work.new.evals ≤ work.old.evals + count_coming before.now content.now }
     ensures grow { StepsGrow work.old work.new }
 {
     let Some(mut tables) = kept.take() else {
-        return Kept::Later;
+        return;
     };
     let repaired = put_lanes(&mut tables, alloc, content, before, work);
-    put_back(kept, tables, repaired)
+    put_back(kept, tables, repaired);
 }
 
 /// The events of all lanes but those of some CPUs come to tables, in merged order. Refused for

@@ -1,20 +1,26 @@
 //! Laws: functions that do nothing, whose clauses are proved.
 
-ghost use Rattle.std.specs.Prelude.{◌≡◌, ℕ, false, Some};
+ghost use Rattle.std.specs.Prelude.{◌≡◌, ℕ, List, false, Some};
 ghost use Rattle.std.specs.FinMap as map;
 ghost use Rattle.ft_hist.specs.Hist.{Hist};
 ghost use Rattle.ft_fields.specs.declared.pos.Pos.{Pos};
+ghost use Rattle.ft_keys.specs.declared.key.Part.{Part};
 ghost use Rattle.ft_kept.specs.Shelves.{Shelved, Shelves, kept_on};
 ghost use Rattle.ft_pairs.specs.declared.at.At.{At};
+ghost use Rattle.ft_pairs.specs.declared.role.Role.TheVariants.{Reads};
 ghost use Rattle.ft_pairs.specs.declared.role.Variable.{Variable};
 ghost use Rattle.ft_table.specs.Rows.{AllFit};
-ghost use Rattle.ft_base.specs.Base.{Triggers};
-ghost use Rattle.ft_base.specs.Roles.{is_reader};
+ghost use Rattle.ft_base.specs.Base.{Base, Triggers};
+ghost use Rattle.ft_base.specs.OneTrigger.{GetsFilter};
+ghost use Rattle.ft_base.specs.Roles.{is_reader, role_at};
 ghost use Rattle.ft_replay.specs.Merged.{Events};
 ghost use Rattle.ft_replay.specs.Found.{pairs_in, saving_found};
 ghost use Rattle.ft_replay.specs.Hits.{hits_of, table_for};
 ghost use Rattle.ft_replay.specs.Operations.{ops_on};
-ghost use Rattle.ft_board.specs.KeptShelves.{AreKept};
+ghost use Rattle.ft_board.specs.KeptShelves.{AreKept, AreKeptOf};
+ghost use Rattle.ft_board.specs.MadeShelves.{MadeTables};
+ghost use Rattle.ft_board.specs.MissedMore.{AreBothKept, IsMissedMore};
+ghost use Rattle.ft_board.specs.Staying.{IsReadAlike};
 ghost use Rattle.ft_replay.specs.Replay.{replay};
 ghost use Rattle.ft_replay.specs.Tally.{tally_of};
 
@@ -52,6 +58,19 @@ pub fn kept_shelves()
     ft_pairs::laws::one_source();
 }
 
+/// A law: an event that no attached trigger hits leaves what is kept right, as it comes and as it
+/// goes: the shelves, and the tables of made events beside them.
+pub fn missed_stay()
+    ensures comes { (triggers : Triggers) (events more : Events) → IsMissedMore triggers events more
+        → (shelves : Shelves) (made : MadeTables) → AreBothKept triggers events shelves made
+        → AreBothKept triggers more shelves made }
+    ensures goes { (triggers : Triggers) (events more : Events) → IsMissedMore triggers events more
+        → (shelves : Shelves) (made : MadeTables) → AreBothKept triggers more shelves made
+        → AreBothKept triggers events shelves made }
+{
+    kept_shelves();
+}
+
 /// A law: a trigger that reads nothing keeps its table, whatever other triggers come, go or get
 /// another filter.
 pub fn others_stay()
@@ -61,3 +80,34 @@ pub fn others_stay()
         → is_reader hist.variable ≡ false → (shelf its : Shelved)
         → map.get old id ≡ Some shelf → map.get new id ≡ Some its → its.table ≡ shelf.table }
 {}
+
+/// A law: a trigger that reads keeps its table and what its readings found, whatever other triggers
+/// come, go or get another filter, where its saver stays and the triggers that read it are those
+/// that did; the operations on what that saver saves stay too. So another filter of one trigger
+/// leaves a reader's table and readings as they are, but where that trigger is the saver or reads
+/// it: since a reading unsets its variable, what one reader's filter admits another may miss.
+pub fn readers_stay()
+    ensures operations { (triggers others : Triggers) (events : Events) (old new : Shelves)
+        → AreKept triggers events old → AreKept others events new → (saver : ℕ)
+        → IsReadAlike triggers others saver → (key : List Part) (at : At)
+        → (kept_on new).ops (record { saver = saver; key = key }) at
+        ≡ (kept_on old).ops (record { saver = saver; key = key }) at }
+    ensures table { (triggers others : Triggers) (events : Events) (old new : Shelves)
+        → AreKept triggers events old → AreKept others events new → (saver : ℕ)
+        → IsReadAlike triggers others saver → (id : ℕ) → role_at triggers id ≡ Reads saver
+        → (shelf its : Shelved) → map.get old id ≡ Some shelf → map.get new id ≡ Some its
+        → its.table ≡ shelf.table }
+    ensures readings { (triggers others : Triggers) (events : Events) (old new : Shelves)
+        → AreKept triggers events old → AreKept others events new → (saver : ℕ)
+        → IsReadAlike triggers others saver → (id : ℕ) → role_at triggers id ≡ Reads saver
+        → (shelf its : Shelved) → map.get old id ≡ Some shelf → map.get new id ≡ Some its
+        → its.readings ≡ shelf.readings }
+    ensures filter { (id : ℕ) (base changed : Base) → GetsFilter id base changed
+        → (old new : Shelves) → AreKeptOf base old → AreKeptOf changed new → (saver : ℕ)
+        → (saver ≡ id → ⊥) → (role_at base.triggers id ≡ Reads saver → ⊥) → (reader : ℕ)
+        → role_at base.triggers reader ≡ Reads saver → (shelf its : Shelved)
+        → map.get old reader ≡ Some shelf → map.get new reader ≡ Some its
+        → (its.table ≡ shelf.table) × (its.readings ≡ shelf.readings) }
+{
+    ft_pairs::laws::one_source();
+}

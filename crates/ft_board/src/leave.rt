@@ -1,12 +1,10 @@
 //! Tables that one trigger leaves: the others' stay as they are.
 
 ghost use Rattle.std.specs.Prelude.{◌≡◌, false, None, Some, Ok, IfSome, OnOk};
-ghost use Rattle.std.specs.Option.{is_none};
 ghost use Rattle.std.specs.FinMap as map;
 ghost use Rattle.ft_hist.specs.Steps.{StepsGrow};
 ghost use Rattle.ft_base.specs.Roles.{is_reader};
-ghost use Rattle.ft_replay.specs.Deferral.{ReadsNothing};
-ghost use Rattle.ft_replay.specs.Edited.{kept_of};
+ghost use Rattle.ft_answers.specs.Deferral.{ReadsNothing};
 ghost use Rattle.ft_board.specs.KeptShelves.{AreKeptOf};
 ghost use Rattle.ft_base.specs.OneTrigger.{IsUnread};
 ghost use Rattle.ft_board.specs.inner.ButOneTrigger.{AreKeptBut};
@@ -18,7 +16,7 @@ use ft_hist::{Trigger, Work};
 use ft_kept::Tables;
 use ft_maps::get;
 use ft_pairs::At;
-use ft_replay::{Kept, Names, events_with};
+use ft_replay::{Names, events_with};
 use std::alloc::{AllocError, Global};
 
 /// A trigger that is still attached, and that no other reads, leaves the tables. Where memory runs
@@ -29,25 +27,24 @@ pub(crate) fn leave(
     content: &Content,
     id: u32,
     work: &mut Work,
-) -> Kept
+)
     requires unread { IsUnread content.now.triggers id }
     requires kept { IfSome kept.old (AreKeptOf content.now) }
     ensures kept { IfSome kept.new (AreKeptBut id content.now) }
     ensures deferred { kept.old ≡ None → kept.new ≡ None }
-    ensures answer { result ≡ kept_of (is_none kept.new) }
     ensures now { ReadsNothing content.now.triggers id → kept.new ≡ None → kept.old ≡ None }
     ensures none { ReadsNothing content.now.triggers id → work.new ≡ work.old }
     ensures grow { StepsGrow work.old work.new }
 {
     let Some(mut tables) = kept.take() else {
-        return Kept::Later;
+        return;
     };
     let Some(trigger) = get(content.triggers(), &id) else {
         *kept = Some(tables);
-        return Kept::Now;
+        return;
     };
     let repaired = take_trigger(&mut tables, alloc, content, id, trigger, work);
-    put_back(kept, tables, repaired)
+    put_back(kept, tables, repaired);
 }
 
 /// Takes the shelf of a trigger away. From a reader its events go before, since what it read stands

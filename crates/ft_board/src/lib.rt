@@ -3,9 +3,12 @@
 //!
 //! One event more or less changes a few entries. A trigger that is attached or removed leaves the
 //! tables of the others as they are; one that gets another filter leaves all but its own and those
-//! of the triggers that read what it saves. Where fewer events are loaded or unloaded than stay,
-//! they come or go one by one; where more are, all is built anew. Where memory runs out for that,
-//! the edit stands, and the next answer builds it.
+//! of the triggers that read what it saves. A reader takes readings from the others that read its
+//! variable, or leaves them to those: there a few entries change. Where fewer events are loaded or
+//! unloaded than stay, they come or go one by one; where more are, all is built anew. Beside these
+//! stand the tables of events that readings make, which are made anew behind each edit, where some
+//! are made and counted. An event that no attached trigger hits leaves all of it as it is. Where memory runs out for any of it, the edit stands, and the next answer
+//! builds it.
 //!
 //! ```ignore
 //! let mut board = KeptBoard::new(rt.alloc());
@@ -25,10 +28,13 @@ mod lane_goes;
 mod lanes_come;
 pub mod laws;
 mod leave;
+mod made;
+mod missed;
+mod readings;
 mod rebuild;
 mod refilter;
 mod repair;
 mod told;
 
 pub use kept::KeptBoard;
-pub use laws::{kept_board_keeps, kept_shelves, others_stay};
+pub use laws::{kept_board_keeps, kept_shelves, missed_stay, others_stay, readers_stay};

@@ -6,7 +6,6 @@ ghost use Rattle.std.specs.Ordering.{nat_cmp};
 ghost use Rattle.std.specs.FinMap as map;
 ghost use Rattle.ft_maps.specs.Seen.{seen};
 ghost use Rattle.ft_hist.specs.Steps.{StepsGrow};
-ghost use Rattle.ft_replay.specs.Edited.{kept_of};
 ghost use Rattle.ft_board.specs.KeptShelves.{AreKeptOf, AreKept};
 ghost use Rattle.ft_board.specs.inner.Built.{AreNew};
 ghost use Rattle.ft_replay.specs.Merged.{merged};
@@ -17,7 +16,7 @@ use ft_hist::{Trigger, Work};
 use ft_kept::Tables;
 use ft_lanes::Lanes;
 use ft_maps::entries;
-use ft_replay::{Kept, merged_events};
+use ft_replay::merged_events;
 use std::alloc::{AllocError, Global};
 use std::collections::BTreeMap;
 
@@ -52,43 +51,26 @@ fn new_tables(alloc: Global, triggers: &BTreeMap<u32, Trigger>) -> Result<Tables
     Ok(tables)
 }
 
-/// Gives the tables up, and builds them anew where there were some: whether there are some then.
-pub(crate) fn renew(
-    kept: &mut Option<Tables>,
-    alloc: Global,
-    content: &Content,
-    work: &mut Work,
-) -> Kept
+/// Gives the tables up, and builds them anew where there were some. Where memory runs out, there are
+/// none then.
+pub(crate) fn renew(kept: &mut Option<Tables>, alloc: Global, content: &Content, work: &mut Work)
     ensures kept { IfSome kept.new (AreKeptOf content.now) }
     ensures deferred { kept.old ≡ None → kept.new ≡ None }
-    ensures answer { result ≡ kept_of (is_none kept.new) }
     ensures grow { StepsGrow work.old work.new }
 {
-    if kept.take().is_none() {
-        return Kept::Later;
+    if kept.take().is_some() {
+        restore(kept, alloc, content, work);
     }
-    restore(kept, alloc, content, work)
 }
 
-/// Builds the tables anew, in place of those that there are: whether there are some then.
-pub(crate) fn restore(
-    kept: &mut Option<Tables>,
-    alloc: Global,
-    content: &Content,
-    work: &mut Work,
-) -> Kept
+/// Builds the tables anew, in place of those that there are. Where memory runs out, there are none
+/// then.
+pub(crate) fn restore(kept: &mut Option<Tables>, alloc: Global, content: &Content, work: &mut Work)
     ensures kept { IfSome kept.new (AreKeptOf content.now) }
-    ensures answer { result ≡ kept_of (is_none kept.new) }
     ensures grow { StepsGrow work.old work.new }
 {
-    match rebuilt(alloc, content.lanes(), content.triggers(), work) {
-        Ok(tables) => {
-            *kept = Some(tables);
-            Kept::Now
-        }
-        Err(_) => {
-            *kept = None;
-            Kept::Later
-        }
-    }
+    *kept = match rebuilt(alloc, content.lanes(), content.triggers(), work) {
+        Ok(tables) => Some(tables),
+        Err(_) => None,
+    };
 }

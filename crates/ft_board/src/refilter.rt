@@ -3,7 +3,7 @@
 ghost use Rattle.std.specs.Prelude.{◌≡◌, None, IfSome};
 ghost use Rattle.std.specs.FinMap as map;
 ghost use Rattle.ft_hist.specs.Steps.{StepsGrow};
-ghost use Rattle.ft_replay.specs.Deferral.{ReadsNothing};
+ghost use Rattle.ft_answers.specs.Deferral.{ReadsNothing};
 ghost use Rattle.ft_board.specs.KeptShelves.{AreKeptOf};
 ghost use Rattle.ft_board.specs.inner.ButOneTrigger.{AwaitFilter};
 

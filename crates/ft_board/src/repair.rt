@@ -1,9 +1,7 @@
 //! Tables repaired as one event comes or goes.
 
 ghost use Rattle.std.specs.Prelude.{◌≡◌, IfSome, None};
-ghost use Rattle.std.specs.Option.{is_none};
 ghost use Rattle.ft_hist.specs.Steps.{StepsGrow};
-ghost use Rattle.ft_replay.specs.Edited.{kept_of};
 ghost use Rattle.ft_board.specs.KeptShelves.{AreKeptOf};
 ghost use Rattle.ft_board.specs.inner.ButOneEvent.{ComesAtCost, GoesAtCost, AreKeptWithout};
 ghost use Rattle.ft_board.specs.inner.ButOneEvent.{IsMissed, IsPlain};
@@ -13,21 +11,14 @@ use ft_base::{Content, Place};
 use ft_fields::Pos;
 use ft_hist::Work;
 use ft_kept::Tables;
-use ft_replay::Kept;
 use std::alloc::AllocError;
 
 /// The event of a place, which is held already, comes to the tables. Where memory runs out, the
 /// tables are given up; an event that is no hit takes none.
-pub(crate) fn let_come(
-    kept: &mut Option<Tables>,
-    content: &Content,
-    place: Place,
-    work: &mut Work,
-) -> Kept
+pub(crate) fn let_come(kept: &mut Option<Tables>, content: &Content, place: Place, work: &mut Work)
     requires { IfSome kept.old (AreKeptWithout content.now place) }
     ensures kept { IfSome kept.new (AreKeptOf content.now) }
     ensures deferred { kept.old ≡ None → kept.new ≡ None }
-    ensures answer { result ≡ kept_of (is_none kept.new) }
     ensures now { IsMissed content.now place → kept.new ≡ None → kept.old ≡ None }
     ensures costs { ComesAtCost content.now place work.old work.new }
     ensures grow { StepsGrow work.old work.new }
@@ -37,31 +28,25 @@ pub(crate) fn let_come(
     ft_table::laws::one_more_hit();
     ft_pairs::laws::one_source();
     let Some(mut tables) = kept.take() else {
-        return Kept::Later;
+        return;
     };
     let (lanes, triggers) = (content.lanes(), content.triggers());
     let Place { cpu, line } = place;
     let Some(event) = lanes.get(cpu, line) else {
-        return Kept::Later;
+        return;
     };
     let stamp = event.stamp;
     let pos = Pos { stamp, cpu, line };
     let repaired = tables.event_comes(triggers, lanes, pos, event, work);
-    put_back(kept, tables, repaired)
+    put_back(kept, tables, repaired);
 }
 
 /// The event of a place, which is still held, goes from the tables. Where memory runs out, the
 /// tables are given up; an event that is a hit of triggers without a variable alone takes none.
-pub(crate) fn let_go(
-    kept: &mut Option<Tables>,
-    content: &Content,
-    place: Place,
-    work: &mut Work,
-) -> Kept
+pub(crate) fn let_go(kept: &mut Option<Tables>, content: &Content, place: Place, work: &mut Work)
     requires { IfSome kept.old (AreKeptOf content.now) }
     ensures kept { IfSome kept.new (AreKeptWithout content.now place) }
     ensures deferred { kept.old ≡ None → kept.new ≡ None }
-    ensures answer { result ≡ kept_of (is_none kept.new) }
     ensures now { IsPlain content.now place → kept.new ≡ None → kept.old ≡ None }
     ensures costs { GoesAtCost content.now place work.old work.new }
     ensures grow { StepsGrow work.old work.new }
@@ -71,34 +56,25 @@ pub(crate) fn let_go(
     ft_table::laws::one_more_hit();
     ft_pairs::laws::one_source();
     let Some(mut tables) = kept.take() else {
-        return Kept::Later;
+        return;
     };
     let (lanes, triggers) = (content.lanes(), content.triggers());
     let Place { cpu, line } = place;
     let Some(event) = lanes.get(cpu, line) else {
-        return Kept::Later;
+        return;
     };
     let stamp = event.stamp;
     let pos = Pos { stamp, cpu, line };
     let repaired = tables.event_goes(triggers, lanes, pos, event, work);
-    put_back(kept, tables, repaired)
+    put_back(kept, tables, repaired);
 }
 
 /// Puts tables back where their repair went through. Where memory ran out, they are given up.
-pub(crate) fn put_back(
-    kept: &mut Option<Tables>,
-    tables: Tables,
-    repaired: Result<(), AllocError>,
-) -> Kept
+pub(crate) fn put_back(kept: &mut Option<Tables>, tables: Tables, repaired: Result<(), AllocError>)
     requires { kept.old ≡ None }
-    ensures kept { kept.new ≡ if_ok tables repaired }
-    ensures answer { result ≡ kept_of (is_none kept.new) }
+    ensures { kept.new ≡ if_ok tables repaired }
 {
-    match repaired {
-        Ok(()) => {
-            *kept = Some(tables);
-            Kept::Now
-        }
-        Err(_) => Kept::Later,
+    if let Ok(()) = repaired {
+        *kept = Some(tables);
     }
 }

@@ -1,40 +1,129 @@
 //! What a board answers about an attached trigger, from what it keeps.
 
-ghost use Rattle.std.specs.Prelude.{◌≡◌, false, IfOk, IfErr, OnOk, OnErr, IfSome, IsSome, Some, None, map as list_map};
+ghost use Rattle.std.specs.Prelude.{◌≡◌, [], false, IfOk, IfErr, OnOk, OnErr, IfSome, IsSome};
+ghost use Rattle.std.specs.Prelude.{Some, None, map as list_map};
 ghost use Rattle.std.specs.Option.{is_none};
+ghost use Rattle.std.specs.Ordering.{nat_cmp};
 ghost use Rattle.std.specs.FinMap as map;
 ghost use Rattle.ft_fields.specs.Places.{pos_cmp};
 ghost use Rattle.ft_hist.specs.Hist.{Hist};
 ghost use Rattle.ft_maps.specs.Seen.{seen};
 ghost use Rattle.ft_hist.specs.Steps.{StepsGrow};
-ghost use Rattle.ft_replay.specs.Answers.{latency_of};
+ghost use Rattle.ft_table.specs.Rows.{AllFit, totals_of};
+ghost use Rattle.ft_answers.specs.Answers.{hist_text, totals, tally_text, latency_of};
 ghost use Rattle.ft_base.specs.declared.refused.Refused.TheVariants.{Memory};
 ghost use Rattle.ft_base.specs.Base.{Base};
 ghost use Rattle.ft_replay.specs.Found.{pairs_in};
+ghost use Rattle.ft_replay.specs.Tally.{tally_of};
 ghost use Rattle.ft_board.specs.KeptShelves.{AreKeptOf};
-ghost use Rattle.ft_board.specs.inner.Told.{Tells};
+ghost use Rattle.ft_board.specs.MadeShelves.{AreMade, made_on};
+ghost use Rattle.ft_board.specs.inner.Told.{IsTold, Tells};
 
 use crate::laws;
+use crate::made::remake;
 use crate::rebuild::restore;
+use ft_answers::{Latency, counts_made, latency_of, table_text};
 use ft_base::{Content, Refused};
 use ft_fields::Pos;
-use ft_hist::Work;
+use ft_hist::{Trigger, Work};
 use ft_kept::{Shelf, Tables};
-use ft_maps::{entries, len};
-use ft_replay::{Latency, Pair, latency_of};
+use ft_maps::{entries, get, len};
+use ft_replay::Pair;
+use ft_table::{Table, Totals};
 use std::alloc::{AllocError, Global};
 use std::collections::BTreeMap;
 
-/// Builds the tables anew where there are none.
-pub(crate) fn catch_up(kept: &mut Option<Tables>, alloc: Global, content: &Content, work: &mut Work)
-    requires { IfSome kept.old (AreKeptOf content.now) }
+/// Builds the tables anew where there are none, those of made events too.
+pub(crate) fn catch_up(
+    kept: &mut Option<Tables>,
+    made: &mut BTreeMap<u32, Table>,
+    alloc: Global,
+    content: &Content,
+    work: &mut Work,
+)
+    requires kept { IfSome kept.old (AreKeptOf content.now) }
+    requires made { IfSome kept.old (λ _. AreMade content.now (seen nat_cmp made.old)) }
     ensures kept { IfSome kept.new (AreKeptOf content.now) }
+    ensures made { IfSome kept.new (λ _. AreMade content.now (seen nat_cmp made.new)) }
     ensures deferred { kept.new ≡ None → kept.old ≡ None }
     ensures none { is_none kept.old ≡ false → work.new ≡ work.old }
     ensures grow { StepsGrow work.old work.new }
 {
     if kept.is_none() {
         restore(kept, alloc, content, work);
+        remake(kept, made, alloc, content, work);
+    }
+}
+
+/// The text of the table of an attached trigger. Refused for memory.
+pub(crate) fn text_in(
+    kept: &Option<Tables>,
+    made: &BTreeMap<u32, Table>,
+    alloc: Global,
+    content: &Content,
+    id: u32,
+    trigger: &Trigger,
+) -> Result<Vec<u8>, Refused>
+    requires attached { map.get content.now.triggers id ≡ Some trigger.now }
+    requires kept { IfSome kept.now (AreKeptOf content.now) }
+    requires made { IfSome kept.now (λ _. AreMade content.now (seen nat_cmp made.now)) }
+    ensures { IsTold (λ text. text.items) (hist_text content.now id) kept.now result }
+{
+    ft_made::made_tables();
+    let shelf = shelf_in(kept, id)?;
+    if counts_made(trigger) {
+        return Ok(made_text(made, alloc, id, trigger)?);
+    }
+    Ok(table_text(alloc, trigger, shelf.table())?)
+}
+
+/// The totals of an attached trigger. Refused for memory where there are no tables.
+pub(crate) fn totals_in(
+    kept: &Option<Tables>,
+    made: &BTreeMap<u32, Table>,
+    alloc: Global,
+    content: &Content,
+    id: u32,
+    trigger: &Trigger,
+) -> Result<Totals, Refused>
+    requires attached { map.get content.now.triggers id ≡ Some trigger.now }
+    requires kept { IfSome kept.now (AreKeptOf content.now) }
+    requires made { IfSome kept.now (λ _. AreMade content.now (seen nat_cmp made.now)) }
+    ensures told { IsTold (λ totals. totals) (totals content.now id) kept.now result }
+    ensures none { OnErr result (kept.now ≡ None) }
+{
+    ft_made::made_tables();
+    let shelf = shelf_in(kept, id)?;
+    if counts_made(trigger) {
+        return Ok(made_totals(made, alloc, id, trigger));
+    }
+    Ok(shelf.table().totals())
+}
+
+/// The text of a trigger's table of made events. Refused for memory.
+fn made_text(
+    made: &BTreeMap<u32, Table>,
+    alloc: Global,
+    id: u32,
+    trigger: &Trigger,
+) -> Result<Vec<u8>, AllocError>
+    requires { AllFit (made_on (seen nat_cmp made.now) id trigger.now) trigger.now }
+    ensures { IfOk result (λ text. text.items ≡ tally_text trigger.now
+        (tally_of (made_on (seen nat_cmp made.now) id trigger.now) [])) }
+{
+    match get(made, &id) {
+        Some(table) => table_text(alloc, trigger, table),
+        None => table_text(alloc, trigger, &Table::new(alloc, trigger.size())),
+    }
+}
+
+/// The totals of a trigger's table of made events.
+fn made_totals(made: &BTreeMap<u32, Table>, alloc: Global, id: u32, trigger: &Trigger) -> Totals
+    ensures { result ≡ totals_of (made_on (seen nat_cmp made.now) id trigger.now) }
+{
+    match get(made, &id) {
+        Some(table) => table.totals(),
+        None => Table::new(alloc, trigger.size()).totals(),
     }
 }
 
@@ -49,6 +138,7 @@ pub(crate) fn shelf_in(kept: &Option<Tables>, id: u32) -> Result<&Shelf, Refused
         → map.get base.triggers id ≡ Some hist → OnErr result (kept.now ≡ None) }
 {
     laws::kept_shelves();
+    ft_made::counted_made();
     let Some(tables) = kept else {
         return Err(Refused::Memory);
     };

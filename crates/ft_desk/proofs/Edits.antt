@@ -10,8 +10,8 @@ use Rattle.ft_filter.specs.Tree.{Tree}
 use Rattle.ft_base.specs.declared.refused.Refused.{Refused}
 use Rattle.ft_base.specs.declared.refused.Refused.TheVariants.{NoTrigger}
 use Rattle.ft_trigger.specs.Hist.{Hist}
-use Rattle.ft_replay.specs.Base.{Base}
-use Rattle.ft_replay.specs.After.{after_load, after_insert, after_attach, after_refilter}
+use Rattle.ft_answers.specs.Base.{Base}
+use Rattle.ft_answers.specs.After.{after_load, after_insert, after_attach, after_refilter}
 use Rattle.ft_desk.specs.Edits.{events_of, after_load_text, event_or_refused, after_insert_text, trigger_for, after_attach_text, filter_for, after_refilter_text, ◌>>=◌}
 
 -- a text whose lines can be read is loaded as its events

@@ -3,7 +3,7 @@ use Rattle.std.proofs.Common.{◌≡◌, ℕ, None}
 use Rattle.std.specs.Ordering.{nat_cmp}
 use Rattle.std.specs.FinMap as map
 use Rattle.std.specs.FinMap.{get-empty}
-use Rattle.ft_replay.specs.Base.{empty_base}
+use Rattle.ft_answers.specs.Base.{empty_base}
 
 -- no lane
 pub no-lane : (cpu : ℕ) → map.get empty_base.lanes cpu ≡ None

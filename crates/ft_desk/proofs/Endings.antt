@@ -3,7 +3,7 @@ use Rattle.std.proofs.Common.{◌≡◌, ◌≢◌, ℕ, ◌<◌, ◌≤◌, Boo
 use Rattle.std.specs.Prelude.{◌||◌}
 use Rattle.std.specs.Io.KnownBytes.{Keeps, Appends, Consumes}
 use Rattle.std.proofs.KnownBytes.{Consumes-kept, Consumes-trans, Appends-trans, Appends-kept}
-use Rattle.ft_replay.specs.Base.{Base, empty_base}
+use Rattle.ft_answers.specs.Base.{Base, empty_base}
 use Rattle.ft_desk.specs.declared.pieces.Taken.TheVariants as takes
 use Rattle.ft_desk.specs.declared.running.Status.{Status}
 use Rattle.ft_desk.specs.declared.running.RunFault.{RunFault}

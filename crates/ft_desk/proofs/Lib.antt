@@ -1,4 +1,5 @@
 pub mod Reading
+pub mod Unmade
 pub mod Edits
 pub mod Empty
 pub mod LineLemmas

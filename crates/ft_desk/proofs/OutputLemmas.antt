@@ -4,7 +4,7 @@ use Rattle.std.specs.Prelude.{◌||◌}
 use Rattle.std.proofs.Math.Bool.{or_assoc, or-false}
 use Rattle.std.proofs.lemmas.Bool.{cases_lt, lt-ltb}
 use Rattle.std.proofs.lemmas.List.{take_all, length-take-le}
-use Rattle.ft_replay.specs.Base.{Base}
+use Rattle.ft_answers.specs.Base.{Base}
 use Rattle.ft_script.specs.Script.{line_limit, asked_by}
 use Rattle.ft_script.specs.Script.Asked.{NoForm}
 use Rattle.ft_desk.specs.Output.{Outcome, outcome, output_from}

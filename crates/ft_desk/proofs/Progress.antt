@@ -5,7 +5,7 @@ use Rattle.std.specs.Io.KnownBytes.{Keeps, Appends, Consumes, IsAtEnd}
 use Rattle.std.proofs.KnownBytes.{Consumes-nil, Consumes-trans, Appends-nil, Appends-trans}
 use Rattle.std.proofs.lemmas.List.{take_all, take-append-le, take-take, length-take, length-take-le}
 use Rattle.std.proofs.lemmas.Bool.{cases_lt}
-use Rattle.ft_replay.specs.Base.{Base, empty_base}
+use Rattle.ft_answers.specs.Base.{Base, empty_base}
 use Rattle.ft_desk.specs.declared.pieces.Taken.TheVariants as takes
 use Rattle.ft_desk.specs.declared.running.RunFault.{RunFault}
 use Rattle.ft_script.specs.Lines.{lines_of, ended_lines}

@@ -3,7 +3,7 @@ use Rattle.std.proofs.Common.{◌≡◌, ℕ, List, [], ◌∷◌, ◌++◌, Opt
 use Rattle.std.specs.Io.{StartsWith}
 use Rattle.std.proofs.KnownBytes.{starts_with_rest}
 use Rattle.std.proofs.Transfers.{starts_with_of_append, starts_with_of_eq}
-use Rattle.ft_replay.specs.Base.{Base, empty_base}
+use Rattle.ft_answers.specs.Base.{Base, empty_base}
 use Rattle.ft_desk.specs.declared.running.Status.{Status}
 use Rattle.ft_desk.specs.declared.running.RunFault.{RunFault}
 use Rattle.ft_desk.specs.declared.running.RunFault.TheVariants as faults

@@ -17,8 +17,8 @@ use Rattle.ft_trigger.specs.Hist.{Hist}
 use Rattle.ft_trigger.specs.TriggerIs.{trigger_of}
 use Rattle.ft_head.specs.declared.fault.TriggerFault.{TriggerFault}
 use Rattle.ft_head.specs.declared.fault.TriggerFault.TheVariants as faults
-use Rattle.ft_replay.specs.Base.{Base}
-use Rattle.ft_replay.specs.After.{after_load, after_insert, after_attach, after_refilter}
+use Rattle.ft_answers.specs.Base.{Base}
+use Rattle.ft_answers.specs.After.{after_load, after_insert, after_attach, after_refilter}
 use Rattle.ft_base.specs.declared.refused.Place.{Place}
 use Rattle.ft_base.specs.declared.refused.Refused.{Refused}
 use Rattle.ft_base.specs.declared.refused.Refused.TheVariants.{Memory, BadLine, NoEvent, BadTrigger, BadFilter, NoTrigger, BadCommand}
@@ -70,13 +70,13 @@ abbrev pub trigger_or_refused : Result Hist TriggerFault → Result Hist Refused
 trigger_or_refused (Ok trigger) = Ok trigger
 trigger_or_refused (Err fault) = Err (refused_for fault)
 
--- a trigger's text on an event: on the four named events
+-- a trigger's text on an event: on the four named events, and on the one that triggers make
 abbrev pub trigger_for : Name → List ℕ → Result Hist Refused
 trigger_for names.Waking text = trigger_or_refused (trigger_of names.Waking text)
 trigger_for names.Wakeup text = trigger_or_refused (trigger_of names.Wakeup text)
 trigger_for names.WakeupNew text = trigger_or_refused (trigger_of names.WakeupNew text)
 trigger_for names.Switch text = trigger_or_refused (trigger_of names.Switch text)
-trigger_for names.WakeupLatency text = Err BadCommand
+trigger_for names.WakeupLatency text = trigger_or_refused (trigger_of names.WakeupLatency text)
 trigger_for names.Other text = Err BadCommand
 
 -- attaching a trigger's text to an event

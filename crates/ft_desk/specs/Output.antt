@@ -3,9 +3,9 @@ use Rattle.std.specs.Prelude.{ℕ, ◌-◌, Bool, true, false, ◌||◌, List, [
 use Rattle.std.specs.Option.{option_map_or}
 use Rattle.ft_base.specs.declared.refused.Refused.{Refused}
 use Rattle.ft_base.specs.declared.refused.Refused.TheVariants.{NoFile, BadCommand}
-use Rattle.ft_replay.specs.Base.{Base, empty_base}
-use Rattle.ft_replay.specs.After.{after_unload, after_strike, after_remove}
-use Rattle.ft_replay.specs.Answers.{hist_text, totals, latencies, list_text}
+use Rattle.ft_answers.specs.Base.{Base, empty_base}
+use Rattle.ft_answers.specs.After.{after_unload, after_strike, after_remove}
+use Rattle.ft_answers.specs.Answers.{hist_text, totals, latencies, list_text}
 use Rattle.ft_script.specs.Lines.{lines_of}
 use Rattle.ft_script.specs.Script.{Asked, asked_by}
 use Rattle.ft_script.specs.declared.script.Numbered.{Numbered}

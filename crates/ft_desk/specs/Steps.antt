@@ -6,7 +6,7 @@ use Rattle.ft_desk.specs.declared.pieces.Taken.TheVariants as takes
 use Rattle.ft_desk.specs.declared.running.Status.{Status}
 use Rattle.ft_desk.specs.declared.running.RunFault.{RunFault}
 use Rattle.ft_desk.specs.declared.running.RunFault.TheVariants as faults
-use Rattle.ft_replay.specs.Base.{Base}
+use Rattle.ft_answers.specs.Base.{Base}
 use Rattle.ft_script.specs.Script.{line_limit}
 use Rattle.ft_desk.specs.Output.{Outcome}
 use Rattle.ft_desk.specs.Counts.{Counts}

@@ -2,16 +2,16 @@
 
 ghost use Rattle.std.specs.Prelude.{◌≡◌, ◌≢◌, option_map, IfOk};
 ghost use Rattle.std.specs.Option.{option_copied, ForSome};
-ghost use Rattle.ft_replay.specs.Edited.{AnswerIs};
+ghost use Rattle.ft_answers.specs.Edited.{AnswerIs};
 ghost use Rattle.ft_filter.specs.Answers.{filter_of};
 ghost use Rattle.ft_trigger.specs.TriggerIs.{trigger_of};
 ghost use Rattle.ft_desk.specs.Edits.{trigger_for, trigger_or_refused, refused_for};
 ghost use Rattle.ft_desk.specs.Edits.{filter_for, filter_or_refused, filter_refused};
 
 use crate::events::{event_in, events_in};
+use ft_answers::{Board, Done, Latency, Place, Refused};
 use ft_event::Name;
 use ft_filter::{Filter, FilterFault};
-use ft_replay::{Board, Done, Latency, Place, Refused};
 use ft_table::Totals;
 use ft_trigger::{Trigger, TriggerFault, parse};
 use std::alloc::Global;
@@ -25,8 +25,8 @@ pub struct Desk<B: Board> {
 }
 
 impl<B: Board> Model for Desk<B> {
-    ghost use Rattle.ft_replay.specs.Codes.{shown_code};
-    ghost use Rattle.ft_replay.specs.Shown.{Shown};
+    ghost use Rattle.ft_answers.specs.Codes.{shown_code};
+    ghost use Rattle.ft_answers.specs.Shown.{Shown};
 
     ghost Value = { Shown };
 
@@ -36,22 +36,23 @@ impl<B: Board> Model for Desk<B> {
 }
 
 impl<B: Board> Desk<B> {
-    ghost use Rattle.std.specs.Prelude.{◌≡◌, ◌≢◌, true, Some, Ok, Err};
+    ghost use Rattle.std.specs.Prelude.{◌≡◌, ◌≢◌, true, List, Some, Ok, Err};
     ghost use Rattle.std.specs.Option.{option_copied};
     ghost use Rattle.ft_base.specs.declared.refused.Refused.TheVariants.{Memory};
-    ghost use Rattle.ft_replay.specs.After.{after_unload, after_strike, after_remove};
+    ghost use Rattle.ft_answers.specs.After.{after_unload, after_strike, after_remove};
     ghost use Rattle.ft_event.specs.Line.{line_of};
     ghost use Rattle.ft_fields.specs.Traced.{Traced};
-    ghost use Rattle.ft_replay.specs.Held.{event_at, is_small};
-    ghost use Rattle.ft_replay.specs.Costs.{EditCounts, RepairCosts, UnloadCosts, FilterCosts};
-    ghost use Rattle.ft_replay.specs.Costs.{AnswerCosts};
-    ghost use Rattle.ft_replay.specs.Deferral.{PutsNothingOff, IsNoHit, IsPlainHit, IsPlainLane};
-    ghost use Rattle.ft_replay.specs.Deferral.{ReadsNothing, WantsForTables};
-    ghost use Rattle.ft_replay.specs.Edited.{EditGives, AnswersFrom, AnswerIs};
-    ghost use Rattle.ft_replay.specs.Answers.{hist_text, totals, latencies, list_text};
+    ghost use Rattle.ft_answers.specs.Held.{event_at, is_small};
+    ghost use Rattle.ft_answers.specs.Costs.{EditCounts, RepairCosts, LoadCosts, UnloadCosts};
+    ghost use Rattle.ft_answers.specs.Costs.{FilterCosts, AnswerCosts};
+    ghost use Rattle.ft_answers.specs.Deferral.{PutsNothingOff, PutsOffForMadeAlone};
+    ghost use Rattle.ft_answers.specs.Deferral.{IsNoHit, IsPlainHit, IsPlainLane};
+    ghost use Rattle.ft_answers.specs.Deferral.{ReadsNothing, WantsForTables};
+    ghost use Rattle.ft_answers.specs.Edited.{EditGives, AnswersFrom, AnswerIs};
+    ghost use Rattle.ft_answers.specs.Answers.{hist_text, totals, latencies, list_text};
     ghost use Rattle.ft_desk.specs.Edits.{after_load_text, after_insert_text};
     ghost use Rattle.ft_desk.specs.Edits.{after_attach_text, after_refilter_text};
-    ghost use Rattle.ft_desk.specs.Edits.{event_or_refused};
+    ghost use Rattle.ft_desk.specs.Edits.{event_or_refused, events_of};
 
     /// A desk over a board, as the board is.
     pub fn new(alloc: Global, board: B) -> Desk<B>
@@ -67,8 +68,11 @@ impl<B: Board> Desk<B> {
         ensures gives { EditGives (λ count. count) (after_load_text self.old.base text.now)
             self.old self.new result }
         ensures counts { EditCounts self.old self.new result }
+        ensures repairs { (events : List Traced) → events_of text.now ≡ Ok events
+            → LoadCosts events self.old self.new }
     {
         let events = events_in(self.alloc, text)?;
+        ft_event::laws::no_made_event();
         self.board.load(events)
     }
 
@@ -81,7 +85,7 @@ impl<B: Board> Desk<B> {
         ensures repairs { UnloadCosts cpu self.old self.new }
         ensures now { is_small self.old.base.lanes cpu ≡ true
             → IsPlainLane self.old.base.triggers self.old.base.lanes cpu
-            → PutsNothingOff self.old self.new }
+            → PutsOffForMadeAlone self.old self.new }
     {
         self.board.unload(cpu)
     }
@@ -99,6 +103,7 @@ impl<B: Board> Desk<B> {
             → IsNoHit self.old.base.triggers event → PutsNothingOff self.old self.new }
     {
         let event = event_in(line)?;
+        ft_event::laws::no_made_event();
         self.board.insert(event)
     }
 
@@ -112,15 +117,18 @@ impl<B: Board> Desk<B> {
         ensures repairs { (event : Traced) → event_at self.old.base.lanes cpu line ≡ Some event
             → RepairCosts event self.old self.new }
         ensures now { (event : Traced) → event_at self.old.base.lanes cpu line ≡ Some event
-            → IsPlainHit self.old.base.triggers event → PutsNothingOff self.old self.new }
+            → IsPlainHit self.old.base.triggers event → PutsOffForMadeAlone self.old self.new }
+        ensures missed { (event : Traced) → event_at self.old.base.lanes cpu line ≡ Some event
+            → IsNoHit self.old.base.triggers event → PutsNothingOff self.old self.new }
     {
         self.board.strike(cpu, line)
     }
 
     /// Attaches a trigger's text to an event: the trigger's id. Refused for another event than
-    /// the four named ones, where the text cannot be read, where 64 triggers are attached or the
-    /// ids are used up, where its variable's name is saved already, where nobody saves what it
-    /// reads, where its keys don't match its saver's, or for memory.
+    /// the four named ones and the one that triggers make, where the text cannot be read, where 64
+    /// triggers are attached or the ids are used up, where its variable's name is saved already,
+    /// where nobody saves what it reads (at the event that its onmatch part names, if it has one),
+    /// where its keys don't match its saver's, or for memory.
     pub fn attach(&mut self, event: Name, text: &[u8]) -> Result<Done<u32>, Refused>
         ensures gives { EditGives (λ id. id) (after_attach_text self.old.base event text.now)
             self.old self.new result }
@@ -152,7 +160,8 @@ impl<B: Board> Desk<B> {
             self.old self.new result }
         ensures memory { result ≢ Err Memory }
         ensures counts { EditCounts self.old self.new result }
-        ensures now { ReadsNothing self.old.base.triggers id → PutsNothingOff self.old self.new }
+        ensures now { ReadsNothing self.old.base.triggers id
+            → PutsOffForMadeAlone self.old self.new }
     {
         self.board.remove(id)
     }
@@ -203,16 +212,15 @@ impl<B: Board> Desk<B> {
     }
 }
 
-/// Reads the text of a trigger on an event, which is one of the four named ones.
+/// Reads the text of a trigger on an event, which is one of the named ones.
 fn read_trigger(alloc: Global, event: Name, text: &[u8]) -> Result<Trigger, Refused>
     ensures reads { AnswerIs (λ trigger. trigger) (trigger_for event text.now) result }
     ensures event { IfOk result (λ trigger. trigger.event ≢ Name.Other) }
 {
     match event {
-        Name::Waking | Name::Wakeup | Name::WakeupNew | Name::Switch => {
-            named_trigger(alloc, event, text)
-        }
-        Name::WakeupLatency | Name::Other => Err(Refused::BadCommand),
+        Name::Waking | Name::Wakeup | Name::WakeupNew | Name::Switch | Name::WakeupLatency =>
+            named_trigger(alloc, event, text),
+        Name::Other => Err(Refused::BadCommand),
     }
 }
 

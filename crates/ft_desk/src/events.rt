@@ -4,12 +4,12 @@ ghost use Rattle.std.specs.Prelude.{◌≡◌, ◌==◌, false, ◌⊎◌, List,
 ghost use Rattle.std.specs.List.{list_any};
 ghost use Rattle.ft_event.specs.Line.{line_of};
 ghost use Rattle.ft_fields.specs.Traced.{Traced};
-ghost use Rattle.ft_replay.specs.Edited.{AnswerIs};
+ghost use Rattle.ft_answers.specs.Edited.{AnswerIs};
 ghost use Rattle.ft_desk.specs.Edits.{events_of, line_in_front, event_or_refused};
 ghost use Rattle.ft_desk.specs.inner.Reading.{in_front};
 
+use ft_answers::Refused;
 use ft_event::{Event, Line, read_cut_line, read_line};
-use ft_replay::Refused;
 use ft_script::next_line;
 use std::alloc::Global;
 

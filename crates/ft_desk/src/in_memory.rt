@@ -1,14 +1,14 @@
 //! Running a script in memory.
 
 ghost use Rattle.std.specs.Prelude.{◌≡◌, map, IfOk};
-ghost use Rattle.ft_replay.specs.Base.{empty_base};
+ghost use Rattle.ft_answers.specs.Base.{empty_base};
 ghost use Rattle.ft_desk.specs.Output.{output};
 ghost use Rattle.ft_desk.specs.Run.{status_of};
 
 use crate::desk::Desk;
 use crate::performing::perform;
 use crate::running::{Status, status_from};
-use ft_replay::Board;
+use ft_answers::Board;
 use ft_script::next_line;
 use std::alloc::{AllocError, Global};
 

@@ -27,9 +27,9 @@ mod running;
 mod sending;
 
 pub use desk::Desk;
+pub use ft_answers::{Board, Done, Kept, Latency, Place, PlainBoard, Refused};
 pub use ft_event::{LineFault, Name};
 pub use ft_filter::FilterFault;
-pub use ft_replay::{Board, Done, Kept, Latency, Place, PlainBoard, Refused};
 pub use ft_table::Totals;
 pub use ft_trigger::TriggerFault;
 pub use ft_words::{FileFault, Words, WordsFault, read_file, read_whole, read_words};

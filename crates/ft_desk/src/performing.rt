@@ -1,7 +1,7 @@
 //! One line of a script.
 
 ghost use Rattle.std.specs.Prelude.{◌≡◌, ◌≢◌, ◌++◌, true, codes, map, IfOk, OnOk, Some, None, MatchOption};
-ghost use Rattle.ft_replay.specs.Edited.{EditGives};
+ghost use Rattle.ft_answers.specs.Edited.{EditGives};
 ghost use Rattle.ft_script.specs.Command.{asked};
 ghost use Rattle.ft_script.specs.Script.{asked_by};
 ghost use Rattle.ft_printed.specs.Refusals.{refused_text};
@@ -9,8 +9,8 @@ ghost use Rattle.ft_desk.specs.Output.{outcome, outcome_about, file_at, after_lo
 ghost use Rattle.ft_desk.specs.inner.Printed.{Prints, PrintsEdit, PrintsAnswer};
 
 use crate::desk::Desk;
+use ft_answers::{Board, Done, Refused};
 use ft_printed::{Answer, EditValue, done_line, refused_line};
-use ft_replay::{Board, Done, Refused};
 use ft_script::{Command, Numbered, read_command};
 use std::alloc::{AllocError, Global};
 

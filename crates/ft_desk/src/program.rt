@@ -2,7 +2,7 @@
 
 ghost use Rattle.std.specs.Prelude.{◌≡◌, ◌≤◌, map, string_bytes};
 ghost use Rattle.std.specs.Result.{result_map_both};
-ghost use Rattle.ft_replay.specs.Base.{empty_base};
+ghost use Rattle.ft_answers.specs.Base.{empty_base};
 ghost use Rattle.ft_words.specs.Files.{Told, TellsReader};
 ghost use Rattle.ft_words.specs.Words.{named_in};
 ghost use Rattle.ft_desk.specs.Program.{exit_status_of, told_of_words, told_of_run, told_of_file};
@@ -10,7 +10,7 @@ ghost use Rattle.ft_desk.specs.inner.Ends.{FilesGive, RunTells, ProgramEnds};
 ghost use Rattle.ft_desk.specs.declared.program.Fault.TheVariants.{Memory};
 
 use crate::running::{RunFault, Status, run};
-use ft_replay::Board;
+use ft_answers::Board;
 use ft_words::{FileFault, Paths, WordsFault, read_file, read_words};
 use std::alloc::{AllocError, AllocFailed, Global};
 use std::io::{BufReader, ErrorKind, Read};

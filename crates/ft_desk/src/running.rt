@@ -2,7 +2,7 @@
 
 ghost use Rattle.std.specs.Prelude.{◌≡◌, ◌+◌, ◌≤◌, map};
 ghost use Rattle.std.specs.Io.KnownBytes.{Keeps};
-ghost use Rattle.ft_replay.specs.Base.{empty_base};
+ghost use Rattle.ft_answers.specs.Base.{empty_base};
 ghost use Rattle.ft_script.specs.Script.{asked_by};
 ghost use Rattle.ft_desk.specs.Output.{outcome};
 ghost use Rattle.ft_desk.specs.Run.{asking_limit, status_of, RunEnds};
@@ -13,7 +13,7 @@ use crate::desk::Desk;
 use crate::performing::perform;
 use crate::pieces::{Taken, take_part};
 use crate::sending::send;
-use ft_replay::Board;
+use ft_answers::Board;
 use std::alloc::{AllocError, Global};
 use std::io::{self, BufRead, Write};
 use thiserror::Error;

@@ -4,10 +4,13 @@ mod load;
 mod removing;
 mod striking;
 
+ghost use Rattle.std.specs.Prelude.{◌≡◌, false, IfOk};
+ghost use Rattle.ft_answers.specs.Traced.{is_made};
+
 use Act::{Switch, Wake as Waking};
+use ft_answers::{Board, Done, Kept, Latency, Place, PlainBoard, Refused, plain_board_keeps_none};
 use ft_board::*;
 use ft_event::{Body, Comm, Event, Name, Turn, Wake};
-use ft_replay::{Board, Done, Kept, Latency, Place, PlainBoard, Refused, plain_board_keeps_none};
 use ft_table::Totals;
 use ft_trigger::{TriggerFault, parse};
 use std::alloc::Global;
@@ -35,8 +38,10 @@ enum Act {
 /// What an event does, its CPU, and its stamp.
 type Line = (Act, u16, u64);
 
-/// An event of a line. Refused where no event has such a CPU or stamp.
-fn event_of(line: Line) -> Result<Event, Refused> {
+/// An event of a line, none that triggers make. Refused where no event has such a CPU or stamp.
+fn event_of(line: Line) -> Result<Event, Refused>
+    ensures { IfOk result (λ event. is_made event.body ≡ false) }
+{
     let (act, cpu, stamp) = line;
     if cpu > 8191 || stamp > 4_294_967_295_999_999 {
         return Err(Refused::BadCommand);
@@ -75,8 +80,9 @@ fn load_lines<B: Board>(alloc: Global, board: &mut B, lines: &[Line]) -> Result<
     let mut events = Vec::new(alloc);
     for line in lines {
         let event = event_of(*line)?;
-        if events.push(event).is_err() {
-            return Err(Refused::Memory);
+        match events.push(event) {
+            Ok(()) => (),
+            Err(_) => return Err(Refused::Memory),
         }
     }
     Ok(board.load(events)?.value)

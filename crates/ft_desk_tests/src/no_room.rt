@@ -1,11 +1,11 @@
 //! A board that has no memory.
 
 ghost use Rattle.std.specs.Prelude.{false};
-ghost use Rattle.ft_replay.specs.Base.{empty_base};
+ghost use Rattle.ft_answers.specs.Base.{empty_base};
 
+use ft_answers::{Board, Done, Latency, Place, Refused};
 use ft_event::{Event, Name};
 use ft_filter::Filter;
-use ft_replay::{Board, Done, Latency, Place, Refused};
 use ft_table::Totals;
 use ft_trigger::Trigger;
 

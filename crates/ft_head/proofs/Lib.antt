@@ -1,8 +1,10 @@
+mod Actions
 mod DraftLemmas
+pub mod Handing
 pub mod Numerals
 mod PieceLemmas
 mod Rounding
 pub mod Separators
-mod Spelled
+pub mod Spelled
 pub mod Spellings
 pub mod WordLemmas

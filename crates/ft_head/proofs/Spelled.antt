@@ -90,13 +90,13 @@ module _ (separator : ℕ) where
 -- ---- words
 
 -- a name, told by its bytes
-named : (text : List ℕ) → IsName text → IsNamed text
+pub named : (text : List ℕ) → IsName text → IsNamed text
 named [] h = absurd (let e = h.begins in cc)
 named (byte ∷ rest) h = record { first = byte; rest = rest; is = refl; begins = h.begins; inside = (and_parts (is_in_name byte) (list_all is_in_name rest) h.inside).1 }
 
 -- a name that its bytes tell
-name_of : (text : List ℕ) → IsNamed text → IsName text
-name_of text h = subst IsName (sym h.is) (record { begins = h.begins; inside = and_from _ _ (begins_inside h.first h.begins) h.inside })
+pub name_told : (text : List ℕ) → IsNamed text → IsName text
+name_told text h = subst IsName (sym h.is) (record { begins = h.begins; inside = and_from _ _ (begins_inside h.first h.begins) h.inside })
 
 -- what stands behind a name is its suffix
 suffix_parts : (rest : List ℕ) (suffix : Option (List ℕ)) → suffix_of rest ≡ Some suffix → (rest ≡ suffix_text suffix) × IsSuffix suffix
@@ -172,5 +172,5 @@ one_word item word = (
     is = parts.0 ∙ ap (λ (t : List ℕ). (if word.dollar then codes "$" else []) ++ (word.name ++ t)) (suffix_same word.suffix);
   },
   λ h. ap word_of (h.is ∙ ap (λ (t : List ℕ). (if word.dollar then codes "$" else []) ++ (word.name ++ t)) (sym (suffix_same word.suffix)) ∙ text_same word.dollar word.name (suffix_text word.suffix))
-      ∙ word_again word (name_of word.name h.named) (some_suffix word.suffix h.ended),
+      ∙ word_again word (name_told word.name h.named) (some_suffix word.suffix h.ended),
 )

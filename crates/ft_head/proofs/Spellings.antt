@@ -7,7 +7,7 @@ use Rattle.std.proofs.lemmas.Option.{same_Some, cond_some}
 use Rattle.std.proofs.lemmas.Slice.Eq.{bytes_eq-Decides}
 use Rattle.std.specs.Int.{is_in_range}
 use Rattle.std.specs.Char.{is_ascii_alphabetic, is_ascii_alphanumeric}
-use Rattle.std.specs.List.{prefix_len, list_all, starts_with}
+use Rattle.std.specs.List.{prefix_len, list_all, starts_with, find}
 use Rattle.std.specs.Option.{option_and_then}
 use Rattle.std.specs.Str.{bytes_eq}
 use Rattle.ft_tokens.specs.Tokens.{begins_name, is_in_name, run_at}
@@ -29,6 +29,17 @@ pub front_same : (text front : List ℕ) → starts_with ◌==◌ text front ≡
 front_same text front h =
     let same : front ≡ take (length front) text = bytes_same front (take (length front) text) h in
     sym (take-append-drop (length front) text) ∙ ap (λ (t : List ℕ). t ++ drop (length front) text) (sym same)
+
+-- ---- searches
+
+-- what is found passes the test
+pub find_passes : {A : Type 0} (test : A → Bool) (xs : List A) (x : A) → find test xs ≡ Some x → test x ≡ true
+find_passes test [] x e = absurd cc
+find_passes test (y ∷ xs) x e = from (find_passes test xs x) (test y) refl e
+  where
+    from : (find test xs ≡ Some x → test x ≡ true) → (b : Bool) → test y ≡ b → cond b (Some y) (find test xs) ≡ Some x → test x ≡ true
+    from later true is e = subst (λ z. test z ≡ true) (same_Some y x e) is
+    from later false is e = later e
 
 -- ---- names
 

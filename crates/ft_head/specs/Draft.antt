@@ -5,6 +5,7 @@ use Rattle.std.specs.Option.{option_map_or, option_or, is_some}
 use Rattle.std.specs.Str.{bytes_eq}
 use Rattle.std.specs.Str.Parse.{digits_value}
 use Rattle.ft_fields.specs.declared.event.Name.{Name}
+use Rattle.ft_fields.specs.declared.event.Name.TheVariants as names
 use Rattle.ft_fields.specs.declared.field.Field.{Field}
 use Rattle.ft_fields.specs.Fields.{is_named, all_fields, is_text, text_of}
 use Rattle.ft_head.specs.declared.fault.TriggerFault.{TriggerFault}
@@ -16,8 +17,10 @@ use Rattle.ft_head.specs.declared.draft.Kind.{Kind}
 use Rattle.ft_head.specs.declared.draft.Kind.TheVariants.{Keys, Values, Sort, Size}
 use Rattle.ft_hist.specs.declared.label.Var.{Var}
 use Rattle.ft_hist.specs.declared.label.Var.TheVariants as vars
+use Rattle.ft_hist.specs.Hit.{same_name}
 use Rattle.ft_hist.specs.Modifiers.{named_modes, is_called}
 use Rattle.ft_hist.specs.Powers.{first_power}
+use Rattle.ft_head.specs.Onmatch.{Action, Handed, handed_of}
 use Rattle.ft_head.specs.Words.{Piece, pieces, Word, word_of, is_number, number_in}
 use Rattle.ft_tokens.specs.Tokens.{name_at}
 
@@ -28,10 +31,11 @@ pub record Draft : Type 0 where
   pub sort : Option (List Word)
   pub size : Option ℕ
   pub variable : Option Var
+  pub onmatch : Option Action
 
 -- nothing yet (our own choice)
 abbrev pub blank : Draft
-blank = record { keys = None; values = None; sort = None; size = None; variable = None }
+blank = record { keys = None; values = None; sort = None; size = None; variable = None; onmatch = None }
 
 infixl 10 ◌>>=◌
 -- what follows a step that has no fault (our own choice)
@@ -211,7 +215,7 @@ labels =
 abbrev pub is_part_left_out : List ℕ → Bool
 is_part_left_out part =
     list_any (bytes_eq part) (codes "pause" ∷ codes "cont" ∷ codes "clear" ∷ codes "nohitcount" ∷ [])
-    || list_any (starts_with ◌==◌ part) (codes "name=" ∷ codes "clock=" ∷ codes "onmax(" ∷ codes "onchange(" ∷ codes "onmatch(" ∷ [])
+    || list_any (starts_with ◌==◌ part) (codes "name=" ∷ codes "clock=" ∷ codes "onmax(" ∷ codes "onchange(" ∷ [])
 
 -- a part of a kind, whose list or number begins at a place (kernel: histogram.rst, hist triggers)
 unfoldable pub with_kind : Name → Draft → Kind → ℕ → List ℕ → Result Draft TriggerFault
@@ -224,10 +228,10 @@ with_kind event draft Sort place text =
 with_kind event draft Size place text =
     unless ((is_some draft.size, Duplicate) ∷ []) (given_or BadSize (size_of text) (λ size. Ok (record draft { size = Some size })))
 
--- a variable's name and value, whose part begins at a place: at most one stands (kernel: histogram.rst, inter-event hist triggers)
+-- a variable's name and value, whose part begins at a place: at most one stands, and none on the event that triggers make (kernel: histogram.rst, inter-event hist triggers)
 abbrev pub with_named : Name → Draft → ℕ → List ℕ → List ℕ → Result Draft TriggerFault
 with_named event draft place name value =
-    unless ((is_some draft.variable, LeftOut place) ∷ [])
+    unless ((same_name event names.WakeupLatency, LeftOut place) ∷ (is_some draft.variable, LeftOut place) ∷ [])
     (given_or (LeftOut place) (stamp_of value) (λ stamp.
     unless ((is_taken event name stamp, Duplicate) ∷ []) (Ok (record draft { variable = Some (var_of name stamp) }))))
 
@@ -237,13 +241,40 @@ with_variable event draft part =
     given_or (Syntax part.place) (name_at part.bytes) (λ cut.
     unless ((not (starts_with ◌==◌ cut.1 (codes "=")), Syntax part.place) ∷ []) (with_named event draft part.place cut.0 (drop 1 cut.1)))
 
+-- a field of numbers of the event (kernel: histogram.rst, the `onmatch` handler)
+abbrev pub number_field : Name → List ℕ → Result Field TriggerFault
+number_field event name = given_or NoField (find (is_named event name) all_fields) (λ field. unless ((is_text field, NotNumeric) ∷ []) (Ok field))
+
+-- what events are made of, by the words of its part: both fields are the event's, and hold numbers (kernel: histogram.rst, the `onmatch` handler)
+abbrev pub action_of : Name → Handed → Result Action TriggerFault
+action_of event words =
+    number_field event words.pid >>= (λ pid.
+    number_field event words.prio >>= (λ prio.
+    Ok (record { own = words.own; onmatch = record { event = words.event; pid = pid; prio = prio } })))
+
+-- what events are made of: at most one stands (kernel: histogram.rst, the `onmatch` handler)
+abbrev pub with_handed : Name → Draft → Handed → Result Draft TriggerFault
+with_handed event draft words =
+    unless ((is_some draft.onmatch, Duplicate) ∷ [])
+    (action_of event words >>= (λ action. Ok (record draft { onmatch = Some action })))
+
+-- a part that says what events are made of: none stands on the event that triggers make, and another form is left out (kernel: histogram.rst, the `onmatch` handler)
+unfoldable pub with_onmatch : Name → Draft → Piece → Result Draft TriggerFault
+with_onmatch event draft part =
+    unless ((same_name event names.WakeupLatency, LeftOut part.place) ∷ [])
+    (given_or (LeftOut part.place) (handed_of part.bytes) (with_handed event draft))
+
+-- a part of no kind: one that says what events are made of, or a variable's (kernel: histogram.rst, hist triggers)
+abbrev pub with_other : Name → Draft → Piece → Result Draft TriggerFault
+with_other event draft part = if starts_with ◌==◌ part.bytes (codes "onmatch(") then with_onmatch event draft part else with_variable event draft part
+
 -- one more part of a head (kernel: histogram.rst, hist triggers)
 unfoldable pub with_part : Name → Draft → Piece → Result Draft TriggerFault
 with_part event draft part =
     unless ((is_part_left_out part.bytes, LeftOut part.place) ∷ [])
     (option_map_or (λ label. with_kind event draft label.1 (part.place + length label.0) (drop (length label.0) part.bytes))
     (find (λ label. starts_with ◌==◌ part.bytes label.0) labels)
-    (with_variable event draft part))
+    (with_other event draft part))
 
 -- the parts of a head, from left to right (kernel: histogram.rst, hist triggers)
 unfoldable pub parts_from : Name → Draft → List Piece → Result Draft TriggerFault

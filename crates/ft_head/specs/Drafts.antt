@@ -6,7 +6,7 @@ use Rattle.ft_head.specs.Draft.{Draft, besides_hitcount}
 
 -- what has been read so far, wherever it is in memory (our own choice)
 abbrev pub draft_of : Inside → Draft
-draft_of d = record { keys = option_map (λ keys. keys.items) d.keys; values = option_map (λ words. words.items) d.values; sort = option_map (λ words. words.items) d.sort; size = d.size; variable = d.variable }
+draft_of d = record { keys = option_map (λ keys. keys.items) d.keys; values = option_map (λ words. words.items) d.values; sort = option_map (λ words. words.items) d.sort; size = d.size; variable = d.variable; onmatch = d.onmatch }
 
 -- what has been read so far is within the limits of a trigger (our own choice)
 pub record IsFit (d : Inside) : Type 0 where

@@ -1,7 +1,9 @@
 -- What pieces and words are, told by the texts that they make (kernel: histogram.rst, hist triggers).
 use Rattle.std.specs.Prelude.{◌≡◌, ◌≢◌, ◌+◌, ◌==◌, ◌&&◌, ℕ, Bool, not, true, false, List, [], ◌∷◌, ◌++◌, length, Option, Some, None, if◌then◌else◌, codes}
 use Rattle.std.specs.List.{list_all, list_any}
+use Rattle.ft_fields.specs.Names.{is_traced, name_text}
 use Rattle.ft_tokens.specs.Tokens.{is_gap, begins_name, is_in_name}
+use Rattle.ft_head.specs.Onmatch.{Handed}
 use Rattle.ft_head.specs.Words.{Piece, Word}
 
 -- ---- pieces
@@ -45,6 +47,18 @@ pub record IsItem (item : List ℕ) (word : Word) : Type 0 where
   pub named : IsNamed word.name
   pub ended : word.suffix ≢ Some []
   pub is : item ≡ (if word.dollar then codes "$" else []) ++ (word.name ++ suffix_bytes word.suffix)
+
+-- ---- parts that say what events are made of
+
+-- the part is of this form, without spaces: the event is one of the kernel's, and what is handed on is spelled like fields (kernel: histogram.rst, the `onmatch` handler)
+pub record IsHanded (part : List ℕ) (words : Handed) : Type 0 where
+  pub event : List ℕ
+  pub called : name_text words.event ≡ Some event
+  pub traced : is_traced words.event ≡ true
+  pub own : IsNamed words.own
+  pub pid : IsNamed words.pid
+  pub prio : IsNamed words.prio
+  pub is : part ≡ codes "onmatch(sched." ++ (event ++ (codes ").wakeup_latency($" ++ (words.own ++ (codes "," ++ (words.pid ++ (codes "," ++ (words.prio ++ codes ")")))))))
 
 -- ---- parts
 

@@ -6,7 +6,8 @@ ghost use Rattle.std.specs.List.{list_any, find, starts_with};
 ghost use Rattle.std.specs.Str.{bytes_eq};
 ghost use Rattle.ft_fields.specs.declared.event.Name.{Name};
 ghost use Rattle.ft_head.specs.declared.fault.TriggerFault.TheVariants.{Syntax, LeftOut, Duplicate};
-ghost use Rattle.ft_head.specs.Draft.{blank, is_part_left_out, labels, with_kind, with_named, with_variable, with_part, parts_from, size_of, stamp_of, var_of, is_taken, reads_itself, is_name, Since};
+ghost use Rattle.ft_head.specs.Draft.{blank, is_part_left_out, labels, with_kind, with_named, with_variable, with_handed, with_onmatch, with_other, with_part, parts_from, size_of, stamp_of, var_of, is_taken, reads_itself, is_name, Since};
+ghost use Rattle.ft_hist.specs.Hit.{same_name};
 ghost use Rattle.ft_head.specs.Words.{pieces};
 ghost use Rattle.ft_head.specs.Given.{Gives};
 ghost use Rattle.ft_head.specs.inner.Leaving.{Leaves};
@@ -14,6 +15,7 @@ ghost use Rattle.ft_head.specs.inner.Stamps.{stamp_seen};
 
 use crate::fault::TriggerFault;
 use crate::lists::{keys_of, sort_of, value_words};
+use crate::onmatch::{Action, Handed, handed_of};
 use crate::pieces::{Piece, Pieces};
 use crate::words::{Word, is_name, number_in};
 use ft_fields::{Name, field_named};
@@ -50,6 +52,8 @@ pub struct Draft<'a> {
     pub size: Option<u32>,
     /// Its variable.
     pub variable: Option<Var>,
+    /// What events are made of.
+    pub onmatch: Option<Action<'a>>,
 }
 
 /// The kinds of parts, but for variables. What a part adds to a draft is defined kind by kind.
@@ -96,6 +100,7 @@ impl<'a> Draft<'a> {
             sort: None,
             size: None,
             variable: None,
+            onmatch: None,
         }
     }
 
@@ -109,7 +114,7 @@ impl<'a> Draft<'a> {
         }
         match kind_of(part.bytes()) {
             Some((len, kind)) => self.add_kind(alloc, event, kind, &part.behind(len)),
-            None => self.add_variable(alloc, event, part),
+            None => self.add_other(alloc, event, part),
         }
     }
 
@@ -196,6 +201,46 @@ impl<'a> Draft<'a> {
         }
     }
 
+    /// Adds a part of no kind.
+    fn add_other(
+        &mut self,
+        alloc: Global,
+        event: Name,
+        part: &Piece<'a>,
+    ) -> Result<(), TriggerFault>
+        ensures { Leaves (with_other event self.old part.now) self.new result }
+    {
+        if part.bytes().starts_with(b"onmatch(") {
+            return self.add_onmatch(event, part);
+        }
+        self.add_variable(alloc, event, part)
+    }
+
+    /// Adds what events are made of.
+    #[tactic(auto, unfolding(crate::specs::Draft::with_onmatch))]
+    fn add_onmatch(&mut self, event: Name, part: &Piece<'a>) -> Result<(), TriggerFault>
+        ensures { Leaves (with_onmatch event self.old part.now) self.new result }
+    {
+        if is_made(event) {
+            return Err(TriggerFault::LeftOut(part.place()));
+        }
+        match handed_of(part.bytes()) {
+            Some(words) => self.add_handed(event, &words),
+            None => Err(TriggerFault::LeftOut(part.place())),
+        }
+    }
+
+    /// Adds what events are made of, by the words of its part.
+    fn add_handed(&mut self, event: Name, words: &Handed<'a>) -> Result<(), TriggerFault>
+        ensures { Leaves (with_handed event self.old words.now) self.new result }
+    {
+        if self.onmatch.is_some() {
+            return Err(TriggerFault::Duplicate);
+        }
+        self.onmatch = Some(words.action(event)?);
+        Ok(())
+    }
+
     /// Adds a part that is a name, `=` and a value.
     #[tactic(auto, unfolding(crate::specs::Draft::with_variable))]
     fn add_variable(
@@ -226,6 +271,9 @@ impl<'a> Draft<'a> {
     ) -> Result<(), TriggerFault>
         ensures { Leaves (with_named event self.old place name.now value.now) self.new result }
     {
+        if is_made(event) {
+            return Err(TriggerFault::LeftOut(place));
+        }
         if self.variable.is_some() {
             return Err(TriggerFault::LeftOut(place));
         }
@@ -262,6 +310,13 @@ pub fn parts_of<'a>(
     Ok(draft)
 }
 
+/// Whether it is the event that triggers make.
+fn is_made(event: Name) -> bool
+    ensures { result ≡ same_name event Name.WakeupLatency }
+{
+    event == Name::WakeupLatency
+}
+
 /// Whether it is a part that the kernel has and the desk has not.
 fn is_part_left_out(part: &[u8]) -> bool
     ensures { result ≡ is_part_left_out part.now }
@@ -271,7 +326,6 @@ fn is_part_left_out(part: &[u8]) -> bool
         || part.starts_with(b"clock=")
         || part.starts_with(b"onmax(")
         || part.starts_with(b"onchange(")
-        || part.starts_with(b"onmatch(")
 }
 
 /// Whether it is a word that the kernel has as a part and the desk has not.

@@ -2,8 +2,9 @@
 
 ghost use Rattle.std.specs.Prelude.{◌≡◌, ◌↔◌, ℕ, List, Some};
 ghost use Rattle.ft_head.specs.Draft.{size_of};
+ghost use Rattle.ft_head.specs.Onmatch.{Handed, handed_of};
 ghost use Rattle.ft_head.specs.Sizes.{IsSize};
-ghost use Rattle.ft_head.specs.Spelling.{ArePieces, IsItem};
+ghost use Rattle.ft_head.specs.Spelling.{ArePieces, IsItem, IsHanded};
 ghost use Rattle.ft_head.specs.Words.{Piece, pieces, Word, word_of};
 
 /// A law: a text is cut into pieces just where they make it: with a separator between each two and
@@ -17,6 +18,13 @@ pub fn one_list()
 /// and nothing or a `.` and one or more bytes.
 pub fn one_word()
     ensures { (item : List ℕ) (word : Word) → (word_of item ≡ Some word) ↔ IsItem item word }
+{}
+
+/// A law: a part is read as what events are made of just where it is of the form: an event of the
+/// kernel, and what is handed on, spelled like fields.
+pub fn one_action()
+    ensures { (part : List ℕ) (words : Handed)
+        → (handed_of part ≡ Some words) ↔ IsHanded part words }
 {}
 
 /// A law: the size that a text writes is the least power of 2 that is not below its number, of any

@@ -1,6 +1,7 @@
 //! The head of a hist trigger's text: its parts, read from left to right into a draft. A part is a
-//! list of keys, values or sort items, a size, or a variable; the first fault decides. What values
-//! and sort items name is seen once all parts are read, and that stands above, with the tail.
+//! list of keys, values or sort items, a size, a variable, or what events are made of; the first
+//! fault decides. What values and sort items name is seen once all parts are read, and that stands
+//! above, with the tail.
 //!
 //! ```ignore
 //! let text = b"keys=pid,prio.log2:vals=$ts0:ts0=common_timestamp.usecs";
@@ -18,10 +19,12 @@ mod draft;
 mod fault;
 pub mod laws;
 mod lists;
+mod onmatch;
 mod pieces;
 mod words;
 
 pub use draft::{Draft, Kind, parts_of};
 pub use fault::TriggerFault;
-pub use laws::{one_list, one_word, sizes};
+pub use laws::{one_action, one_list, one_word, sizes};
+pub use onmatch::Action;
 pub use words::Word;

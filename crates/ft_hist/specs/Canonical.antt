@@ -1,7 +1,10 @@
 -- The one text of a trigger that is printed (our own choice).
-use Rattle.std.specs.Prelude.{ℕ, List, [], ◌∷◌, ◌++◌, slice_get, map, if◌then◌else◌, Option, Some, None, codes, decimal}
+use Rattle.std.specs.Prelude.{ℕ, List, [], ◌∷◌, ◌++◌, slice_get, map, if◌then◌else◌, Option, Some, None, unwrap_or, codes, decimal}
 use Rattle.std.specs.Option.{option_map_or}
+use Rattle.ft_fields.specs.declared.event.Name.{Name}
+use Rattle.ft_fields.specs.declared.field.Field.{Field}
 use Rattle.ft_fields.specs.Fields.{text_of}
+use Rattle.ft_fields.specs.Names.{name_text}
 use Rattle.ft_filter.specs.Tree.{Tree}
 use Rattle.ft_filter.specs.Canonical.{canonical as filter_text}
 use Rattle.ft_hist.specs.declared.item.KeyItem.{KeyItem}
@@ -12,6 +15,7 @@ use Rattle.ft_hist.specs.declared.item.SortBy.TheVariants as sorts
 use Rattle.ft_hist.specs.declared.item.SortItem.{SortItem}
 use Rattle.ft_hist.specs.declared.label.Var.{Var}
 use Rattle.ft_hist.specs.declared.label.Var.TheVariants as vars
+use Rattle.ft_hist.specs.declared.onmatch.Onmatch.{Onmatch}
 use Rattle.ft_hist.specs.Hist.{Hist}
 use Rattle.ft_hist.specs.Modifiers.{mode_text}
 
@@ -56,12 +60,33 @@ variable_text None = []
 variable_text (Some (vars.Saves name)) = codes ":" ++ name ++ codes "=common_timestamp.usecs"
 variable_text (Some (vars.Reads own source)) = codes ":" ++ own ++ codes "=common_timestamp.usecs-$" ++ source
 
+-- the event at which the stamp is saved, behind `onmatch` (kernel: histogram.rst, the `onmatch` handler)
+abbrev pub matching_text : Name → List ℕ
+matching_text event = codes "onmatch(sched." ++ unwrap_or (name_text event) []
+
+-- a field that is handed on, behind a `,` (kernel: histogram.rst, the `onmatch` handler)
+abbrev pub param_text : Field → List ℕ
+param_text field = codes "," ++ text_of field
+
+-- the event that is made, with what is handed on: the own variable of this name, and two fields (kernel: histogram.rst, the `onmatch` handler)
+abbrev pub making_text : List ℕ → Onmatch → List ℕ
+making_text own onmatch = codes ").wakeup_latency($" ++ own ++ param_text onmatch.pid ++ param_text onmatch.prio ++ codes ")"
+
+-- an onmatch part, of a trigger whose own variable has this name (kernel: histogram.rst, the `onmatch` handler)
+abbrev pub onmatch_part : List ℕ → Onmatch → List ℕ
+onmatch_part own onmatch = matching_text onmatch.event ++ making_text own onmatch
+
+-- an onmatch part behind a `:`, where there is one (kernel: histogram.rst, the `onmatch` handler)
+abbrev pub onmatch_text : Option Var → Option Onmatch → List ℕ
+onmatch_text variable None = []
+onmatch_text variable (Some onmatch) = codes ":" ++ onmatch_part (name_of variable) onmatch
+
 -- a filter, behind `if` (kernel: events.rst, `if` before a filter)
 abbrev pub if_text : Option Tree → List ℕ
 if_text None = []
 if_text (Some tree) = codes " if " ++ filter_text tree
 
--- a trigger's canonical text: keys, values with `hitcount` in front, variable, sort items, size, filter (our own choice)
+-- a trigger's canonical text: keys, values with `hitcount` in front, variable, sort items, size, onmatch part, filter (our own choice)
 unfoldable pub canonical : Hist → List ℕ
 canonical hist =
     codes "hist:keys=" ++ listed (map key_text hist.keys)
@@ -69,4 +94,5 @@ canonical hist =
     ++ variable_text hist.variable
     ++ codes ":sort=" ++ listed (map (sort_text hist) hist.sort)
     ++ codes ":size=" ++ decimal hist.size
+    ++ onmatch_text hist.variable hist.onmatch
     ++ if_text hist.filter

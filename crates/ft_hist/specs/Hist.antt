@@ -1,13 +1,14 @@
 -- Hist triggers (kernel: histogram.rst, hist triggers).
-use Rattle.std.specs.Prelude.{ℕ, ◌≤◌, ◌<◌, List, length, Option, option_map}
+use Rattle.std.specs.Prelude.{ℕ, ◌≤◌, ◌<◌, List, length, Option, None, option_map}
 use Rattle.ft_fields.specs.declared.event.Name.{Name}
 use Rattle.ft_filter.specs.Tree.{Tree, Condition}
 use Rattle.ft_hist.specs.declared.item.KeyItem.{KeyItem}
 use Rattle.ft_hist.specs.declared.item.Item.{Item}
 use Rattle.ft_hist.specs.declared.item.SortItem.{SortItem}
 use Rattle.ft_hist.specs.declared.label.Var.{Var}
+use Rattle.ft_hist.specs.declared.onmatch.Onmatch.{Onmatch}
 
--- a trigger: its event, what it counts under, what it sums, how its rows are sorted, its variable, the most keys of its table, and its filter (kernel: histogram.rst, hist triggers)
+-- a trigger: its event, what it counts under, what it sums, how its rows are sorted, its variable, the most keys of its table, what it makes events of, and its filter (kernel: histogram.rst, hist triggers)
 pub record Hist : Type 0 where
   pub event : Name
   pub keys : List KeyItem
@@ -15,12 +16,17 @@ pub record Hist : Type 0 where
   pub sort : List SortItem
   pub variable : Option Var
   pub size : ℕ
+  pub onmatch : Option Onmatch
   pub filter : Option Tree
 
--- the trigger of these parts, with its filter as a tree (our own choice)
+-- the trigger of these parts, with its filter as a tree, that makes no events (our own choice)
 abbrev pub hist_with : Name → List KeyItem → List Item → List SortItem → Option Var → ℕ → Option Condition → Hist
 hist_with event keys values sort variable size filter =
-    record { event = event; keys = keys; values = values; sort = sort; variable = variable; size = size; filter = option_map (λ f. f.tree) filter }
+    record { event = event; keys = keys; values = values; sort = sort; variable = variable; size = size; onmatch = None; filter = option_map (λ f. f.tree) filter }
+
+-- the trigger with this onmatch part, or none, in place of its own (our own choice)
+abbrev pub with_onmatch : Hist → Option Onmatch → Hist
+with_onmatch hist onmatch = record hist { onmatch = onmatch }
 
 -- the trigger with this filter, or none, in place of its own (our own choice)
 abbrev pub with_filter : Hist → Option Tree → Hist

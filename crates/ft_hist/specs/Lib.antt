@@ -3,6 +3,7 @@ pub mod Codes
 pub mod Fitting
 pub mod Hist
 pub mod Hit
+pub mod Made
 pub mod Matching
 pub mod Modifiers
 pub mod Powers

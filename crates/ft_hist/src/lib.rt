@@ -3,9 +3,9 @@
 //!
 //! A trigger belongs to one event name. It has one to three keys, which are fields of the event
 //! with or without modifiers, up to three values, at most one variable, one or two sort items, a
-//! size and perhaps a filter. An event is a hit if it has the name and passes the filter; its key
-//! is the list of the key fields' values after their modifiers. What a key is stands below, in
-//! `ft_keys`, whose items are passed on.
+//! size, and perhaps a filter and what it makes events of. An event is a hit if it has the name and
+//! passes the filter; its key is the list of the key fields' values after their modifiers. What a
+//! key is stands below, in `ft_keys`, whose items are passed on.
 //!
 //! ```ignore
 //! let mut work = Work::new();
@@ -23,6 +23,7 @@ mod label;
 pub mod laws;
 mod matching;
 mod modifier;
+mod onmatch;
 mod trigger;
 mod values;
 mod work;
@@ -35,5 +36,6 @@ pub use laws::{
     asked_events, equal_keys, fitting_parts, multiples, one_key_order, powers, summed_fields,
 };
 pub use modifier::{Mode, mode_named};
+pub use onmatch::Onmatch;
 pub use trigger::Trigger;
 pub use work::Work;

@@ -1,13 +1,14 @@
 //! Triggers.
 
-ghost use Rattle.std.specs.Prelude.{◌≡◌, ◌<◌, ◌≤◌, length, option_map, IsTrue};
+ghost use Rattle.std.specs.Prelude.{◌≡◌, ◌<◌, ◌≤◌, length, option_map, IsTrue, true};
 ghost use Rattle.std.specs.List.{list_all};
-ghost use Rattle.std.specs.Option.{option_copied, ForSome};
-ghost use Rattle.ft_hist.specs.Hist.{IsWithin, hist_with, with_filter};
-ghost use Rattle.ft_hist.specs.Sound.{key_suits, value_suits, by_suits, IsSound};
+ghost use Rattle.std.specs.Option.{option_copied, option_map_or, ForSome};
+ghost use Rattle.ft_hist.specs.Hist.{IsWithin, hist_with, with_onmatch, with_filter};
+ghost use Rattle.ft_hist.specs.Sound.{key_suits, value_suits, by_suits, onmatch_suits, IsSound};
 
 use crate::item::{Item, KeyItem, SortItem};
 use crate::label::Var;
+use crate::onmatch::Onmatch;
 use ft_fields::Name;
 use ft_filter::Filter;
 use std::marker::Model;
@@ -24,6 +25,7 @@ pub struct Trigger {
     sort: Vec<SortItem>,
     variable: Option<Var>,
     size: u32,
+    onmatch: Option<Onmatch>,
     filter: Option<Filter>,
 }
 
@@ -43,7 +45,7 @@ impl Model for Trigger {
 }
 
 impl Trigger {
-    /// A trigger of these parts.
+    /// A trigger of these parts, which makes no events.
     ///
     /// `ft_trigger::parse` makes triggers of texts by it, and tests make them of parts written out.
     /// What it asks for is what makes the parts one trigger: they are within the limits, their
@@ -74,6 +76,7 @@ impl Trigger {
             sort,
             variable,
             size,
+            onmatch: None,
             filter,
         }
     }
@@ -133,6 +136,25 @@ impl Trigger {
         ensures most { result ≤ 131072 }
     {
         self.size
+    }
+
+    /// What it makes events of, where it has an onmatch part. Then it reads a variable, and both
+    /// fields are its event's and hold numbers.
+    pub fn onmatch(&self) -> Option<&Onmatch>
+        ensures value { option_copied result ≡ self.now.onmatch }
+        ensures sound { IsTrue
+            (option_map_or (onmatch_suits self.now.event self.now.variable) (option_copied result)
+            true) }
+    {
+        self.onmatch.as_ref()
+    }
+
+    /// Takes this onmatch part, or none, in place of its own. All else stays.
+    pub fn set_onmatch(&mut self, onmatch: Option<Onmatch>)
+        requires { IsSound (with_onmatch self.old onmatch) }
+        ensures { self.new ≡ with_onmatch self.old onmatch }
+    {
+        self.onmatch = onmatch;
     }
 
     /// Its filter, where it has one. It is for the trigger's event.

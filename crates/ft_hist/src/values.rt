@@ -43,7 +43,7 @@ fn value_of(item: Item, event: &Event, own: i64) -> i64
 }
 
 /// The number that a field holds, or 0.
-fn number_of_field(value: Option<Value>) -> i64
+pub(crate) fn number_of_field(value: Option<Value>) -> i64
     ensures { result ≡ number_of_field value }
 {
     match value {

@@ -7,12 +7,14 @@ ghost use Rattle.std.specs.Option.{option_copied};
 ghost use Rattle.ft_text.specs.Fronts.{IsFront};
 ghost use Rattle.ft_hist.specs.Canonical.{canonical, listed, more_items, key_text};
 ghost use Rattle.ft_hist.specs.Canonical.{value_text, by_text, sort_text};
-ghost use Rattle.ft_hist.specs.Canonical.{variable_text, if_text};
+ghost use Rattle.ft_hist.specs.Canonical.{name_of, variable_text, if_text};
+ghost use Rattle.ft_hist.specs.Canonical.{matching_text, param_text, making_text, onmatch_text};
 
 use crate::item::{Item, KeyItem, SortBy, SortItem};
 use crate::label::{Label, Var};
+use crate::onmatch::Onmatch;
 use crate::trigger::Trigger;
-use ft_fields::field_text;
+use ft_fields::{Field, Name, field_text};
 use ft_filter::Filter;
 use ft_text::write_decimal;
 use std::alloc::AllocError;
@@ -42,6 +44,7 @@ fn write_trigger(trigger: &Trigger, text: &mut Vec<u8>) -> Result<(), AllocError
     write_counted(trigger, text)?;
     write_variable(trigger.variable(), text)?;
     write_table(trigger, text)?;
+    write_onmatch(trigger, text)?;
     write_filter(trigger.filter(), text)
 }
 
@@ -204,6 +207,72 @@ fn write_by(trigger: &Trigger, by: SortBy, text: &mut Vec<u8>) -> Result<(), All
             None => Ok(()),
         },
     }
+}
+
+/// Adds an onmatch part behind a `:`, where there is one.
+fn write_onmatch(trigger: &Trigger, text: &mut Vec<u8>) -> Result<(), AllocError>
+    ensures ok { OnOk result (text.new.items ≡ text.old.items
+        ++ onmatch_text trigger.now.variable trigger.now.onmatch) }
+    ensures err { OnErr result (IsFront text.old.items text.new.items) }
+{
+    match trigger.onmatch() {
+        None => Ok(()),
+        Some(onmatch) => {
+            text.extend_from_slice(b":")?;
+            write_matching(onmatch.event, text)?;
+            write_making(trigger.variable(), onmatch, text)
+        }
+    }
+}
+
+/// Adds the event at which the stamp is saved, behind `onmatch`.
+fn write_matching(event: Name, text: &mut Vec<u8>) -> Result<(), AllocError>
+    ensures ok { OnOk result (text.new.items ≡ text.old.items ++ matching_text event) }
+    ensures err { OnErr result (IsFront text.old.items text.new.items) }
+{
+    text.extend_from_slice(b"onmatch(sched.")?;
+    match event.text() {
+        Some(name) => text.extend_from_slice(name),
+        None => Ok(()),
+    }
+}
+
+/// Adds the event that is made, with what is handed on.
+fn write_making(
+    variable: Option<&Var>,
+    onmatch: &Onmatch,
+    text: &mut Vec<u8>,
+) -> Result<(), AllocError>
+    ensures ok { OnOk result (text.new.items ≡ text.old.items
+        ++ making_text (name_of (option_copied variable.entry)) onmatch.now) }
+    ensures err { OnErr result (IsFront text.old.items text.new.items) }
+{
+    write_own(variable, text)?;
+    write_param(onmatch.pid, text)?;
+    write_param(onmatch.prio, text)?;
+    text.extend_from_slice(b")")
+}
+
+/// Adds the name of the event that is made, and the own variable.
+fn write_own(variable: Option<&Var>, text: &mut Vec<u8>) -> Result<(), AllocError>
+    ensures ok { OnOk result (text.new.items ≡ text.old.items
+        ++ (codes ").wakeup_latency($" ++ name_of (option_copied variable.entry))) }
+    ensures err { OnErr result (IsFront text.old.items text.new.items) }
+{
+    text.extend_from_slice(b").wakeup_latency($")?;
+    match variable {
+        Some(variable) => text.extend_from_slice(variable.own_name()),
+        None => Ok(()),
+    }
+}
+
+/// Adds a field that is handed on, behind a `,`.
+fn write_param(field: Field, text: &mut Vec<u8>) -> Result<(), AllocError>
+    ensures ok { OnOk result (text.new.items ≡ text.old.items ++ param_text field) }
+    ensures err { OnErr result (IsFront text.old.items text.new.items) }
+{
+    text.extend_from_slice(b",")?;
+    text.extend_from_slice(field_text(field))
 }
 
 /// Adds a filter behind `if`, where there is one.

@@ -20,8 +20,8 @@ use Rattle.ft_base.proofs.Apart.{AreApart, entries_apart}
 use Rattle.ft_replay.specs.Merged.{Events}
 use Rattle.ft_replay.specs.Tally.{Tally, empty_tally}
 use Rattle.ft_replay.specs.Replay.{Tallies, started}
-use Rattle.ft_replay.proofs.Replayed.{started-is}
-use Rattle.ft_made.specs.Making.{Makes, tell_made, count_made, count_at, goes_past}
+use Rattle.ft_replay.proofs.OneByOne.{started-is}
+use Rattle.ft_made.specs.Making.{tell_made, count_made, count_at, goes_past}
 use Rattle.ft_made.specs.ReplayMaking.{replay_making}
 use Rattle.ft_made.specs.MadeEvents.{made_list, made_events}
 use Rattle.ft_made.proofs.Order.{entries-made}
@@ -109,18 +109,18 @@ module _ (triggers : Triggers) where
   none_told q none m [] = refl
   none_told q none m (x ∷ xs) = none_told q none (goes_past triggers m x) xs ∙ none_stays x q m (map.entries triggers) (sym (get-entries triggers q) ∙ none)
 
-module _ (makes : Makes) (triggers : Triggers) (events : Events) where
+module _ (triggers : Triggers) (events : Events) where
   pub made_count : (id : ℕ) (hist : Hist) → map.get triggers id ≡ Some hist
-      → map.get (replay_making makes triggers events).made id ≡ Some (fold (count_made hist) empty_tally (map.entries (made_events makes triggers events)))
+      → map.get (replay_making triggers events).made id ≡ Some (fold (count_made hist) empty_tally (map.entries (made_events triggers events)))
   made_count id hist attached =
-      ap (λ (m : Tallies). map.get m id) (made-is makes triggers events)
-      ∙ all_told triggers id hist attached (started triggers) (made_list makes triggers events)
-      ∙ ap (option_map (λ tally. fold (count_made hist) tally (made_list makes triggers events))) (started-is triggers events id ∙ ap (option_map (λ hist. empty_tally)) attached)
-      ∙ ap (λ (xs : List (Spot × Traced)). Some (fold (count_made hist) empty_tally xs)) (sym (entries-made makes triggers events))
+      ap (λ (m : Tallies). map.get m id) (made-is triggers events)
+      ∙ all_told triggers id hist attached (started triggers) (made_list triggers events)
+      ∙ ap (option_map (λ tally. fold (count_made hist) tally (made_list triggers events))) (started-is triggers events id ∙ ap (option_map (λ hist. empty_tally)) attached)
+      ∙ ap (λ (xs : List (Spot × Traced)). Some (fold (count_made hist) empty_tally xs)) (sym (entries-made triggers events))
 
-  pub made_none : (id : ℕ) → map.get triggers id ≡ None → map.get (replay_making makes triggers events).made id ≡ None
+  pub made_none : (id : ℕ) → map.get triggers id ≡ None → map.get (replay_making triggers events).made id ≡ None
   made_none id none =
-      ap (λ (m : Tallies). map.get m id) (made-is makes triggers events)
-      ∙ none_told triggers id none (started triggers) (made_list makes triggers events)
+      ap (λ (m : Tallies). map.get m id) (made-is triggers events)
+      ∙ none_told triggers id none (started triggers) (made_list triggers events)
       ∙ started-is triggers events id
       ∙ ap (option_map (λ hist. empty_tally)) none

@@ -8,3 +8,5 @@ pub mod Counting
 pub mod Same
 pub mod MadeHits
 pub mod Naming
+pub mod MadeTables
+pub mod Filling

@@ -18,6 +18,7 @@ use Rattle.ft_table.specs.Growth.{InGrows, RowsGrow, TotalsGrow}
 use Rattle.ft_table.specs.Hits.{Hits}
 use Rattle.ft_table.specs.Marks.{mark_cmp_total, mark_same}
 use Rattle.ft_table.specs.Spots.{spot_cmp, spot_cmp_total}
+use Rattle.ft_table.specs.Tabled.{Tabled}
 use Rattle.ft_table.specs.Values.{values_at}
 use Rattle.ft_base.specs.Base.{Triggers}
 use Rattle.ft_base.proofs.Apart.{all_map, entries_found}
@@ -27,10 +28,11 @@ use Rattle.ft_replay.specs.Tally.{Tally, empty_tally, tally_of}
 use Rattle.ft_replay.proofs.Counted.{counted}
 use Rattle.ft_replay.proofs.Listed.{Ascend, hit_in, made_ascend, made_in, find-entries, values_under}
 use Rattle.ft_replay.proofs.Tallied.{counted-tally}
-use Rattle.ft_made.specs.Making.{Makes, tell_made, count_made}
+use Rattle.ft_made.specs.Making.{tell_made, count_made}
 use Rattle.ft_made.specs.ReplayMaking.{replay_making}
 use Rattle.ft_made.specs.MadeEvents.{made_by, made_at, made_events}
 use Rattle.ft_made.specs.MadeHits.{made_hit, made_hit_at, made_hits, made_hits_of, values_made, values_of_made}
+use Rattle.ft_made.specs.MadeTables.{Readings, IsMadeTable}
 use Rattle.ft_made.specs.Laws.{AreFound}
 use Rattle.ft_made.proofs.Counting.{made_count}
 use Rattle.ft_made.proofs.Order.{get-made}
@@ -41,9 +43,9 @@ none_then : {X Y : Type 0} (f : X → Option Y) (o : Option X) → is_some o ≡
 none_then f None none = refl
 none_then f (Some x) none = absurd cc
 
-module _ (makes : Makes) (triggers : Triggers) (events : Events) (hist : Hist) where
+module _ (triggers : Triggers) (events : Events) (hist : Hist) where
   abbrev hit_of : Spot → Option TriggerHit
-  hit_of = made_hit_at makes triggers events hist
+  hit_of = made_hit_at triggers events hist
 
   -- the hit of a key, at a spot
   abbrev hit_under : Spot → Traced → List Part → TriggerHit
@@ -54,7 +56,7 @@ module _ (makes : Makes) (triggers : Triggers) (events : Events) (hist : Hist) w
   -- what holds of a hit of every key holds of the hit at a spot
   each_hit : (P : TriggerHit → Type 0) (s : Spot) → ((event : Traced) (key : List Part) → P (hit_under s event key)) → IfSome (hit_of s) P
   unfolding made_hit_at
-  each_hit P s h = elim (made_at makes triggers events s) as (λ o. IfSome (option_and_then (made_hit hist s) o) P) [
+  each_hit P s h = elim (made_at triggers events s) as (λ o. IfSome (option_and_then (made_hit hist s) o) P) [
     | None ↦ tt
     | Some event ↦ elim (hit hist event) as (λ o. IfSome (option_map (hit_under s event) o) P) [ None ↦ tt | Some key ↦ h event key ]
   ]
@@ -62,42 +64,42 @@ module _ (makes : Makes) (triggers : Triggers) (events : Events) (hist : Hist) w
   hit-spot : (s : Spot) → IfSome (hit_of s) (λ found. found.spot ≡ s)
   hit-spot s = each_hit (λ found. found.spot ≡ s) s (λ event key. refl)
 
-  hits_ascend : Ascend (made_hits makes triggers events hist)
+  hits_ascend : Ascend (made_hits triggers events hist)
   unfolding made_hits
-  hits_ascend = made_ascend hit_of hit-spot (map.keys (made_events makes triggers events)) (strictly_sorted spot_cmp (map.entries (made_events makes triggers events)) (entries_sorted (made_events makes triggers events)))
+  hits_ascend = made_ascend hit_of hit-spot (map.keys (made_events triggers events)) (strictly_sorted spot_cmp (map.entries (made_events triggers events)) (entries_sorted (made_events triggers events)))
 
   -- ---- what is found among them
 
-  none_made : (s : Spot) → map.contains_key (made_events makes triggers events) s ≡ false → hit_of s ≡ None
+  none_made : (s : Spot) → map.contains_key (made_events triggers events) s ≡ false → hit_of s ≡ None
   unfolding made_hit_at
-  none_made s none = none_then (made_hit hist s) (made_at makes triggers events s) (ap is_some (sym (get-made makes triggers events s)) ∙ none)
+  none_made s none = none_then (made_hit hist s) (made_at triggers events s) (ap is_some (sym (get-made triggers events s)) ∙ none)
 
-  hit_in-hits : (s : Spot) → hit_in (made_hits makes triggers events hist) s ≡ hit_of s
+  hit_in-hits : (s : Spot) → hit_in (made_hits triggers events hist) s ≡ hit_of s
   unfolding made_hits
   hit_in-hits s =
-      made_in hit_of hit-spot s (map.keys (made_events makes triggers events)) ∙ ap (λ b. cond b (hit_of s) None) (sym (contains_key-keys (made_events makes triggers events) s))
-      ∙ from (map.contains_key (made_events makes triggers events) s) refl
+      made_in hit_of hit-spot s (map.keys (made_events triggers events)) ∙ ap (λ b. cond b (hit_of s) None) (sym (contains_key-keys (made_events triggers events) s))
+      ∙ from (map.contains_key (made_events triggers events) s) refl
     where
-      from : (b : Bool) → map.contains_key (made_events makes triggers events) s ≡ b → cond b (hit_of s) None ≡ hit_of s
+      from : (b : Bool) → map.contains_key (made_events triggers events) s ≡ b → cond b (hit_of s) None ≡ hit_of s
       from true e = refl
       from false e = sym (none_made s e)
 
   -- the map of the hits holds what each of them adds
-  pub get-made_hits_of : (m : Mark) → map.get (made_hits_of makes triggers events hist) m ≡ values_made makes triggers events hist m
+  pub get-made_hits_of : (m : Mark) → map.get (made_hits_of triggers events hist) m ≡ values_made triggers events hist m
   unfolding made_hits_of values_made made_hit_at
   get-made_hits_of m =
-      get-from_entries mark_cmp_total (list_map entry_of (made_hits makes triggers events hist)) m
-      ∙ find-entries m (made_hits makes triggers events hist) hits_ascend ∙ ap (values_under m.key) (hit_in-hits m.spot)
+      get-from_entries mark_cmp_total (list_map entry_of (made_hits triggers events hist)) m
+      ∙ find-entries m (made_hits triggers events hist) hits_ascend ∙ ap (values_under m.key) (hit_in-hits m.spot)
 
   -- ---- what they come to
 
-  one_counted : (tally : Tally) (e : Spot × Traced) → made_at makes triggers events e.0 ≡ Some e.1 → count_made hist tally e ≡ option_map_or (counted hist.size tally) (hit_of e.0) tally
+  one_counted : (tally : Tally) (e : Spot × Traced) → made_at triggers events e.0 ≡ Some e.1 → count_made hist tally e ≡ option_map_or (counted hist.size tally) (hit_of e.0) tally
   unfolding made_hit_at
   one_counted tally e there =
       elim (hit hist e.1) as (λ o. option_map_or (λ key. tell_made hist e key tally) o tally ≡ option_map_or (counted hist.size tally) (option_map (hit_under e.0 e.1) o) tally) [ None ↦ refl | Some key ↦ refl ]
       ∙ ap (λ o. option_map_or (counted hist.size tally) (option_and_then (made_hit hist e.0) o) tally) (sym there)
 
-  all_counted : (tally : Tally) (es : List (Spot × Traced)) → AllByRecursion (λ e. made_at makes triggers events e.0 ≡ Some e.1) es
+  all_counted : (tally : Tally) (es : List (Spot × Traced)) → AllByRecursion (λ e. made_at triggers events e.0 ≡ Some e.1) es
       → fold (count_made hist) tally es ≡ fold (counted hist.size) tally (filter_map hit_of (keys_of es))
   all_counted tally [] there = refl
   all_counted tally (e ∷ es) there =
@@ -122,29 +124,36 @@ module _ (makes : Makes) (triggers : Triggers) (events : Events) (hist : Hist) w
       ∙ no_pairs spots
 
   module _ (rows : RowsGrow) (totals : TotalsGrow) (members : InGrows) where
-    made-tally : fold (count_made hist) empty_tally (map.entries (made_events makes triggers events)) ≡ tally_of (table_for hist (made_hits_of makes triggers events hist)) []
+    made-tally : fold (count_made hist) empty_tally (map.entries (made_events triggers events)) ≡ tally_of (table_for hist (made_hits_of triggers events hist)) []
     unfolding made_hits made_hits_of
     made-tally =
-        all_counted empty_tally (map.entries (made_events makes triggers events))
-        (all_map _ _ (λ e found. sym (get-made makes triggers events e.0) ∙ found) (map.entries (made_events makes triggers events)) (entries_found spot_cmp spot_cmp_total (made_events makes triggers events)))
-        ∙ counted-tally rows totals members hist.size (made_hits makes triggers events hist) hits_ascend
-        ∙ ap (tally_of (table_for hist (made_hits_of makes triggers events hist))) (no_pairs (map.keys (made_events makes triggers events)))
+        all_counted empty_tally (map.entries (made_events triggers events))
+        (all_map _ _ (λ e found. sym (get-made triggers events e.0) ∙ found) (map.entries (made_events triggers events)) (entries_found spot_cmp spot_cmp_total (made_events triggers events)))
+        ∙ counted-tally rows totals members hist.size (made_hits triggers events hist) hits_ascend
+        ∙ ap (tally_of (table_for hist (made_hits_of triggers events hist))) (no_pairs (map.keys (made_events triggers events)))
 
     module _ (id : ℕ) (attached : map.get triggers id ≡ Some hist) where
       -- what an attached trigger counts is the tally of its hits among the made events
-      pub tally-made : map.get (replay_making makes triggers events).made id ≡ Some (tally_of (table_for hist (made_hits_of makes triggers events hist)) [])
-      tally-made = made_count makes triggers events id hist attached ∙ ap Some made-tally
+      pub tally-made : map.get (replay_making triggers events).made id ≡ Some (tally_of (table_for hist (made_hits_of triggers events hist)) [])
+      tally-made = made_count triggers events id hist attached ∙ ap Some made-tally
 
       -- and so the tally of a map with the right look-ups
-      pub tally-made_kept : (values : Hits) → ((m : Mark) → map.get values m ≡ values_made makes triggers events hist m)
-          → map.get (replay_making makes triggers events).made id ≡ Some (tally_of (table_for hist values) [])
+      pub tally-made_kept : (values : Hits) → ((m : Mark) → map.get values m ≡ values_made triggers events hist m)
+          → map.get (replay_making triggers events).made id ≡ Some (tally_of (table_for hist values) [])
       tally-made_kept values is =
           tally-made ∙ ap (λ hits. Some (tally_of (table_for hist hits) []))
           (same_map mark_cmp_total mark_same _ _ (λ m. get-made_hits_of m ∙ sym (is m)))
 
       -- and that of a map that holds what the events made of the readings add
       pub tally-made_found : (found : ℕ → Pos → Option Pos) → AreFound triggers events found
-          → (values : Hits) → ((m : Mark) → map.get values m ≡ values_of_made hist m (made_by makes triggers events found m.spot))
-          → map.get (replay_making makes triggers events).made id ≡ Some (tally_of (table_for hist values) [])
+          → (values : Hits) → ((m : Mark) → map.get values m ≡ values_of_made hist m (made_by triggers events found m.spot))
+          → map.get (replay_making triggers events).made id ≡ Some (tally_of (table_for hist values) [])
       unfolding values_made
-      tally-made_found found are values is = tally-made_kept values (λ m. is m ∙ ap (values_of_made hist m) (made_found makes triggers events found are m.spot))
+      tally-made_found found are values is = tally-made_kept values (λ m. is m ∙ ap (values_of_made hist m) (made_found triggers events found are m.spot))
+
+      -- and that of a table that holds just this
+      pub tally-made_table : (found : Readings) → AreFound triggers events found → (table : Tabled) → IsMadeTable triggers events found hist table
+          → map.get (replay_making triggers events).made id ≡ Some (tally_of table [])
+      tally-made_table found are table is =
+          tally-made_found found are table.hits is.hits
+          ∙ ap (λ (n : ℕ). let same : Tabled = record { hits = table.hits; size = n } in Some (tally_of same [])) (sym is.size)

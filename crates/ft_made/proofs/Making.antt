@@ -6,6 +6,7 @@ use Rattle.ft_fields.specs.Traced.{Traced}
 use Rattle.ft_fields.specs.declared.pos.Pos.{Pos}
 use Rattle.ft_hist.specs.Hist.{Hist}
 use Rattle.ft_hist.specs.Hit.{hit}
+use Rattle.ft_hist.specs.Made.{made_of}
 use Rattle.ft_table.specs.Values.{values_at}
 use Rattle.ft_table.specs.declared.spot.Spot.{Spot}
 use Rattle.ft_table.specs.Spots.{traced}
@@ -18,7 +19,7 @@ use Rattle.ft_replay.specs.Merged.{Events}
 use Rattle.ft_replay.specs.Found.{saving_found}
 use Rattle.ft_replay.specs.Hits.{TriggerHit, state_before, found_at, read_as, hit_at}
 use Rattle.ft_replay.specs.Replay.{State}
-use Rattle.ft_made.specs.Making.{Makes, saving_read, made_now}
+use Rattle.ft_made.specs.Making.{saving_read, made_now}
 use Rattle.ft_made.specs.MadeEvents.{made_at, made_there}
 
 -- a hit's saving is what it read
@@ -26,7 +27,7 @@ saved_is : (f : Option Pos → TriggerHit) → ((saved : Option Pos) → (f save
 saved_is f same None = refl
 saved_is f same (Some saved) = same saved
 
-module _ (makes : Makes) (triggers : Triggers) (events : Events) (e : Pos × Traced) (t : ℕ × Hist) (there : map.get events e.0 ≡ Some e.1) (attached : map.get triggers t.0 ≡ Some t.1) where
+module _ (triggers : Triggers) (events : Events) (e : Pos × Traced) (t : ℕ × Hist) (there : map.get events e.0 ≡ Some e.1) (attached : map.get triggers t.0 ≡ Some t.1) where
   abbrev at : At
   at = record { pos = e.0; trigger = t.0 }
 
@@ -47,12 +48,12 @@ module _ (makes : Makes) (triggers : Triggers) (events : Events) (e : Pos × Tra
         | Some key ↦ saved_is _ (λ saved. refl) (read_as role found key)
       ]
 
-  made_at-is : made_at makes triggers events spot ≡ option_and_then (makes t.1 e.0 e.1) (option_and_then (saving_read role found) (hit t.1 e.1))
+  made_at-is : made_at triggers events spot ≡ option_and_then (made_of t.1 e.0 e.1) (option_and_then (saving_read role found) (hit t.1 e.1))
   unfolding made_at
-  made_at-is = rw (there, attached) (ap (option_and_then (makes t.1 e.0 e.1)) saving-is)
+  made_at-is = rw (there, attached) (ap (option_and_then (made_of t.1 e.0 e.1)) saving-is)
 
   -- where the turn finds what stands in front, it makes what is made there
-  pub made_now-is : (state : State) → state ≡ state_before triggers events at → made_now makes triggers (map.get state.variables) e t ≡ made_there makes triggers events spot
+  pub made_now-is : (state : State) → state ≡ state_before triggers events at → made_now triggers (map.get state.variables) e t ≡ made_there triggers events spot
   made_now-is state before =
-      ap (λ (s : State). made_now makes triggers (map.get s.variables) e t) before
+      ap (λ (s : State). made_now triggers (map.get s.variables) e t) before
       ∙ ap (option_map (λ made. (spot, made))) (sym made_at-is)

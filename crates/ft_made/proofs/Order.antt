@@ -23,7 +23,6 @@ use Rattle.ft_base.specs.Base.{Triggers}
 use Rattle.ft_base.proofs.Apart.{AreApart, entries_apart, all_of, all_map}
 use Rattle.ft_replay.specs.Merged.{Events}
 use Rattle.ft_replay.proofs.Places.{tied_then}
-use Rattle.ft_made.specs.Making.{Makes}
 use Rattle.ft_made.specs.MadeEvents.{made_at, spots_at, spots, made_list, made_events}
 use Rattle.ft_made.proofs.Sorted.{standing_sorted, find-standing, sorted_append, all_list_map, all_flat_map}
 
@@ -93,37 +92,37 @@ nothing : {A B : Type 0} (f : A → Option B) → ((a : A) → f a ≡ None) →
 nothing f h None = refl
 nothing f h (Some a) = h a
 
-module _ (makes : Makes) (triggers : Triggers) (events : Events) where
-  pub list-sorted : IsStrictlySortedBy spot_cmp (keys_of (made_list makes triggers events))
+module _ (triggers : Triggers) (events : Events) where
+  pub list-sorted : IsStrictlySortedBy spot_cmp (keys_of (made_list triggers events))
   unfolding made_list
-  list-sorted = standing_sorted spot_cmp (made_at makes triggers events) (spots triggers events) (spots_sorted triggers events)
+  list-sorted = standing_sorted spot_cmp (made_at triggers events) (spots triggers events) (spots_sorted triggers events)
 
-  pub entries-made : map.entries (made_events makes triggers events) ≡ made_list makes triggers events
+  pub entries-made : map.entries (made_events triggers events) ≡ made_list triggers events
   unfolding made_events
-  entries-made = entries-from_entries spot_cmp_total (made_list makes triggers events) list-sorted
+  entries-made = entries-from_entries spot_cmp_total (made_list triggers events) list-sorted
 
   -- no event, or no trigger: nothing is made
-  no_event : (q : Spot) → map.get events q.pos ≡ None → made_at makes triggers events q ≡ None
+  no_event : (q : Spot) → map.get events q.pos ≡ None → made_at triggers events q ≡ None
   unfolding made_at
   no_event q none = rw none
 
-  no_trigger : (q : Spot) → map.get triggers q.maker ≡ None → made_at makes triggers events q ≡ None
+  no_trigger : (q : Spot) → map.get triggers q.maker ≡ None → made_at triggers events q ≡ None
   unfolding made_at
   no_trigger q none = rw none (nothing _ (λ event. refl) (map.get events q.pos))
 
-  only_at : (q : Spot) (b : Bool) → made_at makes triggers events q ≡ None → cond b (made_at makes triggers events q) None ≡ made_at makes triggers events q
+  only_at : (q : Spot) (b : Bool) → made_at triggers events q ≡ None → cond b (made_at triggers events q) None ≡ made_at triggers events q
   only_at q true none = refl
   only_at q false none = sym none
 
-  only_spots : (q : Spot) → cond (list_any (eq_by_cmp spot_cmp q) (spots triggers events)) (made_at makes triggers events q) None ≡ made_at makes triggers events q
+  only_spots : (q : Spot) → cond (list_any (eq_by_cmp spot_cmp q) (spots triggers events)) (made_at triggers events q) None ≡ made_at triggers events q
   only_spots q = by_event (map.get events q.pos) refl (map.get triggers q.maker) refl
     where
       by_event : (held : Option Traced) → map.get events q.pos ≡ held → (hist : Option Hist) → map.get triggers q.maker ≡ hist
-          → cond (list_any (eq_by_cmp spot_cmp q) (spots triggers events)) (made_at makes triggers events q) None ≡ made_at makes triggers events q
+          → cond (list_any (eq_by_cmp spot_cmp q) (spots triggers events)) (made_at triggers events q) None ≡ made_at triggers events q
       by_event None held hist attached = only_at q _ (no_event q held)
       by_event (Some event) held None attached = only_at q _ (no_trigger q attached)
-      by_event (Some event) held (Some hist) attached = ap (λ b. cond b (made_at makes triggers events q) None) (has_spot triggers q events (ap is_some held) (ap is_some attached))
+      by_event (Some event) held (Some hist) attached = ap (λ b. cond b (made_at triggers events q) None) (has_spot triggers q events (ap is_some held) (ap is_some attached))
 
-  pub get-made : (q : Spot) → map.get (made_events makes triggers events) q ≡ made_at makes triggers events q
+  pub get-made : (q : Spot) → map.get (made_events triggers events) q ≡ made_at triggers events q
   unfolding made_events made_list
-  get-made q = get-from_entries spot_cmp_total (made_list makes triggers events) q ∙ find-standing spot_cmp (made_at makes triggers events) spot_same (spots triggers events) q ∙ only_spots q
+  get-made q = get-from_entries spot_cmp_total (made_list triggers events) q ∙ find-standing spot_cmp (made_at triggers events) spot_same (spots triggers events) q ∙ only_spots q

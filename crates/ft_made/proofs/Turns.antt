@@ -13,13 +13,14 @@ use Rattle.ft_fields.specs.Traced.{Traced}
 use Rattle.ft_fields.specs.declared.pos.Pos.{Pos}
 use Rattle.ft_fields.specs.Places.{pos_cmp, pos_cmp_total}
 use Rattle.ft_hist.specs.Hist.{Hist}
+use Rattle.ft_hist.specs.Made.{made_event, made_of}
 use Rattle.ft_table.specs.declared.spot.Spot.{Spot}
 use Rattle.ft_base.specs.Base.{Triggers}
 use Rattle.ft_base.proofs.Apart.{entries_found}
 use Rattle.ft_replay.specs.Merged.{Events}
 use Rattle.ft_replay.specs.Found.{saving_found}
 use Rattle.ft_replay.specs.Replay.{State, act_at, step, started, replay}
-use Rattle.ft_made.specs.Making.{Makes, goes_past}
+use Rattle.ft_made.specs.Making.{goes_past}
 use Rattle.ft_made.specs.ReplayMaking.{StateMaking, act_making, step_making, replay_making}
 use Rattle.ft_made.specs.MadeEvents.{made_at, made_there, spots_at, spots, made_list}
 use Rattle.ft_made.specs.Laws.{MakeNone}
@@ -32,24 +33,24 @@ use Rattle.ft_made.proofs.Views.{seen_fold, fold_option}
 abbrev first_of : StateMaking → State
 first_of state = state.first
 
-module _ (makes : Makes) (triggers : Triggers) where
-  first_at : (e : Pos × Traced) (state : StateMaking) (t : ℕ × Hist) → first_of (act_making makes triggers e state t) ≡ act_at triggers e (first_of state) t
+module _ (triggers : Triggers) where
+  first_at : (e : Pos × Traced) (state : StateMaking) (t : ℕ × Hist) → first_of (act_making triggers e state t) ≡ act_at triggers e (first_of state) t
   unfolding act_making
   first_at e state t = refl
 
-  first_step : (state : StateMaking) (e : Pos × Traced) → first_of (step_making makes triggers state e) ≡ step triggers (first_of state) e
+  first_step : (state : StateMaking) (e : Pos × Traced) → first_of (step_making triggers state e) ≡ step triggers (first_of state) e
   unfolding step_making step
-  first_step state e = seen_fold first_of (act_making makes triggers e) (act_at triggers e) (first_at e) state (map.entries triggers)
+  first_step state e = seen_fold first_of (act_making triggers e) (act_at triggers e) (first_at e) state (map.entries triggers)
 
-  pub first-is : (events : Events) → (replay_making makes triggers events).first ≡ replay triggers events
+  pub first-is : (events : Events) → (replay_making triggers events).first ≡ replay triggers events
   unfolding replay_making replay
-  first-is events = seen_fold first_of (step_making makes triggers) (step triggers) first_step _ (map.entries events)
+  first-is events = seen_fold first_of (step_making triggers) (step triggers) first_step _ (map.entries events)
 
 -- ---- the made events
 
-module _ (makes : Makes) (triggers : Triggers) (events : Events) where
+module _ (triggers : Triggers) (events : Events) where
   abbrev there_of : Spot → Option (Spot × Traced)
-  there_of = made_there makes triggers events
+  there_of = made_there triggers events
 
   abbrev start : State
   start = begin triggers events
@@ -60,31 +61,31 @@ module _ (makes : Makes) (triggers : Triggers) (events : Events) where
   module _ (past : List (Pos × Traced)) (e : Pos × Traced) (later : List (Pos × Traced)) (whole : map.entries events ≡ past ++ e ∷ later) (there : map.get events e.0 ≡ Some e.1) where
     one_event : (done rest : List (ℕ × Hist)) → map.entries triggers ≡ done ++ rest → AllByRecursion (λ t. map.get triggers t.0 ≡ Some t.1) rest
         → (state : StateMaking) → state.first ≡ fold (act_at triggers e) (fold (step triggers) start past) done
-        → (fold (act_making makes triggers e) state rest).made ≡ fold (goes_past triggers) state.made (filter_map there_of (list_map (spot_at e) rest))
+        → (fold (act_making triggers e) state rest).made ≡ fold (goes_past triggers) state.made (filter_map there_of (list_map (spot_at e) rest))
     unfolding act_making
     one_event done [] all attached state before = refl
     one_event done (t ∷ rest) all attached state before =
-        one_event (done ++ t ∷ []) rest (all ∙ sym (append_assoc done (t ∷ []) rest)) attached.1 (act_making makes triggers e state t)
+        one_event (done ++ t ∷ []) rest (all ∙ sym (append_assoc done (t ∷ []) rest)) attached.1 (act_making triggers e state t)
         (ap (λ s. act_at triggers e s t) before ∙ sym (fold-append (act_at triggers e) (fold (step triggers) start past) done (t ∷ [])))
         ∙ ap (λ (o : Option (Spot × Traced)). fold (goes_past triggers) (option_map_or (goes_past triggers state.made) o state.made) (filter_map there_of (list_map (spot_at e) rest)))
-        (made_now-is makes triggers events e t there attached.0 state.first (before ∙ sym (before-is triggers events past e later done t rest whole all there)))
+        (made_now-is triggers events e t there attached.0 state.first (before ∙ sym (before-is triggers events past e later done t rest whole all there)))
         ∙ fold_option (goes_past triggers) state.made (there_of (spot_at e t)) (filter_map there_of (list_map (spot_at e) rest))
 
   all_events : (past rest : List (Pos × Traced)) → map.entries events ≡ past ++ rest → AllByRecursion (λ e. map.get events e.0 ≡ Some e.1) rest
       → (state : StateMaking) → state.first ≡ fold (step triggers) start past
-      → (fold (step_making makes triggers) state rest).made ≡ fold (goes_past triggers) state.made (filter_map there_of (flat_map (spots_at triggers) rest))
+      → (fold (step_making triggers) state rest).made ≡ fold (goes_past triggers) state.made (filter_map there_of (flat_map (spots_at triggers) rest))
   unfolding step_making
   all_events past [] whole there state before = refl
   all_events past (e ∷ rest) whole there state before =
-      all_events (past ++ e ∷ []) rest (whole ∙ sym (append_assoc past (e ∷ []) rest)) there.1 (step_making makes triggers state e)
-      (first_step makes triggers state e ∙ ap (λ s. step triggers s e) before ∙ sym (fold-append (step triggers) start past (e ∷ [])))
+      all_events (past ++ e ∷ []) rest (whole ∙ sym (append_assoc past (e ∷ []) rest)) there.1 (step_making triggers state e)
+      (first_step triggers state e ∙ ap (λ s. step triggers s e) before ∙ sym (fold-append (step triggers) start past (e ∷ [])))
       ∙ ap (λ m. fold (goes_past triggers) m (filter_map there_of (flat_map (spots_at triggers) rest)))
       (one_event past e rest whole there.0 [] (map.entries triggers) refl (entries_found nat_cmp nat_cmp_total triggers) state before)
       ∙ sym (fold-append (goes_past triggers) state.made (filter_map there_of (spots_at triggers e)) (filter_map there_of (flat_map (spots_at triggers) rest)))
       ∙ ap (fold (goes_past triggers) state.made) (sym (filter_map-append there_of (spots_at triggers e) (flat_map (spots_at triggers) rest)))
 
   -- the tallies of made events are those of their list, in order
-  pub made-is : (replay_making makes triggers events).made ≡ fold (goes_past triggers) (started triggers) (made_list makes triggers events)
+  pub made-is : (replay_making triggers events).made ≡ fold (goes_past triggers) (started triggers) (made_list triggers events)
   unfolding replay_making made_list spots
   made-is = all_events [] (map.entries events) refl (entries_found pos_cmp pos_cmp_total events) _ refl
 
@@ -94,21 +95,21 @@ nothing_made : (f : Pos → Option Traced) → ((saved : Pos) → f saved ≡ No
 nothing_made f none None = refl
 nothing_made f none (Some saved) = none saved
 
-module _ (makes : Makes) (triggers : Triggers) (events : Events) (none : MakeNone makes triggers) where
-  none_at : (spot : Spot) → made_at makes triggers events spot ≡ None
+module _ (triggers : Triggers) (events : Events) (none : MakeNone triggers) where
+  none_at : (spot : Spot) → made_at triggers events spot ≡ None
   unfolding made_at
-  none_at spot = elim (map.get events spot.pos) as (λ o. option_and_then (λ event. option_and_then (λ hist. option_and_then (makes hist spot.pos event) (saving_found triggers events spot.maker spot.pos)) (map.get triggers spot.maker)) o ≡ None) [
+  none_at spot = elim (map.get events spot.pos) as (λ o. option_and_then (λ event. option_and_then (λ hist. option_and_then (made_of hist spot.pos event) (saving_found triggers events spot.maker spot.pos)) (map.get triggers spot.maker)) o ≡ None) [
     | None ↦ refl
-    | Some event ↦ elim (map.get triggers spot.maker) as (λ o. map.get triggers spot.maker ≡ o → option_and_then (λ hist. option_and_then (makes hist spot.pos event) (saving_found triggers events spot.maker spot.pos)) o ≡ None) [
+    | Some event ↦ elim (map.get triggers spot.maker) as (λ o. map.get triggers spot.maker ≡ o → option_and_then (λ hist. option_and_then (made_of hist spot.pos event) (saving_found triggers events spot.maker spot.pos)) o ≡ None) [
       | None ↦ λ _. refl
-      | Some hist ↦ λ attached. nothing_made (makes hist spot.pos event) (none spot.maker hist attached spot.pos event) (saving_found triggers events spot.maker spot.pos)
+      | Some hist ↦ λ attached. nothing_made (made_of hist spot.pos event) (λ saved. ap (option_map (made_event spot.pos event saved)) (none spot.maker hist attached)) (saving_found triggers events spot.maker spot.pos)
     ] refl
   ]
 
-  none_listed : (all : List Spot) → filter_map (made_there makes triggers events) all ≡ []
+  none_listed : (all : List Spot) → filter_map (made_there triggers events) all ≡ []
   none_listed [] = refl
-  none_listed (spot ∷ all) = ap (λ o. cons_option (option_map (λ made. (spot, made)) o) (filter_map (made_there makes triggers events) all)) (none_at spot) ∙ none_listed all
+  none_listed (spot ∷ all) = ap (λ o. cons_option (option_map (λ made. (spot, made)) o) (filter_map (made_there triggers events) all)) (none_at spot) ∙ none_listed all
 
-  pub none-made : (replay_making makes triggers events).made ≡ started triggers
+  pub none-made : (replay_making triggers events).made ≡ started triggers
   unfolding made_list
-  none-made = made-is makes triggers events ∙ ap (fold (goes_past triggers) (started triggers)) (none_listed (spots triggers events))
+  none-made = made-is triggers events ∙ ap (fold (goes_past triggers) (started triggers)) (none_listed (spots triggers events))

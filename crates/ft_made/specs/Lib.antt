@@ -2,7 +2,9 @@ pub mod Making
 pub mod ReplayMaking
 pub mod MadeEvents
 pub mod MadeHits
+pub mod MadeTables
 pub mod Laws
+pub mod inner
 pub use Rattle.ft_base.specs.Base
 pub use Rattle.ft_fields.specs.Traced
 pub use Rattle.ft_hist.specs.Hist

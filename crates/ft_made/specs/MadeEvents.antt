@@ -5,29 +5,29 @@ use Rattle.std.specs.FinMap as map
 use Rattle.std.specs.FinMap.{FinMap}
 use Rattle.ft_fields.specs.Traced.{Traced}
 use Rattle.ft_fields.specs.declared.pos.Pos.{Pos}
+use Rattle.ft_hist.specs.Made.{made_of}
 use Rattle.ft_table.specs.declared.spot.Spot.{Spot}
 use Rattle.ft_table.specs.Spots.{spot_cmp}
 use Rattle.ft_base.specs.Base.{Triggers}
 use Rattle.ft_replay.specs.Merged.{Events}
 use Rattle.ft_replay.specs.Found.{saving_found}
-use Rattle.ft_made.specs.Making.{Makes}
 
 -- made events by spot (our own choice)
 abbrev pub Made : Type 0
 Made = FinMap spot_cmp Traced
 
 -- the event that is made at a spot, where readings find these savings, by trigger and place (kernel: histogram.rst, `onmatch`)
-abbrev pub made_by : Makes → Triggers → Events → (ℕ → Pos → Option Pos) → Spot → Option Traced
-made_by makes triggers events found spot =
-    option_and_then (λ event. option_and_then (λ hist. option_and_then (makes hist spot.pos event) (found spot.maker spot.pos)) (map.get triggers spot.maker)) (map.get events spot.pos)
+abbrev pub made_by : Triggers → Events → (ℕ → Pos → Option Pos) → Spot → Option Traced
+made_by triggers events found spot =
+    option_and_then (λ event. option_and_then (λ hist. option_and_then (made_of hist spot.pos event) (found spot.maker spot.pos)) (map.get triggers spot.maker)) (map.get events spot.pos)
 
 -- the event that is made at a spot, by what readings find as the events are replayed (kernel: histogram.rst, `onmatch`)
-unfoldable pub made_at : Makes → Triggers → Events → Spot → Option Traced
-made_at makes triggers events spot = made_by makes triggers events (saving_found triggers events) spot
+unfoldable pub made_at : Triggers → Events → Spot → Option Traced
+made_at triggers events spot = made_by triggers events (saving_found triggers events) spot
 
 -- a spot with the event that is made there, if one is (our own choice)
-abbrev pub made_there : Makes → Triggers → Events → Spot → Option (Spot × Traced)
-made_there makes triggers events spot = option_map (λ made. (spot, made)) (made_at makes triggers events spot)
+abbrev pub made_there : Triggers → Events → Spot → Option (Spot × Traced)
+made_there triggers events spot = option_map (λ made. (spot, made)) (made_at triggers events spot)
 
 -- the spots at one event, in order of the triggers' ids (our own choice)
 abbrev pub spots_at : Triggers → Pos × Traced → List Spot
@@ -38,9 +38,9 @@ unfoldable pub spots : Triggers → Events → List Spot
 spots triggers events = flat_map (spots_at triggers) (map.entries events)
 
 -- all made events, in order of their spots (our own choice)
-unfoldable pub made_list : Makes → Triggers → Events → List (Spot × Traced)
-made_list makes triggers events = filter_map (made_there makes triggers events) (spots triggers events)
+unfoldable pub made_list : Triggers → Events → List (Spot × Traced)
+made_list triggers events = filter_map (made_there triggers events) (spots triggers events)
 
 -- the made events by spot (our own choice)
-unfoldable pub made_events : Makes → Triggers → Events → Made
-made_events makes triggers events = map.from_entries (made_list makes triggers events)
+unfoldable pub made_events : Triggers → Events → Made
+made_events triggers events = map.from_entries (made_list triggers events)

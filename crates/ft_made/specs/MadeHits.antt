@@ -11,7 +11,6 @@ use Rattle.ft_table.specs.Values.{values_at}
 use Rattle.ft_base.specs.Base.{Triggers}
 use Rattle.ft_replay.specs.Merged.{Events}
 use Rattle.ft_replay.specs.Hits.{TriggerHit, entry_of}
-use Rattle.ft_made.specs.Making.{Makes}
 use Rattle.ft_made.specs.MadeEvents.{made_at, made_events}
 
 -- the hit that an event made at a spot is of a trigger, if it is one: it reads no variable (kernel: histogram.rst, synthetic events)
@@ -19,21 +18,21 @@ abbrev pub made_hit : Hist → Spot → Traced → Option TriggerHit
 made_hit hist spot event = option_map (λ key. record { spot = spot; key = key; saved = None; values = values_at hist spot.pos event None }) (hit hist event)
 
 -- the hit of a trigger that stands at a spot, if an event is made there and is one (kernel: histogram.rst, synthetic events)
-unfoldable pub made_hit_at : Makes → Triggers → Events → Hist → Spot → Option TriggerHit
-made_hit_at makes triggers events hist spot = option_and_then (made_hit hist spot) (made_at makes triggers events spot)
+unfoldable pub made_hit_at : Triggers → Events → Hist → Spot → Option TriggerHit
+made_hit_at triggers events hist spot = option_and_then (made_hit hist spot) (made_at triggers events spot)
 
 -- all hits of a trigger among made events, in order of their spots (kernel: histogram.rst, synthetic events)
-unfoldable pub made_hits : Makes → Triggers → Events → Hist → List TriggerHit
-made_hits makes triggers events hist = filter_map (made_hit_at makes triggers events hist) (map.keys (made_events makes triggers events))
+unfoldable pub made_hits : Triggers → Events → Hist → List TriggerHit
+made_hits triggers events hist = filter_map (made_hit_at triggers events hist) (map.keys (made_events triggers events))
 
 -- the map of hits that the table of the trigger is made of (our own choice)
-unfoldable pub made_hits_of : Makes → Triggers → Events → Hist → Hits
-made_hits_of makes triggers events hist = map.from_entries (list_map entry_of (made_hits makes triggers events hist))
+unfoldable pub made_hits_of : Triggers → Events → Hist → Hits
+made_hits_of triggers events hist = map.from_entries (list_map entry_of (made_hits triggers events hist))
 
 -- what the event made at a mark's spot, if one is, adds to the sums of the mark's key, where it is a hit of it (kernel: histogram.rst, `values`)
 abbrev pub values_of_made : Hist → Mark → Option Traced → Option (List ℤ)
 values_of_made hist mark made = option_and_then (λ found. if same_key mark.key found.key then Some found.values else None) (option_and_then (made_hit hist mark.spot) made)
 
 -- what the trigger's hit at a spot under a key adds to the sums, where there is one (kernel: histogram.rst, `values`)
-unfoldable pub values_made : Makes → Triggers → Events → Hist → Mark → Option (List ℤ)
-values_made makes triggers events hist mark = values_of_made hist mark (made_at makes triggers events mark.spot)
+unfoldable pub values_made : Triggers → Events → Hist → Mark → Option (List ℤ)
+values_made triggers events hist mark = values_of_made hist mark (made_at triggers events mark.spot)

@@ -1,5 +1,5 @@
 -- What a reading makes, and how the attached triggers count it.
-use Rattle.std.specs.Prelude.{ℕ, List, Option, None, fold, option_map, option_and_then}
+use Rattle.std.specs.Prelude.{◌≡◌, ℕ, List, Option, Some, None, fold, option_map, option_and_then}
 use Rattle.std.specs.Option.{option_map_or}
 use Rattle.std.specs.FinMap as map
 use Rattle.ft_fields.specs.Traced.{Traced}
@@ -7,6 +7,7 @@ use Rattle.ft_fields.specs.declared.pos.Pos.{Pos}
 use Rattle.ft_keys.specs.declared.key.Part.{Part}
 use Rattle.ft_hist.specs.Hist.{Hist}
 use Rattle.ft_hist.specs.Hit.{hit}
+use Rattle.ft_hist.specs.Made.{made_of}
 use Rattle.ft_table.specs.declared.spot.Spot.{Spot}
 use Rattle.ft_pairs.specs.declared.role.Role.{Role}
 use Rattle.ft_pairs.specs.declared.role.Variable.{Variable}
@@ -18,10 +19,6 @@ use Rattle.ft_replay.specs.Tally.{Tally, tell}
 
 -- ---- what a reading makes
 
--- the event that a trigger makes of the event at a place, where its reading there finds the saving at another place, if it makes one (kernel: histogram.rst, `onmatch`)
-abbrev pub Makes : Type 0
-Makes = Hist → Pos → Traced → Pos → Option Traced
-
 -- the place of the saving that a hit of a key reads, if it reads one (kernel: histogram.rst, inter-event hist triggers)
 abbrev pub saving_read : Role → (Variable → Option Pos) → List Part → Option Pos
 saving_read role found key = option_and_then (λ saved. saved) (read_as role found key)
@@ -31,9 +28,13 @@ abbrev pub saving_now : Triggers → (Variable → Option Pos) → Pos × Traced
 saving_now triggers found entry attached = option_and_then (saving_read (role_of triggers attached.1.variable) found) (hit attached.1 entry.1)
 
 -- the event that it makes of it then, with its spot (kernel: histogram.rst, `onmatch`)
-abbrev pub made_now : Makes → Triggers → (Variable → Option Pos) → Pos × Traced → ℕ × Hist → Option (Spot × Traced)
-made_now makes triggers found entry attached =
-    option_map (λ made. (record { pos = entry.0; maker = attached.0 }, made)) (option_and_then (makes attached.1 entry.0 entry.1) (saving_now triggers found entry attached))
+abbrev pub made_now : Triggers → (Variable → Option Pos) → Pos × Traced → ℕ × Hist → Option (Spot × Traced)
+made_now triggers found entry attached =
+    option_map (λ made. (record { pos = entry.0; maker = attached.0 }, made)) (option_and_then (made_of attached.1 entry.0 entry.1) (saving_now triggers found entry attached))
+
+-- no attached trigger makes events of its readings (our own choice)
+abbrev pub MakeNone : Triggers → Type 0
+MakeNone triggers = (id : ℕ) (hist : Hist) → map.get triggers id ≡ Some hist → hist.onmatch ≡ None
 
 -- ---- how it is counted
 

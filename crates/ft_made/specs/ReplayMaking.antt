@@ -8,7 +8,7 @@ use Rattle.ft_hist.specs.Hist.{Hist}
 use Rattle.ft_base.specs.Base.{Triggers}
 use Rattle.ft_replay.specs.Merged.{Events}
 use Rattle.ft_replay.specs.Replay.{Tallies, State, act_at, started}
-use Rattle.ft_made.specs.Making.{Makes, made_now, goes_past}
+use Rattle.ft_made.specs.Making.{made_now, goes_past}
 
 -- what replaying has come to: what the held events have, and what each trigger has counted of the made ones (our own choice)
 pub record StateMaking : Type 0 where
@@ -16,17 +16,17 @@ pub record StateMaking : Type 0 where
   pub made : Tallies
 
 -- one event at one attached trigger: the event that its reading makes goes past first, also where the trigger's own hit is dropped; then it acts (kernel: histogram.rst, `onmatch`; what comes first is our own choice)
-unfoldable pub act_making : Makes → Triggers → Pos × Traced → StateMaking → ℕ × Hist → StateMaking
-act_making makes triggers entry state attached = record {
+unfoldable pub act_making : Triggers → Pos × Traced → StateMaking → ℕ × Hist → StateMaking
+act_making triggers entry state attached = record {
   first = act_at triggers entry state.first attached;
-  made = option_map_or (goes_past triggers state.made) (made_now makes triggers (map.get state.first.variables) entry attached) state.made;
+  made = option_map_or (goes_past triggers state.made) (made_now triggers (map.get state.first.variables) entry attached) state.made;
 }
 
 -- one event: the attached triggers act in order of id (our own choice)
-unfoldable pub step_making : Makes → Triggers → StateMaking → Pos × Traced → StateMaking
-step_making makes triggers state entry = fold (act_making makes triggers entry) state (map.entries triggers)
+unfoldable pub step_making : Triggers → StateMaking → Pos × Traced → StateMaking
+step_making triggers state entry = fold (act_making triggers entry) state (map.entries triggers)
 
 -- what replaying events in merged order gives, with the events that readings make (kernel: histogram.rst, `onmatch`; replaying held events is our own choice)
-unfoldable pub replay_making : Makes → Triggers → Events → StateMaking
-replay_making makes triggers events =
-    fold (step_making makes triggers) (record { first = record { tallies = started triggers; variables = map.empty }; made = started triggers }) (map.entries events)
+unfoldable pub replay_making : Triggers → Events → StateMaking
+replay_making triggers events =
+    fold (step_making triggers) (record { first = record { tallies = started triggers; variables = map.empty }; made = started triggers }) (map.entries events)

@@ -2,8 +2,10 @@
 
 ghost use Rattle.ft_made.specs.Laws.{FoundMakeAll, HeldAreCounted, KeptAreTallied};
 ghost use Rattle.ft_made.specs.Laws.{MadeAreCounted, MadeAreTallied, MadeBySpot, MadeHitsAre};
-ghost use Rattle.ft_made.specs.Laws.{MadeInOrder, NamedMakeAll, NoneIsMade, OthersCountNone};
-ghost use Rattle.ft_made.specs.Laws.{ReadingsAreTallied, SameIsMade, SpotsAreDistinct};
+ghost use Rattle.ft_made.specs.Laws.{MadeInOrder, MadeTablesChange, MadeTablesFit, NamedMakeAll};
+ghost use Rattle.ft_made.specs.Laws.{NoneIsMade, OthersCountNone, ReadingsAreTallied, SameIsMade};
+ghost use Rattle.ft_made.specs.Laws.{PutMadeChanges, SpotsAreDistinct, TablesAreTallied};
+ghost use Rattle.ft_made.specs.Laws.{ReplayedAreInOrder, ReplayedAreTallied, TakeMadeChanges};
 
 /// A law: replaying with made events comes apart into two replays. Tallies of held events and
 /// variables are those of the replay that makes none. Beside them each attached trigger counts the
@@ -17,7 +19,7 @@ pub fn counted_made()
     ensures idle { NoneIsMade }
 {}
 
-/// A law: the made events are a finite map from spots. At a spot it has what the maker makes of the
+/// A law: the made events are a finite map from spots. At a spot it has what its trigger makes of the
 /// event there and of the saving that its reading finds in the replay that makes none; its entries
 /// are those of all attached triggers at all held events, in order, no two at one spot.
 pub fn made_by_spot()
@@ -46,4 +48,29 @@ pub fn tallied_made()
     ensures readings { ReadingsAreTallied }
 {
     ft_table::laws::one_more_hit();
+}
+
+/// A law: a table that holds just what the events made of kept readings add has the tally that
+/// replaying gives its trigger, where what is kept is what readings find. Its keys fit the trigger.
+/// And as what is made at one spot changes, the table need only change there, as it does where one
+/// made event's hit is put in or taken out.
+pub fn made_tables()
+    ensures tally { TablesAreTallied }
+    ensures fit { MadeTablesFit }
+    ensures change { MadeTablesChange }
+    ensures put { PutMadeChanges }
+    ensures take { TakeMadeChanges }
+{
+    ft_table::laws::one_more_hit();
+    ft_hist::laws::fitting_parts();
+}
+
+/// A law: the pairs that replaying gives are those of readings in merged order, and so a table of
+/// made events can be made of them. It has the tally that replaying with made events gives.
+pub fn replayed_pairs()
+    ensures order { ReplayedAreInOrder }
+    ensures tally { ReplayedAreTallied }
+{
+    ft_replay::counted_hits();
+    made_tables();
 }

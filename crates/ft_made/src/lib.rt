@@ -1,11 +1,25 @@
 //! Events that readings make: a trigger that reads may make one at each latency that it measures,
 //! and it goes past the attached triggers at once.
 //!
-//! Nothing here runs. The laws say that replaying with made events is two replays, one after the
-//! other: the held events go past as if none were made, and what their readings find says which
-//! events are made; these are counted in order of their spots.
+//! The laws say that replaying with made events is two replays, one after the other: the held
+//! events go past as if none were made, and what their readings find says which events are made;
+//! these are counted in order of their spots. So a trigger that counts made events needs no replay:
+//! its table is made of what is kept of readings.
+//!
+//! ```ignore
+//! let mut table = made_table(rt.alloc(), lanes, triggers, &readings, trigger, &mut work)?;
+//! // One more reading, of the trigger with id 2, found a saving.
+//! if let Some(made) = maker.made(event, saved) {
+//!     let spot = Spot { pos: read, maker: 2 };
+//!     put_made(&mut table, trigger, spot, &made, &mut work)?;
+//! }
+//! ```
 #![tactic(auto)]
 
 pub mod laws;
+mod readings;
+mod tables;
 
-pub use laws::{counted_made, made_by_spot, same_made, tallied_made};
+pub use laws::{counted_made, made_by_spot, made_tables, replayed_pairs, same_made, tallied_made};
+pub use readings::KeptReadings;
+pub use tables::{made_table, put_made, take_made};

@@ -1,4 +1,5 @@
 mod filters;
+mod making;
 mod reading;
 
 use ft_event::{Body, Comm, Event, Field, Name, Wake};
@@ -31,4 +32,26 @@ fn waking(pid: i32, prio: i32) -> Result<Event, &'static str> {
 /// A key item.
 fn item(field: Field, mode: Mode) -> KeyItem {
     KeyItem { field, mode }
+}
+
+/// What a text is answered: the canonical text of the trigger that it gives, or the first fault.
+type Answer = Result<&'static str, TriggerFault>;
+
+/// The text of the trigger that a text on events of this name gives.
+fn written(alloc: Global, name: Name, text: &str) -> Result<Vec<u8>, TriggerFault> {
+    let trigger = parse(alloc, name, text.as_bytes())?;
+    let mut line = Vec::new(alloc);
+    match trigger.write(&mut line) {
+        Ok(()) => Ok(line),
+        Err(AllocError) => Err(TriggerFault::Memory),
+    }
+}
+
+/// Whether such an answer is wanted.
+fn is_wanted(found: &Result<Vec<u8>, TriggerFault>, want: Answer) -> bool {
+    match (found, want) {
+        (Ok(line), Ok(text)) => line.as_slice() == text.as_bytes(),
+        (Err(fault), Err(other)) => *fault == other,
+        _ => false,
+    }
 }

@@ -2,11 +2,11 @@
 
 ghost use Rattle.std.specs.Prelude.{◌≡◌, ℕ, List, ◌++◌, IfOk, OnOk};
 ghost use Rattle.ft_rows.specs.declared.row.Totals.{Totals};
-ghost use Rattle.ft_replay.specs.declared.pair.Latency.{Latency};
+ghost use Rattle.ft_answers.specs.declared.latency.Latency.{Latency};
 ghost use Rattle.ft_printed.specs.Answered.{totals_line, latency_line, latency_lines};
 
 use crate::numbers::{add, add_numbered};
-use ft_replay::Latency;
+use ft_answers::Latency;
 use ft_rows::Totals;
 use std::alloc::{AllocError, Global};
 

@@ -30,7 +30,8 @@ use Rattle.ft_replay.specs.Merged.{Events, merged, held_at}
 use Rattle.ft_replay.specs.Replay.{State, act_as, act, act_at, step, started, replay, growth_by}
 use Rattle.ft_table.specs.Values.{values_at}
 use Rattle.ft_base.specs.Roles.{role_of}
-use Rattle.ft_replay.specs.inner.Counters.{Counting, Counters, Saved, tally_in, state_in, new_counter, with_counter, new_counters, counter_with, after_hit, after_act, HasCounter, HaveCounters, AllBefore}
+use Rattle.ft_replay.specs.Counters.{Counting, Counters, tally_in, HasCounter, HaveCounters}
+use Rattle.ft_replay.specs.inner.Replaying.{Saved, state_in, new_counter, with_counter, new_counters, counter_with, after_hit, after_act, AllBefore}
 use Rattle.ft_replay.specs.Tally.{Tally, empty_tally, has_place, tell}
 use Rattle.ft_pairs.specs.declared.role.Role.{Role}
 use Rattle.ft_pairs.specs.declared.role.Role.TheVariants.{Plain, Saves, Reads}

@@ -16,7 +16,8 @@ use Rattle.ft_maps.specs.Entries.{same_from_tie}
 use Rattle.ft_pairs.specs.declared.at.At.{At}
 use Rattle.ft_pairs.specs.declared.role.Role.TheVariants.{Reads}
 use Rattle.ft_table.specs.Values.{values_at}
-use Rattle.ft_replay.specs.inner.Counters.{Counting, Counters, Saved, after_hit, after_key, after_act}
+use Rattle.ft_replay.specs.Counters.{Counting, Counters}
+use Rattle.ft_replay.specs.inner.Replaying.{Saved, after_hit, after_key, after_act}
 
 module _ {K X : Type 0} {R : K → K → Ordering} (total : IsTotalOrder R) (same : IsAntisymmetric R) where
   gone : (m : FinMap R X) (k : K) → map.get m k ≡ None → (q : K) (at : Bool) → eq_by_cmp R q k ≡ at → cond at None (map.get m q) ≡ map.get m q

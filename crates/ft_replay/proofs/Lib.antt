@@ -11,7 +11,7 @@ pub mod Earlier
 pub mod Standing
 pub mod Counters
 pub mod Shown
-pub mod Replayed
+pub mod OneByOne
 pub mod Acts
 pub mod Stepping
 pub mod Acting
@@ -27,5 +27,3 @@ pub mod ActAt
 pub mod Sources
 pub mod Matched
 pub mod Elsewhere
-pub mod Answering
-pub mod AnswerSteps

@@ -39,7 +39,7 @@ use Rattle.ft_replay.proofs.Acts.{Act, made, act_of, acts_in, is_before, size_at
 use Rattle.ft_replay.proofs.ActAt.{act_found}
 use Rattle.ft_replay.proofs.Acting.{acts_sorted}
 use Rattle.ft_replay.proofs.Reached.{found_at-is}
-use Rattle.ft_replay.proofs.Replayed.{tells, tallies-are}
+use Rattle.ft_replay.proofs.OneByOne.{tells, tallies-are}
 use Rattle.ft_replay.proofs.Sources.{effect, ops_in, turn, sourced}
 use Rattle.ft_replay.proofs.Telling.{savers_told}
 

@@ -23,7 +23,7 @@ use Rattle.ft_replay.specs.Tally.{Tally, tally_of}
 use Rattle.ft_replay.proofs.Growing.{contains-tally}
 use Rattle.ft_replay.proofs.KeptMaps.{values-are, pairs-are}
 use Rattle.ft_replay.proofs.Listed.{trigger_hits_ascend}
-use Rattle.ft_replay.proofs.Replayed.{replayed_tally}
+use Rattle.ft_replay.proofs.OneByOne.{replayed_tally}
 use Rattle.ft_replay.proofs.Tallied.{counted-tally}
 
 module _ (rows : RowsGrow) (totals : TotalsGrow) (members : InGrows) (triggers : Triggers) (events : Events) (id : ℕ) (hist : Hist) (attached : map.get triggers id ≡ Some hist) where

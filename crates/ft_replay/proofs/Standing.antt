@@ -23,7 +23,8 @@ use Rattle.ft_table.specs.declared.mark.Mark.{Mark}
 use Rattle.ft_table.specs.Spots.{traced}
 use Rattle.ft_base.specs.Base.{Triggers}
 use Rattle.ft_table.specs.Values.{values_at}
-use Rattle.ft_replay.specs.inner.Counters.{Counting, Counters, Saved, counter_with, after_hit, after_act, IsFree, Suits, HasCounter, HaveCounters, StandBefore, AllBefore}
+use Rattle.ft_replay.specs.Counters.{Counting, Counters, Suits, HasCounter, HaveCounters}
+use Rattle.ft_replay.specs.inner.Replaying.{Saved, counter_with, after_hit, after_act, IsFree, StandBefore, AllBefore}
 use Rattle.ft_pairs.specs.declared.role.Role.{Role}
 use Rattle.ft_pairs.specs.declared.role.Role.TheVariants.{Plain, Saves, Reads}
 use Rattle.ft_replay.proofs.Counting.{after_act-no_hit, after_act-no_counter, after_act-hit}

@@ -22,7 +22,7 @@ use Rattle.ft_replay.specs.declared.pair.Pair.{Pair}
 use Rattle.ft_replay.specs.Hits.{TriggerHit, entry_of, pair_of}
 use Rattle.ft_replay.specs.Tally.{tally_of}
 use Rattle.ft_replay.proofs.Counted.{counted, counted_all}
-use Rattle.ft_replay.specs.inner.Counters.{pairs_with}
+use Rattle.ft_replay.specs.inner.Replaying.{pairs_with}
 use Rattle.ft_replay.proofs.Growing.{tally-empty, tally_grows_with}
 use Rattle.ft_replay.proofs.Listed.{Ascend, AreBehind, spot_of, find-entries, none_in, values_under}
 

@@ -56,11 +56,11 @@ hit_at triggers events id at =
     (read_as (role_of triggers hist.variable) (λ variable. found_at triggers events variable (record { pos = at; trigger = id })) key)
     ) (hit hist event)) (map.get triggers id)) (map.get events at)
 
--- the hit of an attached trigger that stands at a spot, if one does; there are no hits but of events of the trace (our own choice)
+-- the hit of an attached trigger among held events that stands at a spot, if one does: at a spot of a made event none does (our own choice)
 abbrev pub hit_on : Triggers → Events → ℕ → Spot → Option TriggerHit
 hit_on triggers events id spot = option_and_then (hit_at triggers events id) (traced_place spot)
 
--- all hits of an attached trigger, in merged order (kernel: histogram.rst, hist triggers)
+-- all hits of an attached trigger among held events, in merged order (kernel: histogram.rst, hist triggers)
 unfoldable pub trigger_hits : Triggers → Events → ℕ → List TriggerHit
 trigger_hits triggers events id = filter_map (hit_at triggers events id) (map.keys events)
 

@@ -1,2 +1,2 @@
--- Words of private functions: what replaying holds of each trigger.
-pub mod Counters
+-- Words of private functions: how replaying goes on.
+pub mod Replaying

@@ -9,7 +9,7 @@ ghost use Rattle.ft_table.specs.Spots.{traced};
 ghost use Rattle.ft_table.specs.Tabled.{is_in};
 ghost use Rattle.ft_hist.specs.Steps.{StepsGrow};
 ghost use Rattle.ft_table.specs.Values.{values_at};
-ghost use Rattle.ft_replay.specs.inner.Counters.{after_hit, after_act, IsFree};
+ghost use Rattle.ft_replay.specs.inner.Replaying.{after_hit, after_act, IsFree};
 ghost use Rattle.ft_pairs.specs.Variables.{variable_cmp};
 
 use crate::counter::Counter;

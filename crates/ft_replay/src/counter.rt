@@ -3,7 +3,7 @@
 ghost use Rattle.std.specs.Prelude.{◌≡◌, ◌<◌, [], None, OnOk};
 ghost use Rattle.std.specs.FinMap as map;
 ghost use Rattle.ft_hist.specs.Steps.{StepsGrow};
-ghost use Rattle.ft_replay.specs.inner.Counters.{counter_with};
+ghost use Rattle.ft_replay.specs.inner.Replaying.{counter_with};
 
 use crate::pair::Pair;
 use ft_fields::Pos;
@@ -18,14 +18,14 @@ use std::marker::Model;
 ///
 /// Contracts see a record of the same fields.
 #[derive(Drop)]
-pub(crate) struct Counter {
+pub struct Counter {
     role: Role,
     table: Table,
     pairs: Vec<Pair>,
 }
 
 impl Model for Counter {
-    ghost use Rattle.ft_replay.specs.inner.Counters.{Counting, counting_code};
+    ghost use Rattle.ft_replay.specs.Counters.{Counting, counting_code};
 
     ghost Value = { Counting };
 
@@ -49,21 +49,21 @@ impl Counter {
     }
 
     /// What the trigger does with its variable.
-    pub(crate) fn role(&self) -> Role
+    pub fn role(&self) -> Role
         ensures { result ≡ self.now.role }
     {
         self.role
     }
 
     /// Its hits.
-    pub(crate) fn table(&self) -> &Table
+    pub fn table(&self) -> &Table
         ensures { result.now ≡ self.now.table }
     {
         &self.table
     }
 
     /// The pairs of its readings, in merged order of the reading.
-    pub(crate) fn pairs(&self) -> &[Pair]
+    pub fn pairs(&self) -> &[Pair]
         ensures { result.now ≡ self.now.pairs }
     {
         &self.pairs

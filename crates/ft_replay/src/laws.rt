@@ -34,8 +34,6 @@ ghost use Rattle.ft_replay.specs.Found.{values_found, saving_found, pairs_in};
 ghost use Rattle.ft_replay.specs.Tally.{tally_of, rows_in, totals_in};
 ghost use Rattle.ft_replay.specs.declared.pair.Pair.{Pair};
 
-pub use crate::plain::plain_board_keeps_none;
-
 /// The law of the merged order: at each place it has the event that is held there, and nothing
 /// else.
 pub fn merged_order()

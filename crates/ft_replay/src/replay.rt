@@ -10,8 +10,9 @@ ghost use Rattle.ft_maps.specs.Seen.{seen};
 ghost use Rattle.ft_hist.specs.Steps.{StepsGrow};
 ghost use Rattle.ft_replay.specs.Merged.{merged};
 ghost use Rattle.ft_replay.specs.Replay.{step, replay};
-ghost use Rattle.ft_replay.specs.inner.Counters.{tally_in, state_in, new_counters, HaveCounters};
-ghost use Rattle.ft_replay.specs.inner.Counters.{AllBeforePlace};
+ghost use Rattle.ft_replay.specs.Counters.{tally_in, HaveCounters};
+ghost use Rattle.ft_replay.specs.inner.Replaying.{state_in, new_counters};
+ghost use Rattle.ft_replay.specs.inner.Replaying.{AllBeforePlace};
 ghost use Rattle.ft_pairs.specs.Variables.{variable_cmp};
 
 use crate::act::act;
@@ -27,7 +28,7 @@ use std::alloc::{AllocError, Global};
 use std::collections::BTreeMap;
 
 /// The counter of each attached trigger after all held events. Refused for memory.
-pub(crate) fn replayed(
+pub fn replayed(
     alloc: Global,
     lanes: &Lanes,
     triggers: &BTreeMap<u32, Trigger>,

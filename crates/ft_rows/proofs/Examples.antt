@@ -33,7 +33,7 @@ abbrev item : Field → Mode → KeyItem
 item field mode = record { field = field; mode = mode }
 
 abbrev hist_by : List KeyItem → List Item → Option Var → Hist
-hist_by keys values variable = record { event = names.Waking; keys = keys; values = values; sort = []; variable = variable; size = 2048; filter = None }
+hist_by keys values variable = record { event = names.Waking; keys = keys; values = values; sort = []; variable = variable; size = 2048; onmatch = None; filter = None }
 
 abbrev by : SortBy → SortItem
 by what = record { what = what; descending = false }

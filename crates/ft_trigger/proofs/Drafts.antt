@@ -1,5 +1,5 @@
 -- What has been read of a trigger's head can be read again.
-use Rattle.std.proofs.Common.{◌≡◌, ◌<◌, ◌+◌, ℕ, false, List, [], ◌∷◌, length, drop, Option, Some, None, Result, Ok, refl, subst, arith, find, ◌==◌}
+use Rattle.std.proofs.Common.{◌≡◌, ◌<◌, ◌+◌, ℕ, Bool, true, false, codes, cond, List, [], ◌∷◌, length, drop, Option, Some, None, Result, Ok, refl, subst, arith, find, ◌==◌}
 use Rattle.std.specs.List.{starts_with}
 use Rattle.std.specs.Option.{option_map_or, is_some}
 use Rattle.ft_fields.specs.declared.event.Name.{Name}
@@ -7,8 +7,9 @@ use Rattle.ft_head.specs.declared.fault.TriggerFault.{TriggerFault}
 use Rattle.ft_head.specs.declared.fault.TriggerFault.TheVariants.{Duplicate, BadSize, LeftOut}
 use Rattle.ft_head.specs.declared.draft.Kind.{Kind}
 use Rattle.ft_head.specs.declared.draft.Kind.TheVariants.{Keys, Values, Sort, Size}
-use Rattle.ft_head.specs.Draft.{Draft, blank, ◌>>=◌, given_or, items_of, with_key, with_value, with_sort, size_of, labels, is_part_left_out, with_kind, with_variable, with_part, parts_from}
+use Rattle.ft_head.specs.Draft.{Draft, blank, ◌>>=◌, given_or, items_of, with_key, with_value, with_sort, size_of, labels, is_part_left_out, with_kind, with_variable, with_onmatch, with_other, with_part, parts_from}
 use Rattle.ft_head.specs.Words.{Piece, pieces, Word}
+use Rattle.ft_trigger.proofs.Actions.{ActionFits, action_fits}
 use Rattle.ft_trigger.proofs.Chains.{Chain, Steps, items_grow}
 use Rattle.ft_trigger.proofs.Inversions.{then_parts, unless_parts, given_parts}
 use Rattle.ft_trigger.proofs.Keyed.{KeyFits, key_steps}
@@ -37,6 +38,7 @@ pub record DraftFits (event : Name) (draft : Draft) : Type 0 where
   pub sort : If (Listed SortFits) draft.sort
   pub size : If SizeFits draft.size
   pub variable : If (VarFits event) draft.variable
+  pub onmatch : If (ActionFits event) draft.onmatch
 
 -- a list that was added to as often as there are pieces has an item
 some_listed : {A : Type 0} (step : List A → A → Type 0) (list added : List A) (count : ℕ) → 0 < count → list ≡ added → Chain step [] added → length added ≡ count → Listed step list
@@ -57,29 +59,35 @@ kind_fits event draft more Keys place text h e =
     let new = unless_parts (is_some draft.keys) Duplicate [] (items_of (with_key event) place text >>= (λ keys. Ok (record draft { keys = Some keys }))) more e in
     let keys = then_parts (items_of (with_key event) place text) (λ keys. Ok (record draft { keys = Some keys })) more new.1 in
     let same : record draft { keys = Some keys.0 } ≡ more = (let done = keys.2 in cc) in
-    subst (DraftFits event) same (record { keys = items_listed (with_key event) (KeyFits event) place text keys.0 (key_steps event) keys.1; values = h.values; sort = h.sort; size = h.size; variable = h.variable })
+    subst (DraftFits event) same (record { keys = items_listed (with_key event) (KeyFits event) place text keys.0 (key_steps event) keys.1; values = h.values; sort = h.sort; size = h.size; variable = h.variable; onmatch = h.onmatch })
 kind_fits event draft more Values place text h e =
     let new = unless_parts (is_some draft.values) Duplicate [] (items_of (with_value event) place text >>= (λ words. Ok (record draft { values = Some words }))) more e in
     let words = then_parts (items_of (with_value event) place text) (λ words. Ok (record draft { values = Some words })) more new.1 in
     let same : record draft { values = Some words.0 } ≡ more = (let done = words.2 in cc) in
-    subst (DraftFits event) same (record { keys = h.keys; values = items_listed (with_value event) (ValueFits event) place text words.0 (value_steps event) words.1; sort = h.sort; size = h.size; variable = h.variable })
+    subst (DraftFits event) same (record { keys = h.keys; values = items_listed (with_value event) (ValueFits event) place text words.0 (value_steps event) words.1; sort = h.sort; size = h.size; variable = h.variable; onmatch = h.onmatch })
 kind_fits event draft more Sort place text h e =
     let new = unless_parts (is_some draft.sort) Duplicate [] (items_of with_sort place text >>= (λ words. Ok (record draft { sort = Some words }))) more e in
     let words = then_parts (items_of with_sort place text) (λ words. Ok (record draft { sort = Some words })) more new.1 in
     let same : record draft { sort = Some words.0 } ≡ more = (let done = words.2 in cc) in
-    subst (DraftFits event) same (record { keys = h.keys; values = h.values; sort = items_listed with_sort SortFits place text words.0 sort_steps words.1; size = h.size; variable = h.variable })
+    subst (DraftFits event) same (record { keys = h.keys; values = h.values; sort = items_listed with_sort SortFits place text words.0 sort_steps words.1; size = h.size; variable = h.variable; onmatch = h.onmatch })
 kind_fits event draft more Size place text h e =
     let new = unless_parts (is_some draft.size) Duplicate [] (given_or BadSize (size_of text) (λ size. Ok (record draft { size = Some size }))) more e in
     let size = given_parts BadSize (size_of text) (λ size. Ok (record draft { size = Some size })) more new.1 in
     let same : record draft { size = Some size.0 } ≡ more = (let done = size.2 in cc) in
-    subst (DraftFits event) same (record { keys = h.keys; values = h.values; sort = h.sort; size = size_fits text size.0 size.1; variable = h.variable })
+    subst (DraftFits event) same (record { keys = h.keys; values = h.values; sort = h.sort; size = size_fits text size.0 size.1; variable = h.variable; onmatch = h.onmatch })
 
--- a variable's part leaves what can be read again
-variable_fits : (event : Name) (draft more : Draft) (part : Piece) → DraftFits event draft → is_part_left_out part.bytes ≡ false → find (λ label. starts_with ◌==◌ part.bytes label.0) labels ≡ None
-    → with_variable event draft part ≡ Ok more → DraftFits event more
-variable_fits event draft more part h kept apart e =
-    let found = var_fits event draft more part kept apart e in
-    subst (DraftFits event) found.1 (record { keys = h.keys; values = h.values; sort = h.sort; size = h.size; variable = found.2 })
+-- a part of no kind leaves what can be read again
+other_fits : (event : Name) (draft more : Draft) (part : Piece) → DraftFits event draft → is_part_left_out part.bytes ≡ false → find (λ label. starts_with ◌==◌ part.bytes label.0) labels ≡ None
+    → with_other event draft part ≡ Ok more → DraftFits event more
+other_fits event draft more part h kept apart e = from (starts_with ◌==◌ part.bytes (codes "onmatch(")) refl e
+  where
+    from : (b : Bool) → starts_with ◌==◌ part.bytes (codes "onmatch(") ≡ b → cond b (with_onmatch event draft part) (with_variable event draft part) ≡ Ok more → DraftFits event more
+    from true is e =
+        let found = action_fits event draft more part e in
+        subst (DraftFits event) found.1 (record { keys = h.keys; values = h.values; sort = h.sort; size = h.size; variable = h.variable; onmatch = found.2 })
+    from false is e =
+        let found = var_fits event draft more part kept apart is e in
+        subst (DraftFits event) found.1 (record { keys = h.keys; values = h.values; sort = h.sort; size = h.size; variable = found.2; onmatch = h.onmatch })
 
 -- a part leaves what can be read again
 part_fits : (event : Name) (draft more : Draft) (part : Piece) → DraftFits event draft → with_part event draft part ≡ Ok more → DraftFits event more
@@ -89,11 +97,11 @@ part_fits event draft more part h e = from (find (λ label. starts_with ◌==◌
     of_label : List ℕ × Kind → Result Draft TriggerFault
     of_label label = with_kind event draft label.1 (part.place + length label.0) (drop (length label.0) part.bytes)
 
-    kept : (is_part_left_out part.bytes ≡ false) × (option_map_or of_label (find (λ label. starts_with ◌==◌ part.bytes label.0) labels) (with_variable event draft part) ≡ Ok more)
-    kept = unless_parts (is_part_left_out part.bytes) (LeftOut part.place) [] (option_map_or of_label (find (λ label. starts_with ◌==◌ part.bytes label.0) labels) (with_variable event draft part)) more e
+    kept : (is_part_left_out part.bytes ≡ false) × (option_map_or of_label (find (λ label. starts_with ◌==◌ part.bytes label.0) labels) (with_other event draft part) ≡ Ok more)
+    kept = unless_parts (is_part_left_out part.bytes) (LeftOut part.place) [] (option_map_or of_label (find (λ label. starts_with ◌==◌ part.bytes label.0) labels) (with_other event draft part)) more e
 
-    from : (o : Option (List ℕ × Kind)) → find (λ label. starts_with ◌==◌ part.bytes label.0) labels ≡ o → option_map_or of_label o (with_variable event draft part) ≡ Ok more → DraftFits event more
-    from None is e = variable_fits event draft more part h kept.0 is e
+    from : (o : Option (List ℕ × Kind)) → find (λ label. starts_with ◌==◌ part.bytes label.0) labels ≡ o → option_map_or of_label o (with_other event draft part) ≡ Ok more → DraftFits event more
+    from None is e = other_fits event draft more part h kept.0 is e
     from (Some label) is e = kind_fits event draft more label.1 (part.place + length label.0) (drop (length label.0) part.bytes) h e
 
 -- parts leave what can be read again
@@ -106,4 +114,4 @@ parts_fit event (part ∷ parts) draft more h e =
 
 -- what has been read of a head can be read again
 pub draft_fits : (event : Name) (parts : List Piece) (draft : Draft) → parts_from event blank parts ≡ Ok draft → DraftFits event draft
-draft_fits event parts draft e = parts_fit event parts blank draft (record { keys = tt; values = tt; sort = tt; size = tt; variable = tt }) e
+draft_fits event parts draft e = parts_fit event parts blank draft (record { keys = tt; values = tt; sort = tt; size = tt; variable = tt; onmatch = tt }) e

@@ -15,8 +15,9 @@ use Rattle.ft_filter.specs.Predicate.{text_value, number_value, value_at, compar
 use Rattle.ft_filter.specs.Matching.{items_of, is_glob}
 use Rattle.ft_filter.specs.Answers.{going, joined_at, operand_at, filter_of}
 use Rattle.ft_hist.specs.Hist.{Hist}
+use Rattle.ft_head.specs.Onmatch.{handed_of}
 use Rattle.ft_head.specs.Words.{word_with, word_of, number_in}
-use Rattle.ft_head.specs.Draft.{rounded, with_key, with_value, with_sort, stamp_of, with_kind, with_variable, with_part, parts_from}
+use Rattle.ft_head.specs.Draft.{rounded, with_key, with_value, with_sort, stamp_of, with_kind, with_variable, with_onmatch, with_part, parts_from}
 use Rattle.ft_trigger.specs.TriggerIs.{filter_in, sort_by, finished, trigger_of}
 use Rattle.ft_hist.specs.Canonical.{canonical}
 use Rattle.std.specs.Fmt.{digits}
@@ -24,7 +25,7 @@ use Rattle.ft_filter.specs.Canonical.{quoted, pred_text}
 use Rattle.ft_tokens.specs.Tokens.{name_at, quoted_at, number_at, number_of}
 
 computing : Unit {0}
-unfolding name_at word_with word_of number_in with_key with_value with_sort stamp_of with_kind with_variable with_part parts_from filter_in sort_by finished trigger_of rounded op_at quoted_at number_at number_of text_value number_value value_at comparison_at pred_at items_of is_glob going joined_at operand_at filter_of canonical quoted pred_text digits
+unfolding name_at word_with word_of number_in with_key with_value with_sort stamp_of with_kind with_variable with_onmatch handed_of with_part parts_from filter_in sort_by finished trigger_of rounded op_at quoted_at number_at number_of text_value number_value value_at comparison_at pred_at items_of is_glob going joined_at operand_at filter_of canonical quoted pred_text digits
 computing = tt
 
 -- the canonical text of a trigger that is read
@@ -123,6 +124,7 @@ plain_trigger : waking (codes "hist:keys=pid") ≡ Ok (record {
   sort = record { what = sorts.Hits; descending = false } ∷ [];
   variable = None;
   size = 2048;
+  onmatch = None;
   filter = None;
 })
 unfolding computing
@@ -135,6 +137,7 @@ switches_by_power : trigger_of names.Switch (codes "hist:key=next_pid.log2:val=n
   sort = record { what = sorts.Value 0; descending = false } ∷ [];
   variable = None;
   size = 256;
+  onmatch = None;
   filter = None;
 })
 unfolding computing
@@ -147,6 +150,7 @@ latencies : trigger_of names.Switch (codes "hist:keys=next_pid:vals=$lat:lat=com
   sort = record { what = sorts.Hits; descending = false } ∷ [];
   variable = Some (vars.Reads (codes "lat") (codes "ts0"));
   size = 2048;
+  onmatch = None;
   filter = None;
 })
 unfolding computing
@@ -182,6 +186,7 @@ sums_and_sort : waking (codes "hist:keys=pid,prio:vals=hitcount,target_cpu,$v:v=
   sort = record { what = sorts.Value 1; descending = true } ∷ record { what = sorts.Key 1; descending = false } ∷ [];
   variable = Some (vars.Saves (codes "v"));
   size = 2048;
+  onmatch = None;
   filter = None;
 })
 unfolding computing
@@ -194,7 +199,34 @@ key_before_value : waking (codes "hist:keys=pid:vals=pid:sort=pid") ≡ Ok (reco
   sort = record { what = sorts.Key 0; descending = false } ∷ [];
   variable = None;
   size = 2048;
+  onmatch = None;
   filter = None;
 })
 unfolding computing
 key_before_value = refl
+
+made_latencies : trigger_of names.Switch (codes "hist:keys=next_pid:lat=common_timestamp.usecs-$ts0:onmatch(sched.sched_waking).wakeup_latency($lat,next_pid,next_prio)") ≡ Ok (record {
+  event = names.Switch;
+  keys = record { field = fields.NextPid; mode = modes.Plain } ∷ [];
+  values = [];
+  sort = record { what = sorts.Hits; descending = false } ∷ [];
+  variable = Some (vars.Reads (codes "lat") (codes "ts0"));
+  size = 2048;
+  onmatch = Some (record { event = names.Waking; pid = fields.NextPid; prio = fields.NextPrio });
+  filter = None;
+})
+unfolding computing
+made_latencies = refl
+
+canonical_onmatch : again (trigger_of names.Switch (codes "hist:onmatch(sched.sched_waking).wakeup_latency($lat,next_pid,next_prio):keys=next_pid:lat=common_timestamp.usecs-$ts0"))
+    ≡ codes "hist:keys=next_pid:vals=hitcount:lat=common_timestamp.usecs-$ts0:sort=hitcount:size=2048:onmatch(sched.sched_waking).wakeup_latency($lat,next_pid,next_prio)"
+unfolding computing
+canonical_onmatch = refl
+
+other_handed : trigger_of names.Switch (codes "hist:keys=next_pid:lat=common_timestamp.usecs-$ts0:onmatch(sched.sched_waking).wakeup_latency($ts0,next_pid,next_prio)") ≡ Err NoField
+unfolding computing
+other_handed = refl
+
+made_again : trigger_of names.WakeupLatency (codes "hist:keys=pid:onmatch(sched.sched_waking).wakeup_latency($lat,pid,prio)") ≡ Err (LeftOut 14)
+unfolding computing
+made_again = refl

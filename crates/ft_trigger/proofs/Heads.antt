@@ -1,5 +1,5 @@
 -- The parts of a canonical head are read as what they were written for.
-use Rattle.std.proofs.Common.{◌≡◌, ◌+◌, ℕ, true, List, [], ◌∷◌, ◌++◌, map, Option, Some, None, Result, Ok, refl, ap, ◌∙◌, codes, decimal}
+use Rattle.std.proofs.Common.{◌≡◌, ◌+◌, ℕ, true, List, [], ◌∷◌, ◌++◌, map, Option, Some, None, Result, Ok, refl, ap, ◌∙◌, codes, decimal, append-nil}
 use Rattle.std.proofs.lemmas.Bool.{and_from}
 use Rattle.std.proofs.lemmas.List.Folds.{list_all-append}
 use Rattle.std.specs.List.{list_all}
@@ -10,7 +10,9 @@ use Rattle.ft_hist.specs.declared.item.KeyItem.{KeyItem}
 use Rattle.ft_hist.specs.declared.label.Var.{Var}
 use Rattle.ft_hist.specs.Canonical.{listed, more_items, key_text}
 use Rattle.ft_head.specs.Draft.{Draft, blank, ◌>>=◌, given_or, besides_hitcount, with_key, with_kind, with_part, parts_from}
+use Rattle.ft_head.specs.Onmatch.{Action}
 use Rattle.ft_head.specs.Words.{pieces, Word}
+use Rattle.ft_trigger.proofs.Actions.{ActionFits, action_bytes}
 use Rattle.ft_trigger.proofs.Chains.{Chain, items_again, chain_inner}
 use Rattle.ft_trigger.proofs.Drafts.{If}
 use Rattle.ft_trigger.proofs.Keyed.{KeyFits, key_again, key_bare}
@@ -41,31 +43,36 @@ part_last event draft more part place inner reads =
 
 -- what has been read behind the keys
 abbrev keyed : List KeyItem → Draft
-keyed keys = record { keys = Some keys; values = None; sort = None; size = None; variable = None }
+keyed keys = record { keys = Some keys; values = None; sort = None; size = None; variable = None; onmatch = None }
 
 -- what has been read behind the values
 abbrev valued : List KeyItem → List Word → Draft
-valued keys values = record { keys = Some keys; values = Some values; sort = None; size = None; variable = None }
+valued keys values = record { keys = Some keys; values = Some values; sort = None; size = None; variable = None; onmatch = None }
 
 -- what has been read behind the variable
 abbrev labelled : List KeyItem → List Word → Option Var → Draft
-labelled keys values variable = record { keys = Some keys; values = Some values; sort = None; size = None; variable = variable }
+labelled keys values variable = record { keys = Some keys; values = Some values; sort = None; size = None; variable = variable; onmatch = None }
 
 -- what has been read behind the sort items
 abbrev sorted : List KeyItem → List Word → Option Var → List Word → Draft
-sorted keys values variable sort = record { keys = Some keys; values = Some values; sort = Some sort; size = None; variable = variable }
+sorted keys values variable sort = record { keys = Some keys; values = Some values; sort = Some sort; size = None; variable = variable; onmatch = None }
 
 -- what has been read in the end
-abbrev pub whole : List KeyItem → List Word → Option Var → List Word → ℕ → Draft
-whole keys values variable sort size = record { keys = Some keys; values = Some values; sort = Some sort; size = Some size; variable = variable }
+abbrev pub whole : List KeyItem → List Word → Option Var → List Word → ℕ → Option Action → Draft
+whole keys values variable sort size onmatch = record { keys = Some keys; values = Some values; sort = Some sort; size = Some size; variable = variable; onmatch = onmatch }
 
--- a size's part
-abbrev size_part : ℕ → List ℕ
-size_part size = codes "size=" ++ decimal size
+-- what is behind a size: what events are made of, where that stands
+abbrev pub behind_size : Option Action → List ℕ
+behind_size None = []
+behind_size (Some action) = 58 ∷ action_bytes action
+
+-- a size's part, and what is behind it
+abbrev size_part : ℕ → Option Action → List ℕ
+size_part size onmatch = codes "size=" ++ (decimal size ++ behind_size onmatch)
 
 -- the sort items' part, and what is behind it
-abbrev sort_part : List Word → ℕ → List ℕ
-sort_part sort size = codes "sort=" ++ (listed (map word_text (map directed sort)) ++ 58 ∷ size_part size)
+abbrev sort_part : List Word → ℕ → Option Action → List ℕ
+sort_part sort size onmatch = codes "sort=" ++ (listed (map word_text (map directed sort)) ++ 58 ∷ size_part size onmatch)
 
 -- a variable's part, and what is behind it
 abbrev pub behind_values : Option Var → List ℕ → List ℕ
@@ -100,9 +107,15 @@ module _ (event : Name) where
 
   -- a size is read
   size_read : (keys : List KeyItem) (values : List Word) (variable : Option Var) (sort : List Word) (size place : ℕ) → SizeFits size
-      → with_part event (sorted keys values variable sort) (record { place = place; bytes = codes "size=" ++ decimal size }) ≡ Ok (whole keys values variable sort size)
+      → with_part event (sorted keys values variable sort) (record { place = place; bytes = codes "size=" ++ decimal size }) ≡ Ok (whole keys values variable sort size None)
   unfolding with_part with_kind
-  size_read keys values variable sort size place fits = ap (λ (o : Option ℕ). given_or BadSize o (λ size. Ok (whole keys values variable sort size))) fits.reads
+  size_read keys values variable sort size place fits = ap (λ (o : Option ℕ). given_or BadSize o (λ size. Ok (whole keys values variable sort size None))) fits.reads
+
+  -- what events are made of is read
+  action_read : (keys : List KeyItem) (values : List Word) (variable : Option Var) (sort : List Word) (size : ℕ) (action : Action) (place : ℕ) → ActionFits event action
+      → with_part event (whole keys values variable sort size None) (record { place = place; bytes = action_bytes action }) ≡ Ok (whole keys values variable sort size (Some action))
+  unfolding with_part
+  action_read keys values variable sort size action place fits = fits.adds (whole keys values variable sort size None) place refl
 
   -- ---- heads
 
@@ -120,25 +133,37 @@ module _ (event : Name) where
     pub words_fit : Chain SortFits [] (word ∷ words)
     pub size_fits : SizeFits size
     pub variable_fits : If (VarFits event) variable
+    pub onmatch : Option Action
+    pub onmatch_fits : If (ActionFits event) onmatch
 
   -- a head behind `hist:`
   abbrev pub body : Told → List ℕ
   body t =
-      codes "keys=" ++ (listed (map key_text (t.key ∷ t.keys)) ++ 58 ∷ (codes "vals=hitcount" ++ (more_items (map word_text (besides_hitcount t.values)) ++ 58 ∷ behind_values t.variable (sort_part (t.word ∷ t.words) t.size))))
+      codes "keys=" ++ (listed (map key_text (t.key ∷ t.keys)) ++ 58 ∷ (codes "vals=hitcount" ++ (more_items (map word_text (besides_hitcount t.values)) ++ 58 ∷ behind_values t.variable (sort_part (t.word ∷ t.words) t.size t.onmatch))))
 
   -- what is read of it
   abbrev pub told : Told → Draft
-  told t = whole (t.key ∷ t.keys) (hits ∷ besides_hitcount t.values) t.variable (map directed (t.word ∷ t.words)) t.size
+  told t = whole (t.key ∷ t.keys) (hits ∷ besides_hitcount t.values) t.variable (map directed (t.word ∷ t.words)) t.size t.onmatch
 
-  -- a size is read at the end
-  size_ends : (t : Told) (place : ℕ) → parts_from event (sorted (t.key ∷ t.keys) (hits ∷ besides_hitcount t.values) t.variable (map directed (t.word ∷ t.words))) (pieces 58 place (size_part t.size)) ≡ Ok (told t)
-  size_ends t place =
-      part_last event _ (told t) (size_part t.size) place (bare_inner (decimal t.size) t.size_fits.bare) (size_read _ _ _ _ t.size place t.size_fits)
+  -- a size is read at the end, or before what events are made of
+  size_then : (keys : List KeyItem) (values : List Word) (variable : Option Var) (sort : List Word) (size place : ℕ) (onmatch : Option Action) → SizeFits size → If (ActionFits event) onmatch
+      → parts_from event (sorted keys values variable sort) (pieces 58 place (size_part size onmatch)) ≡ Ok (whole keys values variable sort size onmatch)
+  size_then keys values variable sort size place None fits made =
+      ap (λ (t : List ℕ). parts_from event (sorted keys values variable sort) (pieces 58 place (codes "size=" ++ t))) (append-nil (decimal size))
+      ∙ part_last event _ (whole keys values variable sort size None) (codes "size=" ++ decimal size) place (bare_inner (decimal size) fits.bare) (size_read keys values variable sort size place fits)
+  size_then keys values variable sort size place (Some action) fits made =
+      part_step event _ (whole keys values variable sort size None) (codes "size=" ++ decimal size) (action_bytes action) (Ok (whole keys values variable sort size (Some action))) place (bare_inner (decimal size) fits.bare)
+      (λ p. size_read keys values variable sort size p fits)
+      (λ p. part_last event _ (whole keys values variable sort size (Some action)) (action_bytes action) p made.inner (action_read keys values variable sort size action p made))
+
+  -- so it is in a head
+  size_ends : (t : Told) (place : ℕ) → parts_from event (sorted (t.key ∷ t.keys) (hits ∷ besides_hitcount t.values) t.variable (map directed (t.word ∷ t.words))) (pieces 58 place (size_part t.size t.onmatch)) ≡ Ok (told t)
+  size_ends t place = size_then (t.key ∷ t.keys) (hits ∷ besides_hitcount t.values) t.variable (map directed (t.word ∷ t.words)) t.size place t.onmatch t.size_fits t.onmatch_fits
 
   -- sort items are read before it
-  sort_ends : (t : Told) (place : ℕ) → parts_from event (labelled (t.key ∷ t.keys) (hits ∷ besides_hitcount t.values) t.variable) (pieces 58 place (sort_part (t.word ∷ t.words) t.size)) ≡ Ok (told t)
+  sort_ends : (t : Told) (place : ℕ) → parts_from event (labelled (t.key ∷ t.keys) (hits ∷ besides_hitcount t.values) t.variable) (pieces 58 place (sort_part (t.word ∷ t.words) t.size t.onmatch)) ≡ Ok (told t)
   sort_ends t place =
-      part_step event _ _ (codes "sort=" ++ listed (map word_text (map directed (t.word ∷ t.words)))) (size_part t.size) (Ok (told t)) place (sorts_inner t.word t.words t.words_fit)
+      part_step event _ _ (codes "sort=" ++ listed (map word_text (map directed (t.word ∷ t.words)))) (size_part t.size t.onmatch) (Ok (told t)) place (sorts_inner t.word t.words t.words_fit)
       (λ p. sorts_read _ _ t.variable t.word t.words p t.words_fit) (size_ends t)
 
   -- a variable is read before others, where one stands
@@ -149,14 +174,14 @@ module _ (event : Name) where
       part_step event (valued keys values) (labelled keys values (Some variable)) (var_bytes variable) rest answer place fits.inner (λ p. variable_read keys values variable p fits) later
 
   -- so it is before the sort items
-  variable_ends : (t : Told) (place : ℕ) → parts_from event (valued (t.key ∷ t.keys) (hits ∷ besides_hitcount t.values)) (pieces 58 place (behind_values t.variable (sort_part (t.word ∷ t.words) t.size))) ≡ Ok (told t)
-  variable_ends t place = behind_read (t.key ∷ t.keys) (hits ∷ besides_hitcount t.values) t.variable (sort_part (t.word ∷ t.words) t.size) (Ok (told t)) place t.variable_fits (sort_ends t)
+  variable_ends : (t : Told) (place : ℕ) → parts_from event (valued (t.key ∷ t.keys) (hits ∷ besides_hitcount t.values)) (pieces 58 place (behind_values t.variable (sort_part (t.word ∷ t.words) t.size t.onmatch))) ≡ Ok (told t)
+  variable_ends t place = behind_read (t.key ∷ t.keys) (hits ∷ besides_hitcount t.values) t.variable (sort_part (t.word ∷ t.words) t.size t.onmatch) (Ok (told t)) place t.variable_fits (sort_ends t)
 
   -- values are read before it
   values_end : (t : Told) (place : ℕ) → parts_from event (keyed (t.key ∷ t.keys))
-      (pieces 58 place (codes "vals=hitcount" ++ (more_items (map word_text (besides_hitcount t.values)) ++ 58 ∷ behind_values t.variable (sort_part (t.word ∷ t.words) t.size)))) ≡ Ok (told t)
+      (pieces 58 place (codes "vals=hitcount" ++ (more_items (map word_text (besides_hitcount t.values)) ++ 58 ∷ behind_values t.variable (sort_part (t.word ∷ t.words) t.size t.onmatch)))) ≡ Ok (told t)
   values_end t place =
-      part_step event _ _ (codes "vals=hitcount" ++ more_items (map word_text (besides_hitcount t.values))) (behind_values t.variable (sort_part (t.word ∷ t.words) t.size)) (Ok (told t)) place (values_inner event t.values t.values_fit)
+      part_step event _ _ (codes "vals=hitcount" ++ more_items (map word_text (besides_hitcount t.values))) (behind_values t.variable (sort_part (t.word ∷ t.words) t.size t.onmatch)) (Ok (told t)) place (values_inner event t.values t.values_fit)
       (λ p. values_read _ t.values p t.values_fit) (variable_ends t)
 
   -- the texts of keys can stand in a part
@@ -168,7 +193,7 @@ module _ (event : Name) where
   -- a head is read
   pub head_again : (t : Told) (place : ℕ) → parts_from event blank (pieces 58 place (body t)) ≡ Ok (told t)
   head_again t place =
-      part_step event _ _ (codes "keys=" ++ listed (map key_text (t.key ∷ t.keys))) (codes "vals=hitcount" ++ (more_items (map word_text (besides_hitcount t.values)) ++ 58 ∷ behind_values t.variable (sort_part (t.word ∷ t.words) t.size)))
+      part_step event _ _ (codes "keys=" ++ listed (map key_text (t.key ∷ t.keys))) (codes "vals=hitcount" ++ (more_items (map word_text (besides_hitcount t.values)) ++ 58 ∷ behind_values t.variable (sort_part (t.word ∷ t.words) t.size t.onmatch)))
       (Ok (told t)) place (keys_inner t.key t.keys t.keys_fit) (λ p. keys_read t.key t.keys p t.keys_fit) (values_end t)
 
   -- ---- no space and no tab stands in a head
@@ -182,16 +207,21 @@ module _ (event : Name) where
   behind_seen None rest fits seen = seen
   behind_seen (Some variable) rest fits seen = seen_both (var_bytes variable) (58 ∷ rest) fits.inner seen
 
+  -- what events are made of has none
+  behind_size_seen : (onmatch : Option Action) → If (ActionFits event) onmatch → list_all is_seen (behind_size onmatch) ≡ true
+  behind_size_seen None made = refl
+  behind_size_seen (Some action) made = inner_seen (action_bytes action) made.inner
+
   -- the sort items' part has none
-  sort_seen : (t : Told) → list_all is_seen (sort_part (t.word ∷ t.words) t.size) ≡ true
+  sort_seen : (t : Told) → list_all is_seen (sort_part (t.word ∷ t.words) t.size t.onmatch) ≡ true
   sort_seen t =
-      seen_both (listed (map word_text (map directed (t.word ∷ t.words)))) (58 ∷ size_part t.size) (sorts_inner t.word t.words t.words_fit)
-      (inner_seen (decimal t.size) (bare_inner (decimal t.size) t.size_fits.bare))
+      seen_both (listed (map word_text (map directed (t.word ∷ t.words)))) (58 ∷ size_part t.size t.onmatch) (sorts_inner t.word t.words t.words_fit)
+      (seen_both (decimal t.size) (behind_size t.onmatch) (bare_inner (decimal t.size) t.size_fits.bare) (behind_size_seen t.onmatch t.onmatch_fits))
 
   -- a head has none
   pub body_seen : (t : Told) → list_all is_seen (body t) ≡ true
   body_seen t =
-      seen_both (listed (map key_text (t.key ∷ t.keys))) (58 ∷ (codes "vals=hitcount" ++ (more_items (map word_text (besides_hitcount t.values)) ++ 58 ∷ behind_values t.variable (sort_part (t.word ∷ t.words) t.size))))
+      seen_both (listed (map key_text (t.key ∷ t.keys))) (58 ∷ (codes "vals=hitcount" ++ (more_items (map word_text (besides_hitcount t.values)) ++ 58 ∷ behind_values t.variable (sort_part (t.word ∷ t.words) t.size t.onmatch))))
       (keys_inner t.key t.keys t.keys_fit)
-      (seen_both (more_items (map word_text (besides_hitcount t.values))) (58 ∷ behind_values t.variable (sort_part (t.word ∷ t.words) t.size)) (values_inner event t.values t.values_fit)
-      (behind_seen t.variable (sort_part (t.word ∷ t.words) t.size) t.variable_fits (sort_seen t)))
+      (seen_both (more_items (map word_text (besides_hitcount t.values))) (58 ∷ behind_values t.variable (sort_part (t.word ∷ t.words) t.size t.onmatch)) (values_inner event t.values t.values_fit)
+      (behind_seen t.variable (sort_part (t.word ∷ t.words) t.size t.onmatch) t.variable_fits (sort_seen t)))

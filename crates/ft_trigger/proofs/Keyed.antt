@@ -23,7 +23,7 @@ use Rattle.ft_trigger.proofs.Chains.{Steps, Again}
 use Rattle.ft_trigger.proofs.Inversions.{unless_parts, given_parts}
 use Rattle.ft_head.proofs.Numerals.{number_again, number_parts, decimal_bare}
 use Rattle.ft_head.proofs.Separators.{is_bare, names_bare, bare_free}
-use Rattle.ft_head.proofs.Spellings.{IsName, suffix_text, IsSuffix, word_text, word_name, word_again, bytes_same}
+use Rattle.ft_head.proofs.Spellings.{find_passes, IsName, suffix_text, IsSuffix, word_text, word_name, word_again, bytes_same}
 
 -- names that no key has
 abbrev unkept : List (List ℕ)
@@ -49,15 +49,6 @@ pub record KeyFits (event : Name) (keys : List KeyItem) (key : KeyItem) : Type 0
   pub owned : find (is_named event (text_of key.field)) all_fields ≡ Some key.field
   pub suited : ModeFits (is_text key.field) key.mode
   pub apart : is_key keys key.field ≡ false
-
--- what is found passes
-pub find_passes : {A : Type 0} (test : A → Bool) (xs : List A) (x : A) → find test xs ≡ Some x → test x ≡ true
-find_passes test [] x e = absurd cc
-find_passes test (y ∷ xs) x e = from (find_passes test xs x) (test y) refl e
-  where
-    from : (find test xs ≡ Some x → test x ≡ true) → (b : Bool) → test y ≡ b → cond b (Some y) (find test xs) ≡ Some x → test x ≡ true
-    from later true is e = subst (λ z. test z ≡ true) (same_Some y x e) is
-    from later false is e = later e
 
 -- what is found passes what all pass
 found_passes : {A : Type 0} (test all : A → Bool) (xs : List A) (x : A) → find test xs ≡ Some x → list_all all xs ≡ true → all x ≡ true

@@ -1,3 +1,4 @@
+mod Actions
 mod Chains
 mod Cutting
 mod Drafts

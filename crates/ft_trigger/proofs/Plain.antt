@@ -1,8 +1,8 @@
 -- The faults of a head are no filter's.
 use Rattle.std.proofs.Common.{◌≡◌, ℕ, ◌+◌, length, drop, Bool, true, false, List, [], ◌∷◌, Option, Some, None, Result, Ok, Err, refl, sym, ap, ◌∙◌, subst, rules, ◌⊎◌, inl, inr, ◌≢◌, true≢false}
 use Rattle.std.proofs.lemmas.Bool.{and_parts}
-use Rattle.std.specs.Prelude.{if◌then◌else◌}
-use Rattle.std.specs.List.{list_all}
+use Rattle.std.specs.Prelude.{if◌then◌else◌, codes, ◌==◌}
+use Rattle.std.specs.List.{list_all, starts_with}
 use Rattle.std.specs.Option.{option_map_or}
 use Rattle.ft_fields.specs.declared.event.Name.{Name}
 use Rattle.ft_fields.specs.declared.field.Field.{Field}
@@ -14,8 +14,9 @@ use Rattle.ft_head.specs.declared.draft.Kind.{Kind}
 use Rattle.ft_head.specs.declared.draft.Kind.TheVariants.{Keys, Values, Sort, Size}
 use Rattle.ft_hist.specs.declared.item.KeyItem.{KeyItem}
 use Rattle.ft_hist.specs.declared.item.Item.{Item}
+use Rattle.ft_head.specs.Onmatch.{Handed}
 use Rattle.ft_head.specs.Words.{Piece, Word, word_of}
-use Rattle.ft_head.specs.Draft.{Draft, unless, given_or, ◌>>=◌, items_from, with_field, with_key, with_value, with_sort, with_kind, with_named, with_variable, with_part, parts_from}
+use Rattle.ft_head.specs.Draft.{Draft, unless, given_or, ◌>>=◌, items_from, with_field, with_key, with_value, with_sort, with_kind, with_named, with_variable, number_field, action_of, with_handed, with_onmatch, with_other, with_part, parts_from}
 use Rattle.ft_trigger.specs.TriggerIs.{value_items, sorts_of, sort_of}
 
 -- the fault is no filter's
@@ -102,10 +103,33 @@ variable_plain : (event : Name) (draft : Draft) (part : Piece) → Plain (with_v
 unfolding with_variable
 variable_plain event draft part = search (rules, unless_plain, given_plain, with_named_plain)
 
--- a part of a kind, or a variable's
-or_kind : (event : Name) (draft : Draft) (part : Piece) (label : Option (List ℕ × Kind)) → Plain (option_map_or (λ label. with_kind event draft label.1 (part.place + length label.0) (drop (length label.0) part.bytes)) label (with_variable event draft part))
+-- fields that are handed on
+number_plain : (event : Name) (name : List ℕ) → Plain (number_field event name)
+number_plain event name = search (rules, unless_plain, given_plain)
+
+-- what events are made of
+action_plain : (event : Name) (words : Handed) → Plain (action_of event words)
+action_plain event words = search (rules, then_plain, number_plain)
+
+handed_plain : (event : Name) (draft : Draft) (words : Handed) → Plain (with_handed event draft words)
+handed_plain event draft words = search (rules, unless_plain, then_plain, action_plain)
+
+onmatch_plain : (event : Name) (draft : Draft) (part : Piece) → Plain (with_onmatch event draft part)
+unfolding with_onmatch
+onmatch_plain event draft part = search (rules, unless_plain, given_plain, handed_plain)
+
+-- a part of no kind
+other_plain : (event : Name) (draft : Draft) (part : Piece) → Plain (with_other event draft part)
+other_plain event draft part = from (starts_with ◌==◌ part.bytes (codes "onmatch("))
+  where
+    from : (b : Bool) → Plain (if b then with_onmatch event draft part else with_variable event draft part)
+    from true = onmatch_plain event draft part
+    from false = variable_plain event draft part
+
+-- a part of a kind, or another
+or_kind : (event : Name) (draft : Draft) (part : Piece) (label : Option (List ℕ × Kind)) → Plain (option_map_or (λ label. with_kind event draft label.1 (part.place + length label.0) (drop (length label.0) part.bytes)) label (with_other event draft part))
 or_kind event draft part (Some label) = kind_plain event draft label.1 _ _
-or_kind event draft part None = variable_plain event draft part
+or_kind event draft part None = other_plain event draft part
 
 -- a part of either sort
 part_plain : (event : Name) (draft : Draft) (part : Piece) → Plain (with_part event draft part)

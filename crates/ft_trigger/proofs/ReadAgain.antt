@@ -1,34 +1,37 @@
 -- The canonical text of a trigger that is read is read as that trigger.
 use Rattle.std.proofs.Common.{◌≡◌, ◌-◌, ℕ, true, not, List, [], ◌∷◌, ◌++◌, map, length, take, drop, Option, Some, None, Result, Ok, refl, sym, ap, ◌∙◌, subst, codes, decimal, append_assoc, ◌==◌}
+use Rattle.std.proofs.lemmas.Bool.{not-false}
 use Rattle.std.proofs.Math.Seq.{take-append_seam, drop-append_seam}
 use Rattle.std.proofs.lemmas.Option.{same_Some}
-use Rattle.std.specs.Prelude.{reverse, unwrap_or}
+use Rattle.std.specs.Prelude.{false, option_map, reverse, unwrap_or}
 use Rattle.std.specs.List.{prefix_len, list_all, starts_with}
+use Rattle.std.specs.Str.{bytes_eq}
 use Rattle.ft_fields.specs.declared.event.Name.{Name}
 use Rattle.ft_filter.specs.Tree.{Tree}
 use Rattle.ft_tokens.specs.Tokens.{skip}
 use Rattle.ft_head.specs.declared.fault.TriggerFault.{TriggerFault}
-use Rattle.ft_head.specs.declared.fault.TriggerFault.TheVariants.{Syntax}
+use Rattle.ft_head.specs.declared.fault.TriggerFault.TheVariants.{Syntax, NoField}
 use Rattle.ft_hist.specs.declared.item.KeyItem.{KeyItem}
 use Rattle.ft_hist.specs.declared.item.Item.{Item}
 use Rattle.ft_hist.specs.declared.item.SortItem.{SortItem}
 use Rattle.ft_hist.specs.declared.label.Var.{Var}
 use Rattle.ft_hist.specs.declared.label.Var.TheVariants as vars
-use Rattle.ft_hist.specs.Canonical.{listed, more_items, key_text, variable_text, if_text, canonical}
+use Rattle.ft_hist.specs.Canonical.{listed, more_items, key_text, name_of, variable_text, onmatch_part, onmatch_text, if_text, canonical}
 use Rattle.ft_head.specs.Draft.{Draft, blank, ◌>>=◌, unless, besides_hitcount, parts_from}
 use Rattle.ft_hist.specs.Hist.{Hist, with_filter}
-use Rattle.ft_trigger.specs.TriggerIs.{head_len, behind_head, tail_of, own_name, value_items, sort_by, sorts_of, by_hits, sort_of, filter_in, finished, trigger_of}
+use Rattle.ft_trigger.specs.TriggerIs.{head_len, behind_head, tail_of, own_name, value_items, sort_by, sorts_of, by_hits, sort_of, hands_other, sort_in, filter_in, finished, trigger_of}
+use Rattle.ft_head.specs.Onmatch.{Action}
 use Rattle.ft_head.specs.Words.{pieces, Word}
 use Rattle.ft_trigger.proofs.Chains.{Chain}
 use Rattle.ft_trigger.proofs.Drafts.{Listed, If, DraftFits, draft_fits}
-use Rattle.ft_trigger.proofs.Heads.{Told, behind_values, body, whole, told, head_again, body_seen}
-use Rattle.ft_trigger.proofs.Inversions.{then_parts, given_parts}
+use Rattle.ft_trigger.proofs.Heads.{Told, behind_values, behind_size, body, whole, told, head_again, body_seen}
+use Rattle.ft_trigger.proofs.Inversions.{then_parts, unless_parts, given_parts}
 use Rattle.ft_trigger.proofs.Keyed.{KeyFits}
 use Rattle.ft_head.proofs.Numerals.{SizeFits, default_fits}
 use Rattle.ft_trigger.proofs.ReadSo.{read_so}
 use Rattle.ft_head.proofs.Separators.{is_seen}
 use Rattle.ft_trigger.proofs.Sorted.{SortFits, directed, sorts_spelled, sorts_directed}
-use Rattle.ft_head.proofs.Spellings.{run_front, word_text}
+use Rattle.ft_head.proofs.Spellings.{bytes_same, run_front, word_text}
 use Rattle.ft_trigger.proofs.Tails.{FilterLaws, TreeFits, trimmed, if_gap, filter_again, filter_fits}
 use Rattle.ft_trigger.proofs.Valued.{ValueFits, hits, values_spelled, others_fit, besides_twice}
 
@@ -62,7 +65,7 @@ cut_again event behind tail draft answer seen gap parts ends = ap by_len len ∙
 
 -- a trigger, from what was read of its head and what that stands for
 abbrev pub made : Name → Draft → List KeyItem → List Item → List SortItem → Option Tree → Hist
-made event draft keys values sort filter = record { event = event; keys = keys; values = values; sort = sort; variable = draft.variable; size = unwrap_or draft.size 2048; filter = filter }
+made event draft keys values sort filter = record { event = event; keys = keys; values = values; sort = sort; variable = draft.variable; size = unwrap_or draft.size 2048; onmatch = option_map (λ action. action.onmatch) draft.onmatch; filter = filter }
 
 -- how a trigger was made of what was read of its head
 pub record Made (event : Name) (draft : Draft) (hist : Hist) : Type 0 where
@@ -72,6 +75,7 @@ pub record Made (event : Name) (draft : Draft) (hist : Hist) : Type 0 where
   pub filter : Option Tree
   pub keys_are : draft.keys ≡ Some keys
   pub values_are : value_items event (own_name draft.variable) (besides_hitcount (unwrap_or draft.values [])) ≡ Ok values
+  pub owned : hands_other draft.variable draft.onmatch ≡ false
   pub sort_is : sort_of keys values (own_name draft.variable) draft.sort ≡ Ok sort
   pub filter_fits : If (TreeFits event) filter
   pub is : made event draft keys values sort filter ≡ hist
@@ -82,7 +86,7 @@ behind_sort event place tail draft keys values sort = filter_in event place tail
 
 -- behind the values
 abbrev behind_items : Name → ℕ → List ℕ → Draft → List KeyItem → List Item → Result Hist TriggerFault
-behind_items event place tail draft keys values = sort_of keys values (own_name draft.variable) draft.sort >>= behind_sort event place tail draft keys values
+behind_items event place tail draft keys values = sort_in draft keys values >>= behind_sort event place tail draft keys values
 
 -- behind the keys
 abbrev behind_keys : Name → ℕ → List ℕ → Draft → List KeyItem → Result Hist TriggerFault
@@ -94,7 +98,8 @@ unfolding finished
 made_so event head place tail draft hist e =
     let keys = given_parts (Syntax head) draft.keys (behind_keys event place tail draft) hist e in
     let values = then_parts (value_items event (own_name draft.variable) (besides_hitcount (unwrap_or draft.values []))) (behind_items event place tail draft keys.0) hist keys.2 in
-    let sort = then_parts (sort_of keys.0 values.0 (own_name draft.variable) draft.sort) (behind_sort event place tail draft keys.0 values.0) hist values.2 in
+    let sort = then_parts (sort_in draft keys.0 values.0) (behind_sort event place tail draft keys.0 values.0) hist values.2 in
+    let owned = unless_parts (hands_other draft.variable draft.onmatch) NoField [] (sort_of keys.0 values.0 (own_name draft.variable) draft.sort) sort.0 sort.1 in
     let filter = then_parts (filter_in event place tail) (λ filter. Ok (made event draft keys.0 values.0 sort.0 filter)) hist sort.2 in
     record {
       keys = keys.0;
@@ -103,7 +108,8 @@ made_so event head place tail draft hist e =
       filter = filter.0;
       keys_are = keys.1;
       values_are = values.1;
-      sort_is = sort.1;
+      owned = owned.0;
+      sort_is = owned.1;
       filter_fits = filter_fits event place tail filter.0 filter.1;
       is = (let done = filter.2 in cc);
     }
@@ -112,13 +118,13 @@ made_so event head place tail draft hist e =
 
 -- a trigger that is written
 abbrev hist_of : (event : Name) → Told event → List Item → List SortItem → Option Tree → Hist
-hist_of event t values sort filter = record { event = event; keys = t.key ∷ t.keys; values = values; sort = sort; variable = t.variable; size = t.size; filter = filter }
+hist_of event t values sort filter = record { event = event; keys = t.key ∷ t.keys; values = values; sort = sort; variable = t.variable; size = t.size; onmatch = option_map (λ action. action.onmatch) t.onmatch; filter = filter }
 
 -- the parts of a text, grouped to the right
-to_right : (k v m s d f : List ℕ)
-    → codes "hist:keys=" ++ k ++ codes ":vals=hitcount" ++ v ++ m ++ codes ":sort=" ++ s ++ codes ":size=" ++ d ++ f
-    ≡ codes "hist:" ++ (codes "keys=" ++ (k ++ 58 ∷ (codes "vals=hitcount" ++ (v ++ (m ++ 58 ∷ (codes "sort=" ++ (s ++ 58 ∷ (codes "size=" ++ d)))))))) ++ f
-to_right k v m s d f = simp append_assoc
+to_right : (k v m s d w f : List ℕ)
+    → codes "hist:keys=" ++ k ++ codes ":vals=hitcount" ++ v ++ m ++ codes ":sort=" ++ s ++ codes ":size=" ++ d ++ w ++ f
+    ≡ codes "hist:" ++ (codes "keys=" ++ (k ++ 58 ∷ (codes "vals=hitcount" ++ (v ++ (m ++ 58 ∷ (codes "sort=" ++ (s ++ 58 ∷ (codes "size=" ++ (d ++ w))))))))) ++ f
+to_right k v m s d w f = simp append_assoc
 
 -- a variable's part and what is behind it
 variable_spelled : (variable : Option Var) (rest : List ℕ) → variable_text variable ++ 58 ∷ rest ≡ 58 ∷ behind_values variable rest
@@ -126,42 +132,55 @@ variable_spelled None rest = refl
 variable_spelled (Some (vars.Saves name)) rest = refl
 variable_spelled (Some (vars.Reads own source)) rest = refl
 
+-- the variable that is handed on has the trigger's own name
+own_handed : (variable : Option Var) (action : Action) → hands_other variable (Some action) ≡ false → action.own ≡ name_of variable
+own_handed None action h = absurd cc
+own_handed (Some (vars.Saves name)) action h = absurd cc
+own_handed (Some (vars.Reads own source)) action h = bytes_same action.own own (not-false (bytes_eq action.own own) h)
+
+-- what events are made of
+onmatch_spelled : (variable : Option Var) (onmatch : Option Action) → hands_other variable onmatch ≡ false → onmatch_text variable (option_map (λ action. action.onmatch) onmatch) ≡ behind_size onmatch
+onmatch_spelled variable None h = refl
+onmatch_spelled variable (Some action) h = ap (λ (t : List ℕ). codes ":" ++ onmatch_part t action.onmatch) (sym (own_handed variable action h))
+
 -- the parts of a text, grouped as they are read
-grouped : (k v s d f : List ℕ) (variable : Option Var)
-    → codes "hist:keys=" ++ k ++ codes ":vals=hitcount" ++ v ++ variable_text variable ++ codes ":sort=" ++ s ++ codes ":size=" ++ d ++ f
-    ≡ codes "hist:" ++ (codes "keys=" ++ (k ++ 58 ∷ (codes "vals=hitcount" ++ (v ++ 58 ∷ behind_values variable (codes "sort=" ++ (s ++ 58 ∷ (codes "size=" ++ d))))))) ++ f
-grouped k v s d f variable =
-    to_right k v (variable_text variable) s d f
-    ∙ ap (λ (t : List ℕ). codes "hist:" ++ (codes "keys=" ++ (k ++ 58 ∷ (codes "vals=hitcount" ++ (v ++ t)))) ++ f) (variable_spelled variable (codes "sort=" ++ (s ++ 58 ∷ (codes "size=" ++ d))))
+grouped : (k v s d f : List ℕ) (variable : Option Var) (onmatch : Option Action) → hands_other variable onmatch ≡ false
+    → codes "hist:keys=" ++ k ++ codes ":vals=hitcount" ++ v ++ variable_text variable ++ codes ":sort=" ++ s ++ codes ":size=" ++ d ++ onmatch_text variable (option_map (λ action. action.onmatch) onmatch) ++ f
+    ≡ codes "hist:" ++ (codes "keys=" ++ (k ++ 58 ∷ (codes "vals=hitcount" ++ (v ++ 58 ∷ behind_values variable (codes "sort=" ++ (s ++ 58 ∷ (codes "size=" ++ (d ++ behind_size onmatch)))))))) ++ f
+grouped k v s d f variable onmatch owned =
+    ap (λ (w : List ℕ). codes "hist:keys=" ++ k ++ codes ":vals=hitcount" ++ v ++ variable_text variable ++ codes ":sort=" ++ s ++ codes ":size=" ++ d ++ w ++ f) (onmatch_spelled variable onmatch owned)
+    ∙ to_right k v (variable_text variable) s d (behind_size onmatch) f
+    ∙ ap (λ (t : List ℕ). codes "hist:" ++ (codes "keys=" ++ (k ++ 58 ∷ (codes "vals=hitcount" ++ (v ++ t)))) ++ f) (variable_spelled variable (codes "sort=" ++ (s ++ 58 ∷ (codes "size=" ++ (d ++ behind_size onmatch)))))
 
 -- a canonical text is made of what is read
-spelled : (event : Name) (t : Told event) (values : List Item) (sort : List SortItem) (filter : Option Tree)
+spelled : (event : Name) (t : Told event) (values : List Item) (sort : List SortItem) (filter : Option Tree) → hands_other t.variable t.onmatch ≡ false
     → value_items event (own_name t.variable) (besides_hitcount t.values) ≡ Ok values → sorts_of (t.key ∷ t.keys) values (own_name t.variable) (t.word ∷ t.words) ≡ Ok sort
     → canonical (hist_of event t values sort filter) ≡ codes "hist:" ++ body event t ++ if_text filter
 unfolding canonical
-spelled event t values sort filter values_are sort_is =
+spelled event t values sort filter owned values_are sort_is =
     let vals = values_spelled event t.variable (besides_hitcount t.values) (hits ∷ []) values (others_fit event t.values [] t.values_fit) values_are in
     let sorts = sorts_spelled (hist_of event t values sort filter) (t.word ∷ t.words) sort sort_is in
-    rw (vals, sorts) (grouped (listed (map key_text (t.key ∷ t.keys))) (more_items (map word_text (besides_hitcount t.values))) (listed (map word_text (map directed (t.word ∷ t.words)))) (decimal t.size) (if_text filter) t.variable)
+    rw (vals, sorts) (grouped (listed (map key_text (t.key ∷ t.keys))) (more_items (map word_text (besides_hitcount t.values))) (listed (map word_text (map directed (t.word ∷ t.words)))) (decimal t.size) (if_text filter) t.variable t.onmatch owned)
 
 -- a draft whose steps are known is a trigger
-finish_step : (event : Name) (head place : ℕ) (tail : List ℕ) (keys : List KeyItem) (words order : List Word) (variable : Option Var) (size : ℕ) (values : List Item) (sort : List SortItem) (filter : Option Tree)
-    → value_items event (own_name variable) (besides_hitcount words) ≡ Ok values → sorts_of keys values (own_name variable) order ≡ Ok sort → filter_in event place tail ≡ Ok filter
-    → finished event head place tail (whole keys words variable order size) ≡ Ok (record { event = event; keys = keys; values = values; sort = sort; variable = variable; size = size; filter = filter })
+finish_step : (event : Name) (head place : ℕ) (tail : List ℕ) (keys : List KeyItem) (words order : List Word) (variable : Option Var) (size : ℕ) (onmatch : Option Action) (values : List Item) (sort : List SortItem) (filter : Option Tree)
+    → hands_other variable onmatch ≡ false → value_items event (own_name variable) (besides_hitcount words) ≡ Ok values → sorts_of keys values (own_name variable) order ≡ Ok sort → filter_in event place tail ≡ Ok filter
+    → finished event head place tail (whole keys words variable order size onmatch)
+    ≡ Ok (record { event = event; keys = keys; values = values; sort = sort; variable = variable; size = size; onmatch = option_map (λ action. action.onmatch) onmatch; filter = filter })
 unfolding finished
-finish_step event head place tail keys words order variable size values sort filter values_are sort_is filter_is = rw (values_are, sort_is, filter_is) refl
+finish_step event head place tail keys words order variable size onmatch values sort filter owned values_are sort_is filter_is = rw (values_are, owned, sort_is, filter_is) refl
 
 module _ (laws : FilterLaws) (event : Name) where
   -- a trigger that is written is read
-  written_again : (t : Told event) (values : List Item) (sort : List SortItem) (filter : Option Tree)
+  written_again : (t : Told event) (values : List Item) (sort : List SortItem) (filter : Option Tree) → hands_other t.variable t.onmatch ≡ false
       → value_items event (own_name t.variable) (besides_hitcount t.values) ≡ Ok values → sorts_of (t.key ∷ t.keys) values (own_name t.variable) (t.word ∷ t.words) ≡ Ok sort → If (TreeFits event) filter
       → trigger_of event (canonical (hist_of event t values sort filter)) ≡ Ok (hist_of event t values sort filter)
-  written_again t values sort filter values_are sort_is fits =
+  written_again t values sort filter owned values_are sort_is fits =
       let once : value_items event (own_name t.variable) (besides_hitcount (hits ∷ besides_hitcount t.values)) ≡ Ok values = ap (value_items event (own_name t.variable)) (besides_twice t.values) ∙ values_are in
       let way : sorts_of (t.key ∷ t.keys) values (own_name t.variable) (map directed (t.word ∷ t.words)) ≡ Ok sort = sorts_directed (t.key ∷ t.keys) values (own_name t.variable) (t.word ∷ t.words) ∙ sort_is in
-      ap (trigger_of event) (spelled event t values sort filter values_are sort_is)
+      ap (trigger_of event) (spelled event t values sort filter owned values_are sort_is)
       ∙ cut_again event (body event t) (if_text filter) (told event t) (Ok (hist_of event t values sort filter)) (body_seen event t) (if_gap filter) (head_again event t 5)
-      (λ head place. finish_step event head place (trimmed (if_text filter)) (t.key ∷ t.keys) (hits ∷ besides_hitcount t.values) (map directed (t.word ∷ t.words)) t.variable t.size values sort filter once way
+      (λ head place. finish_step event head place (trimmed (if_text filter)) (t.key ∷ t.keys) (hits ∷ besides_hitcount t.values) (map directed (t.word ∷ t.words)) t.variable t.size t.onmatch values sort filter owned once way
       (filter_again laws event place filter fits))
 
 -- ---- what is read can be written
@@ -221,9 +240,11 @@ made_again laws event draft hist h m =
       words_fit = order.chain;
       size_fits = size_of_draft draft.size h.size;
       variable_fits = h.variable;
+      onmatch = draft.onmatch;
+      onmatch_fits = h.onmatch;
     } in
     let way = ap (λ (k : List KeyItem). sorts_of k m.values (own_name draft.variable) (order.word ∷ order.words)) (sym keys.is) ∙ order.is in
-    let written = written_again laws event t m.values m.sort m.filter m.values_are way m.filter_fits in
+    let written = written_again laws event t m.values m.sort m.filter m.owned m.values_are way m.filter_fits in
     let same : hist_of event t m.values m.sort m.filter ≡ hist = ap (λ (k : List KeyItem). made event draft k m.values m.sort m.filter) (sym keys.is) ∙ m.is in
     subst (λ (x : Hist). trigger_of event (canonical x) ≡ Ok x) same written
 
@@ -236,6 +257,7 @@ refiltered event draft hist filter fits m = record {
   filter = filter;
   keys_are = m.keys_are;
   values_are = m.values_are;
+  owned = m.owned;
   sort_is = m.sort_is;
   filter_fits = fits;
   is = ap (λ (h : Hist). with_filter h filter) m.is;

@@ -20,7 +20,7 @@ use Rattle.ft_head.specs.declared.fault.TriggerFault.{TriggerFault}
 use Rattle.ft_head.specs.declared.fault.TriggerFault.TheVariants.{Syntax}
 use Rattle.ft_head.specs.Draft.{Draft, blank, ◌>>=◌, unless, given_or, besides_hitcount, parts_from}
 use Rattle.ft_trigger.specs.Shape.{Opens, IsCut, IsIf, TailIs, nothing, filtered, unread, other, with_tail, IsShaped}
-use Rattle.ft_trigger.specs.TriggerIs.{head_len, behind_head, tail_of, behind_if, filter_or_fault, filter_in, own_name, value_items, sort_of, finished, trigger_of}
+use Rattle.ft_trigger.specs.TriggerIs.{head_len, behind_head, tail_of, behind_if, filter_or_fault, filter_in, own_name, value_items, sort_in, finished, trigger_of}
 use Rattle.ft_head.specs.Words.{pieces}
 use Rattle.ft_trigger.proofs.Halves.{Known, known, cut_of, skip_opens, skip_some, skip_blank}
 use Rattle.ft_trigger.proofs.Inversions.{then_parts, unless_parts}
@@ -35,7 +35,7 @@ abbrev pub make_of : Name → ℕ → Draft → Result Hist TriggerFault
 make_of event head draft =
     given_or (Syntax head) draft.keys (λ keys.
     value_items event (own_name draft.variable) (besides_hitcount (unwrap_or draft.values [])) >>= (λ values.
-    sort_of keys values (own_name draft.variable) draft.sort >>= (λ sort.
+    sort_in draft keys values >>= (λ sort.
     Ok (made event draft keys values sort None))))
 
 -- a trigger with a filter, or the filter's fault
@@ -51,15 +51,15 @@ module _ (event : Name) (draft : Draft) (filter : Result (Option Tree) TriggerFa
 
   -- behind the values
   made_values : (keys : List KeyItem) (values : Result (List Item) TriggerFault)
-      → (values >>= (λ values. sort_of keys values (own_name draft.variable) draft.sort >>= (λ sort. filter >>= (λ filter. Ok (made event draft keys values sort filter)))))
-      ≡ ((values >>= (λ values. sort_of keys values (own_name draft.variable) draft.sort >>= (λ sort. Ok (made event draft keys values sort None)))) >>= with_made filter)
-  made_values keys (Ok values) = made_sort keys values (sort_of keys values (own_name draft.variable) draft.sort)
+      → (values >>= (λ values. sort_in draft keys values >>= (λ sort. filter >>= (λ filter. Ok (made event draft keys values sort filter)))))
+      ≡ ((values >>= (λ values. sort_in draft keys values >>= (λ sort. Ok (made event draft keys values sort None)))) >>= with_made filter)
+  made_values keys (Ok values) = made_sort keys values (sort_in draft keys values)
   made_values keys (Err fault) = refl
 
   -- behind the keys
   made_keys : (head : ℕ) (keys : Option (List KeyItem))
-      → given_or (Syntax head) keys (λ keys. value_items event (own_name draft.variable) (besides_hitcount (unwrap_or draft.values [])) >>= (λ values. sort_of keys values (own_name draft.variable) draft.sort >>= (λ sort. filter >>= (λ filter. Ok (made event draft keys values sort filter)))))
-      ≡ (given_or (Syntax head) keys (λ keys. value_items event (own_name draft.variable) (besides_hitcount (unwrap_or draft.values [])) >>= (λ values. sort_of keys values (own_name draft.variable) draft.sort >>= (λ sort. Ok (made event draft keys values sort None)))) >>= with_made filter)
+      → given_or (Syntax head) keys (λ keys. value_items event (own_name draft.variable) (besides_hitcount (unwrap_or draft.values [])) >>= (λ values. sort_in draft keys values >>= (λ sort. filter >>= (λ filter. Ok (made event draft keys values sort filter)))))
+      ≡ (given_or (Syntax head) keys (λ keys. value_items event (own_name draft.variable) (besides_hitcount (unwrap_or draft.values [])) >>= (λ values. sort_in draft keys values >>= (λ sort. Ok (made event draft keys values sort None)))) >>= with_made filter)
   made_keys head (Some keys) = made_values keys (value_items event (own_name draft.variable) (besides_hitcount (unwrap_or draft.values [])))
   made_keys head None = refl
 

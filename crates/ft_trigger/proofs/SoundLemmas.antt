@@ -1,12 +1,13 @@
 -- A trigger that some text gives has items that are its event's.
-use Rattle.std.proofs.Common.{◌≡◌, ◌||◌, ℕ, Bool, true, false, not, List, [], ◌∷◌, ◌++◌, length, drop, take, Option, Some, None, option_map, Result, Ok, refl, sym, ap, subst, arith, codes, find, cond, ◌==◌, ◌-◌}
+use Rattle.std.proofs.Common.{◌≡◌, ◌||◌, ◌&&◌, ℕ, Bool, true, false, not, List, [], ◌∷◌, ◌++◌, length, drop, take, Option, Some, None, option_map, Result, Ok, refl, sym, ap, subst, arith, codes, find, cond, ◌==◌, ◌-◌}
 use Rattle.std.proofs.lemmas.Bool.{and_parts, and_from, lt-ltb}
 use Rattle.std.proofs.lemmas.Option.{same_Some, slice_get_within, cond_some}
 use Rattle.std.specs.Prelude.{unwrap_or, if◌then◌else◌}
 use Rattle.std.specs.List.{list_all, starts_with}
-use Rattle.std.specs.Option.{option_map_or}
+use Rattle.std.specs.Option.{is_some, option_map_or}
 use Rattle.std.specs.Str.{bytes_eq}
 use Rattle.ft_fields.specs.declared.event.Name.{Name}
+use Rattle.ft_fields.specs.declared.event.Name.TheVariants as names
 use Rattle.ft_fields.specs.declared.field.Field.{Field}
 use Rattle.ft_fields.specs.Fields.{is_named, all_fields, is_text, text_of, has_field}
 use Rattle.ft_head.specs.declared.fault.TriggerFault.{TriggerFault}
@@ -20,20 +21,25 @@ use Rattle.ft_hist.specs.declared.item.SortItem.{SortItem}
 use Rattle.ft_hist.specs.declared.label.Var.{Var}
 use Rattle.ft_hist.specs.declared.label.Var.TheVariants as vars
 use Rattle.ft_head.specs.Draft.{Draft, blank, ◌>>=◌, is_word, besides_hitcount, value_fault, parts_from}
-use Rattle.ft_hist.specs.Hist.{Hist}
+use Rattle.ft_hist.specs.Hist.{Hist, with_onmatch}
 use Rattle.ft_filter.specs.Tree.{Tree}
-use Rattle.ft_hist.specs.Sound.{key_suits, value_suits, by_suits, IsSound}
-use Rattle.ft_trigger.specs.TriggerIs.{own_name, value_item, value_items, index_where, names_value, sort_by, is_descending, sorts_of, by_hits, sort_of, head_len, behind_head, tail_of, filter_in, finished, trigger_of}
+use Rattle.ft_hist.specs.declared.onmatch.Onmatch.{Onmatch}
+use Rattle.ft_hist.specs.Hit.{same_name}
+use Rattle.ft_hist.specs.Sound.{key_suits, value_suits, by_suits, is_reader, onmatch_suits, IsSound}
+use Rattle.ft_trigger.specs.TriggerIs.{own_name, value_item, value_items, index_where, names_value, sort_by, is_descending, sorts_of, by_hits, sort_of, hands_other, head_len, behind_head, tail_of, filter_in, finished, trigger_of}
+use Rattle.ft_head.specs.Onmatch.{Action}
 use Rattle.ft_head.specs.Words.{Word, pieces}
+use Rattle.ft_trigger.proofs.Actions.{ActionFits}
 use Rattle.ft_trigger.proofs.Chains.{Chain}
 use Rattle.ft_trigger.proofs.Inversions.{then_parts, given_parts}
-use Rattle.ft_trigger.proofs.Drafts.{DraftFits, draft_fits}
+use Rattle.ft_trigger.proofs.Drafts.{If, DraftFits, draft_fits}
 use Rattle.ft_trigger.proofs.ReadAgain.{Made, made_so, keys_of, words_of}
-use Rattle.ft_trigger.proofs.Keyed.{KeyFits, find_passes}
+use Rattle.ft_trigger.proofs.Keyed.{KeyFits}
 use Rattle.ft_trigger.proofs.ReadSo.{read_so}
 use Rattle.ft_trigger.proofs.Sorted.{index_parts}
-use Rattle.ft_head.proofs.Spellings.{bytes_same}
+use Rattle.ft_head.proofs.Spellings.{find_passes, bytes_same}
 use Rattle.ft_trigger.proofs.Valued.{ValueFits, hits, others_fit}
+use Rattle.ft_trigger.proofs.Variables.{VarFits}
 
 -- ---- keys
 
@@ -150,6 +156,38 @@ order_sound : (keys : List KeyItem) (values : List Item) (own : Option (List ℕ
 order_sound keys values own None sort e = let same : by_hits ≡ sort = cc in subst (λ (l : List SortItem). list_all (λ item. by_suits (length keys) (length values) item.what) l ≡ true) same refl
 order_sound keys values own (Some words) sort e = sorts_sound keys values own words sort e
 
+-- a variable that is handed on reads a stamp
+handed_measured : (variable : Option Var) (action : Action) → hands_other variable (Some action) ≡ false → is_reader variable ≡ true
+handed_measured None action h = absurd cc
+handed_measured (Some (vars.Saves name)) action h = absurd cc
+handed_measured (Some (vars.Reads own source)) action h = refl
+
+-- what events are made of suits the trigger
+onmatch_sound : (event : Name) (variable : Option Var) (onmatch : Option Action) → If (ActionFits event) onmatch → hands_other variable onmatch ≡ false
+    → option_map_or (onmatch_suits event variable) (option_map (λ action. action.onmatch) onmatch) true ≡ true
+onmatch_sound event variable None fits owned = refl
+onmatch_sound event variable (Some action) fits owned = and_from _ _ (handed_measured variable action owned) (and_from _ _ fits.traced (and_from _ _ fits.pid fits.prio))
+
+-- on the event that triggers make there is neither
+last_sound : (event : Name) (variable : Option Var) (onmatch : Option Action) → If (VarFits event) variable → If (ActionFits event) onmatch
+    → (not (same_name event names.WakeupLatency) || (not (is_some variable) && not (is_some (option_map (λ action. action.onmatch) onmatch)))) ≡ true
+last_sound event None None var made = from (same_name event names.WakeupLatency)
+  where
+    from : (b : Bool) → (not b || true) ≡ true
+    from true = refl
+    from false = refl
+last_sound event (Some variable) onmatch var made = ap (λ b. not b || (false && not (is_some (option_map (λ action. action.onmatch) onmatch)))) var.apart_made
+last_sound event None (Some action) var made = ap (λ b. not b || (true && false)) made.apart_made
+
+-- a trigger that makes no events is sound where it is with them
+pub bare_sound : (hist : Hist) → IsSound hist → IsSound (with_onmatch hist None)
+bare_sound hist h = record { keys = h.keys; values = h.values; sort = h.sort; onmatch = refl; last = from (same_name hist.event names.WakeupLatency) (is_some hist.variable) (is_some hist.onmatch) h.last }
+  where
+    from : (b x y : Bool) → (not b || (not x && not y)) ≡ true → (not b || (not x && true)) ≡ true
+    from false x y e = refl
+    from true false y e = refl
+    from true true y e = absurd cc
+
 -- a trigger that was made of what can be read again
 made_sound : (event : Name) (draft : Draft) (hist : Hist) → DraftFits event draft → Made event draft hist → IsSound hist
 made_sound event draft hist h m =
@@ -158,6 +196,8 @@ made_sound event draft hist h m =
       keys = subst (λ (l : List KeyItem). list_all (key_suits event) l ≡ true) (sym keys.is) (keys_sound event (keys.first ∷ keys.more) [] keys.chain);
       values = values_sound event draft.variable (besides_hitcount (unwrap_or draft.values [])) (hits ∷ []) m.values (others_fit event (unwrap_or draft.values []) [] (words_of event draft.values h.values)) m.values_are;
       sort = order_sound m.keys m.values (own_name draft.variable) draft.sort m.sort m.sort_is;
+      onmatch = onmatch_sound event draft.variable draft.onmatch h.onmatch m.owned;
+      last = last_sound event draft.variable draft.onmatch h.variable h.onmatch;
     })
 
 -- a trigger that some text gives is sound
@@ -168,11 +208,11 @@ sound event text hist e =
     (made_so event (head_len text) (length text - length (behind_head text)) (tail_of text) read.draft hist read.ends)
 
 -- a draft whose steps are known is a trigger
-pub finished_is : (event : Name) (head place : ℕ) (tail : List ℕ) (draft : Draft) (keys : List KeyItem) (values : List Item) (sort : List SortItem) (size : ℕ) (filter : Option Tree)
-    → draft.keys ≡ Some keys → value_items event (own_name draft.variable) (besides_hitcount (unwrap_or draft.values [])) ≡ Ok values → sort_of keys values (own_name draft.variable) draft.sort ≡ Ok sort → filter_in event place tail ≡ Ok filter → unwrap_or draft.size 2048 ≡ size
-    → finished event head place tail draft ≡ Ok (record { event = event; keys = keys; values = values; sort = sort; variable = draft.variable; size = size; filter = filter })
+pub finished_is : (event : Name) (head place : ℕ) (tail : List ℕ) (draft : Draft) (keys : List KeyItem) (values : List Item) (sort : List SortItem) (size : ℕ) (onmatch : Option Onmatch) (filter : Option Tree)
+    → hands_other draft.variable draft.onmatch ≡ false → draft.keys ≡ Some keys → value_items event (own_name draft.variable) (besides_hitcount (unwrap_or draft.values [])) ≡ Ok values → sort_of keys values (own_name draft.variable) draft.sort ≡ Ok sort → filter_in event place tail ≡ Ok filter → unwrap_or draft.size 2048 ≡ size → option_map (λ action. action.onmatch) draft.onmatch ≡ onmatch
+    → finished event head place tail draft ≡ Ok (record { event = event; keys = keys; values = values; sort = sort; variable = draft.variable; size = size; onmatch = onmatch; filter = filter })
 unfolding finished
-finished_is event head place tail draft keys values sort size filter k v s f z = rw (k, v, s, f, z) refl
+finished_is event head place tail draft keys values sort size onmatch filter o k v s f z m = rw (k, v, o, s, f, z, m) refl
 
 -- what a text's parts and tail are made of is sound
 pub finished_sound : (event : Name) (text front behind tail : List ℕ) (place : ℕ) (draft : Draft) (hist : Hist) → front ≡ take (head_len text) text → bytes_eq (take 5 front) (codes "hist:") ≡ true → behind ≡ drop 5 front

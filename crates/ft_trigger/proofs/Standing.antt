@@ -16,10 +16,10 @@ use Rattle.ft_hist.specs.declared.item.SortItem.{SortItem}
 use Rattle.ft_hist.specs.Hist.{Hist}
 use Rattle.ft_head.specs.declared.fault.TriggerFault.{TriggerFault}
 use Rattle.ft_head.specs.declared.fault.TriggerFault.TheVariants.{Syntax, NoField, BadSort, BadFilter, LeftOut}
-use Rattle.ft_head.specs.Draft.{Draft, blank, ◌>>=◌, given_or, besides_hitcount, with_part, with_variable, parts_from}
+use Rattle.ft_head.specs.Draft.{Draft, blank, ◌>>=◌, unless, given_or, besides_hitcount, with_part, with_variable, parts_from}
 use Rattle.ft_trigger.specs.PartFaults.{PartsFail, is_late}
 use Rattle.ft_trigger.specs.Shape.{IsCut, Cut}
-use Rattle.ft_trigger.specs.TriggerIs.{behind_if, filter_or_fault, filter_in, own_name, value_item, value_items, sort_by, sorts_of, sort_of, is_descending, trigger_of}
+use Rattle.ft_trigger.specs.TriggerIs.{behind_if, filter_or_fault, filter_in, own_name, value_item, value_items, sort_by, sorts_of, sort_of, hands_other, sort_in, is_descending, trigger_of}
 use Rattle.ft_head.specs.Words.{Piece, Word, pieces}
 use Rattle.ft_trigger.proofs.Halves.{cut_of}
 use Rattle.ft_trigger.proofs.ReadAgain.{made}
@@ -144,21 +144,29 @@ order_late : (keys : List KeyItem) (values : List Item) (own : Option (List ℕ)
 order_late keys values own None fault e = absurd cc
 order_late keys values own (Some words) fault e = sorts_late keys values own words fault e
 
+-- a variable that is handed on and is another, or a sort item
+order_in_late : (head : ℕ) (draft : Draft) (keys : List KeyItem) (values : List Item) (fault : TriggerFault) → sort_in draft keys values ≡ Err fault → is_late head fault ≡ true
+order_in_late head draft keys values fault e = from (hands_other draft.variable draft.onmatch) e
+  where
+    from : (b : Bool) → unless ((b, NoField) ∷ []) (sort_of keys values (own_name draft.variable) draft.sort) ≡ Err fault → is_late head fault ≡ true
+    from true e = let same : NoField ≡ fault = cc in ap (is_late head) (sym same)
+    from false e = ap (is_late head) (order_late keys values (own_name draft.variable) draft.sort fault e)
+
 -- what a draft has no trigger for
 make_late : (event : Name) (head : ℕ) (draft : Draft) (fault : TriggerFault) → make_of event head draft ≡ Err fault → is_late head fault ≡ true
 make_late event head draft fault e = keyed draft.keys e
   where
-    sorted : (keys : List KeyItem) (values : List Item) (sort : Result (List SortItem) TriggerFault) → sort_of keys values (own_name draft.variable) draft.sort ≡ sort
+    sorted : (keys : List KeyItem) (values : List Item) (sort : Result (List SortItem) TriggerFault) → sort_in draft keys values ≡ sort
         → (sort >>= (λ sort. Ok (made event draft keys values sort None))) ≡ Err fault → is_late head fault ≡ true
     sorted keys values (Ok sort) is e = absurd cc
-    sorted keys values (Err found) is e = ap (is_late head) (order_late keys values (own_name draft.variable) draft.sort fault (is ∙ (let same : found ≡ fault = cc in ap Err same)))
+    sorted keys values (Err found) is e = order_in_late head draft keys values fault (is ∙ (let same : found ≡ fault = cc in ap Err same))
 
     valued : (keys : List KeyItem) (values : Result (List Item) TriggerFault) → value_items event (own_name draft.variable) (besides_hitcount (unwrap_or draft.values [])) ≡ values
-        → (values >>= (λ values. sort_of keys values (own_name draft.variable) draft.sort >>= (λ sort. Ok (made event draft keys values sort None)))) ≡ Err fault → is_late head fault ≡ true
-    valued keys (Ok values) is e = sorted keys values (sort_of keys values (own_name draft.variable) draft.sort) refl e
+        → (values >>= (λ values. sort_in draft keys values >>= (λ sort. Ok (made event draft keys values sort None)))) ≡ Err fault → is_late head fault ≡ true
+    valued keys (Ok values) is e = sorted keys values (sort_in draft keys values) refl e
     valued keys (Err found) is e = ap (is_late head) (values_late event (own_name draft.variable) (besides_hitcount (unwrap_or draft.values [])) fault (is ∙ (let same : found ≡ fault = cc in ap Err same)))
 
-    keyed : (keys : Option (List KeyItem)) → given_or (Syntax head) keys (λ keys. value_items event (own_name draft.variable) (besides_hitcount (unwrap_or draft.values [])) >>= (λ values. sort_of keys values (own_name draft.variable) draft.sort >>= (λ sort. Ok (made event draft keys values sort None)))) ≡ Err fault
+    keyed : (keys : Option (List KeyItem)) → given_or (Syntax head) keys (λ keys. value_items event (own_name draft.variable) (besides_hitcount (unwrap_or draft.values [])) >>= (λ values. sort_in draft keys values >>= (λ sort. Ok (made event draft keys values sort None)))) ≡ Err fault
         → is_late head fault ≡ true
     keyed None e = let same : Syntax head ≡ fault = cc in ap (is_late head) (sym same) ∙ le-leb head head (omega arith)
     keyed (Some keys) e = valued keys (value_items event (own_name draft.variable) (besides_hitcount (unwrap_or draft.values []))) refl e

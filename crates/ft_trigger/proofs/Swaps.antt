@@ -1,5 +1,5 @@
 -- The parts of a head may stand in any order.
-use Rattle.std.proofs.Common.{◌≡◌, ◌+◌, ◌<◌, ℕ, Bool, true, false, not, List, [], ◌∷◌, ◌++◌, map, length, drop, Option, Some, None, Result, Ok, Err, refl, sym, ap, ◌∙◌, subst, arith, ◌&&◌, codes, append-nil, find, ◌==◌, if◌then◌else◌}
+use Rattle.std.proofs.Common.{◌≡◌, ◌+◌, ◌<◌, ℕ, Bool, true, false, not, List, [], ◌∷◌, ◌++◌, map, length, drop, Option, Some, None, Result, Ok, Err, refl, sym, ap, ◌∙◌, subst, arith, ◌&&◌, codes, append-nil, cond, find, ◌==◌, if◌then◌else◌}
 use Rattle.std.proofs.lemmas.Bool.{and_parts, and_from, not-true, or_from}
 use Rattle.std.proofs.lemmas.List.Folds.{list_any-append}
 use Rattle.std.specs.Prelude.{unwrap_or}
@@ -14,11 +14,13 @@ use Rattle.ft_head.specs.declared.draft.Kind.{Kind}
 use Rattle.ft_head.specs.declared.draft.Kind.TheVariants.{Keys, Values, Sort, Size}
 use Rattle.ft_head.specs.declared.fault.TriggerFault.{TriggerFault}
 use Rattle.ft_head.specs.declared.fault.TriggerFault.TheVariants.{Syntax, Duplicate, BadSize, LeftOut}
-use Rattle.ft_head.specs.Draft.{Draft, blank, ◌>>=◌, given_or, items_from, items_of, with_key, with_value, with_sort, size_of, var_of, labels, is_part_left_out, with_kind, with_variable, with_part, parts_from, besides_hitcount}
+use Rattle.ft_head.specs.Draft.{Draft, blank, ◌>>=◌, given_or, items_from, items_of, with_key, with_value, with_sort, size_of, var_of, labels, is_part_left_out, with_kind, with_variable, with_onmatch, with_other, with_part, parts_from, besides_hitcount}
+use Rattle.ft_head.specs.Onmatch.{Action}
 use Rattle.ft_head.specs.Words.{Piece, grown, pieces, Word, word_of}
+use Rattle.ft_trigger.proofs.Actions.{onmatch_parts, onmatch_adds}
 use Rattle.ft_trigger.proofs.Inversions.{then_parts, unless_parts, given_parts}
 use Rattle.ft_head.specs.Spelling.{is_part, more_parts, joined}
-use Rattle.ft_trigger.specs.TriggerIs.{own_name, value_items, sort_of, trigger_of}
+use Rattle.ft_trigger.specs.TriggerIs.{own_name, value_items, sort_in, trigger_of}
 use Rattle.ft_trigger.proofs.Keyed.{key_shift}
 use Rattle.ft_trigger.proofs.ReadAgain.{made}
 use Rattle.ft_head.proofs.Separators.{Free, is_seen, is_inner, all_weaker, pieces_first, pieces_last}
@@ -88,13 +90,14 @@ sort_shift list more place other word e = e
 
 -- ---- what a part adds
 
--- one of five things
+-- one of six things
 data Effect : Type 0 where
   TheKeys : List KeyItem → Effect
   TheValues : List Word → Effect
   TheSort : List Word → Effect
   TheSize : ℕ → Effect
   TheVar : Var → Effect
+  TheOnmatch : Action → Effect
 
 -- it has not stood yet
 abbrev stood : Effect → Draft → Bool
@@ -103,6 +106,7 @@ stood (TheValues words) d = is_some d.values
 stood (TheSort words) d = is_some d.sort
 stood (TheSize size) d = is_some d.size
 stood (TheVar variable) d = is_some d.variable
+stood (TheOnmatch action) d = is_some d.onmatch
 
 -- a draft with it
 abbrev with_it : Effect → Draft → Draft
@@ -111,6 +115,7 @@ with_it (TheValues words) d = record d { values = Some words }
 with_it (TheSort words) d = record d { sort = Some words }
 with_it (TheSize size) d = record d { size = Some size }
 with_it (TheVar variable) d = record d { variable = Some variable }
+with_it (TheOnmatch action) d = record d { onmatch = Some action }
 
 -- a part adds it to each draft in which it has not stood
 record Adds (event : Name) (draft more : Draft) (bytes : List ℕ) : Type 0 where
@@ -138,26 +143,37 @@ swap (TheKeys x) (TheValues y) d h k = record { first = k; second = h; same = re
 swap (TheKeys x) (TheSort y) d h k = record { first = k; second = h; same = refl }
 swap (TheKeys x) (TheSize y) d h k = record { first = k; second = h; same = refl }
 swap (TheKeys x) (TheVar y) d h k = record { first = k; second = h; same = refl }
+swap (TheKeys x) (TheOnmatch y) d h k = record { first = k; second = h; same = refl }
 swap (TheValues x) (TheKeys y) d h k = record { first = k; second = h; same = refl }
 swap (TheValues x) (TheValues y) d h k = absurd cc
 swap (TheValues x) (TheSort y) d h k = record { first = k; second = h; same = refl }
 swap (TheValues x) (TheSize y) d h k = record { first = k; second = h; same = refl }
 swap (TheValues x) (TheVar y) d h k = record { first = k; second = h; same = refl }
+swap (TheValues x) (TheOnmatch y) d h k = record { first = k; second = h; same = refl }
 swap (TheSort x) (TheKeys y) d h k = record { first = k; second = h; same = refl }
 swap (TheSort x) (TheValues y) d h k = record { first = k; second = h; same = refl }
 swap (TheSort x) (TheSort y) d h k = absurd cc
 swap (TheSort x) (TheSize y) d h k = record { first = k; second = h; same = refl }
 swap (TheSort x) (TheVar y) d h k = record { first = k; second = h; same = refl }
+swap (TheSort x) (TheOnmatch y) d h k = record { first = k; second = h; same = refl }
 swap (TheSize x) (TheKeys y) d h k = record { first = k; second = h; same = refl }
 swap (TheSize x) (TheValues y) d h k = record { first = k; second = h; same = refl }
 swap (TheSize x) (TheSort y) d h k = record { first = k; second = h; same = refl }
 swap (TheSize x) (TheSize y) d h k = absurd cc
 swap (TheSize x) (TheVar y) d h k = record { first = k; second = h; same = refl }
+swap (TheSize x) (TheOnmatch y) d h k = record { first = k; second = h; same = refl }
 swap (TheVar x) (TheKeys y) d h k = record { first = k; second = h; same = refl }
 swap (TheVar x) (TheValues y) d h k = record { first = k; second = h; same = refl }
 swap (TheVar x) (TheSort y) d h k = record { first = k; second = h; same = refl }
 swap (TheVar x) (TheSize y) d h k = record { first = k; second = h; same = refl }
 swap (TheVar x) (TheVar y) d h k = absurd cc
+swap (TheVar x) (TheOnmatch y) d h k = record { first = k; second = h; same = refl }
+swap (TheOnmatch x) (TheKeys y) d h k = record { first = k; second = h; same = refl }
+swap (TheOnmatch x) (TheValues y) d h k = record { first = k; second = h; same = refl }
+swap (TheOnmatch x) (TheSort y) d h k = record { first = k; second = h; same = refl }
+swap (TheOnmatch x) (TheSize y) d h k = record { first = k; second = h; same = refl }
+swap (TheOnmatch x) (TheVar y) d h k = record { first = k; second = h; same = refl }
+swap (TheOnmatch x) (TheOnmatch y) d h k = absurd cc
 
 -- ---- parts
 
@@ -203,9 +219,9 @@ module _ (event : Name) where
       }
 
   -- nothing is there
-  none_there : (o : Option Var) → is_some o ≡ false → o ≡ None
+  none_there : {A : Type 0} (o : Option A) → is_some o ≡ false → o ≡ None
   none_there None h = refl
-  none_there (Some variable) h = absurd cc
+  none_there (Some x) h = absurd cc
 
   -- a part of a kind, where it begins so
   part_labelled : (draft : Draft) (place : ℕ) (bytes : List ℕ) (label : List ℕ × Kind) (answer : Result Draft TriggerFault) → is_part_left_out bytes ≡ false → find (λ label. starts_with ◌==◌ bytes label.0) labels ≡ Some label
@@ -215,7 +231,7 @@ module _ (event : Name) where
 
   -- a part of no kind
   part_bare : (draft : Draft) (place : ℕ) (bytes : List ℕ) (answer : Result Draft TriggerFault) → is_part_left_out bytes ≡ false → find (λ label. starts_with ◌==◌ bytes label.0) labels ≡ None
-      → with_variable event draft (record { place = place; bytes = bytes }) ≡ answer → with_part event draft (record { place = place; bytes = bytes }) ≡ answer
+      → with_other event draft (record { place = place; bytes = bytes }) ≡ answer → with_part event draft (record { place = place; bytes = bytes }) ≡ answer
   unfolding with_part
   part_bare draft place bytes answer kept is e = rw (kept, is) e
 
@@ -227,18 +243,29 @@ module _ (event : Name) where
       of_label : List ℕ × Kind → Result Draft TriggerFault
       of_label label = with_kind event draft label.1 (part.place + length label.0) (drop (length label.0) part.bytes)
 
-      kept : (is_part_left_out part.bytes ≡ false) × (option_map_or of_label (find (λ label. starts_with ◌==◌ part.bytes label.0) labels) (with_variable event draft part) ≡ Ok more)
-      kept = unless_parts (is_part_left_out part.bytes) (LeftOut part.place) [] (option_map_or of_label (find (λ label. starts_with ◌==◌ part.bytes label.0) labels) (with_variable event draft part)) more e
+      kept : (is_part_left_out part.bytes ≡ false) × (option_map_or of_label (find (λ label. starts_with ◌==◌ part.bytes label.0) labels) (with_other event draft part) ≡ Ok more)
+      kept = unless_parts (is_part_left_out part.bytes) (LeftOut part.place) [] (option_map_or of_label (find (λ label. starts_with ◌==◌ part.bytes label.0) labels) (with_other event draft part)) more e
 
-      from : (o : Option (List ℕ × Kind)) → find (λ label. starts_with ◌==◌ part.bytes label.0) labels ≡ o → option_map_or of_label o (with_variable event draft part) ≡ Ok more → Adds event draft more part.bytes
-      from None is e =
-          let v = var_parts event draft more part e in
-          record {
-            effect = TheVar (var_of v.cut.0 v.stamp);
-            new = v.none;
-            is = v.is;
-            adds = λ other at free. part_bare other at part.bytes (Ok (record other { variable = Some (var_of v.cut.0 v.stamp) })) kept.0 is (var_adds event other at part.bytes v.cut v.stamp v.name v.equals v.stamped v.free (none_there other.variable free));
-          }
+      from : (o : Option (List ℕ × Kind)) → find (λ label. starts_with ◌==◌ part.bytes label.0) labels ≡ o → option_map_or of_label o (with_other event draft part) ≡ Ok more → Adds event draft more part.bytes
+      from None is e = other (starts_with ◌==◌ part.bytes (codes "onmatch(")) refl e
+        where
+          other : (b : Bool) → starts_with ◌==◌ part.bytes (codes "onmatch(") ≡ b → cond b (with_onmatch event draft part) (with_variable event draft part) ≡ Ok more → Adds event draft more part.bytes
+          other true begins e =
+              let v = onmatch_parts event draft more part e in
+              record {
+                effect = TheOnmatch v.action;
+                new = v.none;
+                is = v.is;
+                adds = λ other at free. part_bare other at part.bytes (Ok (record other { onmatch = Some v.action })) kept.0 is (onmatch_adds event other at part.bytes v.words v.action begins v.apart_made v.handed v.made (none_there other.onmatch free));
+              }
+          other false bare e =
+              let v = var_parts event draft more part e in
+              record {
+                effect = TheVar (var_of v.cut.0 v.stamp);
+                new = v.none;
+                is = v.is;
+                adds = λ other at free. part_bare other at part.bytes (Ok (record other { variable = Some (var_of v.cut.0 v.stamp) })) kept.0 is (var_adds event other at part.bytes v.cut v.stamp bare v.name v.equals v.apart_made v.stamped v.free (none_there other.variable free));
+              }
       from (Some label) is e =
           let k = kind_adds draft more label.1 (part.place + length label.0) (drop (length label.0) part.bytes) e in
           record {
@@ -346,7 +373,7 @@ make_same : (event : Name) (head other : ℕ) (draft : Draft) (hist : Hist) → 
 make_same event head other draft hist e = from draft.keys e
   where
     rest : List KeyItem → Result Hist TriggerFault
-    rest keys = value_items event (own_name draft.variable) (besides_hitcount (unwrap_or draft.values [])) >>= (λ values. sort_of keys values (own_name draft.variable) draft.sort >>= (λ sort. Ok (made event draft keys values sort None)))
+    rest keys = value_items event (own_name draft.variable) (besides_hitcount (unwrap_or draft.values [])) >>= (λ values. sort_in draft keys values >>= (λ sort. Ok (made event draft keys values sort None)))
 
     from : (keys : Option (List KeyItem)) → given_or (Syntax head) keys rest ≡ Ok hist → given_or (Syntax other) keys rest ≡ Ok hist
     from None e = absurd cc

@@ -8,11 +8,13 @@ use Rattle.std.specs.List.{list_all, starts_with}
 use Rattle.std.specs.Option.{option_map_or, is_some}
 use Rattle.std.specs.Str.{bytes_eq}
 use Rattle.ft_fields.specs.declared.event.Name.{Name}
+use Rattle.ft_fields.specs.declared.event.Name.TheVariants as names
 use Rattle.ft_head.specs.declared.fault.TriggerFault.{TriggerFault}
 use Rattle.ft_head.specs.declared.fault.TriggerFault.TheVariants.{Syntax, Duplicate, LeftOut}
 use Rattle.ft_hist.specs.declared.label.Var.{Var}
 use Rattle.ft_hist.specs.declared.label.Var.TheVariants as vars
-use Rattle.ft_head.specs.Draft.{Draft, unless, given_or, Stamp, Saved, Since, is_name, stamp_of, var_of, is_taken, labels, is_part_left_out, with_variable}
+use Rattle.ft_hist.specs.Hit.{same_name}
+use Rattle.ft_head.specs.Draft.{Draft, unless, given_or, Stamp, Saved, Since, is_name, stamp_of, var_of, is_taken, labels, is_part_left_out, with_variable, with_other}
 use Rattle.ft_tokens.specs.Tokens.{name_at}
 use Rattle.ft_head.specs.Words.{Piece}
 use Rattle.ft_trigger.proofs.Inversions.{unless_parts, given_parts}
@@ -29,7 +31,8 @@ pub record VarFits (event : Name) (variable : Var) : Type 0 where
   pub kept : is_part_left_out (var_bytes variable) ≡ false
   pub apart : find (λ label. starts_with ◌==◌ (var_bytes variable) label.0) labels ≡ None
   pub inner : list_all is_inner (var_bytes variable) ≡ true
-  pub adds : (draft : Draft) (place : ℕ) → draft.variable ≡ None → with_variable event draft (record { place = place; bytes = var_bytes variable }) ≡ Ok (record draft { variable = Some variable })
+  pub apart_made : same_name event names.WakeupLatency ≡ false
+  pub adds : (draft : Draft) (place : ℕ) → draft.variable ≡ None → with_other event draft (record { place = place; bytes = var_bytes variable }) ≡ Ok (record draft { variable = Some variable })
 
 -- ---- stamps
 
@@ -99,11 +102,11 @@ abbrev var_valued : Name → Draft → ℕ → List ℕ × List ℕ → Result D
 var_valued event draft place cut = given_or (LeftOut place) (stamp_of (drop 1 cut.1)) (var_added event draft cut.0)
 
 -- a part whose steps are known adds its variable
-pub var_adds : (event : Name) (draft : Draft) (place : ℕ) (bytes : List ℕ) (cut : List ℕ × List ℕ) (stamp : Stamp) → name_at bytes ≡ Some cut → starts_with ◌==◌ cut.1 (codes "=") ≡ true
-    → stamp_of (drop 1 cut.1) ≡ Some stamp → is_taken event cut.0 stamp ≡ false → draft.variable ≡ None
-    → with_variable event draft (record { place = place; bytes = bytes }) ≡ Ok (record draft { variable = Some (var_of cut.0 stamp) })
+pub var_adds : (event : Name) (draft : Draft) (place : ℕ) (bytes : List ℕ) (cut : List ℕ × List ℕ) (stamp : Stamp) → starts_with ◌==◌ bytes (codes "onmatch(") ≡ false → name_at bytes ≡ Some cut → starts_with ◌==◌ cut.1 (codes "=") ≡ true
+    → same_name event names.WakeupLatency ≡ false → stamp_of (drop 1 cut.1) ≡ Some stamp → is_taken event cut.0 stamp ≡ false → draft.variable ≡ None
+    → with_other event draft (record { place = place; bytes = bytes }) ≡ Ok (record draft { variable = Some (var_of cut.0 stamp) })
 unfolding with_variable
-var_adds event draft place bytes cut stamp name equals stamped free none = rw (name, equals, none, stamped, free) refl
+var_adds event draft place bytes cut stamp bare name equals apart stamped free none = rw (bare, name, equals, apart, none, stamped, free) refl
 
 -- what a variable's part says
 pub record VarParts (event : Name) (draft more : Draft) (bytes : List ℕ) : Type 0 where
@@ -111,6 +114,7 @@ pub record VarParts (event : Name) (draft more : Draft) (bytes : List ℕ) : Typ
   pub stamp : Stamp
   pub name : name_at bytes ≡ Some cut
   pub equals : starts_with ◌==◌ cut.1 (codes "=") ≡ true
+  pub apart_made : same_name event names.WakeupLatency ≡ false
   pub none : is_some draft.variable ≡ false
   pub stamped : stamp_of (drop 1 cut.1) ≡ Some stamp
   pub free : is_taken event cut.0 stamp ≡ false
@@ -121,9 +125,10 @@ pub var_parts : (event : Name) (draft more : Draft) (part : Piece) → with_vari
 unfolding with_variable
 var_parts event draft more part e =
     let name = given_parts (Syntax part.place) (name_at part.bytes)
-    (λ cut. unless ((not (starts_with ◌==◌ cut.1 (codes "=")), Syntax part.place) ∷ (is_some draft.variable, LeftOut part.place) ∷ []) (var_valued event draft part.place cut)) more e in
-    let equals = unless_parts (not (starts_with ◌==◌ name.0.1 (codes "="))) (Syntax part.place) ((is_some draft.variable, LeftOut part.place) ∷ []) (var_valued event draft part.place name.0) more name.2 in
-    let none = unless_parts (is_some draft.variable) (LeftOut part.place) [] (var_valued event draft part.place name.0) more equals.1 in
+    (λ cut. unless ((not (starts_with ◌==◌ cut.1 (codes "=")), Syntax part.place) ∷ (same_name event names.WakeupLatency, LeftOut part.place) ∷ (is_some draft.variable, LeftOut part.place) ∷ []) (var_valued event draft part.place cut)) more e in
+    let equals = unless_parts (not (starts_with ◌==◌ name.0.1 (codes "="))) (Syntax part.place) ((same_name event names.WakeupLatency, LeftOut part.place) ∷ (is_some draft.variable, LeftOut part.place) ∷ []) (var_valued event draft part.place name.0) more name.2 in
+    let apart = unless_parts (same_name event names.WakeupLatency) (LeftOut part.place) ((is_some draft.variable, LeftOut part.place) ∷ []) (var_valued event draft part.place name.0) more equals.1 in
+    let none = unless_parts (is_some draft.variable) (LeftOut part.place) [] (var_valued event draft part.place name.0) more apart.1 in
     let stamp = given_parts (LeftOut part.place) (stamp_of (drop 1 name.0.1)) (var_added event draft name.0.0) more none.1 in
     let free = unless_parts (is_taken event name.0.0 stamp.0) Duplicate [] (Ok (record draft { variable = Some (var_of name.0.0 stamp.0) })) more stamp.2 in
     record {
@@ -131,6 +136,7 @@ var_parts event draft more part e =
       stamp = stamp.0;
       name = name.1;
       equals = not-false (starts_with ◌==◌ name.0.1 (codes "=")) equals.0;
+      apart_made = apart.0;
       none = none.0;
       stamped = stamp.1;
       free = free.0;
@@ -139,8 +145,8 @@ var_parts event draft more part e =
 
 -- the variable of a part that is read can be read again
 pub var_fits : (event : Name) (draft more : Draft) (part : Piece) → is_part_left_out part.bytes ≡ false → find (λ label. starts_with ◌==◌ part.bytes label.0) labels ≡ None
-    → with_variable event draft part ≡ Ok more → (variable : Var) × (record draft { variable = Some variable } ≡ more) × VarFits event variable
-var_fits event draft more part kept apart e =
+    → starts_with ◌==◌ part.bytes (codes "onmatch(") ≡ false → with_variable event draft part ≡ Ok more → (variable : Var) × (record draft { variable = Some variable } ≡ more) × VarFits event variable
+var_fits event draft more part kept apart bare e =
     let p = var_parts event draft more part e in
     let cut = name_parts part.bytes p.cut p.name in
     let stamp = stamp_parts (drop 1 p.cut.1) p.stamp p.stamped in
@@ -152,6 +158,7 @@ var_fits event draft more part kept apart e =
         kept = subst (λ (t : List ℕ). is_part_left_out t ≡ false) same kept;
         apart = subst (λ (t : List ℕ). find (λ label. starts_with ◌==◌ t label.0) labels ≡ None) same apart;
         inner = var_inner p.cut.0 p.stamp cut.0 stamp.1;
-        adds = λ other place none. var_adds event other place (var_bytes (var_of p.cut.0 p.stamp)) p.cut p.stamp (subst (λ (t : List ℕ). name_at t ≡ Some p.cut) same p.name) p.equals p.stamped p.free none;
+        apart_made = p.apart_made;
+        adds = λ other place none. var_adds event other place (var_bytes (var_of p.cut.0 p.stamp)) p.cut p.stamp (subst (λ (t : List ℕ). starts_with ◌==◌ t (codes "onmatch(") ≡ false) same bare) (subst (λ (t : List ℕ). name_at t ≡ Some p.cut) same p.name) p.equals p.apart_made p.stamped p.free none;
       },
     )

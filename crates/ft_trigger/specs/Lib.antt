@@ -11,6 +11,7 @@ pub use Rattle.ft_filter.specs.FilterIs
 pub use Rattle.ft_filter.specs.Holds
 pub use Rattle.ft_filter.specs.Tree
 pub use Rattle.ft_head.specs.Draft
+pub use Rattle.ft_head.specs.Onmatch
 pub use Rattle.ft_head.specs.Sizes
 pub use Rattle.ft_head.specs.Spelling
 pub use Rattle.ft_head.specs.TriggerFault
@@ -18,6 +19,7 @@ pub use Rattle.ft_head.specs.Words
 pub use Rattle.ft_hist.specs.Canonical
 pub use Rattle.ft_hist.specs.Hist
 pub use Rattle.ft_hist.specs.Hit
+pub use Rattle.ft_hist.specs.Made
 pub use Rattle.ft_hist.specs.Matching
 pub use Rattle.ft_hist.specs.Modifiers
 pub use Rattle.ft_keys.specs.Orders

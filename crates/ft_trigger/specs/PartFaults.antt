@@ -10,7 +10,7 @@ use Rattle.ft_head.specs.Words.{pieces}
 abbrev pub PartsFail : Name → List ℕ → TriggerFault → Type 0
 PartsFail event parts fault = parts_from event blank (pieces 58 5 parts) ≡ Err fault
 
--- a fault that may be found behind the parts of a head of so many bytes: no keys, a value or a sort item that names nothing, or the tail's (our own choice)
+-- a fault that may be found behind the parts of a head of so many bytes: no keys, a value, a variable that is handed on or a sort item that names nothing, or the tail's (our own choice)
 abbrev pub is_late : ℕ → TriggerFault → Bool
 is_late head (Syntax place) = nat_le head place
 is_late head NoField = true

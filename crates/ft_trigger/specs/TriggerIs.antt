@@ -20,6 +20,7 @@ use Rattle.ft_hist.specs.declared.item.SortItem.{SortItem}
 use Rattle.ft_hist.specs.declared.label.Var.{Var}
 use Rattle.ft_hist.specs.declared.label.Var.TheVariants as vars
 use Rattle.std.specs.List.{find}
+use Rattle.ft_head.specs.Onmatch.{Action}
 use Rattle.ft_head.specs.Words.{pieces, Word}
 use Rattle.ft_head.specs.Draft.{Draft, blank, ◌>>=◌, unless, given_or, is_word, besides_hitcount, parts_from}
 use Rattle.ft_hist.specs.Hist.{Hist}
@@ -114,12 +115,27 @@ abbrev pub sort_of : List KeyItem → List Item → Option (List ℕ) → Option
 sort_of keys values own None = Ok by_hits
 sort_of keys values own (Some words) = sorts_of keys values own words
 
--- a draft and a tail as a trigger: keys must be there, then the values' variables, then the sort items, then the filter (kernel: histogram.rst, hist triggers)
+-- the variable reads a stamp, and has this name (kernel: histogram.rst, inter-event hist triggers)
+abbrev pub reads_as : Option Var → List ℕ → Bool
+reads_as (Some (vars.Reads own source)) name = bytes_eq name own
+reads_as variable name = false
+
+-- events are made of another variable than the trigger's own, which reads a stamp (kernel: histogram.rst, the `onmatch` handler)
+abbrev pub hands_other : Option Var → Option Action → Bool
+hands_other variable None = false
+hands_other variable (Some action) = not (reads_as variable action.own)
+
+-- the sort items of a draft, behind the variable that it hands on (kernel: histogram.rst, `sort`)
+abbrev pub sort_in : Draft → List KeyItem → List Item → Result (List SortItem) TriggerFault
+sort_in draft keys values =
+    unless ((hands_other draft.variable draft.onmatch, NoField) ∷ []) (sort_of keys values (own_name draft.variable) draft.sort)
+
+-- a draft and a tail as a trigger: keys must be there, then the values' variables, then the variable that is handed on, then the sort items, then the filter (kernel: histogram.rst, hist triggers)
 unfoldable pub finished : Name → ℕ → ℕ → List ℕ → Draft → Result Hist TriggerFault
 finished event head place tail draft =
     given_or (Syntax head) draft.keys (λ keys.
     value_items event (own_name draft.variable) (besides_hitcount (unwrap_or draft.values [])) >>= (λ values.
-    sort_of keys values (own_name draft.variable) draft.sort >>= (λ sort.
+    sort_in draft keys values >>= (λ sort.
     filter_in event place tail >>= (λ filter.
     Ok (record {
       event = event;
@@ -128,6 +144,7 @@ finished event head place tail draft =
       sort = sort;
       variable = draft.variable;
       size = unwrap_or draft.size 2048;
+      onmatch = option_map (λ action. action.onmatch) draft.onmatch;
       filter = filter;
     })))))
 

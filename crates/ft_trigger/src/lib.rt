@@ -21,10 +21,11 @@ mod reading;
 mod resolving;
 mod tail;
 
-pub use ft_head::{TriggerFault, one_list, one_word, sizes};
+pub use ft_head::{TriggerFault, one_action, one_list, one_word, sizes};
 pub use ft_hist::{
-    Item, Key, KeyItem, Label, Mode, Part, SortBy, SortItem, Trigger, Var, Work, asked_events,
-    equal_keys, fitting_parts, mode_named, multiples, one_key_order, powers, summed_fields,
+    Item, Key, KeyItem, Label, Mode, Onmatch, Part, SortBy, SortItem, Trigger, Var, Work,
+    asked_events, equal_keys, fitting_parts, mode_named, multiples, one_key_order, powers,
+    summed_fields,
 };
 pub use laws::{
     any_order, cuts, faults_stay, heads_first, one_answer, one_tail, reads_again,

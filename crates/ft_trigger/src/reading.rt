@@ -8,11 +8,11 @@ ghost use Rattle.ft_trigger.specs.TriggerIs.{TriggerIs, trigger_of, finished};
 ghost use Rattle.ft_head.specs.Given.{Gives};
 ghost use Rattle.ft_trigger.specs.Given.{GivesTrigger};
 
-use crate::resolving::{own_name, sort_of, value_items};
+use crate::resolving::{hands_other, own_name, sort_of, value_items};
 use crate::tail::{filter_in, head_len, without_end};
 use ft_fields::Name;
-use ft_head::{Draft, TriggerFault, Word, parts_of};
-use ft_hist::Trigger;
+use ft_head::{Action, Draft, TriggerFault, Word, parts_of};
+use ft_hist::{Onmatch, Trigger};
 use ft_tokens::skip;
 use std::alloc::Global;
 
@@ -75,15 +75,22 @@ fn finished(
         sort,
         size,
         variable,
+        onmatch,
     } = draft;
     match keys {
         Some(keys) => {
             let own = own_name(&variable);
             let values = value_items(alloc, event, own, words_in(&values))?;
+            if hands_other(&variable, &onmatch) {
+                return Err(TriggerFault::NoField);
+            }
             let sort = sort_of(alloc, &keys, &values, own, &sort)?;
             let filter = filter_in(alloc, event, place, tail)?;
             let size = size.unwrap_or(DEFAULT_SIZE);
-            Ok(Trigger::of(event, keys, values, sort, variable, size, filter))
+            let onmatch = onmatch_of(&onmatch);
+            let mut trigger = Trigger::of(event, keys, values, sort, variable, size, filter);
+            trigger.set_onmatch(onmatch);
+            Ok(trigger)
         }
         None => Err(TriggerFault::Syntax(head)),
     }
@@ -96,5 +103,15 @@ fn words_in<'w, 'a>(words: &'w Option<Vec<Word<'a>>>) -> &'w [Word<'a>]
     match words {
         Some(words) => words,
         None => &[],
+    }
+}
+
+/// What events are made of, where that has stood.
+fn onmatch_of(action: &Option<Action<'_>>) -> Option<Onmatch>
+    ensures { result ≡ option_map (λ action. action.onmatch) action.now }
+{
+    match action {
+        Some(action) => Some(action.onmatch()),
+        None => None,
     }
 }

@@ -8,12 +8,12 @@ ghost use Rattle.ft_fields.specs.Fields.{text_of, is_named, all_fields};
 ghost use Rattle.ft_head.specs.declared.fault.TriggerFault.TheVariants.{NoField, BadSort};
 ghost use Rattle.ft_hist.specs.declared.item.Item.TheVariants as items;
 ghost use Rattle.ft_head.specs.Draft.{given_or, is_word, besides_hitcount};
-ghost use Rattle.ft_trigger.specs.TriggerIs.{own_name, value_item, value_items, index_where, names_value, sort_by, is_descending, sorts_of, sort_of, by_hits};
+ghost use Rattle.ft_trigger.specs.TriggerIs.{own_name, value_item, value_items, reads_as, hands_other, index_where, names_value, sort_by, is_descending, sorts_of, sort_of, by_hits};
 ghost use Rattle.ft_head.specs.Given.{Gives};
 ghost use Rattle.ft_head.specs.inner.Leaving.{Leaves};
 
 use ft_fields::{Name, field_named, field_text};
-use ft_head::{TriggerFault, Word};
+use ft_head::{Action, TriggerFault, Word};
 use ft_hist::{Item, KeyItem, SortBy, SortItem, Var};
 use ft_text::is_same;
 use std::alloc::Global;
@@ -86,6 +86,26 @@ fn field_value(event: Name, name: &[u8]) -> Option<Item>
     match field_named(event, name) {
         Some(field) => Some(Item::Num(field)),
         None => None,
+    }
+}
+
+/// Whether events are made of another variable than the trigger's own, which reads a stamp.
+pub(crate) fn hands_other(variable: &Option<Var>, action: &Option<Action<'_>>) -> bool
+    ensures { result ≡ hands_other variable.now action.now }
+{
+    match action {
+        Some(action) => !reads_as(variable, action.own()),
+        None => false,
+    }
+}
+
+/// Whether the variable reads a stamp, and has this name.
+fn reads_as(variable: &Option<Var>, name: &[u8]) -> bool
+    ensures { result ≡ reads_as variable.now name.now }
+{
+    match variable {
+        Some(Var::Reads { own, source: _ }) => is_same(name, own.bytes()),
+        Some(Var::Saves(_)) | None => false,
     }
 }
 

@@ -2,7 +2,7 @@
 //! each answer: the slow way, to compare with.
 #![tactic(auto)]
 
-use ft_replay::PlainBoard;
+use ft_answers::PlainBoard;
 use std::process::ExitCode;
 
 fn main(rt: HostRuntime) -> ExitCode {

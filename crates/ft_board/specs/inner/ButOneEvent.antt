@@ -8,8 +8,8 @@ use Rattle.ft_kept.specs.Shelves.{Shelves}
 use Rattle.ft_lanes.specs.Held.{event_at}
 use Rattle.ft_base.specs.declared.refused.Place.{Place}
 use Rattle.ft_base.specs.Base.{Base}
-use Rattle.ft_replay.specs.Costs.{CostsOf}
-use Rattle.ft_replay.specs.Deferral.{IsNoHit, IsPlainHit}
+use Rattle.ft_answers.specs.Costs.{CostsOf}
+use Rattle.ft_answers.specs.Deferral.{IsNoHit, IsPlainHit}
 use Rattle.ft_replay.specs.Merged.{Events, merged}
 use Rattle.ft_board.specs.KeptShelves.{AreKept}
 

@@ -2,10 +2,10 @@
 use Rattle.std.specs.Prelude.{◌≡◌, ℕ, List, Result, IfOk}
 use Rattle.std.specs.declared.alloc.AllocError.{AllocError}
 use Rattle.ft_base.specs.declared.refused.Refused.{Refused}
-use Rattle.ft_replay.specs.declared.done.Done.{Done}
-use Rattle.ft_replay.specs.Base.{Base}
-use Rattle.ft_replay.specs.Edited.{EditGives, AnswerIs}
-use Rattle.ft_replay.specs.Shown.{Shown}
+use Rattle.ft_answers.specs.declared.done.Done.{Done}
+use Rattle.ft_answers.specs.Base.{Base}
+use Rattle.ft_answers.specs.Edited.{EditGives, AnswerIs}
+use Rattle.ft_answers.specs.Shown.{Shown}
 use Rattle.ft_desk.specs.declared.performing.Performed.{Performed}
 use Rattle.ft_desk.specs.Output.{Outcome, edit_outcome, answer_outcome}
 

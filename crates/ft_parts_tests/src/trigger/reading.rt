@@ -2,9 +2,6 @@
 
 use super::*;
 
-/// What a text is answered: the canonical text of the trigger that it gives, or the first fault.
-type Answer = Result<&'static str, TriggerFault>;
-
 /// A text with three keys, two values, two sort items, a variable and a filter.
 const RICH: &str =
     "hist:keys=pid.hex,prio.buckets=32,comm:vals=prio,$w:sort=comm.descending,prio:w=common_timestamp.usecs-$ts0:size=200 if pid == 42";
@@ -18,25 +15,6 @@ const BAD_GLOB: &str = "hist:keys=comm if comm ~ \"[a\"";
 
 /// What stands against it.
 const NO_GLOB: TriggerFault = TriggerFault::BadFilter(FilterFault::BadGlob(7));
-
-/// The text of the trigger that a text on wakings gives.
-fn written(alloc: Global, text: &str) -> Result<Vec<u8>, TriggerFault> {
-    let trigger = parse(alloc, Name::Waking, text.as_bytes())?;
-    let mut line = Vec::new(alloc);
-    match trigger.write(&mut line) {
-        Ok(()) => Ok(line),
-        Err(AllocError) => Err(TriggerFault::Memory),
-    }
-}
-
-/// Whether such an answer is wanted.
-fn is_wanted(found: &Result<Vec<u8>, TriggerFault>, want: Answer) -> bool {
-    match (found, want) {
-        (Ok(line), Ok(text)) => line.as_slice() == text.as_bytes(),
-        (Err(fault), Err(other)) => *fault == other,
-        _ => false,
-    }
-}
 
 #[test]
 fn a_fault_has_a_number_and_may_have_a_place(rt: HostRuntime) {
@@ -55,6 +33,7 @@ fn laws() {
     cuts();
     faults_stay();
     heads_first();
+    one_action();
     one_list();
     one_tail();
     one_word();
@@ -141,8 +120,8 @@ fn hits_of_a_rich_text(rt: HostRuntime) -> Result<(), Fail> {
 
 /// What a text on wakings is answered, when asked again where memory ran out.
 fn written_at_last(alloc: Global, text: &str) -> Result<Vec<u8>, TriggerFault> {
-    match written(alloc, text) {
-        Err(TriggerFault::Memory) => written(alloc, text),
+    match written(alloc, Name::Waking, text) {
+        Err(TriggerFault::Memory) => written(alloc, Name::Waking, text),
         other => other,
     }
 }

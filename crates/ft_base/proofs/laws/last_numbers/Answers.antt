@@ -31,7 +31,7 @@ no-line base event lane held next =
     let high : number_limit < (lane_or_new base.lanes event.cpu).next = omega arith in
     insert-high base event high
 
-last-id : (base : Base) (hist : Hist) → base.next_id ≡ id_limit → map.len base.triggers < trigger_limit → variable_refused base.triggers hist.keys hist.variable ≡ None
+last-id : (base : Base) (hist : Hist) → base.next_id ≡ id_limit → map.len base.triggers < trigger_limit → variable_refused base.triggers hist hist.variable ≡ None
     → after_attach base hist ≡ Ok (record base { triggers = map.insert base.triggers id_limit hist; next_id = id_limit + 1 }, id_limit)
 last-id base hist next few free =
     let low : base.next_id ≤ id_limit = omega arith in

@@ -7,7 +7,7 @@ use Rattle.ft_base.specs.Base.{Base, Triggers}
 use Rattle.ft_base.specs.OneTrigger.{is_in_family}
 use Rattle.ft_base.specs.Reachable.{HasSavers}
 use Rattle.ft_maps.specs.Seen.{seen}
-use Rattle.ft_replay.specs.Costs.{family_tests}
+use Rattle.ft_answers.specs.Costs.{family_tests}
 use Rattle.ft_replay.specs.Merged.{merged}
 use Rattle.ft_board.specs.KeptShelves.{AreKept, AreKeptOf}
 use Rattle.ft_board.specs.inner.Idle.{AreKeptOutside}
@@ -28,7 +28,7 @@ pub returns-clause-kept : goal.returns-clause-kept
 returns-clause-kept c =
     let base : Base = c.args.content.now in
     let kept = repaired_if (λ (shelves : Shelves). AreKept (seen nat_cmp c.triggers-triggers.result.now) (merged c.lanes-lanes.result.now) shelves) c.join_family-repaired.new.tables c.join_family-repaired.result c.join_family-repaired.ensures.kept in
-    subst (λ (o : Option Shelves). IfSome o (AreKeptOf base)) (sym c.put_back.ensures.kept)
+    subst (λ (o : Option Shelves). IfSome o (AreKeptOf base)) (sym c.put_back.ensures)
     (subst (λ (held : Triggers × Lanes). IfSome (if_ok c.join_family-repaired.new.tables c.join_family-repaired.result) (AreKept held.0 (merged held.1))) (λ i. (c.triggers-triggers.ensures i, c.lanes-lanes.ensures.lanes i)) kept)
 
 pub returns-clause-evals : goal.returns-clause-evals

@@ -4,7 +4,7 @@ use Rattle.std.specs.Ordering.{nat_cmp}
 use Rattle.ft_hist.specs.Steps.{StepsGrow}
 use Rattle.ft_maps.specs.Mapped.{entries_by}
 use Rattle.ft_maps.specs.Seen.{seen}
-use Rattle.ft_replay.specs.Costs.{named_in}
+use Rattle.ft_answers.specs.Costs.{named_in}
 use Rattle.ft_board.specs.inner.Idle.{AreKeptIdle, acts_outside}
 use Rattle.ft_board.proofs.OneTrigger.{IsJoined}
 use Rattle.ft_board.proofs.join.put_acts.Given as goal

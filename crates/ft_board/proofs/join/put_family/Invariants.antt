@@ -3,7 +3,7 @@ use Rattle.std.specs.Ordering.{nat_cmp}
 use Rattle.ft_hist.specs.Steps.{StepsGrow}
 use Rattle.ft_maps.specs.Seen.{seen}
 use Rattle.ft_base.specs.OneTrigger.{is_in_family}
-use Rattle.ft_replay.specs.Costs.{family_tests}
+use Rattle.ft_answers.specs.Costs.{family_tests}
 use Rattle.ft_board.proofs.Putting.{IsPut, tests_in}
 use Rattle.ft_board.proofs.join.put_family.Given as goal
 

@@ -13,8 +13,8 @@ take_lane-repaired-requires c = subst (λ (o : Option Shelves). IfSome o (AreKep
 pub returns-clause-kept : goal.returns-clause-kept
 returns-clause-kept c =
     let base : Base = c.args.content.now in
-    subst (λ (o : Option Shelves). IfSome o (AreKeptWithoutLane base c.args.cpu)) (sym c.put_back.ensures.kept)
+    subst (λ (o : Option Shelves). IfSome o (AreKeptWithoutLane base c.args.cpu)) (sym c.put_back.ensures)
     (repaired_if (AreKeptWithoutLane base c.args.cpu) c.take_lane-repaired.new.tables c.take_lane-repaired.result c.take_lane-repaired.ensures.kept)
 
 pub returns-clause-now : goal.returns-clause-now
-returns-clause-now c plain gone = repaired_there c.take_lane-repaired.new.tables c.take_lane-repaired.result c.put_back.new.kept c.put_back.ensures.kept (c.take_lane-repaired.ensures.memory plain) gone
+returns-clause-now c plain gone = repaired_there c.take_lane-repaired.new.tables c.take_lane-repaired.result c.put_back.new.kept c.put_back.ensures (c.take_lane-repaired.ensures.memory plain) gone

@@ -12,8 +12,8 @@ use Rattle.ft_lanes.specs.Walks.{shown}
 use Rattle.ft_maps.specs.Seen.{seen}
 use Rattle.ft_base.specs.Base.{Base, Triggers}
 use Rattle.ft_base.specs.Reachable.{HasSavers}
-use Rattle.ft_replay.specs.Costs.{count_on_lane}
-use Rattle.ft_replay.specs.Deferral.{IsPlainLane}
+use Rattle.ft_answers.specs.Costs.{count_on_lane}
+use Rattle.ft_answers.specs.Deferral.{IsPlainLane}
 use Rattle.ft_replay.specs.Merged.{merged, place_of}
 use Rattle.ft_replay.proofs.Stepping.{grow_none, grow_more}
 use Rattle.ft_board.specs.KeptShelves.{AreKept}

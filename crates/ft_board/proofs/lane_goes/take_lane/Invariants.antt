@@ -4,7 +4,7 @@ use Rattle.std.specs.Ordering.{nat_cmp}
 use Rattle.ft_maps.specs.Seen.{seen}
 use Rattle.ft_hist.specs.Steps.{StepsGrow}
 use Rattle.ft_lanes.specs.Held.{Lane}
-use Rattle.ft_replay.specs.Costs.{count_on_lane}
+use Rattle.ft_answers.specs.Costs.{count_on_lane}
 use Rattle.ft_board.proofs.LaneGoes.{IsGoing, count_lines}
 use Rattle.ft_board.proofs.lane_goes.take_lane.Given as goal
 

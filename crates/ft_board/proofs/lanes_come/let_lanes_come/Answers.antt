@@ -13,5 +13,5 @@ put_lanes-repaired-requires c = subst (λ (o : Option Shelves). IfSome o (AreKep
 pub returns-clause-kept : goal.returns-clause-kept
 returns-clause-kept c =
     let base : Base = c.args.content.now in
-    subst (λ (o : Option Shelves). IfSome o (AreKeptOf base)) (sym c.put_back.ensures.kept)
+    subst (λ (o : Option Shelves). IfSome o (AreKeptOf base)) (sym c.put_back.ensures)
     (repaired_if (AreKeptOf base) c.put_lanes-repaired.new.tables c.put_lanes-repaired.result c.put_lanes-repaired.ensures.kept)

@@ -20,10 +20,10 @@ returns-in_default-get-clause-kept c =
 pub returns-clause-kept : goal.returns-clause-kept
 returns-clause-kept c =
     let base : Base = c.args.content.now in
-    subst (λ (o : Option Shelves). IfSome o (AreKeptBut c.args.id base)) (sym c.put_back.ensures.kept) (repaired_if (AreKeptBut c.args.id base) c.take_trigger-repaired.new.tables c.take_trigger-repaired.result c.take_trigger-repaired.ensures.but)
+    subst (λ (o : Option Shelves). IfSome o (AreKeptBut c.args.id base)) (sym c.put_back.ensures) (repaired_if (AreKeptBut c.args.id base) c.take_trigger-repaired.new.tables c.take_trigger-repaired.result c.take_trigger-repaired.ensures.but)
 
 pub returns-clause-now : goal.returns-clause-now
 returns-clause-now c reads gone =
     let base : Base = c.args.content.now in
     let there : map.get base.triggers c.args.id ≡ Some c.in-Some-get.trigger.now = ap (λ (t : Triggers). map.get t c.args.id) (sym c.triggers.ensures) ∙ sym c.in-Some-get.ensures in
-    repaired_there c.take_trigger-repaired.new.tables c.take_trigger-repaired.result c.put_back.new.kept c.put_back.ensures.kept (c.take_trigger-repaired.ensures.memory (reads c.in-Some-get.trigger.now there)) gone
+    repaired_there c.take_trigger-repaired.new.tables c.take_trigger-repaired.result c.put_back.new.kept c.put_back.ensures (c.take_trigger-repaired.ensures.memory (reads c.in-Some-get.trigger.now there)) gone

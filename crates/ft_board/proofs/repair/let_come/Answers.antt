@@ -9,7 +9,7 @@ use Rattle.ft_kept.specs.Shelves.{Shelves}
 use Rattle.ft_base.specs.Base.{Base, Triggers}
 use Rattle.ft_board.specs.KeptShelves.{AreKeptOf}
 use Rattle.ft_board.specs.inner.ButOneEvent.{AreKeptWithout}
-use Rattle.ft_replay.specs.Deferral.{IsNoHit}
+use Rattle.ft_answers.specs.Deferral.{IsNoHit}
 use Rattle.ft_board.proofs.FewSteps.{come_cost}
 use Rattle.ft_board.proofs.KeptBoardForms.{all_shelved}
 use Rattle.ft_board.proofs.KeptBoardRepair.{come_can, come_kept}
@@ -42,7 +42,7 @@ returns-clause-kept c =
     let there : event_at base.lanes c.args.place.cpu c.args.place.line ≡ Some event = ap (λ (lanes : Lanes). event_at lanes c.args.place.cpu c.args.place.line) (sym c.lanes-lanes.ensures.lanes) ∙ sym c.in-Some-get.ensures in
     let stamp : c.event.inside.stamp ≡ event.stamp = ap (λ (e : Traced). e.stamp) c.event.view_is in
     let after : Shelves = c.event_comes-repaired.new.self in
-    subst (λ (o : Option Shelves). IfSome o (AreKeptOf base)) (sym c.put_back.ensures.kept)
+    subst (λ (o : Option Shelves). IfSome o (AreKeptOf base)) (sym c.put_back.ensures)
     (repaired_if (AreKeptOf base) after c.event_comes-repaired.result
     (both_ok c.event_comes-repaired.result (λ forms is. come_kept base c.args.place event there c.in-Some.tables kept after forms
     (subst (λ (held : (Triggers × Lanes) × Pos). EventHasCome held.0.0 held.0.1 held.1 event c.in-Some.tables after) (λ i. ((c.triggers-triggers.ensures i, c.lanes-lanes.ensures.lanes i), record { stamp = stamp i; cpu = c.args.place.cpu; line = c.args.place.line })) is))
@@ -71,5 +71,5 @@ returns-clause-now c missed gone =
     let there : event_at base.lanes c.args.place.cpu c.args.place.line ≡ Some event = ap (λ (lanes : Lanes). event_at lanes c.args.place.cpu c.args.place.line) (sym c.lanes-lanes.ensures.lanes) ∙ sym c.in-Some-get.ensures in
     let same : missed.0 ≡ event = ap (λ (o : Option Traced). unwrap_or o event) (sym missed.1.0 ∙ there) in
     let none : IsNoHit base.triggers event = subst (IsNoHit base.triggers) same missed.1.1 in
-    repaired_there c.event_comes-repaired.new.self c.event_comes-repaired.result c.put_back.new.kept c.put_back.ensures.kept
+    repaired_there c.event_comes-repaired.new.self c.event_comes-repaired.result c.put_back.new.kept c.put_back.ensures
     (c.event_comes-repaired.ensures.memory (subst (λ (triggers : Triggers). IsNoHit triggers event) (sym c.triggers-triggers.ensures) none)) gone

@@ -10,7 +10,7 @@ use Rattle.ft_base.specs.Base.{Base, Triggers}
 use Rattle.ft_board.specs.KeptShelves.{AreKeptOf}
 use Rattle.ft_board.specs.inner.ButOneEvent.{AreKeptWithout}
 use Rattle.ft_kept.specs.Memory as memory
-use Rattle.ft_replay.specs.Deferral.{IsPlainHit}
+use Rattle.ft_answers.specs.Deferral.{IsPlainHit}
 use Rattle.ft_board.proofs.FewSteps.{go_cost}
 use Rattle.ft_board.proofs.KeptBoardForms.{all_shelved, plain_shelf}
 use Rattle.ft_board.proofs.KeptBoardRepair.{go_can, go_kept}
@@ -43,7 +43,7 @@ returns-clause-kept c =
     let there : event_at base.lanes c.args.place.cpu c.args.place.line ≡ Some event = ap (λ (lanes : Lanes). event_at lanes c.args.place.cpu c.args.place.line) (sym c.lanes-lanes.ensures.lanes) ∙ sym c.in-Some-get.ensures in
     let stamp : c.event.inside.stamp ≡ event.stamp = ap (λ (e : Traced). e.stamp) c.event.view_is in
     let after : Shelves = c.event_goes-repaired.new.self in
-    subst (λ (o : Option Shelves). IfSome o (AreKeptWithout base c.args.place)) (sym c.put_back.ensures.kept)
+    subst (λ (o : Option Shelves). IfSome o (AreKeptWithout base c.args.place)) (sym c.put_back.ensures)
     (repaired_if (AreKeptWithout base c.args.place) after c.event_goes-repaired.result
     (both_ok c.event_goes-repaired.result (λ forms is. go_kept base c.args.place event there c.in-Some.tables kept after forms
     (subst (λ (held : (Triggers × Lanes) × Pos). EventHasGone held.0.0 held.0.1 held.1 event c.in-Some.tables after) (λ i. ((c.triggers-triggers.ensures i, c.lanes-lanes.ensures.lanes i), record { stamp = stamp i; cpu = c.args.place.cpu; line = c.args.place.line })) is))
@@ -74,5 +74,5 @@ returns-clause-now c plain gone =
     let same : plain.0 ≡ event = ap (λ (o : Option Traced). unwrap_or o event) (sym plain.1.0 ∙ there) in
     let hits : IsPlainHit base.triggers event = subst (IsPlainHit base.triggers) same plain.1.1 in
     let acts : memory.IsPlainHit base.triggers c.in-Some.tables event = λ id hist attached key is. plain_shelf base.triggers c.in-Some.tables kept.each id hist attached (hits id hist attached key is) in
-    repaired_there c.event_goes-repaired.new.self c.event_goes-repaired.result c.put_back.new.kept c.put_back.ensures.kept
+    repaired_there c.event_goes-repaired.new.self c.event_goes-repaired.result c.put_back.new.kept c.put_back.ensures
     (c.event_goes-repaired.ensures.memory (subst (λ (triggers : Triggers). memory.IsPlainHit triggers c.in-Some.tables event) (sym c.triggers-triggers.ensures) acts)) gone

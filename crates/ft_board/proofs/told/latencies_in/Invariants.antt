@@ -3,7 +3,7 @@ use Rattle.ft_fields.specs.Places.{pos_cmp}
 use Rattle.ft_fields.specs.declared.pos.Pos.{Pos}
 use Rattle.ft_maps.specs.Seen.{seen}
 use Rattle.ft_replay.specs.Found.{pairs_in}
-use Rattle.ft_replay.specs.Answers.{latency_of}
+use Rattle.ft_answers.specs.Answers.{latency_of}
 use Rattle.ft_replay.specs.declared.pair.Pair.{Pair}
 use Rattle.ft_board.proofs.told.latencies_in.Given as goal
 

@@ -2,8 +2,8 @@ use Rattle.std.proofs.Common.{◌≡◌, Option, Some, None, codes, decimal, map
 use Rattle.std.proofs.lemmas.Result.{on_ok_weaker}
 use Rattle.ft_fields.specs.declared.event.Name.{Name}
 use Rattle.ft_filter.specs.Tree.{Tree, Condition}
-use Rattle.ft_hist.specs.Canonical.{canonical, listed, sort_text, if_text}
-use Rattle.ft_hist.proofs.Appends.{added_seven}
+use Rattle.ft_hist.specs.Canonical.{canonical, listed, sort_text, onmatch_text, if_text}
+use Rattle.ft_hist.proofs.Appends.{added_eight}
 use Rattle.ft_hist.proofs.writing.write_trigger.Goals as goal
 
 -- a filter's condition has the filter's tree
@@ -17,4 +17,4 @@ returns-clause-ok c =
     let hist = c.args.trigger.now in
     let variable = rw c.variable.ensures at c.in_ok-write_variable.ensures.ok in
     let filter = rw (c.filter.ensures, trees_of_conditions hist.event hist.filter) at c.write_filter.ensures.ok in
-    on_ok_weaker c.write_filter.result (added_seven c.args.text.now.items c.write_counted.new.text.items c.write_variable.new.text.items c.write_table.new.text.items c.write_filter.new.text.items _ _ (codes ":sort=") (listed (map (sort_text hist) hist.sort)) (codes ":size=") (decimal hist.size) (if_text hist.filter) c.in_ok-write_counted.ensures.ok variable c.in_ok-write_table.ensures.ok) filter
+    on_ok_weaker c.write_filter.result (added_eight c.args.text.now.items c.write_counted.new.text.items c.write_variable.new.text.items c.write_table.new.text.items c.write_onmatch.new.text.items c.write_filter.new.text.items _ _ (codes ":sort=") (listed (map (sort_text hist) hist.sort)) (codes ":size=") (decimal hist.size) (onmatch_text hist.variable hist.onmatch) (if_text hist.filter) c.in_ok-write_counted.ensures.ok variable c.in_ok-write_table.ensures.ok c.in_ok-write_onmatch.ensures.ok) filter

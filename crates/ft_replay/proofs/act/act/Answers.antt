@@ -6,7 +6,8 @@ use Rattle.std.specs.FinMap as map
 use Rattle.std.specs.FinMap.{nat_cmp-IsAntisymmetric}
 use Rattle.std.proofs.lemmas.Result.{on_ok_weaker}
 use Rattle.ft_maps.specs.Seen.{seen, get-seen, seen-found}
-use Rattle.ft_replay.specs.inner.Counters.{Counting, Counters, Saved}
+use Rattle.ft_replay.specs.Counters.{Counting, Counters}
+use Rattle.ft_replay.specs.inner.Replaying.{Saved}
 use Rattle.ft_pairs.specs.Variables.{variable_cmp}
 use Rattle.ft_replay.proofs.Counting.{after_act-no_hit, after_act-no_counter, after_act-hit}
 use Rattle.ft_replay.proofs.act.act.Goals as goal

@@ -3,7 +3,7 @@ use Rattle.std.proofs.Common.{◌≡◌, None, sym, ap, ◌∙◌}
 use Rattle.std.specs.FinMap as map
 use Rattle.ft_maps.specs.Seen.{seen}
 use Rattle.ft_table.specs.Values.{values_at}
-use Rattle.ft_replay.specs.inner.Counters.{Saved, after_hit}
+use Rattle.ft_replay.specs.inner.Replaying.{Saved, after_hit}
 use Rattle.ft_pairs.specs.Variables.{variable_cmp, variable_cmp_total, variable_same}
 use Rattle.ft_pairs.specs.declared.role.Variable.{Variable}
 use Rattle.ft_pairs.specs.declared.role.Role.{Role}

@@ -1,7 +1,7 @@
 use Rattle.ft_replay.proofs.Growing.{get-tally}
 use Rattle.ft_replay.proofs.KeptMaps.{pairs-found}
 use Rattle.ft_replay.proofs.Listed.{get-hits_of}
-use Rattle.ft_replay.proofs.Replayed.{replayed_none}
+use Rattle.ft_replay.proofs.OneByOne.{replayed_none}
 use Rattle.ft_replay.proofs.Replaying.{tally-replayed, admitted-rank}
 use Rattle.ft_replay.proofs.Shown.{rows-tally, totals-tally}
 use Rattle.ft_replay.proofs.laws.counted_hits.Goals as goal

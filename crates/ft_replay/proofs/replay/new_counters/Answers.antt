@@ -8,7 +8,8 @@ use Rattle.ft_hist.specs.Hist.{Hist}
 use Rattle.ft_maps.specs.Seen.{seen, seen-empty}
 use Rattle.ft_base.specs.Base.{Triggers}
 use Rattle.ft_base.specs.Roles.{role_of}
-use Rattle.ft_replay.specs.inner.Counters.{Counters, with_counter, new_counter}
+use Rattle.ft_replay.specs.Counters.{Counters}
+use Rattle.ft_replay.specs.inner.Replaying.{with_counter, new_counter}
 use Rattle.ft_replay.proofs.Counters.{new_counters-fold}
 use Rattle.ft_replay.proofs.replay.new_counters.Goals as goal
 

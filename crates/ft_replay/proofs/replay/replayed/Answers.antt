@@ -19,7 +19,8 @@ use Rattle.ft_base.specs.Base.{Triggers}
 use Rattle.ft_replay.specs.Merged.{Events, merged}
 use Rattle.ft_replay.specs.Named.{named}
 use Rattle.ft_replay.specs.Replay.{State, step}
-use Rattle.ft_replay.specs.inner.Counters.{state_in, new_counters, HaveCounters, AllBeforePlace}
+use Rattle.ft_replay.specs.Counters.{HaveCounters}
+use Rattle.ft_replay.specs.inner.Replaying.{state_in, new_counters, AllBeforePlace}
 use Rattle.ft_pairs.specs.Variables.{variable_cmp}
 use Rattle.ft_replay.proofs.Earlier.{act_of, all_above}
 use Rattle.ft_base.proofs.Apart.{all_of}

@@ -12,7 +12,8 @@ use Rattle.ft_maps.specs.Seen.{seen}
 use Rattle.ft_replay.specs.Merged.{merged}
 use Rattle.ft_replay.specs.Named.{named}
 use Rattle.ft_replay.specs.Replay.{step, started}
-use Rattle.ft_replay.specs.inner.Counters.{state_in, HaveCounters, AllBeforePlace}
+use Rattle.ft_replay.specs.Counters.{HaveCounters}
+use Rattle.ft_replay.specs.inner.Replaying.{state_in, AllBeforePlace}
 use Rattle.ft_hist.specs.Steps.{StepsGrow}
 use Rattle.ft_pairs.specs.Variables.{variable_cmp}
 use Rattle.ft_replay.proofs.replay.replayed.Given as goal

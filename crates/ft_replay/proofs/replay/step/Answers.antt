@@ -18,7 +18,8 @@ use Rattle.ft_maps.specs.Seen.{seen}
 use Rattle.ft_pairs.specs.declared.at.At.{At}
 use Rattle.ft_base.specs.Base.{Triggers}
 use Rattle.ft_replay.specs.Replay.{State, act_at}
-use Rattle.ft_replay.specs.inner.Counters.{Counters, Saved, state_in, after_act, HaveCounters, AllBefore}
+use Rattle.ft_replay.specs.Counters.{Counters, HaveCounters}
+use Rattle.ft_replay.specs.inner.Replaying.{Saved, state_in, after_act, AllBefore}
 use Rattle.ft_pairs.specs.Variables.{variable_cmp}
 use Rattle.ft_replay.proofs.Earlier.{act_of, earlier_place, lower_id, all_above}
 use Rattle.ft_base.proofs.Apart.{all_of, entries_found}

@@ -10,7 +10,8 @@ use Rattle.ft_fields.specs.Places.{pos_cmp}
 use Rattle.ft_fields.specs.declared.pos.Pos.{Pos}
 use Rattle.ft_maps.specs.Seen.{seen}
 use Rattle.ft_replay.specs.Replay.{act_at}
-use Rattle.ft_replay.specs.inner.Counters.{state_in, HaveCounters, AllBefore, AllBeforePlace}
+use Rattle.ft_replay.specs.Counters.{HaveCounters}
+use Rattle.ft_replay.specs.inner.Replaying.{state_in, AllBefore, AllBeforePlace}
 use Rattle.ft_hist.specs.Steps.{StepsGrow}
 use Rattle.ft_pairs.specs.Variables.{variable_cmp}
 use Rattle.ft_replay.proofs.Earlier.{act_of}

@@ -7,12 +7,16 @@ use Rattle.std.proofs.Common.{subst, Ok, ◌≡◌, rules}
 use Rattle.ft_head.specs.Draft.{Draft}
 use Rattle.ft_head.specs.Drafts.{draft_of}
 use Rattle.ft_trigger.specs.TriggerIs.{finished}
-use Rattle.ft_trigger.proofs.SoundLemmas.{finished_is}
+use Rattle.ft_trigger.proofs.SoundLemmas.{finished_is, bare_sound}
 use Rattle.ft_trigger.proofs.reading.finished.Goals as goal
 
-pub of-requires-clause-sound : goal.of-requires-clause-sound
-of-requires-clause-sound c = c.requires.sound _ (subst (λ (d : Draft). finished c.args.event c.args.head c.args.place c.args.tail.now d ≡ Ok (record { event = c.args.event; keys = c.in-Some.keys.items; values = c.in_ok-values-in-Some.values.items; sort = c.in_ok-sort-in-Some.sort.items; variable = c.draft.inside.variable; size = c.unwrap_or-size.result; filter = option_map (λ f. f.tree) c.in_ok-filter-in-Some.filter })) c.draft.view_is
-    (finished_is c.args.event c.args.head c.args.place c.args.tail.now (draft_of c.draft.inside) c.in-Some.keys.items c.in_ok-values-in-Some.values.items c.in_ok-sort-in-Some.sort.items c.unwrap_or-size.result (option_map (λ f. f.tree) c.in_ok-filter-in-Some.filter) (search rules) (search rules) (search rules) (search rules) (search rules)))
+pub of-trigger-requires-clause-sound : goal.of-trigger-requires-clause-sound
+of-trigger-requires-clause-sound c = bare_sound _ (c.requires.sound _ (subst (λ (d : Draft). finished c.args.event c.args.head c.args.place c.args.tail.now d ≡ Ok (record { event = c.args.event; keys = c.in-Some.keys.items; values = c.in_ok-values-in-Some.values.items; sort = c.in_ok-sort-in-Some.sort.items; variable = c.draft.inside.variable; size = c.unwrap_or-size.result; onmatch = c.onmatch_of-onmatch.result; filter = option_map (λ f. f.tree) c.in_ok-filter-in-Some.filter })) c.draft.view_is
+    (finished_is c.args.event c.args.head c.args.place c.args.tail.now (draft_of c.draft.inside) c.in-Some.keys.items c.in_ok-values-in-Some.values.items c.in_ok-sort-in-Some.sort.items c.unwrap_or-size.result c.onmatch_of-onmatch.result (option_map (λ f. f.tree) c.in_ok-filter-in-Some.filter) (search rules) (search rules) (search rules) (search rules) (search rules) (search rules) (search rules))))
+
+pub set_onmatch-requires : goal.set_onmatch-requires
+set_onmatch-requires c = rw c.of-trigger.ensures (c.requires.sound _ (subst (λ (d : Draft). finished c.args.event c.args.head c.args.place c.args.tail.now d ≡ Ok (record { event = c.args.event; keys = c.in-Some.keys.items; values = c.in_ok-values-in-Some.values.items; sort = c.in_ok-sort-in-Some.sort.items; variable = c.draft.inside.variable; size = c.unwrap_or-size.result; onmatch = c.onmatch_of-onmatch.result; filter = option_map (λ f. f.tree) c.in_ok-filter-in-Some.filter })) c.draft.view_is
+    (finished_is c.args.event c.args.head c.args.place c.args.tail.now (draft_of c.draft.inside) c.in-Some.keys.items c.in_ok-values-in-Some.values.items c.in_ok-sort-in-Some.sort.items c.unwrap_or-size.result c.onmatch_of-onmatch.result (option_map (λ f. f.tree) c.in_ok-filter-in-Some.filter) (search rules) (search rules) (search rules) (search rules) (search rules) (search rules) (search rules))))
 
 pub returns-in_err-values-in-Some-clause-memory : goal.returns-in_err-values-in-Some-clause-memory
 returns-in_err-values-in-Some-clause-memory c =

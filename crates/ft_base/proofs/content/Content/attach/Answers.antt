@@ -41,7 +41,7 @@ invariant_of-self-2 c =
     let hist = c.args.trigger in
     let triggers : seen nat_cmp c.put.new.map ≡ map.insert base.triggers base.next_id hist = at_ok c.put.result c.if-is_err.ensures.value c.put.ensures.ok in
     let few : map.len base.triggers < trigger_limit = omega (arith, c.len.ensures) in
-    let free : variable_refused base.triggers hist.keys hist.variable ≡ None = sym c.in_default.ensures in
+    let free : variable_refused base.triggers hist hist.variable ≡ None = sym c.in_default.ensures in
     rw triggers (attach-IsReachable base hist c.self.invariant few (omega arith) free)
 
 pub returns-clause-gives : goal.returns-clause-gives
@@ -50,7 +50,7 @@ returns-clause-gives c =
     let hist = c.args.trigger in
     let triggers : seen nat_cmp c.put.new.map ≡ map.insert base.triggers base.next_id hist = at_ok c.put.result c.if-is_err.ensures.value c.put.ensures.ok in
     let few : map.len base.triggers < trigger_limit = omega (arith, c.len.ensures) in
-    let free : variable_refused base.triggers hist.keys hist.variable ≡ None = sym c.in_default.ensures in
+    let free : variable_refused base.triggers hist hist.variable ≡ None = sym c.in_default.ensures in
     ap (λ b. after_attach b hist) (sym c.self.view_is) ∙ attach-ok base hist few (omega arith) free ∙ (λ i. Ok (record base { triggers = sym triggers i; next_id = base.next_id + 1 }, base.next_id))
 
 pub returns-clause-joins : goal.returns-clause-joins
@@ -59,6 +59,6 @@ returns-clause-joins c =
     let hist = c.args.trigger in
     let triggers : seen nat_cmp c.put.new.map ≡ map.insert base.triggers base.next_id hist = at_ok c.put.result c.if-is_err.ensures.value c.put.ensures.ok in
     let few : map.len base.triggers < trigger_limit = omega (arith, c.len.ensures) in
-    let free : variable_refused base.triggers hist.keys hist.variable ≡ None = sym c.in_default.ensures in
+    let free : variable_refused base.triggers hist hist.variable ≡ None = sym c.in_default.ensures in
     subst (λ (b : Base × Base). JoinsAs base.next_id hist b.0 b.1) (λ i. (c.self.view_is i, record base { triggers = sym triggers i; next_id = base.next_id + 1 }))
     (attached_joins base hist c.self.invariant few (omega arith) free)

@@ -1,8 +1,26 @@
 -- A filter for the trigger's event is one for the event of the trigger that the base has.
-use Rattle.std.proofs.Common.{sym, ap, ◌∙◌}
+use Rattle.std.proofs.Common.{sym, ap, subst, ◌∙◌, arith}
 use Rattle.std.specs.FinMap as map
-use Rattle.ft_replay.specs.Shown.{Shown}
+use Rattle.ft_hist.specs.Steps.{Steps}
+use Rattle.ft_base.specs.Base.{Base}
+use Rattle.ft_answers.specs.Counting.{MakesNothing}
+use Rattle.ft_answers.specs.Deferral.{ReadsNothing}
+use Rattle.ft_answers.specs.Shown.{Shown}
+use Rattle.ft_board.proofs.CountingNone.{refiltered_nothing}
 use Rattle.ft_board.proofs.kept.KeptBoardBoard.refilter.Goals as goal
 
 pub refilter-requires : goal.refilter-requires
 refilter-requires c = λ hist is x given. c.requires hist (ap (λ (shown : Shown). map.get shown.base.triggers c.args.id) (sym c.self.view_is) ∙ is) x given
+
+-- where no made event is counted, the tables of made events take no step
+pub returns-clause-costs : goal.returns-clause-costs
+returns-clause-costs c nothing reads =
+    let base : Base = c.self.inside.content in
+    let new : Base = c.refilter.new.self in
+    let before : MakesNothing base.triggers = subst (λ (s : Shown). MakesNothing s.base.triggers) (sym c.self.view_is) nothing in
+    let unread : ReadsNothing base.triggers c.args.id = subst (λ (s : Shown). ReadsNothing s.base.triggers c.args.id) (sym c.self.view_is) reads in
+    let none : MakesNothing new.triggers = refiltered_nothing base new c.args.id c.in_ok-value.value _ c.in_ok-value.ensures.gives c.in_ok-value.ensures.filters before in
+    let remade = ap (λ (s : Steps). s.evals) (c.remake-kept.ensures.nothing none).1 in
+    let left = ap (λ (s : Steps). s.evals) (c.make_way.ensures.none unread) in
+    let start = ap (λ (s : Shown). s.steps.evals) c.self.view_is in
+    omega (arith, remade, left, start, c.join.ensures.evals)

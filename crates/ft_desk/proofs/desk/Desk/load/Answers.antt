@@ -1,6 +1,7 @@
 use Rattle.std.proofs.Common.{refl, inl, inr, rules}
 use Rattle.std.proofs.lemmas.Result.{err_from_is_err_and}
 use Rattle.ft_desk.proofs.Edits.{load-events, load-refused}
+use Rattle.ft_desk.proofs.Unmade.{text_held}
 use Rattle.ft_desk.proofs.desk.Desk.load.Goals as goal
 
 pub returns-clause-gives : goal.returns-clause-gives
@@ -17,3 +18,6 @@ returns-in_err-events-clause-gives g c =
         | inr bad ↦ inr (load-refused c.args.self.now.base c.args.text.now _ bad)
       ],
     )
+
+pub load-requires : goal.load-requires
+load-requires g c = text_held c.no_made_event.ensures c.args.text.now c.in_ok-events.events.items (search rules)

@@ -3,7 +3,7 @@ use Rattle.std.specs.Prelude.{ok_or}
 use Rattle.std.specs.Option.{option_copied}
 use Rattle.std.proofs.lemmas.Result.{err_from_is_err_and}
 use Rattle.ft_base.specs.declared.refused.Refused.TheVariants.{NoTrigger}
-use Rattle.ft_replay.specs.Shown.{Shown}
+use Rattle.ft_answers.specs.Shown.{Shown}
 use Rattle.ft_desk.proofs.Edits.{name_at, refilter-none, refilter-refused, refilter-filter}
 use Rattle.ft_desk.proofs.desk.Desk.refilter.Goals as goal
 

@@ -1,5 +1,5 @@
 use Rattle.std.proofs.Common.{refl, inr}
-use Rattle.ft_replay.specs.After.{after_remove}
+use Rattle.ft_answers.specs.After.{after_remove}
 use Rattle.ft_desk.proofs.Empty.{no-trigger}
 use Rattle.ft_desk_tests.proofs.no_room.NoRoomBoard.remove.Goals as goal
 

@@ -20,4 +20,4 @@ of-requires-clause-sound c =
     let keys : c.push.new.self.items ≡ by_cpu ∷ [] = c.in_ok-push.ensures.items ∙ ap (λ (t : List KeyItem). t ++ (by_cpu ∷ [])) c.new-keys.ensures.items in
     let values : c.extend_from_slice.new.self.items ≡ c.args.values.now = c.in_ok-extend_from_slice.ensures.items ∙ ap (λ (t : List Item). t ++ c.args.values.now) c.new-value_items.ensures.items in
     let sort : c.push-2.new.self.items ≡ by_hits ∷ [] = c.in_ok-push-2.ensures.items ∙ ap (λ (t : List SortItem). t ++ (by_hits ∷ [])) c.new-sort.ensures.items in
-    rw (keys, values, sort) (record { keys = refl; values = c.requires.sound; sort = refl })
+    rw (keys, values, sort) (record { keys = refl; values = c.requires.sound; sort = refl; onmatch = refl; last = refl })

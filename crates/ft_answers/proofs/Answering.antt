@@ -1,0 +1,75 @@
+-- What a trigger answers, from its counter.
+use Rattle.std.proofs.Common.{◌≡◌, ℕ, Bool, true, false, refl, sym, ap, subst, ◌∙◌, Some, None, Option, Result, Ok, Err}
+use Rattle.std.specs.Prelude.{IsSome, option_map, unwrap_or, map as list_map, if◌then◌else◌}
+use Rattle.std.specs.Option.{option_map_or}
+use Rattle.std.specs.Cmp.{nat_cmp_total}
+use Rattle.std.specs.FinMap as map
+use Rattle.ft_hist.specs.Hist.{Hist}
+use Rattle.ft_hist.specs.declared.label.Var.{Var}
+use Rattle.ft_hist.specs.declared.label.Var.TheVariants as vars
+use Rattle.ft_maps.specs.Mapped.{map_by, get-map_by}
+use Rattle.ft_table.specs.Rows.{AllFit}
+use Rattle.ft_base.specs.declared.refused.Refused.{Refused}
+use Rattle.ft_base.specs.declared.refused.Refused.TheVariants.{NoTrigger, NotReading}
+use Rattle.ft_base.specs.Base.{Triggers}
+use Rattle.ft_replay.specs.Merged.{Events}
+use Rattle.ft_made.specs.Laws.{HeldAreCounted}
+use Rattle.ft_answers.specs.Answers.{tally_at, tally_made, tally_shown, of_attached, latency_of, latencies_as}
+use Rattle.ft_answers.specs.Counting.{counts_made}
+use Rattle.ft_replay.specs.Replay.{State, replay}
+use Rattle.ft_replay.specs.Counters.{Counting, Counters, tally_in, HasCounter, HaveCounters}
+use Rattle.ft_base.specs.Roles.{is_reader}
+use Rattle.ft_replay.specs.Tally.{Tally, empty_tally}
+
+-- ---- a trigger's counter
+
+module _ (triggers : Triggers) (counters : Counters) (complete : HaveCounters triggers counters) (id : ℕ) where
+  -- an attached trigger has a counter
+  pub some_counter : IsSome (map.get triggers id) → IsSome (map.get counters id)
+  some_counter attached =
+      elim (map.get triggers id) as (λ o. map.get triggers id ≡ o → IsSome o → IsSome (map.get counters id)) [
+        | None ↦ λ is some. let both : ◌≡◌ {A = Bool} false true = some in absurd cc
+        | Some hist ↦ λ is some. let has : HasCounter triggers counters id hist = complete id hist is in subst IsSome (sym has.there) refl
+      ] refl attached
+
+  -- its keys fit the trigger
+  pub counter_fits : (counter : Counting) → map.get counters id ≡ Some counter → (hist : Hist) → map.get triggers id ≡ Some hist → AllFit counter.table hist
+  counter_fits counter there hist is =
+      let has : HasCounter triggers counters id hist = complete id hist is in
+      let same : has.counter ≡ counter = ap (λ (o : Option Counting). unwrap_or o counter) (sym has.there ∙ there) in
+      subst (λ (s : Counting). AllFit s.table hist) same has.suits.fit
+
+-- its tally is that of the replay, which counts held events as if none were made
+pub counter_tally : HeldAreCounted → (triggers : Triggers) (events : Events) (counters : Counters) (id : ℕ) (counter : Counting) → map_by tally_in counters ≡ (replay triggers events).tallies → map.get counters id ≡ Some counter
+    → tally_in counter ≡ tally_at triggers events id
+counter_tally first triggers events counters id counter is there =
+    sym (ap (λ (o : Option Tally). unwrap_or o empty_tally) (ap (λ (state : State). map.get state.tallies id) (first triggers events) ∙ ap (λ tallies. map.get tallies id) (sym is) ∙ get-map_by tally_in nat_cmp_total counters id ∙ ap (option_map tally_in) there))
+
+-- ---- what a table shows
+
+module _ (triggers : Triggers) (events : Events) (id : ℕ) (hist : Hist) where
+  -- made events, where the trigger counts these
+  pub shown-made : counts_made hist ≡ true → tally_shown triggers events id hist ≡ tally_made triggers events id
+  shown-made is = ap (λ (b : Bool). if b then tally_made triggers events id else tally_at triggers events id) is
+
+  -- held events, where it doesn't
+  pub shown-held : counts_made hist ≡ false → tally_shown triggers events id hist ≡ tally_at triggers events id
+  shown-held is = ap (λ (b : Bool). if b then tally_made triggers events id else tally_at triggers events id) is
+
+-- ---- answers
+
+module _ {T : Type 0} (triggers : Triggers) (id : ℕ) where
+  -- of an attached trigger
+  pub of_attached-some : (answer : Hist → Result T Refused) (hist : Hist) → map.get triggers id ≡ Some hist → of_attached triggers id answer ≡ answer hist
+  of_attached-some answer hist is = ap (λ o. option_map_or answer o (Err NoTrigger)) is
+
+-- a reader has latencies, and no one else
+pub latencies-reader : (variable : Option Var) (tally : Tally) → is_reader variable ≡ true → latencies_as variable tally ≡ Ok (list_map latency_of tally.pairs)
+latencies-reader None tally is = let both : ◌≡◌ {A = Bool} false true = is in absurd cc
+latencies-reader (Some (vars.Saves label)) tally is = let both : ◌≡◌ {A = Bool} false true = is in absurd cc
+latencies-reader (Some (vars.Reads own source)) tally is = refl
+
+pub latencies-other : (variable : Option Var) (tally : Tally) → is_reader variable ≡ false → latencies_as variable tally ≡ Err NotReading
+latencies-other None tally is = refl
+latencies-other (Some (vars.Saves label)) tally is = refl
+latencies-other (Some (vars.Reads own source)) tally is = let both : ◌≡◌ {A = Bool} true false = is in absurd cc

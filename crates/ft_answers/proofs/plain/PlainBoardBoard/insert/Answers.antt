@@ -1,0 +1,5 @@
+use Rattle.ft_answers.proofs.AnswerSteps.{edited_costs}
+use Rattle.ft_answers.proofs.plain.PlainBoardBoard.insert.Goals as goal
+
+pub returns-clause-repairs : goal.returns-clause-repairs
+returns-clause-repairs c = edited_costs c.self.inside.content c.insert.new.self c.args.event c.self.inside.work c.args.self.now c.self.view_is

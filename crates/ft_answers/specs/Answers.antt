@@ -1,0 +1,80 @@
+-- What a desk answers: functions of what replaying its base gives.
+use Rattle.std.specs.Prelude.{ℕ, ◌-◌, List, ◌++◌, unwrap_or, Option, Some, Result, Ok, Err, map as list_map, if◌then◌else◌}
+use Rattle.std.specs.Option.{option_map_or}
+use Rattle.std.specs.FinMap as map
+use Rattle.ft_fields.specs.declared.pos.Pos.{Pos}
+use Rattle.ft_hist.specs.Hist.{Hist}
+use Rattle.ft_hist.specs.declared.label.Var.{Var}
+use Rattle.ft_hist.specs.declared.label.Var.TheVariants as vars
+use Rattle.ft_rows.specs.declared.row.Totals.{Totals}
+use Rattle.ft_table.specs.Text.{heading, rows_text}
+use Rattle.ft_answers.specs.declared.latency.Latency.{Latency}
+use Rattle.ft_base.specs.declared.refused.Place.{Place}
+use Rattle.ft_base.specs.declared.refused.Refused.{Refused}
+use Rattle.ft_base.specs.declared.refused.Refused.TheVariants.{NoTrigger, NotReading}
+use Rattle.ft_replay.specs.declared.pair.Pair.{Pair}
+pub use Rattle.ft_base.specs.Answers.{list_text}
+use Rattle.ft_base.specs.Base.{Triggers, Base}
+use Rattle.ft_replay.specs.Merged.{Events, merged}
+use Rattle.ft_replay.specs.Tally.{Tally, empty_tally, rows_in, totals_in}
+use Rattle.ft_made.specs.ReplayMaking.{replay_making}
+use Rattle.ft_answers.specs.Counting.{counts_made}
+
+-- what the trigger with an id has counted of the held events, from replaying events (kernel: histogram.rst, hist triggers)
+abbrev pub tally_at : Triggers → Events → ℕ → Tally
+tally_at triggers events id = unwrap_or (map.get (replay_making triggers events).first.tallies id) empty_tally
+
+-- what the trigger with an id has counted of the events that readings make, from replaying events (kernel: histogram.rst, synthetic events)
+abbrev pub tally_made : Triggers → Events → ℕ → Tally
+tally_made triggers events id = unwrap_or (map.get (replay_making triggers events).made id) empty_tally
+
+-- what the table of the trigger with an id shows: held events, or made ones, by the name that it is on (kernel: histogram.rst, synthetic events)
+abbrev pub tally_shown : Triggers → Events → ℕ → Hist → Tally
+tally_shown triggers events id hist = if counts_made hist then tally_made triggers events id else tally_at triggers events id
+
+-- an answer about an attached trigger; none is attached: refused (our own choice)
+abbrev pub of_attached : {T : Type 0} → Triggers → ℕ → (Hist → Result T Refused) → Result T Refused
+of_attached triggers id answer = option_map_or answer (map.get triggers id) (Err NoTrigger)
+
+-- the text of a trigger with a tally (kernel: histogram.rst, the `hist` file; the layout is our own choice)
+unfoldable pub tally_text : Hist → Tally → List ℕ
+tally_text hist tally = heading hist ++ rows_text hist (rows_in hist.sort tally) (totals_in tally)
+
+-- the text of the table of the trigger with an id, from replaying events (kernel: histogram.rst, the `hist` file)
+abbrev pub hist_from : Triggers → Events → ℕ → Result (List ℕ) Refused
+hist_from triggers events id = of_attached triggers id (λ hist. Ok (tally_text hist (tally_shown triggers events id hist)))
+
+-- the totals of the trigger with an id, from replaying events (kernel: histogram.rst, `Hits`, `Entries` and `Dropped`)
+abbrev pub totals_from : Triggers → Events → ℕ → Result Totals Refused
+totals_from triggers events id = of_attached triggers id (λ hist. Ok (totals_in (tally_shown triggers events id hist)))
+
+-- the line that stands at a place in the merged order (our own choice)
+abbrev pub line_at : Pos → Place
+line_at at = record { cpu = at.cpu; line = at.line }
+
+-- a pair as a latency: the microseconds from the saving to the reading (kernel: histogram.rst, wakeup latencies)
+abbrev pub latency_of : Pair → Latency
+latency_of pair = record { saved = line_at pair.saved; read = line_at pair.read; micros = pair.read.stamp - pair.saved.stamp }
+
+-- the latencies of a trigger with a variable: one that saves, or has none, has no latencies (our own choice)
+abbrev pub latencies_as : Option Var → Tally → Result (List Latency) Refused
+latencies_as (Some (vars.Reads own source)) tally = Ok (list_map latency_of tally.pairs)
+latencies_as variable tally = Err NotReading
+
+-- the latencies of the trigger with an id, in merged order of the reading, from replaying events (kernel: histogram.rst, wakeup latencies)
+abbrev pub latencies_from : Triggers → Events → ℕ → Result (List Latency) Refused
+latencies_from triggers events id = of_attached triggers id (λ hist. latencies_as hist.variable (tally_at triggers events id))
+
+-- ---- of a base
+
+-- the text of a trigger's table (kernel: histogram.rst, the `hist` file)
+unfoldable pub hist_text : Base → ℕ → Result (List ℕ) Refused
+hist_text base = hist_from base.triggers (merged base.lanes)
+
+-- a trigger's totals (kernel: histogram.rst, `Hits`, `Entries` and `Dropped`)
+unfoldable pub totals : Base → ℕ → Result Totals Refused
+totals base = totals_from base.triggers (merged base.lanes)
+
+-- a trigger's latencies (kernel: histogram.rst, wakeup latencies)
+unfoldable pub latencies : Base → ℕ → Result (List Latency) Refused
+latencies base = latencies_from base.triggers (merged base.lanes)

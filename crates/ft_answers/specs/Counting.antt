@@ -1,0 +1,24 @@
+-- Which attached triggers count the events that readings make (kernel: histogram.rst, synthetic events).
+use Rattle.std.specs.Prelude.{◌≡◌, ◌⊎◌, ℕ, Bool, true, false, Some, None}
+use Rattle.std.specs.FinMap as map
+use Rattle.ft_fields.specs.declared.event.Name.TheVariants as names
+use Rattle.ft_hist.specs.Hist.{Hist}
+use Rattle.ft_hist.specs.Hit.{same_name}
+use Rattle.ft_base.specs.Base.{Triggers}
+use Rattle.ft_base.specs.Roles.{is_reader}
+
+-- a trigger counts made events, and no held ones: it is on their name (kernel: histogram.rst, synthetic events)
+abbrev pub counts_made : Hist → Bool
+counts_made hist = same_name hist.event names.WakeupLatency
+
+-- no attached trigger counts made events (our own choice)
+abbrev pub CountNone : Triggers → Type 0
+CountNone triggers = (id : ℕ) (hist : Hist) → map.get triggers id ≡ Some hist → counts_made hist ≡ false
+
+-- no attached trigger that reads makes events; one that reads nothing has nothing to make them of (our own choice)
+abbrev pub ReadersMakeNone : Triggers → Type 0
+ReadersMakeNone triggers = (id : ℕ) (hist : Hist) → map.get triggers id ≡ Some hist → is_reader hist.variable ≡ true → hist.onmatch ≡ None
+
+-- no made event is counted: no attached trigger that reads makes any, or none is on their name (our own choice)
+abbrev pub MakesNothing : Triggers → Type 0
+MakesNothing triggers = ReadersMakeNone triggers ⊎ CountNone triggers

@@ -1,0 +1,42 @@
+-- When an edit puts nothing off (our own choice).
+use Rattle.std.specs.Prelude.{◌≡◌, ℕ, true, false, List, Some, None, Result, Err}
+use Rattle.std.specs.FinMap as map
+use Rattle.ft_fields.specs.Traced.{Traced}
+use Rattle.ft_hist.specs.Hist.{Hist}
+use Rattle.ft_hist.specs.Hit.{hit}
+use Rattle.ft_keys.specs.declared.key.Part.{Part}
+use Rattle.ft_base.specs.declared.refused.Refused.{Refused}
+use Rattle.ft_base.specs.declared.refused.Refused.TheVariants.{Memory}
+use Rattle.ft_lanes.specs.Held.{Lanes, event_at}
+use Rattle.ft_base.specs.Base.{Triggers}
+use Rattle.ft_base.specs.Roles.{is_reader}
+use Rattle.ft_answers.specs.Counting.{MakesNothing}
+use Rattle.ft_answers.specs.Shown.{Shown}
+
+-- a board whose tables lack no edit before lacks none afterwards (our own choice)
+abbrev pub PutsNothingOff : Shown → Shown → Type 0
+PutsNothingOff old new = old.deferred ≡ false → new.deferred ≡ false
+
+-- the same, where no made event is counted: tables of made events are made anew behind the edit, for which memory may run out (our own choice)
+abbrev pub PutsOffForMadeAlone : Shown → Shown → Type 0
+PutsOffForMadeAlone old new = MakesNothing old.base.triggers → PutsNothingOff old new
+
+-- the event is no hit of any attached trigger (kernel: histogram.rst, hist triggers)
+abbrev pub IsNoHit : Triggers → Traced → Type 0
+IsNoHit triggers event = (id : ℕ) (hist : Hist) → map.get triggers id ≡ Some hist → hit hist event ≡ None
+
+-- each attached trigger that the event is a hit of has no variable (kernel: histogram.rst, inter-event hist triggers)
+abbrev pub IsPlainHit : Triggers → Traced → Type 0
+IsPlainHit triggers event = (id : ℕ) (hist : Hist) → map.get triggers id ≡ Some hist → (key : List Part) → hit hist event ≡ Some key → hist.variable ≡ None
+
+-- each event of a CPU's lane is a hit of triggers without a variable alone (kernel: histogram.rst, inter-event hist triggers)
+abbrev pub IsPlainLane : Triggers → Lanes → ℕ → Type 0
+IsPlainLane triggers lanes cpu = (line : ℕ) (event : Traced) → event_at lanes cpu line ≡ Some event → IsPlainHit triggers event
+
+-- the trigger with an id, if there is one, reads no variable (kernel: histogram.rst, inter-event hist triggers)
+abbrev pub ReadsNothing : Triggers → ℕ → Type 0
+ReadsNothing triggers id = (hist : Hist) → map.get triggers id ≡ Some hist → is_reader hist.variable ≡ false
+
+-- an answer that needs no memory of its own: over a board that keeps tables it finds none wanting but where these lack an edit, and then they lack it still (our own choice)
+abbrev pub WantsForTables : {S : Type 0} → Shown → Shown → Result S Refused → Type 0
+WantsForTables old new answer = old.keeps ≡ true → answer ≡ Err Memory → (old.deferred ≡ true) × (new.deferred ≡ true)

@@ -1,0 +1,2 @@
+-- Words of private functions: what replaying leaves of readings.
+pub mod Readings

@@ -1,0 +1,158 @@
+//! What a board is, however it keeps its tables.
+
+use crate::done::Done;
+use crate::latency::Latency;
+use ft_base::{Place, Refused};
+use ft_fields::{Event, Name};
+use ft_filter::Filter;
+use ft_hist::Trigger;
+use ft_table::Totals;
+
+/// Lanes of events and attached triggers, with the answers that replaying the events gives.
+///
+/// A board that keeps tables repairs them as one event comes or goes, by few steps that contracts
+/// count where no made event is counted, and answers from them without a step.
+///
+/// A refused edit changes nothing, and drops what was handed in. `strike`, `unload` and `remove`
+/// never find memory wanting.
+pub trait Board: Drop {
+    ghost use Rattle.std.specs.Prelude.{◌≡◌, ◌≢◌, true, false, Some, Err, option_map};
+    ghost use Rattle.std.specs.List.{All};
+    ghost use Rattle.std.specs.Option.{ForSome};
+    ghost use Rattle.std.specs.FinMap as map;
+    ghost use Rattle.ft_fields.specs.Traced.{Traced, is_made};
+    ghost use Rattle.ft_hist.specs.Hist.{Hist};
+    ghost use Rattle.ft_lanes.specs.Held.{event_at, is_small};
+    ghost use Rattle.ft_base.specs.declared.refused.Refused.TheVariants.{Memory};
+    ghost use Rattle.ft_base.specs.After.{after_load, after_unload, after_insert, after_strike};
+    ghost use Rattle.ft_base.specs.After.{after_attach, after_refilter, after_remove};
+    ghost use Rattle.ft_answers.specs.Answers.{hist_text, totals, latencies, list_text};
+    ghost use Rattle.ft_answers.specs.Costs.{EditCounts, RepairCosts, LoadCosts, UnloadCosts};
+    ghost use Rattle.ft_answers.specs.Costs.{FilterCosts, AnswerCosts};
+    ghost use Rattle.ft_answers.specs.Deferral.{PutsNothingOff, PutsOffForMadeAlone};
+    ghost use Rattle.ft_answers.specs.Deferral.{IsNoHit, IsPlainHit, IsPlainLane, ReadsNothing};
+    ghost use Rattle.ft_answers.specs.Deferral.{WantsForTables};
+    ghost use Rattle.ft_answers.specs.Edited.{EditGives, AnswersFrom, AnswerIs};
+    ghost use Rattle.ft_answers.specs.Shown.{Shown};
+
+    /// What is held and attached, whether tables are kept and lack an edit, and the steps taken.
+    ghost shown: { Self → Shown };
+
+    /// Loads events in file order, a lane for each of their CPUs: how many were loaded. No event
+    /// that triggers make is among them. Refused where a lane is held, where too many events would
+    /// be, or for memory.
+    fn load(&mut self, events: Vec<Event>) -> Result<Done<u64>, Refused>
+        requires { All (λ event. is_made event.body ≡ false) events.items }
+        ensures gives { EditGives (λ count. count) (after_load (shown self.old).base events.items)
+            (shown self.old) (shown self.new) result }
+        ensures counts { EditCounts (shown self.old) (shown self.new) result }
+        ensures repairs { LoadCosts events.items (shown self.old) (shown self.new) };
+
+    /// Takes the lane of a CPU away: how many events it had. Refused where the lane is not held.
+    fn unload(&mut self, cpu: u32) -> Result<Done<u64>, Refused>
+        ensures gives { EditGives (λ count. count) (after_unload (shown self.old).base cpu)
+            (shown self.old) (shown self.new) result }
+        ensures memory { result ≢ Err Memory }
+        ensures counts { EditCounts (shown self.old) (shown self.new) result }
+        ensures repairs { UnloadCosts cpu (shown self.old) (shown self.new) }
+        ensures now { is_small (shown self.old).base.lanes cpu ≡ true
+            → IsPlainLane (shown self.old).base.triggers (shown self.old).base.lanes cpu
+            → PutsOffForMadeAlone (shown self.old) (shown self.new) };
+
+    /// Adds an event, none that triggers make, at the next line of its CPU's lane: the event's
+    /// place. The lane is made where there is none. Refused where too many events would be or the
+    /// lane's line numbers are used up, or for memory.
+    fn insert(&mut self, event: Event) -> Result<Done<Place>, Refused>
+        requires { is_made event.body ≡ false }
+        ensures gives { EditGives (λ place. place) (after_insert (shown self.old).base event)
+            (shown self.old) (shown self.new) result }
+        ensures counts { EditCounts (shown self.old) (shown self.new) result }
+        ensures repairs { RepairCosts event (shown self.old) (shown self.new) }
+        ensures now { IsNoHit (shown self.old).base.triggers event
+            → PutsNothingOff (shown self.old) (shown self.new) };
+
+    /// Takes the event of a CPU's line away: its place. The number is not given again while the
+    /// lane is held. Refused where the lane is not held, or has no such line.
+    fn strike(&mut self, cpu: u32, line: u32) -> Result<Done<Place>, Refused>
+        ensures gives { EditGives (λ place. place) (after_strike (shown self.old).base cpu line)
+            (shown self.old) (shown self.new) result }
+        ensures memory { result ≢ Err Memory }
+        ensures counts { EditCounts (shown self.old) (shown self.new) result }
+        ensures repairs { (event : Traced)
+            → event_at (shown self.old).base.lanes cpu line ≡ Some event
+            → RepairCosts event (shown self.old) (shown self.new) }
+        ensures now { (event : Traced)
+            → event_at (shown self.old).base.lanes cpu line ≡ Some event
+            → IsPlainHit (shown self.old).base.triggers event
+            → PutsOffForMadeAlone (shown self.old) (shown self.new) }
+        ensures missed { (event : Traced)
+            → event_at (shown self.old).base.lanes cpu line ≡ Some event
+            → IsNoHit (shown self.old).base.triggers event
+            → PutsNothingOff (shown self.old) (shown self.new) };
+
+    /// Attaches a trigger: its id. Refused where 64 are attached or the ids are used up, where its
+    /// variable's name is saved already, where nobody saves what it reads (at the event that its
+    /// onmatch part names, if it has one), where its keys don't match its saver's, or for memory.
+    fn attach(&mut self, trigger: Trigger) -> Result<Done<u32>, Refused>
+        requires { trigger.event ≢ Name.Other }
+        ensures gives { EditGives (λ id. id) (after_attach (shown self.old).base trigger)
+            (shown self.old) (shown self.new) result }
+        ensures counts { EditCounts (shown self.old) (shown self.new) result };
+
+    /// Gives a trigger another filter, or none: its id. The filter is for the trigger's event, and
+    /// holds for the events held before as for those to come. Refused where no trigger has the id,
+    /// or for memory.
+    fn refilter(&mut self, id: u32, filter: Option<Filter>) -> Result<Done<u32>, Refused>
+        requires { (hist : Hist) → map.get (shown self.old).base.triggers id ≡ Some hist
+            → ForSome filter (λ f. f.event ≡ hist.event) }
+        ensures gives { EditGives (λ id. id)
+            (after_refilter (shown self.old).base id (option_map (λ f. f.tree) filter))
+            (shown self.old) (shown self.new) result }
+        ensures counts { EditCounts (shown self.old) (shown self.new) result }
+        ensures costs { FilterCosts id (shown self.old) (shown self.new) };
+
+    /// Takes a trigger away: its id, which is not given again. Refused where no trigger has the
+    /// id, or where it saves what another reads.
+    fn remove(&mut self, id: u32) -> Result<Done<u32>, Refused>
+        ensures gives { EditGives (λ id. id) (after_remove (shown self.old).base id)
+            (shown self.old) (shown self.new) result }
+        ensures memory { result ≢ Err Memory }
+        ensures counts { EditCounts (shown self.old) (shown self.new) result }
+        ensures now { ReadsNothing (shown self.old).base.triggers id
+            → PutsOffForMadeAlone (shown self.old) (shown self.new) };
+
+    /// The event that the trigger with an id is on. Takes no memory.
+    fn name_of(&self, id: u32) -> Option<Name>
+        ensures { result
+            ≡ option_map (λ hist. hist.event) (map.get (shown self.now).base.triggers id) };
+
+    /// The text of a trigger's table. Refused where no trigger has the id, or for memory.
+    fn hist(&mut self, id: u32) -> Result<Vec<u8>, Refused>
+        ensures gives { AnswersFrom (λ text. text.items) (hist_text (shown self.old).base id)
+            (shown self.old) (shown self.new) result }
+        ensures steps { AnswerCosts (shown self.old) (shown self.new) };
+
+    /// What a trigger has counted: its hits, the keys in its table, and the hits that found no
+    /// room. Refused where no trigger has the id, or for memory.
+    fn totals(&mut self, id: u32) -> Result<Totals, Refused>
+        ensures gives { AnswersFrom (λ totals. totals) (totals (shown self.old).base id)
+            (shown self.old) (shown self.new) result }
+        ensures steps { AnswerCosts (shown self.old) (shown self.new) }
+        ensures memory { WantsForTables (shown self.old) (shown self.new) result };
+
+    /// What a reading trigger measured, in merged order of the reading, dropped hits too. Refused
+    /// where no trigger has the id, where it reads no variable, or for memory.
+    fn latencies(&mut self, id: u32) -> Result<Vec<Latency>, Refused>
+        ensures gives { AnswersFrom (λ latencies. latencies.items)
+            (latencies (shown self.old).base id) (shown self.old) (shown self.new) result }
+        ensures steps { AnswerCosts (shown self.old) (shown self.new) };
+
+    /// The text of a CPU's lane. It needs no tables. Refused where the lane is not held, or for
+    /// memory.
+    fn list(&self, cpu: u32) -> Result<Vec<u8>, Refused>
+        ensures { AnswerIs (λ text. text.items) (list_text (shown self.now).base cpu) result };
+
+    /// Whether the kept tables are deferred: then the next answer that reads them rebuilds them.
+    fn is_deferred(&self) -> bool
+        ensures { result ≡ (shown self.now).deferred };
+}

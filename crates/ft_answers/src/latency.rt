@@ -1,0 +1,41 @@
+//! Latencies: the time between a saving and its reading.
+
+ghost use Rattle.std.specs.Prelude.{◌≡◌};
+ghost use Rattle.ft_answers.specs.Answers.{latency_of, line_at};
+
+use ft_base::Place;
+use ft_fields::Pos;
+use ft_replay::Pair;
+
+/// What a reading trigger measured: the line whose stamp was saved, the line that read it, and the
+/// time between them.
+#[derive(Clone, Copy, Debug, PartialEq, Eq)]
+pub struct Latency {
+    /// The line of the event that saved.
+    pub saved: Place,
+    /// The line of the event that read.
+    pub read: Place,
+    /// The microseconds from the saving to the reading.
+    pub micros: u64,
+}
+
+/// A pair as a latency.
+pub fn latency_of(pair: Pair) -> Latency
+    ensures { result ≡ latency_of pair }
+{
+    Latency {
+        saved: line_at(pair.saved),
+        read: line_at(pair.read),
+        micros: pair.read.stamp.saturating_sub(pair.saved.stamp),
+    }
+}
+
+/// The line that stands at a place in the merged order.
+fn line_at(pos: Pos) -> Place
+    ensures { result ≡ line_at pos }
+{
+    Place {
+        cpu: pos.cpu,
+        line: pos.line,
+    }
+}

@@ -1,0 +1,31 @@
+//! What a desk answers about the triggers that are attached, however its tables are kept.
+//!
+//! What a `Board` answers is a function of what replaying the events that it holds gives, with the
+//! events that readings make. `PlainBoard` keeps no tables, and replays at each answer.
+//!
+//! ```ignore
+//! let mut board = PlainBoard::new(rt.alloc());
+//! board.load(events)?;
+//! let id = board.attach(trigger)?.value;
+//! let totals = board.totals(id)?;
+//! let Place { cpu, line } = board.insert(event)?.value;
+//! let text = board.hist(id)?;
+//! board.strike(u32::from(cpu), line)?;
+//! // An answer depends on what is held and attached, and on nothing else.
+//! assert!(rt; board.totals(id)? == totals);
+//! ```
+#![tactic(auto)]
+
+mod answers;
+mod board;
+mod done;
+mod latency;
+mod plain;
+mod readings;
+
+pub use answers::{counts_made, table_text};
+pub use board::Board;
+pub use done::{Done, Kept};
+pub use ft_base::{Content, Place, Refused, is_reader, one_saver, reachable_bases, role_of};
+pub use latency::{Latency, latency_of};
+pub use plain::{PlainBoard, plain_board_keeps_none};

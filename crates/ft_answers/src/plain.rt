@@ -1,0 +1,164 @@
+//! A board that keeps no tables: each answer replays what is held.
+
+ghost use Rattle.std.specs.Prelude.{◌≡◌, false};
+
+use crate::answers::{hist_from, latencies_from, totals_from};
+use crate::board::Board;
+use crate::done::{Done, Kept};
+use crate::latency::Latency;
+use ft_base::{Content, Place, Refused};
+use ft_fields::{Event, Name};
+use ft_filter::Filter;
+use ft_hist::{Trigger, Work};
+use ft_table::Totals;
+use std::alloc::Global;
+use std::marker::Model;
+
+/// Lanes of events and attached triggers, and no tables. The steps of all its answers are counted
+/// in one place.
+#[derive(Drop)]
+pub struct PlainBoard {
+    alloc: Global,
+    content: Content,
+    work: Work,
+}
+
+impl Model for PlainBoard {
+    ghost use Rattle.std.specs.Prelude.{false};
+    ghost use Rattle.ft_answers.specs.Codes.{shown_code};
+    ghost use Rattle.ft_answers.specs.Shown.{Shown};
+
+    ghost Value = { Shown };
+
+    ghost coded = { shown_code };
+
+    ghost view = { λ b. record {
+      base = b.content;
+      deferred = false;
+      keeps = false;
+      steps = b.work;
+    } };
+}
+
+impl PlainBoard {
+    ghost use Rattle.ft_base.specs.Base.{empty_base};
+
+    /// A board that holds nothing and has no trigger.
+    pub fn new(alloc: Global) -> PlainBoard
+        ensures { result ≡ record {
+          base = empty_base;
+          deferred = false;
+          keeps = false;
+          steps = record { evals = 0; puts = 0 };
+        } }
+    {
+        PlainBoard {
+            alloc,
+            content: Content::new(alloc),
+            work: Work::new(),
+        }
+    }
+}
+
+impl Board for PlainBoard {
+    ghost shown = { λ b. b };
+
+    fn load(&mut self, events: Vec<Event>) -> Result<Done<u64>, Refused> {
+        let count = self.content.load(events)?;
+        Ok(Done {
+            value: count,
+            kept: Kept::Now,
+        })
+    }
+
+    fn unload(&mut self, cpu: u32) -> Result<Done<u64>, Refused> {
+        let count = self.content.unload(cpu)?;
+        Ok(Done {
+            value: count,
+            kept: Kept::Now,
+        })
+    }
+
+    fn insert(&mut self, event: Event) -> Result<Done<Place>, Refused> {
+        let place = self.content.insert(event)?;
+        Ok(Done {
+            value: place,
+            kept: Kept::Now,
+        })
+    }
+
+    fn strike(&mut self, cpu: u32, line: u32) -> Result<Done<Place>, Refused> {
+        let place = self.content.place_of(cpu, line)?;
+        self.content.strike(place);
+        Ok(Done {
+            value: place,
+            kept: Kept::Now,
+        })
+    }
+
+    fn attach(&mut self, trigger: Trigger) -> Result<Done<u32>, Refused> {
+        let id = self.content.attach(trigger)?;
+        Ok(Done {
+            value: id,
+            kept: Kept::Now,
+        })
+    }
+
+    fn refilter(&mut self, id: u32, filter: Option<Filter>) -> Result<Done<u32>, Refused> {
+        let id = self.content.refilter(id, filter)?;
+        Ok(Done {
+            value: id,
+            kept: Kept::Now,
+        })
+    }
+
+    fn remove(&mut self, id: u32) -> Result<Done<u32>, Refused> {
+        self.content.removable(id)?;
+        self.content.remove(id);
+        Ok(Done {
+            value: id,
+            kept: Kept::Now,
+        })
+    }
+
+    fn name_of(&self, id: u32) -> Option<Name> {
+        self.content.name_of(id)
+    }
+
+    fn hist(&mut self, id: u32) -> Result<Vec<u8>, Refused> {
+        let lanes = self.content.lanes();
+        let triggers = self.content.triggers();
+        hist_from(self.alloc, lanes, triggers, id, &mut self.work)
+    }
+
+    fn totals(&mut self, id: u32) -> Result<Totals, Refused> {
+        let lanes = self.content.lanes();
+        let triggers = self.content.triggers();
+        totals_from(self.alloc, lanes, triggers, id, &mut self.work)
+    }
+
+    fn latencies(&mut self, id: u32) -> Result<Vec<Latency>, Refused> {
+        let lanes = self.content.lanes();
+        let triggers = self.content.triggers();
+        latencies_from(self.alloc, lanes, triggers, id, &mut self.work)
+    }
+
+    fn list(&self, cpu: u32) -> Result<Vec<u8>, Refused> {
+        self.content.list(self.alloc, cpu)
+    }
+
+    fn is_deferred(&self) -> bool {
+        // A look at a field, by which a proof sees what the board shows.
+        let _ = &self.work;
+        false
+    }
+}
+
+/// A law: this board keeps no tables, so none lack an edit.
+pub fn plain_board_keeps_none(board: &PlainBoard)
+    ensures keeps { board.now.keeps ≡ false }
+    ensures deferred { board.now.deferred ≡ false }
+{
+    // A look at a field, by which a proof sees what the board shows.
+    let _ = &board.work;
+}

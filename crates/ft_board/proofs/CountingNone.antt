@@ -1,0 +1,72 @@
+-- Where no made event is counted, none is after an edit that brings no trigger.
+use Rattle.std.proofs.Common.{◌≡◌, ℕ, List, Bool, true, false, cond, inl, inr, sym, ap, subst, ◌∙◌, Option, Some, None}
+use Rattle.std.specs.Ordering.{nat_cmp, eq_by_cmp}
+use Rattle.std.specs.Cmp.{nat_cmp_total}
+use Rattle.std.specs.FinMap as map
+use Rattle.std.specs.FinMap.{get-insert, get-remove}
+use Rattle.std.proofs.lemmas.Option.{same_Some}
+use Rattle.ft_filter.specs.Tree.{Tree}
+use Rattle.ft_hist.specs.Hist.{Hist, with_filter}
+use Rattle.ft_fields.specs.Traced.{Traced}
+use Rattle.ft_base.specs.After.{after_insert, after_load, after_refilter}
+use Rattle.ft_base.specs.Base.{Base, Triggers}
+use Rattle.ft_base.specs.OneTrigger.{GetsFilter}
+use Rattle.ft_base.specs.Roles.{is_reader}
+use Rattle.ft_base.proofs.After.{load-gives}
+use Rattle.ft_base.proofs.Cases.{insert-gives, refilter-ok}
+use Rattle.std.specs.Prelude.{Result, Ok}
+use Rattle.ft_base.specs.declared.refused.Place.{Place}
+use Rattle.ft_base.specs.declared.refused.Refused.{Refused}
+use Rattle.ft_answers.specs.Counting.{counts_made, MakesNothing}
+
+module _ (P : Hist → Type 0) where
+  -- each attached trigger has a property
+  abbrev Each : Triggers → Type 0
+  Each triggers = (id : ℕ) (hist : Hist) → map.get triggers id ≡ Some hist → P hist
+
+  each_removed : (triggers : Triggers) (id : ℕ) → Each triggers → Each (map.remove triggers id)
+  each_removed triggers id each other hist there =
+      elim (eq_by_cmp nat_cmp other id) as (λ (b : Bool). cond b None (map.get triggers other) ≡ Some hist → P hist) [
+        | true ↦ λ is. let both : ◌≡◌ {A = Option Hist} None (Some hist) = is in absurd cc
+        | false ↦ λ is. each other hist is
+      ] (sym (get-remove nat_cmp_total triggers id other) ∙ there)
+
+  each_inserted : (triggers : Triggers) (id : ℕ) (its : Hist) → Each triggers → P its → Each (map.insert triggers id its)
+  each_inserted triggers id its each has other hist there =
+      elim (eq_by_cmp nat_cmp other id) as (λ (b : Bool). cond b (Some its) (map.get triggers other) ≡ Some hist → P hist) [
+        | true ↦ λ is. subst P (same_Some _ _ is) has
+        | false ↦ λ is. each other hist is
+      ] (sym (get-insert nat_cmp_total triggers id its other) ∙ there)
+
+  -- another filter leaves it, where the property is none of filters
+  each_refiltered : (triggers : Triggers) (id : ℕ) (was : Hist) (filter : Option Tree) → map.get triggers id ≡ Some was → (P was → P (with_filter was filter)) → Each triggers → Each (map.insert triggers id (with_filter was filter))
+  each_refiltered triggers id was filter there stays each = each_inserted triggers id (with_filter was filter) each (stays (each id was there))
+
+-- a trigger that reads makes no events
+abbrev ReadsAndMakesNone : Hist → Type 0
+ReadsAndMakesNone hist = is_reader hist.variable ≡ true → hist.onmatch ≡ None
+
+pub removed_nothing : (triggers : Triggers) (id : ℕ) → MakesNothing triggers → MakesNothing (map.remove triggers id)
+removed_nothing triggers id (inl none) = inl (each_removed ReadsAndMakesNone triggers id none)
+removed_nothing triggers id (inr none) = inr (each_removed (λ (hist : Hist). counts_made hist ≡ false) triggers id none)
+
+insert_nothing : (triggers : Triggers) (id : ℕ) (was : Hist) (filter : Option Tree) → map.get triggers id ≡ Some was → MakesNothing triggers → MakesNothing (map.insert triggers id (with_filter was filter))
+insert_nothing triggers id was filter there (inl none) = inl (each_refiltered ReadsAndMakesNone triggers id was filter there (λ is. is) none)
+insert_nothing triggers id was filter there (inr none) = inr (each_refiltered (λ (hist : Hist). counts_made hist ≡ false) triggers id was filter there (λ is. is) none)
+
+pub refiltered_nothing : (base new : Base) (id same : ℕ) (filter : Option Tree) → after_refilter base id filter ≡ Ok (new, same) → GetsFilter id base new → MakesNothing base.triggers → MakesNothing new.triggers
+refiltered_nothing base new id same filter answer gets none =
+    let is : ◌≡◌ {A = Result (Base × ℕ) Refused} (Ok (record base { triggers = map.insert base.triggers id (with_filter gets.was filter) }, id)) (Ok (new, same)) = sym (refilter-ok base id filter gets.was gets.attached_before) ∙ answer in
+    subst MakesNothing (ap (λ (r : Result (Base × ℕ) Refused). triggers_in r) is) (insert_nothing base.triggers id gets.was filter gets.attached_before none)
+  where
+    triggers_in : Result (Base × ℕ) Refused → Triggers
+    triggers_in (Ok given) = given.0.triggers
+    triggers_in other = base.triggers
+
+-- an insertion leaves the triggers
+pub inserted_triggers : (base new : Base) (event : Traced) (place : Place) → after_insert base event ≡ Ok (new, place) → base.triggers ≡ new.triggers
+inserted_triggers base new event place answer = ap (λ (given : Base × Place). given.0.triggers) (insert-gives base event new place answer)
+
+-- and so does a load
+pub loaded_triggers : (base new : Base) (es : List Traced) (count : ℕ) → after_load base es ≡ Ok (new, count) → base.triggers ≡ new.triggers
+loaded_triggers base new es count answer = ap (λ (b : Base). b.triggers) (load-gives base es new count answer).1

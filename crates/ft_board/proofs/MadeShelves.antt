@@ -1,0 +1,161 @@
+-- Tables of made events: that they are those of what the shelves keep of readings, and that there is nothing in them where none is made.
+use Rattle.std.proofs.Common.{◌≡◌, ℕ, Bool, true, false, cond, List, [], ◌∷◌, refl, sym, ap, subst, ◌∙◌, Option, Some, None}
+use Rattle.std.specs.Prelude.{unwrap_or, option_map, option_and_then, IfOk, Result, Ok, Err}
+use Rattle.std.specs.List.{AllByRecursion}
+use Rattle.std.specs.Option.{option_map_or}
+use Rattle.std.specs.Ordering.{nat_cmp, eq_by_cmp}
+use Rattle.std.specs.BTreeMap.{BTreeMap}
+use Rattle.std.specs.Cmp.{nat_cmp_total, eq_by_cmp_equiv}
+use Rattle.std.specs.FinMap as map
+use Rattle.std.specs.FinMap.{find, get-empty, get-entries, get-insert, nat_cmp-IsAntisymmetric}
+use Rattle.std.proofs.lemmas.Option.{same_Some}
+use Rattle.ft_fields.specs.Traced.{Traced}
+use Rattle.ft_fields.specs.declared.pos.Pos.{Pos}
+use Rattle.ft_hist.specs.Hist.{Hist}
+use Rattle.ft_hist.specs.Made.{made_of, made_event}
+use Rattle.ft_hist.specs.declared.onmatch.Onmatch.{Onmatch}
+use Rattle.ft_kept.specs.Shelves.{Shelved, Shelves}
+use Rattle.ft_maps.specs.Entries.{same_from_tie}
+use Rattle.ft_maps.specs.Seen.{seen}
+use Rattle.ft_table.specs.Tabled.{Tabled}
+use Rattle.ft_table.specs.declared.spot.Spot.{Spot}
+use Rattle.ft_base.specs.Base.{Triggers, empty_base}
+use Rattle.ft_base.proofs.Apart.{entries_found}
+use Rattle.ft_replay.specs.Found.{saving_found}
+use Rattle.ft_replay.specs.Merged.{Events}
+use Rattle.ft_made.specs.Laws.{AreFound, FoundMakeAll}
+use Rattle.ft_made.specs.Making.{MakeNone}
+use Rattle.ft_made.specs.MadeEvents.{made_by, made_at}
+use Rattle.ft_made.specs.MadeHits.{values_of_made}
+use Rattle.ft_made.specs.MadeTables.{Readings, IsMadeTable, found_in}
+use Rattle.ft_answers.specs.Counting.{counts_made}
+use Rattle.ft_board.specs.KeptShelves.{AreKept, HasItsShelf}
+use Rattle.ft_board.specs.MadeShelves.{MadeTables, made_on, AreMadeBy, AreMade}
+use Rattle.ft_board.specs.inner.Readings.{readings_on}
+
+-- ---- triggers one by one
+
+-- each attached trigger but those that are left has a property; these are attached
+pub record AreBut (P : ℕ → Hist → Type 0) (triggers : Triggers) (rest : List (ℕ × Hist)) : Type 0 where
+  pub done : (id : ℕ) (hist : Hist) → map.get triggers id ≡ Some hist → find nat_cmp id rest ≡ None → P id hist
+  pub attached : AllByRecursion (λ e. map.get triggers e.0 ≡ Some e.1) rest
+
+pub but_all : (P : ℕ → Hist → Type 0) (triggers : Triggers) → AreBut P triggers (map.entries triggers)
+but_all P triggers = record {
+  done = λ id hist there none. let both : ◌≡◌ {A = Option Hist} (Some hist) None = sym there ∙ get-entries triggers id ∙ none in absurd cc;
+  attached = entries_found nat_cmp nat_cmp_total triggers;
+}
+
+-- the first of those that are left gets a property, and the others keep theirs
+pub but_rest : (P Q : ℕ → Hist → Type 0) (triggers : Triggers) (e : ℕ × Hist) (rest : List (ℕ × Hist)) → AreBut P triggers (e ∷ rest)
+    → Q e.0 e.1 → ((id : ℕ) (hist : Hist) → eq_by_cmp nat_cmp id e.0 ≡ false → P id hist → Q id hist) → AreBut Q triggers rest
+but_rest P Q triggers e rest is here stay = record {
+  done = λ id hist there none. elim (eq_by_cmp nat_cmp id e.0) as (λ (b : Bool). eq_by_cmp nat_cmp id e.0 ≡ b → Q id hist) [
+    | true ↦ λ tie.
+        let same : id ≡ e.0 = same_from_tie nat_cmp-IsAntisymmetric id e.0 tie in
+        let its : e.1 ≡ hist = same_Some _ _ (sym is.attached.0 ∙ sym (ap (map.get triggers) same) ∙ there) in
+        subst (λ (x : ℕ × Hist). Q x.0 x.1) (λ i. (sym same i, its i)) here
+    | false ↦ λ apart. stay id hist apart (is.done id hist there (ap (λ (b : Bool). cond b (Some e.1) (find nat_cmp id rest)) apart ∙ none))
+  ] refl;
+  attached = is.attached.1;
+}
+
+-- none is left
+pub but_none : (P : ℕ → Hist → Type 0) (triggers : Triggers) (rest : List (ℕ × Hist)) → rest ≡ [] → AreBut P triggers rest → (id : ℕ) (hist : Hist) → map.get triggers id ≡ Some hist → P id hist
+but_none P triggers rest none is id hist there = is.done id hist there (ap (find nat_cmp id) none)
+
+-- ---- tables one by one
+
+module _ (triggers : Triggers) (events : Events) (found : Readings) where
+  -- a trigger that counts made events has its table
+  abbrev pub HasMade : MadeTables → ℕ → Hist → Type 0
+  HasMade made id hist = counts_made hist ≡ true → IsMadeTable triggers events found hist (made_on made id hist)
+
+  -- a table that is kept is found again
+  pub made_here : (made : MadeTables) (id : ℕ) (hist : Hist) (table : Tabled) → IsMadeTable triggers events found hist table → HasMade (map.insert made id table) id hist
+  made_here made id hist table is counts =
+      subst (IsMadeTable triggers events found hist)
+      (sym (ap (λ (o : Option Tabled). unwrap_or o (record { hits = map.empty; size = hist.size })) (get-insert nat_cmp_total made id table id ∙ ap (λ (b : Bool). cond b (Some table) (map.get made id)) tie))) is
+    where
+      tie : eq_by_cmp nat_cmp id id ≡ true
+      tie = (eq_by_cmp_equiv nat_cmp_total).refl id
+
+  -- and the others stay
+  pub made_elsewhere : (made : MadeTables) (key : ℕ) (table : Tabled) (id : ℕ) (hist : Hist) → eq_by_cmp nat_cmp id key ≡ false → HasMade made id hist → HasMade (map.insert made key table) id hist
+  made_elsewhere made key table id hist apart is counts =
+      subst (IsMadeTable triggers events found hist)
+      (sym (ap (λ (o : Option Tabled). unwrap_or o (record { hits = map.empty; size = hist.size })) (get-insert nat_cmp_total made key table id ∙ ap (λ (b : Bool). cond b (Some table) (map.get made id)) apart))) (is counts)
+
+module _ (triggers : Triggers) (events : Events) (found : Readings) where
+  -- the first of the triggers that are left counts made events, and gets its table
+  pub made_more : (e : ℕ × Hist) (rest : List (ℕ × Hist)) (old new : MadeTables) (table : Tabled) → AreBut (HasMade triggers events found old) triggers (e ∷ rest)
+      → IsMadeTable triggers events found e.1 table → new ≡ map.insert old e.0 table → AreBut (HasMade triggers events found new) triggers rest
+  made_more e rest old new table is its puts =
+      subst (λ (m : MadeTables). AreBut (HasMade triggers events found m) triggers rest) (sym puts)
+      (but_rest (HasMade triggers events found old) (HasMade triggers events found (map.insert old e.0 table)) triggers e rest is
+      (made_here triggers events found old e.0 e.1 table its) (λ id hist apart has. made_elsewhere triggers events found old e.0 table id hist apart has))
+
+  -- it counts none, and gets none
+  pub made_skip : (e : ℕ × Hist) (rest : List (ℕ × Hist)) (made : MadeTables) → AreBut (HasMade triggers events found made) triggers (e ∷ rest)
+      → counts_made e.1 ≡ false → AreBut (HasMade triggers events found made) triggers rest
+  made_skip e rest made is other =
+      but_rest (HasMade triggers events found made) (HasMade triggers events found made) triggers e rest is
+      (λ counts. let both : ◌≡◌ {A = Bool} true false = sym counts ∙ other in absurd cc) (λ id hist apart has. has)
+
+  pub made_all : (rest : List (ℕ × Hist)) (made : MadeTables) → rest ≡ [] → AreBut (HasMade triggers events found made) triggers rest → AreMadeBy triggers events found made
+  made_all rest made none is = but_none (HasMade triggers events found made) triggers rest none is
+
+-- ---- where no event is made
+
+no_event : (hist : Hist) (at : Pos) (event : Traced) → hist.onmatch ≡ None → (saved : Option Pos) → option_and_then (made_of hist at event) saved ≡ None
+no_event hist at event none None = refl
+no_event hist at event none (Some saved) = ap (λ (o : Option Onmatch). option_map (made_event at event saved) o) none
+
+module _ (triggers : Triggers) (events : Events) (found : Readings) (none : MakeNone triggers) where
+  at_maker : (spot : Spot) (event : Traced) → option_and_then (λ (hist : Hist). option_and_then (made_of hist spot.pos event) (found spot.maker spot.pos)) (map.get triggers spot.maker) ≡ None
+  at_maker spot event =
+      elim (map.get triggers spot.maker) as (λ o. map.get triggers spot.maker ≡ o → option_and_then (λ (hist : Hist). option_and_then (made_of hist spot.pos event) (found spot.maker spot.pos)) o ≡ None) [
+        | None ↦ λ _. refl
+        | Some hist ↦ λ there. no_event hist spot.pos event (none spot.maker hist there) (found spot.maker spot.pos)
+      ] refl
+
+  none_made : (spot : Spot) → made_by triggers events found spot ≡ None
+  none_made spot =
+      elim (map.get events spot.pos) as (λ o. option_and_then (λ (event : Traced). option_and_then (λ (hist : Hist). option_and_then (made_of hist spot.pos event) (found spot.maker spot.pos)) (map.get triggers spot.maker)) o ≡ None) [
+        | None ↦ refl
+        | Some event ↦ at_maker spot event
+      ]
+
+  pub nothing_made : AreMadeBy triggers events found map.empty
+  nothing_made id hist there counts =
+      subst (IsMadeTable triggers events found hist)
+      (sym (ap (λ (o : Option Tabled). unwrap_or o (record { hits = map.empty; size = hist.size })) (get-empty {X = Tabled} nat_cmp id))) (record {
+        size = refl;
+        hits = λ mark. get-empty _ mark ∙ sym (ap (values_of_made hist mark) (none_made mark.spot));
+      })
+
+-- where no trigger is attached, none counts any
+pub none_counts : (made : MadeTables) → AreMade empty_base made
+none_counts made id hist there counts = let both : ◌≡◌ {A = Option Hist} None (Some hist) = sym (get-empty {X = Hist} nat_cmp id) ∙ there in absurd cc
+
+-- ---- what shelves keep of readings is what these find
+
+-- what follows of tables, where there are some
+pub if_made : {E : Type 0} (P Q : MadeTables → Type 0) (result : Result (BTreeMap ℕ Tabled) E) → ((made : MadeTables) → P made → Q made) → IfOk result (λ made. P (seen nat_cmp made)) → IfOk result (λ made. Q (seen nat_cmp made))
+if_made P Q (Ok made) more has = more (seen nat_cmp made) has
+if_made P Q (Err fault) more has = tt
+
+pub found_on : (triggers : Triggers) (events : Events) (shelves : Shelves) → AreKept triggers events shelves
+    → ((id : ℕ) (hist : Hist) (shelf : Shelved) → map.get triggers id ≡ Some hist → map.get shelves id ≡ Some shelf → (at : Pos) → map.get shelf.readings at ≡ saving_found triggers events id at)
+    → AreFound triggers events (found_in (readings_on shelves))
+found_on triggers events shelves kept readings id hist there pos =
+    let has : HasItsShelf triggers (Some hist) (map.get shelves id) = subst (λ (o : Option Hist). HasItsShelf triggers o (map.get shelves id)) there (kept.each id) in
+    ap (λ (o : Option Shelved). map.get (option_map_or (λ (s : Shelved). s.readings) o map.empty) pos) has.1.0 ∙ readings id hist has.0 there has.1.0 pos
+
+pub made_found : (triggers : Triggers) (events : Events) (found : Readings) (made : MadeTables) → FoundMakeAll → AreFound triggers events found
+    → AreMadeBy triggers events found made → AreMadeBy triggers events (saving_found triggers events) made
+unfolding made_at
+made_found triggers events found made all are is id hist there counts = record {
+  size = (is id hist there counts).size;
+  hits = λ mark. (is id hist there counts).hits mark ∙ ap (values_of_made hist mark) (all triggers events found are mark.spot);
+}

@@ -1,0 +1,12 @@
+-- Triggers that stay, while others come, go or get another filter (our own choice).
+use Rattle.std.specs.Prelude.{◌≡◌, ℕ, true}
+use Rattle.std.specs.FinMap as map
+use Rattle.ft_base.specs.Base.{Triggers}
+use Rattle.ft_base.specs.OneTrigger.{reads_from}
+use Rattle.ft_base.specs.Roles.{role_at}
+
+-- a saver stays, the same triggers read what it saves, and each of these stays (kernel: histogram.rst, inter-event hist triggers)
+pub record IsReadAlike (triggers others : Triggers) (saver : ℕ) : Type 0 where
+  pub own : map.get others saver ≡ map.get triggers saver
+  pub readers : (id : ℕ) → reads_from saver (role_at others id) ≡ reads_from saver (role_at triggers id)
+  pub stay : (id : ℕ) → reads_from saver (role_at triggers id) ≡ true → map.get others id ≡ map.get triggers id

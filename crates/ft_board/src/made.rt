@@ -1,0 +1,155 @@
+//! Tables of the events that readings make, beside the shelves: where some are made and counted, they
+//! are made anew behind each edit, but for those of an event that no trigger hits.
+
+ghost use Rattle.std.specs.Prelude.{◌≡◌, true, false, None, is_some, IfOk, IfSome, OnErr};
+ghost use Rattle.std.specs.Option.{is_none};
+ghost use Rattle.std.specs.Ordering.{nat_cmp};
+ghost use Rattle.ft_hist.specs.Steps.{StepsGrow};
+ghost use Rattle.ft_maps.specs.Seen.{seen};
+ghost use Rattle.ft_replay.specs.Merged.{merged};
+ghost use Rattle.ft_made.specs.Making.{MakeNone};
+ghost use Rattle.ft_made.specs.MadeTables.{found_in};
+ghost use Rattle.ft_answers.specs.Counting.{CountNone, MakesNothing, ReadersMakeNone};
+ghost use Rattle.ft_base.specs.Roles.{is_reader};
+ghost use Rattle.ft_answers.specs.Edited.{kept_of};
+ghost use Rattle.ft_board.specs.KeptShelves.{AreKeptOf};
+ghost use Rattle.ft_board.specs.MadeShelves.{AreMade, AreMadeBy};
+ghost use Rattle.ft_board.specs.inner.Readings.{readings_on};
+
+use crate::laws;
+use crate::readings::ShelfReadings;
+use ft_answers::{Kept, counts_made};
+use ft_base::Content;
+use ft_hist::{Trigger, Work};
+use ft_kept::Tables;
+use ft_lanes::Lanes;
+use ft_made::made_table;
+use ft_maps::{entries, put};
+use ft_table::Table;
+use std::alloc::{AllocError, Global};
+use std::collections::BTreeMap;
+
+/// Gives the tables of made events up, and makes them anew where there are shelves: whether there
+/// are some then. Where memory runs out, the shelves are given up too; where no made event is
+/// counted, it takes neither memory nor steps.
+pub(crate) fn remake(
+    kept: &mut Option<Tables>,
+    made: &mut BTreeMap<u32, Table>,
+    alloc: Global,
+    content: &Content,
+    work: &mut Work,
+) -> Kept
+    requires { IfSome kept.old (AreKeptOf content.now) }
+    ensures kept { IfSome kept.new (AreKeptOf content.now) }
+    ensures made { IfSome kept.new (λ _. AreMade content.now (seen nat_cmp made.new)) }
+    ensures deferred { kept.old ≡ None → kept.new ≡ None }
+    ensures answer { result ≡ kept_of (is_none kept.new) }
+    ensures nothing { MakesNothing content.now.triggers
+        → (kept.new ≡ kept.old) × (work.new ≡ work.old) }
+    ensures grow { StepsGrow work.old work.new }
+{
+    *made = BTreeMap::new(alloc);
+    let Some(tables) = kept.take() else {
+        return Kept::Later;
+    };
+    match made_tables(alloc, content, &tables, work) {
+        Ok(remade) => {
+            *made = remade;
+            *kept = Some(tables);
+            Kept::Now
+        }
+        Err(_) => Kept::Later,
+    }
+}
+
+/// The tables of the attached triggers that count made events, where some are made. Refused for
+/// memory.
+fn made_tables(
+    alloc: Global,
+    content: &Content,
+    tables: &Tables,
+    work: &mut Work,
+) -> Result<BTreeMap<u32, Table>, AllocError>
+    requires { AreKeptOf content.now tables.now }
+    ensures made { IfOk result (λ made. AreMade content.now (seen nat_cmp made)) }
+    ensures nothing { MakesNothing content.now.triggers
+        → (work.new ≡ work.old) × OnErr result ⊥ }
+    ensures grow { StepsGrow work.old work.new }
+{
+    laws::kept_shelves();
+    ft_made::same_made();
+    let (lanes, triggers) = (content.lanes(), content.triggers());
+    if !has_maker(triggers) {
+        return Ok(BTreeMap::new(alloc));
+    }
+    counting_tables(alloc, lanes, triggers, tables, work)
+}
+
+/// The tables of the attached triggers that count made events, by what shelves keep of readings.
+/// Refused for memory.
+fn counting_tables(
+    alloc: Global,
+    lanes: &Lanes,
+    triggers: &BTreeMap<u32, Trigger>,
+    tables: &Tables,
+    work: &mut Work,
+) -> Result<BTreeMap<u32, Table>, AllocError>
+    ensures made { IfOk result (λ made. AreMadeBy (seen nat_cmp triggers.now) (merged lanes.now)
+        (found_in (readings_on tables.now)) (seen nat_cmp made)) }
+    ensures idle { CountNone (seen nat_cmp triggers.now)
+        → (work.new ≡ work.old) × OnErr result ⊥ }
+    ensures grow { StepsGrow work.old work.new }
+{
+    let readings = ShelfReadings { alloc, tables };
+    let mut made = BTreeMap::new(alloc);
+    for (id, trigger) in entries(triggers) {
+        if counts_made(trigger) {
+            let table = made_table(alloc, lanes, triggers, &readings, trigger, work)?;
+            put(&mut made, *id, table)?;
+        }
+    }
+    Ok(made)
+}
+
+/// Whether made events may be counted: some attached trigger makes events, and some is on their name.
+pub(crate) fn may_count(triggers: &BTreeMap<u32, Trigger>) -> bool
+    ensures nothing { result ≡ false → MakesNothing (seen nat_cmp triggers.now) }
+    ensures none { MakesNothing (seen nat_cmp triggers.now) → result ≡ false }
+{
+    has_maker(triggers) && has_counter(triggers)
+}
+
+/// Whether some attached trigger is on the name of made events.
+fn has_counter(triggers: &BTreeMap<u32, Trigger>) -> bool
+    ensures none { result ≡ false → CountNone (seen nat_cmp triggers.now) }
+    ensures some { CountNone (seen nat_cmp triggers.now) → result ≡ false }
+{
+    for (_, trigger) in entries(triggers) {
+        if counts_made(trigger) {
+            return true;
+        }
+    }
+    false
+}
+
+/// Whether some attached trigger makes events of its readings.
+fn has_maker(triggers: &BTreeMap<u32, Trigger>) -> bool
+    ensures none { result ≡ false → MakeNone (seen nat_cmp triggers.now) }
+    ensures some { ReadersMakeNone (seen nat_cmp triggers.now) → result ≡ false }
+{
+    for (_, trigger) in entries(triggers) {
+        if makes(trigger) {
+            return true;
+        }
+    }
+    false
+}
+
+/// Whether a trigger makes events of its readings: then it reads.
+#[tactic(auto, using(crate::proofs::Makers::makers_read))]
+fn makes(trigger: &Trigger) -> bool
+    ensures makes { result ≡ is_some trigger.now.onmatch }
+    ensures reads { result ≡ true → is_reader trigger.now.variable ≡ true }
+{
+    trigger.onmatch().is_some()
+}

@@ -1,0 +1,2 @@
+-- Words of private functions: tables filled reading by reading.
+pub mod Pairs

@@ -1,5 +1,0 @@
-use Rattle.ft_replay.proofs.AnswerSteps.{edited_costs}
-use Rattle.ft_replay.proofs.plain.PlainBoardBoard.insert.Goals as goal
-
-pub returns-clause-repairs : goal.returns-clause-repairs
-returns-clause-repairs c = edited_costs c.self.inside.content c.insert.new.self c.args.event c.self.inside.work c.args.self.now c.self.view_is

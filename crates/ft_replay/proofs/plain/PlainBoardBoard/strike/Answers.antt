@@ -1,5 +1,0 @@
-use Rattle.ft_replay.proofs.AnswerSteps.{edited_costs}
-use Rattle.ft_replay.proofs.plain.PlainBoardBoard.strike.Goals as goal
-
-pub returns-clause-repairs : goal.returns-clause-repairs
-returns-clause-repairs c event there = edited_costs c.self.inside.content c.strike.new.self event c.self.inside.work c.args.self.now c.self.view_is
