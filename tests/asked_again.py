@@ -54,21 +54,16 @@ class Desk:
 
     def __init__(self):
         self.is_deferred = False
-        # The event and the text of each attached trigger, by its id.
+        # The text of each attached trigger, by its id.
         self.triggers = {}
-
-    def counts_made(self):
-        """Whether one attached trigger makes events and another counts them."""
-        made = any(":onmatch(" in text for _, text in self.triggers.values())
-        return made and any(event == "wakeup_latency" for event, _ in self.triggers.values())
 
     def must_be_now(self, command):
         word, *others = command.split()
-        if self.is_deferred or word not in ["strike", "remove"] or word == "remove" and self.counts_made():
+        if self.is_deferred or word not in ["strike", "remove"]:
             return False
         asked = self.triggers.values() if word == "strike" else [self.triggers[int(others[0])]]
         sign = "=common_timestamp.usecs" if word == "strike" else "=common_timestamp.usecs-$"
-        return not any(sign in text for _, text in asked)
+        return not any(sign in text for text in asked)
 
     def hold(self, command, want, answer, again):
         """Holds an answer to a command, where the row has the text `want`."""
@@ -94,7 +89,7 @@ class Desk:
         """Attaches or removes what an accepted edit does."""
         word, *others = command.split(maxsplit=2)
         if word == "attach":
-            self.triggers[int(answer.text.split()[1])] = others
+            self.triggers[int(answer.text.split()[1])] = others[1]
         elif word == "remove":
             del self.triggers[int(others[0])]
 

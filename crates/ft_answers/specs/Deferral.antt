@@ -10,16 +10,11 @@ use Rattle.ft_base.specs.declared.refused.Refused.TheVariants.{Memory}
 use Rattle.ft_lanes.specs.Held.{Lanes, event_at}
 use Rattle.ft_base.specs.Base.{Triggers}
 use Rattle.ft_base.specs.Roles.{is_reader}
-use Rattle.ft_answers.specs.Counting.{MakesNothing}
 use Rattle.ft_answers.specs.Shown.{Shown}
 
 -- a board whose tables lack no edit before lacks none afterwards (our own choice)
 abbrev pub PutsNothingOff : Shown → Shown → Type 0
 PutsNothingOff old new = old.deferred ≡ false → new.deferred ≡ false
-
--- the same, where no made event is counted: tables of made events are made anew behind the edit, for which memory may run out (our own choice)
-abbrev pub PutsOffForMadeAlone : Shown → Shown → Type 0
-PutsOffForMadeAlone old new = MakesNothing old.base.triggers → PutsNothingOff old new
 
 -- the event is no hit of any attached trigger (kernel: histogram.rst, hist triggers)
 abbrev pub IsNoHit : Triggers → Traced → Type 0

@@ -29,9 +29,8 @@ pub trait Board: Drop {
     ghost use Rattle.ft_answers.specs.Answers.{hist_text, totals, latencies, list_text};
     ghost use Rattle.ft_answers.specs.Costs.{EditCounts, RepairCosts, LoadCosts, UnloadCosts};
     ghost use Rattle.ft_answers.specs.Costs.{FilterCosts, AnswerCosts};
-    ghost use Rattle.ft_answers.specs.Deferral.{PutsNothingOff, PutsOffForMadeAlone};
     ghost use Rattle.ft_answers.specs.Deferral.{IsNoHit, IsPlainHit, IsPlainLane, ReadsNothing};
-    ghost use Rattle.ft_answers.specs.Deferral.{WantsForTables};
+    ghost use Rattle.ft_answers.specs.Deferral.{PutsNothingOff, WantsForTables};
     ghost use Rattle.ft_answers.specs.Edited.{EditGives, AnswersFrom, AnswerIs};
     ghost use Rattle.ft_answers.specs.Shown.{Shown};
 
@@ -57,7 +56,7 @@ pub trait Board: Drop {
         ensures repairs { UnloadCosts cpu (shown self.old) (shown self.new) }
         ensures now { is_small (shown self.old).base.lanes cpu ≡ true
             → IsPlainLane (shown self.old).base.triggers (shown self.old).base.lanes cpu
-            → PutsOffForMadeAlone (shown self.old) (shown self.new) };
+            → PutsNothingOff (shown self.old) (shown self.new) };
 
     /// Adds an event, none that triggers make, at the next line of its CPU's lane: the event's
     /// place. The lane is made where there is none. Refused where too many events would be or the
@@ -84,10 +83,6 @@ pub trait Board: Drop {
         ensures now { (event : Traced)
             → event_at (shown self.old).base.lanes cpu line ≡ Some event
             → IsPlainHit (shown self.old).base.triggers event
-            → PutsOffForMadeAlone (shown self.old) (shown self.new) }
-        ensures missed { (event : Traced)
-            → event_at (shown self.old).base.lanes cpu line ≡ Some event
-            → IsNoHit (shown self.old).base.triggers event
             → PutsNothingOff (shown self.old) (shown self.new) };
 
     /// Attaches a trigger: its id. Refused where 64 are attached or the ids are used up, where its
@@ -119,7 +114,7 @@ pub trait Board: Drop {
         ensures memory { result ≢ Err Memory }
         ensures counts { EditCounts (shown self.old) (shown self.new) result }
         ensures now { ReadsNothing (shown self.old).base.triggers id
-            → PutsOffForMadeAlone (shown self.old) (shown self.new) };
+            → PutsNothingOff (shown self.old) (shown self.new) };
 
     /// The event that the trigger with an id is on. Takes no memory.
     fn name_of(&self, id: u32) -> Option<Name>

@@ -10,7 +10,6 @@ use Rattle.std.specs.FinMap as map
 use Rattle.std.specs.FinMap.{find, put, get-entries, entries-insert, len-insert, nat_cmp-IsAntisymmetric}
 use Rattle.std.specs.FinMap.Entries.{by_order}
 use Rattle.std.proofs.lemmas.Bool.{cases_eq}
-use Rattle.ft_hist.specs.declared.item.KeyItem.{KeyItem}
 use Rattle.ft_hist.specs.declared.label.Var.{Var}
 use Rattle.ft_hist.specs.declared.label.Var.TheVariants as vars
 use Rattle.ft_hist.specs.Hist.{Hist}
@@ -19,7 +18,7 @@ use Rattle.ft_base.specs.declared.refused.Refused.{Refused}
 use Rattle.ft_base.specs.declared.refused.Refused.TheVariants.{NameTaken}
 use Rattle.ft_base.specs.Base.{Triggers, Base, id_limit, trigger_limit}
 use Rattle.ft_base.specs.Roles.{saves_name, saver_of}
-use Rattle.ft_base.specs.After.{saves_for, reader_refused, variable_refused}
+use Rattle.ft_base.specs.After.{reader_refused, variable_refused}
 use Rattle.ft_base.specs.Reachable.{HasOneSaver, HasSaver, HasSavers, IsReachable}
 use Rattle.ft_maps.specs.Entries.{get-insert_same, get-insert_other}
 use Rattle.ft_base.proofs.Savers.{saver_among, saver_of-among, saves-none}
@@ -62,13 +61,14 @@ get-kept triggers next hist id other below found =
     let less = below id other found in
     get-insert_other nat_cmp_total nat_cmp-IsAntisymmetric triggers next hist id (λ same. omega (arith, less, same)) ∙ found
 
-HasSaver-insert : (triggers : Triggers) (next : ℕ) (hist : Hist) (keys : List KeyItem) (name : List ℕ) → AreBelow triggers next → HasSaver triggers keys name → HasSaver (map.insert triggers next hist) keys name
-HasSaver-insert triggers next hist keys name below is = record {
+HasSaver-insert : (triggers : Triggers) (next : ℕ) (hist : Hist) (reader : Hist) (name : List ℕ) → AreBelow triggers next → HasSaver triggers reader name → HasSaver (map.insert triggers next hist) reader name
+HasSaver-insert triggers next hist reader name below is = record {
   id = is.id;
   saver = is.saver;
   named = saver-insert triggers next hist name is.id below is.named;
   attached = get-kept triggers next hist is.id is.saver below is.attached;
   matching = is.matching;
+  at = is.at;
 }
 
 -- ---- a variable that nothing stands against
@@ -86,21 +86,20 @@ passed : (b : Bool) (refused : Refused) → cond b None (Some refused) ≡ None 
 passed true refused none = refl
 passed false refused none = cc
 
--- of two tests that pass, the second
-second : (a b : Bool) (refused other : Refused) → cond a (cond b None (Some refused)) (Some other) ≡ None → b ≡ true
-second true b refused other none = passed b refused none
-second false b refused other none = cc
+-- two tests that pass, one behind the other
+both : (a b : Bool) (refused other : Refused) → cond a (cond b None (Some refused)) (Some other) ≡ None → (a ≡ true) × (b ≡ true)
+both true b refused other none = (refl, passed b refused none)
+both false b refused other none = cc
 
 -- what it reads has a saver
-reader-has : (triggers : Triggers) (reader : Hist) (source : List ℕ) → reader_refused triggers reader source ≡ None → HasSaver triggers reader.keys source
+reader-has : (triggers : Triggers) (reader : Hist) (source : List ℕ) → reader_refused triggers reader source ≡ None → HasSaver triggers reader source
 unfolding reader_refused
 reader-has triggers reader source free =
-    let keys = reader.keys in
-    elim (saver_of triggers source) as (λ o. saver_of triggers source ≡ o → HasSaver triggers keys source) [
+    elim (saver_of triggers source) as (λ o. saver_of triggers source ≡ o → HasSaver triggers reader source) [
       | None ↦ λ unnamed. absurd (let stands = rw unnamed at free in cc)
-      | Some id ↦ λ named. elim (map.get triggers id) as (λ o. map.get triggers id ≡ o → HasSaver triggers keys source) [
+      | Some id ↦ λ named. elim (map.get triggers id) as (λ o. map.get triggers id ≡ o → HasSaver triggers reader source) [
         | None ↦ λ unattached. absurd (let stands = rw (named, unattached) at free in cc)
-        | Some saver ↦ λ attached. record { id = id; saver = saver; named = named; attached = attached; matching = second (saves_for reader saver) (keys_match keys saver.keys) _ _ (rw (named, attached) at free) }
+        | Some saver ↦ λ attached. record { id = id; saver = saver; named = named; attached = attached; matching = (both _ _ _ _ (rw (named, attached) at free)).1; at = (both _ _ _ _ (rw (named, attached) at free)).0 }
       ] refl
     ] refl
 
@@ -134,8 +133,8 @@ module _ (triggers : Triggers) (next : ℕ) (hist : Hist) (below : AreBelow trig
   ]
 
   savers-insert : HasSavers triggers → HasSavers (map.insert triggers next hist)
-  savers-insert savers id other own source found reads = HasSaver-insert triggers next hist other.keys source below (elim (at-insert id other found) [
-    | inl new ↦ subst (λ (h : Hist). HasSaver triggers h.keys source) new.1
+  savers-insert savers id other own source found reads = HasSaver-insert triggers next hist other source below (elim (at-insert id other found) [
+    | inl new ↦ subst (λ (h : Hist). HasSaver triggers h source) new.1
         (reader-has triggers hist source (ap (variable_refused triggers hist) (sym (ap (λ (h : Hist). h.variable) new.1 ∙ reads)) ∙ free))
     | inr old ↦ savers id other own source old reads
   ])

@@ -49,7 +49,7 @@ module _ (base : Base) (id : ℕ) (hist : Hist) (filter : Option Tree) (is : IsR
   -- what is read has the same saver
   saver_same : (reader : ℕ) (other : Hist) (own source : List ℕ) → map.get new reader ≡ Some other → other.variable ≡ Some (vars.Reads own source) → saver_of new source ≡ saver_of old source
   saver_same reader other own source there reads =
-      let has : HasSaver new other.keys source = (refilter-IsReachable base id hist filter is attached).savers reader other own source there reads in
+      let has : HasSaver new other source = (refilter-IsReachable base id hist filter is attached).savers reader other own source there reads in
       let was = had_variable has.id has.saver has.attached in
       let saves = ap (saves_name source) was.1.1 ∙ saver-saves new source has.id has.saver has.attached has.named in
       has.named ∙ sym (one_saver old is.one_saver source has.id was.0 was.1.0 saves)

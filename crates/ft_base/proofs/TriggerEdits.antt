@@ -2,6 +2,7 @@
 use Rattle.std.proofs.Common.{◌≡◌, ℕ, ◌+◌, ◌≤◌, true, true≢false, cond, List, refl, sym, ap, subst, ◌∙◌, Option, Some, None, is_some, ⊎_elim, arith}
 use Rattle.std.specs.Cmp.{nat_cmp_total}
 use Rattle.std.specs.Cmp.Lexicographic.{same_text}
+use Rattle.std.specs.Option.{option_map_or}
 use Rattle.std.specs.FinMap as map
 use Rattle.std.specs.FinMap.{len-insert, nat_cmp-IsAntisymmetric}
 use Rattle.std.proofs.lemmas.Bool.{cases_eq}
@@ -10,6 +11,8 @@ use Rattle.ft_filter.specs.Tree.{Tree}
 use Rattle.ft_hist.specs.declared.label.Var.{Var}
 use Rattle.ft_hist.specs.declared.label.Var.TheVariants as vars
 use Rattle.ft_hist.specs.Hist.{Hist, with_filter}
+use Rattle.ft_hist.specs.Hit.{same_name}
+use Rattle.ft_hist.specs.declared.onmatch.Onmatch.{Onmatch}
 use Rattle.ft_hist.specs.Matching.{keys_match}
 use Rattle.ft_maps.specs.Entries.{get-insert_same, get-insert_other, get-remove_other}
 use Rattle.ft_base.specs.Base.{Triggers, Base}
@@ -23,15 +26,17 @@ use Rattle.ft_base.proofs.LaneEdits.{found-before, len-removed}
 
 -- ---- triggers that are as before, or fewer, but for their filters
 
--- at an id stands a trigger with the keys and the variable of this one
+-- at an id stands a trigger with the event, the keys, the variable and the onmatch part of this one
 record HasLike (triggers : Triggers) (id : ℕ) (hist : Hist) : Type 0 where
   like : Hist
   attached : map.get triggers id ≡ Some like
   variable : like.variable ≡ hist.variable
   keys : like.keys ≡ hist.keys
+  event : like.event ≡ hist.event
+  onmatch : like.onmatch ≡ hist.onmatch
 
 same-HasLike : (triggers : Triggers) (id : ℕ) (hist : Hist) → map.get triggers id ≡ Some hist → HasLike triggers id hist
-same-HasLike triggers id hist attached = record { like = hist; attached = attached; variable = refl; keys = refl }
+same-HasLike triggers id hist attached = record { like = hist; attached = attached; variable = refl; keys = refl; event = refl; onmatch = refl }
 
 -- the new triggers were attached before, and the savers of what they read stay
 record AreLeft (old new : Triggers) : Type 0 where
@@ -58,6 +63,7 @@ module _ (old new : Triggers) (left : AreLeft old new) where
         named = one_saver new (left-HasOneSaver one) source saved.id now.like now.attached (ap (saves_name source) now.variable ∙ saves);
         attached = now.attached;
         matching = (λ i. keys_match (sym was.keys i) (now.keys i)) ∙ saved.matching;
+        at = (λ i. option_map_or (λ (part : Onmatch). same_name part.event (now.event i)) (sym was.onmatch i) true) ∙ saved.at;
       }
 
 left-IsReachable : (base : Base) (new : Triggers) → IsReachable base → AreLeft base.triggers new → map.len new ≤ map.len base.triggers → IsReachable (record base { triggers = new })
@@ -82,7 +88,7 @@ module _ (triggers : Triggers) (id : ℕ) (hist : Hist) (filter : Option Tree) (
   refilter-here : (other : Hist) → map.get refiltered id ≡ Some other → HasLike triggers id other
   refilter-here other found =
       let same : with_filter hist filter ≡ other = same-Some _ other (sym (get-insert_same nat_cmp_total triggers id _) ∙ found) in
-      record { like = hist; attached = attached; variable = ap (λ (h : Hist). h.variable) same; keys = ap (λ (h : Hist). h.keys) same }
+      record { like = hist; attached = attached; variable = ap (λ (h : Hist). h.variable) same; keys = ap (λ (h : Hist). h.keys) same; event = ap (λ (h : Hist). h.event) same; onmatch = ap (λ (h : Hist). h.onmatch) same }
 
   refilter-before : (q : ℕ) (other : Hist) → map.get refiltered q ≡ Some other → HasLike triggers q other
   refilter-before q other found =
@@ -97,7 +103,7 @@ module _ (triggers : Triggers) (id : ℕ) (hist : Hist) (filter : Option Tree) (
       (λ s.
       let same : hist ≡ other = same-Some hist other (sym attached ∙ ap (map.get triggers) (sym s) ∙ found) in
       let here : map.get refiltered q ≡ Some (with_filter hist filter) = ap (map.get refiltered) s ∙ get-insert_same nat_cmp_total triggers id _ in
-      record { like = with_filter hist filter; attached = here; variable = ap (λ (h : Hist). h.variable) same; keys = ap (λ (h : Hist). h.keys) same })
+      record { like = with_filter hist filter; attached = here; variable = ap (λ (h : Hist). h.variable) same; keys = ap (λ (h : Hist). h.keys) same; event = ap (λ (h : Hist). h.event) same; onmatch = ap (λ (h : Hist). h.onmatch) same })
       (λ ne. same-HasLike refiltered q other (get-insert_other nat_cmp_total nat_cmp-IsAntisymmetric triggers id _ q ne ∙ found))
       (cases_eq q id)
 

@@ -27,7 +27,7 @@ module _ (old new : Triggers) (one : HasOneSaver old) (savers : HasSavers new) (
   -- what is read has the same saver
   saver_same : (reader : ℕ) (hist : Hist) (own source : List ℕ) → map.get new reader ≡ Some hist → hist.variable ≡ Some (vars.Reads own source) → saver_of new source ≡ saver_of old source
   saver_same reader hist own source there reads =
-      let has : HasSaver new hist.keys source = savers reader hist own source there reads in
+      let has : HasSaver new hist source = savers reader hist own source there reads in
       has.named ∙ sym (one_saver old one source has.id has.saver (within has.id has.saver has.attached) (saver-saves new source has.id has.saver has.attached has.named))
 
   role_same : (reader : ℕ) (hist : Hist) → map.get new reader ≡ Some hist → (variable : Option Var) → hist.variable ≡ variable → role_of new variable ≡ role_of old variable
@@ -58,7 +58,7 @@ module _ (triggers : Triggers) (id : ℕ) (one : HasOneSaver triggers) (savers :
   -- and the savers of the others are left without it
   not_other : (reader : ℕ) (hist : Hist) (own source : List ℕ) → map.get (map.remove triggers id) reader ≡ Some hist → hist.variable ≡ Some (vars.Reads own source) → unwrap_or (saver_of triggers source) 0 ≡ id → ⊥
   not_other reader hist own source there reads named =
-      let has : HasSaver (map.remove triggers id) hist.keys source = left reader hist own source there reads in
+      let has : HasSaver (map.remove triggers id) hist source = left reader hist own source there reads in
       let same : has.id ≡ id = ap (λ (o : Option ℕ). unwrap_or o 0) (sym has.named ∙ saver_same triggers (map.remove triggers id) one left within reader hist own source there reads) ∙ named in
       let both : ◌≡◌ {A = Option Hist} None (Some has.saver) = sym (get-remove_same nat_cmp_total triggers id) ∙ ap (map.get (map.remove triggers id)) (sym same) ∙ has.attached in
       absurd cc
@@ -68,7 +68,7 @@ module _ (triggers : Triggers) (id : ℕ) (one : HasOneSaver triggers) (savers :
       let reads = reads_of triggers hist.variable id is in
       ⊎_elim
       (λ same.
-      let has : HasSaver triggers hist.keys reads.1.0 = savers reader hist reads.0 reads.1.0 there reads.1.1.0 in
+      let has : HasSaver triggers hist reads.1.0 = savers reader hist reads.0 reads.1.0 there reads.1.1.0 in
       not_itself hist reads.0 reads.1.0 (ap (map.get triggers) (sym same) ∙ there) reads.1.1.0
       (has.named ∙ ap (λ (k : ℕ). Some k) (ap (λ (o : Option ℕ). unwrap_or o 0) (sym has.named) ∙ reads.1.1.1)))
       (λ apart. not_other reader hist reads.0 reads.1.0 (get-remove_other nat_cmp_total nat_cmp-IsAntisymmetric triggers id reader apart ∙ there) reads.1.1.0 reads.1.1.1)

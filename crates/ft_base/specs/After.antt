@@ -7,7 +7,6 @@ use Rattle.ft_filter.specs.Tree.{Tree}
 use Rattle.ft_hist.specs.declared.label.Var.{Var}
 use Rattle.ft_hist.specs.declared.label.Var.TheVariants as vars
 use Rattle.ft_hist.specs.Hist.{Hist, with_filter}
-use Rattle.ft_hist.specs.Hit.{same_name}
 use Rattle.ft_hist.specs.Matching.{keys_match}
 use Rattle.ft_lanes.specs.Held.{event_limit, number_limit, held_in}
 use Rattle.ft_lanes.specs.Edits.{lane_or_new, lanes_with, lanes_without}
@@ -16,7 +15,7 @@ use Rattle.ft_base.specs.declared.refused.Place.{Place}
 use Rattle.ft_base.specs.declared.refused.Refused.{Refused}
 use Rattle.ft_base.specs.declared.refused.Refused.TheVariants.{LaneHeld, NoLane, NoEvent, Full, NoTrigger, InUse, NameTaken, NoVariable, KeyMismatch, TooManyTriggers}
 use Rattle.ft_base.specs.Base.{Triggers, Base, trigger_limit, id_limit}
-use Rattle.ft_base.specs.Roles.{saver_of, reader_of}
+use Rattle.ft_base.specs.Roles.{saver_of, reader_of, saves_for}
 
 -- ---- lanes
 
@@ -47,10 +46,6 @@ after_strike base cpu line =
     ) (map.get base.lanes cpu) (Err (NoLane cpu))
 
 -- ---- triggers
-
--- a saver is on the event that a reader's onmatch part names, where it has one (kernel: histogram.rst, the `onmatch` handler)
-abbrev pub saves_for : Hist → Hist → Bool
-saves_for reader saver = option_map_or (λ onmatch. same_name onmatch.event saver.event) reader.onmatch true
 
 -- what stands between a reader and a saver: that it saves at another event, or under keys that don't match (kernel: histogram.rst, inter-event hist triggers; in this order is our own choice)
 abbrev pub saver_refused : Hist → Hist → Option Refused

@@ -4,6 +4,8 @@ use Rattle.std.specs.List.{find}
 use Rattle.std.specs.Option.{option_map_or}
 use Rattle.std.specs.Str.{bytes_eq}
 use Rattle.std.specs.FinMap as map
+use Rattle.ft_hist.specs.Hist.{Hist}
+use Rattle.ft_hist.specs.Hit.{same_name}
 use Rattle.ft_hist.specs.declared.label.Var.{Var}
 use Rattle.ft_hist.specs.declared.label.Var.TheVariants as vars
 pub use Rattle.ft_hist.specs.Sound.{is_reader}
@@ -38,3 +40,7 @@ role_of triggers (Some (vars.Reads own source)) = Reads (unwrap_or (saver_of tri
 -- what the trigger with an id does with its variable (our own choice)
 unfoldable pub role_at : Triggers → ℕ → Role
 role_at triggers id = option_map_or (λ hist. role_of triggers hist.variable) (map.get triggers id) Plain
+
+-- a saver is on the event that a reader's onmatch part names, where it has one (kernel: histogram.rst, the `onmatch` handler)
+abbrev pub saves_for : Hist → Hist → Bool
+saves_for reader saver = option_map_or (λ onmatch. same_name onmatch.event saver.event) reader.onmatch true

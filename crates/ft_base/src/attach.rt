@@ -3,7 +3,8 @@
 ghost use Rattle.std.specs.Prelude.{◌≡◌};
 ghost use Rattle.std.specs.Ordering.{nat_cmp};
 ghost use Rattle.ft_maps.specs.Seen.{seen};
-ghost use Rattle.ft_base.specs.After.{reader_refused, saver_refused, saves_for, variable_refused};
+ghost use Rattle.ft_base.specs.After.{reader_refused, saver_refused, variable_refused};
+ghost use Rattle.ft_base.specs.Roles.{saves_for};
 
 use crate::refused::Refused;
 use crate::roles::saver_of;

@@ -3,7 +3,7 @@ use Rattle.std.proofs.Common.{◌≡◌, ℕ, List, Bool, true, false, cond, inl
 use Rattle.std.specs.Ordering.{nat_cmp, eq_by_cmp}
 use Rattle.std.specs.Cmp.{nat_cmp_total}
 use Rattle.std.specs.FinMap as map
-use Rattle.std.specs.FinMap.{get-insert, get-remove}
+use Rattle.std.specs.FinMap.{get-insert}
 use Rattle.std.proofs.lemmas.Option.{same_Some}
 use Rattle.ft_filter.specs.Tree.{Tree}
 use Rattle.ft_hist.specs.Hist.{Hist, with_filter}
@@ -24,13 +24,6 @@ module _ (P : Hist → Type 0) where
   abbrev Each : Triggers → Type 0
   Each triggers = (id : ℕ) (hist : Hist) → map.get triggers id ≡ Some hist → P hist
 
-  each_removed : (triggers : Triggers) (id : ℕ) → Each triggers → Each (map.remove triggers id)
-  each_removed triggers id each other hist there =
-      elim (eq_by_cmp nat_cmp other id) as (λ (b : Bool). cond b None (map.get triggers other) ≡ Some hist → P hist) [
-        | true ↦ λ is. let both : ◌≡◌ {A = Option Hist} None (Some hist) = is in absurd cc
-        | false ↦ λ is. each other hist is
-      ] (sym (get-remove nat_cmp_total triggers id other) ∙ there)
-
   each_inserted : (triggers : Triggers) (id : ℕ) (its : Hist) → Each triggers → P its → Each (map.insert triggers id its)
   each_inserted triggers id its each has other hist there =
       elim (eq_by_cmp nat_cmp other id) as (λ (b : Bool). cond b (Some its) (map.get triggers other) ≡ Some hist → P hist) [
@@ -45,10 +38,6 @@ module _ (P : Hist → Type 0) where
 -- a trigger that reads makes no events
 abbrev ReadsAndMakesNone : Hist → Type 0
 ReadsAndMakesNone hist = is_reader hist.variable ≡ true → hist.onmatch ≡ None
-
-pub removed_nothing : (triggers : Triggers) (id : ℕ) → MakesNothing triggers → MakesNothing (map.remove triggers id)
-removed_nothing triggers id (inl none) = inl (each_removed ReadsAndMakesNone triggers id none)
-removed_nothing triggers id (inr none) = inr (each_removed (λ (hist : Hist). counts_made hist ≡ false) triggers id none)
 
 insert_nothing : (triggers : Triggers) (id : ℕ) (was : Hist) (filter : Option Tree) → map.get triggers id ≡ Some was → MakesNothing triggers → MakesNothing (map.insert triggers id (with_filter was filter))
 insert_nothing triggers id was filter there (inl none) = inl (each_refiltered ReadsAndMakesNone triggers id was filter there (λ is. is) none)

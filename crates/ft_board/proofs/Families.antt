@@ -51,7 +51,7 @@ saver_of_hist : (triggers : Triggers) → HasSavers triggers → (reader : ℕ) 
 unfolding role_at
 saver_of_hist triggers savers reader hist saver there is =
     let reads = reads_of triggers hist.variable saver is in
-    let has : HasSaver triggers hist.keys reads.1.0 = savers reader hist reads.0 reads.1.0 there reads.1.1.0 in
+    let has : HasSaver triggers hist reads.1.0 = savers reader hist reads.0 reads.1.0 there reads.1.1.0 in
     let same : has.id ≡ saver = ap (λ (o : Option ℕ). unwrap_or o 0) (sym has.named) ∙ reads.1.1.1 in
     ap (λ (o : Option Hist). option_map_or (λ (h : Hist). role_of triggers h.variable) o Plain) (ap (map.get triggers) (sym same) ∙ has.attached)
     ∙ saves_role triggers reads.1.0 has.saver.variable (saver-saves triggers reads.1.0 has.id has.saver has.attached has.named)

@@ -74,7 +74,7 @@ module _ (triggers : Triggers) (shelves : Shelves) (has : HaveShelves triggers s
 saver_there : (triggers : Triggers) → HasSavers triggers → (id : ℕ) (hist : Hist) (saver : ℕ) → map.get triggers id ≡ Some hist → role_of triggers hist.variable ≡ Reads saver → is_some (map.get triggers saver) ≡ true
 saver_there triggers savers id hist saver there is =
     let reads = reads_of triggers hist.variable saver is in
-    let has : HasSaver triggers hist.keys reads.1.0 = savers id hist reads.0 reads.1.0 there reads.1.1.0 in
+    let has : HasSaver triggers hist reads.1.0 = savers id hist reads.0 reads.1.0 there reads.1.1.0 in
     let same : has.id ≡ saver = ap (λ (o : Option ℕ). unwrap_or o 0) (sym has.named) ∙ reads.1.1.1 in
     ap (λ (k : ℕ). is_some (map.get triggers k)) (sym same) ∙ ap is_some has.attached
 

@@ -48,7 +48,7 @@ on_stamp stamp e = if e.stamp == stamp then Some e else None
 abbrev in_lane : ℕ → Option Lane → Option Traced
 in_lane line lane = option_and_then (λ (l : Lane). map.get l.events line) lane
 
-there_if : {X : Type 0} (b : Bool) (o : Option X) (x : X) → cond b o None ≡ Some x → (b ≡ true) × (o ≡ Some x)
+pub there_if : {X : Type 0} (b : Bool) (o : Option X) (x : X) → cond b o None ≡ Some x → (b ≡ true) × (o ≡ Some x)
 there_if true o x is = (refl, is)
 there_if false o x is = absurd cc
 
@@ -58,7 +58,7 @@ none_if false o is = refl
 
 module _ (lanes : Lanes) where
   -- what is held at a place, in the lanes of some CPUs
-  chosen_at : (p : ℕ → Bool) (pos : Pos) → map.get (merged (map.retain_keys lanes p)) pos ≡ cond (p pos.cpu) (held_at lanes pos) None
+  pub chosen_at : (p : ℕ → Bool) (pos : Pos) → map.get (merged (map.retain_keys lanes p)) pos ≡ cond (p pos.cpu) (held_at lanes pos) None
   chosen_at p pos =
       merged_at pos (map.retain_keys lanes p)
       ∙ ap (λ (o : Option Lane). option_and_then (on_stamp pos.stamp) (in_lane pos.line o)) (get-chosen p lanes pos.cpu)
@@ -153,7 +153,7 @@ among_keys cpu (e ∷ es) =
 pub among_lanes : (lanes : Lanes) (cpu : ℕ) → is_among (map.keys lanes) cpu ≡ map.contains_key lanes cpu
 among_lanes lanes cpu = among_keys cpu (map.entries lanes) ∙ ap is_some (sym (get-entries lanes cpu))
 
-lanes_before : (lanes : Lanes) (es : List Traced) → first_held lanes es ≡ None → lanes_of (map.keys lanes) (with_lanes lanes es) ≡ lanes
+pub lanes_before : (lanes : Lanes) (es : List Traced) → first_held lanes es ≡ None → lanes_of (map.keys lanes) (with_lanes lanes es) ≡ lanes
 lanes_before lanes es none = same_map nat_cmp_total nat_cmp-IsAntisymmetric (lanes_of (map.keys lanes) (with_lanes lanes es)) lanes (λ q.
     get-chosen (is_among (map.keys lanes)) (with_lanes lanes es) q
     ∙ ap (λ (b : Bool). cond b (map.get (with_lanes lanes es) q) None) (among_lanes lanes q)

@@ -17,8 +17,8 @@ pub mod CountComing
 pub mod KeptBoardTold
 pub mod MadeShelves
 pub mod Makers
-pub mod MissedStay
-pub mod MissedEdits
+pub mod Mending
+pub mod Turning
 pub mod CountingNone
 pub mod ByRole
 pub mod Spots
@@ -28,3 +28,7 @@ pub mod SaverHits
 pub mod SaverKeys
 pub mod FewSteps
 pub mod Repaired
+pub mod StillMade
+pub mod LeavingMade
+pub mod MendedEdits
+pub mod SameForms

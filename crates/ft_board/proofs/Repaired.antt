@@ -1,8 +1,8 @@
 -- What holds of tables that a repair left, where it went through.
-use Rattle.std.proofs.Common.{◌≡◌, false, refl, sym, ap, ◌∙◌, Option, Some, None, Result, Ok, Err, OnOk}
+use Rattle.std.proofs.Common.{◌≡◌, false, refl, sym, ap, ◌∙◌, Option, Some, None, subst, Result, Ok, Err, OnOk}
 use Rattle.std.specs.Option.{IfSome, is_none}
 use Rattle.ft_kept.specs.Shelves.{Shelves}
-use Rattle.ft_board.specs.inner.Repaired.{if_ok}
+use Rattle.ft_board.specs.inner.Repaired.{IfBoth, if_ok}
 
 pub repaired_if : {E : Type 0} (P : Shelves → Type 0) (tables : Shelves) (repaired : Result Unit E) → OnOk repaired (P tables) → IfSome (if_ok tables repaired) P
 repaired_if P tables (Ok done) holds = holds
@@ -21,3 +21,14 @@ repaired_there tables repaired kept is ok gone = let both : ◌≡◌ {A = Optio
 pub still_there : (old new : Option Shelves) → (new ≡ None → old ≡ None) → is_none old ≡ false → is_none new ≡ false
 still_there old None back there = ap is_none (sym (back refl)) ∙ there
 still_there old (Some tables) back there = refl
+
+-- how tables changed, where their repair went through
+pub repaired_both : {E : Type 0} (Change : Shelves → Shelves → Type 0) (before after : Shelves) (repaired : Result Unit E) (old new : Option Shelves)
+    → Some before ≡ old → new ≡ if_ok after repaired → OnOk repaired (Change before after) → IfBoth Change old new
+repaired_both Change before after repaired old new was is changes =
+    subst (λ (o : Option Shelves × Option Shelves). IfBoth Change o.0 o.1) (λ i. (was i, sym is i)) (repaired_if (Change before) after repaired changes)
+
+-- what holds at all holds where a call went through
+pub holds_ok : {E A : Type 0} (repaired : Result Unit E) → A → OnOk repaired A
+holds_ok (Ok done) a = a
+holds_ok (Err fault) a = tt

@@ -1,6 +1,5 @@
 pub mod KeptShelves
 pub mod MadeShelves
-pub mod MissedMore
 pub mod Staying
 pub mod inner
 pub use Rattle.ft_kept.specs.Shelves

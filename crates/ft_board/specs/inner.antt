@@ -4,6 +4,7 @@ pub mod ButOneEvent
 pub mod ButOneLane
 pub mod ButOneTrigger
 pub mod Idle
+pub mod Mending
 pub mod Readings
 pub mod Repaired
 pub mod SomeLanes

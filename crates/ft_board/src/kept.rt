@@ -5,15 +5,15 @@ ghost use Rattle.std.specs.Prelude.{◌≡◌, true, false};
 use crate::join::join;
 use crate::lane_goes::let_lane_go;
 use crate::lanes_come::{cpus_before, let_lanes_come};
-use crate::laws::missed_stay;
-use crate::leave::leave;
-use crate::made::remake;
-use crate::missed::{is_missed, kept_still};
+use crate::laws::kept_shelves;
+use crate::leave::{leave, reads};
+use crate::made::{drop_made, remake};
+use crate::mend::{mend, take_notes};
 use crate::rebuild::renew;
 use crate::refilter::make_way;
 use crate::repair::{let_come, let_go};
 use crate::told::{catch_up, latencies_in, shelf_in, text_in, totals_in};
-use ft_answers::{Board, Done, Latency};
+use ft_answers::{Board, Done, Kept, Latency};
 use ft_base::{Content, Place, Refused, attached, is_reader};
 use ft_fields::{Event, Name};
 use ft_filter::Filter;
@@ -87,20 +87,36 @@ impl Board for KeptBoard {
     ghost shown = { λ b. b };
 
     fn load(&mut self, events: Vec<Event>) -> Result<Done<u64>, Refused> {
+        kept_shelves();
         let before = cpus_before(self.alloc, self.content.lanes(), &events);
         let value = self.content.load(events)?;
-        match before {
-            Ok(Some(before)) => let_lanes_come(
+        let Ok(before) = before else {
+            self.kept = None;
+            return Ok(Done {
+                value,
+                kept: Kept::Later,
+            });
+        };
+        let Some(before) = before else {
+            renew(&mut self.kept, self.alloc, &self.content, &mut self.work);
+            let kept = remake(
                 &mut self.kept,
+                &mut self.made,
                 self.alloc,
                 &self.content,
-                &before,
                 &mut self.work,
-            ),
-            Ok(None) => renew(&mut self.kept, self.alloc, &self.content, &mut self.work),
-            Err(_) => self.kept = None,
-        }
-        let kept = remake(
+            );
+            return Ok(Done { value, kept });
+        };
+        take_notes(&mut self.kept, self.content.triggers());
+        let_lanes_come(
+            &mut self.kept,
+            self.alloc,
+            &self.content,
+            &before,
+            &mut self.work,
+        );
+        let kept = mend(
             &mut self.kept,
             &mut self.made,
             self.alloc,
@@ -111,17 +127,19 @@ impl Board for KeptBoard {
     }
 
     fn unload(&mut self, cpu: u32) -> Result<Done<u64>, Refused> {
+        kept_shelves();
         let lane = self.content.lane_of(cpu)?;
         if self.content.is_small(lane) {
+            take_notes(&mut self.kept, self.content.triggers());
             let_lane_go(&mut self.kept, &self.content, lane, &mut self.work);
-            let value = self.content.take_lane(lane);
-            let kept = remake(
+            let kept = mend(
                 &mut self.kept,
                 &mut self.made,
                 self.alloc,
                 &self.content,
                 &mut self.work,
             );
+            let value = self.content.take_lane(lane);
             return Ok(Done { value, kept });
         }
         let value = self.content.take_lane(lane);
@@ -137,14 +155,11 @@ impl Board for KeptBoard {
     }
 
     fn insert(&mut self, event: Event) -> Result<Done<Place>, Refused> {
+        kept_shelves();
         let place = self.content.insert(event)?;
-        if is_missed(&self.content, place, &mut self.work) {
-            missed_stay();
-            let kept = kept_still(&self.kept);
-            return Ok(Done { value: place, kept });
-        }
+        take_notes(&mut self.kept, self.content.triggers());
         let_come(&mut self.kept, &self.content, place, &mut self.work);
-        let kept = remake(
+        let kept = mend(
             &mut self.kept,
             &mut self.made,
             self.alloc,
@@ -155,22 +170,18 @@ impl Board for KeptBoard {
     }
 
     fn strike(&mut self, cpu: u32, line: u32) -> Result<Done<Place>, Refused> {
+        kept_shelves();
         let place = self.content.place_of(cpu, line)?;
-        if is_missed(&self.content, place, &mut self.work) {
-            missed_stay();
-            self.content.strike(place);
-            let kept = kept_still(&self.kept);
-            return Ok(Done { value: place, kept });
-        }
+        take_notes(&mut self.kept, self.content.triggers());
         let_go(&mut self.kept, &self.content, place, &mut self.work);
-        self.content.strike(place);
-        let kept = remake(
+        let kept = mend(
             &mut self.kept,
             &mut self.made,
             self.alloc,
             &self.content,
             &mut self.work,
         );
+        self.content.strike(place);
         Ok(Done { value: place, kept })
     }
 
@@ -220,7 +231,9 @@ impl Board for KeptBoard {
     }
 
     fn remove(&mut self, id: u32) -> Result<Done<u32>, Refused> {
+        kept_shelves();
         self.content.removable(id)?;
+        let reading = reads(&self.content, id);
         leave(
             &mut self.kept,
             self.alloc,
@@ -229,13 +242,17 @@ impl Board for KeptBoard {
             &mut self.work,
         );
         self.content.remove(id);
-        let kept = remake(
-            &mut self.kept,
-            &mut self.made,
-            self.alloc,
-            &self.content,
-            &mut self.work,
-        );
+        if reading {
+            let kept = remake(
+                &mut self.kept,
+                &mut self.made,
+                self.alloc,
+                &self.content,
+                &mut self.work,
+            );
+            return Ok(Done { value: id, kept });
+        }
+        let kept = drop_made(&self.kept, &mut self.made, id);
         Ok(Done { value: id, kept })
     }
 

@@ -3,11 +3,13 @@
 ghost use Rattle.std.specs.Prelude.{◌≡◌, ◌+◌, ◌≤◌, None, Some, Ok, IfSome, OnOk};
 ghost use Rattle.std.specs.FinMap as map;
 ghost use Rattle.ft_hist.specs.Steps.{StepsGrow};
+ghost use Rattle.ft_kept.specs.Shelves.{FormsStay, NotesStay};
 ghost use Rattle.ft_lanes.specs.Held.{Lane};
 ghost use Rattle.ft_answers.specs.Costs.{count_on_lane};
 ghost use Rattle.ft_answers.specs.Deferral.{IsPlainLane};
 ghost use Rattle.ft_board.specs.KeptShelves.{AreKeptOf};
 ghost use Rattle.ft_board.specs.inner.ButOneLane.{AreKeptWithoutLane};
+ghost use Rattle.ft_board.specs.inner.Repaired.{IfBoth};
 
 use crate::repair::put_back;
 use ft_base::Content;
@@ -22,6 +24,9 @@ pub(crate) fn let_lane_go(kept: &mut Option<Tables>, content: &Content, cpu: u16
     requires { IfSome kept.old (AreKeptOf content.now) }
     ensures kept { IfSome kept.new (AreKeptWithoutLane content.now cpu) }
     ensures deferred { kept.old ≡ None → kept.new ≡ None }
+    ensures forms { IfBoth FormsStay kept.old kept.new }
+    ensures quiet { IsPlainLane content.now.triggers content.now.lanes cpu
+        → IfBoth NotesStay kept.old kept.new }
     ensures now { IsPlainLane content.now.triggers content.now.lanes cpu
         → kept.new ≡ None → kept.old ≡ None }
     ensures evals { (lane : Lane) → map.get content.now.lanes cpu ≡ Some lane
@@ -45,6 +50,9 @@ fn take_lane(
 ) -> Result<(), AllocError>
     requires { AreKeptOf content.now tables.old }
     ensures kept { OnOk result (AreKeptWithoutLane content.now cpu tables.new) }
+    ensures forms { OnOk result (FormsStay tables.old tables.new) }
+    ensures quiet { IsPlainLane content.now.triggers content.now.lanes cpu
+        → OnOk result (NotesStay tables.old tables.new) }
     ensures memory { IsPlainLane content.now.triggers content.now.lanes cpu → result ≡ Ok tt }
     ensures evals { (lane : Lane) → map.get content.now.lanes cpu ≡ Some lane
         → work.new.evals ≤ work.old.evals + count_on_lane content.now.triggers lane }

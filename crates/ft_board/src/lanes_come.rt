@@ -3,8 +3,10 @@
 ghost use Rattle.std.specs.Prelude.{◌≡◌, ◌+◌, ◌≤◌, length, nat_lt, is_some, None, IfOk, IfSome, OnOk};
 ghost use Rattle.std.specs.FinMap as map;
 ghost use Rattle.ft_hist.specs.Steps.{StepsGrow};
+ghost use Rattle.ft_kept.specs.Shelves.{FormsStay};
 ghost use Rattle.ft_lanes.specs.Held.{held_in};
 ghost use Rattle.ft_board.specs.KeptShelves.{AreKeptOf};
+ghost use Rattle.ft_board.specs.inner.Repaired.{IfBoth};
 ghost use Rattle.ft_board.specs.inner.SomeLanes.{AreKeptOfLanes, count_coming};
 
 use crate::repair::put_back;
@@ -56,6 +58,7 @@ pub(crate) fn let_lanes_come(
     requires { IfSome kept.old (AreKeptOfLanes before.now content.now) }
     ensures kept { IfSome kept.new (AreKeptOf content.now) }
     ensures deferred { kept.old ≡ None → kept.new ≡ None }
+    ensures forms { IfBoth FormsStay kept.old kept.new }
     ensures evals { work.new.evals ≤ work.old.evals + count_coming before.now content.now }
     ensures grow { StepsGrow work.old work.new }
 {
@@ -77,6 +80,7 @@ fn put_lanes(
 ) -> Result<(), AllocError>
     requires { AreKeptOfLanes before.now content.now tables.old }
     ensures kept { OnOk result (AreKeptOf content.now tables.new) }
+    ensures forms { OnOk result (FormsStay tables.old tables.new) }
     ensures evals { work.new.evals ≤ work.old.evals + count_coming before.now content.now }
     ensures grow { StepsGrow work.old work.new }
 {

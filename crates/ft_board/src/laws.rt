@@ -18,8 +18,6 @@ ghost use Rattle.ft_replay.specs.Found.{pairs_in, saving_found};
 ghost use Rattle.ft_replay.specs.Hits.{hits_of, table_for};
 ghost use Rattle.ft_replay.specs.Operations.{ops_on};
 ghost use Rattle.ft_board.specs.KeptShelves.{AreKept, AreKeptOf};
-ghost use Rattle.ft_board.specs.MadeShelves.{MadeTables};
-ghost use Rattle.ft_board.specs.MissedMore.{AreBothKept, IsMissedMore};
 ghost use Rattle.ft_board.specs.Staying.{IsReadAlike};
 ghost use Rattle.ft_replay.specs.Replay.{replay};
 ghost use Rattle.ft_replay.specs.Tally.{tally_of};
@@ -56,19 +54,6 @@ pub fn kept_shelves()
     ft_hist::laws::fitting_parts();
     ft_table::laws::one_more_hit();
     ft_pairs::laws::one_source();
-}
-
-/// A law: an event that no attached trigger hits leaves what is kept right, as it comes and as it
-/// goes: the shelves, and the tables of made events beside them.
-pub fn missed_stay()
-    ensures comes { (triggers : Triggers) (events more : Events) → IsMissedMore triggers events more
-        → (shelves : Shelves) (made : MadeTables) → AreBothKept triggers events shelves made
-        → AreBothKept triggers more shelves made }
-    ensures goes { (triggers : Triggers) (events more : Events) → IsMissedMore triggers events more
-        → (shelves : Shelves) (made : MadeTables) → AreBothKept triggers more shelves made
-        → AreBothKept triggers events shelves made }
-{
-    kept_shelves();
 }
 
 /// A law: a trigger that reads nothing keeps its table, whatever other triggers come, go or get

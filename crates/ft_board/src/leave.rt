@@ -7,8 +7,9 @@ ghost use Rattle.ft_base.specs.Roles.{is_reader};
 ghost use Rattle.ft_answers.specs.Deferral.{ReadsNothing};
 ghost use Rattle.ft_board.specs.KeptShelves.{AreKeptOf};
 ghost use Rattle.ft_base.specs.OneTrigger.{IsUnread};
-ghost use Rattle.ft_board.specs.inner.ButOneTrigger.{AreKeptBut};
+ghost use Rattle.ft_board.specs.inner.ButOneTrigger.{AreKeptBut, OtherShelvesStay};
 ghost use Rattle.ft_board.specs.inner.Idle.{AreKeptIdle, is_one};
+ghost use Rattle.ft_board.specs.inner.Repaired.{IfBoth};
 
 use crate::repair::put_back;
 use ft_base::{Content, is_reader};
@@ -18,6 +19,17 @@ use ft_maps::get;
 use ft_pairs::At;
 use ft_replay::{Names, events_with};
 use std::alloc::{AllocError, Global};
+
+/// Whether the trigger with an id, if there is one, reads a variable.
+pub(crate) fn reads(content: &Content, id: u32) -> bool
+    ensures nothing { result ≡ false → ReadsNothing content.now.triggers id }
+    ensures reads { ReadsNothing content.now.triggers id → result ≡ false }
+{
+    match get(content.triggers(), &id) {
+        Some(trigger) => is_reader(trigger),
+        None => false,
+    }
+}
 
 /// A trigger that is still attached, and that no other reads, leaves the tables. Where memory runs
 /// out, the tables are given up; one that reads nothing takes none.
@@ -32,6 +44,8 @@ pub(crate) fn leave(
     requires kept { IfSome kept.old (AreKeptOf content.now) }
     ensures kept { IfSome kept.new (AreKeptBut id content.now) }
     ensures deferred { kept.old ≡ None → kept.new ≡ None }
+    ensures others { ReadsNothing content.now.triggers id
+        → IfBoth (OtherShelvesStay id) kept.old kept.new }
     ensures now { ReadsNothing content.now.triggers id → kept.new ≡ None → kept.old ≡ None }
     ensures none { ReadsNothing content.now.triggers id → work.new ≡ work.old }
     ensures grow { StepsGrow work.old work.new }
@@ -62,6 +76,8 @@ fn take_trigger(
     requires attached { map.get content.now.triggers id ≡ Some trigger.now }
     requires kept { AreKeptOf content.now tables.old }
     ensures but { OnOk result (AreKeptBut id content.now tables.new) }
+    ensures others { is_reader trigger.now.variable ≡ false
+        → OtherShelvesStay id tables.old tables.new }
     ensures memory { is_reader trigger.now.variable ≡ false → result ≡ Ok tt }
     ensures none { is_reader trigger.now.variable ≡ false → work.new ≡ work.old }
     ensures grow { StepsGrow work.old work.new }

@@ -6,9 +6,11 @@
 //! of the triggers that read what it saves. A reader takes readings from the others that read its
 //! variable, or leaves them to those: there a few entries change. Where fewer events are loaded or
 //! unloaded than stay, they come or go one by one; where more are, all is built anew. Beside these
-//! stand the tables of events that readings make, which are made anew behind each edit, where some
-//! are made and counted. An event that no attached trigger hits leaves all of it as it is. Where memory runs out for any of it, the edit stands, and the next answer
-//! builds it.
+//! stand the tables of events that readings make. As events come or go, these are mended: the shelves
+//! note what readings had found, and behind the repair the hits of made events go and come where
+//! something is noted. They are made anew where shelves are built anew, as a trigger is attached or
+//! gets another filter, and as one goes that read. Where memory runs out for any of it, the edit
+//! stands, and the next answer builds it.
 //!
 //! ```ignore
 //! let mut board = KeptBoard::new(rt.alloc());
@@ -29,7 +31,7 @@ mod lanes_come;
 pub mod laws;
 mod leave;
 mod made;
-mod missed;
+mod mend;
 mod readings;
 mod rebuild;
 mod refilter;
@@ -37,4 +39,4 @@ mod repair;
 mod told;
 
 pub use kept::KeptBoard;
-pub use laws::{kept_board_keeps, kept_shelves, missed_stay, others_stay, readers_stay};
+pub use laws::{kept_board_keeps, kept_shelves, others_stay, readers_stay};

@@ -1,9 +1,10 @@
-//! Tables of the events that readings make, beside the shelves: where some are made and counted, they
-//! are made anew behind each edit, but for those of an event that no trigger hits.
+//! Tables of the events that readings make, beside the shelves: made anew where the shelves are built
+//! anew, or a trigger comes, gets another filter, or goes that read.
 
 ghost use Rattle.std.specs.Prelude.{◌≡◌, true, false, None, is_some, IfOk, IfSome, OnErr};
 ghost use Rattle.std.specs.Option.{is_none};
 ghost use Rattle.std.specs.Ordering.{nat_cmp};
+ghost use Rattle.std.specs.FinMap as map;
 ghost use Rattle.ft_hist.specs.Steps.{StepsGrow};
 ghost use Rattle.ft_maps.specs.Seen.{seen};
 ghost use Rattle.ft_replay.specs.Merged.{merged};
@@ -24,7 +25,7 @@ use ft_hist::{Trigger, Work};
 use ft_kept::Tables;
 use ft_lanes::Lanes;
 use ft_made::made_table;
-use ft_maps::{entries, put};
+use ft_maps::{entries, put, take};
 use ft_table::Table;
 use std::alloc::{AllocError, Global};
 use std::collections::BTreeMap;
@@ -60,6 +61,18 @@ pub(crate) fn remake(
         }
         Err(_) => Kept::Later,
     }
+}
+
+/// Takes the table of made events of one trigger away: whether there are tables still.
+pub(crate) fn drop_made(kept: &Option<Tables>, made: &mut BTreeMap<u32, Table>, id: u32) -> Kept
+    ensures made { seen nat_cmp made.new ≡ map.remove (seen nat_cmp made.old) id }
+    ensures answer { result ≡ kept_of (is_none kept.now) }
+{
+    take(made, &id);
+    if kept.is_none() {
+        return Kept::Later;
+    }
+    Kept::Now
 }
 
 /// The tables of the attached triggers that count made events, where some are made. Refused for
@@ -111,27 +124,6 @@ fn counting_tables(
     Ok(made)
 }
 
-/// Whether made events may be counted: some attached trigger makes events, and some is on their name.
-pub(crate) fn may_count(triggers: &BTreeMap<u32, Trigger>) -> bool
-    ensures nothing { result ≡ false → MakesNothing (seen nat_cmp triggers.now) }
-    ensures none { MakesNothing (seen nat_cmp triggers.now) → result ≡ false }
-{
-    has_maker(triggers) && has_counter(triggers)
-}
-
-/// Whether some attached trigger is on the name of made events.
-fn has_counter(triggers: &BTreeMap<u32, Trigger>) -> bool
-    ensures none { result ≡ false → CountNone (seen nat_cmp triggers.now) }
-    ensures some { CountNone (seen nat_cmp triggers.now) → result ≡ false }
-{
-    for (_, trigger) in entries(triggers) {
-        if counts_made(trigger) {
-            return true;
-        }
-    }
-    false
-}
-
 /// Whether some attached trigger makes events of its readings.
 fn has_maker(triggers: &BTreeMap<u32, Trigger>) -> bool
     ensures none { result ≡ false → MakeNone (seen nat_cmp triggers.now) }
@@ -147,7 +139,7 @@ fn has_maker(triggers: &BTreeMap<u32, Trigger>) -> bool
 
 /// Whether a trigger makes events of its readings: then it reads.
 #[tactic(auto, using(crate::proofs::Makers::makers_read))]
-fn makes(trigger: &Trigger) -> bool
+pub(crate) fn makes(trigger: &Trigger) -> bool
     ensures makes { result ≡ is_some trigger.now.onmatch }
     ensures reads { result ≡ true → is_reader trigger.now.variable ≡ true }
 {

@@ -2,10 +2,11 @@
 
 ghost use Rattle.std.specs.Prelude.{◌≡◌, IfSome, None};
 ghost use Rattle.ft_hist.specs.Steps.{StepsGrow};
+ghost use Rattle.ft_kept.specs.Shelves.{FormsStay, NotesStay};
 ghost use Rattle.ft_board.specs.KeptShelves.{AreKeptOf};
 ghost use Rattle.ft_board.specs.inner.ButOneEvent.{ComesAtCost, GoesAtCost, AreKeptWithout};
 ghost use Rattle.ft_board.specs.inner.ButOneEvent.{IsMissed, IsPlain};
-ghost use Rattle.ft_board.specs.inner.Repaired.{if_ok};
+ghost use Rattle.ft_board.specs.inner.Repaired.{IfBoth, if_ok};
 
 use ft_base::{Content, Place};
 use ft_fields::Pos;
@@ -19,6 +20,8 @@ pub(crate) fn let_come(kept: &mut Option<Tables>, content: &Content, place: Plac
     requires { IfSome kept.old (AreKeptWithout content.now place) }
     ensures kept { IfSome kept.new (AreKeptOf content.now) }
     ensures deferred { kept.old ≡ None → kept.new ≡ None }
+    ensures forms { IfBoth FormsStay kept.old kept.new }
+    ensures quiet { IsPlain content.now place → IfBoth NotesStay kept.old kept.new }
     ensures now { IsMissed content.now place → kept.new ≡ None → kept.old ≡ None }
     ensures costs { ComesAtCost content.now place work.old work.new }
     ensures grow { StepsGrow work.old work.new }
@@ -47,6 +50,8 @@ pub(crate) fn let_go(kept: &mut Option<Tables>, content: &Content, place: Place,
     requires { IfSome kept.old (AreKeptOf content.now) }
     ensures kept { IfSome kept.new (AreKeptWithout content.now place) }
     ensures deferred { kept.old ≡ None → kept.new ≡ None }
+    ensures forms { IfBoth FormsStay kept.old kept.new }
+    ensures quiet { IsPlain content.now place → IfBoth NotesStay kept.old kept.new }
     ensures now { IsPlain content.now place → kept.new ≡ None → kept.old ≡ None }
     ensures costs { GoesAtCost content.now place work.old work.new }
     ensures grow { StepsGrow work.old work.new }

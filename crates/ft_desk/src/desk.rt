@@ -45,7 +45,7 @@ impl<B: Board> Desk<B> {
     ghost use Rattle.ft_answers.specs.Held.{event_at, is_small};
     ghost use Rattle.ft_answers.specs.Costs.{EditCounts, RepairCosts, LoadCosts, UnloadCosts};
     ghost use Rattle.ft_answers.specs.Costs.{FilterCosts, AnswerCosts};
-    ghost use Rattle.ft_answers.specs.Deferral.{PutsNothingOff, PutsOffForMadeAlone};
+    ghost use Rattle.ft_answers.specs.Deferral.{PutsNothingOff};
     ghost use Rattle.ft_answers.specs.Deferral.{IsNoHit, IsPlainHit, IsPlainLane};
     ghost use Rattle.ft_answers.specs.Deferral.{ReadsNothing, WantsForTables};
     ghost use Rattle.ft_answers.specs.Edited.{EditGives, AnswersFrom, AnswerIs};
@@ -85,7 +85,7 @@ impl<B: Board> Desk<B> {
         ensures repairs { UnloadCosts cpu self.old self.new }
         ensures now { is_small self.old.base.lanes cpu ≡ true
             → IsPlainLane self.old.base.triggers self.old.base.lanes cpu
-            → PutsOffForMadeAlone self.old self.new }
+            → PutsNothingOff self.old self.new }
     {
         self.board.unload(cpu)
     }
@@ -117,9 +117,7 @@ impl<B: Board> Desk<B> {
         ensures repairs { (event : Traced) → event_at self.old.base.lanes cpu line ≡ Some event
             → RepairCosts event self.old self.new }
         ensures now { (event : Traced) → event_at self.old.base.lanes cpu line ≡ Some event
-            → IsPlainHit self.old.base.triggers event → PutsOffForMadeAlone self.old self.new }
-        ensures missed { (event : Traced) → event_at self.old.base.lanes cpu line ≡ Some event
-            → IsNoHit self.old.base.triggers event → PutsNothingOff self.old self.new }
+            → IsPlainHit self.old.base.triggers event → PutsNothingOff self.old self.new }
     {
         self.board.strike(cpu, line)
     }
@@ -161,7 +159,7 @@ impl<B: Board> Desk<B> {
         ensures memory { result ≢ Err Memory }
         ensures counts { EditCounts self.old self.new result }
         ensures now { ReadsNothing self.old.base.triggers id
-            → PutsOffForMadeAlone self.old self.new }
+            → PutsNothingOff self.old self.new }
     {
         self.board.remove(id)
     }

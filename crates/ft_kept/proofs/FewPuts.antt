@@ -18,12 +18,12 @@ use Rattle.ft_table.specs.Spots.{traced}
 use Rattle.ft_kept.specs.inner.OneAct.{IsDoneToo}
 use Rattle.ft_kept.specs.Bounds.{TableEdit, TableMoves, SaverMoves, SomeSaverMoves, OtherSaversStay, table_on}
 use Rattle.ft_hist.specs.Tests.{asked}
-use Rattle.ft_kept.specs.Shelves.{Shelved, Shelves, FormsStay, is_saver, role_on}
-use Rattle.ft_kept.specs.inner.Edits.{ChangesShelf, OpsChange, ReaderChanges, ReadersChange, TakesHit}
+use Rattle.ft_kept.specs.Shelves.{ChangesShelf, Shelved, Shelves, FormsStay, is_saver, role_on}
+use Rattle.ft_kept.specs.inner.Edits.{OpsChange, ReaderChanges, ReadersChange}
 use Rattle.ft_pairs.specs.declared.role.Role.TheVariants.{Saves}
 use Rattle.ft_kept.proofs.Decided.{none_not_some}
 use Rattle.ft_kept.proofs.Forms.{by_id, read_forms, readers_refl, readers_trans, role_at, roles_stay}
-use Rattle.ft_kept.proofs.Taking.{take_forms}
+use Rattle.ft_kept.proofs.Taking.{TakesNoted, noted_take_forms}
 
 -- ---- tables
 
@@ -77,11 +77,11 @@ pub reading_savers : (id saver : ℕ) (key : List Part) (edit : Ops → Ops) (ol
 reading_savers id saver key edit old put mid new h first last =
     savers_trans id old put new (read_forms saver key edit old put h) (savers_of_ops id saver key edit old put h) (savers_of_readers id put new (readers_trans put mid new first last))
 
--- and goes: its hit, its read, and then what the next reading counts and reads
-pub reading_less_savers : (at : At) (saver : ℕ) (key : List Part) (edit : Ops → Ops) (old took less new : Shelves) → ChangesShelf at.trigger (TakesHit (record { spot = traced at.pos; key = key })) old took
+-- and goes: its hit, behind a note, its read, and then what the next reading counts and reads
+pub reading_less_savers : (at : At) (saver : ℕ) (key : List Part) (edit : Ops → Ops) (old took less new : Shelves) → ChangesShelf at.trigger (TakesNoted (record { spot = traced at.pos; key = key })) old took
     → ChangesShelf saver (OpsChange key edit) took less → ReadersChange less new → OtherSaversStay at.trigger old new
 reading_less_savers at saver key edit old took less new hit h last =
-    savers_trans at.trigger old took new (take_forms old took at key hit) (savers_but at.trigger old took hit.others)
+    savers_trans at.trigger old took new (noted_take_forms old took at key hit) (savers_but at.trigger old took hit.others)
     (reading_savers at.trigger saver key edit took less less new h (readers_refl less) last)
 
 -- ---- steps

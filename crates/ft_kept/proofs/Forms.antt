@@ -24,12 +24,13 @@ use Rattle.ft_table.specs.Hits.{Hits}
 use Rattle.ft_table.specs.Marks.{mark_same, mark_cmp_total}
 use Rattle.ft_kept.specs.inner.Edits.{OpsStay}
 use Rattle.ft_kept.specs.Repairs.{AreShelved}
-use Rattle.ft_kept.specs.Shelves.{MadeStay, Shelved, Shelves, KeepsForm, FormStays, FormsStay}
-use Rattle.ft_kept.specs.inner.Edits.{ReaderChanges, ReadersChange, OpsChange, ChangesShelf}
+use Rattle.ft_kept.specs.Shelves.{ChangesShelf, MadeStay, Shelved, Shelves, KeepsForm, FormStays, FormsStay}
+use Rattle.ft_kept.specs.inner.Edits.{ReaderChanges, ReadersChange, OpsChange}
 use Rattle.ft_kept.specs.Shelves.{is_saver, role_on, admits_on, kept_on}
 use Rattle.ft_pairs.specs.declared.role.Role.{Role}
 use Rattle.ft_pairs.specs.declared.role.Role.TheVariants.{Plain, Saves, Reads}
 use Rattle.ft_pairs.specs.declared.role.Variable.{Variable}
+use Rattle.ft_kept.proofs.Noting.{notes_refl, notes_trans, notes_same}
 
 -- ---- forms
 
@@ -47,7 +48,7 @@ made_without hits pos key m made = get-remove_other mark_cmp_total mark_same hit
 
 -- a shelf has the form that it has
 pub same_form : (shelf : Shelved) → KeepsForm shelf shelf
-same_form shelf = record { role = refl; size = refl; made = λ m _. refl }
+same_form shelf = record { role = refl; size = refl; made = λ m _. refl; notes = λ saver _. notes_refl shelf }
 
 form_refl : (o : Option Shelved) → FormStays o o
 form_refl None = refl
@@ -56,11 +57,20 @@ form_refl (Some shelf) = (shelf, (refl, same_form shelf))
 pub forms_refl : (shelves : Shelves) → FormsStay shelves shelves
 forms_refl shelves id = form_refl (map.get shelves id)
 
+-- and keeps it through two changes
+form_then : (a b c : Shelved) → KeepsForm a b → KeepsForm b c → KeepsForm a c
+form_then a b c h k = record {
+  role = k.role ∙ h.role;
+  size = k.size ∙ h.size;
+  made = λ m made. k.made m made ∙ h.made m made;
+  notes = λ saver reads. notes_trans a b c (h.notes saver reads) (k.notes saver (h.role ∙ reads));
+}
+
 form_trans : (a b c : Option Shelved) → FormStays a b → FormStays b c → FormStays a c
 form_trans None b c h k = subst (λ o. FormStays o c) h k
 form_trans (Some shelf) b c h k =
     let next : FormStays (Some h.0) c = subst (λ o. FormStays o c) h.1.0 k in
-    (next.0, (next.1.0, record { role = next.1.1.role ∙ h.1.1.role; size = next.1.1.size ∙ h.1.1.size; made = λ m made. next.1.1.made m made ∙ h.1.1.made m made }))
+    (next.0, (next.1.0, form_then shelf h.0 next.0 h.1.1 next.1.1))
 
 pub forms_trans : (a b c : Shelves) → FormsStay a b → FormsStay b c → FormsStay a c
 forms_trans a b c h k id = form_trans (map.get a id) (map.get b id) (map.get c id) (h id) (k id)
@@ -106,7 +116,7 @@ reader_trans (Some shelf) b c h k =
       (
         next.1.0,
         (
-          record { role = next.1.1.0.role ∙ role; size = next.1.1.0.size ∙ h.1.1.0.size; made = λ m made. next.1.1.0.made m made ∙ h.1.1.0.made m made },
+          form_then shelf h.0 next.0 h.1.1.0 next.1.1.0,
           (next.1.1.1.0 ∙ h.1.1.1.0, λ other. next.1.1.1.1 (λ saver is. other saver (sym role ∙ is)) ∙ h.1.1.1.1 other),
         ),
       ),
@@ -238,18 +248,28 @@ module _ (old new : Shelves) (id : ℕ) (shelf after : Shelved) (was : map.get o
       (subst (λ o. ReaderChanges o (map.get new id)) (sym was) (after, (is, (keeps, (ops, λ other. absurd (other saver role))))))
       (λ i other. subst (λ o. ReaderChanges (map.get old i) o) (sym (others i other)) (reader_refl (map.get old i)))
 
+-- one shelf changes that keeps its form
+pub changed_forms : (id : ℕ) (Change : Shelved → Shelved → Type 0) (old new : Shelves) → ChangesShelf id Change old new
+    → ((shelf after : Shelved) → map.get old id ≡ Some shelf → Change shelf after → KeepsForm shelf after) → FormsStay old new
+changed_forms id Change old new h keeps = by_id (λ i. FormStays (map.get old i) (map.get new i)) id (here (map.get old id) refl)
+    (λ i other. subst (λ o. FormStays (map.get old i) o) (sym (h.others i other)) (form_refl (map.get old i)))
+  where
+    here : (o : Option Shelved) → map.get old id ≡ o → FormStays (map.get old id) (map.get new id)
+    here None is = subst (λ s. FormStays s (map.get new id)) (sym is) (h.none is)
+    here (Some shelf) is =
+        let after = h.here shelf is in
+        subst (λ s. FormStays s (map.get new id)) (sym is) (after.0, (after.1.0, keeps shelf after.0 is after.1.1))
+
 -- ---- operations of one key change on one shelf
 
 module _ (saver : ℕ) (key : List Part) (edit : Ops → Ops) (old new : Shelves) (h : ChangesShelf saver (OpsChange key edit) old new) where
-  read_form : (o : Option Shelved) → map.get old saver ≡ o → FormStays (map.get old saver) (map.get new saver)
-  read_form None is = subst (λ s. FormStays s (map.get new saver)) (sym is) (h.none is)
-  read_form (Some shelf) is =
-      let after = h.here shelf is in
-      subst (λ s. FormStays s (map.get new saver)) (sym is) (after.0, (after.1.0, record { role = after.1.1.role; size = ap (λ table. table.size) after.1.1.table; made = λ m _. ap (λ (table : Tabled). map.get table.hits m) after.1.1.table }))
-
   pub read_forms : FormsStay old new
-  read_forms = by_id (λ i. FormStays (map.get old i) (map.get new i)) saver (read_form (map.get old saver) refl)
-      (λ i other. subst (λ o. FormStays (map.get old i) o) (sym (h.others i other)) (form_refl (map.get old i)))
+  read_forms = changed_forms saver (OpsChange key edit) old new h (λ shelf after is change. record {
+    role = change.role;
+    size = ap (λ table. table.size) change.table;
+    made = λ m _. ap (λ (table : Tabled). map.get table.hits m) change.table;
+    notes = λ other _. notes_same shelf after change.readings change.notes;
+  })
 
   -- hits and readings stay
   pub read_hits : (id : ℕ) (mark : Mark) → (kept_on new).hits id mark ≡ (kept_on old).hits id mark

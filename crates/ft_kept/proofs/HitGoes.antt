@@ -11,17 +11,16 @@ use Rattle.ft_pairs.specs.declared.at.At.{At}
 use Rattle.ft_table.specs.Spots.{traced}
 use Rattle.ft_kept.specs.Repairs.{HasGone}
 use Rattle.ft_pairs.specs.Roles.{variable_of}
-use Rattle.ft_kept.specs.Shelves.{Shelves, role_on, admits_on, kept_on}
-use Rattle.ft_kept.specs.inner.Edits.{ChangesShelf, TakesHit}
+use Rattle.ft_kept.specs.Shelves.{ChangesShelf, Shelves, role_on, admits_on, kept_on}
 use Rattle.ft_table.specs.Values.{values_by}
 use Rattle.ft_pairs.specs.declared.role.Role.TheVariants.{Plain}
 use Rattle.ft_pairs.specs.declared.role.Variable.{Variable}
 use Rattle.ft_kept.proofs.Decided.{none_not_some}
 use Rattle.ft_kept.proofs.Owing.{kept_as, one_act_right, owes_more}
 use Rattle.ft_kept.proofs.Putting.{never_switched}
-use Rattle.ft_kept.proofs.Taking.{take_admits, take_ops, take_stays, take_unread, take_gone, one_goes, there_own, gone_ops, nothing_right}
+use Rattle.ft_kept.proofs.Taking.{LosesHit, take_admits, take_ops, take_stays, take_unread, take_gone, one_goes, there_own, gone_ops, nothing_right}
 
-pub plain_goes : (old new : Shelves) (at : At) (key : List Part) → ChangesShelf at.trigger (TakesHit (record { spot = traced at.pos; key = key })) old new → role_on old at.trigger ≡ Plain
+pub plain_goes : (old new : Shelves) (at : At) (key : List Part) → ChangesShelf at.trigger (LosesHit (record { spot = traced at.pos; key = key })) old new → role_on old at.trigger ≡ Plain
     → (triggers : FinMap nat_cmp Hist) (lanes : Lanes) (event : Traced) → HasGone triggers lanes at (Some (key, event)) old new
 plain_goes old new at key h plain triggers lanes event before after goes held kept =
     let values = values_by triggers in

@@ -13,6 +13,7 @@ pub mod HitGoes
 pub mod Hitting
 pub mod MovedPaid
 pub mod NextThere
+pub mod Noting
 pub mod OneByOne
 pub mod Owing
 pub mod Paid
@@ -20,6 +21,7 @@ pub mod Passing
 pub mod Paying
 pub mod Plainly
 pub mod Putting
+pub mod Quiet
 pub mod Reading
 pub mod ReadingGoes
 pub mod SaverGone

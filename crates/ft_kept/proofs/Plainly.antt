@@ -24,6 +24,7 @@ use Rattle.ft_pairs.specs.declared.role.Role.TheVariants.{Plain}
 use Rattle.ft_pairs.specs.declared.role.Variable.{Variable}
 use Rattle.ft_kept.proofs.Decided.{at_decided, none_not_some}
 use Rattle.ft_kept.proofs.Forms.{made_with, admits_by, by_id, edited, ops_by, role_at, same_admits, same_ops}
+use Rattle.ft_kept.proofs.Noting.{notes_plain}
 use Rattle.ft_kept.proofs.Owing.{kept_as, one_act_right, op_absent, op_elsewhere, op_none, owes_more}
 use Rattle.ft_kept.proofs.Putting.{absent_hits, absent_read, never_switched, one_comes, put_right, put_stays, values_there}
 
@@ -31,11 +32,12 @@ module _ (triggers : FinMap nat_cmp Hist) (lanes : Lanes) (old new : Shelves) (a
     (others : (i : ℕ) → (i ≡ at.trigger → ⊥) → map.get new i ≡ map.get old i) (key : List Part) (event : Traced) (hist : Hist) (attached : map.get triggers at.trigger ≡ Some hist)
     (put : after ≡ with_hit_on (record { spot = traced at.pos; key = key }) (values_at hist at.pos event None) None shelf) where
   -- its shelf keeps its form
-  pub plain_forms : FormsStay old new
-  plain_forms = edited old new at.trigger shelf after was is others (record {
+  pub plain_forms : role_on old at.trigger ≡ Plain → FormsStay old new
+  plain_forms plain = edited old new at.trigger shelf after was is others (record {
     role = ap (λ s. s.role) put;
     size = ap (λ s. s.table.size) put;
     made = λ m made. ap (λ (s : Shelved). map.get s.table.hits m) put ∙ made_with shelf.table.hits at.pos key (values_at hist at.pos event None) m made;
+    notes = notes_plain shelf after (sym (role_at old at.trigger (Some shelf) was) ∙ plain);
   })
 
   -- operations stay

@@ -21,8 +21,8 @@ use Rattle.ft_kept.specs.inner.Owed.{is_next_read, is_switched}
 use Rattle.ft_kept.specs.Repairs.{AreShelved, CanCome, HasCome}
 use Rattle.ft_kept.specs.inner.Settling.{IsPartly, Pays, without_next_read}
 use Rattle.ft_pairs.specs.Roles.{variable_of}
-use Rattle.ft_kept.specs.inner.Edits.{ChangesShelf, OpsChange, ReadersChange}
-use Rattle.ft_kept.specs.Shelves.{FormsStay, Shelves, admits_on, kept_on, role_on}
+use Rattle.ft_kept.specs.inner.Edits.{OpsChange, ReadersChange}
+use Rattle.ft_kept.specs.Shelves.{ChangesShelf, FormsStay, Shelves, admits_on, kept_on, role_on}
 use Rattle.ft_table.specs.Values.{values_by}
 use Rattle.ft_pairs.specs.declared.role.Role.{Role}
 use Rattle.ft_pairs.specs.declared.role.Role.TheVariants.{Reads}

@@ -21,8 +21,8 @@ use Rattle.ft_kept.specs.inner.Owed.{is_next_read, is_switched}
 use Rattle.ft_kept.specs.Repairs.{AreShelved, CanGo, HasGone}
 use Rattle.ft_kept.specs.inner.Settling.{IsPartly, Pays, without_next_read}
 use Rattle.ft_pairs.specs.Roles.{variable_of}
-use Rattle.ft_kept.specs.Shelves.{Shelves, FormsStay, admits_on, kept_on, role_on}
-use Rattle.ft_kept.specs.inner.Edits.{ChangesShelf, OpsChange, ReadersChange, TakesHit}
+use Rattle.ft_kept.specs.Shelves.{ChangesShelf, Shelves, FormsStay, admits_on, kept_on, role_on}
+use Rattle.ft_kept.specs.inner.Edits.{OpsChange, ReadersChange}
 use Rattle.ft_table.specs.Values.{values_by}
 use Rattle.ft_pairs.specs.declared.role.Role.TheVariants.{Reads}
 use Rattle.ft_pairs.specs.declared.role.Variable.{Variable}
@@ -32,7 +32,7 @@ use Rattle.ft_kept.proofs.Forms.{read_here as read_op_here}
 use Rattle.ft_kept.proofs.NextThere.{next_there}
 use Rattle.ft_kept.proofs.Owing.{kept_as, one_act_right, owes_more}
 use Rattle.ft_kept.proofs.Putting.{never_switched}
-use Rattle.ft_kept.proofs.Taking.{take_admits, take_forms, take_ops, take_stays, take_unread, take_gone, one_goes, there_own, gone_ops, gone_held, nothing_right}
+use Rattle.ft_kept.proofs.Taking.{LosesHit, TakesNoted, noted_take_forms, noted_takes, take_admits, take_ops, take_stays, take_unread, take_gone, one_goes, there_own, gone_ops, gone_held, nothing_right}
 
 never_both : (a : Bool) → (a && not a) ≡ true → false ≡ true
 never_both true e = e
@@ -44,18 +44,21 @@ left_alone false b never e = sym never ∙ e
 
 module _ (triggers : FinMap nat_cmp Hist) (lanes : Lanes) (old mid put : Shelves) (at : At) (saver : ℕ) (key : List Part)
     (reads : role_on old at.trigger ≡ Reads saver) (shelved : AreShelved triggers old)
-    (h : ChangesShelf at.trigger (TakesHit (record { spot = traced at.pos; key = key })) old mid) (k : ChangesShelf saver (OpsChange key (without_op at)) mid put) where
+    (noted : ChangesShelf at.trigger (TakesNoted (record { spot = traced at.pos; key = key })) old mid) (k : ChangesShelf saver (OpsChange key (without_op at)) mid put) where
   abbrev variable : Variable
   variable = record { saver = saver; key = key }
 
+  h : ChangesShelf at.trigger (LosesHit (record { spot = traced at.pos; key = key })) old mid
+  h = noted_takes old mid at key noted
+
   pub went_forms : FormsStay old put
-  went_forms = forms_trans old mid put (take_forms old mid at key h) (read_forms saver key (without_op at) mid put k)
+  went_forms = forms_trans old mid put (noted_take_forms old mid at key noted) (read_forms saver key (without_op at) mid put k)
 
   pub went_shelved : AreShelved triggers put
   went_shelved = shelved_stay triggers old put went_forms shelved
 
   there : is_some (map.get mid saver) ≡ true
-  there = shelf_stays old mid (take_forms old mid at key h) saver ∙ shelved.savers at.trigger saver reads
+  there = shelf_stays old mid (noted_take_forms old mid at key noted) saver ∙ shelved.savers at.trigger saver reads
 
   went_stays : StaysBut at (kept_on old) (kept_on put)
   went_stays q apart = (

@@ -31,8 +31,8 @@ use Rattle.ft_kept.specs.inner.Edits.{StaysBut}
 use Rattle.ft_kept.specs.Repairs.{CanGo}
 use Rattle.ft_kept.specs.inner.Settling.{HasGoneOwing}
 use Rattle.ft_pairs.specs.Roles.{Admits, variable_of}
-use Rattle.ft_kept.specs.inner.Edits.{ChangesShelf, TakesHit, without_hit_on}
-use Rattle.ft_kept.specs.Shelves.{FormsStay, Shelved, Shelves, admits_on, is_saver, kept_on, role_on}
+use Rattle.ft_kept.specs.inner.Edits.{TakesHit, without_hit_on}
+use Rattle.ft_kept.specs.Shelves.{ChangesShelf, FormsStay, Shelved, Shelves, admits_on, is_saver, kept_on, role_on}
 use Rattle.ft_kept.specs.inner.Following.{HitLessFollows, Moves, MovesKeys, followed_less, switched}
 use Rattle.ft_kept.specs.Switches.{Members}
 use Rattle.ft_table.specs.Values.{ValuesBy, values_by}
@@ -42,9 +42,10 @@ use Rattle.ft_pairs.specs.declared.role.Variable.{Variable}
 use Rattle.ft_kept.proofs.Decided.{at_decided, decided, itself, key_decided, untied}
 use Rattle.ft_kept.proofs.Following.{comes_in, goes_out, none_outside, other_stays}
 use Rattle.ft_kept.proofs.Forms.{made_without, admits_by, by_id, edited, hits_by, ops_by, read_by, role_at, same_admits, same_hits, same_ops, same_read}
+use Rattle.ft_kept.proofs.Noting.{notes_saver}
 use Rattle.ft_kept.proofs.Owing.{one_act_right, op_absent, op_elsewhere, op_none}
 use Rattle.ft_kept.proofs.Shelving.{shelf_changes}
-use Rattle.ft_kept.proofs.Taking.{nothing_right, one_goes, take_gone, take_stays, take_unread, there_own}
+use Rattle.ft_kept.proofs.Taking.{LosesHit, nothing_right, one_goes, plain_takes, take_gone, take_stays, take_unread, there_own}
 
 -- ---- all keys of a saver whose act goes
 
@@ -138,6 +139,7 @@ module _ (triggers : FinMap nat_cmp Hist) (lanes : Lanes) (old new : Shelves) (a
     role = follows.role;
     size = ap (λ t. t.size) follows.table;
     made = λ m made. ap (λ (t : Tabled). map.get t.hits m) follows.table ∙ made_without shelf.table.hits at.pos key m made;
+    notes = notes_saver shelf after (shelf_saves triggers lanes old at shelf was key saves);
   })
 
   admits_new : (k : List Part) → admits_on new at.trigger k ≡ is_in after.table k
@@ -160,8 +162,8 @@ module _ (triggers : FinMap nat_cmp Hist) (lanes : Lanes) (old new : Shelves) (a
   abbrev mid : Shelves
   mid = map.insert old at.trigger (without_hit_on mark shelf)
 
-  taken : ChangesShelf at.trigger (TakesHit mark) old mid
-  taken = shelf_changes at.trigger (TakesHit mark) old shelf (without_hit_on mark shelf) was refl
+  taken : ChangesShelf at.trigger (LosesHit mark) old mid
+  taken = plain_takes old mid at key (shelf_changes at.trigger (TakesHit mark) old shelf (without_hit_on mark shelf) was refl)
 
   hits_same : (i : ℕ) (m : Mark) → (kept_on new).hits i m ≡ (kept_on mid).hits i m
   hits_same i m = by_id (λ j. (kept_on new).hits j m ≡ (kept_on mid).hits j m) at.trigger

@@ -34,6 +34,7 @@ use Rattle.ft_pairs.specs.declared.role.Variable.{Variable}
 use Rattle.ft_kept.proofs.Decided.{at_decided, decided, itself, key_decided, untied}
 use Rattle.ft_kept.proofs.Following.{none_outside, other_follows, own_follows}
 use Rattle.ft_kept.proofs.Forms.{made_with, admits_by, edited, hits_by, ops_by, role_at, same_admits, same_ops}
+use Rattle.ft_kept.proofs.Noting.{notes_saver}
 use Rattle.ft_kept.proofs.Owing.{one_act_right, op_absent, op_elsewhere, op_none}
 use Rattle.ft_kept.proofs.Putting.{absent_hits, absent_read, one_comes, put_here, put_right, put_stays, values_there}
 
@@ -85,6 +86,7 @@ module _ (triggers : FinMap nat_cmp Hist) (lanes : Lanes) (old new : Shelves) (a
     role = follows.role;
     size = ap (λ t. t.size) follows.table;
     made = λ m made. ap (λ (t : Tabled). map.get t.hits m) follows.table ∙ made_with shelf.table.hits at.pos key (values_at hist at.pos event None) m made;
+    notes = notes_saver shelf after (shelf_saves triggers lanes old at shelf was key event saves);
   })
 
   pub admits_new : (k : List Part) → admits_on new at.trigger k ≡ is_in after.table k

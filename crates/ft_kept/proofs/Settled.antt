@@ -1,4 +1,4 @@
--- One shelf is written back whose hit and reading at one place were taken, and put again where the reading finds a saving.
+-- One shelf is written back whose reading at one place was noted, whose hit and reading there were taken, and put again where the reading finds a saving.
 use Rattle.std.proofs.Common.{◌≡◌, ℕ, ℤ, Bool, true, false, cond, List, [], refl, sym, ap, ◌∙◌, Some, None, Option, option_map, inl, inr}
 use Rattle.std.specs.Prelude.{is_some}
 use Rattle.std.specs.Option.{option_map_or}
@@ -26,12 +26,13 @@ use Rattle.ft_table.specs.Spots.{traced}
 use Rattle.ft_kept.specs.Entries.{HitsHere, hits_here, read_here, one_hit, IsEntry, IsOwn}
 use Rattle.ft_kept.specs.inner.Edits.{StaysBut}
 use Rattle.ft_kept.specs.Repairs.{AreShelved}
-use Rattle.ft_kept.specs.Shelves.{MadeStay, Shelved, Shelves, role_on, kept_on}
-use Rattle.ft_kept.specs.inner.Edits.{ReadersChange, with_hit_on, without_hit_on}
+use Rattle.ft_kept.specs.Shelves.{KeepsNotes, MadeStay, Shelved, Shelves, role_on, kept_on}
+use Rattle.ft_kept.specs.inner.Edits.{ReadersChange, with_hit_on, with_note, without_hit_on}
 use Rattle.ft_table.specs.Values.{ValuesBy, values_by, values_at}
 use Rattle.ft_pairs.specs.declared.role.Role.TheVariants.{Reads}
 use Rattle.ft_pairs.specs.declared.role.Variable.{Variable}
 use Rattle.ft_kept.proofs.Forms.{made_without, made_with, by_id, role_at, hits_by, read_by, same_hits, same_read, edited_reader, readers_ops}
+use Rattle.ft_kept.proofs.Noting.{notes_noted}
 use Rattle.ft_kept.proofs.Paid.{own_same, agreed_source}
 
 -- ---- a reader's entry
@@ -56,11 +57,11 @@ module _ (values : ValuesBy) (ops : Variable → Ops) (at : At) (saver : ℕ) (k
     λ k. own k ∙ ap (λ (o : Option Pos). one_hit key (option_map (λ saved. values at.trigger at.pos event (Some saved)) o) k) (sym found),
   )
 
--- ---- a shelf's hit and reading at a place are taken, and put again
+-- ---- a shelf's reading at a place is noted, it and its hit are taken, and put again
 
 module _ (pos : Pos) (key : List Part) (shelf : Shelved) where
   abbrev pub cleared : Shelved
-  cleared = without_hit_on (record { spot = traced pos; key = key }) shelf
+  cleared = without_hit_on (record { spot = traced pos; key = key }) (with_note pos shelf)
 
   pub cleared_hit : (event : Traced) → IsOwn (Some (key, event)) (λ k. map.get shelf.table.hits (record { spot = traced pos; key = k })) → (k : List Part) → map.get cleared.table.hits (record { spot = traced pos; key = k }) ≡ None
   cleared_hit event own k = elim (same_key k key) as (λ b. same_key k key ≡ b → map.get cleared.table.hits (record { spot = traced pos; key = k }) ≡ None) [
@@ -91,6 +92,9 @@ module _ (pos : Pos) (key : List Part) (shelf : Shelved) where
   pub cleared_readings : (p : Pos) → (p ≡ pos → ⊥) → map.get cleared.readings p ≡ map.get shelf.readings p
   cleared_readings p other = get-remove_other pos_cmp_total pos_same shelf.readings pos p other
 
+  pub cleared_notes : KeepsNotes shelf cleared
+  cleared_notes = notes_noted pos shelf cleared refl cleared_readings
+
   module _ (values : List ℤ) (saved : Pos) where
     abbrev pub filled : Shelved
     filled = with_hit_on (record { spot = traced pos; key = key }) values (Some saved) cleared
@@ -120,6 +124,9 @@ module _ (pos : Pos) (key : List Part) (shelf : Shelved) where
     pub filled_readings : (p : Pos) → (p ≡ pos → ⊥) → map.get filled.readings p ≡ map.get shelf.readings p
     filled_readings p other = get-insert_other pos_cmp_total pos_same cleared.readings pos saved p other ∙ cleared_readings p other
 
+    pub filled_notes : KeepsNotes shelf filled
+    filled_notes = notes_noted pos shelf filled refl filled_readings
+
 -- ---- and written back
 
 -- a reading was made right: only what readers have changed, nothing but it, and it is right
@@ -135,8 +142,8 @@ module _ (old new : Shelves) (at : At) (shelf after : Shelved) (was : map.get ol
   elsewhere : (i : ℕ) → (i ≡ at.trigger → ⊥) → map.get new i ≡ map.get old i
   elsewhere i other = ap (λ (shelves : Shelves). map.get shelves i) is ∙ get-insert_other nat_cmp_total exact_unsigned old at.trigger after i other
 
-  pub written_readers : (saver : ℕ) → shelf.role ≡ Reads saver → after.role ≡ shelf.role → after.table.size ≡ shelf.table.size → MadeStay shelf.table.hits after.table.hits → after.ops ≡ shelf.ops → ReadersChange old new
-  written_readers saver reads role size made ops = edited_reader old new at.trigger shelf after was there elsewhere saver reads (record { role = role; size = size; made = made }) ops
+  pub written_readers : (saver : ℕ) → shelf.role ≡ Reads saver → after.role ≡ shelf.role → after.table.size ≡ shelf.table.size → MadeStay shelf.table.hits after.table.hits → KeepsNotes shelf after → after.ops ≡ shelf.ops → ReadersChange old new
+  written_readers saver reads role size made notes ops = edited_reader old new at.trigger shelf after was there elsewhere saver reads (record { role = role; size = size; made = made; notes = λ _ _. notes }) ops
 
   abbrev Stays : At → Type 0
   Stays q = ((key : List Part) → hits_here (kept_on new) q key ≡ hits_here (kept_on old) q key) × (read_here (kept_on new) q ≡ read_here (kept_on old) q)
@@ -201,7 +208,7 @@ module _ (values : ValuesBy) (old new : Shelves) (at : At) (saver : ℕ) (key : 
   -- where the reading finds nothing, its hit is taken
   pub settled_unset : new ≡ map.insert old at.trigger (cleared at.pos key shelf) → IsSource ((kept_on old).ops (record { saver = saver; key = key })) at None → IsSettled values at saver key event old new
   settled_unset is source =
-      let readers = written_readers old new at shelf (cleared at.pos key shelf) was is saver (reads_there old at.trigger saver shelf reads was) refl refl (cleared_made at.pos key shelf) refl in
+      let readers = written_readers old new at shelf (cleared at.pos key shelf) was is saver (reads_there old at.trigger saver shelf reads was) refl refl (cleared_made at.pos key shelf) (cleared_notes at.pos key shelf) refl in
       record {
         readers = readers;
         others = written_others old new at shelf (cleared at.pos key shelf) was is (cleared_others at.pos key shelf) (cleared_readings at.pos key shelf);
@@ -216,7 +223,7 @@ module _ (values : ValuesBy) (old new : Shelves) (at : At) (saver : ℕ) (key : 
       → IsSource ((kept_on old).ops (record { saver = saver; key = key })) at (Some saved) → IsSettled values at saver key event old new
   settled_set saved added adds is source =
       let after = filled at.pos key shelf added saved.pos in
-      let readers = written_readers old new at shelf after was is saver (reads_there old at.trigger saver shelf reads was) refl refl (filled_made at.pos key shelf added saved.pos) refl in
+      let readers = written_readers old new at shelf after was is saver (reads_there old at.trigger saver shelf reads was) refl refl (filled_made at.pos key shelf added saved.pos) (filled_notes at.pos key shelf added saved.pos) refl in
       record {
         readers = readers;
         others = written_others old new at shelf after was is (filled_others at.pos key shelf added saved.pos) (filled_readings at.pos key shelf added saved.pos);

@@ -10,17 +10,17 @@ use Rattle.ft_maps.specs.Entries.{get-insert_same, get-insert_other}
 use Rattle.ft_pairs.specs.ByKey.{ByKey, ChangesKey}
 use Rattle.ft_pairs.specs.Source.{Ops}
 use Rattle.ft_table.specs.Tabled.{Tabled}
-use Rattle.ft_kept.specs.Shelves.{Shelved, Shelves, Readings}
-use Rattle.ft_kept.specs.inner.Edits.{OpsChange, ChangesShelf}
+use Rattle.ft_kept.specs.Shelves.{ChangesShelf, Notes, Readings, Shelved, Shelves}
+use Rattle.ft_kept.specs.inner.Edits.{OpsChange}
 use Rattle.ft_pairs.specs.declared.role.Role.{Role}
 
 -- one key's operations change, and nothing else
-pub ops_change : (key : List Part) (edit : Ops → Ops) (role : Role) (table : Tabled) (readings : Readings) (ops after : ByKey) (old : Shelved)
-    → record { role = role; table = table; ops = ops; readings = readings } ≡ old → ChangesKey key edit ops after
-    → OpsChange key edit old (record { role = role; table = table; ops = after; readings = readings })
-ops_change key edit role table readings ops after old is h =
-    subst (λ s. OpsChange key edit s (record { role = role; table = table; ops = after; readings = readings })) is
-    (record { role = refl; table = refl; readings = refl; ops = h })
+pub ops_change : (key : List Part) (edit : Ops → Ops) (role : Role) (table : Tabled) (readings : Readings) (notes : Option Notes) (ops after : ByKey) (old : Shelved)
+    → record { role = role; table = table; ops = ops; readings = readings; notes = notes } ≡ old → ChangesKey key edit ops after
+    → OpsChange key edit old (record { role = role; table = table; ops = after; readings = readings; notes = notes })
+ops_change key edit role table readings notes ops after old is h =
+    subst (λ s. OpsChange key edit s (record { role = role; table = table; ops = after; readings = readings; notes = notes })) is
+    (record { role = refl; table = refl; readings = refl; notes = refl; ops = h })
 
 module _ (id : ℕ) (Change : Shelved → Shelved → Type 0) (old : Shelves) where
   -- a changed shelf is written back
@@ -38,3 +38,20 @@ module _ (id : ℕ) (Change : Shelved → Shelved → Type 0) (old : Shelves) wh
     none = λ same. same;
     here = λ s is. absurd (true≢false (sym (ap is_some is) ∙ ap is_some none));
   }
+
+-- one change and then another make a third
+pub change_then : (id : ℕ) (First Last Whole : Shelved → Shelved → Type 0) (old mid new : Shelves) → ((a b c : Shelved) → First a b → Last b c → Whole a c)
+    → ChangesShelf id First old mid → ChangesShelf id Last mid new → ChangesShelf id Whole old new
+change_then id First Last Whole old mid new whole h k = record {
+  others = λ i apart. k.others i apart ∙ h.others i apart;
+  none = λ none. k.none (h.none none);
+  here = λ shelf is. let first = h.here shelf is in let last = k.here first.0 first.1.0 in (last.0, (last.1.0, whole shelf first.0 last.0 first.1.1 last.1.1));
+}
+
+-- a change is any change that it tells of
+pub change_as : (id : ℕ) (Change Told : Shelved → Shelved → Type 0) (old new : Shelves) → ((a b : Shelved) → Change a b → Told a b) → ChangesShelf id Change old new → ChangesShelf id Told old new
+change_as id Change Told old new tells h = record {
+  others = h.others;
+  none = h.none;
+  here = λ shelf is. let after = h.here shelf is in (after.0, (after.1.0, tells shelf after.0 after.1.1));
+}

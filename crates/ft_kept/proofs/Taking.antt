@@ -10,11 +10,13 @@ use Rattle.ft_fields.specs.Traced.{Traced}
 use Rattle.ft_fields.specs.declared.pos.Pos.{Pos}
 use Rattle.ft_keys.specs.declared.key.Part.{Part}
 use Rattle.ft_lanes.specs.Held.{Lanes}
+use Rattle.ft_maps.specs.Entries.{get-remove_other}
 use Rattle.ft_pairs.specs.ByKey.{ops_of}
 use Rattle.ft_pairs.specs.Source.{Ops}
 use Rattle.ft_pairs.specs.declared.at.At.{At}
 use Rattle.ft_table.specs.Marks.{mark_cmp, mark_cmp_total, mark_same}
-use Rattle.ft_table.specs.Tabled.{is_in}
+use Rattle.ft_table.specs.OneKey.{without_hit}
+use Rattle.ft_table.specs.Tabled.{Tabled, is_in}
 use Rattle.ft_table.specs.declared.mark.Mark.{Mark}
 use Rattle.ft_table.specs.Spots.{traced}
 use Rattle.ft_kept.specs.Acts.{Acts, AreHeld, Comes, op_of}
@@ -22,16 +24,18 @@ use Rattle.ft_kept.specs.inner.OneAct.{IsOneAct}
 use Rattle.ft_kept.specs.Entries.{IsEntry, IsKept, IsOwn, IsRight, hits_here, read_here}
 use Rattle.ft_kept.specs.inner.Edits.{StaysBut}
 use Rattle.ft_pairs.specs.Roles.{Admits, variable_of}
-use Rattle.ft_kept.specs.Shelves.{Kept, Shelved, Shelves, FormStays, FormsStay, is_saver, role_on, admits_on, kept_on}
-use Rattle.ft_kept.specs.inner.Edits.{ChangesShelf, TakesHit}
+use Rattle.ft_kept.specs.Shelves.{ChangesShelf, FormsStay, KeepsForm, KeepsNotes, Kept, Shelved, Shelves, is_saver, role_on, admits_on, kept_on}
+use Rattle.ft_kept.specs.inner.Edits.{NotesReading, TakesHit, with_note, without_hit_on}
 use Rattle.ft_table.specs.Values.{ValuesBy}
 use Rattle.ft_pairs.specs.declared.role.Role.{Role}
 use Rattle.ft_pairs.specs.declared.role.Role.TheVariants.{Plain, Saves, Reads}
 use Rattle.ft_pairs.specs.declared.role.Variable.{Variable}
 use Rattle.ft_kept.proofs.Between.{held_fewer}
 use Rattle.ft_kept.proofs.Decided.{at_decided, decided, itself, untied, variable_decided}
-use Rattle.ft_kept.proofs.Forms.{made_without, admits_by, by_id, forms_refl, hits_by, ops_by, read_by, role_at, same_admits, same_hits, same_ops, same_read}
+use Rattle.ft_kept.proofs.Forms.{made_without, admits_by, by_id, changed_forms, hits_by, ops_by, read_by, role_at, same_admits, same_hits, same_ops, same_read}
+use Rattle.ft_kept.proofs.Noting.{notes_noted, notes_plain}
 use Rattle.ft_kept.proofs.Owing.{op_absent, op_elsewhere, op_none, right_own}
+use Rattle.ft_kept.proofs.Shelving.{change_as, change_then}
 
 none_either : {X : Type 0} (b : Bool) → None ≡ (if b then None else (let none : Option X = None in none))
 none_either true = refl
@@ -44,30 +48,61 @@ not_saver (Reads saver) other = refl
 
 -- ---- a hit less
 
-module _ (old new : Shelves) (at : At) (key : List Part) (h : ChangesShelf at.trigger (TakesHit (record { spot = traced at.pos; key = key })) old new) where
-  abbrev mark : List Part → Mark
-  mark k = record { spot = traced at.pos; key = k }
+-- a hit goes from a shelf, and what it read, whatever is noted
+pub record LosesHit (mark : Mark) (old new : Shelved) : Type 0 where
+  pub role : new.role ≡ old.role
+  pub table : new.table ≡ without_hit old.table mark
+  pub readings : new.readings ≡ map.remove old.readings mark.spot.pos
+  pub ops : new.ops ≡ old.ops
 
-  -- its shelf keeps its form
-  pub take_forms : FormsStay old new
-  take_forms = by_id (λ i. FormStays (map.get old i) (map.get new i)) at.trigger (here (map.get old at.trigger) refl)
-      (λ i other. subst (λ o. FormStays (map.get old i) o) (sym (h.others i other)) (forms_refl old i))
-    where
-      here : (o : Option Shelved) → map.get old at.trigger ≡ o → FormStays (map.get old at.trigger) (map.get new at.trigger)
-      here None is = subst (λ s. FormStays s (map.get new at.trigger)) (sym is) (h.none is)
-      here (Some shelf) is =
-          let after = h.here shelf is in
-          subst (λ s. FormStays s (map.get new at.trigger)) (sym is) (
-            after.0,
-            (
-              after.1.0,
-              record {
-                role = ap (λ s. s.role) after.1.1;
-                size = ap (λ s. s.table.size) after.1.1;
-                made = λ m made. ap (λ (s : Shelved). map.get s.table.hits m) after.1.1 ∙ made_without shelf.table.hits at.pos key m made;
-              },
-            ),
-          )
+-- what it read is noted first
+abbrev pub TakesNoted : Mark → Shelved → Shelved → Type 0
+TakesNoted mark old new = new ≡ without_hit_on mark (with_note mark.spot.pos old)
+
+pub takes_loses : (mark : Mark) (old new : Shelved) → TakesHit mark old new → LosesHit mark old new
+takes_loses mark old new is = record { role = ap (λ s. s.role) is; table = ap (λ s. s.table) is; readings = ap (λ s. s.readings) is; ops = ap (λ s. s.ops) is }
+
+pub noted_loses : (mark : Mark) (old new : Shelved) → TakesNoted mark old new → LosesHit mark old new
+noted_loses mark old new is = record { role = ap (λ s. s.role) is; table = ap (λ s. s.table) is; readings = ap (λ s. s.readings) is; ops = ap (λ s. s.ops) is }
+
+-- where an act's hit stands
+abbrev pub mark_at : At → List Part → Mark
+mark_at at key = record { spot = traced at.pos; key = key }
+
+module _ (old new : Shelves) (at : At) (key : List Part) where
+  -- a shelf without the hit keeps its form, where a reader's tells what its readings had found
+  lost_form : (shelf after : Shelved) → LosesHit (mark_at at key) shelf after → ((saver : ℕ) → shelf.role ≡ Reads saver → KeepsNotes shelf after) → KeepsForm shelf after
+  lost_form shelf after loses notes = record {
+    role = loses.role;
+    size = ap (λ table. table.size) loses.table;
+    made = λ m made. ap (λ (table : Tabled). map.get table.hits m) loses.table ∙ made_without shelf.table.hits at.pos key m made;
+    notes = notes;
+  }
+
+  -- so shelves keep their forms, where a trigger without a variable has the hit
+  pub plain_take_forms : role_on old at.trigger ≡ Plain → ChangesShelf at.trigger (TakesHit (mark_at at key)) old new → FormsStay old new
+  plain_take_forms plain h = changed_forms at.trigger (TakesHit (mark_at at key)) old new h (λ shelf after was takes.
+      lost_form shelf after (takes_loses (mark_at at key) shelf after takes) (notes_plain shelf after (sym (role_at old at.trigger (Some shelf) was) ∙ plain)))
+
+  -- or what it read is noted first
+  pub noted_take_forms : ChangesShelf at.trigger (TakesNoted (mark_at at key)) old new → FormsStay old new
+  noted_take_forms h = changed_forms at.trigger (TakesNoted (mark_at at key)) old new h (λ shelf after was takes.
+      lost_form shelf after (noted_loses (mark_at at key) shelf after takes) (λ saver _. notes_noted at.pos shelf after (ap (λ s. s.notes) takes)
+      (λ p apart. ap (λ (s : Shelved). map.get s.readings p) takes ∙ get-remove_other pos_cmp_total pos_same shelf.readings at.pos p apart)))
+
+  pub plain_takes : ChangesShelf at.trigger (TakesHit (mark_at at key)) old new → ChangesShelf at.trigger (LosesHit (mark_at at key)) old new
+  plain_takes h = change_as at.trigger (TakesHit (mark_at at key)) (LosesHit (mark_at at key)) old new (takes_loses (mark_at at key)) h
+
+  pub noted_takes : ChangesShelf at.trigger (TakesNoted (mark_at at key)) old new → ChangesShelf at.trigger (LosesHit (mark_at at key)) old new
+  noted_takes h = change_as at.trigger (TakesNoted (mark_at at key)) (LosesHit (mark_at at key)) old new (noted_loses (mark_at at key)) h
+
+  -- its reading is noted, and then it goes
+  pub note_then_take : (noted : Shelves) → ChangesShelf at.trigger (NotesReading at.pos) old noted → ChangesShelf at.trigger (TakesHit (mark_at at key)) noted new → ChangesShelf at.trigger (TakesNoted (mark_at at key)) old new
+  note_then_take noted h k = change_then at.trigger (NotesReading at.pos) (TakesHit (mark_at at key)) (TakesNoted (mark_at at key)) old noted new (λ a b c notes takes. takes ∙ ap (without_hit_on (mark_at at key)) notes) h k
+
+module _ (old new : Shelves) (at : At) (key : List Part) (h : ChangesShelf at.trigger (LosesHit (mark_at at key)) old new) where
+  abbrev mark : List Part → Mark
+  mark k = mark_at at k
 
   -- operations stay
   pub take_ops : (v : Variable) (q : At) → (kept_on new).ops v q ≡ (kept_on old).ops v q
@@ -78,7 +113,7 @@ module _ (old new : Shelves) (at : At) (key : List Part) (h : ChangesShelf at.tr
       here None is = ops_by new at.trigger None (h.none is) v.key q ∙ sym (ops_by old at.trigger None is v.key q)
       here (Some shelf) is =
           let after = h.here shelf is in
-          ops_by new at.trigger (Some after.0) after.1.0 v.key q ∙ ap (λ s. ops_of s.ops v.key q) after.1.1 ∙ sym (ops_by old at.trigger (Some shelf) is v.key q)
+          ops_by new at.trigger (Some after.0) after.1.0 v.key q ∙ ap (λ ops. ops_of ops v.key q) after.1.1.ops ∙ sym (ops_by old at.trigger (Some shelf) is v.key q)
 
   -- and so do the keys that savers' tables have, where the trigger saves nothing
   pub take_admits : (role_on old at.trigger ≡ Saves → ⊥) → (id : ℕ) (k : List Part) → admits_on new id k ≡ admits_on old id k
@@ -91,7 +126,7 @@ module _ (old new : Shelves) (at : At) (key : List Part) (h : ChangesShelf at.tr
           let after = h.here shelf is in
           let none : is_saver shelf.role ≡ false = not_saver shelf.role (λ saves. other (role_at old at.trigger (Some shelf) is ∙ saves)) in
           admits_by new at.trigger (Some after.0) after.1.0 k
-          ∙ ap (λ r. is_saver r && is_in after.0.table k) (ap (λ s. s.role) after.1.1)
+          ∙ ap (λ r. is_saver r && is_in after.0.table k) after.1.1.role
           ∙ ap (λ b. b && is_in after.0.table k) none
           ∙ sym (admits_by old at.trigger (Some shelf) is k ∙ ap (λ b. b && is_in shelf.table k) none)
 
@@ -106,7 +141,7 @@ module _ (old new : Shelves) (at : At) (key : List Part) (h : ChangesShelf at.tr
       here (Some shelf) is =
           let after = h.here shelf is in
           hits_by new at.trigger (Some after.0) after.1.0 m
-          ∙ ap (λ s. map.get s.table.hits m) after.1.1
+          ∙ ap (λ table. map.get table.hits m) after.1.1.table
           ∙ get-remove mark_cmp_total shelf.table.hits (mark key) m
           ∙ ap (λ o. if eq_by_cmp mark_cmp m (mark key) then None else o) (sym (hits_by old at.trigger (Some shelf) is m))
 
@@ -121,7 +156,7 @@ module _ (old new : Shelves) (at : At) (key : List Part) (h : ChangesShelf at.tr
       here (Some shelf) is =
           let after = h.here shelf is in
           read_by new at.trigger (Some after.0) after.1.0 p
-          ∙ ap (λ s. map.get s.readings p) after.1.1
+          ∙ ap (λ readings. map.get readings p) after.1.1.readings
           ∙ get-remove pos_cmp_total shelf.readings at.pos p
           ∙ ap (λ o. if eq_by_cmp pos_cmp p at.pos then None else o) (sym (read_by old at.trigger (Some shelf) is p))
 

@@ -9,9 +9,9 @@ ghost use Rattle.ft_hist.specs.Tests.{count_on, asked};
 ghost use Rattle.ft_maps.specs.Seen.{seen};
 ghost use Rattle.ft_pairs.specs.declared.role.Role.TheVariants.{Plain, Reads};
 ghost use Rattle.ft_kept.specs.Bounds.{SaverMoves, SomeSaverMoves, OtherSaversStay, with_hit_of};
-ghost use Rattle.ft_kept.specs.Memory.{IsNoHit};
+ghost use Rattle.ft_kept.specs.Memory.{ActsPlainly, IsNoHit, IsPlainHit};
 ghost use Rattle.ft_kept.specs.Repairs.{AreShelved, CanCome, HasCome, EventCanCome, EventHasCome};
-ghost use Rattle.ft_kept.specs.Shelves.{FormsStay, role_on};
+ghost use Rattle.ft_kept.specs.Shelves.{FormsStay, NotesStay, role_on};
 ghost use Rattle.ft_kept.specs.inner.Acting.{MayCome, Came};
 
 use crate::act::{Act, Scene, key_at};
@@ -51,6 +51,8 @@ impl Tables {
             ≤ work.old.puts + 3 * count_on (seen nat_cmp triggers.now) event.now)
             ⊎ SomeSaverMoves (with_hit_of pos event.now) (seen nat_cmp triggers.now) self.old }
         ensures memory { IsNoHit (seen nat_cmp triggers.now) event.now → result ≡ Ok tt }
+        ensures quiet { IsPlainHit (seen nat_cmp triggers.now) self.old event.now
+            → OnOk result (NotesStay self.old self.new) }
         ensures grow { StepsGrow work.old work.new }
     {
         for (id, trigger) in entries(triggers) {
@@ -85,6 +87,8 @@ impl Tables {
         ensures puts { (work.new.puts ≤ work.old.puts + 3 * asked trigger.now event.now)
             ⊎ SaverMoves (with_hit_of at.pos event.now) trigger.now self.old at.trigger }
         ensures memory { hit trigger.now event.now ≡ None → result ≡ Ok tt }
+        ensures quiet { ActsPlainly self.old at.trigger trigger.now event.now
+            → OnOk result (NotesStay self.old self.new) }
         ensures grow { StepsGrow work.old work.new }
     {
         let Some(key) = key_at(trigger, event, work) else {
@@ -115,6 +119,7 @@ fn hit_comes(
     requires role { role_on tables.old act.now.at.trigger ≡ Plain }
     requires comes { MayCome scene.now act.now tables.old }
     ensures came { OnOk result (Came scene.now act.now tables.old tables.new) }
+    ensures quiet { OnOk result (NotesStay tables.old tables.new) }
     ensures puts { work.new.puts ≤ work.old.puts + 1 }
     ensures evals { work.new.evals ≡ work.old.evals }
     ensures grow { StepsGrow work.old work.new }

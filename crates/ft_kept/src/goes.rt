@@ -10,7 +10,7 @@ ghost use Rattle.ft_pairs.specs.declared.role.Role.TheVariants.{Plain, Reads};
 ghost use Rattle.ft_kept.specs.Bounds.{SaverMoves, SomeSaverMoves, OtherSaversStay, without_hit_of};
 ghost use Rattle.ft_kept.specs.Memory.{ActsPlainly, IsPlainHit};
 ghost use Rattle.ft_kept.specs.Repairs.{AreShelved, CanGo, HasGone, EventCanGo, EventHasGone};
-ghost use Rattle.ft_kept.specs.Shelves.{FormsStay, role_on};
+ghost use Rattle.ft_kept.specs.Shelves.{FormsStay, NotesStay, role_on};
 ghost use Rattle.ft_kept.specs.inner.Acting.{MayGo, Went};
 
 use crate::act::{Act, Scene, key_at};
@@ -48,6 +48,8 @@ impl Tables {
             ≤ work.old.puts + 3 * count_on (seen nat_cmp triggers.now) event.now)
             ⊎ SomeSaverMoves (without_hit_of pos event.now) (seen nat_cmp triggers.now) self.old }
         ensures memory { IsPlainHit (seen nat_cmp triggers.now) self.old event.now → result ≡ Ok tt }
+        ensures quiet { IsPlainHit (seen nat_cmp triggers.now) self.old event.now
+            → NotesStay self.old self.new }
         ensures grow { StepsGrow work.old work.new }
     {
         for (id, trigger) in entries(triggers) {
@@ -80,6 +82,8 @@ impl Tables {
         ensures puts { (work.new.puts ≤ work.old.puts + 3 * asked trigger.now event.now)
             ⊎ SaverMoves (without_hit_of at.pos event.now) trigger.now self.old at.trigger }
         ensures memory { ActsPlainly self.old at.trigger trigger.now event.now → result ≡ Ok tt }
+        ensures quiet { ActsPlainly self.old at.trigger trigger.now event.now
+            → NotesStay self.old self.new }
         ensures grow { StepsGrow work.old work.new }
     {
         let Some(key) = key_at(trigger, event, work) else {
@@ -106,7 +110,8 @@ impl Tables {
 /// A hit of a trigger goes that has no variable.
 fn hit_goes(tables: &mut Tables, scene: &Scene<'_>, act: &Act<'_>)
     requires { role_on tables.old act.now.at.trigger ≡ Plain }
-    ensures { Went scene.now act.now tables.old tables.new }
+    ensures went { Went scene.now act.now tables.old tables.new }
+    ensures quiet { NotesStay tables.old tables.new }
 {
     tables.take_hit(act.key, act.at);
 }
@@ -131,6 +136,7 @@ fn reading_goes(
         saver,
         key: act.key,
     };
+    tables.note(act.at)?;
     tables.take_hit(act.key, act.at);
     tables.take_op(&variable, act.at);
     settle_next(tables, scene, &variable, act.at, work)

@@ -51,6 +51,7 @@ pub(crate) fn settle(
     let Some(shelf) = tables.shelves.get_mut(&at.trigger) else {
         return Ok(());
     };
+    shelf.note(at.pos)?;
     shelf.take_hit(at.pos, variable.key);
     match found {
         None => Ok(()),

@@ -9,8 +9,8 @@ ghost use Rattle.ft_pairs.specs.Next.{IsNext};
 ghost use Rattle.ft_pairs.specs.Source.{IsSource};
 ghost use Rattle.ft_pairs.specs.declared.at.Op.TheVariants.{Read};
 ghost use Rattle.ft_table.specs.Spots.{traced};
-ghost use Rattle.ft_kept.specs.Shelves.{AddsShelf, role_on, kept_on};
-ghost use Rattle.ft_kept.specs.inner.Edits.{ChangesShelf, OpsChange, TakesHit, left_on};
+ghost use Rattle.ft_kept.specs.Shelves.{AddsShelf, ChangesShelf, DropsNotes, TakesNotes, role_on, kept_on};
+ghost use Rattle.ft_kept.specs.inner.Edits.{NotesReading, OpsChange, TakesHit, left_on};
 
 use crate::shelf::Shelf;
 use ft_hist::{Key, Work};
@@ -68,6 +68,25 @@ impl Tables {
         ensures { self.new ≡ map.remove self.old id }
     {
         take(&mut self.shelves, &id);
+    }
+
+    /// Takes notes from now on of what a trigger's readings had found before they changed, if it has
+    /// a shelf. Takes no memory.
+    pub fn take_notes(&mut self, id: u32)
+        ensures { ChangesShelf id TakesNotes self.old self.new }
+    {
+        if let Some(shelf) = self.shelves.get_mut(&id) {
+            shelf.take_notes(self.alloc);
+        }
+    }
+
+    /// Takes no notes any more of a trigger's readings, and drops those that were taken.
+    pub fn drop_notes(&mut self, id: u32)
+        ensures { ChangesShelf id DropsNotes self.old self.new }
+    {
+        if let Some(shelf) = self.shelves.get_mut(&id) {
+            shelf.drop_notes();
+        }
     }
 
     /// The shelf of a trigger.
@@ -137,6 +156,17 @@ impl Tables {
     {
         if let Some(shelf) = self.shelves.get_mut(&variable.saver) {
             shelf.take_op(&variable.key, at);
+        }
+    }
+
+    /// Notes what the reading at a place found, where notes are taken and nothing is noted of it
+    /// yet. Refused for memory.
+    pub(crate) fn note(&mut self, at: At) -> Result<(), AllocError>
+        ensures { OnOk result (ChangesShelf at.trigger (NotesReading at.pos) self.old self.new) }
+    {
+        match self.shelves.get_mut(&at.trigger) {
+            Some(shelf) => shelf.note(at.pos),
+            None => Ok(()),
         }
     }
 

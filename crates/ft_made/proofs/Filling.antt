@@ -156,11 +156,11 @@ new_table hist = record { hits = map.empty; size = hist.size }
 pub new_idle : (hist : Hist) (id : ℕ) → IsIdle id (new_table hist)
 new_idle hist id mark is = get-empty {X = List ℤ} mark_cmp mark
 
-nothing : {A B : Type 0} (f : A → Option B) → ((a : A) → f a ≡ None) → (o : Option A) → option_and_then f o ≡ None
+pub nothing : {A B : Type 0} (f : A → Option B) → ((a : A) → f a ≡ None) → (o : Option A) → option_and_then f o ≡ None
 nothing f h None = refl
 nothing f h (Some a) = h a
 
-in_turn : {A B C : Type 0} (f : A → B → Option C) (a : Option A) (b : Option B) → option_and_then (λ y. option_and_then (λ x. f x y) a) b ≡ option_and_then (λ x. option_and_then (f x) b) a
+pub in_turn : {A B C : Type 0} (f : A → B → Option C) (a : Option A) (b : Option B) → option_and_then (λ y. option_and_then (λ x. f x y) a) b ≡ option_and_then (λ x. option_and_then (f x) b) a
 in_turn f None None = refl
 in_turn f None (Some y) = refl
 in_turn f (Some x) None = refl

@@ -10,3 +10,4 @@ pub mod MadeHits
 pub mod Naming
 pub mod MadeTables
 pub mod Filling
+pub mod Turned

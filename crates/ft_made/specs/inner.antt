@@ -1,2 +1,3 @@
--- Words of private functions: tables filled reading by reading.
+-- Words of private functions: tables filled and turned reading by reading.
 pub mod Pairs
+pub mod Turns

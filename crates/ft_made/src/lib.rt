@@ -4,7 +4,8 @@
 //! The laws say that replaying with made events is two replays, one after the other: the held
 //! events go past as if none were made, and what their readings find says which events are made;
 //! these are counted in order of their spots. So a trigger that counts made events needs no replay:
-//! its table is made of what is kept of readings.
+//! its table is made of what is kept of readings. And where notes tell what readings had found before
+//! they changed, the table is turned at these alone.
 //!
 //! ```ignore
 //! let mut table = made_table(rt.alloc(), lanes, triggers, &readings, trigger, &mut work)?;
@@ -13,13 +14,18 @@
 //!     let spot = Spot { pos: read, maker: 2 };
 //!     put_made(&mut table, trigger, spot, &made, &mut work)?;
 //! }
+//! // Later readings of it changed: notes tell what they had found.
+//! let turn = Turn { notes, readings };
+//! turn_made(&mut table, lanes, trigger, 2, maker, turn, &mut work)?;
 //! ```
 #![tactic(auto)]
 
 pub mod laws;
 mod readings;
 mod tables;
+mod turning;
 
 pub use laws::{counted_made, made_by_spot, made_tables, replayed_pairs, same_made, tallied_made};
 pub use readings::KeptReadings;
 pub use tables::{made_table, put_made, take_made};
+pub use turning::{Turn, turn_made};

@@ -181,7 +181,7 @@ fn put_pair(
 }
 
 /// The event that a trigger makes of a reading, if it makes one: it has the reading's stamp.
-fn made_of_pair(lanes: &Lanes, maker: &Trigger, pair: Pair) -> Option<Event>
+pub(crate) fn made_of_pair(lanes: &Lanes, maker: &Trigger, pair: Pair) -> Option<Event>
     ensures made { result ≡ made_of_pair lanes.now maker.now pair }
     ensures stamped { IfSome result (λ made. pair.read.stamp ≡ made.stamp) }
 {

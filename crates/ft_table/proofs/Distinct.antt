@@ -5,6 +5,7 @@ use Rattle.std.specs.List.{All, AllByRecursion, IsDistinct}
 use Rattle.std.specs.FinMap as map
 use Rattle.std.proofs.lemmas.List.{take_min}
 use Rattle.std.proofs.Math.Nat.{min_comm}
+use Rattle.std.proofs.Math.Seq.{take-length}
 use Rattle.std.proofs.lemmas.Map.Keys.{IsDistinct-cons}
 use Rattle.std.proofs.lemmas.List.Elements.{All-nil, All-cons}
 use Rattle.std.proofs.lemmas.List.Sorted.{All-permutation}
@@ -40,6 +41,10 @@ taken_distinct (m ∷ ms) zero apart = tt
 taken_distinct (m ∷ ms) (suc s) apart =
     IsDistinct-cons same_key m.key (list_map key_of (take s ms)) (all_apart m.key ms s (λ j d lt. apart zero (suc j) d (omega arith) (omega arith)))
     (taken_distinct ms s (λ i j d lt within. apart (suc i) (suc j) d (omega arith) (omega arith)))
+
+-- those of the order are
+pub order_distinct : (hits : Hits) → IsDistinct same_key (list_map key_of (order_of hits))
+order_distinct hits = subst (λ (ms : List Mark). IsDistinct same_key (list_map key_of ms)) (take-length (order_of hits)) (taken_distinct (order_of hits) (length (order_of hits)) (apart_after hits))
 
 keys-rows : (hits : Hits) (keys : List (List Part)) → list_map (λ row. row.key) (list_map (row_of hits) keys) ≡ keys
 keys-rows hits [] = refl

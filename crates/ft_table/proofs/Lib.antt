@@ -1,21 +1,21 @@
 mod Appends
-mod Changes
+pub mod Changes
 mod Columns
 mod Counts
-mod Distinct
+pub mod Distinct
 mod Edges
 mod Empty
 mod FirstPlaces
-mod Firsts
+pub mod Firsts
 mod Fits
-mod Flat
+pub mod Flat
 mod Growths
 mod Members
 mod OneKeys
 mod Only
 mod Outside
 mod Ranks
-mod Retained
+pub mod Retained
 mod Sorted
 mod Splits
 mod Tallies

@@ -57,13 +57,15 @@ impl Model for Table {
 }
 
 impl Table {
-    ghost use Rattle.std.specs.Prelude.{None};
+    ghost use Rattle.std.specs.Prelude.{None, take};
+    ghost use Rattle.std.specs.List.{list_any};
     ghost use Rattle.ft_table.specs.Growth.{with_hit};
+    ghost use Rattle.ft_table.specs.Hits.{same_key};
     ghost use Rattle.ft_table.specs.OneKey.{without_hit};
     ghost use Rattle.ft_table.specs.Rows.{row_at, rows_of, totals_of, hit_after};
     ghost use Rattle.ft_table.specs.Rows.{AllFit, table_text};
     ghost use Rattle.ft_rows.specs.Text.{heading};
-    ghost use Rattle.ft_table.specs.Tabled.{is_in, last_in, first_out};
+    ghost use Rattle.ft_table.specs.Tabled.{order_of, is_in, last_in, first_out};
 
     /// A table without hits, with room for at least one key. It takes no memory.
     pub fn new(alloc: Global, size: u32) -> Table
@@ -125,14 +127,36 @@ impl Table {
         holds(&self.by_key, Mark { spot, key })
     }
 
+    /// For how many keys there is room.
+    pub fn size(&self) -> u32
+        ensures { result ≡ self.now.size }
+    {
+        self.size
+    }
+
+    /// Where the first hits of all keys stand, in order.
+    pub fn order(&self) -> &[Mark]
+        ensures { result.now ≡ order_of self.now.hits }
+    {
+        &self.order
+    }
+
+    /// Whether a key is among the first so many, in order of their first hits.
+    pub fn is_among(&self, key: &Key, place: usize) -> bool
+        ensures { result ≡ list_any (same_key key.now)
+            (list_map (λ mark. mark.key) (take place (order_of self.now.hits))) }
+    {
+        match first_at(&self.by_key, key) {
+            Some(spot) => rank_of(&self.order, &Mark { spot, key: *key }) < place,
+            None => false,
+        }
+    }
+
     /// Whether a key is in the table.
     pub fn is_in(&self, key: &Key) -> bool
         ensures { result ≡ is_in self.now key.now }
     {
-        match first_at(&self.by_key, key) {
-            Some(spot) => rank_of(&self.order, &Mark { spot, key: *key }) < self.size as usize,
-            None => false,
-        }
+        self.is_among(key, self.size as usize)
     }
 
     /// The row of a key, if it is in the table.

@@ -1,5 +1,5 @@
 -- How single shelves change, and what stays of the others.
-use Rattle.std.specs.Prelude.{◌≡◌, ℕ, ℤ, List, Option, Some, None}
+use Rattle.std.specs.Prelude.{◌≡◌, ℕ, ℤ, List, Option, Some, None, option_map}
 use Rattle.std.specs.Option.{option_map_or}
 use Rattle.std.specs.FinMap as map
 use Rattle.ft_fields.specs.declared.pos.Pos.{Pos}
@@ -12,7 +12,7 @@ use Rattle.ft_table.specs.OneKey.{without_hit}
 use Rattle.ft_table.specs.declared.mark.Mark.{Mark}
 use Rattle.ft_pairs.specs.declared.role.Role.TheVariants.{Reads}
 use Rattle.ft_pairs.specs.declared.role.Variable.{Variable}
-use Rattle.ft_kept.specs.Shelves.{Readings, Shelved, Shelves, Kept, KeepsForm}
+use Rattle.ft_kept.specs.Shelves.{Notes, Readings, Shelved, Shelves, Kept, KeepsForm}
 use Rattle.ft_kept.specs.Entries.{hits_here, read_here}
 
 -- what readings found, with what one found, if it found something (our own choice)
@@ -28,6 +28,18 @@ with_hit_on mark values saved shelf = record shelf { table = with_hit shelf.tabl
 abbrev pub without_hit_on : Mark → Shelved → Shelved
 without_hit_on mark shelf = record shelf { table = without_hit shelf.table mark; readings = map.remove shelf.readings mark.spot.pos }
 
+-- notes with what a reading found, where nothing is noted of it yet (our own choice)
+abbrev pub note_at : Pos → Option Pos → Notes → Notes
+note_at pos found notes = option_map_or (λ noted. notes) (map.get notes pos) (map.insert notes pos found)
+
+-- a shelf whose notes, where it takes some, tell what the reading at a place found (our own choice)
+abbrev pub with_note : Pos → Shelved → Shelved
+with_note pos shelf = record shelf { notes = option_map (note_at pos (map.get shelf.readings pos)) shelf.notes }
+
+-- a shelf notes what the reading at a place found (our own choice)
+abbrev pub NotesReading : Pos → Shelved → Shelved → Type 0
+NotesReading pos old new = new ≡ with_note pos old
+
 -- a hit goes from the shelf, and what it read (our own choice)
 abbrev pub TakesHit : Mark → Shelved → Shelved → Type 0
 TakesHit mark old new = new ≡ without_hit_on mark old
@@ -37,13 +49,8 @@ pub record OpsChange (key : List Part) (edit : Ops → Ops) (old new : Shelved) 
   pub role : new.role ≡ old.role
   pub table : new.table ≡ old.table
   pub readings : new.readings ≡ old.readings
+  pub notes : new.notes ≡ old.notes
   pub ops : ChangesKey key edit old.ops new.ops
-
--- one shelf changes so, if there is one, and the others stay (our own choice)
-pub record ChangesShelf (id : ℕ) (Change : Shelved → Shelved → Type 0) (old new : Shelves) : Type 0 where
-  pub others : (i : ℕ) → (i ≡ id → ⊥) → map.get new i ≡ map.get old i
-  pub none : map.get old id ≡ None → map.get new id ≡ None
-  pub here : (shelf : Shelved) → map.get old id ≡ Some shelf → (after : Shelved) × ((map.get new id ≡ Some after) × Change shelf after)
 
 -- a shelf of a reader keeps its role, its size and its operations, and any other shelf stays as it is (our own choice)
 abbrev pub ReaderChanges : Option Shelved → Option Shelved → Type 0

@@ -1,10 +1,10 @@
 use Rattle.std.proofs.Common.{sym, subst, Option}
 use Rattle.std.specs.Option.{IfSome}
-use Rattle.ft_kept.specs.Shelves.{Shelves}
+use Rattle.ft_kept.specs.Shelves.{Shelves, FormsStay, NotesStay}
 use Rattle.ft_base.specs.Base.{Base}
 use Rattle.ft_board.specs.KeptShelves.{AreKeptOf}
 use Rattle.ft_board.specs.inner.ButOneLane.{AreKeptWithoutLane}
-use Rattle.ft_board.proofs.Repaired.{repaired_if, repaired_there}
+use Rattle.ft_board.proofs.Repaired.{repaired_if, repaired_both, repaired_there}
 use Rattle.ft_board.proofs.lane_goes.let_lane_go.Goals as goal
 
 pub take_lane-repaired-requires : goal.take_lane-repaired-requires
@@ -18,3 +18,11 @@ returns-clause-kept c =
 
 pub returns-clause-now : goal.returns-clause-now
 returns-clause-now c plain gone = repaired_there c.take_lane-repaired.new.tables c.take_lane-repaired.result c.put_back.new.kept c.put_back.ensures (c.take_lane-repaired.ensures.memory plain) gone
+
+pub returns-clause-forms : goal.returns-clause-forms
+returns-clause-forms c =
+    repaired_both FormsStay c.in-Some.tables c.take_lane-repaired.new.tables c.take_lane-repaired.result c.args.kept.now c.put_back.new.kept c.in-Some.ensures.value c.put_back.ensures c.take_lane-repaired.ensures.forms
+
+pub returns-clause-quiet : goal.returns-clause-quiet
+returns-clause-quiet c plain =
+    repaired_both NotesStay c.in-Some.tables c.take_lane-repaired.new.tables c.take_lane-repaired.result c.args.kept.now c.put_back.new.kept c.in-Some.ensures.value c.put_back.ensures (c.take_lane-repaired.ensures.quiet plain)

@@ -1,4 +1,4 @@
-use Rattle.std.proofs.Common.{◌≡◌, ◌+◌, ◌≤◌, ℕ, Bool, true, false, List, [], ◌∷◌, sym, ap, subst, ◌∙◌, Option, Some, None, Ok, Err, Result, unwrap_or, arith}
+use Rattle.std.proofs.Common.{◌≡◌, ◌+◌, ◌≤◌, ℕ, Bool, true, false, List, [], ◌∷◌, refl, sym, ap, subst, ◌∙◌, Option, Some, None, Ok, Err, Result, unwrap_or, arith}
 use Rattle.std.specs.Result.{result_from_control_flow}
 use Rattle.std.specs.declared.alloc.AllocError.{AllocError}
 use Rattle.std.specs.Ordering.{nat_cmp}
@@ -18,6 +18,7 @@ use Rattle.ft_replay.specs.Merged.{merged, place_of}
 use Rattle.ft_replay.proofs.Stepping.{grow_none, grow_more}
 use Rattle.ft_board.specs.KeptShelves.{AreKept}
 use Rattle.ft_board.proofs.KeptBoardForms.{all_shelved}
+use Rattle.ft_board.proofs.SameForms.{forms_same, forms_then, notes_then}
 use Rattle.ft_board.proofs.LaneGoes.{IsGoing, count_lines, going_all, going_can, going_plain, going_fewer, going_none, no_lane, no_lines, its_lines, tests_fewer}
 use Rattle.ft_board.proofs.lane_goes.take_lane.Goals as goal
 
@@ -41,6 +42,8 @@ loop-line-init c =
           let same : its.0 ≡ lane = ap (λ (o : Option Lane). unwrap_or o lane) (sym its.1.0 ∙ there) in
           let counts : count_lines triggers c.into_iter-line-iterator.result ≡ count_on_lane triggers lane = ap (count_lines triggers) all ∙ ap (count_on_lane triggers) same in
           omega (arith, counts);
+      forms = forms_same c.args.tables.now;
+      quiet = λ plain id. refl;
       grow = grow_none _;
     }
 
@@ -73,6 +76,9 @@ loop-line-preserved c =
       going = going_fewer triggers lanes c.args.cpu c.loop-line.tables e c.next.new.self going c.event_goes.new.self c.in_ok-event_goes.ensures.forms gone;
       evals = λ lane there. tests_fewer triggers e c.next.new.self (count_on_lane triggers lane) c.args.work.now.evals c.loop-line.work.evals c.event_goes.new.work.evals
           (subst (λ (es : List (ℕ × Traced)). c.loop-line.work.evals + count_lines triggers es ≤ c.args.work.now.evals + count_on_lane triggers lane) more (c.loop-line.invariant.evals lane there)) c.in_ok-event_goes.ensures.evals;
+      forms = forms_then c.args.tables.now c.loop-line.tables c.event_goes.new.self c.loop-line.invariant.forms c.in_ok-event_goes.ensures.forms;
+      quiet = λ plain. notes_then c.args.tables.now c.loop-line.tables c.event_goes.new.self (c.loop-line.invariant.quiet plain)
+          (c.event_goes.ensures.quiet (going_plain triggers lanes c.args.cpu c.loop-line.tables e c.next.new.self going plain));
       grow = grow_more _ _ _ c.loop-line.invariant.grow c.in_ok-event_goes.ensures.grow;
     }
 
@@ -111,3 +117,10 @@ returns-clause-kept c =
     let kept : AreKept triggers (merged (map.remove lanes c.args.cpu)) c.loop-line.tables =
     going_none triggers lanes c.args.cpu c.loop-line.tables (subst (λ (es : List (ℕ × Traced)). IsGoing triggers lanes c.args.cpu c.loop-line.tables es) none c.loop-line.invariant.going) in
     subst (λ (held : Triggers × Lanes). AreKept held.0 (merged (map.remove held.1 c.args.cpu)) c.loop-line.tables) (λ i. (c.triggers-triggers.ensures i, c.lanes-lanes.ensures.lanes i)) kept
+
+pub returns-clause-quiet : goal.returns-clause-quiet
+returns-clause-quiet c plain =
+    c.loop-line.invariant.quiet (subst (λ (held : Triggers × Lanes). IsPlainLane held.0 held.1 c.args.cpu) (λ i. (sym c.triggers-triggers.ensures i, sym c.lanes-lanes.ensures.lanes i)) plain)
+
+pub returns-in_default-clause-forms : goal.returns-in_default-clause-forms
+returns-in_default-clause-forms c = forms_same c.args.tables.now

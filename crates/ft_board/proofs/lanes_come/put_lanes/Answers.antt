@@ -20,6 +20,7 @@ use Rattle.ft_board.proofs.KeptBoardBuilt.{IsBuilt, built_more, can_come}
 use Rattle.ft_board.proofs.KeptBoardForms.{all_shelved}
 use Rattle.ft_board.proofs.LanesCome.{all_now, coming_all, coming_none, count_events, tests_more}
 use Rattle.ft_board.proofs.OneTrigger.{first_left}
+use Rattle.ft_board.proofs.SameForms.{forms_same, forms_then}
 use Rattle.ft_board.proofs.lanes_come.put_lanes.Goals as goal
 
 pub loop-pos-init : goal.loop-pos-init
@@ -34,6 +35,7 @@ loop-pos-init c =
     record {
       built = subst (λ (es : List (Pos × Traced)). IsBuilt triggers lanes (all_now lanes triggers cpus) c.args.tables.now es) (sym all) (coming_all lanes triggers cpus c.args.tables.now kept);
       evals = omega (arith, ap (count_events triggers) all);
+      forms = forms_same c.args.tables.now;
       grow = grow_none _;
     }
 
@@ -68,6 +70,7 @@ loop-pos-preserved c =
       built = built_more triggers lanes (all_now lanes triggers c.args.before.now) c.loop-pos.tables c.event_comes.new.self _ _ built c.in_ok-event_comes.ensures.forms c.in_ok-event_comes.ensures.right;
       evals = tests_more triggers (c.loop-pos-item.result.0, c.loop-pos-item.result.1.now) (entries_by deref (drop (c.loop-pos.pos-index + 1) c.deref-pos-items.result.now)) (count_events triggers all) c.args.work.now.evals c.loop-pos.work.evals c.event_comes.new.work.evals
           (subst (λ (es : List (Pos × Traced)). c.loop-pos.work.evals + count_events triggers es ≤ c.args.work.now.evals + count_events triggers all) more c.loop-pos.invariant.evals) c.in_ok-event_comes.ensures.evals;
+      forms = forms_then c.args.tables.now c.loop-pos.tables c.event_comes.new.self c.loop-pos.invariant.forms c.in_ok-event_comes.ensures.forms;
       grow = grow_more _ _ _ c.loop-pos.invariant.grow c.in_ok-event_comes.ensures.grow;
     }
 

@@ -5,7 +5,7 @@ use Rattle.ft_fields.specs.declared.pos.Pos.{Pos}
 use Rattle.ft_lanes.specs.Held.{Lanes, event_at}
 use Rattle.ft_kept.specs.Repairs as repairs
 use Rattle.ft_kept.specs.Repairs.{EventCanGo, EventHasGone}
-use Rattle.ft_kept.specs.Shelves.{Shelves}
+use Rattle.ft_kept.specs.Shelves.{Shelves, FormsStay, NotesStay}
 use Rattle.ft_base.specs.Base.{Base, Triggers}
 use Rattle.ft_board.specs.KeptShelves.{AreKeptOf}
 use Rattle.ft_board.specs.inner.ButOneEvent.{AreKeptWithout}
@@ -14,7 +14,7 @@ use Rattle.ft_answers.specs.Deferral.{IsPlainHit}
 use Rattle.ft_board.proofs.FewSteps.{go_cost}
 use Rattle.ft_board.proofs.KeptBoardForms.{all_shelved, plain_shelf}
 use Rattle.ft_board.proofs.KeptBoardRepair.{go_can, go_kept}
-use Rattle.ft_board.proofs.Repaired.{repaired_if, repaired_there, both_ok}
+use Rattle.ft_board.proofs.Repaired.{repaired_if, repaired_both, repaired_there, both_ok, holds_ok}
 use Rattle.ft_board.proofs.repair.let_go.Goals as goal
 
 pub event_goes-repaired-requires-clause-shelved : goal.event_goes-repaired-requires-clause-shelved
@@ -76,3 +76,19 @@ returns-clause-now c plain gone =
     let acts : memory.IsPlainHit base.triggers c.in-Some.tables event = λ id hist attached key is. plain_shelf base.triggers c.in-Some.tables kept.each id hist attached (hits id hist attached key is) in
     repaired_there c.event_goes-repaired.new.self c.event_goes-repaired.result c.put_back.new.kept c.put_back.ensures
     (c.event_goes-repaired.ensures.memory (subst (λ (triggers : Triggers). memory.IsPlainHit triggers c.in-Some.tables event) (sym c.triggers-triggers.ensures) acts)) gone
+
+pub returns-clause-forms : goal.returns-clause-forms
+returns-clause-forms c =
+    repaired_both FormsStay c.in-Some.tables c.event_goes-repaired.new.self c.event_goes-repaired.result c.args.kept.now c.put_back.new.kept c.in-Some.ensures.value c.put_back.ensures c.event_goes-repaired.ensures.forms
+
+pub returns-clause-quiet : goal.returns-clause-quiet
+returns-clause-quiet c plain =
+    let base : Base = c.args.content.now in
+    let event : Traced = c.in-Some-get.event.now in
+    let kept : AreKeptOf base c.in-Some.tables = subst (λ (o : Option Shelves). IfSome o (AreKeptOf base)) (sym c.in-Some.ensures.value) c.requires in
+    let there : event_at base.lanes c.args.place.cpu c.args.place.line ≡ Some event = ap (λ (lanes : Lanes). event_at lanes c.args.place.cpu c.args.place.line) (sym c.lanes-lanes.ensures.lanes) ∙ sym c.in-Some-get.ensures in
+    let same : plain.0 ≡ event = ap (λ (o : Option Traced). unwrap_or o event) (sym plain.1.0 ∙ there) in
+    let hits : IsPlainHit base.triggers event = subst (IsPlainHit base.triggers) same plain.1.1 in
+    let acts : memory.IsPlainHit base.triggers c.in-Some.tables event = λ id hist attached key is. plain_shelf base.triggers c.in-Some.tables kept.each id hist attached (hits id hist attached key is) in
+    repaired_both NotesStay c.in-Some.tables c.event_goes-repaired.new.self c.event_goes-repaired.result c.args.kept.now c.put_back.new.kept c.in-Some.ensures.value c.put_back.ensures
+    (holds_ok c.event_goes-repaired.result (c.event_goes-repaired.ensures.quiet (subst (λ (triggers : Triggers). memory.IsPlainHit triggers c.in-Some.tables event) (sym c.triggers-triggers.ensures) acts)))

@@ -14,6 +14,7 @@ use Rattle.ft_kept.proofs.FewPuts.{savers_but}
 use Rattle.ft_kept.proofs.Forms.{hits_by}
 use Rattle.ft_table.specs.Values.{values_at}
 use Rattle.ft_kept.proofs.Plainly.{plain_comes, plain_forms}
+use Rattle.ft_kept.proofs.Quiet.{quiet_written}
 use Rattle.ft_kept.proofs.Putting.{stamped, traced_hit, written, unwritten, shelved_there, absent_hits}
 use Rattle.ft_kept.proofs.comes.hit_comes.Goals as goal
 
@@ -59,7 +60,19 @@ returns-clause-came c = on_ok_weaker c.put_hit.result (λ e.
     let is = written old new act.at.trigger after (back c) in
     let others = unwritten old new act.at.trigger after (back c) in
     record {
-      forms = plain_forms triggers c.args.scene.now.lanes.now old new act.at shelf after (found c) is others act.key act.event.now act.trigger.now c.requires.comes.attached (put_is c e);
+      forms = plain_forms triggers c.args.scene.now.lanes.now old new act.at shelf after (found c) is others act.key act.event.now act.trigger.now c.requires.comes.attached (put_is c e) c.requires.role;
       savers = savers_but act.at.trigger old new others;
       right = plain_comes triggers c.args.scene.now.lanes.now old new act.at shelf after (found c) is others act.key act.event.now act.trigger.now c.requires.comes.attached (put_is c e) c.requires.role;
     }) c.put_hit.ensures.ok
+
+pub returns-in_default-clause-quiet : goal.returns-in_default-clause-quiet
+returns-in_default-clause-quiet c = absurd (found-none c)
+
+pub returns-clause-quiet : goal.returns-clause-quiet
+returns-clause-quiet c = on_ok_weaker c.put_hit.result (λ e.
+    let at = c.args.act.now.at in
+    let old = c.args.tables.now in
+    let new = seen nat_cmp (c.get_mut.follows.lender c.put_hit.new.self) in
+    let after = c.put_hit.new.self in
+    quiet_written old new at.trigger c.in-Some.shelf.now after (found c) (written old new at.trigger after (back c)) (unwritten old new at.trigger after (back c))
+    (ap (λ s. s.notes) (put_is c e))) c.put_hit.ensures.ok

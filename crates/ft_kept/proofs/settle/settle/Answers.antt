@@ -8,7 +8,7 @@ use Rattle.ft_maps.specs.Seen.{seen, get-seen, seen-found}
 use Rattle.ft_pairs.specs.Source.{IsSource}
 use Rattle.ft_table.specs.Spots.{traced}
 use Rattle.ft_kept.specs.Shelves.{Shelves, kept_on}
-use Rattle.ft_kept.specs.inner.Edits.{with_hit_on}
+use Rattle.ft_kept.specs.inner.Edits.{with_hit_on, without_hit_on}
 use Rattle.ft_table.specs.Values.{values_at, values_by}
 use Rattle.ft_kept.specs.contracts.tables.Tables as tables
 use Rattle.ft_kept.proofs.Putting.{traced_hit}
@@ -36,7 +36,7 @@ pub put_hit-requires : goal.put_hit-requires
 put_hit-requires c =
     let was : map.get c.args.tables.now c.args.at.trigger ≡ Some c.in-Some-get_mut.shelf.now =
     ap (λ (s : Shelves). map.get s c.args.at.trigger) (sym c.tables.view_is) ∙ get-seen nat_cmp_total c.tables.inside.shelves c.args.at.trigger ∙ sym c.in-Some-get_mut.ensures.value in
-    ap (λ s. map.get s.table.hits (record { spot = c.hit_with.result.spot; key = c.hit_with.result.key })) c.take_hit.ensures
+    ap (λ s. map.get s.table.hits (record { spot = c.hit_with.result.spot; key = c.hit_with.result.key })) (c.take_hit.ensures ∙ ap (without_hit_on (record { spot = traced c.args.at.pos; key = c.args.variable.now.key })) c.in_ok-note.ensures)
     ∙ ap (λ h. map.get (cleared c.args.at.pos c.args.variable.now.key c.in-Some-get_mut.shelf.now).table.hits (record { spot = h.spot; key = h.key })) (traced_hit c.in-Some.trigger.now c.args.event.now c.args.variable.now.key (Some c.in-Some-found.saved.pos) c.traced.result c.hit_with.result c.args.at.pos c.hit_with.ensures c.traced.ensures)
     ∙ cleared_hit c.args.at.pos c.args.variable.now.key c.in-Some-get_mut.shelf.now c.args.event.now
     (shelf_own (values_by (seen nat_cmp c.args.scene.now.triggers.now)) c.args.tables.now c.args.tables.now c.args.at c.args.variable.now.saver c.args.variable.now.key c.args.event.now c.in-Some-get_mut.shelf.now was c.requires.role c.requires.own) c.args.variable.now.key
@@ -45,13 +45,15 @@ settled : (c : goal.Joined-found) → OnOk c.match-found.result (IsSettled (valu
 settled c =
     let was : map.get c.args.tables.now c.args.at.trigger ≡ Some c.in-Some-get_mut.shelf.now =
     ap (λ (s : Shelves). map.get s c.args.at.trigger) (sym c.tables.view_is) ∙ get-seen nat_cmp_total c.tables.inside.shelves c.args.at.trigger ∙ sym c.in-Some-get_mut.ensures.value in
+    let clear : c.take_hit.new.self ≡ cleared c.args.at.pos c.args.variable.now.key c.in-Some-get_mut.shelf.now =
+    c.take_hit.ensures ∙ ap (without_hit_on (record { spot = traced c.args.at.pos; key = c.args.variable.now.key })) c.in_ok-note.ensures in
     elim c.match-found.branch [
       | in-None w ↦
           let new : tables.the_view c.match-found.tables-inside ≡ map.insert c.args.tables.now c.args.at.trigger (cleared c.args.at.pos c.args.variable.now.key c.in-Some-get_mut.shelf.now) =
           ap tables.the_view w.tables-inside-is
           ∙ seen-found nat_cmp_total exact_unsigned c.tables.inside.shelves (c.get_mut.follows.lender c.take_hit.new.self) c.args.at.trigger c.in-Some-get_mut.shelf.now c.take_hit.new.self c.in-Some-get_mut.ensures.value (c.get_mut.follows.holds c.take_hit.new.self)
           ∙ ap (λ (s : Shelves). map.insert s c.args.at.trigger c.take_hit.new.self) c.tables.view_is
-          ∙ ap (map.insert c.args.tables.now c.args.at.trigger) c.take_hit.ensures in
+          ∙ ap (map.insert c.args.tables.now c.args.at.trigger) clear in
           let source : IsSource ((kept_on c.args.tables.now).ops c.args.variable.now) c.args.at None =
           subst (IsSource ((kept_on c.args.tables.now).ops c.args.variable.now) c.args.at) w.in-None.is c.source-found.ensures in
           subst (λ r. OnOk r (IsSettled (values_by (seen nat_cmp c.args.scene.now.triggers.now)) c.args.at c.args.variable.now.saver c.args.variable.now.key c.args.event.now c.args.tables.now (tables.the_view c.match-found.tables-inside))) (sym w.result-is)
@@ -71,7 +73,7 @@ settled c =
           ∙ ap (λ (s : Shelves). map.insert s c.args.at.trigger w.put_hit.new.self) c.tables.view_is
           ∙ ap (map.insert c.args.tables.now c.args.at.trigger)
           (put ∙ ap (λ h. with_hit_on (record { spot = h.spot; key = h.key }) h.values (Some w.in-Some-found.saved.pos) c.take_hit.new.self) (traced_hit c.in-Some.trigger.now c.args.event.now c.args.variable.now.key (Some w.in-Some-found.saved.pos) w.traced.result w.hit_with.result c.args.at.pos w.hit_with.ensures w.traced.ensures)
-          ∙ ap (with_hit_on (record { spot = traced c.args.at.pos; key = c.args.variable.now.key }) added (Some w.in-Some-found.saved.pos)) c.take_hit.ensures))
+          ∙ ap (with_hit_on (record { spot = traced c.args.at.pos; key = c.args.variable.now.key }) added (Some w.in-Some-found.saved.pos)) clear))
           source) w.put_hit.ensures.ok)
     ]
 

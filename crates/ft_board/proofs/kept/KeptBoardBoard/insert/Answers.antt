@@ -1,5 +1,4 @@
-use Rattle.std.proofs.Common.{◌≡◌, Bool, true, false, sym, ap, subst, ◌∙◌}
-use Rattle.std.specs.Option.{is_none}
+use Rattle.std.proofs.Common.{sym, ap, subst, ◌∙◌}
 use Rattle.std.specs.Ordering.{nat_cmp}
 use Rattle.ft_hist.specs.Steps.{Steps}
 use Rattle.ft_maps.specs.Seen.{seen}
@@ -12,40 +11,50 @@ use Rattle.ft_answers.specs.Shown.{Shown}
 use Rattle.ft_board.proofs.CountingNone.{inserted_triggers}
 use Rattle.ft_board.proofs.FewSteps.{inserted_costs}
 use Rattle.ft_board.proofs.KeptBoardRepair.{inserted_if, inserted_missed}
-use Rattle.ft_board.proofs.MissedEdits.{inserted_still}
+use Rattle.ft_board.proofs.MendedEdits.{inserted_mend, missed_plain}
 use Rattle.ft_board.proofs.Repaired.{still_there}
+use Rattle.ft_board.proofs.StillMade.{AreNoted, among_same, alike_if, mended_if, noted_by, quiet_if}
 use Rattle.ft_board.proofs.kept.KeptBoardBoard.insert.Goals as goal
 
-pub invariant_of-self-then-is_missed : goal.invariant_of-self-then-is_missed
-invariant_of-self-then-is_missed c = inserted_still c.self.inside.content c.insert.new.self c.args.event c.in_ok-place.place c.in_ok-place.ensures.reachable c.in_ok-place.ensures.gives
-    c.missed_stay.ensures.comes (c.is_missed.ensures.missed c.if-is_missed.true) (seen nat_cmp c.self.inside.made) c.self.inside.kept c.self.invariant
+pub let_come-requires : goal.let_come-requires
+let_come-requires c =
+    let base : Base = c.self.inside.content in
+    inserted_if base c.insert.new.self c.args.event c.in_ok-place.place c.in_ok-place.ensures.reachable c.in_ok-place.ensures.gives c.take_notes.new.kept
+    (alike_if base.triggers (merged base.lanes) c.self.inside.kept c.take_notes.new.kept c.take_notes.ensures.alike c.take_notes.ensures.deferred c.self.invariant.0)
 
-pub returns-then-is_missed-clause-repairs : goal.returns-then-is_missed-clause-repairs
-returns-then-is_missed-clause-repairs c nothing =
+pub mend-kept-requires : goal.mend-kept-requires
+mend-kept-requires c =
     let base : Base = c.self.inside.content in
     let new : Base = c.insert.new.self in
-    let none : MakesNothing new.triggers = subst MakesNothing (ap (λ (s : Shown). s.base.triggers) (sym c.self.view_is) ∙ inserted_triggers base new c.args.event c.in_ok-place.place c.in_ok-place.ensures.gives) nothing in
-    let both : ◌≡◌ {A = Bool} true false = sym c.if-is_missed.true ∙ (c.is_missed.ensures.nothing none).0 in
-    absurd cc
+    let notes : AreNoted new.triggers c.self.inside.kept c.take_notes.new.kept =
+    noted_by (seen nat_cmp c.triggers.result.now) new.triggers c.triggers.ensures c.self.inside.kept c.take_notes.new.kept c.take_notes.ensures.alike c.take_notes.ensures.nothing c.take_notes.ensures.reads c.take_notes.ensures.deferred in
+    inserted_mend c.kept_shelves.ensures.readings base new c.self.inside.kept c.take_notes.new.kept c.let_come.new.kept (seen nat_cmp c.self.inside.made) c.self.invariant notes c.let_come.ensures.forms c.let_come.ensures.deferred
+    c.args.event c.in_ok-place.place c.in_ok-place.ensures.reachable c.in_ok-place.ensures.gives
 
-pub let_come-requires : goal.let_come-requires
-let_come-requires c = inserted_if c.self.inside.content c.insert.new.self c.args.event c.in_ok-place.place c.in_ok-place.ensures.reachable c.in_ok-place.ensures.gives c.self.inside.kept c.self.invariant.0
+pub invariant_of-self-2 : goal.invariant_of-self-2
+invariant_of-self-2 c =
+    let new : Base = c.insert.new.self in
+    mended_if c.kept_shelves.ensures.readings new.triggers (merged new.lanes) (merged new.lanes) (among_same (merged new.lanes)) c.let_come.new.kept c.mend-kept.new.kept (seen nat_cmp c.mend-kept.new.made)
+    c.let_come.ensures.kept c.mend-kept.ensures.alike c.mend-kept.ensures.deferred c.mend-kept.ensures.made
 
 pub returns-clause-repairs : goal.returns-clause-repairs
 returns-clause-repairs c nothing =
     let base : Base = c.self.inside.content in
     let new : Base = c.insert.new.self in
     let none : MakesNothing new.triggers = subst MakesNothing (ap (λ (s : Shown). s.base.triggers) (sym c.self.view_is) ∙ inserted_triggers base new c.args.event c.in_ok-place.place c.in_ok-place.ensures.gives) nothing in
-    subst (λ (s : Shown). CostsOf s.base.triggers c.args.event (merged s.base.lanes) (merged new.lanes) s.steps c.remake-kept.new.work) c.self.view_is
-    (subst (λ (steps : Steps × Steps). CostsOf base.triggers c.args.event (merged base.lanes) (merged new.lanes) steps.0 steps.1) (λ i. ((c.is_missed.ensures.nothing none).1 i, sym (c.remake-kept.ensures.nothing none).1 i))
-    (inserted_costs base new c.args.event c.in_ok-place.place c.in_ok-place.ensures.reachable c.in_ok-place.ensures.gives c.is_missed.new.work c.let_come.new.work c.let_come.ensures.costs))
+    subst (λ (s : Shown). CostsOf s.base.triggers c.args.event (merged s.base.lanes) (merged new.lanes) s.steps c.mend-kept.new.work) c.self.view_is
+    (subst (λ (steps : Steps). CostsOf base.triggers c.args.event (merged base.lanes) (merged new.lanes) c.self.inside.work steps) (sym (c.mend-kept.ensures.nothing none).1)
+    (inserted_costs base new c.args.event c.in_ok-place.place c.in_ok-place.ensures.reachable c.in_ok-place.ensures.gives c.self.inside.work c.let_come.new.work c.let_come.ensures.costs))
 
+-- an event that no trigger hits notes nothing
 pub returns-clause-now : goal.returns-clause-now
 returns-clause-now c missed up =
     let base : Base = c.self.inside.content in
     let new : Base = c.insert.new.self in
     let hits : IsNoHit base.triggers c.args.event = subst (λ (s : Shown). IsNoHit s.base.triggers c.args.event) (sym c.self.view_is) missed in
     let here = inserted_missed base new c.args.event c.in_ok-place.place c.in_ok-place.ensures.gives hits in
-    let none : MakesNothing new.triggers = c.is_missed.ensures.hit c.if-is_missed.false here in
-    ap is_none (c.remake-kept.ensures.nothing none).0
-    ∙ still_there c.self.inside.kept c.let_come.new.kept (c.let_come.ensures.now here) (ap (λ (s : Shown). s.deferred) c.self.view_is ∙ up)
+    let notes : AreNoted new.triggers c.self.inside.kept c.take_notes.new.kept =
+    noted_by (seen nat_cmp c.triggers.result.now) new.triggers c.triggers.ensures c.self.inside.kept c.take_notes.new.kept c.take_notes.ensures.alike c.take_notes.ensures.nothing c.take_notes.ensures.reads c.take_notes.ensures.deferred in
+    let quiet = quiet_if new.triggers c.take_notes.new.kept c.let_come.new.kept notes.nothing c.let_come.ensures.forms (c.let_come.ensures.quiet (missed_plain new c.in_ok-place.place here)) c.let_come.ensures.deferred in
+    still_there c.self.inside.kept c.mend-kept.new.kept (λ gone. c.take_notes.ensures.now (c.let_come.ensures.now here (c.mend-kept.ensures.quiet quiet gone)))
+    (ap (λ (s : Shown). s.deferred) c.self.view_is ∙ up)

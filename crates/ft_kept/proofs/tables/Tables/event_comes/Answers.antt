@@ -23,6 +23,7 @@ use Rattle.ft_kept.proofs.Attached.{each_found}
 use Rattle.ft_kept.proofs.Between.{kept_alike, kept_in_role, all_but, done_too, asked_of, asked_more, coming_begins, coming_ends, coming_held, coming_step}
 use Rattle.ft_kept.proofs.FewPuts.{Few, few_first, few_more, few_all, left_refl, left_step, some_moves, steps_refl, steps_trans}
 use Rattle.ft_kept.proofs.Forms.{forms_refl, forms_trans, roles_stay, shelved_stay}
+use Rattle.ft_kept.proofs.Quiet.{quiet_refl, quiet_trans}
 use Rattle.ft_kept.proofs.tables.Tables.event_comes.Goals as goal
 
 pub loop-id-init : goal.loop-id-init
@@ -40,6 +41,7 @@ loop-id-init c =
       evals = ap (λ (es : List (ℕ × Hist)). c.args.work.now.evals + asked_of c.args.event.now es) all;
       savers = left_refl (all_but c.into_iter-id-iterator.result) c.args.self.now;
       puts = few_first c.args.work.now.puts _ _ (ap (asked_of c.args.event.now) all);
+      quiet = λ plain. quiet_refl c.args.self.now;
       grow = steps_refl c.args.work.now;
     }
 
@@ -95,6 +97,7 @@ loop-id-preserved c =
           (subst (λ n. Few (SomeSaverMoves (with_hit_of c.args.pos c.args.event.now) triggers c.args.self.now) c.loop-id.work.puts n (c.args.work.now.puts + 3 * count_on triggers c.args.event.now))
           (ap (asked_of c.args.event.now) more ∙ asked_more c.args.event.now e c.next.new.self) c.loop-id.invariant.puts)
           (some_moves (with_hit_of c.args.pos c.args.event.now) triggers c.args.self.now c.loop-id.self c.loop-id.invariant.forms e.0 e.1 attached.0 (c.loop-id.invariant.savers e.0 too.was) c.in_ok-comes_to.ensures.puts);
+      quiet = λ plain. quiet_trans c.args.self.now c.loop-id.self c.comes_to.new.self (c.loop-id.invariant.quiet plain) (c.in_ok-comes_to.ensures.quiet (λ key counted. same e.0 ∙ plain e.0 e.1 attached.0 key counted));
       grow = steps_trans c.args.work.now c.loop-id.work c.comes_to.new.work c.loop-id.invariant.grow c.in_ok-comes_to.ensures.grow;
     }
 

@@ -25,6 +25,7 @@ use Rattle.ft_kept.proofs.Attached.{each_found}
 use Rattle.ft_kept.proofs.Between.{kept_alike, kept_in_role, all_but, done_too, asked_of, asked_more, going_begins, going_ends, going_held, going_step}
 use Rattle.ft_kept.proofs.FewPuts.{Few, few_first, few_more, few_all, left_refl, left_step, some_moves, steps_refl, steps_trans}
 use Rattle.ft_kept.proofs.Forms.{forms_refl, forms_trans, roles_stay, shelved_stay}
+use Rattle.ft_kept.proofs.Quiet.{quiet_refl, quiet_trans}
 use Rattle.ft_kept.proofs.tables.Tables.event_goes.Goals as goal
 
 pub loop-id-init : goal.loop-id-init
@@ -42,6 +43,7 @@ loop-id-init c =
       evals = ap (λ (es : List (ℕ × Hist)). c.args.work.now.evals + asked_of c.args.event.now es) all;
       savers = left_refl (all_but c.into_iter-id-iterator.result) c.args.self.now;
       puts = few_first c.args.work.now.puts _ _ (ap (asked_of c.args.event.now) all);
+      quiet = λ plain. quiet_refl c.args.self.now;
       grow = steps_refl c.args.work.now;
     }
 
@@ -97,6 +99,7 @@ loop-id-preserved c =
           (subst (λ n. Few (SomeSaverMoves (without_hit_of c.args.pos c.args.event.now) triggers c.args.self.now) c.loop-id.work.puts n (c.args.work.now.puts + 3 * count_on triggers c.args.event.now))
           (ap (asked_of c.args.event.now) more ∙ asked_more c.args.event.now e c.next.new.self) c.loop-id.invariant.puts)
           (some_moves (without_hit_of c.args.pos c.args.event.now) triggers c.args.self.now c.loop-id.self c.loop-id.invariant.forms e.0 e.1 attached.0 (c.loop-id.invariant.savers e.0 too.was) c.in_ok-goes_from.ensures.puts);
+      quiet = λ plain. quiet_trans c.args.self.now c.loop-id.self c.goes_from.new.self (c.loop-id.invariant.quiet plain) (c.in_ok-goes_from.ensures.quiet (λ key counted. same e.0 ∙ plain e.0 e.1 attached.0 key counted));
       grow = steps_trans c.args.work.now c.loop-id.work c.goes_from.new.work c.loop-id.invariant.grow c.in_ok-goes_from.ensures.grow;
     }
 
@@ -125,6 +128,15 @@ returns-in_err-goes_from-clause-memory c plain =
     c.goes_from.ensures.memory (λ key counted. roles_stay c.args.self.now c.loop-id.self c.loop-id.invariant.forms e.0 ∙ plain e.0 e.1 attached.0 key counted) in
     let both : ◌≡◌ {A = Bool} true false = ap went (sym done) ∙ ap went c.branch-goes_from.ensures ∙ ap (λ flow. went (result_from_control_flow flow)) c.in_err-goes_from.is in
     absurd cc
+
+pub returns-in_err-goes_from-clause-quiet : goal.returns-in_err-goes_from-clause-quiet
+returns-in_err-goes_from-clause-quiet c plain =
+    let triggers : FinMap nat_cmp Hist = seen nat_cmp c.args.triggers.now in
+    let e : ℕ × Hist = (c.in-Some.id.now, c.in-Some.trigger.now) in
+    let more : c.loop-id.id-iterator ≡ e ∷ c.next.new.self = rest_more (deref_pair {K = ℕ} {X = Hist}) _ _ _ _ c.in-Some.is c.next.ensures.steps in
+    let attached : AllByRecursion (λ (e : ℕ × Hist). map.get triggers e.0 ≡ Some e.1) (e ∷ c.next.new.self) = subst (AllByRecursion (λ (e : ℕ × Hist). map.get triggers e.0 ≡ Some e.1)) more c.loop-id.invariant.attached in
+    quiet_trans c.args.self.now c.loop-id.self c.goes_from.new.self (c.loop-id.invariant.quiet plain)
+    (c.goes_from.ensures.quiet (λ key counted. roles_stay c.args.self.now c.loop-id.self c.loop-id.invariant.forms e.0 ∙ plain e.0 e.1 attached.0 key counted))
 
 pub returns-in_err-goes_from-clause-puts : goal.returns-in_err-goes_from-clause-puts
 returns-in_err-goes_from-clause-puts c =

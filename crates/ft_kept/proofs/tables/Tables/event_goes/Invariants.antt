@@ -15,7 +15,8 @@ use Rattle.ft_hist.specs.Steps.{StepsGrow}
 use Rattle.ft_kept.specs.Entries.{IsKept}
 use Rattle.ft_kept.specs.Repairs.{AreShelved}
 use Rattle.ft_hist.specs.Tests.{count_on}
-use Rattle.ft_kept.specs.Shelves.{FormsStay, role_on, admits_on, kept_on}
+use Rattle.ft_kept.specs.Memory.{IsPlainHit}
+use Rattle.ft_kept.specs.Shelves.{FormsStay, NotesStay, role_on, admits_on, kept_on}
 use Rattle.ft_table.specs.Values.{values_by}
 use Rattle.ft_kept.proofs.Between.{all_but, asked_of}
 use Rattle.ft_kept.proofs.FewPuts.{Few, LeftStay}
@@ -36,5 +37,6 @@ invariant-loop-id l = record {
   evals : l.work.evals + asked_of l.event l.id-iterator ≡ l.fn.work.evals + count_on (seen nat_cmp l.triggers) l.event;
   savers : LeftStay (all_but l.id-iterator) l.fn.self l.self;
   puts : Few (SomeSaverMoves (without_hit_of l.pos l.event) (seen nat_cmp l.triggers) l.fn.self) l.work.puts (asked_of l.event l.id-iterator) (l.fn.work.puts + 3 * count_on (seen nat_cmp l.triggers) l.event);
+  quiet : IsPlainHit (seen nat_cmp l.triggers) l.fn.self l.event → NotesStay l.fn.self l.self;
   grow : StepsGrow l.fn.work l.work;
 }

@@ -72,14 +72,14 @@ returns-in-Reads-clause-right c = on_ok_weaker c.reading_goes.result (λ h.
     of_hit (seen nat_cmp c.args.triggers.now) c.args.lanes.now c.args.at c.args.event.now (hit c.args.trigger.now c.args.event.now) c.in-Some.key c.args.self.now c.reading_goes.new.tables (sym c.key_at.ensures.key ∙ c.in-Some.is) h.right) c.reading_goes.ensures.went
 
 pub returns-in-Plain-clause-forms : goal.returns-in-Plain-clause-forms
-returns-in-Plain-clause-forms c = c.hit_goes.ensures.forms
+returns-in-Plain-clause-forms c = c.hit_goes.ensures.went.forms
 
 pub returns-in-Plain-clause-savers : goal.returns-in-Plain-clause-savers
-returns-in-Plain-clause-savers c = c.hit_goes.ensures.savers
+returns-in-Plain-clause-savers c = c.hit_goes.ensures.went.savers
 
 pub returns-in-Plain-clause-right : goal.returns-in-Plain-clause-right
 returns-in-Plain-clause-right c =
-    of_hit (seen nat_cmp c.args.triggers.now) c.args.lanes.now c.args.at c.args.event.now (hit c.args.trigger.now c.args.event.now) c.in-Some.key c.args.self.now c.hit_goes.new.tables (sym c.key_at.ensures.key ∙ c.in-Some.is) c.hit_goes.ensures.right
+    of_hit (seen nat_cmp c.args.triggers.now) c.args.lanes.now c.args.at c.args.event.now (hit c.args.trigger.now c.args.event.now) c.in-Some.key c.args.self.now c.hit_goes.new.tables (sym c.key_at.ensures.key ∙ c.in-Some.is) c.hit_goes.ensures.went.right
 
 pub returns-in-Saves-clause-puts : goal.returns-in-Saves-clause-puts
 returns-in-Saves-clause-puts c =

@@ -1,0 +1,4 @@
+mod Fronts
+mod NearEdge
+mod Others
+mod SomeRivals

@@ -1,0 +1,2 @@
+-- Words of private functions: keys in front of a table's last places, and the other keys behind.
+pub mod Edge

@@ -1,0 +1,21 @@
+//! Rivals: as hits of some keys of a table come and go, which rows of other keys may differ.
+//!
+//! A table has the first so many keys in order of their first hits. So where it is full, a key that
+//! comes in sends another out, and one that goes out lets another in. Whatever happens to the hits
+//! of some keys, in whatever order, these others are always among the same few, the keys' rivals:
+//! at most as many as the keys, and told by the size and the other keys' hits alone. All rows stay
+//! but those of the keys and of their rivals.
+//!
+//! ```ignore
+//! let keys = [key];
+//! let found = rivals(rt.alloc(), &table, &keys)?;
+//! table.remove(spot, key);
+//! // The rows of `key` and of `found`, which is one key at most, may differ now, and no others.
+//! ```
+#![tactic(auto)]
+
+mod edge;
+pub mod laws;
+
+pub use edge::rivals;
+pub use laws::some_rivals;
