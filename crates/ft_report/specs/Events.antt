@@ -1,0 +1,79 @@
+-- One event that comes or goes: the acts at it, and what is kept before and after.
+use Rattle.std.specs.Prelude.{◌≡◌, ◌⊎◌, ℕ, true, List, [], ◌∷◌, Option, Some, None, length}
+use Rattle.std.specs.List.{filter, flat_map}
+use Rattle.std.specs.Ordering.{nat_cmp}
+use Rattle.std.specs.FinMap as map
+use Rattle.std.specs.FinMap.{FinMap}
+use Rattle.ft_fields.specs.Places.{pos_cmp}
+use Rattle.ft_fields.specs.Traced.{Traced}
+use Rattle.ft_fields.specs.declared.pos.Pos.{Pos}
+use Rattle.ft_hist.specs.Hist.{Hist}
+use Rattle.ft_hist.specs.Hit.{hit}
+use Rattle.ft_keys.specs.declared.key.Part.{Part}
+use Rattle.ft_pairs.specs.declared.at.At.{At}
+use Rattle.ft_pairs.specs.declared.role.Role.{Role}
+use Rattle.ft_table.specs.Values.{ValuesBy, values_by}
+use Rattle.ft_rivals.specs.Rivals.{is_of}
+use Rattle.ft_kept.specs.Acts.{Acts, acts_of}
+use Rattle.ft_kept.specs.Entries.{IsKept}
+use Rattle.ft_kept.specs.Shelves.{Shelves, FormsStay, role_on, admits_on, kept_on}
+use Rattle.ft_report.specs.declared.row.Acting.{Acting}
+use Rattle.ft_report.specs.Touched.{own_keys, is_reader_of}
+
+-- ---- the acts at an event
+
+-- the act of a trigger at an event, if the event is a hit of it (our own choice)
+abbrev pub act_as : ℕ → Option (List Part) → List Acting
+act_as id None = []
+act_as id (Some key) = record { id = id; key = key } ∷ []
+
+-- the acts of attached triggers at an event, in order of id (our own choice)
+unfoldable pub acting_of : FinMap nat_cmp Hist → Traced → List Acting
+acting_of triggers event = flat_map (λ t. act_as t.0 (hit t.1 event)) (map.entries triggers)
+
+-- how many attached triggers read what a saver saves (our own choice)
+unfoldable pub readers_of : (ℕ → Role) → FinMap nat_cmp Hist → ℕ → ℕ
+readers_of role triggers saver = length (filter (λ t. is_reader_of saver (role t.0)) (map.entries triggers))
+
+-- all triggers of which the event is a hit act, each under the hit's key (our own choice)
+abbrev pub AllAct : FinMap nat_cmp Hist → Traced → List Acting → Type 0
+AllAct triggers event acting = (id : ℕ) (hist : Hist) (key : List Part) → map.get triggers id ≡ Some hist → hit hist event ≡ Some key → is_of (own_keys acting id) key ≡ true
+
+-- ---- acts and shelves that change at one place
+
+-- acts are the same but at one place, where triggers act under these keys or not at all (our own choice)
+pub record DifferAt (pos : Pos) (acting : List Acting) (before after : Acts) : Type 0 where
+  pub elsewhere : (at : At) → (at.pos ≡ pos → ⊥) → after at ≡ before at
+  pub was : (id : ℕ) (act : List Part × Traced) → before (record { pos = pos; trigger = id }) ≡ Some act → is_of (own_keys acting id) act.0 ≡ true
+  pub is : (id : ℕ) (act : List Part × Traced) → after (record { pos = pos; trigger = id }) ≡ Some act → is_of (own_keys acting id) act.0 ≡ true
+
+-- what is kept was right of acts, and is right of others that differ at one place (our own choice)
+pub record ActsChange (values : ValuesBy) (pos : Pos) (acting : List Acting) (old new : Shelves) : Type 0 where
+  pub before : Acts
+  pub after : Acts
+  pub forms : FormsStay old new
+  pub differ : DifferAt pos acting before after
+  pub was : IsKept (role_on old) values (admits_on old) before (kept_on old)
+  pub is : IsKept (role_on old) values (admits_on new) after (kept_on new)
+
+-- ---- an event that comes or goes
+
+-- what is kept was right without an event, and is right with it: one came (our own choice)
+pub record EventCame (triggers : FinMap nat_cmp Hist) (pos : Pos) (event : Traced) (old new : Shelves) : Type 0 where
+  pub events : FinMap pos_cmp Traced
+  pub absent : map.get events pos ≡ None
+  pub forms : FormsStay old new
+  pub was : IsKept (role_on old) (values_by triggers) (admits_on old) (acts_of triggers events) (kept_on old)
+  pub is : IsKept (role_on old) (values_by triggers) (admits_on new) (acts_of triggers (map.insert events pos event)) (kept_on new)
+
+-- what is kept was right with an event, and is right without it: one went (our own choice)
+pub record EventWent (triggers : FinMap nat_cmp Hist) (pos : Pos) (event : Traced) (old new : Shelves) : Type 0 where
+  pub events : FinMap pos_cmp Traced
+  pub present : map.get events pos ≡ Some event
+  pub forms : FormsStay old new
+  pub was : IsKept (role_on old) (values_by triggers) (admits_on old) (acts_of triggers events) (kept_on old)
+  pub is : IsKept (role_on old) (values_by triggers) (admits_on new) (acts_of triggers (map.remove events pos)) (kept_on new)
+
+-- an event came or went (our own choice)
+abbrev pub CameOrWent : FinMap nat_cmp Hist → Pos → Traced → Shelves → Shelves → Type 0
+CameOrWent triggers pos event old new = EventCame triggers pos event old new ⊎ EventWent triggers pos event old new

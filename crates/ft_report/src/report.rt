@@ -1,0 +1,74 @@
+//! The report of an event: the rows that may differ with it and without it.
+
+ghost use Rattle.std.specs.Prelude.{◌≡◌, ◌++◌, IfOk, OnOk, map as list_map};
+ghost use Rattle.std.specs.Ordering.{nat_cmp};
+ghost use Rattle.ft_maps.specs.Seen.{seen};
+ghost use Rattle.ft_report.specs.Report.{counts_made, rows_of_one, report_of};
+
+use crate::keys::named_keys;
+use crate::row::{Acting, Changed};
+use ft_fields::Name;
+use ft_hist::Trigger;
+use ft_kept::Tables;
+use ft_keys::Key;
+use ft_maps::entries;
+use std::alloc::{AllocError, Global};
+use std::collections::BTreeMap;
+
+/// The rows that may differ with an event and without it, where these triggers act at it: of all
+/// attached triggers that count held events, in order of id. What is kept before the event comes or
+/// goes may be asked, or what is kept behind it. Refused for memory.
+#[tactic(auto, unfolding(crate::specs::Report::report_of))]
+pub fn changed_rows(
+    alloc: Global,
+    tables: &Tables,
+    triggers: &BTreeMap<u32, Trigger>,
+    acting: &[Acting],
+) -> Result<Vec<Changed>, AllocError>
+    ensures { IfOk result (λ rows. rows.items
+        ≡ report_of (seen nat_cmp triggers.now) tables.now acting.now) }
+{
+    let mut rows = Vec::new(alloc);
+    for (id, trigger) in entries(triggers) {
+        put_trigger(alloc, &mut rows, tables, acting, *id, trigger)?;
+    }
+    Ok(rows)
+}
+
+/// Puts the rows of a trigger that may differ behind others; none of one that counts made events.
+/// Refused for memory.
+fn put_trigger(
+    alloc: Global,
+    rows: &mut Vec<Changed>,
+    tables: &Tables,
+    acting: &[Acting],
+    id: u32,
+    trigger: &Trigger,
+) -> Result<(), AllocError>
+    ensures { OnOk result (rows.new.items
+        ≡ rows.old.items ++ rows_of_one tables.now acting.now id trigger.now) }
+{
+    if counts_made(trigger) {
+        return Ok(());
+    }
+    let keys = named_keys(alloc, tables, acting, id)?;
+    put_rows(rows, id, &keys)
+}
+
+/// Whether a trigger counts the events that readings make.
+fn counts_made(trigger: &Trigger) -> bool
+    ensures { result ≡ counts_made trigger.now }
+{
+    trigger.event() == Name::WakeupLatency
+}
+
+/// Puts the rows of some keys of a trigger behind others. Refused for memory.
+fn put_rows(rows: &mut Vec<Changed>, id: u32, keys: &[Key]) -> Result<(), AllocError>
+    ensures { OnOk result (rows.new.items
+        ≡ rows.old.items ++ list_map (λ key. record { id = id; key = key }) keys.now) }
+{
+    for key in keys {
+        rows.push(Changed { id, key: *key })?;
+    }
+    Ok(())
+}
