@@ -12,6 +12,8 @@ made once more at once, with memory. Of each run is held:
 - `strike`, `unload` and `remove` never answer want of memory;
 - behind an accepted edit the desk is deferred just where the edit answered `Later`, which it never does on a desk that
   isn't deferred: a `strike` where no attached trigger has a variable, a `remove` of a trigger that reads none;
+- the rows that an accepted insert or strike names are those that it names with memory, or there is no report, as on a
+  deferred desk;
 - what is refused, or wants memory, leaves the desk deferred or not as it was; but where tables are asked for and the
   text of the answer wants memory, the desk may be no more deferred;
 - behind a table, totals or latencies that were answered the desk isn't deferred, and a `list` leaves it as it was.
@@ -32,6 +34,7 @@ EDITS = {"load", "unload", "insert", "strike", "attach", "filter", "remove"}
 TABLES = {"hist", "lat", "totals"}
 NEVER_IN_WANT = {"unload", "strike", "remove"}
 MEMORY = b"memory\n"
+NO_REPORT = b"no report"
 # A run that takes more seconds is ended, and its row fails.
 LIMIT = 120
 
@@ -42,7 +45,8 @@ class Wrong(Exception):
 
 class Answer:
     def __init__(self, found):
-        self.text, self.kept, self.is_deferred = found[1], found[2].decode(), found[3] == b"deferred"
+        self.text, self.report, self.kept = found[1], found[2], found[3].decode()
+        self.is_deferred = found[4] == b"deferred"
         self.is_refused = self.text.startswith(b"refused ")
 
     def __eq__(self, other):
@@ -66,16 +70,18 @@ class Desk:
         return not any(sign in text for text in asked)
 
     def hold(self, command, want, answer, again):
-        """Holds an answer to a command, where the row has the text `want`."""
+        """Holds an answer to a command, where with memory it is `want`."""
         word = command.split()[0]
         is_memory = answer.text == MEMORY
-        demand(answer.text == want or is_memory and not again, "another answer")
+        demand(answer.text == want.text or is_memory and not again, "another answer")
         demand(not (is_memory and word in NEVER_IN_WANT), "want of memory")
         is_accepted = word in EDITS and not answer.is_refused and not is_memory
         demand((answer.kept != "none") == is_accepted, "no word of the kept tables, or one too many")
         if is_accepted:
             demand(answer.is_deferred == (answer.kept == "later"), "later, or deferred, and not both")
             demand(answer.kept == "now" or not self.must_be_now(command), "later without need")
+            demand(answer.report == NO_REPORT or answer.report == want.report, "another report")
+            demand(answer.report in [None, NO_REPORT] or not answer.is_deferred, "a report, and deferred")
             self.follow(command, answer)
         elif word in TABLES and not answer.is_refused and not is_memory:
             demand(not answer.is_deferred, "deferred behind an answer")
@@ -119,13 +125,13 @@ class Row:
         ran = subprocess.run(command, env=env, stdin=subprocess.DEVNULL, capture_output=True, timeout=LIMIT)
         # The switch is turned twice for each command; else the driver itself has met a fault.
         demand(ran.returncode == 0 and ran.stderr == b".." * len(self.commands), f"status {ran.returncode}, {ran.stderr}")
-        form = rb"(.*?)^-- (now|later|none) (deferred|kept)\n"
+        form = rb"(.*?)^(?:-- (rows[^\n]*|no report)\n)?-- (now|later|none) (deferred|kept)\n"
         answers = [Answer(found) for found in re.finditer(form, ran.stdout, re.MULTILINE | re.DOTALL)]
         with open(path) as file:
             return answers, int(file.read())
 
     def hold(self, wanted, answers):
-        """Holds the answers of a run, where the row has the texts `wanted`."""
+        """Holds the answers of a run, where with memory they are `wanted`."""
         desk, left = Desk(), iter(answers)
         for command, want in zip(self.commands, wanted):
             for again in [False, True]:
@@ -141,11 +147,11 @@ class Row:
 
     def series(self, mode, plain):
         """How many growths were refused, or those from each on, and in how many runs an edit answered `Later`."""
-        wanted, later = [answer.text for answer in plain], 0
+        later = 0
         for number in itertools.count(1):
             try:
                 answers, made = self.run(**{mode: str(number)})
-                self.hold(wanted, answers)
+                self.hold(plain, answers)
                 demand(made >= number or answers == plain, "another answer, with nothing refused")
             except Wrong as wrong:
                 raise Wrong(f"{mode}={number}: {wrong}") from wrong
@@ -159,7 +165,8 @@ class Row:
         demand(len(plain) == len(self.commands), "as many answers as commands")
         expected = re.sub(rb"^(refused \d+).*$", rb"\1", self.bytes_of("expected"), flags=re.MULTILINE)
         demand(b"".join(answer.text for answer in plain) == expected, "nothing refused, and another output")
-        self.hold([answer.text for answer in plain], plain)
+        self.hold(plain, plain)
+        demand(not any(answer.report == NO_REPORT for answer in plain), "nothing refused, and no report")
         demand(not any(answer.is_deferred for answer in plain), "nothing refused, and deferred")
         alone, alone_later = self.series("REFUSE_AT", plain)
         onward, onward_later = self.series("REFUSE_FROM", plain)

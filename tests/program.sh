@@ -113,6 +113,11 @@ growths() {
     refused growths.py "$@"
 }
 
+# reports PROGRAM: the rows that each edit of one event names are those that differ, and few.
+reports() {
+    holds "$here/reports.py" "$1"
+}
+
 # asks_again PROGRAM NAME..: a desk that is asked a second time for what found no memory does what the rows of
 # these names say.
 asks_again() {
@@ -307,6 +312,7 @@ if [[ -n $askagain ]]; then
     asks_again "$askagain" one_latency full_table_and_early_insert dropped_saver_comes_in \
         dropped_reading_still_pairs strikes_and_removes each_edit_with_answers edits_in_a_row \
         latencies_by_powers_of_two made_events_come_and_go
+    reports "$askagain"
 fi
 tools
 holds "$here/documents.py"

@@ -1,7 +1,7 @@
 //! The calls of a desk that a script's commands ask for.
 
 use ft_board::KeptBoard;
-use ft_desk::{Desk, Done, Kept, Latency, Place, Refused, Totals};
+use ft_desk::{Desk, Done, Edited, Kept, Latency, Refused, Totals};
 use ft_script::{Command, Numbered};
 
 /// What a call answers that isn't refused.
@@ -9,8 +9,8 @@ use ft_script::{Command, Numbered};
 pub(crate) enum Answer {
     /// An edit that gives a number, behind the word that it prints.
     Number(&'static str, u64, Kept),
-    /// An edit that gives a place, behind the word that it prints.
-    Place(&'static str, Place, Kept),
+    /// An edit that gives a place and a report, behind the word that it prints.
+    Edited(&'static str, Edited, Kept),
     /// The text of a table or of a lane.
     Text(Vec<u8>),
     /// What a trigger has counted.
@@ -30,8 +30,8 @@ pub(crate) fn call(
             let done = desk.load(nth_trace(traces, number)?)?;
             Ok(Answer::Number("loaded", done.value, done.kept))
         }
-        Command::Insert(line) => Ok(of_place("inserted", desk.insert(line)?)),
-        Command::Strike(cpu, line) => Ok(of_place("struck", desk.strike(cpu, line)?)),
+        Command::Insert(line) => Ok(of_event("inserted", desk.insert(line)?)),
+        Command::Strike(cpu, line) => Ok(of_event("struck", desk.strike(cpu, line)?)),
         Command::Attach(event, text) => Ok(of_id("attached", desk.attach(event, text)?)),
         Command::Refilter(id, text) => Ok(of_id("refiltered", desk.refilter(id, text)?)),
         Command::About(what, number) => call_about(desk, what, number),
@@ -68,7 +68,7 @@ fn of_id(word: &'static str, done: Done<u32>) -> Answer {
     Answer::Number(word, u64::from(done.value), done.kept)
 }
 
-/// The answer of an edit that gives a place.
-fn of_place(word: &'static str, done: Done<Place>) -> Answer {
-    Answer::Place(word, done.value, done.kept)
+/// The answer of an edit of one event.
+fn of_event(word: &'static str, done: Done<Edited>) -> Answer {
+    Answer::Edited(word, done.value, done.kept)
 }

@@ -3,7 +3,8 @@
 //!
 //! Behind each call's text stands a line: `-- now`, `-- later` of an accepted edit, else `-- none`; and
 //! then ` deferred` or ` kept`, as the desk is. The text is what the script's run prints, but a refusal
-//! is its number alone, and want of memory is `memory`.
+//! is its number alone, and want of memory is `memory`. Before that line of an accepted insert or
+//! strike stands its report: `-- rows` with ` ID:PART,..` for each row, or `-- no report`.
 //!
 //! One byte goes to standard error before each first call and one behind it, so that who refuses
 //! growths, as `tests/refuse_growth.c` does, knows which are those of the call.
@@ -13,7 +14,8 @@ mod calls;
 
 use crate::calls::{Answer, call};
 use ft_board::KeptBoard;
-use ft_desk::{Desk, Kept, Latency, Refused};
+use ft_desk::{Changed, Desk, Edited, Kept, Latency, Refused};
+use ft_keys::Part;
 use ft_script::{Command, read_command};
 use std::process::ExitCode;
 use std::rt::{Env, Files};
@@ -81,9 +83,12 @@ fn print_answer<P: Print>(
     deferred: bool,
 ) -> io::Result<()> {
     print_text(rt, answer)?;
+    if let Ok(Answer::Edited(_, edited, _)) = answer {
+        print_report(rt, edited)?;
+    }
     let kept = match answer {
-        Ok(Answer::Number(_, _, Kept::Now) | Answer::Place(_, _, Kept::Now)) => "now",
-        Ok(Answer::Number(_, _, Kept::Later) | Answer::Place(_, _, Kept::Later)) => "later",
+        Ok(Answer::Number(_, _, Kept::Now) | Answer::Edited(_, _, Kept::Now)) => "now",
+        Ok(Answer::Number(_, _, Kept::Later) | Answer::Edited(_, _, Kept::Later)) => "later",
         _ => "none",
     };
     println!(rt; "-- {kept} {}", if deferred { "deferred" } else { "kept" })
@@ -93,7 +98,9 @@ fn print_answer<P: Print>(
 fn print_text<P: Print>(rt: &P, answer: &Result<Answer, Refused>) -> io::Result<()> {
     match answer {
         Ok(Answer::Number(word, number, _)) => println!(rt; "{word} {number}"),
-        Ok(Answer::Place(word, place, _)) => println!(rt; "{word} {}:{}", place.cpu, place.line),
+        Ok(Answer::Edited(word, edited, _)) => {
+            println!(rt; "{word} {}:{}", edited.place.cpu, edited.place.line)
+        }
         Ok(Answer::Text(text)) => Print::write_all(rt, text.as_slice()),
         Ok(Answer::Totals(totals)) => {
             println!(rt;
@@ -104,6 +111,43 @@ fn print_text<P: Print>(rt: &P, answer: &Result<Answer, Refused>) -> io::Result<
         Ok(Answer::Latencies(latencies)) => print_latencies(rt, latencies.as_slice()),
         Err(Refused::Memory) => println!(rt; "memory"),
         Err(reason) => println!(rt; "refused {}", reason.number()),
+    }
+}
+
+/// Prints which rows an edit may have changed.
+fn print_report<P: Print>(rt: &P, edited: &Edited) -> io::Result<()> {
+    let Some(rows) = &edited.report else {
+        return println!(rt; "-- no report");
+    };
+    print!(rt; "-- rows")?;
+    for row in rows {
+        print_row(rt, row)?;
+    }
+    println!(rt; "")
+}
+
+/// Prints a row: its trigger's id and the parts of its key.
+fn print_row<P: Print>(rt: &P, row: &Changed) -> io::Result<()> {
+    print!(rt; " {}:", row.id)?;
+    for number in 0..3 {
+        let Some(part) = row.key.part(number) else {
+            return Ok(());
+        };
+        if number > 0 {
+            print!(rt; ",")?;
+        }
+        print_part(rt, part)?;
+    }
+    Ok(())
+}
+
+/// Prints a part of a key, a number in decimal.
+fn print_part<P: Print>(rt: &P, part: Part) -> io::Result<()> {
+    match part {
+        Part::Num(number) => print!(rt; "{number}"),
+        Part::Log2(power) => print!(rt; "{power}"),
+        Part::Bucket(least) => print!(rt; "{least}"),
+        Part::Text(text) => Print::write_all(rt, text.bytes()),
     }
 }
 

@@ -5,6 +5,7 @@ pub mod Answers
 pub mod Edited
 pub mod Costs
 pub mod Deferral
+pub mod Reporting
 pub mod inner
 pub use Rattle.ft_base.specs.Refused
 pub use Rattle.ft_base.specs.Base
@@ -24,3 +25,4 @@ pub use Rattle.ft_lanes.specs.Held
 pub use Rattle.ft_lanes.specs.Listing
 pub use Rattle.ft_lanes.specs.Loaded
 pub use Rattle.ft_made.specs.ReplayMaking
+pub use Rattle.ft_rivals.specs.Reports

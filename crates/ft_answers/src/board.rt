@@ -1,8 +1,9 @@
 //! What a board is, however it keeps its tables.
 
 use crate::done::Done;
+use crate::edited::Edited;
 use crate::latency::Latency;
-use ft_base::{Place, Refused};
+use ft_base::Refused;
 use ft_fields::{Event, Name};
 use ft_filter::Filter;
 use ft_hist::Trigger;
@@ -32,6 +33,7 @@ pub trait Board: Drop {
     ghost use Rattle.ft_answers.specs.Deferral.{IsNoHit, IsPlainHit, IsPlainLane, ReadsNothing};
     ghost use Rattle.ft_answers.specs.Deferral.{PutsNothingOff, WantsForTables};
     ghost use Rattle.ft_answers.specs.Edited.{EditGives, AnswersFrom, AnswerIs};
+    ghost use Rattle.ft_answers.specs.Reporting.{Reports};
     ghost use Rattle.ft_answers.specs.Shown.{Shown};
 
     /// What is held and attached, whether tables are kept and lack an edit, and the steps taken.
@@ -59,21 +61,24 @@ pub trait Board: Drop {
             → PutsNothingOff (shown self.old) (shown self.new) };
 
     /// Adds an event, none that triggers make, at the next line of its CPU's lane: the event's
-    /// place. The lane is made where there is none. Refused where too many events would be or the
-    /// lane's line numbers are used up, or for memory.
-    fn insert(&mut self, event: Event) -> Result<Done<Place>, Refused>
+    /// place, and which rows may have changed, if the board has a report. The lane is made where
+    /// there is none. Refused where too many events would be or the lane's line numbers are used
+    /// up, or for memory.
+    fn insert(&mut self, event: Event) -> Result<Done<Edited>, Refused>
         requires { is_made event.body ≡ false }
-        ensures gives { EditGives (λ place. place) (after_insert (shown self.old).base event)
+        ensures gives { EditGives (λ edited. edited.place) (after_insert (shown self.old).base event)
             (shown self.old) (shown self.new) result }
         ensures counts { EditCounts (shown self.old) (shown self.new) result }
         ensures repairs { RepairCosts event (shown self.old) (shown self.new) }
         ensures now { IsNoHit (shown self.old).base.triggers event
-            → PutsNothingOff (shown self.old) (shown self.new) };
+            → PutsNothingOff (shown self.old) (shown self.new) }
+        ensures reports { Reports (shown self.old) (shown self.new) result };
 
-    /// Takes the event of a CPU's line away: its place. The number is not given again while the
-    /// lane is held. Refused where the lane is not held, or has no such line.
-    fn strike(&mut self, cpu: u32, line: u32) -> Result<Done<Place>, Refused>
-        ensures gives { EditGives (λ place. place) (after_strike (shown self.old).base cpu line)
+    /// Takes the event of a CPU's line away: its place, and which rows may have changed, if the
+    /// board has a report. The number is not given again while the lane is held. Refused where the
+    /// lane is not held, or has no such line.
+    fn strike(&mut self, cpu: u32, line: u32) -> Result<Done<Edited>, Refused>
+        ensures gives { EditGives (λ edited. edited.place) (after_strike (shown self.old).base cpu line)
             (shown self.old) (shown self.new) result }
         ensures memory { result ≢ Err Memory }
         ensures counts { EditCounts (shown self.old) (shown self.new) result }
@@ -83,7 +88,8 @@ pub trait Board: Drop {
         ensures now { (event : Traced)
             → event_at (shown self.old).base.lanes cpu line ≡ Some event
             → IsPlainHit (shown self.old).base.triggers event
-            → PutsNothingOff (shown self.old) (shown self.new) };
+            → PutsNothingOff (shown self.old) (shown self.new) }
+        ensures reports { Reports (shown self.old) (shown self.new) result };
 
     /// Attaches a trigger: its id. Refused where 64 are attached or the ids are used up, where its
     /// variable's name is saved already, where nobody saves what it reads (at the event that its

@@ -8,7 +8,7 @@
 //! board.load(events)?;
 //! let id = board.attach(trigger)?.value;
 //! let totals = board.totals(id)?;
-//! let Place { cpu, line } = board.insert(event)?.value;
+//! let Place { cpu, line } = board.insert(event)?.value.place;
 //! let text = board.hist(id)?;
 //! board.strike(u32::from(cpu), line)?;
 //! // An answer depends on what is held and attached, and on nothing else.
@@ -19,6 +19,7 @@
 mod answers;
 mod board;
 mod done;
+mod edited;
 mod latency;
 mod plain;
 mod readings;
@@ -26,6 +27,8 @@ mod readings;
 pub use answers::{counts_made, table_text};
 pub use board::Board;
 pub use done::{Done, Kept};
+pub use edited::Edited;
 pub use ft_base::{Content, Place, Refused, is_reader, one_saver, reachable_bases, role_of};
+pub use ft_rivals::Changed;
 pub use latency::{Latency, latency_of};
 pub use plain::{PlainBoard, plain_board_keeps_none};

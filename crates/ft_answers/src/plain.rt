@@ -1,10 +1,11 @@
 //! A board that keeps no tables: each answer replays what is held.
 
-ghost use Rattle.std.specs.Prelude.{◌≡◌, false};
+ghost use Rattle.std.specs.Prelude.{◌≡◌, false, None};
 
 use crate::answers::{hist_from, latencies_from, totals_from};
 use crate::board::Board;
 use crate::done::{Done, Kept};
+use crate::edited::Edited;
 use crate::latency::Latency;
 use ft_base::{Content, Place, Refused};
 use ft_fields::{Event, Name};
@@ -79,21 +80,14 @@ impl Board for PlainBoard {
         })
     }
 
-    fn insert(&mut self, event: Event) -> Result<Done<Place>, Refused> {
-        let place = self.content.insert(event)?;
-        Ok(Done {
-            value: place,
-            kept: Kept::Now,
-        })
+    fn insert(&mut self, event: Event) -> Result<Done<Edited>, Refused> {
+        Ok(unreported(self.content.insert(event)?))
     }
 
-    fn strike(&mut self, cpu: u32, line: u32) -> Result<Done<Place>, Refused> {
+    fn strike(&mut self, cpu: u32, line: u32) -> Result<Done<Edited>, Refused> {
         let place = self.content.place_of(cpu, line)?;
         self.content.strike(place);
-        Ok(Done {
-            value: place,
-            kept: Kept::Now,
-        })
+        Ok(unreported(place))
     }
 
     fn attach(&mut self, trigger: Trigger) -> Result<Done<u32>, Refused> {
@@ -151,6 +145,21 @@ impl Board for PlainBoard {
         // A look at a field, by which a proof sees what the board shows.
         let _ = &self.work;
         false
+    }
+}
+
+/// An accepted edit of one event: its place, and no report.
+fn unreported(place: Place) -> Done<Edited>
+    ensures place { result.value.place ≡ place }
+    ensures report { result.value.report ≡ None }
+    ensures kept { result.kept ≡ Kept.Now }
+{
+    Done {
+        value: Edited {
+            place,
+            report: None,
+        },
+        kept: Kept::Now,
     }
 }
 

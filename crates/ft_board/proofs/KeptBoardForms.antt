@@ -58,15 +58,15 @@ module _ (triggers : Triggers) (shelves : Shelves) (has : HaveShelves triggers s
   unfolding role_at
   plain_shelf id hist there none = shelves_role id ∙ ap (λ (o : Option Hist). option_map_or (λ (h : Hist). role_of triggers h.variable) o Plain) there ∙ ap (role_of triggers) none
 
-  roles : role_on shelves ≡ role_at triggers
-  roles i id = shelves_role id i
+  pub shelves_roles : role_on shelves ≡ role_at triggers
+  shelves_roles i id = shelves_role id i
 
   -- what is kept, by the roles of the shelves and by those of the triggers
   pub by_shelves : (admits : Admits) (acts : Acts) (kept : Kept) → IsKept (role_at triggers) (values_by triggers) admits acts kept → IsKept (role_on shelves) (values_by triggers) admits acts kept
-  by_shelves admits acts kept is = subst (λ (role : ℕ → Role). IsKept role (values_by triggers) admits acts kept) (sym roles) is
+  by_shelves admits acts kept is = subst (λ (role : ℕ → Role). IsKept role (values_by triggers) admits acts kept) (sym shelves_roles) is
 
   pub by_triggers : (admits : Admits) (acts : Acts) (kept : Kept) → IsKept (role_on shelves) (values_by triggers) admits acts kept → IsKept (role_at triggers) (values_by triggers) admits acts kept
-  by_triggers admits acts kept is = subst (λ (role : ℕ → Role). IsKept role (values_by triggers) admits acts kept) roles is
+  by_triggers admits acts kept is = subst (λ (role : ℕ → Role). IsKept role (values_by triggers) admits acts kept) shelves_roles is
 
 -- ---- a reader's saver has a shelf
 

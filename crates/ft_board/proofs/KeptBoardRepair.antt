@@ -1,11 +1,12 @@
 -- What is kept as one event comes to a board or goes.
-use Rattle.std.proofs.Common.{◌≡◌, Bool, true, false, refl, sym, ap, subst, ◌∙◌, Option, Some, None, Ok, unwrap_or}
+use Rattle.std.proofs.Common.{◌≡◌, Bool, true, false, refl, sym, ap, subst, ◌∙◌, Option, Some, None, Result, Ok, Err, OnOk, unwrap_or}
 use Rattle.std.specs.Prelude.{IsSome}
 use Rattle.std.specs.Option.{IfSome}
 use Rattle.std.specs.FinMap as map
 use Rattle.ft_fields.specs.Places.{pos_cmp_total}
 use Rattle.ft_fields.specs.Traced.{Traced}
 use Rattle.ft_fields.specs.declared.pos.Pos.{Pos}
+use Rattle.ft_kept.specs.Acted.{Gathered, Gathers, acting_of}
 use Rattle.ft_kept.specs.Acts.{AreHeld, acts_of}
 use Rattle.ft_kept.specs.Entries.{IsKept}
 use Rattle.ft_kept.specs.Repairs.{EventCanCome, EventHasCome, EventCanGo, EventHasGone}
@@ -19,6 +20,7 @@ use Rattle.ft_base.specs.After.{after_insert}
 use Rattle.ft_base.specs.Base.{Base}
 use Rattle.ft_board.specs.KeptShelves.{AreKeptOf, AreKept}
 use Rattle.ft_board.specs.inner.ButOneEvent.{AreKeptWithout, IsMissed}
+use Rattle.ft_board.specs.inner.Reported.{GathersAt}
 use Rattle.ft_answers.specs.Deferral.{IsNoHit}
 use Rattle.ft_replay.specs.Merged.{Events, merged}
 use Rattle.ft_base.specs.Reachable.{IsReachable}
@@ -123,3 +125,11 @@ struck_if base place there (Some shelves) is =
       | None ↦ λ _ some. let both : ◌≡◌ {A = Bool} false true = some in absurd cc
       | Some event ↦ λ at _. struck_kept base place event at shelves is
     ] refl there
+
+-- what is gathered at the event of a line, where the repair for it went through
+pub gathers_ok : {E : Type 0} (repaired : Result Unit E) (base : Base) (place : Place) (event : Traced) → event_at base.lanes place.cpu place.line ≡ Some event → (old new : Gathered)
+    → OnOk repaired (Gathers (acting_of base.triggers event) old new) → OnOk repaired (GathersAt base place old new)
+gathers_ok (Ok done) base place event there old new is = λ other at.
+    let same : event ≡ other = ap (λ (o : Option Traced). unwrap_or o event) (sym there ∙ at) in
+    subst (λ (e : Traced). Gathers (acting_of base.triggers e) old new) same is
+gathers_ok (Err fault) base place event there old new is = tt

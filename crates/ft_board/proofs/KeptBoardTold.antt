@@ -30,7 +30,7 @@ use Rattle.ft_answers.proofs.Answering.{latencies-reader, latencies-other}
 abbrev pub kept_shown : Base → Option Shelves → Steps → Shown
 kept_shown base kept steps = record { base = base; deferred = is_none kept; keeps = true; steps = steps }
 
-none_is : (kept : Option Shelves) → is_none kept ≡ true → kept ≡ None
+pub none_is : (kept : Option Shelves) → is_none kept ≡ true → kept ≡ None
 none_is None is = refl
 none_is (Some shelves) is = let both : ◌≡◌ {A = Bool} false true = is in absurd cc
 

@@ -32,3 +32,5 @@ pub mod StillMade
 pub mod LeavingMade
 pub mod MendedEdits
 pub mod SameForms
+pub mod ReportedRows
+pub mod Reports

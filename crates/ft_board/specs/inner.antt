@@ -7,5 +7,6 @@ pub mod Idle
 pub mod Mending
 pub mod Readings
 pub mod Repaired
+pub mod Reported
 pub mod SomeLanes
 pub mod Told

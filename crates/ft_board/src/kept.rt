@@ -12,13 +12,14 @@ use crate::mend::{mend, take_notes};
 use crate::rebuild::renew;
 use crate::refilter::make_way;
 use crate::repair::{let_come, let_go};
+use crate::report::{report, reported_edits};
 use crate::told::{catch_up, latencies_in, shelf_in, text_in, totals_in};
-use ft_answers::{Board, Done, Kept, Latency};
-use ft_base::{Content, Place, Refused, attached, is_reader};
+use ft_answers::{Board, Done, Edited, Kept, Latency};
+use ft_base::{Content, Refused, attached, is_reader};
 use ft_fields::{Event, Name};
 use ft_filter::Filter;
 use ft_hist::{Trigger, Work};
-use ft_kept::Tables;
+use ft_kept::{Acted, Tables};
 use ft_table::{Table, Totals};
 use std::alloc::Global;
 use std::collections::BTreeMap;
@@ -154,11 +155,19 @@ impl Board for KeptBoard {
         Ok(Done { value, kept })
     }
 
-    fn insert(&mut self, event: Event) -> Result<Done<Place>, Refused> {
+    fn insert(&mut self, event: Event) -> Result<Done<Edited>, Refused> {
         kept_shelves();
+        reported_edits();
         let place = self.content.insert(event)?;
+        let mut acted = Acted::new(self.alloc);
         take_notes(&mut self.kept, self.content.triggers());
-        let_come(&mut self.kept, &self.content, place, &mut self.work);
+        let_come(
+            &mut self.kept,
+            &self.content,
+            place,
+            &mut acted,
+            &mut self.work,
+        );
         let kept = mend(
             &mut self.kept,
             &mut self.made,
@@ -166,14 +175,24 @@ impl Board for KeptBoard {
             &self.content,
             &mut self.work,
         );
-        Ok(Done { value: place, kept })
+        let report = report(&self.kept, self.alloc, &self.content, &acted);
+        let value = Edited { place, report };
+        Ok(Done { value, kept })
     }
 
-    fn strike(&mut self, cpu: u32, line: u32) -> Result<Done<Place>, Refused> {
+    fn strike(&mut self, cpu: u32, line: u32) -> Result<Done<Edited>, Refused> {
         kept_shelves();
+        reported_edits();
         let place = self.content.place_of(cpu, line)?;
+        let mut acted = Acted::new(self.alloc);
         take_notes(&mut self.kept, self.content.triggers());
-        let_go(&mut self.kept, &self.content, place, &mut self.work);
+        let_go(
+            &mut self.kept,
+            &self.content,
+            place,
+            &mut acted,
+            &mut self.work,
+        );
         let kept = mend(
             &mut self.kept,
             &mut self.made,
@@ -181,8 +200,10 @@ impl Board for KeptBoard {
             &self.content,
             &mut self.work,
         );
+        let report = report(&self.kept, self.alloc, &self.content, &acted);
         self.content.strike(place);
-        Ok(Done { value: place, kept })
+        let value = Edited { place, report };
+        Ok(Done { value, kept })
     }
 
     fn attach(&mut self, trigger: Trigger) -> Result<Done<u32>, Refused> {

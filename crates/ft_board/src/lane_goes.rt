@@ -15,7 +15,7 @@ use crate::repair::put_back;
 use ft_base::Content;
 use ft_fields::Pos;
 use ft_hist::Work;
-use ft_kept::Tables;
+use ft_kept::{Acted, Tables};
 use std::alloc::AllocError;
 
 /// The events of a CPU's lane, which is still held, go from the tables. Where memory runs out, the
@@ -62,10 +62,11 @@ fn take_lane(
     let Some(lines) = lanes.lane(cpu) else {
         return Ok(());
     };
+    let mut acted = Acted::unasked();
     for (line, event) in lines {
         let stamp = event.stamp;
         let pos = Pos { stamp, cpu, line };
-        tables.event_goes(triggers, lanes, pos, event, work)?;
+        tables.event_goes(triggers, lanes, pos, event, &mut acted, work)?;
     }
     Ok(())
 }

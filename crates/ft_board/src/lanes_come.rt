@@ -13,7 +13,7 @@ use crate::repair::put_back;
 use ft_base::Content;
 use ft_fields::Event;
 use ft_hist::Work;
-use ft_kept::Tables;
+use ft_kept::{Acted, Tables};
 use ft_lanes::Lanes;
 use ft_replay::merged_events_but;
 use std::alloc::{AllocError, Global};
@@ -86,8 +86,9 @@ fn put_lanes(
 {
     let (lanes, triggers) = (content.lanes(), content.triggers());
     let events = merged_events_but(alloc, lanes, triggers, before)?;
+    let mut acted = Acted::unasked();
     for (pos, event) in &events {
-        tables.event_comes(triggers, lanes, *pos, event, work)?;
+        tables.event_comes(triggers, lanes, *pos, event, &mut acted, work)?;
     }
     Ok(())
 }

@@ -12,12 +12,17 @@
 //! gets another filter, and as one goes that read. Where memory runs out for any of it, the edit
 //! stands, and the next answer builds it.
 //!
+//! An event that is inserted or struck may change a few rows, and these are reported: they are told
+//! by the triggers that act at the event and by what is kept behind it.
+//!
 //! ```ignore
 //! let mut board = KeptBoard::new(rt.alloc());
 //! board.load(events)?;
 //! let id = board.attach(trigger)?.value;
-//! let Done { value: place, kept } = board.insert(event)?;
+//! let Done { value: edited, kept } = board.insert(event)?;
 //! assert!(rt; board.is_deferred() == (kept == Kept::Later));
+//! // Which rows may have changed, as far as memory was found: all others are as they were.
+//! let rows = edited.report;
 //! // Read off the tables: no event is tested, where they have the edit.
 //! let totals = board.totals(id)?;
 //! assert!(rt; !board.is_deferred());
@@ -36,6 +41,7 @@ mod readings;
 mod rebuild;
 mod refilter;
 mod repair;
+mod report;
 mod told;
 
 pub use kept::KeptBoard;

@@ -13,7 +13,7 @@ ghost use Rattle.ft_base.specs.Reachable.{HasSavers};
 
 use ft_base::{Content, role_of};
 use ft_hist::{Trigger, Work};
-use ft_kept::Tables;
+use ft_kept::{Acted, Tables};
 use ft_lanes::Lanes;
 use ft_maps::entries;
 use ft_replay::merged_events;
@@ -33,8 +33,9 @@ pub(crate) fn rebuilt(
 {
     let merged = merged_events(alloc, lanes, triggers)?;
     let mut tables = new_tables(alloc, triggers)?;
+    let mut acted = Acted::unasked();
     for (pos, event) in &merged {
-        tables.event_comes(triggers, lanes, *pos, event, work)?;
+        tables.event_comes(triggers, lanes, *pos, event, &mut acted, work)?;
     }
     Ok(tables)
 }

@@ -7,20 +7,28 @@ ghost use Rattle.ft_board.specs.KeptShelves.{AreKeptOf};
 ghost use Rattle.ft_board.specs.inner.ButOneEvent.{ComesAtCost, GoesAtCost, AreKeptWithout};
 ghost use Rattle.ft_board.specs.inner.ButOneEvent.{IsMissed, IsPlain};
 ghost use Rattle.ft_board.specs.inner.Repaired.{IfBoth, if_ok};
+ghost use Rattle.ft_board.specs.inner.Reported.{GathersAt};
 
 use ft_base::{Content, Place};
 use ft_fields::Pos;
 use ft_hist::Work;
-use ft_kept::Tables;
+use ft_kept::{Acted, Tables};
 use std::alloc::AllocError;
 
-/// The event of a place, which is held already, comes to the tables. Where memory runs out, the
-/// tables are given up; an event that is no hit takes none.
-pub(crate) fn let_come(kept: &mut Option<Tables>, content: &Content, place: Place, work: &mut Work)
+/// The event of a place, which is held already, comes to the tables, and the triggers that act at it
+/// are gathered. Where memory runs out, the tables are given up; an event that is no hit takes none.
+pub(crate) fn let_come(
+    kept: &mut Option<Tables>,
+    content: &Content,
+    place: Place,
+    acted: &mut Acted,
+    work: &mut Work,
+)
     requires { IfSome kept.old (AreKeptWithout content.now place) }
     ensures kept { IfSome kept.new (AreKeptOf content.now) }
     ensures deferred { kept.old ≡ None → kept.new ≡ None }
     ensures forms { IfBoth FormsStay kept.old kept.new }
+    ensures acted { IfSome kept.new (λ _. GathersAt content.now place acted.old acted.new) }
     ensures quiet { IsPlain content.now place → IfBoth NotesStay kept.old kept.new }
     ensures now { IsMissed content.now place → kept.new ≡ None → kept.old ≡ None }
     ensures costs { ComesAtCost content.now place work.old work.new }
@@ -40,17 +48,25 @@ pub(crate) fn let_come(kept: &mut Option<Tables>, content: &Content, place: Plac
     };
     let stamp = event.stamp;
     let pos = Pos { stamp, cpu, line };
-    let repaired = tables.event_comes(triggers, lanes, pos, event, work);
+    let repaired = tables.event_comes(triggers, lanes, pos, event, acted, work);
     put_back(kept, tables, repaired);
 }
 
-/// The event of a place, which is still held, goes from the tables. Where memory runs out, the
-/// tables are given up; an event that is a hit of triggers without a variable alone takes none.
-pub(crate) fn let_go(kept: &mut Option<Tables>, content: &Content, place: Place, work: &mut Work)
+/// The event of a place, which is still held, goes from the tables, and the triggers that act at it
+/// are gathered. Where memory runs out, the tables are given up; an event that is a hit of triggers
+/// without a variable alone takes none but for what is gathered.
+pub(crate) fn let_go(
+    kept: &mut Option<Tables>,
+    content: &Content,
+    place: Place,
+    acted: &mut Acted,
+    work: &mut Work,
+)
     requires { IfSome kept.old (AreKeptOf content.now) }
     ensures kept { IfSome kept.new (AreKeptWithout content.now place) }
     ensures deferred { kept.old ≡ None → kept.new ≡ None }
     ensures forms { IfBoth FormsStay kept.old kept.new }
+    ensures acted { IfSome kept.new (λ _. GathersAt content.now place acted.old acted.new) }
     ensures quiet { IsPlain content.now place → IfBoth NotesStay kept.old kept.new }
     ensures now { IsPlain content.now place → kept.new ≡ None → kept.old ≡ None }
     ensures costs { GoesAtCost content.now place work.old work.new }
@@ -70,7 +86,7 @@ pub(crate) fn let_go(kept: &mut Option<Tables>, content: &Content, place: Place,
     };
     let stamp = event.stamp;
     let pos = Pos { stamp, cpu, line };
-    let repaired = tables.event_goes(triggers, lanes, pos, event, work);
+    let repaired = tables.event_goes(triggers, lanes, pos, event, acted, work);
     put_back(kept, tables, repaired);
 }
 

@@ -22,6 +22,7 @@ pub use Rattle.ft_answers.specs.After
 pub use Rattle.ft_answers.specs.Edited
 pub use Rattle.ft_answers.specs.Shown
 pub use Rattle.ft_answers.specs.Answers
+pub use Rattle.ft_answers.specs.Reporting
 pub use Rattle.ft_script.specs.Lines
 pub use Rattle.ft_script.specs.Script
 pub use Rattle.ft_words.specs.Files

@@ -9,7 +9,7 @@ ghost use Rattle.ft_desk.specs.Edits.{trigger_for, trigger_or_refused, refused_f
 ghost use Rattle.ft_desk.specs.Edits.{filter_for, filter_or_refused, filter_refused};
 
 use crate::events::{event_in, events_in};
-use ft_answers::{Board, Done, Latency, Place, Refused};
+use ft_answers::{Board, Done, Edited, Latency, Refused};
 use ft_event::Name;
 use ft_filter::{Filter, FilterFault};
 use ft_table::Totals;
@@ -50,6 +50,7 @@ impl<B: Board> Desk<B> {
     ghost use Rattle.ft_answers.specs.Deferral.{ReadsNothing, WantsForTables};
     ghost use Rattle.ft_answers.specs.Edited.{EditGives, AnswersFrom, AnswerIs};
     ghost use Rattle.ft_answers.specs.Answers.{hist_text, totals, latencies, list_text};
+    ghost use Rattle.ft_answers.specs.Reporting.{Reports};
     ghost use Rattle.ft_desk.specs.Edits.{after_load_text, after_insert_text};
     ghost use Rattle.ft_desk.specs.Edits.{after_attach_text, after_refilter_text};
     ghost use Rattle.ft_desk.specs.Edits.{event_or_refused, events_of};
@@ -91,26 +92,28 @@ impl<B: Board> Desk<B> {
     }
 
     /// Adds the event of a trace line, which has no line break, at the next line of its CPU's lane:
-    /// the event's place. Refused where the line cannot be read or holds no event, where too many
-    /// events would be or the lane's line numbers are used up, or for memory.
-    pub fn insert(&mut self, line: &[u8]) -> Result<Done<Place>, Refused>
-        ensures gives { EditGives (λ place. place) (after_insert_text self.old.base line.now)
+    /// the event's place, and which rows may have changed, if the board has a report. Refused where
+    /// the line cannot be read or holds no event, where too many events would be or the lane's line
+    /// numbers are used up, or for memory.
+    pub fn insert(&mut self, line: &[u8]) -> Result<Done<Edited>, Refused>
+        ensures gives { EditGives (λ edited. edited.place) (after_insert_text self.old.base line.now)
             self.old self.new result }
         ensures counts { EditCounts self.old self.new result }
         ensures repairs { (event : Traced) → event_or_refused (line_of line.now) ≡ Ok event
             → RepairCosts event self.old self.new }
         ensures now { (event : Traced) → event_or_refused (line_of line.now) ≡ Ok event
             → IsNoHit self.old.base.triggers event → PutsNothingOff self.old self.new }
+        ensures reports { Reports self.old self.new result }
     {
         let event = event_in(line)?;
         ft_event::laws::no_made_event();
         self.board.insert(event)
     }
 
-    /// Takes the event of a CPU's line away: its place. Refused where the lane is not held, or has
-    /// no such line.
-    pub fn strike(&mut self, cpu: u32, line: u32) -> Result<Done<Place>, Refused>
-        ensures gives { EditGives (λ place. place) (after_strike self.old.base cpu line)
+    /// Takes the event of a CPU's line away: its place, and which rows may have changed, if the
+    /// board has a report. Refused where the lane is not held, or has no such line.
+    pub fn strike(&mut self, cpu: u32, line: u32) -> Result<Done<Edited>, Refused>
+        ensures gives { EditGives (λ edited. edited.place) (after_strike self.old.base cpu line)
             self.old self.new result }
         ensures memory { result ≢ Err Memory }
         ensures counts { EditCounts self.old self.new result }
@@ -118,6 +121,7 @@ impl<B: Board> Desk<B> {
             → RepairCosts event self.old self.new }
         ensures now { (event : Traced) → event_at self.old.base.lanes cpu line ≡ Some event
             → IsPlainHit self.old.base.triggers event → PutsNothingOff self.old self.new }
+        ensures reports { Reports self.old self.new result }
     {
         self.board.strike(cpu, line)
     }

@@ -11,7 +11,7 @@
 //!
 //! let mut desk = Desk::new(alloc, PlainBoard::new(alloc));
 //! let done = desk.insert(b"a-1 [003] 1.000001: sched_waking: comm=b pid=8 prio=19 target_cpu=000")?;
-//! assert_eq!(rt; done.value, Place { cpu: 3, line: 1 });
+//! assert_eq!(rt; done.value.place, Place { cpu: 3, line: 1 });
 //! ```
 #![tactic(auto)]
 
@@ -27,7 +27,7 @@ mod running;
 mod sending;
 
 pub use desk::Desk;
-pub use ft_answers::{Board, Done, Kept, Latency, Place, PlainBoard, Refused};
+pub use ft_answers::{Board, Changed, Done, Edited, Kept, Latency, Place, PlainBoard, Refused};
 pub use ft_event::{LineFault, Name};
 pub use ft_filter::FilterFault;
 pub use ft_table::Totals;

@@ -6,10 +6,10 @@ ghost use Rattle.ft_script.specs.Command.{asked};
 ghost use Rattle.ft_script.specs.Script.{asked_by};
 ghost use Rattle.ft_printed.specs.Refusals.{refused_text};
 ghost use Rattle.ft_desk.specs.Output.{outcome, outcome_about, file_at, after_load_file};
-ghost use Rattle.ft_desk.specs.inner.Printed.{Prints, PrintsEdit, PrintsAnswer};
+ghost use Rattle.ft_desk.specs.inner.Printed.{Prints, PrintsEdit, PrintsAnswer, TellsPlace};
 
 use crate::desk::Desk;
-use ft_answers::{Board, Done, Refused};
+use ft_answers::{Board, Done, Edited, Place, Refused};
 use ft_printed::{Answer, EditValue, done_line, refused_line};
 use ft_script::{Command, Numbered, read_command};
 use std::alloc::{AllocError, Global};
@@ -61,8 +61,8 @@ fn obey<B: Board>(
             refused: false,
         }),
         Command::Load(number) => edited(alloc, b"loaded ", load_file(desk, files, number)),
-        Command::Insert(line) => edited(alloc, b"inserted ", desk.insert(line)),
-        Command::Strike(cpu, line) => edited(alloc, b"struck ", desk.strike(cpu, line)),
+        Command::Insert(line) => edited(alloc, b"inserted ", placed(desk.insert(line))),
+        Command::Strike(cpu, line) => edited(alloc, b"struck ", placed(desk.strike(cpu, line))),
         Command::Attach(event, text) => edited(alloc, b"attached ", desk.attach(event, text)),
         Command::Refilter(id, text) => edited(alloc, b"refiltered ", desk.refilter(id, text)),
         Command::About(what, number) => about(desk, alloc, what, number),
@@ -114,6 +114,17 @@ fn nth_file(files: &[Vec<u8>], number: u32) -> Option<&[u8]>
 {
     let index = number.checked_sub(1)?;
     files.get(index as usize).map(|file| file.as_slice())
+}
+
+/// What an edit of one event prints of what it gives: the place. No script prints a report.
+fn placed(edit: Result<Done<Edited>, Refused>) -> Result<Done<Place>, Refused>
+    ensures { TellsPlace edit result }
+{
+    let done = edit?;
+    Ok(Done {
+        value: done.value.place,
+        kept: done.kept,
+    })
 }
 
 /// What an edit prints: its word and its value, or its refusal.

@@ -2,6 +2,7 @@ mod answers;
 mod attach;
 mod load;
 mod removing;
+mod reports;
 mod striking;
 
 ghost use Rattle.std.specs.Prelude.{◌≡◌, false, IfOk};

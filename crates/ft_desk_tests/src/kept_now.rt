@@ -1,7 +1,7 @@
 //! While memory lasts, the kept tables have each edit as soon as it is answered.
 
 use ft_board::KeptBoard;
-use ft_desk::{Desk, Done, Kept, Latency, Name, Place, Refused, Totals};
+use ft_desk::{Desk, Done, Edited, Kept, Latency, Name, Place, Refused, Totals};
 
 /// An edit of a desk.
 #[derive(Clone, Copy)]
@@ -208,10 +208,10 @@ fn counted(edit: Result<Done<u64>, Refused>) -> Result<Done<Told>, Refused> {
 }
 
 /// What an edit of one event tells.
-fn placed(edit: Result<Done<Place>, Refused>) -> Result<Done<Told>, Refused> {
+fn placed(edit: Result<Done<Edited>, Refused>) -> Result<Done<Told>, Refused> {
     let done = edit?;
     Ok(Done {
-        value: Told::At(done.value),
+        value: Told::At(done.value.place),
         kept: done.kept,
     })
 }

@@ -3,7 +3,7 @@
 ghost use Rattle.std.specs.Prelude.{false};
 ghost use Rattle.ft_answers.specs.Base.{empty_base};
 
-use ft_answers::{Board, Done, Latency, Place, Refused};
+use ft_answers::{Board, Done, Edited, Latency, Refused};
 use ft_event::{Event, Name};
 use ft_filter::Filter;
 use ft_table::Totals;
@@ -29,11 +29,11 @@ impl Board for NoRoom {
         Err(Refused::NoLane(cpu))
     }
 
-    fn insert(&mut self, _event: Event) -> Result<Done<Place>, Refused> {
+    fn insert(&mut self, _event: Event) -> Result<Done<Edited>, Refused> {
         Err(Refused::Memory)
     }
 
-    fn strike(&mut self, cpu: u32, _line: u32) -> Result<Done<Place>, Refused> {
+    fn strike(&mut self, cpu: u32, _line: u32) -> Result<Done<Edited>, Refused> {
         Err(Refused::NoLane(cpu))
     }
 

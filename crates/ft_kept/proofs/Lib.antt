@@ -7,6 +7,7 @@ pub mod Decided
 pub mod FewPuts
 pub mod Following
 pub mod Forms
+pub mod Gathered
 pub mod Gone
 pub mod Grown
 pub mod HitGoes

@@ -1,3 +1,4 @@
+pub mod Acted
 pub mod Acts
 pub mod Bounds
 pub mod Codes

@@ -7,6 +7,7 @@ ghost use Rattle.ft_hist.specs.Steps.{StepsGrow};
 ghost use Rattle.ft_hist.specs.Tests.{count_on, asked};
 ghost use Rattle.ft_maps.specs.Seen.{seen};
 ghost use Rattle.ft_pairs.specs.declared.role.Role.TheVariants.{Plain, Reads};
+ghost use Rattle.ft_kept.specs.Acted.{Gathers, act_as, acting_of};
 ghost use Rattle.ft_kept.specs.Bounds.{SaverMoves, SomeSaverMoves, OtherSaversStay, without_hit_of};
 ghost use Rattle.ft_kept.specs.Memory.{ActsPlainly, IsPlainHit};
 ghost use Rattle.ft_kept.specs.Repairs.{AreShelved, CanGo, HasGone, EventCanGo, EventHasGone};
@@ -14,6 +15,7 @@ ghost use Rattle.ft_kept.specs.Shelves.{FormsStay, NotesStay, role_on};
 ghost use Rattle.ft_kept.specs.inner.Acting.{MayGo, Went};
 
 use crate::act::{Act, Scene, key_at};
+use crate::acted::Acted;
 use crate::saver_goes::saving_goes;
 use crate::settle::settle_next;
 use crate::tables::Tables;
@@ -26,15 +28,17 @@ use std::alloc::AllocError;
 use std::collections::BTreeMap;
 
 impl Tables {
-    /// An event that is still held goes from each trigger that it is a hit of, in order of id. Tests
-    /// it against the triggers on its name alone. Refused for memory, and then the tables are of no
-    /// use any more; at triggers without a variable it takes none.
+    /// An event that is still held goes from each trigger that it is a hit of, in order of id, and
+    /// each of them with its key is gathered behind others. Tests it against the triggers on its
+    /// name alone. Refused for memory, and then the tables are of no use any more; at triggers
+    /// without a variable it takes none but for what is gathered.
     pub fn event_goes(
         &mut self,
         triggers: &BTreeMap<u32, Trigger>,
         lanes: &Lanes,
         pos: Pos,
         event: &Event,
+        acted: &mut Acted,
         work: &mut Work,
     ) -> Result<(), AllocError>
         requires shelved { AreShelved (seen nat_cmp triggers.now) self.old }
@@ -42,6 +46,8 @@ impl Tables {
         ensures forms { OnOk result (FormsStay self.old self.new) }
         ensures right { OnOk result (EventHasGone (seen nat_cmp triggers.now) lanes.now pos event.now
             self.old self.new) }
+        ensures acted { OnOk result (Gathers (acting_of (seen nat_cmp triggers.now) event.now)
+            acted.old acted.new) }
         ensures evals { work.new.evals
             ≤ work.old.evals + count_on (seen nat_cmp triggers.now) event.now }
         ensures puts { (work.new.puts
@@ -52,9 +58,10 @@ impl Tables {
             → NotesStay self.old self.new }
         ensures grow { StepsGrow work.old work.new }
     {
+        let scene = Scene { triggers, lanes };
         for (id, trigger) in entries(triggers) {
             let at = At { pos, trigger: *id };
-            self.goes_from(triggers, lanes, trigger, at, event, work)?;
+            goes_at(self, &scene, trigger, at, event, acted, work)?;
         }
         Ok(())
     }
@@ -86,24 +93,60 @@ impl Tables {
             → NotesStay self.old self.new }
         ensures grow { StepsGrow work.old work.new }
     {
-        let Some(key) = key_at(trigger, event, work) else {
-            return Ok(());
-        };
         let scene = Scene { triggers, lanes };
-        let act = Act {
-            trigger,
-            at,
-            event,
-            key,
-        };
-        match self.role(at.trigger) {
-            Role::Plain => {
-                hit_goes(self, &scene, &act);
-                Ok(())
-            }
-            Role::Saves => saving_goes(self, &scene, &act, work),
-            Role::Reads(saver) => reading_goes(self, &scene, saver, &act, work),
+        let mut acted = Acted::unasked();
+        goes_at(self, &scene, trigger, at, event, &mut acted, work)
+    }
+}
+
+/// An event that is still held goes from one attached trigger, where it is a hit of it, and the
+/// trigger with its key is gathered behind others. Tests it where the trigger is on its name alone.
+/// Refused for memory.
+fn goes_at(
+    tables: &mut Tables,
+    scene: &Scene<'_>,
+    trigger: &Trigger,
+    at: At,
+    event: &Event,
+    acted: &mut Acted,
+    work: &mut Work,
+) -> Result<(), AllocError>
+    requires shelved { AreShelved (seen nat_cmp scene.now.triggers.now) tables.old }
+    requires can { CanGo (seen nat_cmp scene.now.triggers.now) scene.now.lanes.now at
+        (option_map (λ key. (key, event.now)) (hit trigger.now event.now)) tables.old }
+    ensures forms { OnOk result (FormsStay tables.old tables.new) }
+    ensures savers { OnOk result (OtherSaversStay at.trigger tables.old tables.new) }
+    ensures right { OnOk result (HasGone (seen nat_cmp scene.now.triggers.now)
+        scene.now.lanes.now at
+        (option_map (λ key. (key, event.now)) (hit trigger.now event.now))
+        tables.old tables.new) }
+    ensures acted { OnOk result (Gathers (act_as at.trigger (hit trigger.now event.now))
+        acted.old acted.new) }
+    ensures evals { work.new.evals ≡ work.old.evals + asked trigger.now event.now }
+    ensures puts { (work.new.puts ≤ work.old.puts + 3 * asked trigger.now event.now)
+        ⊎ SaverMoves (without_hit_of at.pos event.now) trigger.now tables.old at.trigger }
+    ensures memory { ActsPlainly tables.old at.trigger trigger.now event.now → result ≡ Ok tt }
+    ensures quiet { ActsPlainly tables.old at.trigger trigger.now event.now
+        → NotesStay tables.old tables.new }
+    ensures grow { StepsGrow work.old work.new }
+{
+    let Some(key) = key_at(trigger, event, work) else {
+        return Ok(());
+    };
+    acted.add(at.trigger, key);
+    let act = Act {
+        trigger,
+        at,
+        event,
+        key,
+    };
+    match tables.role(at.trigger) {
+        Role::Plain => {
+            hit_goes(tables, scene, &act);
+            Ok(())
         }
+        Role::Saves => saving_goes(tables, scene, &act, work),
+        Role::Reads(saver) => reading_goes(tables, scene, saver, &act, work),
     }
 }
 

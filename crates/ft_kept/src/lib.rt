@@ -6,10 +6,13 @@
 //! let mut tables = Tables::new(alloc);
 //! tables.add(1, Role::Saves, 2048)?;
 //! tables.add(2, Role::Reads(1), 2048)?;
+//! let mut acted = Acted::new(alloc);
 //! let mut work = Work::new();
 //! if let Some(event) = lanes.get(pos.cpu, pos.line) {
-//!     tables.event_comes(&triggers, &lanes, pos, event, &mut work)?;
+//!     tables.event_comes(&triggers, &lanes, pos, event, &mut acted, &mut work)?;
 //! }
+//! // The triggers that act at the event, each with its key, where memory for them was found.
+//! let acting = acted.all();
 //! if let Some(shelf) = tables.shelf(2) {
 //!     let found = shelf.readings().get(&pos);
 //! }
@@ -17,6 +20,7 @@
 #![tactic(auto)]
 
 mod act;
+mod acted;
 mod comes;
 mod goes;
 mod moved;
@@ -26,5 +30,6 @@ mod settle;
 mod shelf;
 mod tables;
 
+pub use acted::{Acted, Acting};
 pub use shelf::Shelf;
 pub use tables::Tables;

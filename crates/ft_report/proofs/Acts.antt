@@ -20,9 +20,10 @@ use Rattle.ft_table.specs.Values.{values_by}
 use Rattle.ft_rivals.specs.Rivals.{is_of}
 use Rattle.ft_kept.specs.Acts.{acts_of}
 use Rattle.ft_kept.specs.Shelves.{Shelves}
-use Rattle.ft_report.specs.declared.row.Acting.{Acting}
+use Rattle.ft_kept.specs.declared.acted.Acting.{Acting}
 use Rattle.ft_report.specs.Touched.{keys_by, own_keys}
-use Rattle.ft_report.specs.Events.{ActsChange, CameOrWent, act_as, acting_of, AllAct}
+use Rattle.ft_kept.specs.Acted.{act_as, acting_of}
+use Rattle.ft_report.specs.Events.{ActsChange, CameOrWent, AllAct}
 use Rattle.ft_report.specs.Laws.{OtherRowsStay, ChangesBack, ComingDiffers, GoingDiffers, ActingIsAll, RepairedCame, RepairedWent, EventRows}
 use Rattle.ft_report.proofs.Ids.{nat_itself}
 use Rattle.ft_report.proofs.Once.{of_each_once}

@@ -28,7 +28,7 @@ use Rattle.ft_rivals.specs.Rivals.{is_of, rivals, AreTablesButFor, RivalsStay, R
 use Rattle.ft_kept.specs.Acts.{Acts, op_of}
 use Rattle.ft_kept.specs.Entries.{IsEntry, IsRight, hits_here, read_here}
 use Rattle.ft_kept.specs.Shelves.{Shelved, Shelves, KeepsForm, FormStays, is_saver, role_on, admits_on, kept_on}
-use Rattle.ft_report.specs.declared.row.Acting.{Acting}
+use Rattle.ft_kept.specs.declared.acted.Acting.{Acting}
 use Rattle.ft_report.specs.Touched.{keys_by, own_keys, is_reader_of, readers_keys, rivals_on, read_keys, touched_as}
 use Rattle.ft_report.specs.Events.{ActsChange}
 use Rattle.ft_report.proofs.Entries.{not_hit, same_hit, op_none, op_by, op_is, act-admits}

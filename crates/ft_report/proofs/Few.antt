@@ -12,9 +12,10 @@ use Rattle.ft_hist.specs.Hit.{hit}
 use Rattle.ft_keys.specs.declared.key.Part.{Part}
 use Rattle.ft_pairs.specs.declared.role.Role.{Role}
 use Rattle.ft_kept.specs.Shelves.{role_on}
-use Rattle.ft_report.specs.declared.row.Acting.{Acting}
+use Rattle.ft_kept.specs.declared.acted.Acting.{Acting}
 use Rattle.ft_report.specs.Touched.{keys_by, own_keys, is_reader_of, readers_keys}
-use Rattle.ft_report.specs.Events.{act_as, acting_of, readers_of}
+use Rattle.ft_kept.specs.Acted.{act_as, acting_of}
+use Rattle.ft_report.specs.Events.{readers_of}
 use Rattle.ft_report.specs.Laws.{FewNamed, OwnTouched, ReadTouched, TwoNamed, ReaderNamed}
 use Rattle.ft_report.proofs.Ids.{nat_is, below_apart, below_rest, sorted_below, sorted_rest}
 use Rattle.ft_report.proofs.Once.{few_each_once}

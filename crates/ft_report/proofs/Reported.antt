@@ -17,11 +17,12 @@ use Rattle.ft_maps.specs.Entries.{same_from_tie}
 use Rattle.ft_table.specs.Hits.{same_key}
 use Rattle.ft_rivals.specs.Rivals.{is_of}
 use Rattle.ft_kept.specs.Shelves.{Shelves}
-use Rattle.ft_report.specs.declared.row.Acting.{Acting}
-use Rattle.ft_report.specs.declared.row.Changed.{Changed}
+use Rattle.ft_kept.specs.declared.acted.Acting.{Acting}
+use Rattle.ft_rivals.specs.declared.changed.Changed.{Changed}
+use Rattle.ft_rivals.specs.Reports.{same_row, is_reported, reported_of}
 use Rattle.ft_report.specs.Touched.{named}
-use Rattle.ft_report.specs.Events.{acting_of}
-use Rattle.ft_report.specs.Report.{counts_made, rows_named, rows_of_one, report_of, same_row, is_reported, reported_of}
+use Rattle.ft_kept.specs.Acted.{acting_of}
+use Rattle.ft_report.specs.Report.{counts_made, rows_named, rows_of_one, report_of}
 use Rattle.ft_report.specs.Laws.{NamedOnce, EventRows, TwoNamed, ReaderNamed, ReportedOnce, DifferingReported, TwoReported, ReaderReported}
 use Rattle.ft_report.proofs.Ids.{nat_itself, nat_is, below_apart, below_rest, sorted_below, sorted_rest}
 use Rattle.ft_report.proofs.Once.{distinct_both}

@@ -18,7 +18,7 @@ use Rattle.ft_rivals.specs.Rivals.{is_of, rivals, AreTablesButFor, RivalsStay, F
 use Rattle.ft_kept.specs.Entries.{IsKept}
 use Rattle.ft_kept.specs.Shelves.{Shelved, Shelves, KeepsForm, KeepsNotes, FormStays, FormsStay, role_on, admits_on, kept_on}
 use Rattle.ft_kept.proofs.Forms.{roles_stay}
-use Rattle.ft_report.specs.declared.row.Acting.{Acting}
+use Rattle.ft_kept.specs.declared.acted.Acting.{Acting}
 use Rattle.ft_report.specs.Touched.{keys_by, each_once, own_keys, readers_keys, rivals_on, read_keys, touched_as, touched}
 use Rattle.ft_report.specs.Report.{row_on}
 use Rattle.ft_report.specs.Laws.{OtherHitsStay, OtherRowsStay, ChangesBack, FewNamed, ReadTouched, NamedOnce}

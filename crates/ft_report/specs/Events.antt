@@ -1,6 +1,6 @@
 -- One event that comes or goes: the acts at it, and what is kept before and after.
-use Rattle.std.specs.Prelude.{◌≡◌, ◌⊎◌, ℕ, true, List, [], ◌∷◌, Option, Some, None, length}
-use Rattle.std.specs.List.{filter, flat_map}
+use Rattle.std.specs.Prelude.{◌≡◌, ◌⊎◌, ℕ, true, List, Some, None, length}
+use Rattle.std.specs.List.{filter}
 use Rattle.std.specs.Ordering.{nat_cmp}
 use Rattle.std.specs.FinMap as map
 use Rattle.std.specs.FinMap.{FinMap}
@@ -17,19 +17,10 @@ use Rattle.ft_rivals.specs.Rivals.{is_of}
 use Rattle.ft_kept.specs.Acts.{Acts, acts_of}
 use Rattle.ft_kept.specs.Entries.{IsKept}
 use Rattle.ft_kept.specs.Shelves.{Shelves, FormsStay, role_on, admits_on, kept_on}
-use Rattle.ft_report.specs.declared.row.Acting.{Acting}
+use Rattle.ft_kept.specs.declared.acted.Acting.{Acting}
 use Rattle.ft_report.specs.Touched.{own_keys, is_reader_of}
 
 -- ---- the acts at an event
-
--- the act of a trigger at an event, if the event is a hit of it (our own choice)
-abbrev pub act_as : ℕ → Option (List Part) → List Acting
-act_as id None = []
-act_as id (Some key) = record { id = id; key = key } ∷ []
-
--- the acts of attached triggers at an event, in order of id (our own choice)
-unfoldable pub acting_of : FinMap nat_cmp Hist → Traced → List Acting
-acting_of triggers event = flat_map (λ t. act_as t.0 (hit t.1 event)) (map.entries triggers)
 
 -- how many attached triggers read what a saver saves (our own choice)
 unfoldable pub readers_of : (ℕ → Role) → FinMap nat_cmp Hist → ℕ → ℕ

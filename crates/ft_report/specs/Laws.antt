@@ -12,15 +12,17 @@ use Rattle.ft_keys.specs.declared.key.Part.{Part}
 use Rattle.ft_pairs.specs.declared.role.Role.TheVariants.{Reads}
 use Rattle.ft_table.specs.Hits.{same_key}
 use Rattle.ft_table.specs.Values.{ValuesBy}
+use Rattle.ft_rivals.specs.Reports.{same_row, is_reported, reported_of}
 use Rattle.ft_rivals.specs.Rivals.{is_of, AreTablesButFor}
 use Rattle.ft_lanes.specs.Held.{Lanes}
 use Rattle.ft_kept.specs.Acts.{acts_of}
 use Rattle.ft_kept.specs.Repairs.{EventCanCome, EventHasCome, EventCanGo, EventHasGone}
 use Rattle.ft_kept.specs.Shelves.{Shelved, Shelves, FormsStay, role_on}
-use Rattle.ft_report.specs.declared.row.Acting.{Acting}
+use Rattle.ft_kept.specs.declared.acted.Acting.{Acting}
 use Rattle.ft_report.specs.Touched.{own_keys, readers_keys, touched, named}
-use Rattle.ft_report.specs.Events.{DifferAt, ActsChange, AllAct, EventCame, EventWent, CameOrWent, acting_of, readers_of}
-use Rattle.ft_report.specs.Report.{row_on, counts_made, report_of, same_row, is_reported, reported_of}
+use Rattle.ft_kept.specs.Acted.{acting_of}
+use Rattle.ft_report.specs.Events.{DifferAt, ActsChange, AllAct, EventCame, EventWent, CameOrWent, readers_of}
+use Rattle.ft_report.specs.Report.{row_on, counts_made, report_of}
 
 -- ---- acts that change at one place
 

@@ -5,12 +5,14 @@ pub mod Touched
 pub use Rattle.ft_fields.specs.Places
 pub use Rattle.ft_fields.specs.Traced
 pub use Rattle.ft_hist.specs.Hist
+pub use Rattle.ft_kept.specs.Acted
 pub use Rattle.ft_kept.specs.Acts
 pub use Rattle.ft_kept.specs.Repairs
 pub use Rattle.ft_kept.specs.Shelves
 pub use Rattle.ft_keys.specs.Parts
 pub use Rattle.ft_lanes.specs.Held
 pub use Rattle.ft_maps.specs.Seen
+pub use Rattle.ft_rivals.specs.Reports
 pub use Rattle.ft_rivals.specs.Rivals
 pub use Rattle.ft_table.specs.Hits
 pub use Rattle.ft_table.specs.Rows

@@ -1,6 +1,6 @@
 -- The report of one event: the rows that may differ with it and without it.
-use Rattle.std.specs.Prelude.{◌&&◌, ℕ, Bool, List, [], Option, length, map as list_map, nat_eq, option_and_then, if◌then◌else◌}
-use Rattle.std.specs.List.{filter, flat_map, list_any}
+use Rattle.std.specs.Prelude.{ℕ, Bool, List, [], Option, map as list_map, option_and_then, if◌then◌else◌}
+use Rattle.std.specs.List.{flat_map}
 use Rattle.std.specs.Ordering.{nat_cmp}
 use Rattle.std.specs.FinMap as map
 use Rattle.std.specs.FinMap.{FinMap}
@@ -8,12 +8,11 @@ use Rattle.ft_fields.specs.declared.event.Name.TheVariants as names
 use Rattle.ft_hist.specs.Hist.{Hist}
 use Rattle.ft_hist.specs.Hit.{same_name}
 use Rattle.ft_keys.specs.declared.key.Part.{Part}
-use Rattle.ft_table.specs.Hits.{same_key}
 use Rattle.ft_table.specs.Counted.{Counted}
 use Rattle.ft_table.specs.Rows.{row_at}
 use Rattle.ft_kept.specs.Shelves.{Shelves}
-use Rattle.ft_report.specs.declared.row.Acting.{Acting}
-use Rattle.ft_report.specs.declared.row.Changed.{Changed}
+use Rattle.ft_kept.specs.declared.acted.Acting.{Acting}
+use Rattle.ft_rivals.specs.declared.changed.Changed.{Changed}
 use Rattle.ft_report.specs.Touched.{named}
 
 -- a trigger's row of a key, if it has one (kernel: histogram.rst, the `hist` file)
@@ -35,17 +34,3 @@ rows_of_one shelves acting id hist = if counts_made hist then [] else rows_named
 -- the rows that may differ of all attached triggers that count held events, in order of id (our own choice)
 unfoldable pub report_of : FinMap nat_cmp Hist → Shelves → List Acting → List Changed
 report_of triggers shelves acting = flat_map (λ t. rows_of_one shelves acting t.0 t.1) (map.entries triggers)
-
--- ---- words of the laws
-
--- two rows are of one trigger and one key (our own choice)
-abbrev pub same_row : Changed → Changed → Bool
-same_row a b = nat_eq a.id b.id && same_key a.key b.key
-
--- whether a report has a trigger's row of a key (our own choice)
-abbrev pub is_reported : List Changed → ℕ → List Part → Bool
-is_reported report id key = list_any (same_row (record { id = id; key = key })) report
-
--- how many rows of a trigger a report has (our own choice)
-abbrev pub reported_of : List Changed → ℕ → ℕ
-reported_of report id = length (filter (λ row. nat_eq id row.id) report)

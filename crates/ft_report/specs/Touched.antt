@@ -8,7 +8,7 @@ use Rattle.ft_pairs.specs.declared.role.Role.{Role}
 use Rattle.ft_pairs.specs.declared.role.Role.TheVariants.{Reads}
 use Rattle.ft_rivals.specs.Rivals.{is_of, rivals}
 use Rattle.ft_kept.specs.Shelves.{Shelves, role_on}
-use Rattle.ft_report.specs.declared.row.Acting.{Acting}
+use Rattle.ft_kept.specs.declared.acted.Acting.{Acting}
 
 -- ---- keys, each once
 

@@ -8,8 +8,7 @@ ghost use Rattle.ft_kept.specs.Shelves.{role_on};
 ghost use Rattle.ft_report.specs.Touched.{each_once, with_key, keys_by, own_keys, is_reader_of};
 ghost use Rattle.ft_report.specs.Touched.{readers_keys, rivals_on, read_keys, touched, named};
 
-use crate::row::Acting;
-use ft_kept::Tables;
+use ft_kept::{Acting, Tables};
 use ft_keys::Key;
 use ft_pairs::Role;
 use ft_rivals::rivals;

@@ -7,19 +7,21 @@
 //! the trigger's own table.
 //!
 //! ```ignore
-//! tables.event_comes(&triggers, &lanes, pos, event, &mut work)?;
-//! // The event is a hit of trigger 1 alone.
-//! let acting = [Acting { id: 1, key }];
-//! let rows = changed_rows(rt.alloc(), &tables, &triggers, &acting)?;
-//! // The row of `rows[0].key` in the table of trigger `rows[0].id` may differ, and so on.
+//! let mut acted = Acted::new(rt.alloc());
+//! tables.event_comes(&triggers, &lanes, pos, event, &mut acted, &mut work)?;
+//! // Where memory was found for the triggers that act at the event:
+//! if let Some(acting) = acted.all() {
+//!     let rows = changed_rows(rt.alloc(), &tables, &triggers, acting)?;
+//!     // The row of `rows[0].key` in the table of trigger `rows[0].id` may differ, and so on.
+//! }
 //! ```
 #![tactic(auto)]
 
 mod keys;
 pub mod laws;
 mod report;
-mod row;
 
+pub use ft_kept::Acting;
+pub use ft_rivals::Changed;
 pub use laws::{event_rows, reported_rows, touched_rows};
 pub use report::changed_rows;
-pub use row::{Acting, Changed};

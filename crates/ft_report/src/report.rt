@@ -6,12 +6,12 @@ ghost use Rattle.ft_maps.specs.Seen.{seen};
 ghost use Rattle.ft_report.specs.Report.{counts_made, rows_of_one, report_of};
 
 use crate::keys::named_keys;
-use crate::row::{Acting, Changed};
 use ft_fields::Name;
 use ft_hist::Trigger;
-use ft_kept::Tables;
+use ft_kept::{Acting, Tables};
 use ft_keys::Key;
 use ft_maps::entries;
+use ft_rivals::Changed;
 use std::alloc::{AllocError, Global};
 use std::collections::BTreeMap;
 

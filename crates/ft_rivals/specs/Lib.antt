@@ -1,3 +1,4 @@
+pub mod Reports
 pub mod Rivals
 pub mod inner
 pub use Rattle.ft_table.specs.Growth

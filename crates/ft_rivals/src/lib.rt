@@ -14,8 +14,10 @@
 //! ```
 #![tactic(auto)]
 
+mod changed;
 mod edge;
 pub mod laws;
 
+pub use changed::Changed;
 pub use edge::rivals;
 pub use laws::some_rivals;

@@ -27,7 +27,7 @@ fn edits_at_last<B: Board>(rt: &impl Abort, mut board: B) -> Result<(), Refused>
         }
         other => other?,
     };
-    assert_eq!(rt; done.value, at(1));
+    assert_eq!(rt; done.value.place, at(1));
     let done = match board.insert(second) {
         Err(Refused::Memory) => {
             assert_eq!(rt; board.list(1)?.as_slice(), FIRST);
@@ -35,13 +35,13 @@ fn edits_at_last<B: Board>(rt: &impl Abort, mut board: B) -> Result<(), Refused>
         }
         other => other?,
     };
-    assert_eq!(rt; done.value, at(2));
+    assert_eq!(rt; done.value.place, at(2));
     let text = match board.list(1) {
         Err(Refused::Memory) => board.list(1)?,
         other => other?,
     };
     assert_eq!(rt; text.as_slice(), BOTH);
-    assert_eq!(rt; board.strike(1, 1)?.value, at(1));
+    assert_eq!(rt; board.strike(1, 1)?.value.place, at(1));
     assert_eq!(rt; board.unload(1)?.value, 1);
     Ok(())
 }

@@ -4,7 +4,7 @@ ghost use Rattle.std.specs.Prelude.{◌≡◌};
 
 use ft_event::{Body, Comm, Event, Name, Pos, Turn, Wake};
 use ft_hist::{Key, Part, Trigger, Work};
-use ft_kept::Tables;
+use ft_kept::{Acted, Tables};
 use ft_lanes::Lanes;
 use ft_maps::{get, len, put, take};
 use ft_pairs::Role;
@@ -105,7 +105,14 @@ impl Trial {
         if get(&come, &pos).is_some() {
             return Err(Fail::new("it has come already"));
         }
-        tables.event_comes(&triggers, &lanes, pos, event, &mut Work::new())?;
+        tables.event_comes(
+            &triggers,
+            &lanes,
+            pos,
+            event,
+            &mut Acted::unasked(),
+            &mut Work::new(),
+        )?;
         put(&mut come, pos, *event)?;
         Ok(Trial {
             triggers,
@@ -130,7 +137,14 @@ impl Trial {
         let Some(event) = get(&come, &pos) else {
             return Err(Fail::new("it hasn't come"));
         };
-        tables.event_goes(&triggers, &lanes, pos, event, &mut Work::new())?;
+        tables.event_goes(
+            &triggers,
+            &lanes,
+            pos,
+            event,
+            &mut Acted::unasked(),
+            &mut Work::new(),
+        )?;
         take(&mut come, &pos);
         Ok(Trial {
             triggers,

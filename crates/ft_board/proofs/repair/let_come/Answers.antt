@@ -1,8 +1,9 @@
-use Rattle.std.proofs.Common.{◌≡◌, sym, ap, subst, ◌∙◌, Option, Some, None, unwrap_or}
+use Rattle.std.proofs.Common.{◌≡◌, sym, ap, subst, ◌∙◌, Option, Some, None, unwrap_or, OnOk}
 use Rattle.std.specs.Option.{IfSome}
 use Rattle.ft_fields.specs.Traced.{Traced}
 use Rattle.ft_fields.specs.declared.pos.Pos.{Pos}
 use Rattle.ft_lanes.specs.Held.{Lanes, event_at}
+use Rattle.ft_kept.specs.Acted.{Gathers, acting_of}
 use Rattle.ft_kept.specs.Repairs as repairs
 use Rattle.ft_kept.specs.Repairs.{EventCanCome, EventHasCome}
 use Rattle.ft_kept.specs.Memory as memory
@@ -10,10 +11,11 @@ use Rattle.ft_kept.specs.Shelves.{Shelves, FormsStay, NotesStay}
 use Rattle.ft_base.specs.Base.{Base, Triggers}
 use Rattle.ft_board.specs.KeptShelves.{AreKeptOf}
 use Rattle.ft_board.specs.inner.ButOneEvent.{AreKeptWithout}
+use Rattle.ft_board.specs.inner.Reported.{GathersAt}
 use Rattle.ft_answers.specs.Deferral.{IsNoHit, IsPlainHit}
 use Rattle.ft_board.proofs.FewSteps.{come_cost}
 use Rattle.ft_board.proofs.KeptBoardForms.{all_shelved, plain_shelf}
-use Rattle.ft_board.proofs.KeptBoardRepair.{come_can, come_kept}
+use Rattle.ft_board.proofs.KeptBoardRepair.{gathers_ok, come_can, come_kept}
 use Rattle.ft_board.proofs.Repaired.{repaired_if, repaired_both, repaired_there, both_ok}
 use Rattle.ft_board.proofs.repair.let_come.Goals as goal
 
@@ -90,3 +92,14 @@ returns-clause-quiet c plain =
     let acts : memory.IsPlainHit base.triggers c.in-Some.tables event = λ id hist attached key is. plain_shelf base.triggers c.in-Some.tables kept.kept.each id hist attached (hits id hist attached key is) in
     repaired_both NotesStay c.in-Some.tables c.event_comes-repaired.new.self c.event_comes-repaired.result c.args.kept.now c.put_back.new.kept c.in-Some.ensures.value c.put_back.ensures
     (c.event_comes-repaired.ensures.quiet (subst (λ (triggers : Triggers). memory.IsPlainHit triggers c.in-Some.tables event) (sym c.triggers-triggers.ensures) acts))
+
+pub returns-clause-acted : goal.returns-clause-acted
+returns-clause-acted c =
+    let base : Base = c.args.content.now in
+    let event : Traced = c.in-Some-get.event.now in
+    let there : event_at base.lanes c.args.place.cpu c.args.place.line ≡ Some event = ap (λ (lanes : Lanes). event_at lanes c.args.place.cpu c.args.place.line) (sym c.lanes-lanes.ensures.lanes) ∙ sym c.in-Some-get.ensures in
+    let after : Shelves = c.event_comes-repaired.new.self in
+    subst (λ (o : Option Shelves). IfSome o (λ _. GathersAt base c.args.place c.args.acted.now c.event_comes-repaired.new.acted)) (sym c.put_back.ensures)
+    (repaired_if (λ _. GathersAt base c.args.place c.args.acted.now c.event_comes-repaired.new.acted) after c.event_comes-repaired.result
+    (gathers_ok c.event_comes-repaired.result base c.args.place event there c.args.acted.now c.event_comes-repaired.new.acted
+    (subst (λ (triggers : Triggers). OnOk c.event_comes-repaired.result (Gathers (acting_of triggers event) c.args.acted.now c.event_comes-repaired.new.acted)) c.triggers-triggers.ensures c.event_comes-repaired.ensures.acted)))

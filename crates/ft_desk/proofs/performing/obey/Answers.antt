@@ -7,11 +7,11 @@ returns-in-Load g c = rw c.in-Load.is (c.edited.ensures c.args.desk.now c.load_f
 
 pub returns-in-Insert : goal.returns-in-Insert
 unfolding outcome
-returns-in-Insert g c = rw c.in-Insert.is (c.edited-in-Insert.ensures c.args.desk.now c.insert.new.self _ c.insert.ensures.gives)
+returns-in-Insert g c = rw c.in-Insert.is (c.edited-in-Insert.ensures c.args.desk.now c.insert.new.self _ (c.placed.ensures c.args.desk.now c.insert.new.self _ c.insert.ensures.gives))
 
 pub returns-in-Strike : goal.returns-in-Strike
 unfolding outcome
-returns-in-Strike g c = rw c.in-Strike.is (c.edited-in-Strike.ensures c.args.desk.now c.strike.new.self _ c.strike.ensures.gives)
+returns-in-Strike g c = rw c.in-Strike.is (c.edited-in-Strike.ensures c.args.desk.now c.strike.new.self _ (c.placed-in-Strike.ensures c.args.desk.now c.strike.new.self _ c.strike.ensures.gives))
 
 pub returns-in-Attach : goal.returns-in-Attach
 unfolding outcome

@@ -1,18 +1,24 @@
-use Rattle.std.proofs.Common.{sym, ap, subst, ◌∙◌}
+use Rattle.std.proofs.Common.{[], Some, sym, ap, subst, ◌∙◌}
+use Rattle.std.specs.Option.{IfSome}
 use Rattle.std.specs.Ordering.{nat_cmp}
 use Rattle.ft_hist.specs.Steps.{Steps}
 use Rattle.ft_maps.specs.Seen.{seen}
+use Rattle.ft_kept.specs.Acted.{Gathered}
 use Rattle.ft_base.specs.Base.{Base}
 use Rattle.ft_answers.specs.Costs.{CostsOf}
 use Rattle.ft_answers.specs.Counting.{MakesNothing}
 use Rattle.ft_answers.specs.Deferral.{IsNoHit}
+use Rattle.ft_answers.specs.Reporting.{IsReport}
 use Rattle.ft_replay.specs.Merged.{merged}
 use Rattle.ft_answers.specs.Shown.{Shown}
+use Rattle.ft_board.specs.inner.Reported.{GathersAt}
 use Rattle.ft_board.proofs.CountingNone.{inserted_triggers}
 use Rattle.ft_board.proofs.FewSteps.{inserted_costs}
 use Rattle.ft_board.proofs.KeptBoardRepair.{inserted_if, inserted_missed}
+use Rattle.ft_board.proofs.KeptBoardTold.{none_is}
 use Rattle.ft_board.proofs.MendedEdits.{inserted_mend, missed_plain}
 use Rattle.ft_board.proofs.Repaired.{still_there}
+use Rattle.ft_board.proofs.Reports.{AreRepaired, if_there_is, inserted_reported}
 use Rattle.ft_board.proofs.StillMade.{AreNoted, among_same, alike_if, mended_if, noted_by, quiet_if}
 use Rattle.ft_board.proofs.kept.KeptBoardBoard.insert.Goals as goal
 
@@ -58,3 +64,25 @@ returns-clause-now c missed up =
     let quiet = quiet_if new.triggers c.take_notes.new.kept c.let_come.new.kept notes.nothing c.let_come.ensures.forms (c.let_come.ensures.quiet (missed_plain new c.in_ok-place.place here)) c.let_come.ensures.deferred in
     still_there c.self.inside.kept c.mend-kept.new.kept (λ gone. c.take_notes.ensures.now (c.let_come.ensures.now here (c.mend-kept.ensures.quiet quiet gone)))
     (ap (λ (s : Shown). s.deferred) c.self.view_is ∙ up)
+
+pub returns-clause-reports : goal.returns-clause-reports
+returns-clause-reports c =
+    let base : Base = c.self.inside.content in
+    let new : Base = c.insert.new.self in
+    let repaired : AreRepaired base new c.take_notes.new.kept c.let_come.new.kept c.mend-kept.new.kept = record {
+      noted_kept = alike_if base.triggers (merged base.lanes) c.self.inside.kept c.take_notes.new.kept c.take_notes.ensures.alike c.take_notes.ensures.deferred c.self.invariant.0;
+      later_kept = c.let_come.ensures.kept;
+      forms = c.let_come.ensures.forms;
+      gone = c.let_come.ensures.deferred;
+      alike = c.mend-kept.ensures.alike;
+      given_up = c.mend-kept.ensures.deferred;
+    } in
+    let gathered : IfSome c.let_come.new.kept (λ _. GathersAt new c.in_ok-place.place (Some []) c.let_come.new.acted) =
+    subst (λ (acted : Gathered). IfSome c.let_come.new.kept (λ _. GathersAt new c.in_ok-place.place acted c.let_come.new.acted)) c.new-acted.ensures c.let_come.ensures.acted in (
+      subst (λ (s : Shown). IfSome c.report-report.result (λ rows. IsReport s.base new rows.items)) c.self.view_is
+          (if_there_is c.report-report.result
+          (λ rows by. inserted_reported c.reported_edits.ensures base c.args.event c.in_ok-place.ensures.reachable new c.in_ok-place.place c.in_ok-place.ensures.gives
+          c.take_notes.new.kept c.let_come.new.kept c.mend-kept.new.kept repaired c.let_come.new.acted gathered rows.items by)
+          c.report-report.ensures.rows),
+      λ up. c.report-report.ensures.none (none_is c.mend-kept.new.kept up),
+    )

@@ -1,22 +1,28 @@
-use Rattle.std.proofs.Common.{◌≡◌, Some, sym, ap, subst, ◌∙◌}
+use Rattle.std.proofs.Common.{◌≡◌, [], Some, sym, ap, subst, ◌∙◌}
+use Rattle.std.specs.Option.{IfSome}
 use Rattle.std.specs.Ordering.{nat_cmp}
 use Rattle.ft_hist.specs.Steps.{Steps}
 use Rattle.ft_maps.specs.Seen.{seen}
 use Rattle.ft_lanes.specs.Edits.{lanes_without}
 use Rattle.ft_lanes.specs.Held.{event_at}
+use Rattle.ft_kept.specs.Acted.{Gathered}
 use Rattle.ft_base.specs.declared.refused.Place.{Place}
 use Rattle.ft_base.specs.Base.{Base}
 use Rattle.ft_answers.specs.Costs.{CostsOf}
 use Rattle.ft_answers.specs.Counting.{MakesNothing}
 use Rattle.ft_answers.specs.Deferral.{IsPlainHit}
+use Rattle.ft_answers.specs.Reporting.{IsReport}
 use Rattle.ft_replay.specs.Merged.{merged}
 use Rattle.ft_answers.specs.Shown.{Shown}
 use Rattle.ft_base.proofs.Cases.{strike-place}
 use Rattle.ft_board.specs.inner.ButOneEvent.{IsPlain}
+use Rattle.ft_board.specs.inner.Reported.{GathersAt, base_with}
 use Rattle.ft_board.proofs.FewSteps.{struck_costs}
 use Rattle.ft_board.proofs.KeptBoardRepair.{struck_if}
+use Rattle.ft_board.proofs.KeptBoardTold.{none_is}
 use Rattle.ft_board.proofs.MendedEdits.{struck_among}
 use Rattle.ft_board.proofs.Repaired.{still_there}
+use Rattle.ft_board.proofs.Reports.{AreRepaired, if_there_is, struck_reported}
 use Rattle.ft_board.proofs.StillMade.{AreNoted, AreRightIf, among_same, alike_if, mend_if, mended_if, noted_by, quiet_if}
 use Rattle.ft_board.proofs.kept.KeptBoardBoard.strike.Goals as goal
 
@@ -69,3 +75,26 @@ returns-clause-now c event there plain up =
     let quiet = quiet_if base.triggers c.take_notes.new.kept c.let_go.new.kept notes.nothing c.let_go.ensures.forms (c.let_go.ensures.quiet here) c.let_go.ensures.deferred in
     still_there c.self.inside.kept c.mend-kept.new.kept (λ gone. c.take_notes.ensures.now (c.let_go.ensures.now here (c.mend-kept.ensures.quiet quiet gone)))
     (ap (λ (s : Shown). s.deferred) c.self.view_is ∙ up)
+
+pub returns-clause-reports : goal.returns-clause-reports
+returns-clause-reports c =
+    let base : Base = c.self.inside.content in
+    let place : Place = c.in_ok-place.place in
+    let struck : Base = base_with base (lanes_without base.lanes place.cpu place.line) in
+    let repaired : AreRepaired base struck c.take_notes.new.kept c.let_go.new.kept c.mend-kept.new.kept = record {
+      noted_kept = alike_if base.triggers (merged base.lanes) c.self.inside.kept c.take_notes.new.kept c.take_notes.ensures.alike c.take_notes.ensures.deferred c.self.invariant.0;
+      later_kept = struck_if base place c.in_ok-place.ensures.held c.let_go.new.kept c.let_go.ensures.kept;
+      forms = c.let_go.ensures.forms;
+      gone = c.let_go.ensures.deferred;
+      alike = c.mend-kept.ensures.alike;
+      given_up = c.mend-kept.ensures.deferred;
+    } in
+    let gathered : IfSome c.let_go.new.kept (λ _. GathersAt base place (Some []) c.let_go.new.acted) =
+    subst (λ (acted : Gathered). IfSome c.let_go.new.kept (λ _. GathersAt base place acted c.let_go.new.acted)) c.new-acted.ensures c.let_go.ensures.acted in (
+      subst (λ (p : Shown × Base). IfSome c.report-report.result (λ rows. IsReport p.0.base p.1 rows.items)) (λ i. (c.self.view_is i, sym c.strike.ensures i))
+          (if_there_is c.report-report.result
+          (λ rows by. struck_reported c.reported_edits.ensures base place c.in_ok-place.ensures.held
+          c.take_notes.new.kept c.let_go.new.kept c.mend-kept.new.kept repaired c.let_go.new.acted gathered rows.items by)
+          c.report-report.ensures.rows),
+      λ up. c.report-report.ensures.none (none_is c.mend-kept.new.kept up),
+    )

@@ -10,9 +10,11 @@ use Rattle.std.specs.Map.Iter.{deref_pair}
 use Rattle.std.proofs.lemmas.Map.Iter.{rest_more, rest_all}
 use Rattle.std.proofs.lemmas.Map.Keys.{sorted_head, sorted_tail}
 use Rattle.ft_hist.specs.Hist.{Hist}
+use Rattle.ft_hist.specs.Hit.{hit}
 use Rattle.ft_maps.specs.Entries.{strictly_sorted}
 use Rattle.ft_maps.specs.Seen.{seen}
 use Rattle.ft_kept.specs.inner.OneAct.{IsDoneToo, between}
+use Rattle.ft_kept.specs.Acted.{act_as, acting_of}
 use Rattle.ft_kept.specs.Acts.{acts_of}
 use Rattle.ft_kept.specs.Bounds.{SomeSaverMoves, with_hit_of}
 use Rattle.ft_kept.specs.Entries.{IsKept}
@@ -23,6 +25,7 @@ use Rattle.ft_kept.proofs.Attached.{each_found}
 use Rattle.ft_kept.proofs.Between.{kept_alike, kept_in_role, all_but, done_too, asked_of, asked_more, coming_begins, coming_ends, coming_held, coming_step}
 use Rattle.ft_kept.proofs.FewPuts.{Few, few_first, few_more, few_all, left_refl, left_step, some_moves, steps_refl, steps_trans}
 use Rattle.ft_kept.proofs.Forms.{forms_refl, forms_trans, roles_stay, shelved_stay}
+use Rattle.ft_kept.proofs.Gathered.{AreLeft, acts_among, all_left, fewer_left, none_left}
 use Rattle.ft_kept.proofs.Quiet.{quiet_refl, quiet_trans}
 use Rattle.ft_kept.proofs.tables.Tables.event_comes.Goals as goal
 
@@ -38,6 +41,7 @@ loop-id-init c =
       right = λ events absent held kept. kept_alike (role_on c.args.self.now) (values_by triggers) (admits_on c.args.self.now) (acts_of triggers events) _ (kept_on c.args.self.now) (λ q. false)
           (subst (λ (es : List (ℕ × Hist)). (q : _) → between (acts_of triggers events) (acts_of triggers (map.insert events c.args.pos c.args.event.now)) c.args.pos (all_but es) q ≡ acts_of triggers events q)
           (sym all) (coming_begins triggers events c.args.pos c.args.event.now)) kept;
+      acted = all_left triggers c.args.event.now c.into_iter-id-iterator.result c.args.acted.now all;
       evals = ap (λ (es : List (ℕ × Hist)). c.args.work.now.evals + asked_of c.args.event.now es) all;
       savers = left_refl (all_but c.into_iter-id-iterator.result) c.args.self.now;
       puts = few_first c.args.work.now.puts _ _ (ap (asked_of c.args.event.now) all);
@@ -45,8 +49,8 @@ loop-id-init c =
       grow = steps_refl c.args.work.now;
     }
 
-pub comes_to-requires-clause-can : goal.comes_to-requires-clause-can
-comes_to-requires-clause-can c =
+pub comes_at-requires-clause-can : goal.comes_at-requires-clause-can
+comes_at-requires-clause-can c =
     let triggers : FinMap nat_cmp Hist = seen nat_cmp c.args.triggers.now in
     let events = c.requires.can.events in
     let e : ℕ × Hist = (c.in-Some.id.now, c.in-Some.trigger.now) in
@@ -78,27 +82,30 @@ loop-id-preserved c =
     record {
       sorted = sorted_tail nat_cmp e.0 (keys_of c.next.new.self) sorted;
       attached = attached.1;
-      shelved = shelved_stay triggers c.loop-id.self c.comes_to.new.self c.in_ok-comes_to.ensures.forms c.loop-id.invariant.shelved;
-      forms = forms_trans c.args.self.now c.loop-id.self c.comes_to.new.self c.loop-id.invariant.forms c.in_ok-comes_to.ensures.forms;
+      shelved = shelved_stay triggers c.loop-id.self c.comes_at.new.tables c.in_ok-comes_at.ensures.forms c.loop-id.invariant.shelved;
+      forms = forms_trans c.args.self.now c.loop-id.self c.comes_at.new.tables c.loop-id.invariant.forms c.in_ok-comes_at.ensures.forms;
       right = λ events absent held kept.
-          kept_in_role (role_on c.loop-id.self) (role_on c.args.self.now) (values_by triggers) (admits_on c.comes_to.new.self) _ (kept_on c.comes_to.new.self) (λ q. false) (λ id. sym (same id))
-          (c.in_ok-comes_to.ensures.right
+          kept_in_role (role_on c.loop-id.self) (role_on c.args.self.now) (values_by triggers) (admits_on c.comes_at.new.tables) _ (kept_on c.comes_at.new.tables) (λ q. false) (λ id. sym (same id))
+          (c.in_ok-comes_at.ensures.right
           (between (acts_of triggers events) (acts_of triggers (map.insert events c.args.pos c.args.event.now)) c.args.pos (all_but c.loop-id.id-iterator))
           (between (acts_of triggers events) (acts_of triggers (map.insert events c.args.pos c.args.event.now)) c.args.pos (all_but c.next.new.self))
           (coming_step triggers events c.args.pos c.args.event.now absent e.0 e.1 attached.0 (all_but c.loop-id.id-iterator) (all_but c.next.new.self) too)
           (coming_held triggers events c.args.pos c.args.event.now c.args.lanes.now absent held (all_but c.next.new.self))
           (kept_in_role (role_on c.args.self.now) (role_on c.loop-id.self) (values_by triggers) (admits_on c.loop-id.self) _ (kept_on c.loop-id.self) (λ q. false) same
           (c.loop-id.invariant.right events absent held kept)));
+      acted = fewer_left (acting_of triggers c.args.event.now) (act_as e.0 (hit e.1 c.args.event.now)) (acts_among c.args.event.now c.next.new.self) c.args.acted.now c.loop-id.acted c.comes_at.new.acted
+          c.in_ok-comes_at.ensures.acted
+          (subst (λ (es : List (ℕ × Hist)). AreLeft (acting_of triggers c.args.event.now) (acts_among c.args.event.now es) c.args.acted.now c.loop-id.acted) more c.loop-id.invariant.acted);
       evals =
-          ap (λ n. n + asked_of c.args.event.now c.next.new.self) c.in_ok-comes_to.ensures.evals
+          ap (λ n. n + asked_of c.args.event.now c.next.new.self) c.in_ok-comes_at.ensures.evals
           ∙ omega (arith, asked_more c.args.event.now e c.next.new.self, ap (asked_of c.args.event.now) more, c.loop-id.invariant.evals);
-      savers = left_step e.0 (all_but c.loop-id.id-iterator) (all_but c.next.new.self) too c.args.self.now c.loop-id.self c.comes_to.new.self c.loop-id.invariant.forms c.in_ok-comes_to.ensures.savers c.loop-id.invariant.savers;
-      puts = few_more c.loop-id.work.puts c.comes_to.new.work.puts (asked e.1 c.args.event.now) (asked_of c.args.event.now c.next.new.self) (c.args.work.now.puts + 3 * count_on triggers c.args.event.now)
+      savers = left_step e.0 (all_but c.loop-id.id-iterator) (all_but c.next.new.self) too c.args.self.now c.loop-id.self c.comes_at.new.tables c.loop-id.invariant.forms c.in_ok-comes_at.ensures.savers c.loop-id.invariant.savers;
+      puts = few_more c.loop-id.work.puts c.comes_at.new.work.puts (asked e.1 c.args.event.now) (asked_of c.args.event.now c.next.new.self) (c.args.work.now.puts + 3 * count_on triggers c.args.event.now)
           (subst (λ n. Few (SomeSaverMoves (with_hit_of c.args.pos c.args.event.now) triggers c.args.self.now) c.loop-id.work.puts n (c.args.work.now.puts + 3 * count_on triggers c.args.event.now))
           (ap (asked_of c.args.event.now) more ∙ asked_more c.args.event.now e c.next.new.self) c.loop-id.invariant.puts)
-          (some_moves (with_hit_of c.args.pos c.args.event.now) triggers c.args.self.now c.loop-id.self c.loop-id.invariant.forms e.0 e.1 attached.0 (c.loop-id.invariant.savers e.0 too.was) c.in_ok-comes_to.ensures.puts);
-      quiet = λ plain. quiet_trans c.args.self.now c.loop-id.self c.comes_to.new.self (c.loop-id.invariant.quiet plain) (c.in_ok-comes_to.ensures.quiet (λ key counted. same e.0 ∙ plain e.0 e.1 attached.0 key counted));
-      grow = steps_trans c.args.work.now c.loop-id.work c.comes_to.new.work c.loop-id.invariant.grow c.in_ok-comes_to.ensures.grow;
+          (some_moves (with_hit_of c.args.pos c.args.event.now) triggers c.args.self.now c.loop-id.self c.loop-id.invariant.forms e.0 e.1 attached.0 (c.loop-id.invariant.savers e.0 too.was) c.in_ok-comes_at.ensures.puts);
+      quiet = λ plain. quiet_trans c.args.self.now c.loop-id.self c.comes_at.new.tables (c.loop-id.invariant.quiet plain) (c.in_ok-comes_at.ensures.quiet (λ key counted. same e.0 ∙ plain e.0 e.1 attached.0 key counted));
+      grow = steps_trans c.args.work.now c.loop-id.work c.comes_at.new.work c.loop-id.invariant.grow c.in_ok-comes_at.ensures.grow;
     }
 
 pub returns-clause-right : goal.returns-clause-right
@@ -111,8 +118,15 @@ returns-clause-right c = λ events absent held kept.
     (rest_all (deref_pair {K = ℕ} {X = Hist}) _ _ _ c.in-None.is c.next.ensures.steps)
     (c.loop-id.invariant.right events absent held kept))
 
-pub returns-in_err-comes_to-clause-puts : goal.returns-in_err-comes_to-clause-puts
-returns-in_err-comes_to-clause-puts c =
+pub returns-clause-acted : goal.returns-clause-acted
+returns-clause-acted c =
+    let all = acting_of (seen nat_cmp c.args.triggers.now) c.args.event.now in
+    none_left all c.args.acted.now c.loop-id.acted
+    (subst (λ (es : List (ℕ × Hist)). AreLeft all (acts_among c.args.event.now es) c.args.acted.now c.loop-id.acted)
+    (rest_all (deref_pair {K = ℕ} {X = Hist}) _ _ _ c.in-None.is c.next.ensures.steps) c.loop-id.invariant.acted)
+
+pub returns-in_err-comes_at-clause-puts : goal.returns-in_err-comes_at-clause-puts
+returns-in_err-comes_at-clause-puts c =
     let triggers : FinMap nat_cmp Hist = seen nat_cmp c.args.triggers.now in
     let e : ℕ × Hist = (c.in-Some.id.now, c.in-Some.trigger.now) in
     let more : c.loop-id.id-iterator ≡ e ∷ c.next.new.self = rest_more (deref_pair {K = ℕ} {X = Hist}) _ _ _ _ c.in-Some.is c.next.ensures.steps in
@@ -120,11 +134,11 @@ returns-in_err-comes_to-clause-puts c =
     let attached : AllByRecursion (λ (e : ℕ × Hist). map.get triggers e.0 ≡ Some e.1) (e ∷ c.next.new.self) = subst (AllByRecursion (λ (e : ℕ × Hist). map.get triggers e.0 ≡ Some e.1)) more c.loop-id.invariant.attached in
     let too : IsDoneToo e.0 (all_but c.loop-id.id-iterator) (all_but c.next.new.self) =
     subst (λ (es : List (ℕ × Hist)). IsDoneToo e.0 (all_but es) (all_but c.next.new.self)) (sym more) (done_too e c.next.new.self (sorted_head nat_cmp e.0 (keys_of c.next.new.self) sorted)) in
-    few_all c.comes_to.new.work.puts (asked_of c.args.event.now c.next.new.self) (c.args.work.now.puts + 3 * count_on triggers c.args.event.now)
-    (few_more c.loop-id.work.puts c.comes_to.new.work.puts (asked e.1 c.args.event.now) (asked_of c.args.event.now c.next.new.self) (c.args.work.now.puts + 3 * count_on triggers c.args.event.now)
+    few_all c.comes_at.new.work.puts (asked_of c.args.event.now c.next.new.self) (c.args.work.now.puts + 3 * count_on triggers c.args.event.now)
+    (few_more c.loop-id.work.puts c.comes_at.new.work.puts (asked e.1 c.args.event.now) (asked_of c.args.event.now c.next.new.self) (c.args.work.now.puts + 3 * count_on triggers c.args.event.now)
     (subst (λ n. Few (SomeSaverMoves (with_hit_of c.args.pos c.args.event.now) triggers c.args.self.now) c.loop-id.work.puts n (c.args.work.now.puts + 3 * count_on triggers c.args.event.now))
     (ap (asked_of c.args.event.now) more ∙ asked_more c.args.event.now e c.next.new.self) c.loop-id.invariant.puts)
-    (some_moves (with_hit_of c.args.pos c.args.event.now) triggers c.args.self.now c.loop-id.self c.loop-id.invariant.forms e.0 e.1 attached.0 (c.loop-id.invariant.savers e.0 too.was) c.comes_to.ensures.puts))
+    (some_moves (with_hit_of c.args.pos c.args.event.now) triggers c.args.self.now c.loop-id.self c.loop-id.invariant.forms e.0 e.1 attached.0 (c.loop-id.invariant.savers e.0 too.was) c.comes_at.ensures.puts))
 
 pub returns-clause-puts : goal.returns-clause-puts
 returns-clause-puts c = few_all c.loop-id.work.puts (asked_of c.args.event.now c.loop-id.id-iterator) _ c.loop-id.invariant.puts

@@ -8,6 +8,7 @@ use Rattle.std.specs.FinMap.{FinMap}
 use Rattle.ft_fields.specs.Places.{pos_cmp}
 use Rattle.ft_fields.specs.Traced.{Traced}
 use Rattle.ft_maps.specs.Seen.{seen}
+use Rattle.ft_kept.specs.Acted.{acting_of}
 use Rattle.ft_kept.specs.Acts.{AreHeld, acts_of}
 use Rattle.ft_kept.specs.inner.OneAct.{between}
 use Rattle.ft_kept.specs.Bounds.{SomeSaverMoves, with_hit_of}
@@ -20,6 +21,7 @@ use Rattle.ft_kept.specs.Shelves.{FormsStay, NotesStay, role_on, admits_on, kept
 use Rattle.ft_table.specs.Values.{values_by}
 use Rattle.ft_kept.proofs.Between.{all_but, asked_of}
 use Rattle.ft_kept.proofs.FewPuts.{Few, LeftStay}
+use Rattle.ft_kept.proofs.Gathered.{AreLeft, acts_among}
 use Rattle.ft_kept.proofs.tables.Tables.event_comes.Given as goal
 
 -- at the event's place the triggers that are done act as with the event, those that are left as without it
@@ -35,6 +37,7 @@ invariant-loop-id l = record {
       → IsKept (role_on l.fn.self) (values_by (seen nat_cmp l.triggers)) (admits_on l.self)
       (between (acts_of (seen nat_cmp l.triggers) events) (acts_of (seen nat_cmp l.triggers) (map.insert events l.pos l.event)) l.pos (all_but l.id-iterator))
       (kept_on l.self);
+  acted : AreLeft (acting_of (seen nat_cmp l.triggers) l.event) (acts_among l.event l.id-iterator) l.fn.acted l.acted;
   evals : l.work.evals + asked_of l.event l.id-iterator ≡ l.fn.work.evals + count_on (seen nat_cmp l.triggers) l.event;
   savers : LeftStay (all_but l.id-iterator) l.fn.self l.self;
   puts : Few (SomeSaverMoves (with_hit_of l.pos l.event) (seen nat_cmp l.triggers) l.fn.self) l.work.puts (asked_of l.event l.id-iterator) (l.fn.work.puts + 3 * count_on (seen nat_cmp l.triggers) l.event);

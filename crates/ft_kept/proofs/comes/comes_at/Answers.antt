@@ -18,7 +18,7 @@ use Rattle.ft_kept.specs.Shelves.{Shelves}
 use Rattle.ft_kept.proofs.Between.{none_came}
 use Rattle.ft_kept.proofs.FewPuts.{act_few}
 use Rattle.ft_kept.proofs.Forms.{forms_refl}
-use Rattle.ft_kept.proofs.tables.Tables.comes_to.Goals as goal
+use Rattle.ft_kept.proofs.comes.comes_at.Goals as goal
 
 -- an act, as a hit of the event and under its key
 abbrev act : Traced → Option (List Part) → Option (List Part × Traced)
@@ -33,32 +33,32 @@ of_hit : (triggers : FinMap nat_cmp Hist) (lanes : Lanes) (at : At) (event : Tra
 of_hit triggers lanes at event found key old new one has = subst (λ o. HasCome triggers lanes at (act event o) old new) (sym one) has
 
 pub returns-in_default-clause-forms : goal.returns-in_default-clause-forms
-returns-in_default-clause-forms c = forms_refl c.args.self.now
+returns-in_default-clause-forms c = forms_refl c.args.tables.now
 
 pub returns-in_default-clause-right : goal.returns-in_default-clause-right
 returns-in_default-clause-right c =
     let none : hit c.args.trigger.now c.args.event.now ≡ None = sym c.key_at.ensures.key ∙ c.in_default.is in
-    none_came (seen nat_cmp c.args.triggers.now) c.args.lanes.now c.args.at _ c.args.self.now (ap (act c.args.event.now) none)
+    none_came (seen nat_cmp c.args.scene.now.triggers.now) c.args.scene.now.lanes.now c.args.at _ c.args.tables.now (ap (act c.args.event.now) none)
 
 pub hit_comes-requires-clause-comes : goal.hit_comes-requires-clause-comes
 hit_comes-requires-clause-comes c = record {
   shelved = c.requires.shelved;
   attached = c.requires.attached;
-  can = under_key (seen nat_cmp c.args.triggers.now) c.args.lanes.now c.args.at c.args.event.now (hit c.args.trigger.now c.args.event.now) c.in-Some.key c.args.self.now (sym c.key_at.ensures.key ∙ c.in-Some.is) c.requires.can;
+  can = under_key (seen nat_cmp c.args.scene.now.triggers.now) c.args.scene.now.lanes.now c.args.at c.args.event.now (hit c.args.trigger.now c.args.event.now) c.in-Some.key c.args.tables.now (sym c.key_at.ensures.key ∙ c.in-Some.is) c.requires.can;
 }
 
 pub saving_comes-requires-clause-comes : goal.saving_comes-requires-clause-comes
 saving_comes-requires-clause-comes c = record {
   shelved = c.requires.shelved;
   attached = c.requires.attached;
-  can = under_key (seen nat_cmp c.args.triggers.now) c.args.lanes.now c.args.at c.args.event.now (hit c.args.trigger.now c.args.event.now) c.in-Some.key c.args.self.now (sym c.key_at.ensures.key ∙ c.in-Some.is) c.requires.can;
+  can = under_key (seen nat_cmp c.args.scene.now.triggers.now) c.args.scene.now.lanes.now c.args.at c.args.event.now (hit c.args.trigger.now c.args.event.now) c.in-Some.key c.args.tables.now (sym c.key_at.ensures.key ∙ c.in-Some.is) c.requires.can;
 }
 
 pub reading_comes-requires-clause-comes : goal.reading_comes-requires-clause-comes
 reading_comes-requires-clause-comes c = record {
   shelved = c.requires.shelved;
   attached = c.requires.attached;
-  can = under_key (seen nat_cmp c.args.triggers.now) c.args.lanes.now c.args.at c.args.event.now (hit c.args.trigger.now c.args.event.now) c.in-Some.key c.args.self.now (sym c.key_at.ensures.key ∙ c.in-Some.is) c.requires.can;
+  can = under_key (seen nat_cmp c.args.scene.now.triggers.now) c.args.scene.now.lanes.now c.args.at c.args.event.now (hit c.args.trigger.now c.args.event.now) c.in-Some.key c.args.tables.now (sym c.key_at.ensures.key ∙ c.in-Some.is) c.requires.can;
 }
 
 pub returns-in-Plain-clause-forms : goal.returns-in-Plain-clause-forms
@@ -69,7 +69,7 @@ returns-in-Plain-clause-savers c = on_ok_weaker c.hit_comes.result (λ h. h.save
 
 pub returns-in-Plain-clause-right : goal.returns-in-Plain-clause-right
 returns-in-Plain-clause-right c = on_ok_weaker c.hit_comes.result (λ h.
-    of_hit (seen nat_cmp c.args.triggers.now) c.args.lanes.now c.args.at c.args.event.now (hit c.args.trigger.now c.args.event.now) c.in-Some.key c.args.self.now c.hit_comes.new.tables (sym c.key_at.ensures.key ∙ c.in-Some.is) h.right) c.hit_comes.ensures.came
+    of_hit (seen nat_cmp c.args.scene.now.triggers.now) c.args.scene.now.lanes.now c.args.at c.args.event.now (hit c.args.trigger.now c.args.event.now) c.in-Some.key c.args.tables.now c.hit_comes.new.tables (sym c.key_at.ensures.key ∙ c.in-Some.is) h.right) c.hit_comes.ensures.came
 
 pub returns-in-Saves-clause-forms : goal.returns-in-Saves-clause-forms
 returns-in-Saves-clause-forms c = on_ok_weaker c.saving_comes.result (λ h. h.forms) c.saving_comes.ensures.came
@@ -79,7 +79,7 @@ returns-in-Saves-clause-savers c = on_ok_weaker c.saving_comes.result (λ h. h.s
 
 pub returns-in-Saves-clause-right : goal.returns-in-Saves-clause-right
 returns-in-Saves-clause-right c = on_ok_weaker c.saving_comes.result (λ h.
-    of_hit (seen nat_cmp c.args.triggers.now) c.args.lanes.now c.args.at c.args.event.now (hit c.args.trigger.now c.args.event.now) c.in-Some.key c.args.self.now c.saving_comes.new.tables (sym c.key_at.ensures.key ∙ c.in-Some.is) h.right) c.saving_comes.ensures.came
+    of_hit (seen nat_cmp c.args.scene.now.triggers.now) c.args.scene.now.lanes.now c.args.at c.args.event.now (hit c.args.trigger.now c.args.event.now) c.in-Some.key c.args.tables.now c.saving_comes.new.tables (sym c.key_at.ensures.key ∙ c.in-Some.is) h.right) c.saving_comes.ensures.came
 
 pub returns-in-Reads-clause-forms : goal.returns-in-Reads-clause-forms
 returns-in-Reads-clause-forms c = on_ok_weaker c.reading_comes.result (λ h. h.forms) c.reading_comes.ensures.came
@@ -89,11 +89,11 @@ returns-in-Reads-clause-savers c = on_ok_weaker c.reading_comes.result (λ h. h.
 
 pub returns-in-Reads-clause-right : goal.returns-in-Reads-clause-right
 returns-in-Reads-clause-right c = on_ok_weaker c.reading_comes.result (λ h.
-    of_hit (seen nat_cmp c.args.triggers.now) c.args.lanes.now c.args.at c.args.event.now (hit c.args.trigger.now c.args.event.now) c.in-Some.key c.args.self.now c.reading_comes.new.tables (sym c.key_at.ensures.key ∙ c.in-Some.is) h.right) c.reading_comes.ensures.came
+    of_hit (seen nat_cmp c.args.scene.now.triggers.now) c.args.scene.now.lanes.now c.args.at c.args.event.now (hit c.args.trigger.now c.args.event.now) c.in-Some.key c.args.tables.now c.reading_comes.new.tables (sym c.key_at.ensures.key ∙ c.in-Some.is) h.right) c.reading_comes.ensures.came
 
 pub returns-in-Saves-clause-puts : goal.returns-in-Saves-clause-puts
 returns-in-Saves-clause-puts c =
     let one : hit c.args.trigger.now c.args.event.now ≡ Some c.in-Some.key = sym c.key_at.ensures.key ∙ c.in-Some.is in
     act_few (λ key table. with_hit table (record { spot = traced c.args.at.pos; key = key }) (values_at c.args.trigger.now c.args.at.pos c.args.event.now None))
-    c.args.trigger.now c.args.event.now c.in-Some.key one c.args.self.now c.args.at.trigger (sym c.role.ensures ∙ c.in-Saves.is)
+    c.args.trigger.now c.args.event.now c.in-Some.key one c.args.tables.now c.args.at.trigger (sym c.role.ensures ∙ c.in-Saves.is)
     c.args.work.now.puts c.key_at.new.work.puts c.saving_comes.new.work.puts 3 (omega arith) c.key_at.ensures.puts c.saving_comes.ensures.puts

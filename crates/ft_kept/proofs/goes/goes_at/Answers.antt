@@ -17,7 +17,7 @@ use Rattle.ft_kept.specs.Shelves.{Shelves}
 use Rattle.ft_kept.proofs.Between.{none_went}
 use Rattle.ft_kept.proofs.FewPuts.{act_few}
 use Rattle.ft_kept.proofs.Forms.{forms_refl}
-use Rattle.ft_kept.proofs.tables.Tables.goes_from.Goals as goal
+use Rattle.ft_kept.proofs.goes.goes_at.Goals as goal
 
 -- an act, as a hit of the event and under its key
 abbrev act : Traced → Option (List Part) → Option (List Part × Traced)
@@ -32,23 +32,23 @@ of_hit : (triggers : FinMap nat_cmp Hist) (lanes : Lanes) (at : At) (event : Tra
 of_hit triggers lanes at event found key old new one has = subst (λ o. HasGone triggers lanes at (act event o) old new) (sym one) has
 
 pub returns-in_default-clause-forms : goal.returns-in_default-clause-forms
-returns-in_default-clause-forms c = forms_refl c.args.self.now
+returns-in_default-clause-forms c = forms_refl c.args.tables.now
 
 pub returns-in_default-clause-right : goal.returns-in_default-clause-right
 returns-in_default-clause-right c =
     let none : hit c.args.trigger.now c.args.event.now ≡ None = sym c.key_at.ensures.key ∙ c.in_default.is in
-    none_went (seen nat_cmp c.args.triggers.now) c.args.lanes.now c.args.at _ c.args.self.now (ap (act c.args.event.now) none)
+    none_went (seen nat_cmp c.args.scene.now.triggers.now) c.args.scene.now.lanes.now c.args.at _ c.args.tables.now (ap (act c.args.event.now) none)
 
 pub saving_goes-requires-clause-goes : goal.saving_goes-requires-clause-goes
 saving_goes-requires-clause-goes c = record {
   shelved = c.requires.shelved;
-  can = under_key (seen nat_cmp c.args.triggers.now) c.args.lanes.now c.args.at c.args.event.now (hit c.args.trigger.now c.args.event.now) c.in-Some.key c.args.self.now (sym c.key_at.ensures.key ∙ c.in-Some.is) c.requires.can;
+  can = under_key (seen nat_cmp c.args.scene.now.triggers.now) c.args.scene.now.lanes.now c.args.at c.args.event.now (hit c.args.trigger.now c.args.event.now) c.in-Some.key c.args.tables.now (sym c.key_at.ensures.key ∙ c.in-Some.is) c.requires.can;
 }
 
 pub reading_goes-requires-clause-goes : goal.reading_goes-requires-clause-goes
 reading_goes-requires-clause-goes c = record {
   shelved = c.requires.shelved;
-  can = under_key (seen nat_cmp c.args.triggers.now) c.args.lanes.now c.args.at c.args.event.now (hit c.args.trigger.now c.args.event.now) c.in-Some.key c.args.self.now (sym c.key_at.ensures.key ∙ c.in-Some.is) c.requires.can;
+  can = under_key (seen nat_cmp c.args.scene.now.triggers.now) c.args.scene.now.lanes.now c.args.at c.args.event.now (hit c.args.trigger.now c.args.event.now) c.in-Some.key c.args.tables.now (sym c.key_at.ensures.key ∙ c.in-Some.is) c.requires.can;
 }
 
 pub returns-in-Saves-clause-forms : goal.returns-in-Saves-clause-forms
@@ -59,7 +59,7 @@ returns-in-Saves-clause-savers c = on_ok_weaker c.saving_goes.result (λ h. h.sa
 
 pub returns-in-Saves-clause-right : goal.returns-in-Saves-clause-right
 returns-in-Saves-clause-right c = on_ok_weaker c.saving_goes.result (λ h.
-    of_hit (seen nat_cmp c.args.triggers.now) c.args.lanes.now c.args.at c.args.event.now (hit c.args.trigger.now c.args.event.now) c.in-Some.key c.args.self.now c.saving_goes.new.tables (sym c.key_at.ensures.key ∙ c.in-Some.is) h.right) c.saving_goes.ensures.went
+    of_hit (seen nat_cmp c.args.scene.now.triggers.now) c.args.scene.now.lanes.now c.args.at c.args.event.now (hit c.args.trigger.now c.args.event.now) c.in-Some.key c.args.tables.now c.saving_goes.new.tables (sym c.key_at.ensures.key ∙ c.in-Some.is) h.right) c.saving_goes.ensures.went
 
 pub returns-in-Reads-clause-forms : goal.returns-in-Reads-clause-forms
 returns-in-Reads-clause-forms c = on_ok_weaker c.reading_goes.result (λ h. h.forms) c.reading_goes.ensures.went
@@ -69,7 +69,7 @@ returns-in-Reads-clause-savers c = on_ok_weaker c.reading_goes.result (λ h. h.s
 
 pub returns-in-Reads-clause-right : goal.returns-in-Reads-clause-right
 returns-in-Reads-clause-right c = on_ok_weaker c.reading_goes.result (λ h.
-    of_hit (seen nat_cmp c.args.triggers.now) c.args.lanes.now c.args.at c.args.event.now (hit c.args.trigger.now c.args.event.now) c.in-Some.key c.args.self.now c.reading_goes.new.tables (sym c.key_at.ensures.key ∙ c.in-Some.is) h.right) c.reading_goes.ensures.went
+    of_hit (seen nat_cmp c.args.scene.now.triggers.now) c.args.scene.now.lanes.now c.args.at c.args.event.now (hit c.args.trigger.now c.args.event.now) c.in-Some.key c.args.tables.now c.reading_goes.new.tables (sym c.key_at.ensures.key ∙ c.in-Some.is) h.right) c.reading_goes.ensures.went
 
 pub returns-in-Plain-clause-forms : goal.returns-in-Plain-clause-forms
 returns-in-Plain-clause-forms c = c.hit_goes.ensures.went.forms
@@ -79,11 +79,11 @@ returns-in-Plain-clause-savers c = c.hit_goes.ensures.went.savers
 
 pub returns-in-Plain-clause-right : goal.returns-in-Plain-clause-right
 returns-in-Plain-clause-right c =
-    of_hit (seen nat_cmp c.args.triggers.now) c.args.lanes.now c.args.at c.args.event.now (hit c.args.trigger.now c.args.event.now) c.in-Some.key c.args.self.now c.hit_goes.new.tables (sym c.key_at.ensures.key ∙ c.in-Some.is) c.hit_goes.ensures.went.right
+    of_hit (seen nat_cmp c.args.scene.now.triggers.now) c.args.scene.now.lanes.now c.args.at c.args.event.now (hit c.args.trigger.now c.args.event.now) c.in-Some.key c.args.tables.now c.hit_goes.new.tables (sym c.key_at.ensures.key ∙ c.in-Some.is) c.hit_goes.ensures.went.right
 
 pub returns-in-Saves-clause-puts : goal.returns-in-Saves-clause-puts
 returns-in-Saves-clause-puts c =
     let one : hit c.args.trigger.now c.args.event.now ≡ Some c.in-Some.key = sym c.key_at.ensures.key ∙ c.in-Some.is in
     act_few (λ key table. without_hit table (record { spot = traced c.args.at.pos; key = key }))
-    c.args.trigger.now c.args.event.now c.in-Some.key one c.args.self.now c.args.at.trigger (sym c.role.ensures ∙ c.in-Saves.is)
+    c.args.trigger.now c.args.event.now c.in-Some.key one c.args.tables.now c.args.at.trigger (sym c.role.ensures ∙ c.in-Saves.is)
     c.args.work.now.puts c.key_at.new.work.puts c.saving_goes.new.work.puts 1 (omega arith) c.key_at.ensures.puts c.saving_goes.ensures.puts

@@ -1,0 +1,37 @@
+-- What is gathered of an event that comes or goes, and the report that is made of it.
+use Rattle.std.specs.Prelude.{◌≡◌, List, Option, Some}
+use Rattle.ft_fields.specs.Traced.{Traced}
+use Rattle.ft_fields.specs.declared.pos.Pos.{Pos}
+use Rattle.ft_rivals.specs.declared.changed.Changed.{Changed}
+use Rattle.ft_lanes.specs.Held.{Lanes, event_at}
+use Rattle.ft_kept.specs.Acted.{Gathered, Gathers, acting_of}
+use Rattle.ft_kept.specs.Shelves.{Shelves}
+use Rattle.ft_kept.specs.declared.acted.Acting.{Acting}
+use Rattle.ft_report.specs.Events.{CameOrWent}
+use Rattle.ft_report.specs.Report.{report_of}
+use Rattle.ft_base.specs.declared.refused.Place.{Place}
+use Rattle.ft_base.specs.Base.{Base, Triggers}
+use Rattle.ft_answers.specs.Reporting.{IsReport}
+use Rattle.ft_board.specs.KeptShelves.{AreKeptOf}
+
+-- the acts at the event of a line are gathered behind others (our own choice)
+abbrev pub GathersAt : Base → Place → Gathered → Gathered → Type 0
+GathersAt base place old new = (event : Traced) → event_at base.lanes place.cpu place.line ≡ Some event → Gathers (acting_of base.triggers event) old new
+
+-- rows are the report of what was gathered, by shelves that are kept (our own choice)
+pub record IsReportBy (triggers : Triggers) (kept : Option Shelves) (acted : Gathered) (rows : List Changed) : Type 0 where
+  pub shelves : Shelves
+  pub acting : List Acting
+  pub there : kept ≡ Some shelves
+  pub gathered : acted ≡ Some acting
+  pub are : rows ≡ report_of triggers shelves acting
+
+-- a base with other lanes (our own choice)
+abbrev pub base_with : Base → Lanes → Base
+base_with base lanes = record base { lanes = lanes }
+
+-- where shelves are kept before one event comes or goes and behind it, the report by those behind it is one of the bases (our own choice)
+abbrev pub RepairsReported : Type 0
+RepairsReported = (base : Base) (lanes : Lanes) (pos : Pos) (event : Traced) (before behind : Shelves)
+    → AreKeptOf base before → AreKeptOf (base_with base lanes) behind → CameOrWent base.triggers pos event before behind
+    → IsReport base (base_with base lanes) (report_of base.triggers behind (acting_of base.triggers event))

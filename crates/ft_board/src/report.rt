@@ -1,0 +1,44 @@
+//! The report of an edit: the rows that an event which came or went may have changed.
+
+ghost use Rattle.std.specs.Prelude.{◌≡◌, None, IfSome};
+ghost use Rattle.ft_board.specs.inner.Reported.{IsReportBy, RepairsReported};
+
+use crate::laws::kept_shelves;
+use ft_base::Content;
+use ft_kept::{Acted, Tables};
+use ft_report::changed_rows;
+use ft_rivals::Changed;
+use std::alloc::Global;
+
+/// The rows that may differ with an event and without it, by what was gathered as it came or went
+/// and by what is kept behind it. None where nothing is kept or nothing was gathered, or where
+/// memory runs out.
+pub(crate) fn report(
+    kept: &Option<Tables>,
+    alloc: Global,
+    content: &Content,
+    acted: &Acted,
+) -> Option<Vec<Changed>>
+    ensures none { kept.now ≡ None → result ≡ None }
+    ensures rows { IfSome result (λ rows.
+        IsReportBy content.now.triggers kept.now acted.now rows.items) }
+{
+    let Some(tables) = kept else {
+        return None;
+    };
+    let Some(acting) = acted.all() else {
+        return None;
+    };
+    changed_rows(alloc, tables, content.triggers(), acting).ok()
+}
+
+/// A law: the report that shelves give behind the repair for one event has all rows of triggers that
+/// count held events and that differ from those before it, by replaying either base, and few others.
+pub(crate) fn reported_edits()
+    ensures { RepairsReported }
+{
+    kept_shelves();
+    ft_made::counted_made();
+    ft_report::event_rows();
+    ft_report::reported_rows();
+}
