@@ -21,9 +21,13 @@ pub fn rivals(alloc: Global, table: &Table, keys: &[Key]) -> Result<Vec<Key>, Al
     let order = table.order();
     let few = keys.len().min(size);
     let start = (size - few).min(order.len());
+    let behind = &order[start..];
+    if behind.is_empty() {
+        // The table has room, so that no key is near its edge.
+        return Ok(Vec::new(alloc));
+    }
     // Without those of the keys that stand in front of the last places, as many others move up.
     let moved = count_among(table, keys, start);
-    let behind = &order[start..];
     other_keys(alloc, behind, keys, moved, few)
 }
 
