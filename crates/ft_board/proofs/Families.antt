@@ -24,9 +24,6 @@ reads_from_is id Saves is = let both : ◌≡◌ {A = Bool} false true = is in a
 reads_from_is id (Reads saver) is = ap (λ (k : ℕ). Reads k) (eqb-true saver id is)
 
 module _ (triggers : Triggers) (id : ℕ) where
-  pub itself_inside : (other : ℕ) → other ≡ id → is_in_family triggers id other ≡ true
-  itself_inside other same = ap (λ (b : Bool). b || reads_from id (role_at triggers other)) (eq-eqb other id same)
-
   pub outside_apart : (other : ℕ) → is_in_family triggers id other ≡ false → other ≡ id → ⊥
   outside_apart other out same = eqb-false other id (or_parts (other == id) (reads_from id (role_at triggers other)) out).0 same
 

@@ -1,6 +1,7 @@
 -- A family gets new shelves: nothing is kept of it, and of the others all stays.
 use Rattle.std.proofs.Common.{◌≡◌, ℕ, Bool, true, false, true≢false, inr, List, refl, sym, ap, subst, ◌∙◌, Option, Some, None}
 use Rattle.std.specs.Prelude.{option_and_then, if◌then◌else◌}
+use Rattle.std.specs.Ordering.{nat_cmp}
 use Rattle.std.specs.FinMap as map
 use Rattle.std.specs.FinMap.{get-empty}
 use Rattle.ft_fields.specs.declared.pos.Pos.{Pos}
@@ -16,15 +17,15 @@ use Rattle.ft_table.specs.Tabled.{Tabled}
 use Rattle.ft_table.specs.Values.{values_by}
 use Rattle.ft_table.specs.Spots.{traced}
 use Rattle.ft_kept.specs.Acts.{Acts, acts_of, op_of}
-use Rattle.ft_kept.specs.Entries.{IsRight, hits_here, read_here}
+use Rattle.ft_kept.specs.Entries.{IsKept, IsRight, hits_here, read_here}
 use Rattle.ft_kept.specs.Shelves.{Shelved, Shelves, admits_on, kept_on}
 use Rattle.ft_base.specs.Base.{Triggers}
 use Rattle.ft_base.specs.Roles.{role_at}
 use Rattle.ft_replay.specs.Merged.{merged}
-use Rattle.ft_board.specs.KeptShelves.{HasItsShelf}
-use Rattle.ft_board.specs.inner.Built.{HasNewShelf}
+use Rattle.ft_board.specs.KeptShelves.{AreKept, HasItsShelf}
+use Rattle.ft_board.specs.inner.Built.{AreNew, HasNewShelf}
 use Rattle.ft_board.specs.inner.Idle.{AreKeptIdle, AreKeptOutside, AreRenewed, acts_outside}
-use Rattle.ft_board.proofs.Alike.{same_ops, no_hits, no_read, no_ops, op_same, no_op_there, no_op_of, right_moves, right_none}
+use Rattle.ft_board.proofs.Alike.{no_act_of, same_ops, no_hits, no_read, no_ops, op_same, no_op_there, no_op_of, right_moves, right_none}
 
 -- nothing is kept of a trigger
 record IsBare (shelves : Shelves) (id : ℕ) : Type 0 where
@@ -133,3 +134,46 @@ module _ (triggers : Triggers) (lanes : Lanes) (family : ℕ → Bool) (old new 
 
   pub renewed_idle : AreKeptIdle family triggers lanes new
   renewed_idle = record { each = its; kept = record { ops = ops; entries = λ at. inr (right at) } }
+
+-- ---- all get new shelves
+
+-- where all have new shelves, all are idle
+pub new_idle : (triggers : Triggers) (lanes : Lanes) (shelves : Shelves) → AreNew triggers shelves → AreKeptIdle (λ _. true) triggers lanes shelves
+new_idle triggers lanes shelves new = renewed_idle triggers lanes (λ _. true) nothing shelves
+    (record {
+      each = λ _ out. absurd (true≢false out);
+      none = λ id _. nothing_at id;
+      ops = λ _ _ out. absurd (true≢false out);
+      entries = λ _ out. absurd (true≢false out);
+    })
+    (record {
+      stay = λ _ out. absurd (true≢false out);
+      none = λ id none. subst (λ (o : Option Hist). HasNewShelf triggers o (map.get shelves id)) none (new id) ∙ sym (nothing_at id);
+      fresh = λ id hist _ there. subst (λ (o : Option Hist). HasNewShelf triggers o (map.get shelves id)) there (new id);
+    })
+    (λ _ _ out _ _. true≢false out)
+  where
+    nothing : Shelves
+    nothing = map.empty
+
+    nothing_at : (id : ℕ) → map.get nothing id ≡ None
+    nothing_at id = get-empty {X = Shelved} nat_cmp id
+
+-- without triggers nothing is kept
+pub empty_kept : AreKept map.empty (merged map.empty) map.empty
+empty_kept = record {
+  each = idle.each;
+  kept = subst (λ (acts : Acts). IsKept (role_at none) (values_by none) (admits_on nothing) acts (kept_on nothing)) no_acts idle.kept;
+}
+  where
+    none : Triggers
+    none = map.empty
+
+    nothing : Shelves
+    nothing = map.empty
+
+    idle : AreKeptIdle (λ _. true) none map.empty nothing
+    idle = new_idle none map.empty nothing (λ id. subst (λ (o : Option Hist). HasNewShelf none o (map.get nothing id)) (sym (get-empty {X = Hist} nat_cmp id)) (get-empty {X = Shelved} nat_cmp id))
+
+    no_acts : acts_outside (λ _. true) none map.empty ≡ acts_of none (merged map.empty)
+    no_acts i at = sym (no_act_of none (merged map.empty) at (get-empty {X = Hist} nat_cmp at.trigger)) i

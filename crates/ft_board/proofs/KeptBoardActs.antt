@@ -17,8 +17,7 @@ use Rattle.ft_lanes.specs.Held.{Lanes, event_at}
 use Rattle.ft_kept.specs.Acts.{AreHeld, acts_of}
 use Rattle.ft_base.specs.Base.{Triggers}
 use Rattle.ft_replay.specs.Merged.{Events, merged, held_at}
-use Rattle.ft_replay.specs.Named.{is_on, is_named, named}
-use Rattle.ft_replay.proofs.Placing.{get-named}
+use Rattle.ft_replay.specs.Named.{is_on, is_named}
 use Rattle.ft_replay.proofs.Places.{merged_at}
 
 -- ---- acts are held
@@ -94,9 +93,3 @@ named_at triggers id (Some event) =
       | true ↦ λ _. refl
       | false ↦ λ none. sym (idle_in triggers id event none)
     ] refl
-
-pub named_acts : (triggers : Triggers) (events : Events) → acts_of triggers (named triggers events) ≡ acts_of triggers events
-unfolding acts_of
-named_acts triggers events i at =
-    (ap (λ (o : Option Traced). option_and_then (λ (e : Traced). act_in (map.get triggers at.trigger) e) o) (get-named triggers map.empty events at.pos)
-    ∙ named_at triggers at.trigger (map.get events at.pos)) i

@@ -10,7 +10,7 @@ use Rattle.std.specs.Cmp.{eq_by_cmp_equiv}
 use Rattle.std.specs.FinMap as map
 use Rattle.std.specs.FinMap.{find, get-empty, get-entries, get-from_entries, get-insert, entries_sorted, same_map}
 use Rattle.std.proofs.lemmas.Bool.{eq-eqb, eqb-true}
-use Rattle.std.proofs.lemmas.List.{drop_more}
+use Rattle.std.proofs.lemmas.List.{drop_more, length-map}
 use Rattle.std.proofs.lemmas.List.Sorted.{IsPermutation-map}
 use Rattle.std.proofs.lemmas.Map.Entries.{option_filter, lookup-filter-values}
 use Rattle.std.proofs.lemmas.Map.Keys.{sorted_head, sorted_tail, IsDistinct-from_sorted, IsDistinct-head, IsDistinct-tail, IsDistinct-IsPermutation}
@@ -45,7 +45,7 @@ abbrev Act : Type 0
 Act = List Part × Traced
 
 -- a trigger's act at the event of a place
-abbrev act_by : Option Hist → Option Traced → Option Act
+abbrev pub act_by : Option Hist → Option Traced → Option Act
 act_by hist own = option_and_then (λ (e : Traced). act_in hist e) own
 
 -- ---- events of some names
@@ -76,19 +76,29 @@ passed p (Some own) event is =
     ] is
 
 -- events of some names are held, as all are
-on_held : (lanes : Lanes) (names : Name → Bool) → AllHeld lanes (events_on names (merged lanes))
+pub on_held : (lanes : Lanes) (names : Name → Bool) → AllHeld lanes (events_on names (merged lanes))
 on_held lanes names pos event is = merged_held lanes pos event (passed (fits names) (map.get (merged lanes) pos) event (sym (get-events_on names (merged lanes) pos) ∙ is))
 
 all_held : (lanes : Lanes) (events : Events) → AllHeld lanes events → AllByRecursion (λ e. held_at lanes e.0 ≡ Some e.1) (map.entries events)
 all_held lanes events held = all_map _ _ (λ e is. held e.0 e.1 is) (map.entries events) (entries_found pos_cmp pos_cmp_total events)
 
--- an event of another name is no hit
-on_name : (hist : Hist) (own : Option Traced) → act_by (Some hist) (option_filter (fits (same_name hist.event)) own) ≡ act_by (Some hist) own
-on_name hist None = refl
-on_name hist (Some event) =
-    elim (fits (same_name hist.event) event) as (λ (b : Bool). fits (same_name hist.event) event ≡ b → act_by (Some hist) (cond b (Some event) None) ≡ act_by (Some hist) (Some event)) [
+-- a trigger's name is one of some names
+abbrev pub IsAmong : Hist → (Name → Bool) → Type 0
+IsAmong hist names = (name : Name) → same_name hist.event name ≡ true → names name ≡ true
+
+-- an event of another name than these is no hit
+on_names : (hist : Hist) (names : Name → Bool) → IsAmong hist names → (own : Option Traced) → act_by (Some hist) (option_filter (fits names) own) ≡ act_by (Some hist) own
+on_names hist names among None = refl
+on_names hist names among (Some event) =
+    elim (fits names event) as (λ (b : Bool). fits names event ≡ b → act_by (Some hist) (cond b (Some event) None) ≡ act_by (Some hist) (Some event)) [
       | true ↦ λ _. refl
-      | false ↦ λ other. sym (ap (with_event event) (no_hit hist event other))
+      | false ↦ λ other. sym (ap (with_event event) (no_hit hist event (unlike other)))
+    ] refl
+  where
+    unlike : fits names event ≡ false → same_name hist.event (name_of event.body) ≡ false
+    unlike other = elim (same_name hist.event (name_of event.body)) as (λ (b : Bool). same_name hist.event (name_of event.body) ≡ b → b ≡ false) [
+      | true ↦ λ same. sym (among (name_of event.body) same) ∙ other
+      | false ↦ λ _. refl
     ] refl
 
 -- the held events on a trigger's name
@@ -126,12 +136,12 @@ module _ (triggers : Triggers) (lanes : Lanes) (id : ℕ) (others : Acts) where
   abbrev pub Keep : Shelves → Acts → Type 0
   Keep shelves acts = IsKept (role_at triggers) (values_by triggers) (admits_on shelves) acts (kept_on shelves)
 
-  -- shelves are kept with some events of the trigger, which with the rest are all on its name
-  pub record IsJoined (hist : Hist) (shelves : Shelves) (rest : List (Pos × Traced)) : Type 0 where
+  -- shelves are kept with some events of the trigger, which with the rest are those that are wanted
+  pub record IsJoined (wanted : Events) (shelves : Shelves) (rest : List (Pos × Traced)) : Type 0 where
     pub events : Events
     pub each : HaveShelves triggers shelves
     pub kept : Keep shelves (stage triggers id others events)
-    pub all : fold merged_with events rest ≡ own_events lanes hist
+    pub all : fold merged_with events rest ≡ wanted
     pub held : AllHeld lanes events
     pub rest_held : AllByRecursion (λ e. held_at lanes e.0 ≡ Some e.1) rest
     pub absent : AllByRecursion (λ e. map.get events e.0 ≡ None) rest
@@ -153,22 +163,23 @@ module _ (triggers : Triggers) (lanes : Lanes) (id : ℕ) (others : Acts) where
       ] is
 
   module _ (hist : Hist) (attached : map.get triggers id ≡ Some hist) (others_held : AreHeld lanes others) where
-    -- at all events on its name it has all its acts
-    own_acts : (at : At) → at.trigger ≡ id → acts_of triggers (own_events lanes hist) at ≡ acts_of triggers (merged lanes) at
-    unfolding acts_of
-    own_acts at same =
-        let its : map.get triggers at.trigger ≡ Some hist = ap (map.get triggers) same ∙ attached in
-        (λ j. act_by (its j) (get-events_on (same_name hist.event) (merged lanes) at.pos j))
-        ∙ on_name hist (map.get (merged lanes) at.pos)
-        ∙ ap (λ (h : Option Hist). act_by h (map.get (merged lanes) at.pos)) (sym its)
+    module _ (names : Name → Bool) (among : IsAmong hist names) where
+      -- at all events of names with its own it has all its acts
+      pub own_acts : (at : At) → at.trigger ≡ id → acts_of triggers (events_on names (merged lanes)) at ≡ acts_of triggers (merged lanes) at
+      unfolding acts_of
+      own_acts at same =
+          let its : map.get triggers at.trigger ≡ Some hist = ap (map.get triggers) same ∙ attached in
+          (λ j. act_by (its j) (get-events_on names (merged lanes) at.pos j))
+          ∙ on_names hist names among (map.get (merged lanes) at.pos)
+          ∙ ap (λ (h : Option Hist). act_by h (map.get (merged lanes) at.pos)) (sym its)
 
-    -- and so the acts are these
-    stage_all : (all : Acts) → ((at : At) → (if at.trigger == id then acts_of triggers (merged lanes) at else others at) ≡ all at) → stage triggers id others (own_events lanes hist) ≡ all
-    stage_all all is i at =
-        (elim (at.trigger == id) as (λ (b : Bool). (at.trigger == id) ≡ b → cond b (acts_of triggers (own_events lanes hist) at) (others at) ≡ cond b (acts_of triggers (merged lanes) at) (others at)) [
-          | true ↦ λ tie. own_acts at (eqb-true at.trigger id tie)
-          | false ↦ λ _. refl
-        ] refl ∙ is at) i
+      -- and so the acts are these
+      stage_all : (all : Acts) → ((at : At) → (if at.trigger == id then acts_of triggers (merged lanes) at else others at) ≡ all at) → stage triggers id others (events_on names (merged lanes)) ≡ all
+      stage_all all is i at =
+          (elim (at.trigger == id) as (λ (b : Bool). (at.trigger == id) ≡ b → cond b (acts_of triggers (events_on names (merged lanes)) at) (others at) ≡ cond b (acts_of triggers (merged lanes) at) (others at)) [
+            | true ↦ λ tie. own_acts at (eqb-true at.trigger id tie)
+            | false ↦ λ _. refl
+          ] refl ∙ is at) i
 
     -- an event more is an act more
     one_act : (events : Events) (pos : Pos) (event : Traced) → map.get events pos ≡ None
@@ -191,26 +202,26 @@ module _ (triggers : Triggers) (lanes : Lanes) (id : ℕ) (others : Acts) where
     -- ---- events come one by one
 
     -- at first none of its events has come
-    pub joined_none : (shelves : Shelves) → HaveShelves triggers shelves
+    pub joined_none : (names : Name → Bool) (shelves : Shelves) → HaveShelves triggers shelves
         → ((at : At) → at.trigger ≡ id → others at ≡ None) → Keep shelves others
-        → IsJoined hist shelves (map.entries (own_events lanes hist))
-    joined_none shelves each none idle =
-        let events = own_events lanes hist in
+        → IsJoined (events_on names (merged lanes)) shelves (map.entries (events_on names (merged lanes)))
+    joined_none names shelves each none idle =
+        let events = events_on names (merged lanes) in
         record {
           events = map.empty;
           each = each;
           kept = subst (Keep shelves) (sym (stage_idle none)) idle;
           all = from_entries triggers lanes events;
           held = λ pos event is. let both : ◌≡◌ {A = Option Traced} None (Some event) = sym (get-empty {X = Traced} pos_cmp pos) ∙ is in absurd cc;
-          rest_held = all_held lanes events (on_held lanes (same_name hist.event));
+          rest_held = all_held lanes events (on_held lanes names);
           absent = all_of _ (λ e. get-empty {X = Traced} pos_cmp e.0) (map.entries events);
           sorted = strictly_sorted pos_cmp (map.entries events) (entries_sorted events);
         }
 
     -- the next one can come
-    pub act_can_come : (shelves : Shelves) (e : Pos × Traced) (rest : List (Pos × Traced)) → IsJoined hist shelves (e ∷ rest)
+    pub act_can_come : (wanted : Events) (shelves : Shelves) (e : Pos × Traced) (rest : List (Pos × Traced)) → IsJoined wanted shelves (e ∷ rest)
         → CanCome triggers lanes (record { pos = e.0; trigger = id }) (with_event e.1 (hit hist e.1)) shelves
-    act_can_come shelves e rest is = record {
+    act_can_come wanted shelves e rest is = record {
       before = stage triggers id others is.events;
       after = stage triggers id others (map.insert is.events e.0 e.1);
       comes = one_act is.events e.0 e.1 is.absent.0;
@@ -219,9 +230,9 @@ module _ (triggers : Triggers) (lanes : Lanes) (id : ℕ) (others : Acts) where
     }
 
     -- and then one more has come
-    pub joined_more : (old new : Shelves) (e : Pos × Traced) (rest : List (Pos × Traced)) → IsJoined hist old (e ∷ rest) → FormsStay old new
-        → HasCome triggers lanes (record { pos = e.0; trigger = id }) (with_event e.1 (hit hist e.1)) old new → IsJoined hist new rest
-    joined_more old new e rest is forms come =
+    pub joined_more : (wanted : Events) (old new : Shelves) (e : Pos × Traced) (rest : List (Pos × Traced)) → IsJoined wanted old (e ∷ rest) → FormsStay old new
+        → HasCome triggers lanes (record { pos = e.0; trigger = id }) (with_event e.1 (hit hist e.1)) old new → IsJoined wanted new rest
+    joined_more wanted old new e rest is forms come =
         let more = map.insert is.events e.0 e.1 in
         let held = more_held lanes is.events e.0 e.1 is.held is.rest_held.0 in
         let apart = all_above pos_cmp e.0 (λ q. eq_by_cmp pos_cmp q e.0 ≡ false) (λ q less. above-is pos_cmp pos_cmp_total e.0 q less) rest (sorted_head pos_cmp e.0 (keys_of rest) is.sorted) in
@@ -238,9 +249,10 @@ module _ (triggers : Triggers) (lanes : Lanes) (id : ℕ) (others : Acts) where
           sorted = sorted_tail pos_cmp e.0 (keys_of rest) is.sorted;
         }
 
-    -- with all events on its name what is kept is that of all its acts
-    pub joined_all : (all : Acts) → ((at : At) → (if at.trigger == id then acts_of triggers (merged lanes) at else others at) ≡ all at) → (shelves : Shelves) → IsJoined hist shelves [] → Keep shelves all
-    joined_all all are shelves is = subst (Keep shelves) (ap (stage triggers id others) is.all ∙ stage_all all are) is.kept
+    -- with all events of names with its own what is kept is that of all its acts
+    pub joined_all : (names : Name → Bool) → IsAmong hist names → (all : Acts) → ((at : At) → (if at.trigger == id then acts_of triggers (merged lanes) at else others at) ≡ all at)
+        → (shelves : Shelves) → IsJoined (events_on names (merged lanes)) shelves [] → Keep shelves all
+    joined_all names among all are shelves is = subst (Keep shelves) (ap (stage triggers id others) is.all ∙ stage_all names among all are) is.kept
 
     -- ---- events go one by one
 
@@ -268,7 +280,7 @@ module _ (triggers : Triggers) (lanes : Lanes) (id : ℕ) (others : Acts) where
         let is = of_entries (own_events lanes hist) es moved in
         record {
           each = each;
-          kept = subst (Keep shelves) (sym (ap (stage triggers id others) is ∙ stage_all all are)) kept;
+          kept = subst (Keep shelves) (sym (ap (stage triggers id others) is ∙ stage_all (same_name hist.event) (λ _ same. same) all are)) kept;
           held = subst (AllHeld lanes) (sym is) (on_held lanes (same_name hist.event));
           apart = all_apart (own_events lanes hist) es moved;
         }
@@ -331,3 +343,7 @@ own_or_all triggers lanes id at = elim (at.trigger == id) as (λ (b : Bool). con
 -- the first of the events that are left
 pub first_left : (es : List (Pos × Bor Traced)) (i : ℕ) (e : Pos × Bor Traced) → i < length es → e ≡ get_or es i e → entries_by deref (drop i es) ≡ (e.0, e.1.now) ∷ entries_by deref (drop (i + 1) es)
 first_left es i e within is = ap (entries_by deref) (drop_more es i e within ∙ ap (λ (x : Pos × Bor Traced). x ∷ drop (i + 1) es) (sym is))
+
+-- they are as many as their borrows
+pub all_of_them : (es : List (Pos × Bor Traced)) → length (entries_by deref es) ≡ length es
+all_of_them es = length-map es (λ (e : Pos × Bor Traced). (e.0, deref e.1))

@@ -1,9 +1,12 @@
 //! Tables that a trigger joins, with those that read what it saves: the others' stay as they are.
 
-ghost use Rattle.std.specs.Prelude.{◌≡◌, ◌+◌, ◌≤◌, None, Some, IfSome, OnOk};
+ghost use Rattle.std.specs.Prelude.{◌≡◌, ◌+◌, ◌≤◌, None, Some, IfSome, OnOk, length};
 ghost use Rattle.std.specs.Ordering.{nat_cmp};
 ghost use Rattle.std.specs.FinMap as map;
+ghost use Rattle.std.specs.Map.Iter.{deref};
 ghost use Rattle.ft_hist.specs.Steps.{StepsGrow};
+ghost use Rattle.ft_kept.specs.AtOnce.{IsBare};
+ghost use Rattle.ft_maps.specs.Mapped.{entries_by};
 ghost use Rattle.ft_maps.specs.Seen.{seen};
 ghost use Rattle.ft_base.specs.OneTrigger.{is_kin, is_in_family};
 ghost use Rattle.ft_base.specs.Reachable.{HasSavers};
@@ -11,10 +14,12 @@ ghost use Rattle.ft_answers.specs.Costs.{named_in, family_tests};
 ghost use Rattle.ft_replay.specs.Merged.{merged};
 ghost use Rattle.ft_board.specs.KeptShelves.{AreKept, AreKeptOf};
 ghost use Rattle.ft_board.specs.inner.Idle.{AreKeptIdle, AreKeptOutside, AreRenewed};
-ghost use Rattle.ft_board.specs.inner.Idle.{CanJoin, HasJoined};
+ghost use Rattle.ft_board.specs.inner.Idle.{CanJoin, HasJoined, Joined, MayJoin};
 
 use crate::repair::put_back;
 use ft_base::{Content, role_of};
+use ft_fields::{Event, Pos};
+use ft_groups::grouped;
 use ft_hist::{Trigger, Work};
 use ft_kept::Tables;
 use ft_lanes::Lanes;
@@ -147,12 +152,90 @@ fn put_acts(
     ensures grow { StepsGrow work.old work.new }
 {
     let events = events_with(alloc, lanes, Names::only(trigger.event()))?;
-    for (pos, event) in &events {
+    let joining = Joining {
+        lanes,
+        triggers,
+        id,
+        trigger,
+    };
+    put_events(tables, alloc, &joining, &events, work)
+}
+
+/// A trigger that joins the tables, and where its events and the others are looked up.
+#[derive(Clone, Copy)]
+pub(crate) struct Joining<'a> {
+    pub(crate) lanes: &'a Lanes,
+    pub(crate) triggers: &'a BTreeMap<u32, Trigger>,
+    pub(crate) id: u32,
+    pub(crate) trigger: &'a Trigger,
+}
+
+/// The events of a list that a trigger counts come to it: at once where nothing is kept of it yet,
+/// else one by one. Refused for memory, and then the tables are of no use any more.
+pub(crate) fn put_events(
+    tables: &mut Tables,
+    alloc: Global,
+    joining: &Joining<'_>,
+    events: &[(Pos, &Event)],
+    work: &mut Work,
+) -> Result<(), AllocError>
+    requires { MayJoin joining.now (entries_by deref events.now) tables.old }
+    ensures joined { OnOk result (Joined joining.now tables.old tables.new) }
+    ensures evals { work.new.evals ≤ work.old.evals + length events.now }
+    ensures grow { StepsGrow work.old work.new }
+{
+    if tables.is_bare(joining.id) {
+        put_at_once(tables, alloc, joining, events, work)
+    } else {
+        put_one_by_one(tables, joining, events, work)
+    }
+}
+
+/// The events of a list that a trigger counts come to it at once, where nothing is kept of it yet.
+/// Refused for memory, and then the tables are of no use any more.
+fn put_at_once(
+    tables: &mut Tables,
+    alloc: Global,
+    joining: &Joining<'_>,
+    events: &[(Pos, &Event)],
+    work: &mut Work,
+) -> Result<(), AllocError>
+    requires bare { IsBare joining.now.id tables.old }
+    requires may { MayJoin joining.now (entries_by deref events.now) tables.old }
+    ensures joined { OnOk result (Joined joining.now tables.old tables.new) }
+    ensures evals { work.new.evals ≤ work.old.evals + length events.now }
+    ensures grow { StepsGrow work.old work.new }
+{
+    let groups = grouped(alloc, joining.trigger, events, work)?;
+    tables.acts_come(joining.triggers, joining.trigger, joining.id, &groups, work)
+}
+
+/// The events of a list that a trigger counts come to it, one behind the other. Refused for memory,
+/// and then the tables are of no use any more.
+fn put_one_by_one(
+    tables: &mut Tables,
+    joining: &Joining<'_>,
+    events: &[(Pos, &Event)],
+    work: &mut Work,
+) -> Result<(), AllocError>
+    requires { MayJoin joining.now (entries_by deref events.now) tables.old }
+    ensures joined { OnOk result (Joined joining.now tables.old tables.new) }
+    ensures evals { work.new.evals ≤ work.old.evals + length events.now }
+    ensures grow { StepsGrow work.old work.new }
+{
+    for (pos, event) in events {
         let at = At {
             pos: *pos,
-            trigger: id,
+            trigger: joining.id,
         };
-        tables.comes_to(triggers, lanes, trigger, at, event, work)?;
+        tables.comes_to(
+            joining.triggers,
+            joining.lanes,
+            joining.trigger,
+            at,
+            event,
+            work,
+        )?;
     }
     Ok(())
 }

@@ -11,9 +11,10 @@ ghost use Rattle.ft_board.specs.inner.Built.{AreNew};
 ghost use Rattle.ft_replay.specs.Merged.{merged};
 ghost use Rattle.ft_base.specs.Reachable.{HasSavers};
 
+use crate::join::{Joining, put_events};
 use ft_base::{Content, role_of};
 use ft_hist::{Trigger, Work};
-use ft_kept::{Acted, Tables};
+use ft_kept::Tables;
 use ft_lanes::Lanes;
 use ft_maps::entries;
 use ft_replay::merged_events;
@@ -31,11 +32,16 @@ pub(crate) fn rebuilt(
     ensures kept { IfOk result (AreKept (seen nat_cmp triggers.now) (merged lanes.now)) }
     ensures grow { StepsGrow work.old work.new }
 {
-    let merged = merged_events(alloc, lanes, triggers)?;
+    let events = merged_events(alloc, lanes, triggers)?;
     let mut tables = new_tables(alloc, triggers)?;
-    let mut acted = Acted::unasked();
-    for (pos, event) in &merged {
-        tables.event_comes(triggers, lanes, *pos, event, &mut acted, work)?;
+    for (id, trigger) in entries(triggers) {
+        let joining = Joining {
+            lanes,
+            triggers,
+            id: *id,
+            trigger,
+        };
+        put_events(&mut tables, alloc, &joining, &events, work)?;
     }
     Ok(tables)
 }

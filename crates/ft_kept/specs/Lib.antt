@@ -1,5 +1,6 @@
 pub mod Acted
 pub mod Acts
+pub mod AtOnce
 pub mod Bounds
 pub mod Codes
 pub mod Entries
@@ -10,6 +11,7 @@ pub mod Switches
 pub mod inner
 pub use Rattle.ft_fields.specs.Places
 pub use Rattle.ft_fields.specs.Traced
+pub use Rattle.ft_groups.specs.Grouped
 pub use Rattle.ft_hist.specs.Hist
 pub use Rattle.ft_keys.specs.Parts
 pub use Rattle.ft_hist.specs.Steps

@@ -2,6 +2,8 @@
 pub mod Acting
 pub mod Edits
 pub mod Following
+pub mod Joining
+pub mod JoiningReads
 pub mod OneAct
 pub mod Owed
 pub mod Settling

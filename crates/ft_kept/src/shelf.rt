@@ -1,6 +1,6 @@
 //! Shelves: what is kept of one attached trigger.
 
-ghost use Rattle.std.specs.Prelude.{◌≡◌, ◌+◌, ◌<◌, ◌≤◌, List, false, Some, None, OnOk, IfSome};
+ghost use Rattle.std.specs.Prelude.{◌≡◌, ◌+◌, ◌<◌, ◌≤◌, List, false, Some, None, OnOk, IfOk, IfSome, IsTrue};
 ghost use Rattle.std.specs.Prelude.{option_map};
 ghost use Rattle.std.specs.FinMap as map;
 ghost use Rattle.ft_fields.specs.Places.{pos_cmp};
@@ -10,16 +10,22 @@ ghost use Rattle.ft_maps.specs.Seen.{seen};
 ghost use Rattle.ft_pairs.specs.ByKey.{ChangesKey, ops_of, ops_left};
 ghost use Rattle.ft_pairs.specs.Edits.{with_op, without_op, reads_alone};
 ghost use Rattle.ft_pairs.specs.Next.{IsNext};
+ghost use Rattle.ft_pairs.specs.Runs.{FindEach, with_reads};
 ghost use Rattle.ft_pairs.specs.Source.{IsSource};
 ghost use Rattle.ft_pairs.specs.declared.at.At.{At};
+ghost use Rattle.ft_table.specs.Runs.{HasNone};
 ghost use Rattle.ft_table.specs.Spots.{traced};
 ghost use Rattle.ft_table.specs.Tabled.{is_in};
 ghost use Rattle.ft_hist.specs.Steps.{StepsGrow};
 ghost use Rattle.ft_kept.specs.Shelves.{IsNewShelf};
 ghost use Rattle.ft_kept.specs.Shelves.{DropsNotes, TakesNotes};
 ghost use Rattle.ft_kept.specs.inner.Edits.{OpsChange, with_hit_on, without_hit_on, with_note, note_at};
+ghost use Rattle.ft_kept.specs.AtOnce.{AreGroupsOf};
+ghost use Rattle.ft_kept.specs.inner.Joining.{HitsCome, SavesCome};
+ghost use Rattle.ft_kept.specs.inner.JoiningReads.{ReadingsSet, RunComes, found_last};
 ghost use Rattle.ft_kept.specs.inner.Following.{with_save, with_saves, switched};
 
+use crate::joining::{Joining, put_groups, save_groups};
 use ft_fields::Pos;
 use ft_hist::{Key, Work};
 use ft_maps::{get, put, take};
@@ -206,6 +212,54 @@ impl Shelf {
         self.pairs.remove_key(key);
     }
 
+    /// Whether it has no hits, and takes no notes.
+    pub(crate) fn is_unused(&self) -> bool
+        ensures hits { IsTrue result → self.now.table.hits ≡ map.empty }
+        ensures notes { IsTrue result → self.now.notes ≡ None }
+    {
+        self.notes.is_none() && self.table.is_empty()
+    }
+
+    /// Whether no operation stands on what it saves.
+    pub(crate) fn has_no_ops(&self) -> bool
+        ensures { IsTrue result → (key : List Part) (at : At) → ops_of self.now.ops key at ≡ None }
+    {
+        self.pairs.is_empty()
+    }
+
+    /// Puts the hits of all groups of a trigger that joins, where it has none. Refused for memory.
+    pub(crate) fn put_groups(
+        &mut self,
+        joining: &Joining<'_, '_>,
+        work: &mut Work,
+    ) -> Result<(), AllocError>
+        requires empty { self.old.table.hits ≡ map.empty }
+        requires grouped { AreGroupsOf joining.now.trigger.now joining.now.groups.now }
+        ensures ok { OnOk result (HitsCome joining.now.trigger.now joining.now.groups.now
+            self.old self.new) }
+        ensures evals { work.new.evals ≡ work.old.evals }
+        ensures grow { StepsGrow work.old work.new }
+    {
+        put_groups(&mut self.table, joining, work)
+    }
+
+    /// Puts a save at each event of the groups of a saver that joins whose keys are in its table,
+    /// where no operation stands. Refused for memory.
+    pub(crate) fn save_groups(
+        &mut self,
+        joining: &Joining<'_, '_>,
+        work: &mut Work,
+    ) -> Result<(), AllocError>
+        requires free { (key : List Part) (at : At) → ops_of self.old.ops key at ≡ None }
+        requires grouped { AreGroupsOf joining.now.trigger.now joining.now.groups.now }
+        ensures ok { OnOk result (SavesCome joining.now.id joining.now.groups.now
+            self.old self.new) }
+        ensures evals { work.new.evals ≡ work.old.evals }
+        ensures grow { StepsGrow work.old work.new }
+    {
+        save_groups(&mut self.pairs, &self.table, joining, work)
+    }
+
     /// Lets the operations of a key of this saver follow its table, where the key was in it or
     /// not: as it comes in, each hit of it saves, and as it goes out, none does. Refused for memory.
     pub(crate) fn switch(
@@ -250,6 +304,50 @@ impl Shelf {
         }
         Ok(())
     }
+
+    /// Puts reads of a key at places: what each of them finds then. Refused for memory.
+    pub(crate) fn put_reads(
+        &mut self,
+        key: Key,
+        reads: &[At],
+        work: &mut Work,
+    ) -> Result<Vec<Option<At>>, AllocError>
+        ensures ok { OnOk result (OpsChange key (with_reads reads.now) self.old self.new) }
+        ensures found { IfOk result (λ found.
+            FindEach (ops_of self.new.ops key) reads.now found.items) }
+        ensures evals { work.new.evals ≡ work.old.evals }
+        ensures grow { StepsGrow work.old work.new }
+    {
+        self.pairs.put_reads(key, reads, work)
+    }
+
+    /// Puts all hits of a key in, which has none yet. Refused for memory.
+    pub(crate) fn put_run(
+        &mut self,
+        key: Key,
+        run: Vec<(Spot, [i64; 3])>,
+        work: &mut Work,
+    ) -> Result<(), AllocError>
+        requires { HasNone key self.old.table.hits }
+        ensures ok { OnOk result (RunComes key run.items self.old self.new) }
+        ensures evals { work.new.evals ≡ work.old.evals }
+        ensures grow { StepsGrow work.old work.new }
+    {
+        self.table.put_key(key, run, work)
+    }
+
+    /// Has these readings from now on, in place of those that it has: the place of the saving by that
+    /// of the reading. Refused for memory.
+    pub(crate) fn set_readings(
+        &mut self,
+        alloc: Global,
+        readings: Vec<(Pos, Pos)>,
+    ) -> Result<(), AllocError>
+        ensures { OnOk result (ReadingsSet readings.items self.old self.new) }
+    {
+        self.readings = by_place(alloc, readings)?;
+        Ok(())
+    }
 }
 
 /// Notes what the reading at a place found, where nothing is noted of it yet. Refused for memory.
@@ -288,4 +386,12 @@ fn put_save(
         trigger: id,
     };
     pairs.insert(key, at, Op::Save, work)
+}
+
+/// The map of these readings, by place: of those at one place the last. Refused for memory.
+fn by_place(alloc: Global, readings: Vec<(Pos, Pos)>) -> Result<BTreeMap<Pos, Pos>, AllocError>
+    ensures { IfOk result (λ m. (pos : Pos)
+        → map.get (seen pos_cmp m) pos ≡ found_last readings.items pos) }
+{
+    readings.into_iter().collect(alloc)
 }

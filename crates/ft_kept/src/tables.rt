@@ -25,7 +25,7 @@ use std::marker::Model;
 /// Contracts see a finite map of shelves.
 #[derive(Drop)]
 pub struct Tables {
-    alloc: Global,
+    pub(crate) alloc: Global,
     pub(crate) shelves: BTreeMap<u32, Shelf>,
 }
 

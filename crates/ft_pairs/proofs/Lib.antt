@@ -4,5 +4,6 @@ pub mod Found
 pub mod Left
 pub mod Nexts
 pub mod Ranges
+pub mod Runs
 pub mod Touched
 pub mod Walks

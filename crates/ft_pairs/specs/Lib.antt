@@ -4,8 +4,10 @@ pub mod Edits
 pub mod Next
 pub mod Order
 pub mod Roles
+pub mod Runs
 pub mod Source
 pub mod Variables
+pub mod inner
 pub use Rattle.ft_fields.specs.Places
 pub use Rattle.ft_keys.specs.Parts
 pub use Rattle.ft_hist.specs.Steps

@@ -3,7 +3,7 @@
 //! A trigger that saves a variable sets it for the key of each counted hit. One that reads it finds
 //! what was saved last for its own key, and unsets it: so a reading finds the last operation on its
 //! key before it, if that is a save. Operations stand by place in the merged order, then by the
-//! trigger's id, and come and go in any order.
+//! trigger's id, and come and go in any order, one by one or all those of a key together.
 //!
 //! ```ignore
 //! let mut pairs = Pairs::new(rt.alloc());

@@ -1,6 +1,6 @@
 //! Pairs: the operations of all keys.
 
-ghost use Rattle.std.specs.Prelude.{◌≡◌, ◌+◌, ◌<◌, List, None, Some, OnOk, OnErr, IfSome, IsTrue};
+ghost use Rattle.std.specs.Prelude.{◌≡◌, ◌+◌, ◌<◌, ◌≤◌, List, length, None, Some, OnOk, OnErr, IfOk, IfSome, IsTrue};
 ghost use Rattle.std.specs.FinMap as map;
 ghost use Rattle.ft_keys.specs.declared.key.Part.{Part};
 ghost use Rattle.ft_keys.specs.Parts.{key_cmp};
@@ -8,6 +8,7 @@ ghost use Rattle.ft_maps.specs.Seen.{seen};
 ghost use Rattle.ft_pairs.specs.declared.at.At.{At};
 ghost use Rattle.ft_pairs.specs.ByKey.{ops_of, ops_left, ChangesKey};
 ghost use Rattle.ft_pairs.specs.Edits.{with_op, without_op, reads_alone};
+ghost use Rattle.ft_pairs.specs.Runs.{ops_listed, with_reads, FindEach};
 
 use crate::at::{At, Op};
 use crate::sequence::Sequence;
@@ -42,6 +43,7 @@ impl Model for Pairs {
 }
 
 impl Pairs {
+    ghost use Rattle.ft_hist.specs.Steps.{StepsGrow};
     ghost use Rattle.ft_pairs.specs.Next.{IsNext};
     ghost use Rattle.ft_pairs.specs.Source.{IsSource};
 
@@ -55,6 +57,13 @@ impl Pairs {
         }
     }
 
+    /// Whether no operation stands there at all.
+    pub fn is_empty(&self) -> bool
+        ensures { IsTrue result → (key : List Part) (at : At) → ops_of self.now key at ≡ None }
+    {
+        self.by_key.len() == 0
+    }
+
     /// Puts an operation of a key at a place, where none stands. Counts one put in `work`, refused
     /// or not. Refused for memory, and then all is as it was.
     pub fn insert(&mut self, key: Key, at: At, op: Op, work: &mut Work) -> Result<(), AllocError>
@@ -66,6 +75,46 @@ impl Pairs {
     {
         work.tick_put();
         put_op(self.alloc, &mut self.by_key, key, at, op)
+    }
+
+    /// Puts all operations of a key that has none: those of a list, by place; of two at one place,
+    /// the first. Counts a put in `work` for each of the list, refused or not. Refused for memory,
+    /// and then all is as it was.
+    pub fn put_key(
+        &mut self,
+        key: Key,
+        run: Vec<(At, Op)>,
+        work: &mut Work,
+    ) -> Result<(), AllocError>
+        requires { (at : At) → ops_of self.old key at ≡ None }
+        ensures ok { OnOk result (ChangesKey key (ops_listed run.items) self.old self.new) }
+        ensures err { OnErr result (self.new ≡ self.old) }
+        ensures puts { work.new.puts ≡ work.old.puts + length run.items }
+        ensures evals { work.new.evals ≡ work.old.evals }
+    {
+        tick_puts(work, run.len());
+        put_run(self.alloc, &mut self.by_key, key, run)
+    }
+
+    /// Puts reads of a key at places, in place of what stands there: what each of them finds then,
+    /// in their order. Counts a put in `work` for each. Refused for memory, and then some of them
+    /// may stand.
+    pub fn put_reads(
+        &mut self,
+        key: Key,
+        reads: &[At],
+        work: &mut Work,
+    ) -> Result<Vec<Option<At>>, AllocError>
+        ensures ok { IfOk result (λ found.
+            ChangesKey key (with_reads reads.now) self.old self.new) }
+        ensures found { IfOk result (λ found.
+            FindEach (ops_of self.new key) reads.now found.items) }
+        ensures puts { work.new.puts ≤ work.old.puts + length reads.now }
+        ensures evals { work.new.evals ≡ work.old.evals }
+        ensures grow { StepsGrow work.old work.new }
+    {
+        tick_puts(work, reads.len());
+        read_key(self.alloc, &mut self.by_key, key, reads)
     }
 
     /// Takes the operation of a key at a place away, if one stands there. It needs no memory.
@@ -178,5 +227,55 @@ fn is_clear(by_key: &BTreeMap<Key, Sequence>, key: &Key) -> bool
     match by_key.get(key) {
         Some(sequence) => sequence.is_empty(),
         None => false,
+    }
+}
+
+/// Counts some puts.
+fn tick_puts(work: &mut Work, count: usize)
+    ensures puts { work.new.puts ≡ work.old.puts + count }
+    ensures evals { work.new.evals ≡ work.old.evals }
+{
+    for _ in 0..count {
+        work.tick_put();
+    }
+}
+
+/// Gives a key that has no operations those of a list. Refused for memory, and then all is as it
+/// was.
+fn put_run(
+    alloc: Global,
+    by_key: &mut BTreeMap<Key, Sequence>,
+    key: Key,
+    run: Vec<(At, Op)>,
+) -> Result<(), AllocError>
+    ensures ok { OnOk result
+        (ChangesKey key (ops_listed run.items) (seen key_cmp by_key.old) (seen key_cmp by_key.new)) }
+    ensures err { OnErr result (seen key_cmp by_key.new ≡ seen key_cmp by_key.old) }
+{
+    let sequence = Sequence::of(alloc, &run)?;
+    put(by_key, key, sequence)
+}
+
+/// Puts reads of a key at places: what each of them finds. Refused for memory, and then some of them
+/// may stand.
+fn read_key(
+    alloc: Global,
+    by_key: &mut BTreeMap<Key, Sequence>,
+    key: Key,
+    reads: &[At],
+) -> Result<Vec<Option<At>>, AllocError>
+    ensures ok { IfOk result (λ found.
+        ChangesKey key (with_reads reads.now) (seen key_cmp by_key.old) (seen key_cmp by_key.new)) }
+    ensures found { IfOk result (λ found.
+        FindEach (ops_of (seen key_cmp by_key.new) key) reads.now found.items) }
+{
+    match by_key.get_mut(&key) {
+        Some(sequence) => sequence.put_reads(alloc, reads),
+        None => {
+            let mut sequence = Sequence::new(alloc);
+            let found = sequence.put_reads(alloc, reads)?;
+            put(by_key, key, sequence)?;
+            Ok(found)
+        }
     }
 }

@@ -27,7 +27,7 @@ pub get-others : (hits : Hits) (key : List Part) (q : Mark) → map.get (others 
 unfolding others
 get-others hits key q = get-retain_keys (first_hits hits) (λ m. not (same_key m.key key)) q (λ x tie. ap (λ (m : Mark). not (same_key m.key key)) (sym (mark_same q x tie)))
 
-no_entries : {X : Type 0} (spot : Spot) (es : List (Spot × X)) → least_key es ≡ None → find spot_cmp spot es ≡ None
+pub no_entries : {X : Type 0} (spot : Spot) (es : List (Spot × X)) → least_key es ≡ None → find spot_cmp spot es ≡ None
 no_entries spot [] none = refl
 no_entries spot (e ∷ es) none = cc
 

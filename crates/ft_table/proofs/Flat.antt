@@ -147,7 +147,7 @@ hits_of-flat by_key key = same_map spot_cmp_total spot_same _ _ (λ spot. get-hi
 
 -- ---- putting a hit in, and taking one out
 
-at_key : (by_key : ByKey) (m q : Mark) (entry : EntryHits) → map.get (flat (map.insert by_key m.key entry)) q ≡ cond (same_key q.key m.key) (map.get entry q.spot) (map.get (flat by_key) q)
+pub at_key : (by_key : ByKey) (m q : Mark) (entry : EntryHits) → map.get (flat (map.insert by_key m.key entry)) q ≡ cond (same_key q.key m.key) (map.get entry q.spot) (map.get (flat by_key) q)
 at_key by_key m q entry =
     get-flat (map.insert by_key m.key entry) q
     ∙ ap (option_and_then (λ entry. map.get entry q.spot)) (get-insert key_cmp_total by_key m.key entry q.key)

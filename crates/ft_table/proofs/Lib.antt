@@ -16,6 +16,7 @@ mod Only
 mod Outside
 mod Ranks
 pub mod Retained
+pub mod Runs
 mod Sorted
 mod Splits
 mod Tallies

@@ -6,6 +6,7 @@ pub mod Hits
 pub mod Marks
 pub mod OneKey
 pub mod Rows
+pub mod Runs
 pub mod Spots
 pub mod Tabled
 pub mod Values

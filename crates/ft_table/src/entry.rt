@@ -6,7 +6,7 @@ ghost use Rattle.std.specs.declared.cmp.Ordering.TheVariants.{Less};
 ghost use Rattle.std.specs.Int.{w64, cast_unsigned};
 ghost use Rattle.std.specs.FinMap as map;
 ghost use Rattle.ft_table.specs.Hits.{sums_of, least_key, first_place, hitcount, hits_of};
-ghost use Rattle.ft_table.specs.Hits.{first_entry, hits_after, is_after};
+ghost use Rattle.ft_table.specs.Hits.{first_entry, hits_after};
 ghost use Rattle.ft_table.specs.inner.ByKey.{hits_in};
 ghost use Rattle.ft_table.specs.Marks.{mark_of};
 ghost use Rattle.ft_keys.specs.Parts.{key_cmp};
@@ -18,7 +18,7 @@ ghost use Rattle.ft_table.specs.declared.spot.Spot.{Spot};
 
 use crate::hit::Hit;
 use crate::mark::Mark;
-use crate::series::{Series, added};
+use crate::series::{Series, added, is_after};
 use crate::spot::Spot;
 use ft_hist::Key;
 use ft_maps::take;
@@ -53,16 +53,6 @@ impl Model for Entry {
     ghost coded = { entry_code };
 
     ghost view = { λ e. hits_held e.held };
-}
-
-/// Whether a spot is after another, if there is another.
-fn is_after(place: Option<Spot>, spot: Spot) -> bool
-    ensures { result ≡ is_after place spot }
-{
-    match place {
-        None => true,
-        Some(before) => before < spot,
-    }
 }
 
 /// The sums of the values of one hit.
@@ -101,6 +91,24 @@ impl Entry {
         }
     }
 
+    /// The hits of a run, of those at one spot the first. Refused for memory.
+    pub(crate) fn of(alloc: Global, run: Vec<(Spot, [i64; 3])>) -> Result<Entry, AllocError>
+        ensures { IfOk result (λ hits. hits ≡ map.from_entries run.items) }
+    {
+        if run.is_empty() {
+            return Ok(Entry::new());
+        }
+        if run.len() == 1 {
+            return Ok(Entry {
+                held: Held::One(run[0]),
+            });
+        }
+        let series = Series::of(alloc, run)?;
+        Ok(Entry {
+            held: Held::Many(series),
+        })
+    }
+
     /// How many hits it has.
     pub(crate) fn len(&self) -> usize
         ensures len { result ≡ map.len self.now }
@@ -114,7 +122,7 @@ impl Entry {
     }
 
     /// The spot of its first hit.
-    fn first(&self) -> Option<Spot>
+    pub(crate) fn first(&self) -> Option<Spot>
         ensures { result ≡ least_key (map.entries self.now) }
     {
         match &self.held {

@@ -4,6 +4,8 @@
 //! are the first `size` keys in order of their first hits. If a key is in, all its hits are counted,
 //! else all are dropped. A table shows rows and totals, and their text.
 //!
+//! Hits come one by one, or all hits of a key at once (`put_key`), with one look-up of the key.
+//!
 //! ```ignore
 //! let mut table = Table::new(rt.alloc(), 128);
 //! let spot = Spot::traced(pos);
@@ -21,6 +23,7 @@ mod hit;
 pub mod laws;
 mod mark;
 mod order;
+mod run;
 mod series;
 mod split;
 mod spot;

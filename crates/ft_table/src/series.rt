@@ -1,11 +1,13 @@
 //! Series: several hits of one key, with their sums.
 
-ghost use Rattle.std.specs.Prelude.{◌≡◌, ℕ, ◌+◌, ◌%◌, ◌<◌, ◌^◌, OnOk, OnErr, None};
+ghost use Rattle.std.specs.Prelude.{◌≡◌, ℕ, ◌+◌, ◌%◌, ◌<◌, ◌^◌, OnOk, OnErr, IfOk, IfSome, None};
 ghost use Rattle.std.specs.Int.{w64, cast_unsigned};
 ghost use Rattle.std.specs.FinMap as map;
+ghost use Rattle.std.specs.List.Sorted.{IsStrictlySortedBy};
+ghost use Rattle.std.specs.Map.{keys_of};
 ghost use Rattle.ft_table.specs.Spots.{spot_cmp};
 ghost use Rattle.ft_maps.specs.Seen.{seen};
-ghost use Rattle.ft_table.specs.Hits.{sums_of, least_key, first_with, first_entry, hits_after};
+ghost use Rattle.ft_table.specs.Hits.{sums_of, least_key, first_with, first_entry, hits_after, is_after};
 
 use crate::spot::Spot;
 use std::alloc::{AllocError, Global};
@@ -59,6 +61,16 @@ fn taken(sum: u64, value: i64) -> u64
     sum.wrapping_sub(value.cast_unsigned())
 }
 
+/// Whether a spot is after another, if there is another.
+pub(crate) fn is_after(place: Option<Spot>, spot: Spot) -> bool
+    ensures { result ≡ is_after place spot }
+{
+    match place {
+        None => true,
+        Some(before) => before < spot,
+    }
+}
+
 /// The first of spots, as another comes.
 fn first_with(first: Option<Spot>, spot: Spot) -> Option<Spot>
     ensures { result ≡ first_with first spot }
@@ -82,6 +94,61 @@ fn least(hits: &BTreeMap<Spot, [i64; 3]>) -> Option<Spot>
     }
 }
 
+/// The sums of the values of a run whose spots ascend, and none of another.
+fn sums_of_run(run: &[(Spot, [i64; 3])]) -> Option<[u64; 3]>
+    ensures rise { IfSome result (λ _. IsStrictlySortedBy spot_cmp (keys_of run.now)) }
+    ensures sums { IfSome result (λ sums. sums ≡ sums_of (map.from_entries run.now)) }
+{
+    let mut sums = [0, 0, 0];
+    let mut before = None;
+    for hit in run {
+        if !is_after(before, hit.0) {
+            return None;
+        }
+        sums = [
+            added(sums[0], hit.1[0]),
+            added(sums[1], hit.1[1]),
+            added(sums[2], hit.1[2]),
+        ];
+        before = Some(hit.0);
+    }
+    Some(sums)
+}
+
+/// The spot of a run's first hit.
+fn first_of(run: &[(Spot, [i64; 3])]) -> Option<Spot>
+    ensures { result ≡ least_key run.now }
+{
+    match run.first() {
+        Some(hit) => Some(hit.0),
+        None => None,
+    }
+}
+
+/// The tree of a run whose spots ascend. Refused for memory.
+fn collected(
+    alloc: Global,
+    run: Vec<(Spot, [i64; 3])>,
+) -> Result<BTreeMap<Spot, [i64; 3]>, AllocError>
+    requires { IsStrictlySortedBy spot_cmp (keys_of run.items) }
+    ensures { IfOk result (λ hits. seen spot_cmp hits ≡ map.from_entries run.items) }
+{
+    run.into_iter().collect(alloc)
+}
+
+/// The hits of a run in any order, of those at one spot the first. Refused for memory.
+fn one_by_one(alloc: Global, run: &[(Spot, [i64; 3])]) -> Result<Series, AllocError>
+    ensures { IfOk result (λ hits. hits ≡ map.from_entries run.now) }
+{
+    let mut series = Series::new(alloc);
+    for hit in run {
+        if !series.contains(hit.0) {
+            series.insert(hit.0, hit.1)?;
+        }
+    }
+    Ok(series)
+}
+
 impl Series {
     /// No hits.
     pub(crate) fn new(alloc: Global) -> Series
@@ -91,6 +158,22 @@ impl Series {
             hits: BTreeMap::new(alloc),
             sums: [0, 0, 0],
             first: None,
+        }
+    }
+
+    /// The hits of a run, of those at one spot the first. Refused for memory.
+    ///
+    /// A run whose spots ascend is made a tree at once.
+    pub(crate) fn of(alloc: Global, run: Vec<(Spot, [i64; 3])>) -> Result<Series, AllocError>
+        ensures { IfOk result (λ hits. hits ≡ map.from_entries run.items) }
+    {
+        match sums_of_run(&run) {
+            Some(sums) => {
+                let first = first_of(&run);
+                let hits = collected(alloc, run)?;
+                Ok(Series { hits, sums, first })
+            }
+            None => one_by_one(alloc, &run),
         }
     }
 

@@ -8,9 +8,10 @@ ghost use Rattle.ft_table.specs.inner.Split.{IsSplit};
 ghost use Rattle.ft_table.specs.Hits.{hitcount};
 ghost use Rattle.ft_table.specs.Tabled.{order_of};
 ghost use Rattle.ft_table.specs.inner.Moves.{order_with, order_without, order_before};
-ghost use Rattle.ft_table.specs.inner.Moves.{with_more, with_less};
+ghost use Rattle.ft_table.specs.inner.Moves.{with_more, with_less, TakesHits};
 ghost use Rattle.ft_table.specs.inner.ByKey.{hits_in};
 ghost use Rattle.ft_table.specs.Marks.{mark_of};
+ghost use Rattle.ft_table.specs.Runs.{HasNone};
 
 use crate::entry::{Entry, count_of, first_at, put_behind, put_hit, take_hit};
 use crate::hit::Hit;
@@ -18,6 +19,7 @@ use crate::mark::Mark;
 use crate::order::{last_rank_of, rank_of};
 use crate::spot::Spot;
 use ft_hist::Key;
+use ft_maps::put;
 use std::alloc::{AllocError, Global};
 use std::collections::BTreeMap;
 
@@ -28,7 +30,8 @@ pub(crate) struct Split {
     pub(crate) dropped: u64,
 }
 
-/// Puts a mark into the order at its rank. The last key in the table may go out.
+/// Puts a mark into the order at its rank, of a key with so many hits. The last key in the table
+/// may go out.
 pub(crate) fn put_in(
     order: &mut Vec<Mark>,
     split: &mut Split,
@@ -36,8 +39,10 @@ pub(crate) fn put_in(
     size: usize,
     rank: usize,
     mark: Mark,
+    count: u64,
 )
     requires some { 0 < size }
+    requires count { count ≡ hitcount (hits_in by_key.now) mark.key }
     requires within { rank ≤ vec_len order.old }
     requires room { vec_len order.old < vec_capacity order.old }
     requires split { IsSplit (hitcount (hits_in by_key.now)) size order.old.items
@@ -47,7 +52,6 @@ pub(crate) fn put_in(
     ensures split { IsSplit (hitcount (hits_in by_key.now)) size order.new.items
         split.new.hits split.new.dropped }
 {
-    let count = count_of(by_key, &mark.key);
     if rank < size {
         split.hits += count;
         if order.len() >= size {
@@ -109,8 +113,32 @@ fn enter(
     ensures split { IsSplit (hitcount (hits_in by_key.now)) size order.new.items
         split.new.hits split.new.dropped }
 {
+    let count = count_of(by_key, &mark.key);
+    enter_with(order, split, by_key, size, mark, count);
+}
+
+/// Puts a key with so many hits into the order, at the mark of its first hit.
+fn enter_with(
+    order: &mut Vec<Mark>,
+    split: &mut Split,
+    by_key: &BTreeMap<Key, Entry>,
+    size: usize,
+    mark: Mark,
+    count: u64,
+)
+    requires some { 0 < size }
+    requires count { count ≡ hitcount (hits_in by_key.now) mark.key }
+    requires room { vec_len order.old < vec_capacity order.old }
+    requires order { order.old.items ≡ order_without (hits_in by_key.now) mark.key }
+    requires split { IsSplit (hitcount (hits_in by_key.now)) size order.old.items
+        split.old.hits split.old.dropped }
+    requires few { split.old.hits + split.old.dropped + hitcount (hits_in by_key.now) mark.key < 2 ^ 64 }
+    ensures order { order.new.items ≡ order_with (hits_in by_key.now) mark }
+    ensures split { IsSplit (hitcount (hits_in by_key.now)) size order.new.items
+        split.new.hits split.new.dropped }
+{
     let rank = last_rank_of(order, &mark);
-    put_in(order, split, by_key, size, rank, mark);
+    put_in(order, split, by_key, size, rank, mark, count);
 }
 
 /// Takes a key out of the order, from the mark where its first hit was.
@@ -299,6 +327,42 @@ fn add_and_settle(
         }
     }
     Ok(())
+}
+
+/// Puts all hits of a key in that has none yet. Refused for memory, or where the counts would pass
+/// 64 bits, and then all is as it was.
+pub(crate) fn add_key(
+    by_key: &mut BTreeMap<Key, Entry>,
+    order: &mut Vec<Mark>,
+    split: &mut Split,
+    size: usize,
+    key: Key,
+    entry: Entry,
+) -> Result<(), AllocError>
+    requires some { 0 < size }
+    requires order { order.old.items ≡ order_of (hits_in by_key.old) }
+    requires split { IsSplit (hitcount (hits_in by_key.old)) size order.old.items
+        split.old.hits split.old.dropped }
+    requires absent { HasNone key (hits_in by_key.old) }
+    ensures hits { OnOk result (TakesHits key entry (hits_in by_key.old) (hits_in by_key.new)) }
+    ensures same_hits { OnErr result (hits_in by_key.new ≡ hits_in by_key.old) }
+    ensures order { order.new.items ≡ order_of (hits_in by_key.new) }
+    ensures split { IsSplit (hitcount (hits_in by_key.new)) size order.new.items
+        split.new.hits split.new.dropped }
+{
+    let count = entry.len() as u64;
+    if count > u64::MAX - split.dropped - split.hits {
+        return Err(AllocError);
+    }
+    match entry.first() {
+        None => Ok(()),
+        Some(spot) => {
+            order.reserve(1)?;
+            put(by_key, key, entry)?;
+            enter_with(order, split, by_key, size, Mark { spot, key }, count);
+            Ok(())
+        }
+    }
 }
 
 /// Takes the hit at a mark away, if one stands there.

@@ -1,6 +1,6 @@
 //! Tables: the hits of one trigger, by key, and the order of the keys.
 
-ghost use Rattle.std.specs.Prelude.{◌≡◌, ◌+◌, ◌<◌, ◌++◌, OnOk, OnErr, IfOk};
+ghost use Rattle.std.specs.Prelude.{◌≡◌, ◌↔◌, ◌+◌, ◌<◌, ◌++◌, length, OnOk, OnErr, IfOk, IsTrue};
 ghost use Rattle.std.specs.Prelude.{map as list_map};
 ghost use Rattle.std.specs.FinMap as map;
 ghost use Rattle.ft_table.specs.inner.ByKey.{hits_in};
@@ -11,7 +11,8 @@ use crate::entry::{Entry, count_of, first_at, holds, next_hit, sums_at};
 use crate::hit::Hit;
 use crate::mark::Mark;
 use crate::order::rank_of;
-use crate::split::{Split, add_hit, drop_hit};
+use crate::run::count_puts;
+use crate::split::{Split, add_hit, add_key, drop_hit};
 use crate::spot::Spot;
 use ft_hist::{Key, SortItem, Trigger, Work};
 use ft_rows::{Row, Totals, sort_rows, write_heading, write_rows};
@@ -64,6 +65,7 @@ impl Table {
     ghost use Rattle.ft_table.specs.OneKey.{without_hit};
     ghost use Rattle.ft_table.specs.Rows.{row_at, rows_of, totals_of, hit_after};
     ghost use Rattle.ft_table.specs.Rows.{AllFit, table_text};
+    ghost use Rattle.ft_table.specs.Runs.{HasNone, TakesRun};
     ghost use Rattle.ft_rows.specs.Text.{heading};
     ghost use Rattle.ft_table.specs.Tabled.{order_of, is_in, last_in, first_out};
 
@@ -107,6 +109,36 @@ impl Table {
         )
     }
 
+    /// Puts all hits of a key in that has none yet: those of a run, by spot, of those at one spot the
+    /// first. Counts a put in `work` for each, refused or not. It is quick where the spots of the run
+    /// ascend.
+    ///
+    /// Refused for memory, or where the hits would be too many for 64 bits, and then the table is
+    /// as it was.
+    pub fn put_key(
+        &mut self,
+        key: Key,
+        run: Vec<(Spot, [i64; 3])>,
+        work: &mut Work,
+    ) -> Result<(), AllocError>
+        requires { HasNone key self.old.hits }
+        ensures ok { OnOk result (TakesRun key run.items self.old self.new) }
+        ensures err { OnErr result (self.new ≡ self.old) }
+        ensures puts { work.new.puts ≡ work.old.puts + length run.items }
+        ensures evals { work.new.evals ≡ work.old.evals }
+    {
+        count_puts(&run, work);
+        let entry = Entry::of(self.alloc, run)?;
+        add_key(
+            &mut self.by_key,
+            &mut self.order,
+            &mut self.split,
+            self.size as usize,
+            key,
+            entry,
+        )
+    }
+
     /// Takes a hit away, if one stands there. It needs no memory.
     pub fn remove(&mut self, spot: Spot, key: Key)
         ensures { self.new ≡ without_hit self.old (record { spot = spot; key = key }) }
@@ -125,6 +157,13 @@ impl Table {
         ensures { result ≡ map.contains_key self.now.hits (record { spot = spot; key = key }) }
     {
         holds(&self.by_key, Mark { spot, key })
+    }
+
+    /// Whether it has no hits at all.
+    pub fn is_empty(&self) -> bool
+        ensures { IsTrue result ↔ self.now.hits ≡ map.empty }
+    {
+        self.order.is_empty()
     }
 
     /// For how many keys there is room.

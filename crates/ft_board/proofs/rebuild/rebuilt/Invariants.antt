@@ -1,17 +1,13 @@
-use Rattle.std.proofs.Common.{drop}
-use Rattle.std.specs.Map.Iter.{deref}
+use Rattle.std.proofs.Common.{true}
 use Rattle.std.specs.Ordering.{nat_cmp}
-use Rattle.ft_maps.specs.Mapped.{entries_by}
 use Rattle.ft_maps.specs.Seen.{seen}
 use Rattle.ft_hist.specs.Steps.{StepsGrow}
-use Rattle.ft_replay.specs.Merged.{merged}
-use Rattle.ft_replay.specs.Named.{named}
-use Rattle.ft_board.proofs.KeptBoardBuilt.{IsBuilt}
+use Rattle.ft_board.proofs.Putting.{IsPut}
 use Rattle.ft_board.proofs.rebuild.rebuilt.Given as goal
 
--- the tables are kept of the events before those that are left; no count of steps fell
-abbrev pub invariant-loop-pos : goal.invariant-loop-pos
-invariant-loop-pos l = record {
-  built : IsBuilt (seen nat_cmp l.triggers) l.lanes (named (seen nat_cmp l.triggers) (merged l.lanes)) l.tables (entries_by deref (drop l.pos-index l.pos-items));
+-- the triggers that are left are idle; no count of steps fell
+abbrev pub invariant-loop-id : goal.invariant-loop-id
+invariant-loop-id l = record {
+  put : IsPut (seen nat_cmp l.triggers) l.lanes (λ _. true) l.id-iterator l.tables;
   grow : StepsGrow l.fn.work l.work;
 }

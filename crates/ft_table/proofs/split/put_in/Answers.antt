@@ -15,7 +15,7 @@ overflow_sub-split c =
     let few = c.requires.few in
     let f = enters-full count c.args.size c.args.rank c.args.order.now.items c.args.mark c.index.result.now c.args.split.now.hits c.args.split.now.dropped c.if-rank-size.true (omega arith) c.requires.split c.requires.few in
     let out = c.count_of-out.ensures ∙ ap (λ m. count m.key) c.index.ensures in
-    let into = c.count_of-count.ensures in
+    let into = c.requires.count in
     omega (arith, f.0, out, into)
 
 pub overflow_add-split-then-len-size : goal.overflow_add-split-then-len-size
@@ -24,7 +24,7 @@ overflow_add-split-then-len-size c =
     let full : c.args.size ≤ c.len.result = c.if-len-size.true in
     let f = enters-full count c.args.size c.args.rank c.args.order.now.items c.args.mark c.index.result.now c.args.split.now.hits c.args.split.now.dropped c.if-rank-size.true (omega arith) c.requires.split c.requires.few in
     let out = c.count_of-out.ensures ∙ ap (λ m. count m.key) c.index.ensures in
-    let into = c.count_of-count.ensures in
+    let into = c.requires.count in
     omega (arith, f.0, f.1.fits, out, into)
 
 pub returns-clause-split : goal.returns-clause-split
@@ -36,17 +36,17 @@ returns-clause-split c =
           let full : c.args.size ≤ w.len.result = w.if-len-size.true in
           let f = enters-full count c.args.size c.args.rank c.args.order.now.items c.args.mark w.index.result.now c.args.split.now.hits c.args.split.now.dropped w.if-rank-size.true (omega arith) c.requires.split c.requires.few in
           let out = w.count_of-out.ensures ∙ ap (λ m. count m.key) w.index.ensures in
-          let into = c.count_of-count.ensures in
+          let into = c.requires.count in
           resplit count f.1 items
           (ap (λ s. s.hits) w.split-is ∙ (λ j. c.args.split.now.hits + into j - out j))
           (ap (λ s. s.dropped) w.split-is ∙ ap (λ n. c.args.split.now.dropped + n) out)
       | then-rank-size+else-len-size w ↦
           let room : w.len.result < c.args.size = w.if-len-size.false in
           resplit count (enters-room count c.args.size c.args.rank c.args.order.now.items c.args.mark c.args.split.now.hits c.args.split.now.dropped w.if-rank-size.true (omega arith) c.requires.split c.requires.few) items
-          (ap (λ s. s.hits) w.split-is ∙ ap (λ n. c.args.split.now.hits + n) c.count_of-count.ensures)
+          (ap (λ s. s.hits) w.split-is ∙ ap (λ n. c.args.split.now.hits + n) c.requires.count)
           (ap (λ s. s.dropped) w.split-is)
       | else-rank-size w ↦
           resplit count (enters-behind count c.args.size c.args.rank c.args.order.now.items c.args.mark c.args.split.now.hits c.args.split.now.dropped w.if-rank-size.false (omega arith) c.requires.split c.requires.few) items
           (ap (λ s. s.hits) w.split-is)
-          (ap (λ s. s.dropped) w.split-is ∙ ap (λ n. c.args.split.now.dropped + n) c.count_of-count.ensures)
+          (ap (λ s. s.dropped) w.split-is ∙ ap (λ n. c.args.split.now.dropped + n) c.requires.count)
     ]

@@ -7,7 +7,7 @@ use Rattle.ft_table.specs.inner.ByKey.{hits_in}
 use Rattle.ft_table.specs.inner.Moves.{others}
 use Rattle.ft_table.proofs.Sorted.{rises-keys}
 use Rattle.ft_table.proofs.Firsts.{order-enter}
-use Rattle.ft_table.proofs.split.enter.Goals as goal
+use Rattle.ft_table.proofs.split.enter_with.Goals as goal
 
 pub last_rank_of-rank-requires : goal.last_rank_of-rank-requires
 last_rank_of-rank-requires c = subst (Rises mark_cmp) (sym (c.deref.ensures.value ∙ c.requires.order)) (rises-keys (others (hits_in c.args.by_key.now) c.args.mark.key))

@@ -1,0 +1,14 @@
+-- What stands in sorted lists of keys and runs.
+use Rattle.ft_keys.specs.Parts.{key_cmp}
+use Rattle.ft_maps.specs.Seen.{seen}
+use Rattle.ft_groups.specs.declared.sorted.Sorted.{Sorted}
+use Rattle.ft_groups.specs.Grouped.{Grouped}
+use Rattle.ft_groups.specs.inner.Placed.{ArePlaced, listed}
+
+-- the groups that stand there (our own choice)
+abbrev pub groups_of : Sorted → Grouped
+groups_of sorted = listed sorted.keys.items sorted.runs.items (seen key_cmp sorted.places)
+
+-- each key stands where its place says, with its run (our own choice)
+abbrev pub IsSorted : Sorted → Type 0
+IsSorted sorted = ArePlaced sorted.keys.items sorted.runs.items (seen key_cmp sorted.places)

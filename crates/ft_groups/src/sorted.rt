@@ -1,0 +1,118 @@
+//! Sorting events by key, one behind the other.
+
+ghost use Rattle.std.specs.Prelude.{◌≡◌, [], Some, None, slice_get, IfSome, IfOk, OnOk};
+ghost use Rattle.std.specs.FinMap as map;
+ghost use Rattle.std.specs.Option.{option_copied};
+ghost use Rattle.ft_keys.specs.Parts.{key_cmp};
+ghost use Rattle.ft_maps.specs.Seen.{seen};
+ghost use Rattle.ft_groups.specs.inner.Adding.{Adds};
+
+use crate::hints::{Hints, hash_of};
+use crate::run::Run;
+use ft_fields::{Event, Pos};
+use ft_hist::Key;
+use ft_maps::put;
+use std::alloc::{AllocError, Global};
+use std::collections::BTreeMap;
+
+/// Keys as they came, with the run of each at the same place, and the places by key.
+///
+/// Most events are of a key that came lately, which the hints tell without a look-up.
+#[derive(Drop)]
+pub(crate) struct Sorted<'a> {
+    pub(crate) keys: Vec<Key>,
+    pub(crate) runs: Vec<Run<'a>>,
+    pub(crate) places: BTreeMap<Key, usize>,
+    alloc: Global,
+    hints: Hints,
+}
+
+impl<'a> Sorted<'a> {
+    ghost use Rattle.ft_groups.specs.inner.Sorted.{IsSorted, groups_of};
+
+    /// No keys, with room for hints at so many events. Refused for memory.
+    pub(crate) fn new(alloc: Global, events: usize) -> Result<Sorted<'a>, AllocError>
+        ensures placed { IfOk result IsSorted }
+        ensures none { IfOk result (λ sorted.
+            groups_of sorted ≡ record { keys = []; runs = map.empty }) }
+    {
+        let hints = Hints::new(alloc, events)?;
+        Ok(Sorted {
+            keys: Vec::new(alloc),
+            runs: Vec::new(alloc),
+            places: BTreeMap::new(alloc),
+            alloc,
+            hints,
+        })
+    }
+
+    /// Adds an event of a key with its place. Refused for memory.
+    pub(crate) fn add(&mut self, key: Key, pos: Pos, event: &'a Event) -> Result<(), AllocError>
+        requires { IsSorted self.old }
+        ensures placed { OnOk result (IsSorted self.new) }
+        ensures adds { OnOk result
+            (Adds key (pos, event.now) (groups_of self.old) (groups_of self.new)) }
+    {
+        let hash = hash_of(&key);
+        match self.place_of(&key, hash) {
+            Some(place) => {
+                self.hints.note(hash, place);
+                self.runs[place].push(pos, event)
+            }
+            None => {
+                self.hints.note(hash, self.keys.len());
+                self.add_key(key, pos, event)
+            }
+        }
+    }
+
+    /// The run of a key, if it is there.
+    pub(crate) fn run(&self, key: &Key) -> Option<&Run<'a>>
+        requires { IsSorted self.now }
+        ensures { option_copied result ≡ map.get (groups_of self.now).runs key.now }
+    {
+        match self.place_of(key, hash_of(key)) {
+            Some(place) => Some(&self.runs[place]),
+            None => None,
+        }
+    }
+
+    /// The place of a key with a hash, if it is there.
+    fn place_of(&self, key: &Key, hash: u64) -> Option<usize>
+        requires { IsSorted self.now }
+        ensures { result ≡ map.get (seen key_cmp self.now.places) key.now }
+    {
+        match self.hinted(key, hash) {
+            Some(place) => Some(place),
+            None => self.places.get(key).copied(),
+        }
+    }
+
+    /// The place of a key, where the hint for its hash tells it.
+    fn hinted(&self, key: &Key, hash: u64) -> Option<usize>
+        ensures { IfSome result (λ place. slice_get self.now.keys.items place ≡ Some key.now) }
+    {
+        let place = self.hints.get(hash);
+        match self.keys.get(place) {
+            Some(other) if other == key => Some(place),
+            _ => None,
+        }
+    }
+
+    /// Adds a key that isn't there yet, with its first event. Refused for memory.
+    fn add_key(&mut self, key: Key, pos: Pos, event: &'a Event) -> Result<(), AllocError>
+        requires placed { IsSorted self.old }
+        requires new { map.get (seen key_cmp self.old.places) key ≡ None }
+        ensures placed { OnOk result (IsSorted self.new) }
+        ensures adds { OnOk result
+            (Adds key (pos, event.now) (groups_of self.old) (groups_of self.new)) }
+    {
+        let place = self.keys.len();
+        let mut run = Run::new(self.alloc);
+        run.push(pos, event)?;
+        put(&mut self.places, key, place)?;
+        self.runs.push(run)?;
+        self.keys.push(key)?;
+        Ok(())
+    }
+}

@@ -1,0 +1,9 @@
+-- What the reading found tells the values of its hit.
+use Rattle.std.proofs.Common.{sym}
+use Rattle.ft_kept.proofs.FoundRuns.{found_pushed}
+use Rattle.ft_kept.proofs.at_once_read.add_found.Goals as goal
+
+pub returns-clause-hits : goal.returns-clause-hits
+returns-clause-hits c =
+    found_pushed c.args.trigger.now (c.args.pos, c.args.event.now) c.in-Some.saved c.args.found c.traced.result c.values_read-values.result c.args.hits.now.items c.push.new.self.items
+    c.in_ok-push.ensures.items c.traced.ensures (c.values_read-values.ensures c.args.pos (sym c.requires)) c.in-Some.is

@@ -1,0 +1,26 @@
+-- Each event of the run gives its read.
+use Rattle.std.proofs.Common.{◌≡◌, ◌++◌, List, [], drop, Bor, refl, ap, ◌∙◌}
+use Rattle.std.specs.Map.Iter.{deref}
+use Rattle.std.proofs.lemmas.List.{drop_all}
+use Rattle.ft_fields.specs.Traced.{Traced}
+use Rattle.ft_fields.specs.declared.pos.Pos.{Pos}
+use Rattle.ft_maps.specs.Mapped.{entries_by}
+use Rattle.ft_kept.specs.inner.JoiningReads.{reads_of_run}
+use Rattle.ft_kept.proofs.KeyByKey.{first_event, made_all, made_more}
+use Rattle.ft_kept.proofs.at_once_read.reads_of.Goals as goal
+
+pub loop-pos-init : goal.loop-pos-init
+loop-pos-init c =
+    let id = c.args.joining.now.id in
+    ap (λ reads. reads ++ reads_of_run id (entries_by deref c.run-run.result.now)) c.in_ok-reads.ensures.items ∙ ap (reads_of_run id) c.run-run.ensures
+
+pub loop-pos-preserved : goal.loop-pos-preserved
+loop-pos-preserved c =
+    let first = first_event c.run-run.result.now c.loop-pos.pos-index c.loop-pos-item.result c.loop-pos-test.true c.loop-pos-item.is in
+    made_more c.loop-pos.reads.items c.push.new.self.items _ _ _ _ _ c.in_ok-push.ensures.items refl (ap (reads_of_run c.args.joining.now.id) first) c.loop-pos.invariant
+
+pub returns : goal.returns
+returns c =
+    let items : List (Pos × Bor Traced) = c.run-run.result.now in
+    let none : entries_by deref (drop c.loop-pos.pos-index items) ≡ [] = ap (entries_by deref) (drop_all c.loop-pos.pos-index items c.loop-pos-test.false) in
+    made_all c.loop-pos.reads.items _ _ (ap (reads_of_run c.args.joining.now.id) none) c.loop-pos.invariant

@@ -1,0 +1,48 @@
+-- All acts of one trigger that come at once, where nothing is kept of it yet.
+use Rattle.std.specs.Prelude.{◌≡◌, ℕ, List, Option, Some, None, option_map, option_and_then}
+use Rattle.std.specs.Ordering.{nat_cmp}
+use Rattle.std.specs.FinMap as map
+use Rattle.std.specs.FinMap.{FinMap}
+use Rattle.ft_fields.specs.Places.{pos_cmp}
+use Rattle.ft_fields.specs.Traced.{Traced}
+use Rattle.ft_fields.specs.declared.pos.Pos.{Pos}
+use Rattle.ft_groups.specs.Grouped.{Grouped, AreGrouped}
+use Rattle.ft_hist.specs.Hist.{Hist}
+use Rattle.ft_hist.specs.Hit.{hit}
+use Rattle.ft_keys.specs.declared.key.Part.{Part}
+use Rattle.ft_pairs.specs.declared.at.At.{At}
+use Rattle.ft_pairs.specs.declared.role.Role.TheVariants.{Saves, Reads}
+use Rattle.ft_table.specs.Values.{values_by}
+use Rattle.ft_kept.specs.Acts.{Acts}
+use Rattle.ft_kept.specs.Entries.{IsKept}
+use Rattle.ft_kept.specs.Shelves.{Shelved, Shelves, role_on, admits_on, kept_on}
+
+-- nothing is kept of a trigger yet: no hits are on its shelf and no notes are taken; what it saves has no operation; what it reads no other trigger reads (our own choice)
+pub record IsBare (id : ℕ) (shelves : Shelves) : Type 0 where
+  pub hits : (shelf : Shelved) → map.get shelves id ≡ Some shelf → shelf.table.hits ≡ map.empty
+  pub notes : (shelf : Shelved) → map.get shelves id ≡ Some shelf → shelf.notes ≡ None
+  pub saves : role_on shelves id ≡ Saves → (key : List Part) (at : At) → (kept_on shelves).ops (record { saver = id; key = key }) at ≡ None
+  pub alone : (saver other : ℕ) → role_on shelves id ≡ Reads saver → role_on shelves other ≡ Reads saver → other ≡ id
+
+-- groups of events that a trigger counts, each of which has the stamp of its place (our own choice)
+pub record AreGroupsOf (hist : Hist) (groups : Grouped) : Type 0 where
+  pub events : FinMap pos_cmp Traced
+  pub stamped : (pos : Pos) (event : Traced) → map.get events pos ≡ Some event → event.stamp ≡ pos.stamp
+  pub grouped : AreGrouped hist (map.entries events) groups
+
+-- the acts of one trigger at events (kernel: histogram.rst, hist triggers)
+abbrev pub acts_with : Hist → FinMap pos_cmp Traced → Pos → Option (List Part × Traced)
+acts_with hist events pos = option_and_then (λ event. option_map (λ key. (key, event)) (hit hist event)) (map.get events pos)
+
+-- all acts of one trigger come, where it had none; those of others stay (our own choice)
+pub record AllCome (id : ℕ) (acts : Pos → Option (List Part × Traced)) (before after : Acts) : Type 0 where
+  pub elsewhere : (q : At) → (q.trigger ≡ id → ⊥) → after q ≡ before q
+  pub absent : (pos : Pos) → before (record { pos = pos; trigger = id }) ≡ None
+  pub here : (pos : Pos) → after (record { pos = pos; trigger = id }) ≡ acts pos
+
+-- they came: where without them all was right, with them all is right (our own choice)
+abbrev pub AllHaveCome : FinMap nat_cmp Hist → ℕ → (Pos → Option (List Part × Traced)) → Shelves → Shelves → Type 0
+AllHaveCome triggers id acts old new =
+    (before after : Acts) → AllCome id acts before after
+    → IsKept (role_on old) (values_by triggers) (admits_on old) before (kept_on old)
+    → IsKept (role_on old) (values_by triggers) (admits_on new) after (kept_on new)

@@ -1,0 +1,23 @@
+-- Runs: all operations of one key at once, and reads that come together.
+use Rattle.std.specs.Prelude.{◌≡◌, ℕ, ◌<◌, List, length, Option, Some, None, slice_index_or, if◌then◌else◌}
+use Rattle.std.specs.List.{list_any}
+use Rattle.std.specs.FinMap as map
+use Rattle.ft_pairs.specs.declared.at.At.{At}
+use Rattle.ft_pairs.specs.declared.at.Op.{Op}
+use Rattle.ft_pairs.specs.declared.at.Op.TheVariants.{Read}
+use Rattle.ft_pairs.specs.Source.{Ops, IsSource}
+use Rattle.ft_pairs.specs.Edits.{same_at}
+use Rattle.ft_pairs.specs.ByKey.{KeyOps}
+
+-- the operations of a list, by place, whatever stood there (our own choice)
+abbrev pub ops_listed : List (At × Op) → Ops → Ops
+ops_listed run ops at = let listed : KeyOps = map.from_entries run in map.get listed at
+
+-- the operations with a read at each of some places (our own choice)
+abbrev pub with_reads : List At → Ops → Ops
+with_reads reads ops at = if list_any (same_at at) reads then Some Read else ops at
+
+-- what the reading at each of some places finds (our own choice)
+pub record FindEach (ops : Ops) (reads : List At) (found : List (Option At)) : Type 0 where
+  pub many : length found ≡ length reads
+  pub each : (i : ℕ) (d : At) → i < length reads → IsSource ops (slice_index_or reads i d) (slice_index_or found i None)
