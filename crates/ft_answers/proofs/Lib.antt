@@ -1,3 +1,5 @@
 pub mod Answering
 pub mod AnswerSteps
 pub mod MadeTables
+pub mod RowTexts
+pub mod OneRow

@@ -1,13 +1,15 @@
 -- What a desk answers: functions of what replaying its base gives.
-use Rattle.std.specs.Prelude.{ℕ, ◌-◌, List, ◌++◌, unwrap_or, Option, Some, Result, Ok, Err, map as list_map, if◌then◌else◌}
+use Rattle.std.specs.Prelude.{ℕ, ◌-◌, List, ◌++◌, unwrap_or, option_map, Option, Some, Result, Ok, Err, map as list_map, if◌then◌else◌}
 use Rattle.std.specs.Option.{option_map_or}
 use Rattle.std.specs.FinMap as map
 use Rattle.ft_fields.specs.declared.pos.Pos.{Pos}
 use Rattle.ft_hist.specs.Hist.{Hist}
+use Rattle.ft_keys.specs.declared.key.Part.{Part}
 use Rattle.ft_hist.specs.declared.label.Var.{Var}
 use Rattle.ft_hist.specs.declared.label.Var.TheVariants as vars
 use Rattle.ft_rows.specs.declared.row.Totals.{Totals}
-use Rattle.ft_table.specs.Text.{heading, rows_text}
+use Rattle.ft_rows.specs.Keyed.{KeyedText}
+use Rattle.ft_table.specs.Text.{heading, rows_text, row_text, keyed_text}
 use Rattle.ft_answers.specs.declared.latency.Latency.{Latency}
 use Rattle.ft_base.specs.declared.refused.Place.{Place}
 use Rattle.ft_base.specs.declared.refused.Refused.{Refused}
@@ -44,6 +46,22 @@ tally_text hist tally = heading hist ++ rows_text hist (rows_in hist.sort tally)
 abbrev pub hist_from : Triggers → Events → ℕ → Result (List ℕ) Refused
 hist_from triggers events id = of_attached triggers id (λ hist. Ok (tally_text hist (tally_shown triggers events id hist)))
 
+-- the rows of a trigger with a tally, in the order of its text: the key of each, and its text without the line break (kernel: histogram.rst, the `hist` file)
+unfoldable pub tally_rows : Hist → Tally → List KeyedText
+tally_rows hist tally = list_map (keyed_text hist) (rows_in hist.sort tally)
+
+-- the text of a key's row of a trigger with a tally, without the line break; none where the key isn't in the table (kernel: histogram.rst, the `hist` file)
+unfoldable pub tally_row : Hist → Tally → List Part → Option (List ℕ)
+tally_row hist tally key = option_map (row_text hist) (map.get tally.table key)
+
+-- the rows of the table of the trigger with an id, from replaying events (kernel: histogram.rst, the `hist` file)
+abbrev pub rows_from : Triggers → Events → ℕ → Result (List KeyedText) Refused
+rows_from triggers events id = of_attached triggers id (λ hist. Ok (tally_rows hist (tally_shown triggers events id hist)))
+
+-- the text of a key's row of the table of the trigger with an id, from replaying events (kernel: histogram.rst, the `hist` file)
+abbrev pub row_from : Triggers → Events → ℕ → List Part → Result (Option (List ℕ)) Refused
+row_from triggers events id key = of_attached triggers id (λ hist. Ok (tally_row hist (tally_shown triggers events id hist) key))
+
 -- the totals of the trigger with an id, from replaying events (kernel: histogram.rst, `Hits`, `Entries` and `Dropped`)
 abbrev pub totals_from : Triggers → Events → ℕ → Result Totals Refused
 totals_from triggers events id = of_attached triggers id (λ hist. Ok (totals_in (tally_shown triggers events id hist)))
@@ -70,6 +88,14 @@ latencies_from triggers events id = of_attached triggers id (λ hist. latencies_
 -- the text of a trigger's table (kernel: histogram.rst, the `hist` file)
 unfoldable pub hist_text : Base → ℕ → Result (List ℕ) Refused
 hist_text base = hist_from base.triggers (merged base.lanes)
+
+-- the rows of a trigger's table (kernel: histogram.rst, the `hist` file)
+unfoldable pub rows_shown : Base → ℕ → Result (List KeyedText) Refused
+rows_shown base = rows_from base.triggers (merged base.lanes)
+
+-- the text of a key's row of a trigger's table (kernel: histogram.rst, the `hist` file)
+unfoldable pub row_shown : Base → ℕ → List Part → Result (Option (List ℕ)) Refused
+row_shown base = row_from base.triggers (merged base.lanes)
 
 -- a trigger's totals (kernel: histogram.rst, `Hits`, `Entries` and `Dropped`)
 unfoldable pub totals : Base → ℕ → Result Totals Refused

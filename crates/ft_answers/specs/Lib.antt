@@ -6,6 +6,7 @@ pub mod Edited
 pub mod Costs
 pub mod Deferral
 pub mod Reporting
+pub mod Rows
 pub mod inner
 pub use Rattle.ft_base.specs.Refused
 pub use Rattle.ft_base.specs.Base

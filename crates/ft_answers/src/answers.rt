@@ -100,7 +100,7 @@ pub fn counts_made(trigger: &Trigger) -> bool
 }
 
 /// The counter of an attached trigger after all held events. Refused for memory.
-fn counter_at(
+pub(crate) fn counter_at(
     alloc: Global,
     lanes: &Lanes,
     triggers: &BTreeMap<u32, Trigger>,
@@ -121,7 +121,7 @@ fn counter_at(
 
 /// The table of an attached trigger that counts the events which readings make, after all held
 /// events. Refused for memory.
-fn made_at(
+pub(crate) fn made_at(
     alloc: Global,
     lanes: &Lanes,
     triggers: &BTreeMap<u32, Trigger>,

@@ -6,7 +6,8 @@ use crate::latency::Latency;
 use ft_base::Refused;
 use ft_fields::{Event, Name};
 use ft_filter::Filter;
-use ft_hist::Trigger;
+use ft_hist::{Key, Trigger};
+use ft_rows::TableRow;
 use ft_table::Totals;
 
 /// Lanes of events and attached triggers, with the answers that replaying the events gives.
@@ -27,7 +28,8 @@ pub trait Board: Drop {
     ghost use Rattle.ft_base.specs.declared.refused.Refused.TheVariants.{Memory};
     ghost use Rattle.ft_base.specs.After.{after_load, after_unload, after_insert, after_strike};
     ghost use Rattle.ft_base.specs.After.{after_attach, after_refilter, after_remove};
-    ghost use Rattle.ft_answers.specs.Answers.{hist_text, totals, latencies, list_text};
+    ghost use Rattle.ft_answers.specs.Answers.{hist_text, rows_shown, row_shown};
+    ghost use Rattle.ft_answers.specs.Answers.{totals, latencies, list_text};
     ghost use Rattle.ft_answers.specs.Costs.{EditCounts, RepairCosts, LoadCosts, UnloadCosts};
     ghost use Rattle.ft_answers.specs.Costs.{FilterCosts, AnswerCosts};
     ghost use Rattle.ft_answers.specs.Deferral.{IsNoHit, IsPlainHit, IsPlainLane, ReadsNothing};
@@ -131,6 +133,21 @@ pub trait Board: Drop {
     fn hist(&mut self, id: u32) -> Result<Vec<u8>, Refused>
         ensures gives { AnswersFrom (λ text. text.items) (hist_text (shown self.old).base id)
             (shown self.old) (shown self.new) result }
+        ensures steps { AnswerCosts (shown self.old) (shown self.new) };
+
+    /// The rows of a trigger's table in the order of its text, each with its key, and with its text
+    /// as `hist` gives it, without the line break. Refused where no trigger has the id, or for
+    /// memory.
+    fn rows(&mut self, id: u32) -> Result<Vec<TableRow>, Refused>
+        ensures gives { AnswersFrom (λ rows. rows.items) (rows_shown (shown self.old).base id)
+            (shown self.old) (shown self.new) result }
+        ensures steps { AnswerCosts (shown self.old) (shown self.new) };
+
+    /// The text of a key's row of a trigger's table as `hist` gives it, without the line break; none
+    /// where the key isn't in the table. Refused where no trigger has the id, or for memory.
+    fn row(&mut self, id: u32, key: &Key) -> Result<Option<Vec<u8>>, Refused>
+        ensures gives { AnswersFrom (option_map (λ text. text.items))
+            (row_shown (shown self.old).base id key.now) (shown self.old) (shown self.new) result }
         ensures steps { AnswerCosts (shown self.old) (shown self.new) };
 
     /// What a trigger has counted: its hits, the keys in its table, and the hits that found no

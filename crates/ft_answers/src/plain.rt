@@ -7,10 +7,12 @@ use crate::board::Board;
 use crate::done::{Done, Kept};
 use crate::edited::Edited;
 use crate::latency::Latency;
+use crate::rows::{row_from, rows_from};
 use ft_base::{Content, Place, Refused};
 use ft_fields::{Event, Name};
 use ft_filter::Filter;
-use ft_hist::{Trigger, Work};
+use ft_hist::{Key, Trigger, Work};
+use ft_rows::TableRow;
 use ft_table::Totals;
 use std::alloc::Global;
 use std::marker::Model;
@@ -123,6 +125,18 @@ impl Board for PlainBoard {
         let lanes = self.content.lanes();
         let triggers = self.content.triggers();
         hist_from(self.alloc, lanes, triggers, id, &mut self.work)
+    }
+
+    fn rows(&mut self, id: u32) -> Result<Vec<TableRow>, Refused> {
+        let lanes = self.content.lanes();
+        let triggers = self.content.triggers();
+        rows_from(self.alloc, lanes, triggers, id, &mut self.work)
+    }
+
+    fn row(&mut self, id: u32, key: &Key) -> Result<Option<Vec<u8>>, Refused> {
+        let lanes = self.content.lanes();
+        let triggers = self.content.triggers();
+        row_from(self.alloc, lanes, triggers, id, key, &mut self.work)
     }
 
     fn totals(&mut self, id: u32) -> Result<Totals, Refused> {

@@ -16,6 +16,7 @@ pub mod LaneGoes
 pub mod LanesCome
 pub mod CountComing
 pub mod KeptBoardTold
+pub mod ToldRows
 pub mod MadeShelves
 pub mod Makers
 pub mod Mending

@@ -13,12 +13,12 @@ use crate::rebuild::renew;
 use crate::refilter::make_way;
 use crate::repair::{let_come, let_go};
 use crate::report::{report, reported_edits};
-use crate::told::{catch_up, latencies_in, shelf_in, text_in, totals_in};
-use ft_answers::{Board, Done, Edited, Kept, Latency};
+use crate::told::{catch_up, latencies_in, row_in, rows_in, shelf_in, text_in, totals_in};
+use ft_answers::{Board, Done, Edited, Kept, Latency, TableRow};
 use ft_base::{Content, Refused, attached, is_reader};
 use ft_fields::{Event, Name};
 use ft_filter::Filter;
-use ft_hist::{Trigger, Work};
+use ft_hist::{Key, Trigger, Work};
 use ft_kept::{Acted, Tables};
 use ft_table::{Table, Totals};
 use std::alloc::Global;
@@ -297,6 +297,45 @@ impl Board for KeptBoard {
             &self.content,
             id,
             trigger,
+        )
+    }
+
+    fn rows(&mut self, id: u32) -> Result<Vec<TableRow>, Refused> {
+        let trigger = attached(self.content.triggers(), id)?;
+        catch_up(
+            &mut self.kept,
+            &mut self.made,
+            self.alloc,
+            &self.content,
+            &mut self.work,
+        );
+        rows_in(
+            &self.kept,
+            &self.made,
+            self.alloc,
+            &self.content,
+            id,
+            trigger,
+        )
+    }
+
+    fn row(&mut self, id: u32, key: &Key) -> Result<Option<Vec<u8>>, Refused> {
+        let trigger = attached(self.content.triggers(), id)?;
+        catch_up(
+            &mut self.kept,
+            &mut self.made,
+            self.alloc,
+            &self.content,
+            &mut self.work,
+        );
+        row_in(
+            &self.kept,
+            &self.made,
+            self.alloc,
+            &self.content,
+            id,
+            trigger,
+            key,
         )
     }
 

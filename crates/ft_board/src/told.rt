@@ -1,7 +1,7 @@
 //! What a board answers about an attached trigger, from what it keeps.
 
 ghost use Rattle.std.specs.Prelude.{◌≡◌, [], false, IfOk, IfErr, OnOk, OnErr, IfSome, IsSome};
-ghost use Rattle.std.specs.Prelude.{Some, None, map as list_map};
+ghost use Rattle.std.specs.Prelude.{Some, None, option_map, map as list_map};
 ghost use Rattle.std.specs.Option.{is_none};
 ghost use Rattle.std.specs.Ordering.{nat_cmp};
 ghost use Rattle.std.specs.FinMap as map;
@@ -10,7 +10,8 @@ ghost use Rattle.ft_hist.specs.Hist.{Hist};
 ghost use Rattle.ft_maps.specs.Seen.{seen};
 ghost use Rattle.ft_hist.specs.Steps.{StepsGrow};
 ghost use Rattle.ft_table.specs.Rows.{AllFit, totals_of};
-ghost use Rattle.ft_answers.specs.Answers.{hist_text, totals, tally_text, latency_of};
+ghost use Rattle.ft_answers.specs.Answers.{hist_text, rows_shown, row_shown, totals};
+ghost use Rattle.ft_answers.specs.Answers.{tally_text, tally_rows, tally_row, latency_of};
 ghost use Rattle.ft_base.specs.declared.refused.Refused.TheVariants.{Memory};
 ghost use Rattle.ft_base.specs.Base.{Base};
 ghost use Rattle.ft_replay.specs.Found.{pairs_in};
@@ -22,10 +23,10 @@ ghost use Rattle.ft_board.specs.inner.Told.{IsTold, Tells};
 use crate::laws;
 use crate::made::remake;
 use crate::rebuild::restore;
-use ft_answers::{Latency, counts_made, latency_of, table_text};
+use ft_answers::{Latency, TableRow, counts_made, latency_of, table_row, table_rows, table_text};
 use ft_base::{Content, Refused};
 use ft_fields::Pos;
-use ft_hist::{Trigger, Work};
+use ft_hist::{Key, Trigger, Work};
 use ft_kept::{Shelf, Tables};
 use ft_maps::{entries, get, len};
 use ft_replay::Pair;
@@ -77,6 +78,52 @@ pub(crate) fn text_in(
     Ok(table_text(alloc, trigger, shelf.table())?)
 }
 
+/// The rows of the table of an attached trigger. Refused for memory.
+pub(crate) fn rows_in(
+    kept: &Option<Tables>,
+    made: &BTreeMap<u32, Table>,
+    alloc: Global,
+    content: &Content,
+    id: u32,
+    trigger: &Trigger,
+) -> Result<Vec<TableRow>, Refused>
+    requires attached { map.get content.now.triggers id ≡ Some trigger.now }
+    requires kept { IfSome kept.now (AreKeptOf content.now) }
+    requires made { IfSome kept.now (λ _. AreMade content.now (seen nat_cmp made.now)) }
+    ensures { IsTold (λ rows. rows.items) (rows_shown content.now id) kept.now result }
+{
+    ft_made::made_tables();
+    let shelf = shelf_in(kept, id)?;
+    if counts_made(trigger) {
+        return Ok(made_rows(made, alloc, id, trigger)?);
+    }
+    Ok(table_rows(alloc, trigger, shelf.table())?)
+}
+
+/// The text of a key's row of the table of an attached trigger. Refused for memory.
+pub(crate) fn row_in(
+    kept: &Option<Tables>,
+    made: &BTreeMap<u32, Table>,
+    alloc: Global,
+    content: &Content,
+    id: u32,
+    trigger: &Trigger,
+    key: &Key,
+) -> Result<Option<Vec<u8>>, Refused>
+    requires attached { map.get content.now.triggers id ≡ Some trigger.now }
+    requires kept { IfSome kept.now (AreKeptOf content.now) }
+    requires made { IfSome kept.now (λ _. AreMade content.now (seen nat_cmp made.now)) }
+    ensures { IsTold (option_map (λ text. text.items)) (row_shown content.now id key.now)
+        kept.now result }
+{
+    ft_made::made_tables();
+    let shelf = shelf_in(kept, id)?;
+    if counts_made(trigger) {
+        return Ok(made_row(made, alloc, id, trigger, key)?);
+    }
+    Ok(table_row(alloc, trigger, shelf.table(), key)?)
+}
+
 /// The totals of an attached trigger. Refused for memory where there are no tables.
 pub(crate) fn totals_in(
     kept: &Option<Tables>,
@@ -114,6 +161,41 @@ fn made_text(
     match get(made, &id) {
         Some(table) => table_text(alloc, trigger, table),
         None => table_text(alloc, trigger, &Table::new(alloc, trigger.size())),
+    }
+}
+
+/// The rows of a trigger's table of made events. Refused for memory.
+fn made_rows(
+    made: &BTreeMap<u32, Table>,
+    alloc: Global,
+    id: u32,
+    trigger: &Trigger,
+) -> Result<Vec<TableRow>, AllocError>
+    requires { AllFit (made_on (seen nat_cmp made.now) id trigger.now) trigger.now }
+    ensures { IfOk result (λ rows. rows.items ≡ tally_rows trigger.now
+        (tally_of (made_on (seen nat_cmp made.now) id trigger.now) [])) }
+{
+    match get(made, &id) {
+        Some(table) => table_rows(alloc, trigger, table),
+        None => table_rows(alloc, trigger, &Table::new(alloc, trigger.size())),
+    }
+}
+
+/// The text of a key's row of a trigger's table of made events. Refused for memory.
+fn made_row(
+    made: &BTreeMap<u32, Table>,
+    alloc: Global,
+    id: u32,
+    trigger: &Trigger,
+    key: &Key,
+) -> Result<Option<Vec<u8>>, AllocError>
+    requires { AllFit (made_on (seen nat_cmp made.now) id trigger.now) trigger.now }
+    ensures { IfOk result (λ text. option_map (λ t. t.items) text ≡ tally_row trigger.now
+        (tally_of (made_on (seen nat_cmp made.now) id trigger.now) []) key.now) }
+{
+    match get(made, &id) {
+        Some(table) => table_row(alloc, trigger, table, key),
+        None => table_row(alloc, trigger, &Table::new(alloc, trigger.size()), key),
     }
 }
 

@@ -13,7 +13,8 @@ use Rattle.ft_desk.specs.declared.running.Status.{Status}
 use Rattle.ft_desk.specs.declared.program.Fault.{Fault}
 use Rattle.ft_desk.specs.declared.program.Fault.TheVariants.{Words, File, Memory, Read, Write}
 use Rattle.ft_desk.specs.Program.{told_of_words, told_of_file}
-use Rattle.ft_desk.specs.inner.Ends.{TellsFiles, FilesGive, RunTells, told_of_script, ProgramEnds}
+use Rattle.ft_desk.specs.Program.{TellsFiles, FilesGive}
+use Rattle.ft_desk.specs.inner.Ends.{RunTells, told_of_script, ProgramEnds}
 
 -- the texts of paths
 abbrev pub texts_at : List (Bor (List ℕ)) → List (List ℕ)

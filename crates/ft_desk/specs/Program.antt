@@ -1,8 +1,9 @@
--- The program's exit status, and what it tells of faults. All of it is our own choice.
-use Rattle.std.specs.Prelude.{ℕ, List, Result, Ok, Err}
+-- The program's files, its exit status, and what it tells of faults. All of it is our own choice.
+use Rattle.std.specs.Prelude.{◌≡◌, ⊤, ℕ, List, [], ◌∷◌, ◌++◌, Result, Ok, Err}
 use Rattle.ft_desk.specs.declared.running.Status.{Status}
 use Rattle.ft_desk.specs.declared.running.Status.TheVariants.{AllAccepted, SomeRefused}
 use Rattle.std.specs.Borrow.{Bor}
+use Rattle.ft_words.specs.Files.{Told, TellsBytes}
 use Rattle.ft_words.specs.declared.files.FileFault.{FileFault}
 use Rattle.ft_words.specs.declared.files.FileFault.TheVariants as of_file
 use Rattle.ft_words.specs.declared.words.WordsFault.{WordsFault}
@@ -33,3 +34,23 @@ told_of_run of_run.Write = told.Write
 abbrev pub told_of_file : Bor (List ℕ) → FileFault → Fault
 told_of_file path of_file.Memory = told.Memory
 told_of_file path of_file.Unreadable = told.File path
+
+-- these are the files at the paths in order, as far as they are told
+abbrev pub TellsFiles : (List ℕ → Told) → List (List ℕ) → List (List ℕ) → Type 0
+TellsFiles by_path [] [] = ⊤
+TellsFiles by_path [] (file ∷ files) = ⊥
+TellsFiles by_path (path ∷ paths) [] = ⊥
+TellsFiles by_path (path ∷ paths) (file ∷ files) = TellsBytes (by_path path) file × TellsFiles by_path paths files
+
+-- a path of these cannot be read, but all before it can
+abbrev pub FailsFirst : (List ℕ → Told) → List (List ℕ) → List ℕ → Type 0
+FailsFirst by_path paths path = (front : List (List ℕ)) × (back : List (List ℕ)) × (files : List (List ℕ)) × (paths ≡ front ++ path ∷ back) × TellsFiles by_path front files
+
+-- the files at the paths in order, or the first that cannot be read
+abbrev pub FilesGive : (List ℕ → Told) → List (List ℕ) → Result (List (List ℕ)) Fault → Type 0
+FilesGive by_path paths (Ok files) = TellsFiles by_path paths files
+FilesGive by_path paths (Err (told.File path)) = FailsFirst by_path paths path.now
+FilesGive by_path paths (Err told.Memory) = ⊤
+FilesGive by_path paths (Err told.Words) = ⊥
+FilesGive by_path paths (Err told.Read) = ⊥
+FilesGive by_path paths (Err told.Write) = ⊥

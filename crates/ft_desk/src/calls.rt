@@ -10,7 +10,7 @@ use std::marker::Model;
 ///
 /// Contracts see the two numbers, `made` and `failed`. At run time it is nothing.
 #[derive(Drop)]
-pub(crate) struct Calls {
+pub struct Calls {
     made: Count,
     failed: Count,
 }
@@ -25,7 +25,7 @@ impl Model for Calls {
 
 impl Calls {
     /// No call yet.
-    pub(crate) fn none() -> Calls
+    pub fn none() -> Calls
         ensures made { result.made ≡ 0 }
         ensures failed { result.failed ≡ 0 }
     {
@@ -36,7 +36,7 @@ impl Calls {
     }
 
     /// Counts a call, before it is known how it goes.
-    pub(crate) fn tick(&mut self)
+    pub fn tick(&mut self)
         ensures made { self.new.made ≡ self.old.made + 1 }
         ensures failed { self.new.failed ≡ self.old.failed }
     {
@@ -44,7 +44,7 @@ impl Calls {
     }
 
     /// Counts that a call failed.
-    pub(crate) fn tick_failed(&mut self)
+    pub fn tick_failed(&mut self)
         ensures made { self.new.made ≡ self.old.made }
         ensures failed { self.new.failed ≡ self.old.failed + 1 }
     {

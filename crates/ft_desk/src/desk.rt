@@ -9,11 +9,11 @@ ghost use Rattle.ft_desk.specs.Edits.{trigger_for, trigger_or_refused, refused_f
 ghost use Rattle.ft_desk.specs.Edits.{filter_for, filter_or_refused, filter_refused};
 
 use crate::events::{event_in, events_in};
-use ft_answers::{Board, Done, Edited, Latency, Refused};
+use ft_answers::{Board, Done, Edited, Latency, Refused, TableRow};
 use ft_event::Name;
 use ft_filter::{Filter, FilterFault};
 use ft_table::Totals;
-use ft_trigger::{Trigger, TriggerFault, parse};
+use ft_trigger::{Key, Trigger, TriggerFault, parse};
 use std::alloc::Global;
 use std::marker::Model;
 
@@ -36,7 +36,7 @@ impl<B: Board> Model for Desk<B> {
 }
 
 impl<B: Board> Desk<B> {
-    ghost use Rattle.std.specs.Prelude.{◌≡◌, ◌≢◌, true, List, Some, Ok, Err};
+    ghost use Rattle.std.specs.Prelude.{◌≡◌, ◌≢◌, true, List, Some, Ok, Err, option_map};
     ghost use Rattle.std.specs.Option.{option_copied};
     ghost use Rattle.ft_base.specs.declared.refused.Refused.TheVariants.{Memory};
     ghost use Rattle.ft_answers.specs.After.{after_unload, after_strike, after_remove};
@@ -49,7 +49,8 @@ impl<B: Board> Desk<B> {
     ghost use Rattle.ft_answers.specs.Deferral.{IsNoHit, IsPlainHit, IsPlainLane};
     ghost use Rattle.ft_answers.specs.Deferral.{ReadsNothing, WantsForTables};
     ghost use Rattle.ft_answers.specs.Edited.{EditGives, AnswersFrom, AnswerIs};
-    ghost use Rattle.ft_answers.specs.Answers.{hist_text, totals, latencies, list_text};
+    ghost use Rattle.ft_answers.specs.Answers.{hist_text, rows_shown, row_shown};
+    ghost use Rattle.ft_answers.specs.Answers.{totals, latencies, list_text};
     ghost use Rattle.ft_answers.specs.Reporting.{Reports};
     ghost use Rattle.ft_desk.specs.Edits.{after_load_text, after_insert_text};
     ghost use Rattle.ft_desk.specs.Edits.{after_attach_text, after_refilter_text};
@@ -177,6 +178,27 @@ impl<B: Board> Desk<B> {
         self.board.hist(id)
     }
 
+    /// The rows of a trigger's table in the order of its text, each with its key, and with its text
+    /// as `hist` gives it, without the line break. Refused where no trigger has the id, or for
+    /// memory.
+    pub fn rows(&mut self, id: u32) -> Result<Vec<TableRow>, Refused>
+        ensures gives { AnswersFrom (λ rows. rows.items) (rows_shown self.old.base id)
+            self.old self.new result }
+        ensures steps { AnswerCosts self.old self.new }
+    {
+        self.board.rows(id)
+    }
+
+    /// The text of a key's row of a trigger's table as `hist` gives it, without the line break; none
+    /// where the key isn't in the table. Refused where no trigger has the id, or for memory.
+    pub fn row(&mut self, id: u32, key: &Key) -> Result<Option<Vec<u8>>, Refused>
+        ensures gives { AnswersFrom (option_map (λ text. text.items))
+            (row_shown self.old.base id key.now) self.old self.new result }
+        ensures steps { AnswerCosts self.old self.new }
+    {
+        self.board.row(id, key)
+    }
+
     /// What a trigger has counted: its hits, the keys in its table, and the hits that found no
     /// room. Refused where no trigger has the id, or for memory.
     pub fn totals(&mut self, id: u32) -> Result<Totals, Refused>
@@ -205,7 +227,7 @@ impl<B: Board> Desk<B> {
         self.board.list(cpu)
     }
 
-    /// Whether the board is deferred: its kept tables lack an edit, and the next table, totals or
+    /// Whether the board is deferred: its kept tables lack an edit, and the next table, row, totals or
     /// latencies of an attached trigger rebuild them.
     pub fn is_deferred(&self) -> bool
         ensures { result ≡ self.now.deferred }

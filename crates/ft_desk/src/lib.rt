@@ -26,8 +26,11 @@ mod program;
 mod running;
 mod sending;
 
+pub use calls::Calls;
 pub use desk::Desk;
-pub use ft_answers::{Board, Changed, Done, Edited, Kept, Latency, Place, PlainBoard, Refused};
+pub use ft_answers::{
+    Board, Changed, Done, Edited, Kept, Latency, Place, PlainBoard, Refused, TableRow,
+};
 pub use ft_event::{LineFault, Name};
 pub use ft_filter::FilterFault;
 pub use ft_table::Totals;
@@ -35,6 +38,8 @@ pub use ft_trigger::TriggerFault;
 pub use ft_words::{FileFault, Words, WordsFault, read_file, read_whole, read_words};
 pub use in_memory::{Ran, run_text};
 pub use laws::{first_lines, what_runs_write};
-pub use performing::{Performed, perform};
-pub use program::histdesk;
-pub use running::{ASKING_LIMIT, RunFault, Status, run};
+pub use performing::{Performed, perform, refused};
+pub use pieces::{Taken, take_part};
+pub use program::{BUFFER, Fault, arguments, exit_status, histdesk, read_traces};
+pub use running::{ASKING_LIMIT, RunFault, Status, flush_after, run, status_from};
+pub use sending::send;

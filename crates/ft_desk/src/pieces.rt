@@ -18,7 +18,7 @@ const KEPT: usize = LINE_LIMIT + 1;
 
 /// What was taken of a script, as its reader was asked once.
 #[derive(Clone, Copy, Debug, PartialEq, Eq)]
-pub(crate) enum Taken {
+pub enum Taken {
     /// A part of a line.
     Part,
     /// The rest of a line, and its end.
@@ -30,7 +30,7 @@ pub(crate) enum Taken {
 /// Reads what the reader shows, up to and with a line's end, and adds the line's part to its piece.
 /// Memory and the reader can fail; an interrupted read is an error too. Here alone the reader is
 /// asked, which is counted: not once more than the bound, and not after it failed.
-pub(crate) fn take_part<R: BufRead>(
+pub fn take_part<R: BufRead>(
     script: &mut R,
     asked: &mut Calls,
     piece: &mut Vec<u8>,

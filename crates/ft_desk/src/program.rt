@@ -5,25 +5,29 @@ ghost use Rattle.std.specs.Result.{result_map_both};
 ghost use Rattle.ft_answers.specs.Base.{empty_base};
 ghost use Rattle.ft_words.specs.Files.{Told, TellsReader};
 ghost use Rattle.ft_words.specs.Words.{named_in};
-ghost use Rattle.ft_desk.specs.Program.{exit_status_of, told_of_words, told_of_run, told_of_file};
-ghost use Rattle.ft_desk.specs.inner.Ends.{FilesGive, RunTells, ProgramEnds};
+ghost use Rattle.ft_desk.specs.Program.{exit_status_of, told_of_words, told_of_run, told_of_file, FilesGive};
+ghost use Rattle.ft_desk.specs.inner.Ends.{RunTells, ProgramEnds};
 ghost use Rattle.ft_desk.specs.declared.program.Fault.TheVariants.{Memory};
 
-use crate::running::{RunFault, Status, run};
+use crate::desk::Desk;
+use crate::running::{RunFault, Status, run_over};
 use ft_answers::Board;
 use ft_words::{FileFault, Paths, WordsFault, read_file, read_words};
 use std::alloc::{AllocError, AllocFailed, Global};
 use std::io::{BufReader, ErrorKind, Read};
 use std::rt::{Env, Files};
-use std::{env, io};
+use std::{env, io, mem};
 use thiserror::Error;
 
+/// The program's name, which stands before its faults.
+const NAME: &str = "histdesk";
+
 /// How many bytes of the script are read at once.
-const BUFFER: usize = 65_536;
+pub const BUFFER: usize = 65_536;
 
 /// Why the program ended before its script did.
 #[derive(Debug, Drop, Error)]
-pub(crate) enum Fault<'a> {
+pub enum Fault<'a> {
     /// A word looks like an option.
     #[error("bad words")]
     Words,
@@ -82,7 +86,7 @@ impl<'a> From<RunFault> for Fault<'a> {
 
 impl<'a> Fault<'a> {
     /// The fault of words that cannot be had, as where one is no text.
-    fn of_arguments(error: &io::Error) -> Fault<'a> {
+    pub fn of_arguments(error: &io::Error) -> Fault<'a> {
         match error.kind() {
             ErrorKind::OutOfMemory => Fault::Memory,
             _ => Fault::Read,
@@ -90,7 +94,7 @@ impl<'a> Fault<'a> {
     }
 
     /// The fault of a file that has this path.
-    fn at(path: &'a str, fault: FileFault) -> Fault<'a>
+    pub fn at(path: &'a str, fault: FileFault) -> Fault<'a>
         ensures { result ≡ told_of_file path.entry fault }
     {
         match fault {
@@ -112,25 +116,25 @@ where
 {
     let args = match arguments(rt) {
         Ok(args) => args,
-        Err(error) => return exit_status(rt, Err(Fault::of_arguments(&error))),
+        Err(error) => return exit_status(rt, NAME, Err(Fault::of_arguments(&error))),
     };
-    exit_status(rt, run_words(rt, board, args.as_slice()))
+    exit_status(rt, NAME, run_words(rt, board, args.as_slice()))
 }
 
 /// The program's words, its own name first.
-fn arguments<P: Env + AllocGlobal>(rt: &P) -> io::Result<Vec<String>> {
+pub fn arguments<P: Env + AllocGlobal>(rt: &P) -> io::Result<Vec<String>> {
     Ok(env::args(rt)?.collect(rt.alloc())?)
 }
 
-/// The exit status of a run, whose fault is printed.
-fn exit_status<P: Eprint>(rt: &P, ended: Result<Status, Fault<'_>>) -> u8
+/// The exit status of a run of the program of a name. A fault is printed behind the name.
+pub fn exit_status<P: Eprint>(rt: &P, name: &str, ended: Result<Status, Fault<'_>>) -> u8
     ensures { result ≡ exit_status_of ended.entry }
 {
     match ended {
         Ok(Status::AllAccepted) => 0,
         Ok(Status::SomeRefused) => 1,
         Err(fault) => {
-            let _ = eprintln!(rt; "histdesk: {fault}");
+            let _ = eprintln!(rt; "{name}: {fault}");
             2
         }
     }
@@ -157,7 +161,7 @@ where
 }
 
 /// The trace files at these paths, each read whole.
-fn read_traces<'a, P: Paths>(
+pub fn read_traces<'a, P: Paths>(
     alloc: Global,
     files: &P,
     paths: &[&'a str],
@@ -194,5 +198,9 @@ where
     let mut script = BufReader::with_capacity(alloc, BUFFER, script).map_err(|_| Fault::Memory)?;
     // A command's output is written at once, so that who types a script sees it.
     let mut out = io::writer(rt);
-    Ok(run(alloc, board, traces, &mut script, &mut out)?)
+    let mut desk = Desk::new(alloc, board);
+    let ended = run_over(&mut desk, alloc, traces, &mut script, &mut out);
+    // The process ends next, and with it goes all that is held at once.
+    mem::forget(desk);
+    Ok(ended?)
 }

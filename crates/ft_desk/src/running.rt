@@ -67,8 +67,26 @@ pub fn run<B: Board, R: BufRead, W: Write>(
         (R.remaining script.old) (R.remaining script.new)
         (W.contents out.old) (W.contents out.new) }
 {
+    let mut desk = Desk::new(alloc, board);
+    run_over(&mut desk, alloc, files, script, out)
+}
+
+/// Runs a script as `run` does, over a desk on which nothing is held or attached yet: what it holds
+/// at the end is left to the caller.
+pub(crate) fn run_over<B: Board, R: BufRead, W: Write>(
+    desk: &mut Desk<B>,
+    alloc: Global,
+    files: &[Vec<u8>],
+    script: &mut R,
+    out: &mut W,
+) -> Result<Status, RunFault>
+    requires { desk.old.base ≡ empty_base }
+    ensures { RunEnds (map (λ f. f.items) files.now) result
+        (R.remaining script.old) (R.remaining script.new)
+        (W.contents out.old) (W.contents out.new) }
+{
     let mut asked = Calls::none();
-    let answer = answer_script(alloc, board, files, script, &mut asked, out);
+    let answer = answer_script(desk, alloc, files, script, &mut asked, out);
     let mut flushed = Calls::none();
     flush_after(answer, out, &mut flushed)
 }
@@ -76,14 +94,14 @@ pub fn run<B: Board, R: BufRead, W: Write>(
 /// Answers the lines of a script, one after the other. The reader is asked `ASKING_LIMIT` times at
 /// most, and not again once it failed.
 fn answer_script<B: Board, R: BufRead, W: Write>(
+    desk: &mut Desk<B>,
     alloc: Global,
-    board: B,
     files: &[Vec<u8>],
     script: &mut R,
     asked: &mut Calls,
     out: &mut W,
 ) -> Result<Status, RunFault>
-    requires empty { (B.shown board).base ≡ empty_base }
+    requires empty { desk.old.base ≡ empty_base }
     requires first { asked.old.made ≡ 0 }
     requires well { asked.old.failed ≡ 0 }
     ensures ends { RunEnds (map (λ f. f.items) files.now) result
@@ -92,19 +110,18 @@ fn answer_script<B: Board, R: BufRead, W: Write>(
     ensures turns { asked.new.made ≤ asking_limit }
     ensures asks { AsksReader result asked.new }
 {
-    let mut desk = Desk::new(alloc, board);
     let mut piece = Vec::new(alloc);
     let mut refused = false;
     for _turn in 0..ASKING_LIMIT {
         match take_part(script, asked, &mut piece)? {
             Taken::Part => {}
             Taken::Line => {
-                refused |= answer_line(&mut desk, alloc, files, &piece, out)?;
+                refused |= answer_line(desk, alloc, files, &piece, out)?;
                 piece.clear();
             }
             Taken::End => {
                 if !piece.is_empty() {
-                    refused |= answer_line(&mut desk, alloc, files, &piece, out)?;
+                    refused |= answer_line(desk, alloc, files, &piece, out)?;
                 }
                 return Ok(status_from(refused));
             }
@@ -135,7 +152,7 @@ fn answer_line<B: Board, W: Write>(
 }
 
 /// The status, from whether some command was refused.
-pub(crate) fn status_from(refused: bool) -> Status
+pub fn status_from(refused: bool) -> Status
     ensures { result ≡ status_of refused }
 {
     if refused {
@@ -146,7 +163,7 @@ pub(crate) fn status_from(refused: bool) -> Status
 }
 
 /// Flushes the writer once, but not after a failed write. A failing flush spoils a status alone.
-fn flush_after<W: Write>(
+pub fn flush_after<W: Write>(
     answer: Result<Status, RunFault>,
     out: &mut W,
     flushed: &mut Calls,

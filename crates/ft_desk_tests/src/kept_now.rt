@@ -2,6 +2,7 @@
 
 use ft_board::KeptBoard;
 use ft_desk::{Desk, Done, Edited, Kept, Latency, Name, Place, Refused, Totals};
+use ft_hist::{Key, Part};
 
 /// An edit of a desk.
 #[derive(Clone, Copy)]
@@ -177,6 +178,9 @@ Totals:
     Dropped: 0
 ";
 
+/// The row in it.
+const ROW: &[u8] = b"{ next_pid:         42 } hitcount:          1  lat:         70";
+
 /// What `list` shows of CPU 0 after the session.
 pub(crate) const LANE: &[u8] =
     b"0:1 sim-1 [000] 1.000100: sched_waking: comm=w pid=42 prio=120 target_cpu=000
@@ -275,11 +279,19 @@ fn shows_and_lists(desk: &mut Desk<KeptBoard>) -> bool {
     }
 }
 
+/// Whether trigger 2 tells its table's one row, among all and by its key.
+fn tells_row(desk: &mut Desk<KeptBoard>) -> bool {
+    match (desk.rows(2), desk.row(2, &Key::of_one(Part::Num(42)))) {
+        (Ok(rows), Ok(Some(row))) => rows.len() == 1 && row.as_slice() == ROW,
+        _ => false,
+    }
+}
+
 #[test]
 fn each_edit_of_a_session(rt: HostRuntime) {
     let mut desk = Desk::new(rt.alloc(), KeptBoard::new(rt.alloc()));
     for step in session() {
         assert!(rt; does(&mut desk, step) && answers(&mut desk, step));
     }
-    assert!(rt; shows_and_lists(&mut desk));
+    assert!(rt; shows_and_lists(&mut desk) && tells_row(&mut desk));
 }

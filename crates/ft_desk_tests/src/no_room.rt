@@ -3,11 +3,11 @@
 ghost use Rattle.std.specs.Prelude.{false};
 ghost use Rattle.ft_answers.specs.Base.{empty_base};
 
-use ft_answers::{Board, Done, Edited, Latency, Refused};
+use ft_answers::{Board, Done, Edited, Latency, Refused, TableRow};
 use ft_event::{Event, Name};
 use ft_filter::Filter;
 use ft_table::Totals;
-use ft_trigger::Trigger;
+use ft_trigger::{Key, Trigger};
 
 /// A board that holds nothing, and has no memory for anything.
 #[derive(Drop)]
@@ -54,6 +54,14 @@ impl Board for NoRoom {
     }
 
     fn hist(&mut self, _id: u32) -> Result<Vec<u8>, Refused> {
+        Err(Refused::Memory)
+    }
+
+    fn rows(&mut self, _id: u32) -> Result<Vec<TableRow>, Refused> {
+        Err(Refused::Memory)
+    }
+
+    fn row(&mut self, _id: u32, _key: &Key) -> Result<Option<Vec<u8>>, Refused> {
         Err(Refused::Memory)
     }
 

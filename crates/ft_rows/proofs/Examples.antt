@@ -64,7 +64,7 @@ unfolding computing
 no_rows = refl
 
 equals_in_name : row_text (hist_by (item fields.Comm modes.Plain ∷ item fields.Pid modes.Plain ∷ []) [] None) (row (Text (codes "a pid=7 b") ∷ Num (pos 42) ∷ []) 1)
-    ≡ codes "{ comm: a pid=7 b                                         , pid:         42 } hitcount:          1\n"
+    ≡ codes "{ comm: a pid=7 b                                         , pid:         42 } hitcount:          1"
 unfolding computing
 equals_in_name = refl
 
@@ -98,12 +98,12 @@ unfolding computing
 negative = refl
 
 saved_stamps : row_text (hist_by (item fields.Pid modes.Plain ∷ []) (items.Own ∷ []) (Some (vars.Saves (codes "ts0")))) (summed (Num (pos 42) ∷ []) 4294 18442589569023995706)
-    ≡ codes "{ pid:         42 } hitcount:       4294  ts0: 18442589569023995706\n"
+    ≡ codes "{ pid:         42 } hitcount:       4294  ts0: 18442589569023995706"
 unfolding computing
 saved_stamps = refl
 
 latency : row_text (hist_by (item fields.NextPid modes.Plain ∷ []) (items.Own ∷ []) (Some (vars.Reads (codes "lat") (codes "ts0")))) (summed (Num (pos 42) ∷ []) 1 50)
-    ≡ codes "{ next_pid:         42 } hitcount:          1  lat:         50\n"
+    ≡ codes "{ next_pid:         42 } hitcount:          1  lat:         50"
 unfolding computing
 latency = refl
 

@@ -1,5 +1,6 @@
 pub mod Codes
 pub mod Counted
+pub mod Keyed
 pub mod Sorting
 pub mod Text
 pub use Rattle.ft_hist.specs.Fitting

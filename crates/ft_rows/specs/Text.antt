@@ -16,6 +16,7 @@ use Rattle.ft_hist.specs.Canonical.{name_of, canonical}
 use Rattle.ft_hist.specs.Hist.{Hist}
 use Rattle.ft_rows.specs.declared.row.Totals.{Totals}
 use Rattle.ft_rows.specs.Counted.{Counted}
+use Rattle.ft_rows.specs.Keyed.{KeyedText}
 
 -- a number in decimal digits, with spaces in front up to 10 bytes (our own choice)
 unfoldable pub right_in_10 : ℕ → List ℕ
@@ -74,10 +75,17 @@ abbrev pub sums_text : Option Var → List Item → List ℕ → List ℕ
 sums_text variable (item ∷ items) (sum ∷ sums) = codes "  " ++ title variable item ++ codes ": " ++ right_in_10 sum ++ sums_text variable items sums
 sums_text variable items sums = []
 
--- a row's line: its key, its hits and its sums (kernel: histogram.rst, the `hist` file; the layout is our own choice)
+-- a row's text: its key, its hits and its sums (kernel: histogram.rst, the `hist` file; the layout is our own choice)
 unfoldable pub row_text : Hist → Counted → List ℕ
-row_text hist row =
-    key_text hist.keys row.key ++ codes " hitcount: " ++ right_in_10 row.hitcount ++ sums_text hist.variable hist.values row.sums ++ codes "\n"
+row_text hist row = key_text hist.keys row.key ++ codes " hitcount: " ++ right_in_10 row.hitcount ++ sums_text hist.variable hist.values row.sums
+
+-- a row's line: its text and a line break (our own choice)
+abbrev pub row_line : Hist → Counted → List ℕ
+row_line hist row = row_text hist row ++ codes "\n"
+
+-- a row as its key and its text, which has no line break (our own choice)
+abbrev pub keyed_text : Hist → Counted → KeyedText
+keyed_text hist row = record { key = row.key; text = row_text hist row }
 
 -- the totals, below an empty line (kernel: histogram.rst, the `hist` file; the layout is our own choice)
 unfoldable pub totals_text : Totals → List ℕ
@@ -87,7 +95,7 @@ totals_text totals =
 
 -- the rows of a trigger's table, one a line, and the totals (kernel: histogram.rst, the `hist` file)
 unfoldable pub rows_text : Hist → List Counted → Totals → List ℕ
-rows_text hist rows totals = flat_map (row_text hist) rows ++ totals_text totals
+rows_text hist rows totals = flat_map (row_line hist) rows ++ totals_text totals
 
 -- the lines above the rows (kernel: histogram.rst, the `hist` file; the layout is our own choice)
 unfoldable pub heading : Hist → List ℕ

@@ -24,6 +24,6 @@ mod sorting;
 mod text;
 
 pub use laws::one_row_order;
-pub use row::{Row, Totals};
+pub use row::{Row, TableRow, Totals};
 pub use sorting::sort_rows;
-pub use text::{write_heading, write_rows};
+pub use text::{row_text, table_rows, write_heading, write_rows};

@@ -27,6 +27,17 @@ pub struct Totals {
     pub dropped: u64,
 }
 
+/// A row of a table as a text: its key, and the text of its line without the line break.
+///
+/// Contracts see a record of the key and the text's bytes.
+#[derive(Drop)]
+pub struct TableRow {
+    /// The key.
+    pub key: Key,
+    /// The text.
+    pub text: Vec<u8>,
+}
+
 impl Model for Row {
     ghost use Rattle.ft_rows.specs.Counted.{Counted};
     ghost use Rattle.ft_rows.specs.Codes.{counted_code};
@@ -38,4 +49,15 @@ impl Model for Row {
     ghost view = { λ row. record { key = row.key; hitcount = row.hitcount; sums = row.sums } };
 
     ghost inverse = { λ row. record { key = row.key; hitcount = row.hitcount; sums = row.sums } };
+}
+
+impl Model for TableRow {
+    ghost use Rattle.ft_rows.specs.Keyed.{KeyedText};
+    ghost use Rattle.ft_rows.specs.Codes.{keyed_code};
+
+    ghost Value = { KeyedText };
+
+    ghost coded = { keyed_code };
+
+    ghost view = { λ row. record { key = row.key; text = row.text.items } };
 }

@@ -1,23 +1,23 @@
 //! The text of a table.
 
-ghost use Rattle.std.specs.Prelude.{◌≡◌, ◌+◌, ◌<◌, ◌≤◌, ◌++◌, All, OnOk, OnErr, IsTrue};
-ghost use Rattle.std.specs.Prelude.{length, decimal};
+ghost use Rattle.std.specs.Prelude.{◌≡◌, ◌+◌, ◌<◌, ◌≤◌, ◌++◌, All, OnOk, OnErr, IfOk, IsTrue};
+ghost use Rattle.std.specs.Prelude.{length, decimal, map};
 ghost use Rattle.std.specs.List.{list_all};
 ghost use Rattle.std.specs.Option.{option_copied};
 ghost use Rattle.ft_fields.specs.declared.event.Name.{Name};
 ghost use Rattle.ft_hist.specs.Sound.{key_suits};
 ghost use Rattle.ft_hist.specs.Fitting.{KeyFits};
 ghost use Rattle.ft_text.specs.Fronts.{IsFront};
-ghost use Rattle.ft_rows.specs.Text.{listed_parts, key_text, title, sums_text, row_text};
-ghost use Rattle.ft_rows.specs.Text.{totals_text, rows_text, heading};
+ghost use Rattle.ft_rows.specs.Text.{listed_parts, key_text, title, sums_text};
+ghost use Rattle.ft_rows.specs.Text.{row_text, row_line, keyed_text, totals_text, rows_text, heading};
 
 use crate::number::write_in_10;
 use crate::part::write_named;
-use crate::row::{Row, Totals};
+use crate::row::{Row, TableRow, Totals};
 use ft_fields::field_text;
 use ft_hist::{Item, Key, Trigger, Var};
 use ft_text::write_decimal;
-use std::alloc::AllocError;
+use std::alloc::{AllocError, Global};
 
 /// Adds the lines above the rows. What it added before a refusal stays.
 #[tactic(auto, unfolding(crate::specs::Text::heading))]
@@ -43,12 +43,49 @@ pub fn write_rows(
     ensures err { OnErr result (IsFront text.old.items text.new.items) }
 {
     for row in rows {
-        write_row(trigger, row, text)?;
+        write_line(trigger, row, text)?;
     }
     write_totals(totals, text)
 }
 
+/// The rows with their texts, in the same order. Refused for memory.
+pub fn table_rows(
+    alloc: Global,
+    trigger: &Trigger,
+    rows: &[Row],
+) -> Result<Vec<TableRow>, AllocError>
+    requires { All (λ row. KeyFits trigger.now.keys row.key) rows.now }
+    ensures { IfOk result (λ keyed. keyed.items ≡ map (keyed_text trigger.now) rows.now) }
+{
+    let mut keyed = Vec::with_capacity(alloc, rows.len())?;
+    for row in rows {
+        let text = row_text(alloc, trigger, row)?;
+        keyed.push(TableRow { key: row.key, text })?;
+    }
+    Ok(keyed)
+}
+
+/// The text of a row as `write_rows` adds it, but for the line break. Refused for memory.
+pub fn row_text(alloc: Global, trigger: &Trigger, row: &Row) -> Result<Vec<u8>, AllocError>
+    requires { KeyFits trigger.now.keys row.now.key }
+    ensures { IfOk result (λ text. text.items ≡ row_text trigger.now row.now) }
+{
+    let mut text = Vec::new(alloc);
+    write_row(trigger, row, &mut text)?;
+    Ok(text)
+}
+
 /// Adds a row's line.
+fn write_line(trigger: &Trigger, row: &Row, text: &mut Vec<u8>) -> Result<(), AllocError>
+    requires { KeyFits trigger.now.keys row.now.key }
+    ensures ok { OnOk result (text.new.items ≡ text.old.items ++ row_line trigger.now row.now) }
+    ensures err { OnErr result (IsFront text.old.items text.new.items) }
+{
+    write_row(trigger, row, text)?;
+    text.extend_from_slice(b"\n")
+}
+
+/// Adds a row's text.
 fn write_row(trigger: &Trigger, row: &Row, text: &mut Vec<u8>) -> Result<(), AllocError>
     requires { KeyFits trigger.now.keys row.now.key }
     ensures ok { OnOk result (text.new.items ≡ text.old.items ++ row_text trigger.now row.now) }
@@ -57,8 +94,7 @@ fn write_row(trigger: &Trigger, row: &Row, text: &mut Vec<u8>) -> Result<(), All
     write_key(trigger, &row.key, text)?;
     text.extend_from_slice(b" hitcount: ")?;
     write_in_10(row.hitcount, text)?;
-    write_sums(trigger, &row.sums, text)?;
-    text.extend_from_slice(b"\n")
+    write_sums(trigger, &row.sums, text)
 }
 
 /// Adds a key: its parts in braces, with a `, ` between each two.

@@ -10,6 +10,7 @@ pub mod Firsts
 mod Fits
 pub mod Flat
 mod Growths
+mod KeyedRows
 mod Members
 mod OneKeys
 mod Only

@@ -20,6 +20,7 @@
 
 mod entry;
 mod hit;
+mod keyed;
 pub mod laws;
 mod mark;
 mod order;

@@ -1,33 +1,14 @@
 -- How the program ends, by what its words name and what is told of its files. All of it is our own choice.
 use Rattle.std.specs.Prelude.{◌≡◌, ⊤, ℕ, List, [], ◌∷◌, ◌++◌, Option, Some, None, Result, Ok, Err}
 use Rattle.std.specs.Option.{option_map_or}
-use Rattle.ft_words.specs.Files.{Told, Bytes, Missing, Untold, TellsBytes}
+use Rattle.ft_words.specs.Files.{Told, Bytes, Missing, Untold}
 use Rattle.ft_words.specs.Words.{Named}
 use Rattle.ft_desk.specs.declared.running.Status.{Status}
 use Rattle.ft_desk.specs.declared.program.Fault.{Fault}
 use Rattle.ft_desk.specs.declared.program.Fault.TheVariants.{Words, File, Memory, Read, Write}
 use Rattle.ft_desk.specs.Output.{output}
+use Rattle.ft_desk.specs.Program.{TellsFiles, FailsFirst}
 use Rattle.ft_desk.specs.Run.{status_of}
-
--- these are the files at the paths in order, as far as they are told
-abbrev pub TellsFiles : (List ℕ → Told) → List (List ℕ) → List (List ℕ) → Type 0
-TellsFiles told [] [] = ⊤
-TellsFiles told [] (file ∷ files) = ⊥
-TellsFiles told (path ∷ paths) [] = ⊥
-TellsFiles told (path ∷ paths) (file ∷ files) = TellsBytes (told path) file × TellsFiles told paths files
-
--- a path of these cannot be read, but all before it can
-abbrev pub FailsFirst : (List ℕ → Told) → List (List ℕ) → List ℕ → Type 0
-FailsFirst told paths path = (front : List (List ℕ)) × (back : List (List ℕ)) × (files : List (List ℕ)) × (paths ≡ front ++ path ∷ back) × TellsFiles told front files
-
--- the files at the paths in order, or the first that cannot be read
-abbrev pub FilesGive : (List ℕ → Told) → List (List ℕ) → Result (List (List ℕ)) Fault → Type 0
-FilesGive told paths (Ok files) = TellsFiles told paths files
-FilesGive told paths (Err (File path)) = FailsFirst told paths path.now
-FilesGive told paths (Err Memory) = ⊤
-FilesGive told paths (Err Words) = ⊥
-FilesGive told paths (Err Read) = ⊥
-FilesGive told paths (Err Write) = ⊥
 
 -- the status of a script that has these bytes, where they are told
 abbrev pub StatusTells : List (List ℕ) → Told → Status → Type 0

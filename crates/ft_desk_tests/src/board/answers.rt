@@ -1,6 +1,8 @@
 //! What is answered about triggers with variables.
 
 use super::*;
+use ft_answers::{TableRow, rows_make_the_text};
+use ft_hist::{Key, Part};
 
 /// A waking of pid 42, and two switches to it.
 const LINES: [Line; 3] = [
@@ -15,6 +17,9 @@ const LATENCY: Latency = Latency {
     read: Place { cpu: 0, line: 2 },
     micros: 50,
 };
+
+/// The one row of the reader's table.
+const ROW: &[u8] = b"{ next_pid:         42 } hitcount:          1  lat:         50";
 
 /// The board with these events, with a saver and a reader of it.
 fn measuring<B: Board>(alloc: Global, board: B) -> Result<B, Refused> {
@@ -44,6 +49,41 @@ fn one_latency(rt: HostRuntime) -> Result<(), Fail> {
     let kept = KeptBoard::new(alloc);
     kept_board_keeps(&kept);
     measures_once(&rt, alloc, kept)?;
+    Ok(())
+}
+
+/// Whether rows are just one, with this key and this text.
+fn is_only(rows: &[TableRow], key: Key, text: &[u8]) -> bool {
+    match rows.first() {
+        Some(row) => rows.len() == 1 && row.key == key && row.text.as_slice() == text,
+        None => false,
+    }
+}
+
+/// Whether a text is there, and is this one.
+fn is_there(found: Option<Vec<u8>>, text: &[u8]) -> bool {
+    match found {
+        Some(found) => found.as_slice() == text,
+        None => false,
+    }
+}
+
+/// A table's rows one by one, and the row of a key alone, where the key is in the table.
+fn tells_rows<B: Board>(rt: &impl Abort, alloc: Global, board: B) -> Result<(), Refused> {
+    let mut board = measuring(alloc, board)?;
+    let key = Key::of_one(Part::Num(42));
+    assert!(rt; is_only(&board.rows(2)?, key, ROW));
+    assert!(rt; is_there(board.row(2, &key)?, ROW));
+    assert!(rt; board.row(2, &Key::of_one(Part::Num(43)))?.is_none());
+    Ok(())
+}
+
+#[test]
+fn one_row(rt: HostRuntime) -> Result<(), Fail> {
+    let alloc = rt.alloc();
+    rows_make_the_text();
+    tells_rows(&rt, alloc, PlainBoard::new(alloc))?;
+    tells_rows(&rt, alloc, KeptBoard::new(alloc))?;
     Ok(())
 }
 

@@ -1,7 +1,7 @@
 use Rattle.std.proofs.Common.{◌∙◌, List, ℕ, Vec, Global, Err, map, ap, sym, subst, take, ◌+◌, ◌∷◌, []}
 use Rattle.std.proofs.lemmas.List.{map-append}
 use Rattle.ft_desk.specs.declared.program.Fault.{Fault}
-use Rattle.ft_desk.specs.inner.Ends.{TellsFiles, FilesGive}
+use Rattle.ft_desk.specs.Program.{TellsFiles, FilesGive}
 use Rattle.ft_desk.proofs.Ends.{texts_at, tells_more, fails_at}
 use Rattle.ft_desk.proofs.program.read_traces.Goals as goal
 

@@ -1,6 +1,6 @@
 -- The files at the paths that were gone over.
 use Rattle.std.proofs.Common.{map, take}
-use Rattle.ft_desk.specs.inner.Ends.{TellsFiles}
+use Rattle.ft_desk.specs.Program.{TellsFiles}
 use Rattle.ft_desk.proofs.program.read_traces.Given as goal
 
 abbrev pub invariant-loop-path : goal.invariant-loop-path

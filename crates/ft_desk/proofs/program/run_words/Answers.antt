@@ -2,7 +2,8 @@ use Rattle.std.proofs.Common.{Vec, Global, Bor, Option, Some, None, Err, ℕ, Li
 use Rattle.ft_words.specs.Files.{Untold}
 use Rattle.ft_words.specs.Words.{Named, shown}
 use Rattle.ft_desk.specs.declared.program.Fault.{Fault}
-use Rattle.ft_desk.specs.inner.Ends.{TellsFiles, FilesGive, RunTells, ProgramEnds}
+use Rattle.ft_desk.specs.Program.{TellsFiles, FilesGive}
+use Rattle.ft_desk.specs.inner.Ends.{RunTells, ProgramEnds}
 use Rattle.ft_desk.proofs.Ends.{texts_at, fault_ends, script_ends, run_ends}
 use Rattle.ft_desk.proofs.program.run_words.Goals as goal
 

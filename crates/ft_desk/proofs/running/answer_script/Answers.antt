@@ -14,7 +14,7 @@ texts_of files = map (λ f. f.items) files
 
 pub loop-turn-init : goal.loop-turn-init
 loop-turn-init g c = record {
-  progress = rw c.new-piece.ensures.items (begins _ _ _ _ _ (ap (λ s. s.base) c.new-desk.ensures ∙ c.requires.empty));
+  progress = rw c.new-piece.ensures.items (begins _ _ _ _ _ c.requires.empty);
   made = c.requires.first;
   well = c.requires.well;
 }

@@ -1,6 +1,6 @@
 use Rattle.std.proofs.Common.{map}
 use Rattle.ft_desk.proofs.Endings.{flush_ends}
-use Rattle.ft_desk.proofs.running.run.Goals as goal
+use Rattle.ft_desk.proofs.running.run_over.Goals as goal
 
 pub returns : goal.returns
 returns g c =

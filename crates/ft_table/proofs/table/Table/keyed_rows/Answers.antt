@@ -1,0 +1,12 @@
+-- The rows are those of hits, whose keys fit.
+use Rattle.std.proofs.Common.{List, sym, subst, ap, ◌∙◌, map as list_map}
+use Rattle.std.specs.List.{All}
+use Rattle.ft_hist.specs.Fitting.{KeyFits}
+use Rattle.ft_rows.specs.Counted.{Counted}
+use Rattle.ft_table.proofs.Distinct.{rows_fit}
+use Rattle.ft_table.proofs.table.Table.keyed_rows.Goals as goal
+
+pub table_rows-requires : goal.table_rows-requires
+table_rows-requires c =
+    subst (λ (rows : List Counted). All (λ (row : Counted). KeyFits c.args.trigger.now.keys row.key) rows) (sym (c.deref.ensures.value ∙ c.in_ok-rows.ensures))
+    (rows_fit c.one_row_order.ensures.permutation c.args.self.now c.args.trigger.now c.sort.result.now c.requires)
