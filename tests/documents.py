@@ -22,7 +22,7 @@ CARRIERS = ["ft_desk/src/in_memory.rt", "ft_desk/src/running.rt", "ft_answers/sr
 IMPORT = re.compile(r"^ *(?:ghost )?(?:pub )?use Rattle\.(\w+)\.specs\.((?:inner\.)?\w+)\b", re.MULTILINE)
 FILE = r"(?:src|specs(?:/inner)?)/\w+\.(?:rt|antt)"
 # The tests' own crates, and files that stand in each crate.
-UNNAMED = re.compile(r"ft_\w+_tests/|checkrows/|askagain/|.*/(lib|main)\.rt$|.*/(Lib|inner)\.antt$")
+UNNAMED = re.compile(r"ft_\w+_tests/|askagain/|.*/(lib|main)\.rt$|.*/(Lib|inner)\.antt$")
 
 
 def text_of(path):

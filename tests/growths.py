@@ -1,12 +1,12 @@
 #!/usr/bin/env python3
 """Refuses each growth of a program's memory in turn, while it runs the rows.
 
-    growths.py HISTDESK LIBRARY ROW...
+    growths.py PROGRAM LIBRARY ROW...
 
-LIBRARY is built from refuse_growth.c, and ROW is a folder with `script`, `trace1`.., `expected` and `status`. A run in
-which the growth N is refused, or each from N on, prints the row's whole output and ends with its status; or it says that
-memory ran out, and has printed the whole output of some first lines of the script. N goes from 1 to the last growth that
-a run makes.
+PROGRAM is `histdesk`, or `histwatch`, whose counts are not looked at. LIBRARY is built from refuse_growth.c, and ROW
+is a folder with `script`, `trace1`.., `expected` and `status`. A run in which the growth N is refused, or each from N
+on, prints the row's whole output and ends with its status; or it says that memory ran out, and has printed the whole
+output of some first lines of the script. N goes from 1 to the last growth that a run makes.
 
 It prints a line for each row that fails, and a last line with the counts.
 """
@@ -19,7 +19,8 @@ import subprocess
 import sys
 import tempfile
 
-NO_MEMORY = (2, b"histdesk: out of memory\n")
+# What `histwatch` says last.
+COUNTS = re.compile(rb"histwatch: \d+ edits, \d+ rows, \d+ without a report\n")
 # A run that takes more seconds is ended, and its row fails.
 LIMIT = 120
 # Only a trace of thousands of lines takes so many growths, one for some lines each, and the runs are then not many but
@@ -35,6 +36,7 @@ class Row:
     def __init__(self, program, library, path, folder):
         self.path, self.folder = path, folder
         self.program, self.library = os.path.abspath(program), os.path.abspath(library)
+        self.no_memory = (2, os.path.basename(program).encode() + b": out of memory\n")
         self.script = self.bytes_of("script")
         self.expected = self.bytes_of("expected")
         self.status = int(self.bytes_of("status"))
@@ -50,7 +52,7 @@ class Row:
         command = [self.program, script, *self.traces]
         env = {**os.environ, **more}
         ran = subprocess.run(command, env=env, stdin=subprocess.DEVNULL, capture_output=True, timeout=LIMIT)
-        return (ran.returncode, ran.stderr), ran.stdout
+        return (ran.returncode, COUNTS.sub(b"", ran.stderr)), ran.stdout
 
     def run_counted(self, **more):
         """A run of the row with growths refused, and how many growths it made."""
@@ -86,7 +88,7 @@ class Row:
         numbers = numbers_to(count)
         for number, mode in itertools.product(numbers, ["REFUSE_AT", "REFUSE_FROM"]):
             ran, made = self.run_counted(**{mode: str(number)})
-            is_cut = ran[0] == NO_MEMORY and len(ran[1]) in cuts and self.expected.startswith(ran[1])
+            is_cut = ran[0] == self.no_memory and len(ran[1]) in cuts and self.expected.startswith(ran[1])
             if made < number or not is_cut and ran != whole:
                 raise Wrong(f"{mode}={number}: {ran[0]}, {len(ran[1])} bytes of output")
         return 2 * len(numbers)

@@ -1,10 +1,10 @@
 #!/usr/bin/env bash
-# program.sh [HISTDESK [PLAINDESK [CHECKROWS [ASKAGAIN]]]]: runs a program as a user would: the rows, the examples,
+# program.sh [HISTDESK [PLAINDESK [ASKAGAIN [HISTWATCH]]]]: runs a program as a user would: the rows, the examples,
 # words, folders, full disks, limits of files, full desks, a script that is typed, hostile bytes, growths of
 # memory that are refused, random scripts, and the tools around it (tools.sh). Where PLAINDESK is given, it runs
-# the rows, the full desks and the hostile bytes too, and CHECKROWS runs the rows in its own way; ASKAGAIN asks
-# a second time for what found no memory, in some rows. Without words, it runs the launcher and those of the
-# other three that are built. It prints what went wrong, and a last line with the counts.
+# the rows, the full desks and the hostile bytes too; ASKAGAIN runs the rows in memory, and asks a second time for
+# what found no memory, in some of them; HISTWATCH prints which rows edits change. Without words, it runs the
+# launcher and those of the other three that are built. It prints what went wrong, and a last line with the counts.
 #
 # A row is a folder in tests/rows: a script, its traces, its whole output and its exit status.
 set -uo pipefail
@@ -13,8 +13,8 @@ here=$(dirname -- "$(realpath -- "${BASH_SOURCE[0]}")")
 launcher=$(realpath -- "$here/../histdesk")
 histdesk=$(realpath -- "${1:-$launcher}")
 plaindesk=${2:+$(realpath -- "$2")}
-checkrows=${3:+$(realpath -- "$3")}
-askagain=${4:+$(realpath -- "$4")}
+askagain=${3:+$(realpath -- "$3")}
+histwatch=${4:+$(realpath -- "$4")}
 rows=("$here"/rows/*)
 examples=$here/../examples
 . "$here/counts.sh"
@@ -66,15 +66,15 @@ row() {
     fi
 }
 
-# checks PROGRAM ROW..: the program, which is given the rows, says that all of them hold.
+# checks PROGRAM ROW..: the program says of these rows that all of them hold.
 checks() {
     local told status count=$(($# - 1))
-    told=$(timeout "$limit" "$@" 2>&1 </dev/null)
+    told=$(timeout "$limit" "$1" rows "${@:2}" 2>&1 </dev/null)
     status=$?
     if [[ $status == 0 && ${told##*$'\n'} == "$count of $count rows hold" ]]; then
         pass
     else
-        fail "checkrows: status $status, $told"
+        fail "rows in memory: status $status, $told"
     fi
 }
 
@@ -116,6 +116,30 @@ growths() {
 # reports PROGRAM: the rows that each edit of one event names are those that differ, and few.
 reports() {
     holds "$here/reports.py" "$1"
+}
+
+# watches HISTWATCH: what it prints of its example, of words that are refused, and of edits by chance, and that it ends
+# cleanly where a growth of memory is refused.
+watches() {
+    gives watched 0 "histwatch: 4 edits, 7 rows, 0 without a report" "$1" "$examples/changes.script" "$examples/wakeups.trace"
+    prints watched "$examples/changes.expected"
+    gives watched_words 2 "histwatch: bad words" "$1" --help
+    gives watched_trace 2 "histwatch: cannot read $folder/gone" "$1" "$folder/empty" "$folder/gone"
+    gives watched_disk 2 "histwatch: write failed" bash -c 'exec "$@" >/dev/full' - "$1" "$folder/load"
+    holds "$here/watched.py" "$histdesk" "$1" ${askagain:+"$askagain"}
+    watched_row changes "$examples/changes.script" "$examples/wakeups.trace" "$examples/changes.expected"
+    watched_row one_latency "$here"/../crates/histwatch/{data/script,data/trace1,stdout}
+    growths "$1" "$folder"/watched/*
+}
+
+# watched_row NAME SCRIPT TRACE EXPECTED: a folder with these is made a row.
+watched_row() {
+    local row=$folder/watched/$1
+    mkdir -p -- "$row"
+    cp -- "$2" "$row/script"
+    cp -- "$3" "$row/trace1"
+    cp -- "$4" "$row/expected"
+    echo 0 >"$row/status"
 }
 
 # asks_again PROGRAM NAME..: a desk that is asked a second time for what found no memory does what the rows of
@@ -229,8 +253,8 @@ on_terminal() {
 
 if (($# == 0)); then
     plaindesk=$(built plaindesk)
-    checkrows=$(built checkrows)
     askagain=$(built askagain)
+    histwatch=$(built histwatch)
 fi
 # The launcher builds the program where it is stale, which no limit holds for.
 if ! "$histdesk" - </dev/null >/dev/null; then
@@ -255,8 +279,8 @@ for one in "${all[@]}"; do
         row "$plaindesk" "$one"
     fi
 done
-if [[ -n $checkrows ]]; then
-    checks "$checkrows" "${all[@]}"
+if [[ -n $askagain ]]; then
+    checks "$askagain" "${all[@]}"
 fi
 
 gives two_wakings 0 "" "$histdesk" "$examples/two-wakings.script" "$examples/two-wakings.trace"
@@ -313,6 +337,9 @@ if [[ -n $askagain ]]; then
         dropped_reading_still_pairs strikes_and_removes each_edit_with_answers edits_in_a_row \
         latencies_by_powers_of_two made_events_come_and_go
     reports "$askagain"
+fi
+if [[ -n $histwatch ]]; then
+    watches "$histwatch"
 fi
 tools
 holds "$here/documents.py"

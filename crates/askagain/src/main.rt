@@ -8,11 +8,25 @@
 //!
 //! One byte goes to standard error before each first call and one behind it, so that who refuses
 //! growths, as `tests/refuse_growth.c` does, knows which are those of the call.
+//!
+//! `askagain watch-plain SCRIPT [TRACE]..` is another program: `histwatch` over the board that keeps no
+//! tables, and whose edits have no report. And `askagain rows FOLDER..` says whether worked examples
+//! hold.
+//!
+//! The exit status is 1 where a worked example doesn't hold, 2 after a fault, which goes to standard
+//! error, and else 0.
 #![tactic(auto)]
 
+ghost use Rattle.std.specs.Prelude.{◌≡◌, ◌≤◌, ◌↔◌, IsTrue};
+ghost use Rattle.std.specs.Result.{IsOkAnd, IsErr};
+
 mod calls;
+mod rows;
+mod watching;
 
 use crate::calls::{Answer, call};
+use crate::rows::check_rows;
+use crate::watching::watch;
 use ft_board::KeptBoard;
 use ft_desk::{Changed, Desk, Edited, Kept, Latency, Refused};
 use ft_keys::Part;
@@ -21,19 +35,60 @@ use std::process::ExitCode;
 use std::rt::{Env, Files};
 use std::{env, fs, io};
 
+/// The first word where rows are checked.
+const ROWS: &str = "rows";
+
+/// The first word where a script is watched.
+const WATCH_PLAIN: &str = "watch-plain";
+
 fn main(rt: HostRuntime) -> ExitCode {
-    match ask_files(&rt) {
-        Ok(()) => ExitCode::from(0),
+    ExitCode::from(exit_status(&rt, run_words(&rt)))
+}
+
+/// The exit status: whether what was checked holds. A fault is printed.
+fn exit_status<P: Eprint>(rt: &P, ended: io::Result<bool>) -> u8
+    ensures holds { (result ≡ 0) ↔ IsOkAnd ended IsTrue }
+    ensures fault { (result ≡ 2) ↔ IsErr ended }
+    ensures limit { result ≤ 2 }
+{
+    match ended {
+        Ok(true) => 0,
+        Ok(false) => 1,
         Err(error) => {
             let _unheeded = eprintln!(rt; "askagain: {error}");
-            ExitCode::from(2)
+            2
         }
     }
 }
 
-/// Asks a desk what the first of the program's files says; the others are what it may load.
-fn ask_files<P: Env + Files + Print + Eprint + AllocGlobal>(rt: &P) -> io::Result<()> {
-    let files = read_files(rt)?;
+/// Does what the program's words say. False where rows are checked, and some doesn't hold.
+fn run_words<P: Env + Files + Print + Eprint + AllocGlobal>(rt: &P) -> io::Result<bool> {
+    let words: Vec<String> = env::args(rt)?.skip(1).collect(rt.alloc())?;
+    match words.as_slice().split_first() {
+        Some((first, folders)) if first.as_str() == ROWS => {
+            return Ok(check_rows(rt, folders)?.all_hold());
+        }
+        Some((first, paths)) if first.as_str() == WATCH_PLAIN => watch_files(rt, paths)?,
+        _ => ask_files(rt, words.as_slice())?,
+    }
+    Ok(true)
+}
+
+/// Watches a plain board doing what the first of these files says; the others are what it may load.
+fn watch_files<P: Files + Print + Eprint + AllocGlobal>(
+    rt: &P,
+    paths: &[String],
+) -> io::Result<()> {
+    let files = read_files(rt, paths)?;
+    match files.as_slice().split_first() {
+        Some((script, traces)) => watch(rt, script.as_slice(), traces),
+        None => Err(io::Error::from(io::ErrorKind::InvalidInput)),
+    }
+}
+
+/// Asks a desk what the first of these files says; the others are what it may load.
+fn ask_files<P: Files + Print + Eprint + AllocGlobal>(rt: &P, paths: &[String]) -> io::Result<()> {
+    let files = read_files(rt, paths)?;
     let Some((script, traces)) = files.as_slice().split_first() else {
         return Err(io::Error::from(io::ErrorKind::InvalidInput));
     };
@@ -47,10 +102,10 @@ fn ask_files<P: Env + Files + Print + Eprint + AllocGlobal>(rt: &P) -> io::Resul
     Ok(())
 }
 
-/// The files that the program's words name, each read whole.
-fn read_files<P: Env + Files + AllocGlobal>(rt: &P) -> io::Result<Vec<Vec<u8>>> {
+/// The files at these paths, each read whole.
+fn read_files<P: Files + AllocGlobal>(rt: &P, paths: &[String]) -> io::Result<Vec<Vec<u8>>> {
     let mut files = Vec::new(rt.alloc());
-    for path in env::args(rt)?.skip(1) {
+    for path in paths {
         files.push(fs::read(rt, path.as_str())?)?;
     }
     Ok(files)
