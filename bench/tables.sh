@@ -25,7 +25,7 @@ ghost use Rattle.std.specs.Prelude.{◌<◌};
 
 use ft_event::Pos;
 use ft_hist::{Key, Part, Work};
-use ft_table::{Hit, Table};
+use ft_table::{Hit, Spot, Table};
 use std::alloc::AllocError;
 use std::env;
 use std::time::Instant;
@@ -34,14 +34,14 @@ fn hit(stamp: u32, pid: i64) -> Hit {
     let stamp = u64::from(stamp);
     let (cpu, line) = (0, 1);
     Hit {
-        pos: Pos { stamp, cpu, line },
+        spot: Spot::traced(Pos { stamp, cpu, line }),
         key: Key::of_one(Part::Num(pid)),
         values: [1, 2, 3],
     }
 }
 
 fn put(table: &mut Table, hit: Hit) -> Result<(), AllocError> {
-    if table.holds(hit.pos, hit.key) {
+    if table.holds(hit.spot, hit.key) {
         return Ok(());
     }
     table.insert(hit, &mut Work::new())
@@ -70,7 +70,7 @@ fn main(rt: HostRuntime) -> anyhow::Result<()> {
     let start = Instant::now(&rt)?;
     for _ in 0..edits {
         put(&mut table, first)?;
-        table.remove(first.pos, first.key);
+        table.remove(first.spot, first.key);
     }
     let edited = start.elapsed(&rt)?.as_nanos();
     let totals = table.totals();

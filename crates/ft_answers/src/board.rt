@@ -8,6 +8,7 @@ use ft_fields::{Event, Name};
 use ft_filter::Filter;
 use ft_hist::{Key, Trigger};
 use ft_rows::TableRow;
+use ft_store::Store;
 use ft_table::Totals;
 
 /// Lanes of events and attached triggers, with the answers that replaying the events gives.
@@ -50,6 +51,15 @@ pub trait Board: Drop {
             (shown self.old) (shown self.new) result }
         ensures counts { EditCounts (shown self.old) (shown self.new) result }
         ensures repairs { LoadCosts events.items (shown self.old) (shown self.new) };
+
+    /// The same for events that are in a store already, which the board takes over: that spares a
+    /// copy of them.
+    fn load_store(&mut self, events: Store) -> Result<Done<u64>, Refused>
+        requires { All (λ event. is_made event.body ≡ false) events }
+        ensures gives { EditGives (λ count. count) (after_load (shown self.old).base events)
+            (shown self.old) (shown self.new) result }
+        ensures counts { EditCounts (shown self.old) (shown self.new) result }
+        ensures repairs { LoadCosts events (shown self.old) (shown self.new) };
 
     /// Takes the lane of a CPU away: how many events it had. Refused where the lane is not held.
     fn unload(&mut self, cpu: u32) -> Result<Done<u64>, Refused>

@@ -13,6 +13,7 @@ use ft_fields::{Event, Name};
 use ft_filter::Filter;
 use ft_hist::{Key, Trigger, Work};
 use ft_rows::TableRow;
+use ft_store::Store;
 use ft_table::Totals;
 use std::alloc::Global;
 use std::marker::Model;
@@ -67,6 +68,11 @@ impl Board for PlainBoard {
     ghost shown = { λ b. b };
 
     fn load(&mut self, events: Vec<Event>) -> Result<Done<u64>, Refused> {
+        let store = Store::of(self.alloc, &events)?;
+        self.load_store(store)
+    }
+
+    fn load_store(&mut self, events: Store) -> Result<Done<u64>, Refused> {
         let count = self.content.load(events)?;
         Ok(Done {
             value: count,

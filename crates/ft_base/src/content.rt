@@ -27,6 +27,7 @@ use ft_filter::Filter;
 use ft_hist::Trigger;
 use ft_lanes::Lanes;
 use ft_maps::{get, len, put, take};
+use ft_store::Store;
 use std::alloc::Global;
 use std::collections::BTreeMap;
 use std::marker::Model;
@@ -106,14 +107,14 @@ impl Content {
     }
 
     /// Loads events in file order, a lane for each of their CPUs: how many were loaded.
-    pub fn load(&mut self, events: Vec<Event>) -> Result<u64, Refused>
-        ensures { BaseGives (after_load self.old events.items) self.old self.new result }
+    pub fn load(&mut self, events: Store) -> Result<u64, Refused>
+        ensures { BaseGives (after_load self.old events) self.old self.new result }
     {
         if let Some(cpu) = self.lanes.held_cpu(&events) {
             return Err(Refused::LaneHeld(u32::from(cpu)));
         }
         let count = events.len() as u64;
-        if self.lanes.len() + count > EVENT_LIMIT {
+        if self.lanes.len().saturating_add(count) > EVENT_LIMIT {
             return Err(Refused::Full);
         }
         if self.lanes.load(events).is_err() {

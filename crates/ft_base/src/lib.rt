@@ -9,7 +9,7 @@
 //! let mut content = Content::new(rt.alloc());
 //! let id = content.attach(trigger)?;
 //! let Place { cpu, line } = content.insert(event)?;
-//! assert!(rt; content.lanes().get(cpu, line) == Some(&event));
+//! assert!(rt; content.lanes().get(cpu, line) == Some(event));
 //! let place = content.place_of(u32::from(cpu), line)?;
 //! content.strike(place);
 //! // The lane is still held, and has no such line any more.

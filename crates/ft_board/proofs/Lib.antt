@@ -10,6 +10,7 @@ pub mod KeptBoardActs
 pub mod KeptBoardBuilt
 pub mod KeptBoardLanes
 pub mod OneTrigger
+pub mod Unpacked
 pub mod AtOnce
 pub mod KeptBoardRepair
 pub mod LaneGoes

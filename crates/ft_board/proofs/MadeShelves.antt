@@ -18,7 +18,7 @@ use Rattle.ft_kept.specs.Shelves.{Shelved, Shelves}
 use Rattle.ft_maps.specs.Entries.{same_from_tie}
 use Rattle.ft_maps.specs.Seen.{seen}
 use Rattle.ft_table.specs.Tabled.{Tabled}
-use Rattle.ft_table.specs.declared.spot.Spot.{Spot}
+use Rattle.ft_hits.specs.declared.spot.Spot.{Spot}
 use Rattle.ft_base.specs.Base.{Triggers, empty_base}
 use Rattle.ft_base.proofs.Apart.{entries_found}
 use Rattle.ft_replay.specs.Found.{saving_found}

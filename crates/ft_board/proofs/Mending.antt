@@ -17,7 +17,7 @@ use Rattle.ft_pairs.specs.Roles.{Admits}
 use Rattle.ft_table.specs.Hits.{AreTraced}
 use Rattle.ft_table.specs.Tabled.{Tabled, is_in}
 use Rattle.ft_table.specs.Values.{values_by}
-use Rattle.ft_table.specs.declared.spot.Spot.{Spot}
+use Rattle.ft_hits.specs.declared.spot.Spot.{Spot}
 use Rattle.ft_kept.specs.Acts.{acts_of}
 use Rattle.ft_kept.specs.Entries.{IsKept}
 use Rattle.ft_kept.specs.Shelves.{ChangesShelf, Kept, Notes, Shelved, Shelves, TakesNotes, admits_on, is_saver, kept_on}

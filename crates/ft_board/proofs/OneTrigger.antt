@@ -1,16 +1,14 @@
 -- Event by event the acts of one trigger come to what is kept, or go from it, while those of the others stay.
-use Rattle.std.proofs.Common.{◌≡◌, ◌+◌, ◌<◌, ℕ, Bool, true, false, cond, List, [], ◌∷◌, drop, get_or, length, Bor, refl, sym, ap, subst, ◌∙◌, Option, Some, None}
+use Rattle.std.proofs.Common.{◌≡◌, ℕ, Bool, true, false, cond, List, [], ◌∷◌, refl, sym, ap, subst, ◌∙◌, Option, Some, None}
 use Rattle.std.specs.Prelude.{◌==◌, fold, option_and_then, if◌then◌else◌, IsPermutation}
 use Rattle.std.specs.List.{AllByRecursion, IsDistinct}
 use Rattle.std.specs.List.Sorted.{IsStrictlySortedBy}
 use Rattle.std.specs.Map.{keys_of, lookup}
-use Rattle.std.specs.Map.Iter.{deref}
 use Rattle.std.specs.Ordering.{eq_by_cmp}
 use Rattle.std.specs.Cmp.{eq_by_cmp_equiv}
 use Rattle.std.specs.FinMap as map
 use Rattle.std.specs.FinMap.{find, get-empty, get-entries, get-from_entries, get-insert, entries_sorted, same_map}
 use Rattle.std.proofs.lemmas.Bool.{eq-eqb, eqb-true}
-use Rattle.std.proofs.lemmas.List.{drop_more, length-map}
 use Rattle.std.proofs.lemmas.List.Sorted.{IsPermutation-map}
 use Rattle.std.proofs.lemmas.Map.Entries.{option_filter, lookup-filter-values}
 use Rattle.std.proofs.lemmas.Map.Keys.{sorted_head, sorted_tail, IsDistinct-from_sorted, IsDistinct-head, IsDistinct-tail, IsDistinct-IsPermutation}
@@ -29,7 +27,6 @@ use Rattle.ft_table.specs.Values.{values_by}
 use Rattle.ft_lanes.specs.Held.{Lanes, event_at}
 use Rattle.ft_pairs.specs.declared.at.At.{At}
 use Rattle.ft_maps.specs.Entries.{get-insert_same, get-insert_other, strictly_sorted}
-use Rattle.ft_maps.specs.Mapped.{entries_by}
 use Rattle.ft_base.specs.Base.{Triggers}
 use Rattle.ft_replay.specs.Merged.{Events, merged, merged_with, held_at}
 use Rattle.ft_replay.specs.Named.{events_on}
@@ -339,11 +336,3 @@ own_or_all triggers lanes id at = elim (at.trigger == id) as (λ (b : Bool). con
   | true ↦ refl
   | false ↦ refl
 ]
-
--- the first of the events that are left
-pub first_left : (es : List (Pos × Bor Traced)) (i : ℕ) (e : Pos × Bor Traced) → i < length es → e ≡ get_or es i e → entries_by deref (drop i es) ≡ (e.0, e.1.now) ∷ entries_by deref (drop (i + 1) es)
-first_left es i e within is = ap (entries_by deref) (drop_more es i e within ∙ ap (λ (x : Pos × Bor Traced). x ∷ drop (i + 1) es) (sym is))
-
--- they are as many as their borrows
-pub all_of_them : (es : List (Pos × Bor Traced)) → length (entries_by deref es) ≡ length es
-all_of_them es = length-map es (λ (e : Pos × Bor Traced). (e.0, deref e.1))

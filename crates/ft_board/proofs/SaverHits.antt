@@ -23,7 +23,7 @@ use Rattle.ft_table.specs.Hits.{AreTraced, same_key}
 use Rattle.ft_table.specs.Marks.{mark_cmp, mark_cmp_total, mark_same}
 use Rattle.ft_table.specs.OneKey.{without_hit}
 use Rattle.ft_table.specs.Spots.{traced}
-use Rattle.ft_table.specs.declared.mark.Mark.{Mark}
+use Rattle.ft_hits.specs.declared.mark.Mark.{Mark}
 use Rattle.ft_base.specs.Base.{Triggers}
 use Rattle.ft_replay.specs.Merged.{Events}
 use Rattle.ft_replay.specs.Hits.{hits_of, table_for}

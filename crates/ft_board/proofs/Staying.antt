@@ -24,7 +24,7 @@ use Rattle.ft_table.specs.Hits.{AreTraced}
 use Rattle.ft_table.specs.Marks.{mark_cmp_total, mark_same}
 use Rattle.ft_table.specs.Tabled.{is_in}
 use Rattle.ft_table.specs.Values.{ValuesBy, values_by}
-use Rattle.ft_table.specs.declared.mark.Mark.{Mark}
+use Rattle.ft_hits.specs.declared.mark.Mark.{Mark}
 use Rattle.ft_kept.specs.Acts.{Acts, acts_of, op_of}
 use Rattle.ft_kept.specs.Entries.{Finds, HitsHere, IsEntry, IsRight, hits_here, one_hit, read_here}
 use Rattle.ft_kept.specs.Shelves.{Shelved, Shelves, admits_on, is_saver, kept_on}

@@ -13,7 +13,7 @@ use Rattle.ft_hist.specs.declared.label.Var.{Var}
 use Rattle.ft_hist.specs.declared.label.Var.TheVariants as vars
 use Rattle.ft_kept.specs.Shelves.{Notes, Shelved, Shelves, KeepsNotes, FormStays, FormsStay, NotesStay, had_found}
 use Rattle.ft_pairs.specs.declared.role.Role.TheVariants.{Reads}
-use Rattle.ft_table.specs.declared.spot.Spot.{Spot}
+use Rattle.ft_hits.specs.declared.spot.Spot.{Spot}
 use Rattle.ft_base.specs.Base.{Triggers}
 use Rattle.ft_base.specs.Roles.{is_reader, role_of, saver_of}
 use Rattle.ft_replay.specs.Found.{saving_found}

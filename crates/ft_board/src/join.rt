@@ -3,11 +3,11 @@
 ghost use Rattle.std.specs.Prelude.{◌≡◌, ◌+◌, ◌≤◌, None, Some, IfSome, OnOk, length};
 ghost use Rattle.std.specs.Ordering.{nat_cmp};
 ghost use Rattle.std.specs.FinMap as map;
-ghost use Rattle.std.specs.Map.Iter.{deref};
 ghost use Rattle.ft_hist.specs.Steps.{StepsGrow};
 ghost use Rattle.ft_kept.specs.AtOnce.{IsBare};
 ghost use Rattle.ft_maps.specs.Mapped.{entries_by};
 ghost use Rattle.ft_maps.specs.Seen.{seen};
+ghost use Rattle.ft_store.specs.Stored.{held};
 ghost use Rattle.ft_base.specs.OneTrigger.{is_kin, is_in_family};
 ghost use Rattle.ft_base.specs.Reachable.{HasSavers};
 ghost use Rattle.ft_answers.specs.Costs.{named_in, family_tests};
@@ -18,7 +18,7 @@ ghost use Rattle.ft_board.specs.inner.Idle.{CanJoin, HasJoined, Joined, MayJoin}
 
 use crate::repair::put_back;
 use ft_base::{Content, role_of};
-use ft_fields::{Event, Pos};
+use ft_fields::Pos;
 use ft_groups::grouped;
 use ft_hist::{Trigger, Work};
 use ft_kept::Tables;
@@ -26,6 +26,7 @@ use ft_lanes::Lanes;
 use ft_maps::entries;
 use ft_pairs::{At, Role};
 use ft_replay::{Names, events_with};
+use ft_store::Stored;
 use std::alloc::{AllocError, Global};
 use std::collections::BTreeMap;
 
@@ -176,10 +177,10 @@ pub(crate) fn put_events(
     tables: &mut Tables,
     alloc: Global,
     joining: &Joining<'_>,
-    events: &[(Pos, &Event)],
+    events: &[(Pos, Stored<'_>)],
     work: &mut Work,
 ) -> Result<(), AllocError>
-    requires { MayJoin joining.now (entries_by deref events.now) tables.old }
+    requires { MayJoin joining.now (entries_by held events.now) tables.old }
     ensures joined { OnOk result (Joined joining.now tables.old tables.new) }
     ensures evals { work.new.evals ≤ work.old.evals + length events.now }
     ensures grow { StepsGrow work.old work.new }
@@ -197,11 +198,11 @@ fn put_at_once(
     tables: &mut Tables,
     alloc: Global,
     joining: &Joining<'_>,
-    events: &[(Pos, &Event)],
+    events: &[(Pos, Stored<'_>)],
     work: &mut Work,
 ) -> Result<(), AllocError>
     requires bare { IsBare joining.now.id tables.old }
-    requires may { MayJoin joining.now (entries_by deref events.now) tables.old }
+    requires may { MayJoin joining.now (entries_by held events.now) tables.old }
     ensures joined { OnOk result (Joined joining.now tables.old tables.new) }
     ensures evals { work.new.evals ≤ work.old.evals + length events.now }
     ensures grow { StepsGrow work.old work.new }
@@ -215,25 +216,26 @@ fn put_at_once(
 fn put_one_by_one(
     tables: &mut Tables,
     joining: &Joining<'_>,
-    events: &[(Pos, &Event)],
+    events: &[(Pos, Stored<'_>)],
     work: &mut Work,
 ) -> Result<(), AllocError>
-    requires { MayJoin joining.now (entries_by deref events.now) tables.old }
+    requires { MayJoin joining.now (entries_by held events.now) tables.old }
     ensures joined { OnOk result (Joined joining.now tables.old tables.new) }
     ensures evals { work.new.evals ≤ work.old.evals + length events.now }
     ensures grow { StepsGrow work.old work.new }
 {
-    for (pos, event) in events {
+    for (pos, stored) in events {
         let at = At {
             pos: *pos,
             trigger: joining.id,
         };
+        let event = stored.event();
         tables.comes_to(
             joining.triggers,
             joining.lanes,
             joining.trigger,
             at,
-            event,
+            &event,
             work,
         )?;
     }

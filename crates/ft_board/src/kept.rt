@@ -20,6 +20,7 @@ use ft_fields::{Event, Name};
 use ft_filter::Filter;
 use ft_hist::{Key, Trigger, Work};
 use ft_kept::{Acted, Tables};
+use ft_store::Store;
 use ft_table::{Table, Totals};
 use std::alloc::Global;
 use std::collections::BTreeMap;
@@ -88,6 +89,11 @@ impl Board for KeptBoard {
     ghost shown = { λ b. b };
 
     fn load(&mut self, events: Vec<Event>) -> Result<Done<u64>, Refused> {
+        let store = Store::of(self.alloc, &events)?;
+        self.load_store(store)
+    }
+
+    fn load_store(&mut self, events: Store) -> Result<Done<u64>, Refused> {
         kept_shelves();
         let before = cpus_before(self.alloc, self.content.lanes(), &events);
         let value = self.content.load(events)?;

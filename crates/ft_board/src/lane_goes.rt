@@ -63,10 +63,11 @@ fn take_lane(
         return Ok(());
     };
     let mut acted = Acted::unasked();
-    for (line, event) in lines {
+    for (line, stored) in lines {
+        let event = stored.event();
         let stamp = event.stamp;
         let pos = Pos { stamp, cpu, line };
-        tables.event_goes(triggers, lanes, pos, event, &mut acted, work)?;
+        tables.event_goes(triggers, lanes, pos, &event, &mut acted, work)?;
     }
     Ok(())
 }

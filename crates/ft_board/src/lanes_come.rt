@@ -11,18 +11,18 @@ ghost use Rattle.ft_board.specs.inner.SomeLanes.{AreKeptOfLanes, count_coming};
 
 use crate::repair::put_back;
 use ft_base::Content;
-use ft_fields::Event;
 use ft_hist::Work;
 use ft_kept::{Acted, Tables};
 use ft_lanes::Lanes;
 use ft_replay::merged_events_but;
+use ft_store::Store;
 use std::alloc::{AllocError, Global};
 
 /// The CPUs whose lanes are held, where fewer events come than are held. Refused for memory.
 pub(crate) fn cpus_before(
     alloc: Global,
     lanes: &Lanes,
-    events: &[Event],
+    events: &Store,
 ) -> Result<Option<Vec<u16>>, AllocError>
     ensures fewer { IfOk result (λ cpus.
         is_some cpus ≡ nat_lt (length events.now) (held_in lanes.now)) }
@@ -87,8 +87,9 @@ fn put_lanes(
     let (lanes, triggers) = (content.lanes(), content.triggers());
     let events = merged_events_but(alloc, lanes, triggers, before)?;
     let mut acted = Acted::unasked();
-    for (pos, event) in &events {
-        tables.event_comes(triggers, lanes, *pos, event, &mut acted, work)?;
+    for (pos, stored) in &events {
+        let event = stored.event();
+        tables.event_comes(triggers, lanes, *pos, &event, &mut acted, work)?;
     }
     Ok(())
 }

@@ -109,12 +109,13 @@ fn take_acts(
     let (lanes, triggers) = (content.lanes(), content.triggers());
     let mut events = events_with(alloc, lanes, Names::only(trigger.event()))?;
     events.reverse();
-    for (pos, event) in &events {
+    for (pos, stored) in &events {
         let at = At {
             pos: *pos,
             trigger: id,
         };
-        tables.goes_from(triggers, lanes, trigger, at, event, work)?;
+        let event = stored.event();
+        tables.goes_from(triggers, lanes, trigger, at, &event, work)?;
     }
     Ok(())
 }

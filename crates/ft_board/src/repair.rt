@@ -48,7 +48,7 @@ pub(crate) fn let_come(
     };
     let stamp = event.stamp;
     let pos = Pos { stamp, cpu, line };
-    let repaired = tables.event_comes(triggers, lanes, pos, event, acted, work);
+    let repaired = tables.event_comes(triggers, lanes, pos, &event, acted, work);
     put_back(kept, tables, repaired);
 }
 
@@ -86,7 +86,7 @@ pub(crate) fn let_go(
     };
     let stamp = event.stamp;
     let pos = Pos { stamp, cpu, line };
-    let repaired = tables.event_goes(triggers, lanes, pos, event, acted, work);
+    let repaired = tables.event_goes(triggers, lanes, pos, &event, acted, work);
     put_back(kept, tables, repaired);
 }
 

@@ -75,7 +75,7 @@ impl<B: Board> Desk<B> {
     {
         let events = events_in(self.alloc, text)?;
         ft_event::laws::no_made_event();
-        self.board.load(events)
+        self.board.load_store(events)
     }
 
     /// Takes the lane of a CPU away: how many events it had. Refused where the lane is not held.

@@ -11,15 +11,16 @@ ghost use Rattle.ft_desk.specs.inner.Reading.{in_front};
 use ft_answers::Refused;
 use ft_event::{Event, Line, read_cut_line, read_line};
 use ft_script::next_line;
+use ft_store::Store;
 use std::alloc::Global;
 
 /// Reads every line of a trace text: its events in file order. Refused at the first line that
 /// cannot be read, or for memory.
-pub(crate) fn events_in(alloc: Global, text: &[u8]) -> Result<Vec<Event>, Refused>
-    ensures { AnswerIs (λ events. events.items) (events_of text.now) result }
+pub(crate) fn events_in(alloc: Global, text: &[u8]) -> Result<Store, Refused>
+    ensures { AnswerIs (λ events. events) (events_of text.now) result }
 {
-    let mut events = Vec::new(alloc);
-    // Each line's event is put here, and copied from here alone.
+    let mut events = Store::new(alloc);
+    // Each line's event is put here, and stored from here alone.
     let mut event = Event::blank();
     let mut rest = text;
     let mut number = 1;
@@ -32,16 +33,11 @@ pub(crate) fn events_in(alloc: Global, text: &[u8]) -> Result<Vec<Event>, Refuse
 }
 
 /// Adds the event of the line of this number, if the line is not skipped. `event` is overwritten.
-fn add_line(
-    events: &mut Vec<Event>,
-    event: &mut Event,
-    number: u64,
-    line: &[u8],
-) -> Result<(), Refused>
+fn add_line(events: &mut Store, event: &mut Event, number: u64, line: &[u8]) -> Result<(), Refused>
     requires { list_any (λ b. b == 10) line.now ≡ false }
     ensures ok { OnOk result ((behind : Result (List Traced) Refused) →
-        in_front events.old.items (line_in_front number (line_of line.now) behind)
-        ≡ in_front events.new.items behind) }
+        in_front events.old (line_in_front number (line_of line.now) behind)
+        ≡ in_front events.new behind) }
     ensures err { IfErr result (λ refused. (refused ≡ Refused.Memory)
         ⊎ ((behind : Result (List Traced) Refused) →
         line_in_front number (line_of line.now) behind ≡ Err refused)) }
@@ -67,9 +63,9 @@ pub(crate) fn event_in(line: &[u8]) -> Result<Event, Refused>
 }
 
 /// Adds an event.
-fn keep(events: &mut Vec<Event>, event: &Event) -> Result<(), Refused>
-    ensures ok { OnOk result (events.new.items ≡ events.old.items ++ event.now ∷ []) }
+fn keep(events: &mut Store, event: &Event) -> Result<(), Refused>
+    ensures ok { OnOk result (events.new ≡ events.old ++ event.now ∷ []) }
     ensures err { IfErr result (λ refused. refused ≡ Refused.Memory) }
 {
-    events.push(*event).map_err(|_| Refused::Memory)
+    events.push(event).map_err(|_| Refused::Memory)
 }

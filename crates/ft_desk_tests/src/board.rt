@@ -6,6 +6,7 @@ mod reports;
 mod striking;
 
 ghost use Rattle.std.specs.Prelude.{◌≡◌, false, IfOk};
+ghost use Rattle.std.specs.List.{All};
 ghost use Rattle.ft_answers.specs.Traced.{is_made};
 
 use Act::{Switch, Wake as Waking};
@@ -76,8 +77,10 @@ fn event_of(line: Line) -> Result<Event, Refused>
     })
 }
 
-/// Loads the events of lines: how many there are.
-fn load_lines<B: Board>(alloc: Global, board: &mut B, lines: &[Line]) -> Result<u64, Refused> {
+/// The events of lines, none that triggers make.
+fn events_of(alloc: Global, lines: &[Line]) -> Result<Vec<Event>, Refused>
+    ensures { IfOk result (λ events. All (λ event. is_made event.body ≡ false) events.items) }
+{
     let mut events = Vec::new(alloc);
     for line in lines {
         let event = event_of(*line)?;
@@ -86,7 +89,12 @@ fn load_lines<B: Board>(alloc: Global, board: &mut B, lines: &[Line]) -> Result<
             Err(_) => return Err(Refused::Memory),
         }
     }
-    Ok(board.load(events)?.value)
+    Ok(events)
+}
+
+/// Loads the events of lines: how many there are.
+fn load_lines<B: Board>(alloc: Global, board: &mut B, lines: &[Line]) -> Result<u64, Refused> {
+    Ok(board.load(events_of(alloc, lines)?)?.value)
 }
 
 /// Attaches the trigger of a text: its id. Refused where nothing can be attached to the event.

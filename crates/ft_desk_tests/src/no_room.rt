@@ -6,6 +6,7 @@ ghost use Rattle.ft_answers.specs.Base.{empty_base};
 use ft_answers::{Board, Done, Edited, Latency, Refused, TableRow};
 use ft_event::{Event, Name};
 use ft_filter::Filter;
+use ft_store::Store;
 use ft_table::Totals;
 use ft_trigger::{Key, Trigger};
 
@@ -22,6 +23,10 @@ impl Board for NoRoom {
     } };
 
     fn load(&mut self, _events: Vec<Event>) -> Result<Done<u64>, Refused> {
+        Err(Refused::Memory)
+    }
+
+    fn load_store(&mut self, _events: Store) -> Result<Done<u64>, Refused> {
         Err(Refused::Memory)
     }
 

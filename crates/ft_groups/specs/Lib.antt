@@ -6,3 +6,4 @@ pub use Rattle.ft_fields.specs.Traced
 pub use Rattle.ft_keys.specs.Parts
 pub use Rattle.ft_hist.specs.Hit
 pub use Rattle.ft_hist.specs.Steps
+pub use Rattle.ft_store.specs.Stored

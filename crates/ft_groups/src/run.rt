@@ -1,10 +1,11 @@
 //! Runs: the events of one key, in order.
 
 ghost use Rattle.std.specs.Prelude.{◌≡◌, ◌++◌, ◌∷◌, [], OnOk};
-ghost use Rattle.std.specs.Map.Iter.{deref};
 ghost use Rattle.ft_maps.specs.Mapped.{entries_by};
+ghost use Rattle.ft_store.specs.Stored.{held};
 
-use ft_fields::{Event, Pos};
+use ft_fields::Pos;
+use ft_store::Stored;
 use std::alloc::{AllocError, Global};
 use std::marker::Model;
 
@@ -13,22 +14,22 @@ use std::marker::Model;
 /// Contracts see the list of the places and the events.
 #[derive(Drop)]
 pub(crate) struct Run<'a> {
-    events: Vec<(Pos, &'a Event)>,
+    events: Vec<(Pos, Stored<'a>)>,
 }
 
 impl<'a> Model for Run<'a> {
     ghost use Rattle.std.specs.Prelude.{List};
-    ghost use Rattle.std.specs.Map.Iter.{deref};
     ghost use Rattle.ft_fields.specs.declared.pos.Pos.{Pos};
     ghost use Rattle.ft_fields.specs.Traced.{Traced};
     ghost use Rattle.ft_maps.specs.Mapped.{entries_by};
+    ghost use Rattle.ft_store.specs.Stored.{held};
     ghost use Rattle.ft_groups.specs.Codes.{run_code};
 
     ghost Value = { List (Pos × Traced) };
 
     ghost coded = { run_code };
 
-    ghost view = { λ r. entries_by deref r.events.items };
+    ghost view = { λ r. entries_by held r.events.items };
 }
 
 impl<'a> Run<'a> {
@@ -42,16 +43,16 @@ impl<'a> Run<'a> {
     }
 
     /// Adds an event with its place. Refused for memory.
-    pub(crate) fn push(&mut self, pos: Pos, event: &'a Event) -> Result<(), AllocError>
-        ensures { OnOk result (self.new ≡ self.old ++ (pos, event.now) ∷ []) }
+    pub(crate) fn push(&mut self, pos: Pos, stored: Stored<'a>) -> Result<(), AllocError>
+        ensures { OnOk result (self.new ≡ self.old ++ (pos, held stored.entry) ∷ []) }
     {
-        self.events.push((pos, event))?;
+        self.events.push((pos, stored))?;
         Ok(())
     }
 
     /// Its events with their places.
-    pub(crate) fn events(&self) -> &[(Pos, &'a Event)]
-        ensures { entries_by deref result.now ≡ self.now }
+    pub(crate) fn events(&self) -> &[(Pos, Stored<'a>)]
+        ensures { entries_by held result.now ≡ self.now }
     {
         &self.events
     }

@@ -5,13 +5,15 @@ ghost use Rattle.std.specs.FinMap as map;
 ghost use Rattle.std.specs.Option.{option_copied};
 ghost use Rattle.ft_keys.specs.Parts.{key_cmp};
 ghost use Rattle.ft_maps.specs.Seen.{seen};
+ghost use Rattle.ft_store.specs.Stored.{held};
 ghost use Rattle.ft_groups.specs.inner.Adding.{Adds};
 
 use crate::hints::{Hints, hash_of};
 use crate::run::Run;
-use ft_fields::{Event, Pos};
+use ft_fields::Pos;
 use ft_hist::Key;
 use ft_maps::put;
+use ft_store::Stored;
 use std::alloc::{AllocError, Global};
 use std::collections::BTreeMap;
 
@@ -47,21 +49,21 @@ impl<'a> Sorted<'a> {
     }
 
     /// Adds an event of a key with its place. Refused for memory.
-    pub(crate) fn add(&mut self, key: Key, pos: Pos, event: &'a Event) -> Result<(), AllocError>
+    pub(crate) fn add(&mut self, key: Key, pos: Pos, stored: Stored<'a>) -> Result<(), AllocError>
         requires { IsSorted self.old }
         ensures placed { OnOk result (IsSorted self.new) }
         ensures adds { OnOk result
-            (Adds key (pos, event.now) (groups_of self.old) (groups_of self.new)) }
+            (Adds key (pos, held stored.entry) (groups_of self.old) (groups_of self.new)) }
     {
         let hash = hash_of(&key);
         match self.place_of(&key, hash) {
             Some(place) => {
                 self.hints.note(hash, place);
-                self.runs[place].push(pos, event)
+                self.runs[place].push(pos, stored)
             }
             None => {
                 self.hints.note(hash, self.keys.len());
-                self.add_key(key, pos, event)
+                self.add_key(key, pos, stored)
             }
         }
     }
@@ -100,16 +102,16 @@ impl<'a> Sorted<'a> {
     }
 
     /// Adds a key that isn't there yet, with its first event. Refused for memory.
-    fn add_key(&mut self, key: Key, pos: Pos, event: &'a Event) -> Result<(), AllocError>
+    fn add_key(&mut self, key: Key, pos: Pos, stored: Stored<'a>) -> Result<(), AllocError>
         requires placed { IsSorted self.old }
         requires new { map.get (seen key_cmp self.old.places) key ≡ None }
         ensures placed { OnOk result (IsSorted self.new) }
         ensures adds { OnOk result
-            (Adds key (pos, event.now) (groups_of self.old) (groups_of self.new)) }
+            (Adds key (pos, held stored.entry) (groups_of self.old) (groups_of self.new)) }
     {
         let place = self.keys.len();
         let mut run = Run::new(self.alloc);
-        run.push(pos, event)?;
+        run.push(pos, stored)?;
         put(&mut self.places, key, place)?;
         self.runs.push(run)?;
         self.keys.push(key)?;

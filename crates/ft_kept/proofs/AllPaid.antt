@@ -19,14 +19,14 @@ use Rattle.ft_kept.specs.Acts.{Acts}
 use Rattle.ft_kept.specs.Entries.{IsKeptBut}
 use Rattle.ft_kept.specs.inner.Owed.{is_next_read, is_read, is_switched_as, reads_at}
 use Rattle.ft_kept.specs.inner.Settling.{owes_saver, without_moved}
-use Rattle.ft_kept.specs.Shelves.{Shelves, admits_on, kept_on, role_on}
-use Rattle.ft_kept.specs.inner.Following.{Moves, MovesKeys}
-use Rattle.ft_kept.specs.Switches.{differ}
+use Rattle.ft_shelves.specs.Shelves.{Shelves, admits_on, kept_on, role_on}
+use Rattle.ft_shelves.specs.Following.{Moves, MovesKeys}
+use Rattle.ft_shelves.specs.Switches.{differ}
 use Rattle.ft_table.specs.Values.{values_by}
 use Rattle.ft_pairs.specs.declared.role.Role.{Role}
 use Rattle.ft_pairs.specs.declared.role.Role.TheVariants.{Plain, Saves, Reads}
 use Rattle.ft_pairs.specs.declared.role.Variable.{Variable}
-use Rattle.ft_kept.proofs.Decided.{decided, key_decided, or_true, tied}
+use Rattle.ft_shelves.proofs.Decided.{decided, key_decided, or_true, tied}
 use Rattle.ft_kept.proofs.Forms.{same_admits}
 use Rattle.ft_kept.proofs.Owing.{op_read, same_differ}
 

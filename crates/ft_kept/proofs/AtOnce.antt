@@ -25,23 +25,22 @@ use Rattle.ft_pairs.specs.Roles.{Admits, op_as}
 use Rattle.ft_pairs.specs.Source.{IsSource, Ops}
 use Rattle.ft_pairs.specs.Variables.{variable_cmp, variable_cmp_total, variable_same}
 use Rattle.ft_pairs.specs.declared.at.At.{At}
-use Rattle.ft_pairs.specs.declared.at.Op.{Op}
 use Rattle.ft_pairs.specs.declared.at.Op.TheVariants.{Save, Read}
 use Rattle.ft_pairs.specs.declared.role.Role.{Role}
 use Rattle.ft_pairs.specs.declared.role.Role.TheVariants.{Plain, Saves, Reads}
 use Rattle.ft_pairs.specs.declared.role.Variable.{Variable}
 use Rattle.ft_table.specs.Hits.{same_key}
 use Rattle.ft_table.specs.Spots.{spot_cmp, spot_cmp_total, traced}
-use Rattle.ft_table.specs.Tabled.{Tabled, is_in}
+use Rattle.ft_table.specs.Tabled.{is_in}
 use Rattle.ft_table.specs.Values.{ValuesBy, values_at, values_by}
-use Rattle.ft_table.specs.declared.spot.Spot.{Spot}
+use Rattle.ft_hits.specs.declared.spot.Spot.{Spot}
 use Rattle.ft_kept.specs.Acts.{Acts, op_of}
 use Rattle.ft_kept.specs.AtOnce.{AllCome, acts_with}
 use Rattle.ft_kept.specs.Entries.{HitsHere, IsEntry, IsKept, IsRight, hits_here, read_here}
-use Rattle.ft_kept.specs.Shelves.{FormsStay, KeepsNotes, MadeStay, Shelved, Shelves, admits_on, is_saver, kept_on, role_on}
-use Rattle.ft_kept.specs.inner.Joining.{HasGroups, HasSaves, hits_of_run, saves_of_run}
-use Rattle.ft_kept.proofs.Decided.{decided, itself, none_not_some, untied}
-use Rattle.ft_kept.proofs.Finding.{find-filter, find-turned, none_both}
+use Rattle.ft_shelves.specs.Shelves.{FormsStay, KeepsNotes, MadeStay, Shelved, Shelves, admits_on, is_saver, kept_on, role_on}
+use Rattle.ft_shelves.specs.Joining.{HasGroups, HasSaves, hits_of_run, saves_of_run}
+use Rattle.ft_shelves.proofs.Decided.{decided, itself, none_not_some, untied}
+use Rattle.ft_shelves.proofs.Finding.{find-filter, find-turned, none_both}
 use Rattle.ft_kept.proofs.Forms.{admits_by, by_id, edited, hits_by, ops_by, read_by, role_at, same_admits, same_hits, same_ops, same_read}
 use Rattle.ft_kept.proofs.Owing.{alike_source, entry_same, op_elsewhere, op_read}
 use Rattle.ft_kept.proofs.Putting.{absent_read, values_there}
@@ -94,14 +93,6 @@ module _ (hist : Hist) (events : FinMap pos_cmp Traced) (key : List Part) where
               | Some k ↦ refl
             ]
       ]
-
--- the hits of groups, by key and spot
-abbrev pub listed_hits : Hist → Grouped → List Part → Spot → Option (List ℤ)
-listed_hits hist groups key spot = map.get (map.from_entries {R = spot_cmp} (hits_of_run hist (run_of groups key))) spot
-
--- the saves of groups whose keys are in a table, by key and place
-abbrev pub listed_saves : ℕ → Grouped → Tabled → List Part → At → Option Op
-listed_saves id groups table key at = cond (is_in table key) (map.get (map.from_entries {R = at_cmp} (saves_of_run id (run_of groups key))) at) None
 
 -- ---- operations
 

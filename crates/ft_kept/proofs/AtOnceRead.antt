@@ -34,21 +34,23 @@ use Rattle.ft_table.specs.Runs.{HasNone}
 use Rattle.ft_table.specs.Spots.{IsMade, spot_cmp, spot_cmp_total, traced}
 use Rattle.ft_table.specs.Tabled.{Tabled, is_in}
 use Rattle.ft_table.specs.Values.{values_by}
-use Rattle.ft_table.specs.declared.mark.Mark.{Mark}
-use Rattle.ft_table.specs.declared.spot.Spot.{Spot}
+use Rattle.ft_hits.specs.declared.mark.Mark.{Mark}
+use Rattle.ft_hits.specs.declared.spot.Spot.{Spot}
 use Rattle.ft_kept.specs.Acts.{Acts, op_of}
-use Rattle.ft_kept.specs.AtOnce.{AllCome, AreGroupsOf, IsBare, acts_with}
+use Rattle.ft_kept.specs.AtOnce.{AllCome, IsBare, acts_with}
+use Rattle.ft_shelves.specs.Joining.{AreGroupsOf}
 use Rattle.ft_kept.specs.Entries.{IsEntry, IsKept, IsRight, hits_here, one_hit, read_here}
 use Rattle.ft_kept.specs.Repairs.{AreShelved}
-use Rattle.ft_kept.specs.Shelves.{ChangesShelf, FormStays, FormsStay, MadeStay, Shelved, Shelves, admits_on, is_saver, kept_on, role_on}
-use Rattle.ft_kept.specs.inner.Edits.{OpsChange}
-use Rattle.ft_kept.specs.inner.JoiningReads.{ReadingsSet, RunComes, found_last, hits_found, readings_found, reads_of_run}
+use Rattle.ft_shelves.specs.Shelves.{ChangesShelf, FormStays, FormsStay, MadeStay, Shelved, Shelves, admits_on, is_saver, kept_on, role_on}
+use Rattle.ft_shelves.specs.Edits.{OpsChange}
+use Rattle.ft_shelves.specs.Joining.{ReadingsSet, RunComes, found_last}
+use Rattle.ft_kept.specs.inner.JoiningReads.{hits_found, readings_found, reads_of_run}
 use Rattle.ft_kept.proofs.AtOnce.{counted_acts, run_found}
-use Rattle.ft_kept.proofs.Both.{and_false, and_true}
-use Rattle.ft_kept.proofs.Decided.{decided, itself, untied}
+use Rattle.ft_shelves.proofs.Both.{and_false, and_true}
+use Rattle.ft_shelves.proofs.Decided.{decided, itself, untied}
 use Rattle.ft_kept.proofs.Forms.{admits_by, by_id, changed_forms, forms_refl, forms_trans, hits_by, ops_by, read_admits, read_by, read_elsewhere, read_forms, read_here as read_op_here, read_hits, read_readings, role_at, roles_stay, same_admits, same_hits, same_ops, same_read, shelf_stays}
 use Rattle.ft_kept.proofs.FoundRuns.{any_read, found_at, found_hit, found_there, hits_at, read_or, readings_at, sorted_filter, source_at, told_behind}
-use Rattle.ft_kept.proofs.KeyByKey.{IsOnce, no_run}
+use Rattle.ft_shelves.proofs.KeyByKey.{IsOnce, no_run}
 use Rattle.ft_kept.proofs.Noting.{notes_same}
 use Rattle.ft_kept.proofs.Owing.{alike_source, entry_same, op_absent, op_elsewhere, op_none, op_read}
 use Rattle.ft_kept.proofs.Putting.{values_there}

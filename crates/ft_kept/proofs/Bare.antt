@@ -15,9 +15,9 @@ use Rattle.ft_pairs.specs.declared.at.At.{At}
 use Rattle.ft_pairs.specs.declared.role.Role.{Role}
 use Rattle.ft_pairs.specs.declared.role.Role.TheVariants.{Plain, Saves, Reads}
 use Rattle.ft_kept.specs.AtOnce.{IsBare}
-use Rattle.ft_kept.specs.Shelves.{Shelved, Shelves, role_on}
+use Rattle.ft_shelves.specs.Shelves.{Shelved, Shelves, role_on}
 use Rattle.ft_kept.specs.inner.Joining.{is_other_reader}
-use Rattle.ft_kept.proofs.Decided.{none_not_some, or_left, or_right}
+use Rattle.ft_shelves.proofs.Decided.{none_not_some, or_left, or_right}
 use Rattle.ft_kept.proofs.Forms.{ops_by, role_at}
 
 -- whether another trigger than one reads what a saver saves, among some with their shelves

@@ -28,7 +28,7 @@ use Rattle.ft_kept.specs.inner.Settling.{Owed}
 use Rattle.ft_kept.specs.Repairs.{HasCome, HasGone}
 use Rattle.ft_hist.specs.Tests.{asked}
 use Rattle.ft_pairs.specs.Roles.{Admits}
-use Rattle.ft_kept.specs.Shelves.{Shelves, Kept, role_on, admits_on, kept_on}
+use Rattle.ft_shelves.specs.Shelves.{Shelves, Kept, role_on, admits_on, kept_on}
 use Rattle.ft_table.specs.Values.{ValuesBy, values_by}
 use Rattle.ft_pairs.specs.declared.role.Role.{Role}
 

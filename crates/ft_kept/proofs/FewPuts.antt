@@ -18,10 +18,11 @@ use Rattle.ft_table.specs.Spots.{traced}
 use Rattle.ft_kept.specs.inner.OneAct.{IsDoneToo}
 use Rattle.ft_kept.specs.Bounds.{TableEdit, TableMoves, SaverMoves, SomeSaverMoves, OtherSaversStay, table_on}
 use Rattle.ft_hist.specs.Tests.{asked}
-use Rattle.ft_kept.specs.Shelves.{ChangesShelf, Shelved, Shelves, FormsStay, is_saver, role_on}
-use Rattle.ft_kept.specs.inner.Edits.{OpsChange, ReaderChanges, ReadersChange}
+use Rattle.ft_shelves.specs.Shelves.{ChangesShelf, Shelved, Shelves, FormsStay, is_saver, role_on}
+use Rattle.ft_shelves.specs.Edits.{OpsChange}
+use Rattle.ft_kept.specs.inner.Edits.{ReaderChanges, ReadersChange}
 use Rattle.ft_pairs.specs.declared.role.Role.TheVariants.{Saves}
-use Rattle.ft_kept.proofs.Decided.{none_not_some}
+use Rattle.ft_shelves.proofs.Decided.{none_not_some}
 use Rattle.ft_kept.proofs.Forms.{by_id, read_forms, readers_refl, readers_trans, role_at, roles_stay}
 use Rattle.ft_kept.proofs.Taking.{TakesNoted, noted_take_forms}
 

@@ -26,12 +26,12 @@ use Rattle.ft_kept.specs.Acts.{Acts, Comes, op_of}
 use Rattle.ft_kept.specs.inner.OneAct.{IsOneAct}
 use Rattle.ft_kept.specs.Entries.{one_hit}
 use Rattle.ft_pairs.specs.Roles.{Admits, op_as, variable_of}
-use Rattle.ft_kept.specs.inner.Following.{switched, switched_with, with_saves}
+use Rattle.ft_shelves.specs.Following.{switched, switched_with, with_saves}
 use Rattle.ft_pairs.specs.Variables.{variable_cmp, variable_cmp_total, variable_same}
 use Rattle.ft_pairs.specs.declared.role.Role.{Role}
 use Rattle.ft_pairs.specs.declared.role.Role.TheVariants.{Plain, Saves, Reads}
 use Rattle.ft_pairs.specs.declared.role.Variable.{Variable}
-use Rattle.ft_kept.proofs.Decided.{at_decided, itself, tied, untied}
+use Rattle.ft_shelves.proofs.Decided.{at_decided, itself, tied, untied}
 use Rattle.ft_kept.proofs.Owing.{op_absent, op_elsewhere, op_none, op_there}
 
 -- a saver whose table has not the key does not save it

@@ -18,15 +18,16 @@ use Rattle.ft_pairs.specs.ByKey.{ops_of, same_key}
 use Rattle.ft_pairs.specs.Source.{Ops}
 use Rattle.ft_pairs.specs.declared.at.At.{At}
 use Rattle.ft_table.specs.Tabled.{Tabled, is_in}
-use Rattle.ft_table.specs.declared.mark.Mark.{Mark}
+use Rattle.ft_hits.specs.declared.mark.Mark.{Mark}
 use Rattle.ft_table.specs.Spots.{IsMade, traced}
 use Rattle.ft_table.specs.Hits.{Hits}
 use Rattle.ft_table.specs.Marks.{mark_same, mark_cmp_total}
 use Rattle.ft_kept.specs.inner.Edits.{OpsStay}
 use Rattle.ft_kept.specs.Repairs.{AreShelved}
-use Rattle.ft_kept.specs.Shelves.{ChangesShelf, MadeStay, Shelved, Shelves, KeepsForm, FormStays, FormsStay}
-use Rattle.ft_kept.specs.inner.Edits.{ReaderChanges, ReadersChange, OpsChange}
-use Rattle.ft_kept.specs.Shelves.{is_saver, role_on, admits_on, kept_on}
+use Rattle.ft_shelves.specs.Shelves.{ChangesShelf, MadeStay, Shelved, Shelves, KeepsForm, FormStays, FormsStay}
+use Rattle.ft_kept.specs.inner.Edits.{ReaderChanges, ReadersChange}
+use Rattle.ft_shelves.specs.Edits.{OpsChange}
+use Rattle.ft_shelves.specs.Shelves.{is_saver, role_on, admits_on, kept_on}
 use Rattle.ft_pairs.specs.declared.role.Role.{Role}
 use Rattle.ft_pairs.specs.declared.role.Role.TheVariants.{Plain, Saves, Reads}
 use Rattle.ft_pairs.specs.declared.role.Variable.{Variable}

@@ -1,5 +1,5 @@
 -- What a run of readings found, looked up by place: its hits, its readings, and the sources of its reads.
-use Rattle.std.proofs.Common.{◌≡◌, ◌<◌, ◌+◌, ◌++◌, append_assoc, drop, get_or, Bor, ℕ, suc, ℤ, Bool, true, false, cond, List, [], ◌∷◌, length, refl, sym, ap, subst, ◌∙◌, arith, Some, None, Option}
+use Rattle.std.proofs.Common.{◌≡◌, ◌<◌, ◌+◌, ◌++◌, append_assoc, drop, get_or, ℕ, suc, ℤ, Bool, true, false, cond, List, [], ◌∷◌, length, refl, sym, ap, subst, ◌∙◌, arith, Some, None, Option}
 use Rattle.std.specs.Prelude.{◌&&◌, ◌||◌, is_some, option_and_then, option_map}
 use Rattle.std.specs.Option.{option_map_or}
 use Rattle.std.specs.List.{AllByRecursion, filter, list_any}
@@ -7,7 +7,6 @@ use Rattle.std.specs.List.Sorted.{IsStrictlySortedBy}
 use Rattle.std.specs.Map.{keys_of, update, update_all}
 use Rattle.std.specs.declared.cmp.Ordering.{Ordering}
 use Rattle.std.specs.declared.cmp.Ordering.TheVariants.{Less}
-use Rattle.std.specs.Map.Iter.{deref}
 use Rattle.std.specs.Ordering.{nat_cmp, is_eq, eq_by_cmp}
 use Rattle.std.specs.Cmp.{eq_by_cmp_equiv}
 use Rattle.std.specs.FinMap.{find}
@@ -23,12 +22,14 @@ use Rattle.ft_pairs.specs.Edits.{same_at}
 use Rattle.ft_pairs.specs.Runs.{FindEach}
 use Rattle.ft_pairs.specs.Source.{Ops, IsSource}
 use Rattle.ft_pairs.specs.declared.at.At.{At}
+use Rattle.ft_store.specs.Stored.{held}
+use Rattle.ft_store.specs.declared.stored.Stored.{Stored}
 use Rattle.ft_table.specs.Spots.{spot_cmp, traced}
 use Rattle.ft_table.specs.Values.{values_at}
-use Rattle.ft_table.specs.declared.spot.Spot.{Spot}
+use Rattle.ft_hits.specs.declared.spot.Spot.{Spot}
 use Rattle.ft_kept.specs.inner.JoiningReads.{hit_found, hits_found, reading_found, readings_found, reads_of_run}
 use Rattle.ft_kept.proofs.AtOnce.{then_ties}
-use Rattle.ft_kept.proofs.KeyByKey.{first_event}
+use Rattle.ft_shelves.proofs.KeyByKey.{first_event}
 
 -- ---- a run in order
 
@@ -203,39 +204,39 @@ pub found_pushed : (hist : Hist) (e : Pos × Traced) (saved : At) (found : Optio
 found_pushed hist e saved found spot values old new pushed stands worth is =
     pushed ∙ (λ i. old ++ (stands i, worth i) ∷ []) ∙ ap (λ f. old ++ hit_found hist e f) (sym is)
 
-module _ (hist : Hist) (run : List (Pos × Bor Traced)) (found : List (Option At)) (i : ℕ) where
+module _ (hist : Hist) (run : List (Pos × Stored)) (found : List (Option At)) (i : ℕ) where
   -- one more hit is made, and that much less is left
-  pub hits_more : (e : Pos × Bor Traced) (d : Option At) (old new all : List (Spot × List ℤ)) → i < length run → e ≡ get_or run i e → i < length found
-      → new ≡ old ++ hit_found hist (e.0, e.1.now) (get_or found i d) → old ++ hits_found hist (entries_by deref (drop i run)) (drop i found) ≡ all
-      → new ++ hits_found hist (entries_by deref (drop (i + 1) run)) (drop (i + 1) found) ≡ all
+  pub hits_more : (e : Pos × Stored) (d : Option At) (old new all : List (Spot × List ℤ)) → i < length run → e ≡ get_or run i e → i < length found
+      → new ≡ old ++ hit_found hist (e.0, held e.1) (get_or found i d) → old ++ hits_found hist (entries_by held (drop i run)) (drop i found) ≡ all
+      → new ++ hits_found hist (entries_by held (drop (i + 1) run)) (drop (i + 1) found) ≡ all
   hits_more e d old new all within is inside pushed made =
-      let left : hits_found hist (entries_by deref (drop i run)) (drop i found) ≡ hit_found hist (e.0, e.1.now) (get_or found i d) ++ hits_found hist (entries_by deref (drop (i + 1) run)) (drop (i + 1) found) =
+      let left : hits_found hist (entries_by held (drop i run)) (drop i found) ≡ hit_found hist (e.0, held e.1) (get_or found i d) ++ hits_found hist (entries_by held (drop (i + 1) run)) (drop (i + 1) found) =
       (λ k. hits_found hist (first_event run i e within is k) (drop_more found i d inside k)) in
-      ap (λ xs. xs ++ hits_found hist (entries_by deref (drop (i + 1) run)) (drop (i + 1) found)) pushed
-      ∙ append_assoc old (hit_found hist (e.0, e.1.now) (get_or found i d)) (hits_found hist (entries_by deref (drop (i + 1) run)) (drop (i + 1) found))
+      ap (λ xs. xs ++ hits_found hist (entries_by held (drop (i + 1) run)) (drop (i + 1) found)) pushed
+      ∙ append_assoc old (hit_found hist (e.0, held e.1) (get_or found i d)) (hits_found hist (entries_by held (drop (i + 1) run)) (drop (i + 1) found))
       ∙ ap (λ xs. old ++ xs) (sym left)
       ∙ made
 
   -- and one more reading
-  pub readings_more : (e : Pos × Bor Traced) (d : Option At) (old new all : List (Pos × Pos)) → i < length run → e ≡ get_or run i e → i < length found
-      → new ≡ old ++ reading_found (e.0, e.1.now) (get_or found i d) → old ++ readings_found (entries_by deref (drop i run)) (drop i found) ≡ all
-      → new ++ readings_found (entries_by deref (drop (i + 1) run)) (drop (i + 1) found) ≡ all
+  pub readings_more : (e : Pos × Stored) (d : Option At) (old new all : List (Pos × Pos)) → i < length run → e ≡ get_or run i e → i < length found
+      → new ≡ old ++ reading_found (e.0, held e.1) (get_or found i d) → old ++ readings_found (entries_by held (drop i run)) (drop i found) ≡ all
+      → new ++ readings_found (entries_by held (drop (i + 1) run)) (drop (i + 1) found) ≡ all
   readings_more e d old new all within is inside pushed made =
-      let left : readings_found (entries_by deref (drop i run)) (drop i found) ≡ reading_found (e.0, e.1.now) (get_or found i d) ++ readings_found (entries_by deref (drop (i + 1) run)) (drop (i + 1) found) =
+      let left : readings_found (entries_by held (drop i run)) (drop i found) ≡ reading_found (e.0, held e.1) (get_or found i d) ++ readings_found (entries_by held (drop (i + 1) run)) (drop (i + 1) found) =
       (λ k. readings_found (first_event run i e within is k) (drop_more found i d inside k)) in
-      ap (λ xs. xs ++ readings_found (entries_by deref (drop (i + 1) run)) (drop (i + 1) found)) pushed
-      ∙ append_assoc old (reading_found (e.0, e.1.now) (get_or found i d)) (readings_found (entries_by deref (drop (i + 1) run)) (drop (i + 1) found))
+      ap (λ xs. xs ++ readings_found (entries_by held (drop (i + 1) run)) (drop (i + 1) found)) pushed
+      ∙ append_assoc old (reading_found (e.0, held e.1) (get_or found i d)) (readings_found (entries_by held (drop (i + 1) run)) (drop (i + 1) found))
       ∙ ap (λ xs. old ++ xs) (sym left)
       ∙ made
 
   module _ (none : drop i run ≡ []) where
-    pub hits_left : hits_found hist (entries_by deref (drop i run)) (drop i found) ≡ []
-    hits_left = ap (λ r. hits_found hist (entries_by deref r) (drop i found)) none
+    pub hits_left : hits_found hist (entries_by held (drop i run)) (drop i found) ≡ []
+    hits_left = ap (λ r. hits_found hist (entries_by held r) (drop i found)) none
 
-    pub readings_left : readings_found (entries_by deref (drop i run)) (drop i found) ≡ []
-    readings_left = ap (λ r. readings_found (entries_by deref r) (drop i found)) none
+    pub readings_left : readings_found (entries_by held (drop i run)) (drop i found) ≡ []
+    readings_left = ap (λ r. readings_found (entries_by held r) (drop i found)) none
 
 -- there are as many events as places
-pub length_run : (run : List (Pos × Bor Traced)) → length (entries_by deref run) ≡ length run
+pub length_run : (run : List (Pos × Stored)) → length (entries_by held run) ≡ length run
 length_run [] = refl
 length_run (e ∷ run) = omega (arith, length_run run)

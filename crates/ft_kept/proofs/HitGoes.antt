@@ -11,11 +11,11 @@ use Rattle.ft_pairs.specs.declared.at.At.{At}
 use Rattle.ft_table.specs.Spots.{traced}
 use Rattle.ft_kept.specs.Repairs.{HasGone}
 use Rattle.ft_pairs.specs.Roles.{variable_of}
-use Rattle.ft_kept.specs.Shelves.{ChangesShelf, Shelves, role_on, admits_on, kept_on}
+use Rattle.ft_shelves.specs.Shelves.{ChangesShelf, Shelves, role_on, admits_on, kept_on}
 use Rattle.ft_table.specs.Values.{values_by}
 use Rattle.ft_pairs.specs.declared.role.Role.TheVariants.{Plain}
 use Rattle.ft_pairs.specs.declared.role.Variable.{Variable}
-use Rattle.ft_kept.proofs.Decided.{none_not_some}
+use Rattle.ft_shelves.proofs.Decided.{none_not_some}
 use Rattle.ft_kept.proofs.Owing.{kept_as, one_act_right, owes_more}
 use Rattle.ft_kept.proofs.Putting.{never_switched}
 use Rattle.ft_kept.proofs.Taking.{LosesHit, take_admits, take_ops, take_stays, take_unread, take_gone, one_goes, there_own, gone_ops, nothing_right}

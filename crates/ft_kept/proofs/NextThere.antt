@@ -12,9 +12,9 @@ use Rattle.ft_pairs.specs.Order.{at_cmp, at_cmp_total, at_same}
 use Rattle.ft_pairs.specs.Source.{Ops}
 use Rattle.ft_pairs.specs.declared.at.At.{At}
 use Rattle.ft_pairs.specs.declared.at.Op.{Op}
-use Rattle.ft_kept.specs.Shelves.{Shelved, Shelves, kept_on}
+use Rattle.ft_shelves.specs.Shelves.{Shelved, Shelves, kept_on}
 use Rattle.ft_pairs.specs.declared.role.Variable.{Variable}
-use Rattle.ft_kept.proofs.Decided.{itself, not_below_same, untied}
+use Rattle.ft_shelves.proofs.Decided.{itself, not_below_same, untied}
 
 -- there is a next operation, or it is said that there is none
 abbrev pub HasNext : Ops → Option At → Type 0

@@ -8,9 +8,9 @@ use Rattle.ft_fields.specs.Places.{pos_cmp_total, pos_same}
 use Rattle.ft_fields.specs.declared.pos.Pos.{Pos}
 use Rattle.ft_maps.specs.Entries.{get-insert_same, get-insert_other}
 use Rattle.ft_pairs.specs.declared.role.Role.TheVariants.{Plain, Saves, Reads}
-use Rattle.ft_kept.specs.Shelves.{KeepsNotes, Notes, Shelved}
-use Rattle.ft_kept.specs.inner.Edits.{note_at, with_note}
-use Rattle.ft_kept.proofs.Decided.{decided}
+use Rattle.ft_shelves.specs.Shelves.{KeepsNotes, Notes, Shelved}
+use Rattle.ft_shelves.specs.Edits.{note_at, with_note}
+use Rattle.ft_shelves.proofs.Decided.{decided}
 
 -- ---- a note
 

@@ -23,12 +23,12 @@ use Rattle.ft_pairs.specs.declared.role.Variable.{Variable}
 use Rattle.ft_table.specs.Marks.{mark_cmp}
 use Rattle.ft_table.specs.Tabled.{Tabled}
 use Rattle.ft_table.specs.Values.{ValuesBy, values_by}
-use Rattle.ft_table.specs.declared.mark.Mark.{Mark}
+use Rattle.ft_hits.specs.declared.mark.Mark.{Mark}
 use Rattle.ft_table.specs.Spots.{traced}
 use Rattle.ft_kept.specs.Acts.{Acts, AreHeld, acts_of, op_of}
 use Rattle.ft_kept.specs.Entries.{IsEntry, IsKept, hits_here, read_here}
 use Rattle.ft_kept.specs.Repairs.{AreShelved, EventCanCome, EventHasCome, EventCanGo, EventHasGone, IsHeldAt, AllHeld, AreRight}
-use Rattle.ft_kept.specs.Shelves.{Shelved, Shelves, Readings, FormsStay, IsNewShelf, AddsShelf, role_on, admits_on, kept_on}
+use Rattle.ft_shelves.specs.Shelves.{Shelved, Shelves, Readings, FormsStay, IsNewShelf, AddsShelf, role_on, admits_on, kept_on}
 use Rattle.ft_kept.proofs.Between.{act_at, kept_in_role, no_event}
 use Rattle.ft_kept.proofs.Forms.{by_id, role_at, roles_stay, same_role, shelved_stay}
 

@@ -22,14 +22,14 @@ use Rattle.ft_kept.specs.Entries.{HitsHere, IsEntry, IsKept, IsKeptBut, IsOwn, I
 use Rattle.ft_kept.specs.inner.Edits.{StaysBut}
 use Rattle.ft_kept.specs.inner.Owed.{is_next_read, is_read, is_switched, is_switched_as, one_owes}
 use Rattle.ft_pairs.specs.Roles.{Admits, op_as, variable_of}
-use Rattle.ft_kept.specs.Shelves.{Kept}
-use Rattle.ft_kept.specs.Switches.{differ}
+use Rattle.ft_shelves.specs.Shelves.{Kept}
+use Rattle.ft_shelves.specs.Switches.{differ}
 use Rattle.ft_table.specs.Values.{ValuesBy}
 use Rattle.ft_pairs.specs.Variables.{variable_cmp, variable_cmp_total, variable_same}
 use Rattle.ft_pairs.specs.declared.role.Role.{Role}
 use Rattle.ft_pairs.specs.declared.role.Role.TheVariants.{Plain, Saves, Reads}
 use Rattle.ft_pairs.specs.declared.role.Variable.{Variable}
-use Rattle.ft_kept.proofs.Decided.{not_below, not_below_same, itself, tied, untied, at_decided, variable_decided, or_true, or_left, or_right, none_not_some}
+use Rattle.ft_shelves.proofs.Decided.{not_below, not_below_same, itself, tied, untied, at_decided, variable_decided, or_true, or_left, or_right, none_not_some}
 
 -- ---- sources
 

@@ -22,7 +22,7 @@ use Rattle.ft_kept.specs.Entries.{HitsHere, hits_here, read_here, one_hit, IsEnt
 use Rattle.ft_kept.specs.inner.Edits.{StaysBut, OpsStay}
 use Rattle.ft_kept.specs.inner.Settling.{Owed, IsPartly, Pays}
 use Rattle.ft_pairs.specs.Roles.{Admits}
-use Rattle.ft_kept.specs.Shelves.{Kept, Shelves, FormsStay, role_on, kept_on}
+use Rattle.ft_shelves.specs.Shelves.{Kept, Shelves, FormsStay, role_on, kept_on}
 use Rattle.ft_table.specs.Values.{ValuesBy, values_by}
 use Rattle.ft_pairs.specs.declared.role.Role.{Role}
 use Rattle.ft_pairs.specs.declared.role.Role.TheVariants.{Plain, Saves, Reads}

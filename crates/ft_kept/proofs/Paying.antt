@@ -14,9 +14,9 @@ use Rattle.ft_pairs.specs.declared.at.Op.{Op}
 use Rattle.ft_kept.specs.inner.Owed.{is_next_read, reads_at}
 use Rattle.ft_kept.specs.Repairs.{AreShelved}
 use Rattle.ft_kept.specs.inner.Settling.{IsPartly, Owed, Pays, without_moved, without_next_read, without_reads_of}
-use Rattle.ft_kept.specs.Shelves.{FormsStay, Shelves, kept_on, role_on}
+use Rattle.ft_shelves.specs.Shelves.{FormsStay, Shelves, kept_on, role_on}
 use Rattle.ft_kept.specs.inner.Edits.{ReadersChange}
-use Rattle.ft_kept.specs.inner.Following.{Moves}
+use Rattle.ft_shelves.specs.Following.{Moves}
 use Rattle.ft_table.specs.Values.{values_by}
 use Rattle.ft_kept.proofs.Forms.{readers_forms, readers_ops, readers_refl, readers_trans, roles_stay, shelved_stay}
 use Rattle.ft_kept.proofs.Owing.{kept_as, owes_more}

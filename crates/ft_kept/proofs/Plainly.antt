@@ -16,13 +16,13 @@ use Rattle.ft_kept.specs.Acts.{Acts, Comes, op_of}
 use Rattle.ft_kept.specs.Entries.{IsEntry, IsRight, hits_here, read_here}
 use Rattle.ft_kept.specs.Repairs.{HasCome}
 use Rattle.ft_pairs.specs.Roles.{variable_of}
-use Rattle.ft_kept.specs.Shelves.{Shelved, Shelves, FormsStay, admits_on, is_saver, kept_on, role_on}
-use Rattle.ft_kept.specs.inner.Edits.{with_hit_on}
+use Rattle.ft_shelves.specs.Shelves.{Shelved, Shelves, FormsStay, admits_on, is_saver, kept_on, role_on}
+use Rattle.ft_shelves.specs.Edits.{with_hit_on}
 use Rattle.ft_table.specs.Values.{values_at, values_by}
 use Rattle.ft_pairs.specs.declared.role.Role.{Role}
 use Rattle.ft_pairs.specs.declared.role.Role.TheVariants.{Plain}
 use Rattle.ft_pairs.specs.declared.role.Variable.{Variable}
-use Rattle.ft_kept.proofs.Decided.{at_decided, none_not_some}
+use Rattle.ft_shelves.proofs.Decided.{at_decided, none_not_some}
 use Rattle.ft_kept.proofs.Forms.{made_with, admits_by, by_id, edited, ops_by, role_at, same_admits, same_ops}
 use Rattle.ft_kept.proofs.Noting.{notes_plain}
 use Rattle.ft_kept.proofs.Owing.{kept_as, one_act_right, op_absent, op_elsewhere, op_none, owes_more}

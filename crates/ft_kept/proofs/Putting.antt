@@ -18,10 +18,10 @@ use Rattle.ft_pairs.specs.Source.{Ops}
 use Rattle.ft_pairs.specs.declared.at.At.{At}
 use Rattle.ft_table.specs.Growth.{with_hit}
 use Rattle.ft_table.specs.Marks.{mark_cmp, mark_cmp_total, mark_same}
-use Rattle.ft_table.specs.declared.mark.Mark.{Mark}
+use Rattle.ft_hits.specs.declared.mark.Mark.{Mark}
 use Rattle.ft_table.specs.Spots.{traced}
-use Rattle.ft_table.specs.declared.hit.Hit.{Hit}
-use Rattle.ft_table.specs.declared.spot.Spot.{Spot}
+use Rattle.ft_hits.specs.declared.hit.Hit.{Hit}
+use Rattle.ft_hits.specs.declared.spot.Spot.{Spot}
 use Rattle.ft_kept.specs.Acts.{Acts, Comes}
 use Rattle.ft_kept.specs.inner.OneAct.{IsOneAct}
 use Rattle.ft_kept.specs.Entries.{IsEntry, IsKept, hits_here, one_hit, read_here}
@@ -29,12 +29,12 @@ use Rattle.ft_kept.specs.inner.Edits.{StaysBut}
 use Rattle.ft_kept.specs.inner.Owed.{is_switched, is_switched_as}
 use Rattle.ft_kept.specs.Repairs.{AreShelved, CanCome}
 use Rattle.ft_pairs.specs.Roles.{Admits}
-use Rattle.ft_kept.specs.Shelves.{Kept, Shelved, Shelves, kept_on}
+use Rattle.ft_shelves.specs.Shelves.{Kept, Shelved, Shelves, kept_on}
 use Rattle.ft_table.specs.Values.{ValuesBy, values_at, values_by}
 use Rattle.ft_pairs.specs.declared.role.Role.{Role}
 use Rattle.ft_pairs.specs.declared.role.Role.TheVariants.{Plain, Saves, Reads}
 use Rattle.ft_pairs.specs.declared.role.Variable.{Variable}
-use Rattle.ft_kept.proofs.Decided.{itself, untied, decided}
+use Rattle.ft_shelves.proofs.Decided.{itself, untied, decided}
 use Rattle.ft_kept.proofs.Forms.{hits_by, read_by, same_hits, same_read}
 use Rattle.ft_kept.proofs.Owing.{same_differ}
 

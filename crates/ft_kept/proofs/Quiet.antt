@@ -2,7 +2,7 @@
 use Rattle.std.proofs.Common.{◌≡◌, ℕ, refl, sym, ap, ◌∙◌, Some, None, Option}
 use Rattle.std.specs.Prelude.{option_and_then}
 use Rattle.std.specs.FinMap as map
-use Rattle.ft_kept.specs.Shelves.{ChangesShelf, Notes, NotesStay, Shelved, Shelves, notes_on}
+use Rattle.ft_shelves.specs.Shelves.{ChangesShelf, Notes, NotesStay, Shelved, Shelves, notes_on}
 use Rattle.ft_kept.proofs.Forms.{by_id}
 
 -- what is noted of a trigger's readings, by its shelf

@@ -21,13 +21,14 @@ use Rattle.ft_kept.specs.inner.Owed.{is_next_read, is_switched}
 use Rattle.ft_kept.specs.Repairs.{AreShelved, CanCome, HasCome}
 use Rattle.ft_kept.specs.inner.Settling.{IsPartly, Pays, without_next_read}
 use Rattle.ft_pairs.specs.Roles.{variable_of}
-use Rattle.ft_kept.specs.inner.Edits.{OpsChange, ReadersChange}
-use Rattle.ft_kept.specs.Shelves.{ChangesShelf, FormsStay, Shelves, admits_on, kept_on, role_on}
+use Rattle.ft_shelves.specs.Edits.{OpsChange}
+use Rattle.ft_kept.specs.inner.Edits.{ReadersChange}
+use Rattle.ft_shelves.specs.Shelves.{ChangesShelf, FormsStay, Shelves, admits_on, kept_on, role_on}
 use Rattle.ft_table.specs.Values.{values_by}
 use Rattle.ft_pairs.specs.declared.role.Role.{Role}
 use Rattle.ft_pairs.specs.declared.role.Role.TheVariants.{Reads}
 use Rattle.ft_pairs.specs.declared.role.Variable.{Variable}
-use Rattle.ft_kept.proofs.Decided.{at_decided, itself, untied, variable_decided}
+use Rattle.ft_shelves.proofs.Decided.{at_decided, itself, untied, variable_decided}
 use Rattle.ft_kept.proofs.Forms.{forms_trans, read_admits, read_elsewhere, read_forms, read_hits, read_readings, readers_admit, readers_forms, readers_ops, roles_stay, shelved_stay}
 use Rattle.ft_kept.proofs.Forms.{read_here as read_op_here}
 use Rattle.ft_kept.proofs.NextThere.{next_there}

@@ -22,7 +22,7 @@ use Rattle.ft_pairs.specs.Source.{Ops}
 use Rattle.ft_pairs.specs.declared.at.At.{At}
 use Rattle.ft_table.specs.Hits.{Hits}
 use Rattle.ft_table.specs.Tabled.{Tabled, is_in}
-use Rattle.ft_table.specs.declared.mark.Mark.{Mark}
+use Rattle.ft_hits.specs.declared.mark.Mark.{Mark}
 use Rattle.ft_table.specs.Spots.{traced}
 use Rattle.ft_kept.specs.Acts.{Acts, Comes, op_of}
 use Rattle.ft_kept.specs.inner.OneAct.{IsOneAct}
@@ -31,15 +31,15 @@ use Rattle.ft_kept.specs.inner.Edits.{StaysBut}
 use Rattle.ft_kept.specs.Repairs.{CanGo}
 use Rattle.ft_kept.specs.inner.Settling.{HasGoneOwing}
 use Rattle.ft_pairs.specs.Roles.{Admits, variable_of}
-use Rattle.ft_kept.specs.inner.Edits.{TakesHit, without_hit_on}
-use Rattle.ft_kept.specs.Shelves.{ChangesShelf, FormsStay, Shelved, Shelves, admits_on, is_saver, kept_on, role_on}
-use Rattle.ft_kept.specs.inner.Following.{HitLessFollows, Moves, MovesKeys, followed_less, switched}
-use Rattle.ft_kept.specs.Switches.{Members}
+use Rattle.ft_shelves.specs.Edits.{TakesHit, without_hit_on}
+use Rattle.ft_shelves.specs.Shelves.{ChangesShelf, FormsStay, Shelved, Shelves, admits_on, is_saver, kept_on, role_on}
+use Rattle.ft_shelves.specs.Following.{HitLessFollows, Moves, MovesKeys, followed_less, switched}
+use Rattle.ft_shelves.specs.Switches.{Members}
 use Rattle.ft_table.specs.Values.{ValuesBy, values_by}
 use Rattle.ft_pairs.specs.declared.role.Role.{Role}
 use Rattle.ft_pairs.specs.declared.role.Role.TheVariants.{Saves}
 use Rattle.ft_pairs.specs.declared.role.Variable.{Variable}
-use Rattle.ft_kept.proofs.Decided.{at_decided, decided, itself, key_decided, untied}
+use Rattle.ft_shelves.proofs.Decided.{at_decided, decided, itself, key_decided, untied}
 use Rattle.ft_kept.proofs.Following.{comes_in, goes_out, none_outside, other_stays}
 use Rattle.ft_kept.proofs.Forms.{made_without, admits_by, by_id, edited, hits_by, ops_by, read_by, role_at, same_admits, same_hits, same_ops, same_read}
 use Rattle.ft_kept.proofs.Noting.{notes_saver}

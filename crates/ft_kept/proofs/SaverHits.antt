@@ -24,14 +24,14 @@ use Rattle.ft_kept.specs.Entries.{HitsHere, IsEntry, IsKept, IsRight, hits_here,
 use Rattle.ft_kept.specs.Repairs.{CanCome}
 use Rattle.ft_kept.specs.inner.Settling.{HasComeOwing}
 use Rattle.ft_pairs.specs.Roles.{variable_of}
-use Rattle.ft_kept.specs.Shelves.{FormsStay, Shelved, Shelves, admits_on, is_saver, kept_on, role_on}
-use Rattle.ft_kept.specs.inner.Following.{HitFollows, Moves, MovesKeys, followed, switched, switched_with}
-use Rattle.ft_kept.specs.Switches.{Members}
+use Rattle.ft_shelves.specs.Shelves.{FormsStay, Shelved, Shelves, admits_on, is_saver, kept_on, role_on}
+use Rattle.ft_shelves.specs.Following.{HitFollows, Moves, MovesKeys, followed, switched, switched_with}
+use Rattle.ft_shelves.specs.Switches.{Members}
 use Rattle.ft_table.specs.Values.{ValuesBy, values_at, values_by}
 use Rattle.ft_pairs.specs.declared.role.Role.{Role}
 use Rattle.ft_pairs.specs.declared.role.Role.TheVariants.{Saves}
 use Rattle.ft_pairs.specs.declared.role.Variable.{Variable}
-use Rattle.ft_kept.proofs.Decided.{at_decided, decided, itself, key_decided, untied}
+use Rattle.ft_shelves.proofs.Decided.{at_decided, decided, itself, key_decided, untied}
 use Rattle.ft_kept.proofs.Following.{none_outside, other_follows, own_follows}
 use Rattle.ft_kept.proofs.Forms.{made_with, admits_by, edited, hits_by, ops_by, role_at, same_admits, same_ops}
 use Rattle.ft_kept.proofs.Noting.{notes_saver}

@@ -7,10 +7,10 @@ use Rattle.std.proofs.lemmas.Bool.{true≢false}
 use Rattle.ft_keys.specs.declared.key.Part.{Part}
 use Rattle.ft_table.specs.Tabled.{Tabled, is_in}
 use Rattle.ft_kept.specs.Bounds.{OtherSaversStay, TableMoves, table_on}
-use Rattle.ft_kept.specs.Shelves.{FormsStay, Shelved, Shelves, admits_on, is_saver, role_on}
+use Rattle.ft_shelves.specs.Shelves.{FormsStay, Shelved, Shelves, admits_on, is_saver, role_on}
 use Rattle.ft_kept.specs.inner.Edits.{ReaderChanges, ReadersChange}
-use Rattle.ft_kept.specs.Switches.{HasMoved, differ}
-use Rattle.ft_kept.specs.inner.Following.{Moves, MovesKeys}
+use Rattle.ft_shelves.specs.Switches.{HasMoved, differ}
+use Rattle.ft_shelves.specs.Following.{Moves, MovesKeys}
 use Rattle.ft_pairs.specs.declared.role.Role.TheVariants.{Plain, Saves}
 use Rattle.ft_kept.proofs.Forms.{admits_by, role_at, roles_stay, same_role}
 

@@ -13,9 +13,9 @@ use Rattle.ft_pairs.specs.declared.at.At.{At}
 use Rattle.ft_pairs.specs.declared.at.Op.{Op}
 use Rattle.ft_kept.specs.Repairs.{CanGo, HasGone}
 use Rattle.ft_kept.specs.inner.Settling.{HasGoneOwing, IsPartly, Pays, owes_saver, without_moved}
-use Rattle.ft_kept.specs.Shelves.{FormsStay, Shelves, admits_on, kept_on, role_on}
+use Rattle.ft_shelves.specs.Shelves.{FormsStay, Shelves, admits_on, kept_on, role_on}
 use Rattle.ft_kept.specs.inner.Edits.{ReadersChange}
-use Rattle.ft_kept.specs.inner.Following.{Moves, MovesKeys}
+use Rattle.ft_shelves.specs.Following.{Moves, MovesKeys}
 use Rattle.ft_table.specs.Values.{values_by}
 use Rattle.ft_kept.proofs.Forms.{readers_admit, roles_stay}
 use Rattle.ft_kept.proofs.NextThere.{next_there}

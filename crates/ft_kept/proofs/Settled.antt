@@ -21,13 +21,14 @@ use Rattle.ft_pairs.specs.Source.{Ops, IsSource}
 use Rattle.ft_pairs.specs.declared.at.At.{At}
 use Rattle.ft_table.specs.Hits.{same_key}
 use Rattle.ft_table.specs.Marks.{mark_cmp_total, mark_same}
-use Rattle.ft_table.specs.declared.mark.Mark.{Mark}
+use Rattle.ft_hits.specs.declared.mark.Mark.{Mark}
 use Rattle.ft_table.specs.Spots.{traced}
 use Rattle.ft_kept.specs.Entries.{HitsHere, hits_here, read_here, one_hit, IsEntry, IsOwn}
 use Rattle.ft_kept.specs.inner.Edits.{StaysBut}
 use Rattle.ft_kept.specs.Repairs.{AreShelved}
-use Rattle.ft_kept.specs.Shelves.{KeepsNotes, MadeStay, Shelved, Shelves, role_on, kept_on}
-use Rattle.ft_kept.specs.inner.Edits.{ReadersChange, with_hit_on, with_note, without_hit_on}
+use Rattle.ft_shelves.specs.Shelves.{KeepsNotes, MadeStay, Shelved, Shelves, role_on, kept_on}
+use Rattle.ft_kept.specs.inner.Edits.{ReadersChange}
+use Rattle.ft_shelves.specs.Edits.{with_hit_on, with_note, without_hit_on}
 use Rattle.ft_table.specs.Values.{ValuesBy, values_by, values_at}
 use Rattle.ft_pairs.specs.declared.role.Role.TheVariants.{Reads}
 use Rattle.ft_pairs.specs.declared.role.Variable.{Variable}

@@ -1,26 +1,12 @@
 -- Shelves that change in one part, and the shelves of which one changes.
-use Rattle.std.proofs.Common.{◌≡◌, ℕ, List, refl, sym, ap, subst, ◌∙◌, Some, None, Option, unwrap_or}
+use Rattle.std.proofs.Common.{◌≡◌, ℕ, refl, sym, ap, subst, ◌∙◌, Some, None, Option, unwrap_or}
 use Rattle.std.specs.Prelude.{is_some}
 use Rattle.std.specs.Cmp.{nat_cmp_total}
 use Rattle.std.specs.FinMap as map
 use Rattle.std.proofs.lemmas.Bool.{true≢false}
 use Rattle.std.proofs.lemmas.Map.Lookups.{exact_unsigned}
-use Rattle.ft_keys.specs.declared.key.Part.{Part}
 use Rattle.ft_maps.specs.Entries.{get-insert_same, get-insert_other}
-use Rattle.ft_pairs.specs.ByKey.{ByKey, ChangesKey}
-use Rattle.ft_pairs.specs.Source.{Ops}
-use Rattle.ft_table.specs.Tabled.{Tabled}
-use Rattle.ft_kept.specs.Shelves.{ChangesShelf, Notes, Readings, Shelved, Shelves}
-use Rattle.ft_kept.specs.inner.Edits.{OpsChange}
-use Rattle.ft_pairs.specs.declared.role.Role.{Role}
-
--- one key's operations change, and nothing else
-pub ops_change : (key : List Part) (edit : Ops → Ops) (role : Role) (table : Tabled) (readings : Readings) (notes : Option Notes) (ops after : ByKey) (old : Shelved)
-    → record { role = role; table = table; ops = ops; readings = readings; notes = notes } ≡ old → ChangesKey key edit ops after
-    → OpsChange key edit old (record { role = role; table = table; ops = after; readings = readings; notes = notes })
-ops_change key edit role table readings notes ops after old is h =
-    subst (λ s. OpsChange key edit s (record { role = role; table = table; ops = after; readings = readings; notes = notes })) is
-    (record { role = refl; table = refl; readings = refl; notes = refl; ops = h })
+use Rattle.ft_shelves.specs.Shelves.{ChangesShelf, Shelved, Shelves}
 
 module _ (id : ℕ) (Change : Shelved → Shelved → Type 0) (old : Shelves) where
   -- a changed shelf is written back

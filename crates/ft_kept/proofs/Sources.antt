@@ -15,7 +15,7 @@ use Rattle.ft_kept.specs.inner.Edits.{OpsStay, StaysBut}
 use Rattle.ft_kept.specs.inner.Owed.{is_read}
 use Rattle.ft_kept.specs.inner.Settling.{Owed, without_next_read}
 use Rattle.ft_pairs.specs.Roles.{Admits, op_as}
-use Rattle.ft_kept.specs.Shelves.{Kept}
+use Rattle.ft_shelves.specs.Shelves.{Kept}
 use Rattle.ft_table.specs.Values.{ValuesBy}
 use Rattle.ft_pairs.specs.Variables.{variable_cmp, variable_same}
 use Rattle.ft_pairs.specs.declared.role.Role.{Role}

@@ -17,21 +17,21 @@ use Rattle.ft_pairs.specs.declared.at.At.{At}
 use Rattle.ft_table.specs.Marks.{mark_cmp, mark_cmp_total, mark_same}
 use Rattle.ft_table.specs.OneKey.{without_hit}
 use Rattle.ft_table.specs.Tabled.{Tabled, is_in}
-use Rattle.ft_table.specs.declared.mark.Mark.{Mark}
+use Rattle.ft_hits.specs.declared.mark.Mark.{Mark}
 use Rattle.ft_table.specs.Spots.{traced}
 use Rattle.ft_kept.specs.Acts.{Acts, AreHeld, Comes, op_of}
 use Rattle.ft_kept.specs.inner.OneAct.{IsOneAct}
 use Rattle.ft_kept.specs.Entries.{IsEntry, IsKept, IsOwn, IsRight, hits_here, read_here}
 use Rattle.ft_kept.specs.inner.Edits.{StaysBut}
 use Rattle.ft_pairs.specs.Roles.{Admits, variable_of}
-use Rattle.ft_kept.specs.Shelves.{ChangesShelf, FormsStay, KeepsForm, KeepsNotes, Kept, Shelved, Shelves, is_saver, role_on, admits_on, kept_on}
-use Rattle.ft_kept.specs.inner.Edits.{NotesReading, TakesHit, with_note, without_hit_on}
+use Rattle.ft_shelves.specs.Shelves.{ChangesShelf, FormsStay, KeepsForm, KeepsNotes, Kept, Shelved, Shelves, is_saver, role_on, admits_on, kept_on}
+use Rattle.ft_shelves.specs.Edits.{NotesReading, TakesHit, with_note, without_hit_on}
 use Rattle.ft_table.specs.Values.{ValuesBy}
 use Rattle.ft_pairs.specs.declared.role.Role.{Role}
 use Rattle.ft_pairs.specs.declared.role.Role.TheVariants.{Plain, Saves, Reads}
 use Rattle.ft_pairs.specs.declared.role.Variable.{Variable}
 use Rattle.ft_kept.proofs.Between.{held_fewer}
-use Rattle.ft_kept.proofs.Decided.{at_decided, decided, itself, untied, variable_decided}
+use Rattle.ft_shelves.proofs.Decided.{at_decided, decided, itself, untied, variable_decided}
 use Rattle.ft_kept.proofs.Forms.{made_without, admits_by, by_id, changed_forms, hits_by, ops_by, read_by, role_at, same_admits, same_hits, same_ops, same_read}
 use Rattle.ft_kept.proofs.Noting.{notes_noted, notes_plain}
 use Rattle.ft_kept.proofs.Owing.{op_absent, op_elsewhere, op_none, right_own}

@@ -6,7 +6,6 @@ use Rattle.std.specs.FinMap.{FinMap}
 use Rattle.ft_fields.specs.Places.{pos_cmp}
 use Rattle.ft_fields.specs.Traced.{Traced}
 use Rattle.ft_fields.specs.declared.pos.Pos.{Pos}
-use Rattle.ft_groups.specs.Grouped.{Grouped, AreGrouped}
 use Rattle.ft_hist.specs.Hist.{Hist}
 use Rattle.ft_hist.specs.Hit.{hit}
 use Rattle.ft_keys.specs.declared.key.Part.{Part}
@@ -15,7 +14,8 @@ use Rattle.ft_pairs.specs.declared.role.Role.TheVariants.{Saves, Reads}
 use Rattle.ft_table.specs.Values.{values_by}
 use Rattle.ft_kept.specs.Acts.{Acts}
 use Rattle.ft_kept.specs.Entries.{IsKept}
-use Rattle.ft_kept.specs.Shelves.{Shelved, Shelves, role_on, admits_on, kept_on}
+use Rattle.ft_shelves.specs.Shelves.{Shelved, Shelves, role_on, admits_on, kept_on}
+pub use Rattle.ft_shelves.specs.Joining.{AreGroupsOf}
 
 -- nothing is kept of a trigger yet: no hits are on its shelf and no notes are taken; what it saves has no operation; what it reads no other trigger reads (our own choice)
 pub record IsBare (id : ℕ) (shelves : Shelves) : Type 0 where
@@ -23,12 +23,6 @@ pub record IsBare (id : ℕ) (shelves : Shelves) : Type 0 where
   pub notes : (shelf : Shelved) → map.get shelves id ≡ Some shelf → shelf.notes ≡ None
   pub saves : role_on shelves id ≡ Saves → (key : List Part) (at : At) → (kept_on shelves).ops (record { saver = id; key = key }) at ≡ None
   pub alone : (saver other : ℕ) → role_on shelves id ≡ Reads saver → role_on shelves other ≡ Reads saver → other ≡ id
-
--- groups of events that a trigger counts, each of which has the stamp of its place (our own choice)
-pub record AreGroupsOf (hist : Hist) (groups : Grouped) : Type 0 where
-  pub events : FinMap pos_cmp Traced
-  pub stamped : (pos : Pos) (event : Traced) → map.get events pos ≡ Some event → event.stamp ≡ pos.stamp
-  pub grouped : AreGrouped hist (map.entries events) groups
 
 -- the acts of one trigger at events (kernel: histogram.rst, hist triggers)
 abbrev pub acts_with : Hist → FinMap pos_cmp Traced → Pos → Option (List Part × Traced)

@@ -14,8 +14,8 @@ use Rattle.ft_table.specs.Spots.{traced}
 use Rattle.ft_table.specs.Tabled.{Tabled, is_in}
 use Rattle.ft_table.specs.Values.{values_at}
 use Rattle.ft_pairs.specs.declared.role.Role.TheVariants.{Saves}
-use Rattle.ft_kept.specs.Switches.{HasMoved}
-use Rattle.ft_kept.specs.Shelves.{Shelves, role_on}
+use Rattle.ft_shelves.specs.Switches.{HasMoved}
+use Rattle.ft_shelves.specs.Shelves.{Shelves, role_on}
 
 -- what becomes of a trigger's table (our own choice)
 abbrev pub TableEdit : Type 0

@@ -1,7 +1,7 @@
 -- How the logic stores what contracts see.
 use Rattle.std.specs.Coded.{Coded, coded_ℕ}
 use Rattle.std.specs.FinMap as map
-use Rattle.ft_kept.specs.Shelves.{shelved_code, Shelves}
+use Rattle.ft_shelves.specs.Shelves.{shelved_code, Shelves}
 
 -- shelves, stored as a list by id (our own choice)
 abbrev pub shelves_code : Coded Shelves

@@ -12,7 +12,7 @@ use Rattle.ft_table.specs.Values.{ValuesBy}
 use Rattle.ft_pairs.specs.declared.role.Role.{Role}
 use Rattle.ft_pairs.specs.declared.role.Role.TheVariants.{Plain, Saves, Reads}
 use Rattle.ft_pairs.specs.declared.role.Variable.{Variable}
-use Rattle.ft_kept.specs.Shelves.{Kept}
+use Rattle.ft_shelves.specs.Shelves.{Kept}
 use Rattle.ft_kept.specs.Acts.{Acts, op_of}
 
 -- the hits of a trigger at one place, by key (our own choice)

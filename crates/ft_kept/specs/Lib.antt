@@ -6,8 +6,6 @@ pub mod Codes
 pub mod Entries
 pub mod Memory
 pub mod Repairs
-pub mod Shelves
-pub mod Switches
 pub mod inner
 pub use Rattle.ft_fields.specs.Places
 pub use Rattle.ft_fields.specs.Traced
@@ -18,4 +16,6 @@ pub use Rattle.ft_hist.specs.Steps
 pub use Rattle.ft_lanes.specs.Held
 pub use Rattle.ft_maps.specs.Seen
 pub use Rattle.ft_pairs.specs.Source
+pub use Rattle.ft_shelves.specs.Shelves
+pub use Rattle.ft_shelves.specs.Switches
 pub use Rattle.ft_table.specs.Tabled

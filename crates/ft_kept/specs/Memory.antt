@@ -8,7 +8,7 @@ use Rattle.ft_hist.specs.Hist.{Hist}
 use Rattle.ft_hist.specs.Hit.{hit}
 use Rattle.ft_keys.specs.declared.key.Part.{Part}
 use Rattle.ft_pairs.specs.declared.role.Role.TheVariants.{Plain}
-use Rattle.ft_kept.specs.Shelves.{Shelves, role_on}
+use Rattle.ft_shelves.specs.Shelves.{Shelves, role_on}
 
 -- the event is no hit of any of the triggers (kernel: histogram.rst, hist triggers)
 abbrev pub IsNoHit : FinMap nat_cmp Hist → Traced → Type 0

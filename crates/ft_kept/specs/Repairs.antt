@@ -12,7 +12,7 @@ use Rattle.ft_lanes.specs.Held.{Lanes, event_at}
 use Rattle.ft_pairs.specs.declared.at.At.{At}
 use Rattle.ft_table.specs.Values.{values_by}
 use Rattle.ft_pairs.specs.declared.role.Role.TheVariants.{Reads}
-use Rattle.ft_kept.specs.Shelves.{Shelves, role_on, admits_on, kept_on}
+use Rattle.ft_shelves.specs.Shelves.{Shelves, role_on, admits_on, kept_on}
 use Rattle.ft_kept.specs.Entries.{IsKept}
 use Rattle.ft_kept.specs.Acts.{Acts, acts_of, AreHeld, Comes}
 

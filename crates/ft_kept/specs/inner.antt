@@ -1,7 +1,6 @@
 -- Words of private functions: what helps to prove, and nothing that public clauses say.
 pub mod Acting
 pub mod Edits
-pub mod Following
 pub mod Joining
 pub mod JoiningReads
 pub mod OneAct

@@ -1,7 +1,7 @@
 //! All acts of a trigger that joins come at once: its events are grouped by key, so that each key's
 //! part is made as a whole.
 
-ghost use Rattle.std.specs.Prelude.{◌≡◌, ℕ, List, OnOk, IsTrue, Some, None};
+ghost use Rattle.std.specs.Prelude.{◌≡◌, ℕ, OnOk, IsTrue, Some, None};
 ghost use Rattle.std.specs.Ordering.{nat_cmp};
 ghost use Rattle.std.specs.FinMap as map;
 ghost use Rattle.std.specs.FinMap.{FinMap};
@@ -9,24 +9,21 @@ ghost use Rattle.ft_fields.specs.Places.{pos_cmp};
 ghost use Rattle.ft_fields.specs.Traced.{Traced};
 ghost use Rattle.ft_groups.specs.Grouped.{AreGrouped};
 ghost use Rattle.ft_hist.specs.Steps.{StepsGrow};
-ghost use Rattle.ft_keys.specs.declared.key.Part.{Part};
 ghost use Rattle.ft_maps.specs.Seen.{seen};
-ghost use Rattle.ft_pairs.specs.ByKey.{ops_of};
-ghost use Rattle.ft_pairs.specs.declared.at.At.{At};
 ghost use Rattle.ft_pairs.specs.declared.role.Role.TheVariants.{Plain, Saves, Reads};
-ghost use Rattle.ft_kept.specs.AtOnce.{IsBare, AreGroupsOf, AllHaveCome, acts_with};
+ghost use Rattle.ft_kept.specs.AtOnce.{IsBare, AllHaveCome, acts_with};
+ghost use Rattle.ft_shelves.specs.Joining.{AreGroupsOf};
 ghost use Rattle.ft_kept.specs.Repairs.{AreShelved};
-ghost use Rattle.ft_kept.specs.Shelves.{FormsStay, role_on};
-ghost use Rattle.ft_kept.specs.inner.Joining.{MayJoin, Joined, SavingsCome, is_other_reader};
+ghost use Rattle.ft_shelves.specs.Shelves.{FormsStay, role_on};
+ghost use Rattle.ft_kept.specs.inner.Joining.{MayJoin, Joined, is_other_reader};
 
 use crate::at_once_read::readings_come;
-use crate::joining::Joining;
-use crate::shelf::Shelf;
 use crate::tables::Tables;
 use ft_groups::Groups;
 use ft_hist::{Trigger, Work};
 use ft_maps::entries;
 use ft_pairs::Role;
+use ft_shelves::{Joining, put_savings};
 use std::alloc::AllocError;
 use std::collections::BTreeMap;
 
@@ -140,23 +137,4 @@ fn savings_come(
         Some(shelf) => put_savings(shelf, joining, work),
         None => Ok(()),
     }
-}
-
-/// Puts all hits of a saver on its shelf, and then a save at each hit of the keys that are in its
-/// table. Refused for memory.
-fn put_savings(
-    shelf: &mut Shelf,
-    joining: &Joining<'_, '_>,
-    work: &mut Work,
-) -> Result<(), AllocError>
-    requires empty { shelf.old.table.hits ≡ map.empty }
-    requires unsaved { (key : List Part) (at : At) → ops_of shelf.old.ops key at ≡ None }
-    requires grouped { AreGroupsOf joining.now.trigger.now joining.now.groups.now }
-    ensures ok { OnOk result (SavingsCome joining.now.id joining.now.trigger.now
-        joining.now.groups.now shelf.old shelf.new) }
-    ensures evals { work.new.evals ≡ work.old.evals }
-    ensures grow { StepsGrow work.old work.new }
-{
-    shelf.put_groups(joining, work)?;
-    shelf.save_groups(joining, work)
 }

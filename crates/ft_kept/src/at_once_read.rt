@@ -7,20 +7,23 @@ ghost use Rattle.ft_groups.specs.Grouped.{run_of};
 ghost use Rattle.ft_hist.specs.Steps.{StepsGrow};
 ghost use Rattle.ft_pairs.specs.Runs.{FindEach, with_reads};
 ghost use Rattle.ft_pairs.specs.declared.role.Role.TheVariants.{Reads};
+ghost use Rattle.ft_store.specs.Stored.{held};
 ghost use Rattle.ft_table.specs.Values.{own_value, values_at};
-ghost use Rattle.ft_table.specs.declared.spot.Spot.{Spot};
-ghost use Rattle.ft_kept.specs.AtOnce.{AreGroupsOf};
-ghost use Rattle.ft_kept.specs.Shelves.{ChangesShelf, kept_on, role_on};
-ghost use Rattle.ft_kept.specs.inner.Edits.{OpsChange};
+ghost use Rattle.ft_hits.specs.declared.spot.Spot.{Spot};
+ghost use Rattle.ft_shelves.specs.Joining.{AreGroupsOf};
+ghost use Rattle.ft_shelves.specs.Shelves.{ChangesShelf, kept_on, role_on};
+ghost use Rattle.ft_shelves.specs.Edits.{OpsChange};
 ghost use Rattle.ft_kept.specs.inner.Joining.{MayJoin, Joined};
-ghost use Rattle.ft_kept.specs.inner.JoiningReads.{KeyComes, ReadingsSet, RunComes};
+ghost use Rattle.ft_kept.specs.inner.JoiningReads.{KeyComes};
+ghost use Rattle.ft_shelves.specs.Joining.{ReadingsSet, RunComes};
 ghost use Rattle.ft_kept.specs.inner.JoiningReads.{hit_found, hits_found, reading_found, readings_found, reads_of_run};
 
-use crate::joining::Joining;
 use crate::tables::Tables;
 use ft_fields::{Event, Pos};
 use ft_hist::{Key, Trigger, Work};
 use ft_pairs::At;
+use ft_shelves::Joining;
+use ft_store::Stored;
 use ft_table::Spot;
 use std::alloc::AllocError;
 
@@ -105,8 +108,8 @@ fn hits_of(
 {
     let run = joining.groups.run(key);
     let mut hits = Vec::with_capacity(joining.alloc, run.len())?;
-    for (i, (pos, event)) in run.iter().enumerate() {
-        add_found(joining.trigger, *pos, event, found[i], &mut hits, readings)?;
+    for (i, (pos, stored)) in run.iter().enumerate() {
+        add_found(joining.trigger, *pos, stored, found[i], &mut hits, readings)?;
     }
     Ok(hits)
 }
@@ -116,21 +119,22 @@ fn hits_of(
 fn add_found(
     trigger: &Trigger,
     pos: Pos,
-    event: &Event,
+    stored: &Stored<'_>,
     found: Option<At>,
     hits: &mut Vec<(Spot, [i64; 3])>,
     readings: &mut Vec<(Pos, Pos)>,
 ) -> Result<(), AllocError>
-    requires { event.now.stamp ≡ pos.stamp }
+    requires { (held stored.now).stamp ≡ pos.stamp }
     ensures hits { OnOk result (hits.new.items ≡ hits.old.items
-        ++ hit_found trigger.now (pos, event.now) found) }
+        ++ hit_found trigger.now (pos, held stored.now) found) }
     ensures readings { OnOk result (readings.new.items ≡ readings.old.items
-        ++ reading_found (pos, event.now) found) }
+        ++ reading_found (pos, held stored.now) found) }
 {
     let Some(saved) = found else {
         return Ok(());
     };
-    let values = values_read(trigger, event, saved.pos);
+    let event = stored.bare();
+    let values = values_read(trigger, &event, saved.pos);
     hits.push((Spot::traced(pos), values))?;
     readings.push((pos, saved.pos))?;
     Ok(())

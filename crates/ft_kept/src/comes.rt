@@ -12,7 +12,7 @@ ghost use Rattle.ft_kept.specs.Acted.{Gathers, act_as, acting_of};
 ghost use Rattle.ft_kept.specs.Bounds.{SaverMoves, SomeSaverMoves, OtherSaversStay, with_hit_of};
 ghost use Rattle.ft_kept.specs.Memory.{ActsPlainly, IsNoHit, IsPlainHit};
 ghost use Rattle.ft_kept.specs.Repairs.{AreShelved, CanCome, HasCome, EventCanCome, EventHasCome};
-ghost use Rattle.ft_kept.specs.Shelves.{FormsStay, NotesStay, role_on};
+ghost use Rattle.ft_shelves.specs.Shelves.{FormsStay, NotesStay, role_on};
 ghost use Rattle.ft_kept.specs.inner.Acting.{MayCome, Came};
 
 use crate::act::{Act, Scene, key_at};

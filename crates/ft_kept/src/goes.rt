@@ -11,7 +11,7 @@ ghost use Rattle.ft_kept.specs.Acted.{Gathers, act_as, acting_of};
 ghost use Rattle.ft_kept.specs.Bounds.{SaverMoves, SomeSaverMoves, OtherSaversStay, without_hit_of};
 ghost use Rattle.ft_kept.specs.Memory.{ActsPlainly, IsPlainHit};
 ghost use Rattle.ft_kept.specs.Repairs.{AreShelved, CanGo, HasGone, EventCanGo, EventHasGone};
-ghost use Rattle.ft_kept.specs.Shelves.{FormsStay, NotesStay, role_on};
+ghost use Rattle.ft_shelves.specs.Shelves.{FormsStay, NotesStay, role_on};
 ghost use Rattle.ft_kept.specs.inner.Acting.{MayGo, Went};
 
 use crate::act::{Act, Scene, key_at};

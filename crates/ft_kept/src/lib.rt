@@ -10,7 +10,7 @@
 //! let mut acted = Acted::new(alloc);
 //! let mut work = Work::new();
 //! if let Some(event) = lanes.get(pos.cpu, pos.line) {
-//!     tables.event_comes(&triggers, &lanes, pos, event, &mut acted, &mut work)?;
+//!     tables.event_comes(&triggers, &lanes, pos, &event, &mut acted, &mut work)?;
 //! }
 //! // The triggers that act at the event, each with its key, where memory for them was found.
 //! let acting = acted.all();
@@ -31,14 +31,12 @@ mod at_once;
 mod at_once_read;
 mod comes;
 mod goes;
-mod joining;
 mod moved;
 mod saver_comes;
 mod saver_goes;
 mod settle;
-mod shelf;
 mod tables;
 
 pub use acted::{Acted, Acting};
-pub use shelf::Shelf;
+pub use ft_shelves::Shelf;
 pub use tables::Tables;

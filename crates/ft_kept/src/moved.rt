@@ -1,11 +1,11 @@
-//! Which keys of a saver's table moved as one of its acts came or went, and what follows of it.
+//! What follows where keys of a saver's table moved, as one of its acts came or went.
 
 ghost use Rattle.std.specs.Prelude.{◌≡◌, ◌+◌, ◌≤◌, Option, Some, None, OnOk, false};
 ghost use Rattle.ft_hist.specs.Steps.{StepsGrow};
 ghost use Rattle.ft_pairs.specs.Next.{IsNext};
 ghost use Rattle.ft_pairs.specs.declared.at.At.{At};
 ghost use Rattle.ft_pairs.specs.declared.at.Op.{Op};
-ghost use Rattle.ft_kept.specs.Shelves.{kept_on};
+ghost use Rattle.ft_shelves.specs.Shelves.{kept_on};
 ghost use Rattle.ft_kept.specs.inner.Acting.{CanSettle, Paid, own_variable};
 ghost use Rattle.ft_kept.specs.inner.Edits.{ReadersChange};
 ghost use Rattle.ft_kept.specs.inner.Settling.{without_moved};
@@ -13,31 +13,10 @@ ghost use Rattle.ft_kept.specs.inner.Settling.{without_moved};
 use crate::act::{Act, Scene};
 use crate::settle::{settle_key, settle_next};
 use crate::tables::Tables;
-use ft_hist::{Key, Work};
-use ft_pairs::{At, Op, Variable};
+use ft_hist::Work;
+use ft_pairs::Variable;
+use ft_shelves::Moved;
 use std::alloc::AllocError;
-use std::marker::Model;
-
-/// Which keys came into a saver's table or went out, as hits of one key changed.
-///
-/// Contracts see a record of the same fields.
-#[derive(Drop)]
-pub(crate) struct Moved {
-    /// Whether the key itself did.
-    pub(crate) own: bool,
-    /// The other key that did, if one did.
-    pub(crate) other: Option<Key>,
-}
-
-impl Model for Moved {
-    ghost use Rattle.ft_kept.specs.inner.Following.{Moves, moves_code};
-
-    ghost Value = { Moves };
-
-    ghost coded = { moves_code };
-
-    ghost view = { λ m. record { own = m.own; other = m.other } };
-}
 
 /// Makes the readings right that a change of a saver's hits at a place may have made wrong: those
 /// of the keys that moved, and else the next one on the key's variable. Refused for memory.

@@ -1,27 +1,17 @@
 //! A saver's acts that go: the operations on what it saves follow the keys of its table.
 
-ghost use Rattle.std.specs.Prelude.{◌≡◌, ◌+◌, ◌≤◌, ◌⊎◌, List, false, None, OnOk, IfOk, if◌then◌else◌};
-ghost use Rattle.ft_fields.specs.declared.pos.Pos.{Pos};
+ghost use Rattle.std.specs.Prelude.{◌≡◌, ◌+◌, ◌≤◌, ◌⊎◌, false, None, OnOk, IfOk};
 ghost use Rattle.ft_hist.specs.Steps.{StepsGrow};
-ghost use Rattle.ft_keys.specs.declared.key.Part.{Part};
-ghost use Rattle.ft_pairs.specs.ByKey.{ops_of};
 ghost use Rattle.ft_pairs.specs.declared.role.Role.TheVariants.{Saves};
-ghost use Rattle.ft_table.specs.OneKey.{without_hit};
-ghost use Rattle.ft_table.specs.Spots.{traced};
-ghost use Rattle.ft_table.specs.Tabled.{is_in};
 ghost use Rattle.ft_kept.specs.Bounds.{TableMoves};
-ghost use Rattle.ft_kept.specs.Shelves.{role_on};
-ghost use Rattle.ft_kept.specs.Switches.{HasMoved};
+ghost use Rattle.ft_shelves.specs.Shelves.{role_on};
 ghost use Rattle.ft_kept.specs.inner.Acting.{MayGo, Went, WentOwing, without_act};
-ghost use Rattle.ft_kept.specs.inner.Following.{HitLessFollows, MovesKeys, first_is_in};
 
 use crate::act::{Act, Scene};
-use crate::moved::{Moved, settle_moved};
-use crate::shelf::Shelf;
+use crate::moved::settle_moved;
 use crate::tables::Tables;
-use ft_hist::{Key, Work};
-use ft_pairs::At;
-use ft_table::{Table, first_outside, one_key};
+use ft_hist::Work;
+use ft_shelves::{Moved, take_saver_hit};
 use std::alloc::AllocError;
 
 /// A saver's hit goes. Refused for memory.
@@ -65,49 +55,5 @@ fn take_saving(
             own: false,
             other: None,
         }),
-    }
-}
-
-/// Takes a hit off a saver's shelf: each key's operations follow as it comes into the table, goes
-/// out or stays. Answers which keys moved. Refused for memory.
-fn take_saver_hit(shelf: &mut Shelf, key: Key, at: At, work: &mut Work) -> Result<Moved, AllocError>
-    requires { (k : List Part) → is_in shelf.old.table k ≡ false → (pos : Pos)
-        → ops_of shelf.old.ops k (record { pos = pos; trigger = at.trigger }) ≡ None }
-    ensures follows { OnOk result (HitLessFollows at.trigger (record { spot = traced at.pos; key = key })
-        shelf.old shelf.new) }
-    ensures moved { IfOk result (λ moved. MovesKeys key moved
-        (is_in shelf.old.table) (is_in shelf.new.table)) }
-    ensures puts { (work.new.puts ≤ work.old.puts)
-        ⊎ HasMoved (is_in shelf.old.table)
-        (is_in (without_hit shelf.old.table (record { spot = traced at.pos; key = key }))) }
-    ensures evals { work.new.evals ≡ work.old.evals }
-    ensures grow { StepsGrow work.old work.new }
-{
-    // Beside its own key only the first one outside can move, and in.
-    one_key();
-    first_outside();
-    let was_in = shelf.table().is_in(&key);
-    let first = shelf.table().edge().first_out;
-    shelf.take_hit(at.pos, key);
-    shelf.take_op(&key, at);
-    let is_in = shelf.table().is_in(&key);
-    shelf.switch(at.trigger, key, was_in, work)?;
-    let other = come_in(shelf.table(), first, &key);
-    if let Some(new) = other {
-        shelf.switch(at.trigger, new, false, work)?;
-    }
-    Ok(Moved {
-        own: was_in != is_in,
-        other,
-    })
-}
-
-/// The key that was the first outside a table, if it is another than this one and is in now.
-fn come_in(table: &Table, first: Option<Key>, key: &Key) -> Option<Key>
-    ensures { result ≡ (if first_is_in table.now key.now first then first else None) }
-{
-    match first {
-        Some(other) if other != *key => { if table.is_in(&other) { first } else { None } }
-        _ => None,
     }
 }

@@ -9,7 +9,7 @@ ghost use Rattle.ft_pairs.specs.declared.role.Role.TheVariants.{Reads};
 ghost use Rattle.ft_table.specs.Values.{values_by};
 ghost use Rattle.ft_kept.specs.Entries.{IsEntry, IsOwn, hits_here, read_here};
 ghost use Rattle.ft_kept.specs.Repairs.{AreShelved};
-ghost use Rattle.ft_kept.specs.Shelves.{role_on, kept_on};
+ghost use Rattle.ft_shelves.specs.Shelves.{role_on, kept_on};
 ghost use Rattle.ft_kept.specs.inner.Acting.{CanSettle, Paid, triggers_of};
 ghost use Rattle.ft_kept.specs.inner.Edits.{ReadersChange, StaysBut};
 ghost use Rattle.ft_kept.specs.inner.Settling.{without_next_read, without_reads_of};
@@ -87,7 +87,7 @@ fn settle_op(
     match op {
         Op::Save => Ok(()),
         Op::Read => match scene.lanes.get(at.pos.cpu, at.pos.line) {
-            Some(event) => settle(tables, scene, variable, at, event, work),
+            Some(event) => settle(tables, scene, variable, at, &event, work),
             None => Ok(()),
         },
     }

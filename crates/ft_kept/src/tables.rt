@@ -9,13 +9,14 @@ ghost use Rattle.ft_pairs.specs.Next.{IsNext};
 ghost use Rattle.ft_pairs.specs.Source.{IsSource};
 ghost use Rattle.ft_pairs.specs.declared.at.Op.TheVariants.{Read};
 ghost use Rattle.ft_table.specs.Spots.{traced};
-ghost use Rattle.ft_kept.specs.Shelves.{AddsShelf, ChangesShelf, DropsNotes, TakesNotes, role_on, kept_on};
-ghost use Rattle.ft_kept.specs.inner.Edits.{NotesReading, OpsChange, TakesHit, left_on};
+ghost use Rattle.ft_shelves.specs.Shelves.{AddsShelf, ChangesShelf, DropsNotes, TakesNotes, role_on, kept_on};
+ghost use Rattle.ft_shelves.specs.Edits.{NotesReading, OpsChange, TakesHit};
+ghost use Rattle.ft_kept.specs.inner.Edits.{left_on};
 
-use crate::shelf::Shelf;
 use ft_hist::{Key, Work};
 use ft_maps::{get, put, take};
 use ft_pairs::{At, Op, Role, Variable};
+use ft_shelves::Shelf;
 use std::alloc::{AllocError, Global};
 use std::collections::BTreeMap;
 use std::marker::Model;
@@ -33,7 +34,7 @@ impl Model for Tables {
     ghost use Rattle.std.specs.Ordering.{nat_cmp};
     ghost use Rattle.ft_maps.specs.Seen.{seen};
     ghost use Rattle.ft_kept.specs.Codes.{shelves_code};
-    ghost use Rattle.ft_kept.specs.Shelves.{Shelves};
+    ghost use Rattle.ft_shelves.specs.Shelves.{Shelves};
 
     ghost Value = { Shelves };
 

@@ -15,7 +15,8 @@ use Rattle.ft_fields.specs.Traced.{Traced}
 use Rattle.ft_maps.specs.Entries.{entries-from_entries, strictly_sorted}
 use Rattle.ft_maps.specs.Mapped.{entries_by, map_by, map_by-insert}
 use Rattle.ft_lanes.specs.Held.{Lane, Lanes, held_in}
-use Rattle.ft_lanes.specs.inner.Slots.{AllSlots, placed_from, slots_from, stored_at, lane_by, lanes_by, slots_in, IsWithin, AreWithin, AreBelow, AreStored}
+use Rattle.ft_store.specs.Stored.{stored_at}
+use Rattle.ft_lanes.specs.inner.Slots.{AllSlots, placed_from, slots_from, lane_by, lanes_by, slots_in, IsWithin, AreWithin, AreBelow, AreStored}
 use Rattle.ft_lanes.proofs.Counts.{held-slots}
 use Rattle.ft_lanes.proofs.Each.{each-insert, within-empty, within-longer}
 use Rattle.ft_lanes.proofs.Loads.{Stands, stands}

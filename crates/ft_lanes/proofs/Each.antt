@@ -1,7 +1,6 @@
 -- A property of each value of a map, as the map is edited.
 use Rattle.std.proofs.Common.{◌≡◌, ℕ, zero, suc, ◌+◌, length, get_or, List, [], ◌∷◌, ◌<◌, ◌≤◌, refl, sym, ap, ◌∙◌, subst, Option, Some, None, unwrap_or, ⊎_elim, arith}
-use Rattle.std.specs.Prelude.{option_and_then}
-use Rattle.std.specs.List.{All, AllByRecursion}
+use Rattle.std.specs.List.{AllByRecursion}
 use Rattle.std.specs.Option.{option_map_or}
 use Rattle.std.specs.Ordering.{nat_cmp}
 use Rattle.std.specs.Cmp.{nat_cmp_total}
@@ -12,7 +11,6 @@ use Rattle.std.proofs.lemmas.List.{get_or_default}
 use Rattle.std.proofs.lemmas.Option.{none-some}
 use Rattle.ft_maps.specs.Entries.{get-insert_same, get-insert_other, get-remove_same, get-remove_other}
 use Rattle.ft_lanes.specs.inner.Slots.{SlotsOf, AllSlots, Each, IsWithin, AreWithin, no_slots, slots_with, slots_without, all_with, all_without}
-use Rattle.ft_lanes.specs.inner.Within.{PlacesWithin, SlotsWithin}
 
 module _ {X : Type 0} (P : X → Type 0) where
   pub each-empty : Each P map.empty
@@ -71,24 +69,6 @@ within-without n all cpu line within = at (map.get all cpu) refl
 -- one lane less
 pub within-unloaded : (n : ℕ) (all : AllSlots) (cpu : ℕ) → AreWithin n all → AreWithin n (map.remove all cpu)
 within-unloaded n all cpu within = each-remove (IsWithin n) all cpu within
-
--- a slot that is found is a place of the store
-pub within-found : (n : ℕ) (all : AllSlots) (cpu line place : ℕ) → AreWithin n all → option_and_then (λ slots. map.get slots.places line) (map.get all cpu) ≡ Some place → place < n
-within-found n all cpu line place within = at (map.get all cpu) refl
-  where
-    at : (o : Option SlotsOf) → map.get all cpu ≡ o → option_and_then (λ slots. map.get slots.places line) o ≡ Some place → place < n
-    at None is found = absurd (none-some place found)
-    at (Some slots) is found = within cpu slots is line place found
-
--- lines that are found have places of the store
-pub places-within : (n : ℕ) (slots : SlotsOf) (lines : List (ℕ × ℕ)) → IsWithin n slots → All (λ e. map.get slots.places e.0 ≡ Some e.1) lines → PlacesWithin n lines
-places-within n slots [] within found = tt
-places-within n slots (e ∷ lines) within found = (within e.0 e.1 (found 0 e (omega arith)), places-within n slots lines within (λ k d lt. found (suc k) d (omega arith)))
-
--- slots by CPU that are places of the store, as a list
-pub slots-within : (n : ℕ) (all : AllSlots) (lanes : List (ℕ × SlotsOf)) → AreWithin n all → All (λ e. map.get all e.0 ≡ Some e.1) lanes → SlotsWithin n lanes
-slots-within n all [] within found = tt
-slots-within n all (e ∷ lanes) within found = (within e.0 e.1 (found 0 e (omega arith)), slots-within n all lanes within (λ k d lt. found (suc k) d (omega arith)))
 
 -- ---- a property of each element of a list
 

@@ -1,6 +1,6 @@
 -- Slots for the events of a load, one by one: they stand for the lanes that a load gives, and removing them again leaves the old ones.
 use mathlib.Core.Bool.{false≢true}
-use Rattle.std.proofs.Common.{◌≡◌, ℕ, ◌+◌, ◌-◌, ◌<◌, ◌≤◌, zero, suc, Bool, true, false, cond, ◌==◌, ◌||◌, List, [], ◌∷◌, ◌++◌, length, get_or, take, drop, filter, fold, refl, sym, ap, ◌∙◌, subst, Option, Some, None, is_some, option_map, unwrap_or, ⊎_elim, append_assoc, arith}
+use Rattle.std.proofs.Common.{◌≡◌, ℕ, ◌+◌, ◌-◌, ◌<◌, ◌≤◌, zero, suc, Bool, true, false, cond, ◌==◌, ◌||◌, List, [], ◌∷◌, ◌++◌, length, get_or, drop, filter, fold, refl, sym, ap, ◌∙◌, subst, Option, Some, None, is_some, option_map, unwrap_or, ⊎_elim, append_assoc, arith}
 use Rattle.std.specs.List.{enumerate_from}
 use Rattle.std.specs.List as list
 use Rattle.std.specs.Ordering.{nat_cmp}
@@ -8,7 +8,7 @@ use Rattle.std.specs.Cmp.{nat_cmp_total}
 use Rattle.std.specs.FinMap as map
 use Rattle.std.specs.FinMap.{same_map, from_entries_push, nat_cmp-IsAntisymmetric}
 use Rattle.std.proofs.lemmas.Bool.{cases_eq, eq-eqb, ne_eqb, eqb-true, or_cases, or_parts, or_left, or_right}
-use Rattle.std.proofs.lemmas.List.{append-nil, length_push, length-append, take_all, at_drop_more, at_drop_all}
+use Rattle.std.proofs.lemmas.List.{append-nil, length_push, at_drop_more, at_drop_all}
 use Rattle.std.proofs.Math.Seq.{drop-append_seam}
 use Rattle.std.proofs.lemmas.List.Elements.{filter-append}
 use Rattle.std.proofs.lemmas.List.Folds.{list_any-append}
@@ -16,7 +16,8 @@ use Rattle.ft_fields.specs.Traced.{Traced}
 use Rattle.ft_lanes.specs.Held.{Lane, Lanes, number_limit, event_limit}
 use Rattle.ft_lanes.specs.Loaded.{lane_of, with_lanes, first_held}
 use Rattle.ft_lanes.specs.Edits.{new_lane, lane_with, lanes_with}
-use Rattle.ft_lanes.specs.inner.Slots.{SlotsOf, AllSlots, no_slots, slots_with, all_with, all_from, slots_in, lane_by, lanes_by, stored_at, first_cpu, has_cpu, AgreeBeside, HasRoom, AreWithin, AreStored}
+use Rattle.ft_store.specs.Stored.{stored_at}
+use Rattle.ft_lanes.specs.inner.Slots.{SlotsOf, AllSlots, no_slots, slots_with, all_with, all_from, slots_in, lane_by, lanes_by, first_cpu, has_cpu, AgreeBeside, HasRoom, AreWithin, AreStored}
 use Rattle.ft_lanes.proofs.RowLines.{enumerate_from-push, find-past}
 use Rattle.ft_lanes.proofs.Each.{within-longer, within-with}
 use Rattle.ft_lanes.proofs.Views.{held-slots_of, lanes-with, lanes-appended, lane-found}
@@ -322,7 +323,5 @@ stored-all n held first count es all new are at is e more = record {
 }
 
 -- what stands behind a front
-pub behind : (front rest whole : List Traced) (start : ℕ) → whole ≡ front ++ rest → start ≡ length front → take (length whole - start) (drop start whole) ≡ rest
-behind front rest whole start e s =
-    let dropped : drop start whole ≡ rest = (λ i. drop (s i) (e i)) ∙ drop-append_seam front rest in
-    ap (take (length whole - start)) dropped ∙ take_all (length whole - start) rest (omega (arith, ap length e, length-append front rest))
+pub behind : (front rest whole : List Traced) (start : ℕ) → whole ≡ front ++ rest → start ≡ length front → drop start whole ≡ rest
+behind front rest whole start e s = (λ i. drop (s i) (e i)) ∙ drop-append_seam front rest

@@ -10,7 +10,8 @@ use Rattle.ft_fields.specs.Traced.{Traced}
 use Rattle.ft_maps.specs.Mapped.{entries_by, entries-map_by, map_by-empty, get-map_by, map_by-insert}
 use Rattle.ft_lanes.specs.Held.{Lane, Lanes, event_at, held_on}
 use Rattle.ft_lanes.specs.Edits.{new_lane, lane_with, lane_without, lanes_without}
-use Rattle.ft_lanes.specs.inner.Slots.{SlotsOf, AllSlots, no_slots, slots_with, all_with, slots_without, all_without, lane_by, lanes_by, AreWithin, stored_at, slots_in}
+use Rattle.ft_store.specs.Stored.{stored_at}
+use Rattle.ft_lanes.specs.inner.Slots.{SlotsOf, AllSlots, no_slots, slots_with, all_with, slots_without, all_without, lane_by, lanes_by, AreWithin, slots_in}
 use Rattle.ft_lanes.proofs.Counts.{within-none, len-map_by}
 use Rattle.ft_lanes.proofs.Mapped.{map_by-remove, map_by-agree}
 

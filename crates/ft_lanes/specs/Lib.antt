@@ -5,3 +5,4 @@ pub mod Listing
 pub mod Loaded
 pub mod Walks
 pub mod inner
+pub use Rattle.ft_store.specs.Stored

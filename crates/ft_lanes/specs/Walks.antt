@@ -1,10 +1,12 @@
 -- What a walk over events or lanes shows.
 use Rattle.std.specs.Prelude.{ℕ}
-use denote.Ref.{Bor}
+use Rattle.ft_fields.specs.Traced.{Traced}
+use Rattle.ft_store.specs.Stored.{held}
+use Rattle.ft_store.specs.declared.stored.Stored.{Stored}
 
--- a line number, and what a reference points to (our own choice)
-abbrev pub shown : {X : Type 0} → ℕ × Bor X → ℕ × X
-shown p = (p.0, p.1.now)
+-- a line number, and the event that a reference into a store points to (our own choice)
+abbrev pub shown : ℕ × Stored → ℕ × Traced
+shown p = (p.0, held p.1)
 
 -- what is given by value (our own choice)
 abbrev pub itself : {X : Type 0} → X → X

@@ -1,4 +1,3 @@
 -- Words of private functions: where events stand in the store, and walks over such places.
 pub mod Codes
 pub mod Slots
-pub mod Within

@@ -6,9 +6,10 @@ use crate::edits::{count_in, next_in, place_in, push_in, take_in, take_lane_in};
 use crate::load::{held_cpu_in, push_load};
 use crate::rebuild::copy_lane;
 use crate::slots::Slots;
-use crate::store::{append, end_before, end_of, event_of};
+use crate::store::{end_before, end_of, event_of};
 use crate::walk::{ByCpu, Lines};
 use ft_fields::Event;
+use ft_store::Store;
 use std::alloc::{AllocError, Global};
 use std::collections::BTreeMap;
 use std::marker::Model;
@@ -17,7 +18,7 @@ use std::marker::Model;
 #[derive(Drop)]
 pub struct Lanes {
     alloc: Global,
-    store: Vec<Event>,
+    store: Store,
     lanes: BTreeMap<u16, Slots>,
     held: u64,
 }
@@ -27,25 +28,24 @@ impl Model for Lanes {
     ghost use Rattle.std.specs.Ordering.{nat_cmp};
     ghost use Rattle.ft_maps.specs.Seen.{seen};
     ghost use Rattle.ft_lanes.specs.Held.{Lanes as Held};
-    ghost use Rattle.ft_lanes.specs.inner.Slots.{stored_at, lanes_by, AreStored};
+    ghost use Rattle.ft_store.specs.Stored.{stored_at};
+    ghost use Rattle.ft_lanes.specs.inner.Slots.{lanes_by, AreStored};
     ghost use Rattle.ft_lanes.specs.Codes.{lanes_code};
 
     ghost Value = { Held };
 
     ghost coded = { lanes_code };
 
-    ghost view = { λ l. lanes_by (stored_at l.store.items) (seen nat_cmp l.lanes) };
+    ghost view = { λ l. lanes_by (stored_at l.store) (seen nat_cmp l.lanes) };
 
-    ghost invariant = { λ l. AreStored (length l.store.items) l.held (seen nat_cmp l.lanes) };
+    ghost invariant = { λ l. AreStored (length l.store) l.held (seen nat_cmp l.lanes) };
 }
 
 impl Lanes {
-    ghost use Rattle.std.specs.Option.{option_copied};
     ghost use Rattle.std.specs.FinMap as map;
     ghost use Rattle.std.specs.Prelude.{ℕ};
     ghost use Rattle.std.specs.List.{AllByRecursion};
     ghost use Rattle.std.specs.Map.Iter.{ShowsInOrder};
-    ghost use Rattle.ft_fields.specs.Traced.{Traced};
     ghost use Rattle.ft_lanes.specs.Held.{Lane, event_limit, number_limit, event_at, held_in, held_on, HasCpu};
     ghost use Rattle.ft_lanes.specs.Walks.{shown, itself};
     ghost use Rattle.ft_lanes.specs.Loaded.{first_held, with_lanes};
@@ -57,7 +57,7 @@ impl Lanes {
     {
         Lanes {
             alloc,
-            store: Vec::new(alloc),
+            store: Store::new(alloc),
             lanes: BTreeMap::new(alloc),
             held: 0,
         }
@@ -93,10 +93,10 @@ impl Lanes {
         ensures err { OnErr result (self.new ≡ self.old) }
     {
         let place = end_of(&self.store)?;
-        self.store.push(event)?;
+        self.store.push(&event)?;
         let pushed = push_in(self.alloc, &mut self.lanes, event.cpu, place);
         if pushed.is_err() {
-            self.store.pop();
+            self.store.truncate(place as usize);
             return pushed;
         }
         self.held += 1;
@@ -106,10 +106,10 @@ impl Lanes {
     /// Adds a lane for each CPU of the events, which has its events in this order from line 1 on.
     /// No event's lane may be held, and the events are at most 1,048,576. Refused for memory, and
     /// then all is as it was.
-    pub fn load(&mut self, events: Vec<Event>) -> Result<(), AllocError>
-        requires apart { first_held self.old events.items ≡ None }
-        requires few { length events.items ≤ event_limit }
-        ensures ok { OnOk result (self.new ≡ with_lanes self.old events.items) }
+    pub fn load(&mut self, events: Store) -> Result<(), AllocError>
+        requires apart { first_held self.old events ≡ None }
+        requires few { length events ≤ event_limit }
+        ensures ok { OnOk result (self.new ≡ with_lanes self.old events) }
         ensures err { OnErr result (self.new ≡ self.old) }
     {
         self.make_room(events.len());
@@ -117,19 +117,18 @@ impl Lanes {
     }
 
     /// The same, with the events behind the store as it is.
-    fn load_behind(&mut self, events: Vec<Event>) -> Result<(), AllocError>
-        requires apart { first_held self.old events.items ≡ None }
-        requires few { length events.items ≤ event_limit }
-        ensures ok { OnOk result (self.new ≡ with_lanes self.old events.items) }
+    fn load_behind(&mut self, events: Store) -> Result<(), AllocError>
+        requires apart { first_held self.old events ≡ None }
+        requires few { length events ≤ event_limit }
+        ensures ok { OnOk result (self.new ≡ with_lanes self.old events) }
         ensures err { OnErr result (self.new ≡ self.old) }
     {
         let first = end_before(&self.store, &events)?;
-        let start = self.store.len();
         let count = events.len() as u64;
-        append(&mut self.store, events)?;
-        let loaded = push_load(self.alloc, &mut self.lanes, &self.store[start..], first);
+        self.store.append(events)?;
+        let loaded = push_load(self.alloc, &mut self.lanes, &self.store, first);
         if loaded.is_err() {
-            self.store.truncate(start);
+            self.store.truncate(first as usize);
             return loaded;
         }
         self.held += count;
@@ -137,7 +136,7 @@ impl Lanes {
     }
 
     /// The CPU of the first event whose lane is held.
-    pub fn held_cpu(&self, events: &[Event]) -> Option<u16>
+    pub fn held_cpu(&self, events: &Store) -> Option<u16>
         ensures value { result ≡ first_held self.now events.now }
         ensures cpus { result ≡ None → AllByRecursion HasCpu events.now }
     {
@@ -145,13 +144,10 @@ impl Lanes {
     }
 
     /// The event of a CPU's line.
-    pub fn get(&self, cpu: u16, line: u32) -> Option<&Event>
-        ensures { option_copied result ≡ event_at self.now cpu line }
+    pub fn get(&self, cpu: u16, line: u32) -> Option<Event>
+        ensures { result ≡ event_at self.now cpu line }
     {
-        match place_in(&self.lanes, cpu, line) {
-            Some(place) => Some(&self.store[place as usize]),
-            None => None,
-        }
+        event_of(&self.store, place_in(&self.lanes, cpu, line))
     }
 
     /// The lane of a CPU, if there is one: its events by line number.
@@ -160,7 +156,7 @@ impl Lanes {
             ≡ option_map (λ lane. map.entries lane.events) (map.get self.now cpu) }
         ensures fits { IfSome result (λ lines. length lines < 2 ^ 63) }
         // A loop takes them from the front.
-        ensures runs { ShowsInOrder (shown {X = Traced}) }
+        ensures runs { ShowsInOrder shown }
     {
         match self.lanes.get(&cpu) {
             Some(slots) => Some(Lines::new(&self.store, slots.entries())),
@@ -230,7 +226,7 @@ impl Lanes {
     fn make_room(&mut self, more: usize)
         ensures { self.new ≡ self.old }
     {
-        let room = self.store.capacity().saturating_sub(self.store.len());
+        let room = self.store.room();
         let dead = self.store.len() as u64 - self.held;
         if room >= more || dead <= self.held {
             return;
@@ -244,7 +240,7 @@ impl Lanes {
     fn rebuilt(&self) -> Result<Lanes, AllocError>
         ensures { IfOk result (λ lanes. lanes ≡ self.now) }
     {
-        let mut store = Vec::new(self.alloc);
+        let mut store = Store::new(self.alloc);
         let mut slots = BTreeMap::new(self.alloc);
         for (cpu, lane) in self.lanes() {
             copy_lane(self.alloc, &mut store, &mut slots, cpu, &lane)?;

@@ -6,11 +6,11 @@
 //!
 //! ```ignore
 //! let mut lanes = Lanes::new(rt.alloc());
-//! if lanes.held_cpu(&events).is_none() {
-//!     lanes.load(events)?;
+//! if lanes.held_cpu(&store).is_none() {
+//!     lanes.load(store)?;
 //! }
 //! let line = lanes.push(event)?;
-//! assert!(rt; lanes.get(event.cpu, line) == Some(&event));
+//! assert!(rt; lanes.get(event.cpu, line) == Some(event));
 //! let taken = lanes.take(event.cpu, line);
 //! // The number stays used.
 //! assert!(rt; lanes.next_line(event.cpu) > u64::from(line));

@@ -45,8 +45,8 @@ fn lines_text(alloc: Global, cpu: u16, lines: Lines<'_>) -> Result<Vec<u8>, Allo
     ensures { IfOk result (λ text. text.items ≡ flat_map (λ e. event_line cpu e.0 e.1) lines.entry) }
 {
     let mut text = Vec::new(alloc);
-    for (line, event) in lines {
-        add_line(&mut text, cpu, line, event)?;
+    for (line, stored) in lines {
+        add_line(&mut text, cpu, line, &stored.event())?;
     }
     Ok(text)
 }

@@ -1,6 +1,6 @@
 //! Slots for the events of a load, or none.
 
-ghost use Rattle.std.specs.Prelude.{◌≡◌, ◌+◌, ◌<◌, ◌≤◌, ◌^◌, None, length, fold, OnOk, OnErr};
+ghost use Rattle.std.specs.Prelude.{◌≡◌, ◌+◌, ◌<◌, ◌≤◌, ◌^◌, None, length, drop, fold, OnOk, OnErr};
 ghost use Rattle.std.specs.List.{AllByRecursion};
 ghost use Rattle.std.specs.Ordering.{nat_cmp};
 ghost use Rattle.std.specs.FinMap as map;
@@ -10,55 +10,57 @@ ghost use Rattle.ft_lanes.specs.inner.Slots.{all_from, first_cpu, slots_in};
 
 use crate::rows::{put_rows, rows_of};
 use crate::slots::Slots;
-use ft_fields::Event;
 use ft_maps::take;
+use ft_store::Store;
 use std::alloc::{AllocError, Global};
 use std::collections::BTreeMap;
 
 /// The CPU of the first event that has slots.
-pub(crate) fn held_cpu_in(lanes: &BTreeMap<u16, Slots>, events: &[Event]) -> Option<u16>
+pub(crate) fn held_cpu_in(lanes: &BTreeMap<u16, Slots>, events: &Store) -> Option<u16>
     ensures value { result ≡ first_cpu (map.contains_key (seen nat_cmp lanes.now)) events.now }
     ensures cpus { result ≡ None → AllByRecursion HasCpu events.now }
 {
-    for event in events {
-        if lanes.contains_key(&event.cpu) {
-            return Some(event.cpu);
+    for place in 0..events.len() {
+        let cpu = events.cpu(place);
+        if lanes.contains_key(&cpu) {
+            return Some(cpu);
         }
     }
     None
 }
 
-/// Removes the slots of the events' CPUs.
-fn remove_all(lanes: &mut BTreeMap<u16, Slots>, events: &[Event])
+/// Removes the slots of the CPUs of a store's events from a place on.
+fn remove_all(lanes: &mut BTreeMap<u16, Slots>, store: &Store, first: u32)
     ensures { seen nat_cmp lanes.new
-        ≡ fold (λ m e. map.remove m e.cpu) (seen nat_cmp lanes.old) events.now }
+        ≡ fold (λ m e. map.remove m e.cpu) (seen nat_cmp lanes.old) (drop first store.now) }
 {
-    for event in events {
-        take(lanes, &event.cpu);
+    for i in 0..store.len().saturating_sub(first as usize) {
+        take(lanes, &store.cpu(first as usize + i));
     }
 }
 
-/// Adds a slot for each event, at rising places from `first` on, where no event's CPU has slots.
-/// Refused for memory, and then all is as it was.
+/// Adds a slot for each event of a store from a place on, where no event's CPU has slots. Refused
+/// for memory, and then all is as it was.
 pub(crate) fn push_load(
     alloc: Global,
     lanes: &mut BTreeMap<u16, Slots>,
-    events: &[Event],
+    store: &Store,
     first: u32,
 ) -> Result<(), AllocError>
-    requires apart { first_cpu (map.contains_key (seen nat_cmp lanes.old)) events.now ≡ None }
-    requires few { length events.now ≤ event_limit }
-    requires places { first + length events.now < 2 ^ 32 }
+    requires apart { first_cpu (map.contains_key (seen nat_cmp lanes.old)) (drop first store.now) ≡ None }
+    requires few { length (drop first store.now) ≤ event_limit }
+    requires places { length store.now < 2 ^ 32 }
     ensures ok { OnOk result
-        (seen nat_cmp lanes.new ≡ all_from (seen nat_cmp lanes.old) first events.now) }
+        (seen nat_cmp lanes.new
+        ≡ all_from (seen nat_cmp lanes.old) first (drop first store.now)) }
     ensures count { OnOk result (slots_in (seen nat_cmp lanes.new)
-        ≡ slots_in (seen nat_cmp lanes.old) + length events.now) }
+        ≡ slots_in (seen nat_cmp lanes.old) + length (drop first store.now)) }
     ensures err { OnErr result (seen nat_cmp lanes.new ≡ seen nat_cmp lanes.old) }
 {
-    let rows = rows_of(alloc, events, first)?;
+    let rows = rows_of(alloc, store, first)?;
     let added = put_rows(alloc, lanes, rows);
     if added.is_err() {
-        remove_all(lanes, events);
+        remove_all(lanes, store, first);
     }
     added
 }

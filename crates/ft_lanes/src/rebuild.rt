@@ -10,8 +10,8 @@ ghost use Rattle.ft_lanes.specs.inner.Slots.{placed_from, slots_from};
 use crate::slots::Slots;
 use crate::store::end_of;
 use crate::walk::Lane;
-use ft_fields::Event;
 use ft_maps::put;
+use ft_store::Store;
 use std::alloc::{AllocError, Global};
 use std::collections::BTreeMap;
 
@@ -19,18 +19,18 @@ use std::collections::BTreeMap;
 /// refusal for memory some are added.
 fn append_lane(
     alloc: Global,
-    store: &mut Vec<Event>,
+    store: &mut Store,
     lane: &Lane<'_>,
 ) -> Result<Vec<(u32, u32)>, AllocError>
     ensures store { OnOk result
-        (store.new.items ≡ store.old.items ++ values_of (map.entries lane.now.events)) }
+        (store.new ≡ store.old ++ values_of (map.entries lane.now.events)) }
     ensures lines { IfOk result (λ lines. lines.items
-        ≡ placed_from (length store.old.items) (keys_of (map.entries lane.now.events))) }
+        ≡ placed_from (length store.old) (keys_of (map.entries lane.now.events))) }
 {
     let mut lines = Vec::new(alloc);
-    for (line, event) in lane.lines() {
+    for (line, stored) in lane.lines() {
         let place = end_of(store)?;
-        store.push(*event)?;
+        store.push(&stored.event())?;
         lines.push((line, place))?;
     }
     Ok(lines)
@@ -40,15 +40,15 @@ fn append_lane(
 /// refusal for memory some of it is done.
 pub(crate) fn copy_lane(
     alloc: Global,
-    store: &mut Vec<Event>,
+    store: &mut Store,
     lanes: &mut BTreeMap<u16, Slots>,
     cpu: u16,
     lane: &Lane<'_>,
 ) -> Result<(), AllocError>
     ensures store { OnOk result
-        (store.new.items ≡ store.old.items ++ values_of (map.entries lane.now.events)) }
+        (store.new ≡ store.old ++ values_of (map.entries lane.now.events)) }
     ensures lanes { OnOk result (seen nat_cmp lanes.new
-        ≡ map.insert (seen nat_cmp lanes.old) cpu (slots_from (length store.old.items) lane.now)) }
+        ≡ map.insert (seen nat_cmp lanes.old) cpu (slots_from (length store.old) lane.now)) }
 {
     let lines = append_lane(alloc, store, lane)?;
     let slots = Slots::of(alloc, lines, lane.next())?;

@@ -1,6 +1,6 @@
 //! Rows of a load: the places of each CPU's events, which become slots at once.
 
-ghost use Rattle.std.specs.Prelude.{◌≡◌, ◌+◌, ◌≤◌, ◌<◌, ◌^◌, length, unwrap_or, OnOk, OnErr, IfOk};
+ghost use Rattle.std.specs.Prelude.{◌≡◌, ◌+◌, ◌≤◌, ◌<◌, ◌^◌, length, drop, unwrap_or, OnOk, OnErr, IfOk};
 ghost use Rattle.std.specs.Ordering.{nat_cmp};
 ghost use Rattle.std.specs.FinMap as map;
 ghost use Rattle.ft_maps.specs.Seen.{seen};
@@ -8,8 +8,8 @@ ghost use Rattle.ft_lanes.specs.Held.{event_limit, number_limit};
 ghost use Rattle.ft_lanes.specs.inner.Slots.{no_slots, slots_with, all_with, all_from, all_put, slots_in, AgreeBesideRows};
 
 use crate::slots::Slots;
-use ft_fields::Event;
 use ft_maps::put;
+use ft_store::Store;
 use std::alloc::{AllocError, Global};
 use std::collections::BTreeMap;
 use std::marker::Model;
@@ -90,22 +90,23 @@ fn push_row(
     }
 }
 
-/// A row for each CPU of the events, of rising places from `first` on. Refused for memory.
+/// A row for each CPU of a store's events from a place on. Refused for memory.
 pub(crate) fn rows_of(
     alloc: Global,
-    events: &[Event],
+    store: &Store,
     first: u32,
 ) -> Result<BTreeMap<u16, Row>, AllocError>
-    requires few { length events.now ≤ event_limit }
-    requires places { first + length events.now < 2 ^ 32 }
-    ensures rows { IfOk result (λ rows. seen nat_cmp rows ≡ all_from map.empty first events.now) }
-    ensures count { IfOk result (λ rows. slots_in (seen nat_cmp rows) ≡ length events.now) }
+    requires few { length (drop first store.now) ≤ event_limit }
+    requires places { length store.now < 2 ^ 32 }
+    ensures rows { IfOk result (λ rows.
+        seen nat_cmp rows ≡ all_from map.empty first (drop first store.now)) }
+    ensures count { IfOk result (λ rows.
+        slots_in (seen nat_cmp rows) ≡ length (drop first store.now)) }
 {
     let mut rows = BTreeMap::new(alloc);
-    let mut place = first;
-    for event in events {
-        push_row(alloc, &mut rows, event.cpu, place)?;
-        place += 1;
+    for i in 0..store.len().saturating_sub(first as usize) {
+        let place = first + i as u32;
+        push_row(alloc, &mut rows, store.cpu(place as usize), place)?;
     }
     Ok(rows)
 }

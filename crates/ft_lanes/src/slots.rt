@@ -1,7 +1,6 @@
 //! Where the events of one CPU stand.
 
-ghost use Rattle.std.specs.Prelude.{◌≡◌, ◌+◌, ◌≤◌, ◌<◌, ◌^◌, length, OnOk, OnErr, IfOk, Some};
-ghost use Rattle.std.specs.List.{All};
+ghost use Rattle.std.specs.Prelude.{◌≡◌, ◌+◌, ◌≤◌, ◌<◌, ◌^◌, length, OnOk, OnErr, IfOk};
 ghost use Rattle.std.specs.Ordering.{nat_cmp};
 ghost use Rattle.std.specs.List.Sorted.{IsStrictlySortedBy};
 ghost use Rattle.std.specs.Map.{keys_of};
@@ -110,7 +109,6 @@ impl Slots {
     pub(crate) fn entries(&self) -> Iter<'_, u32, u32>
         ensures rest { result ≡ map.entries self.now.places }
         ensures fits { length result < 2 ^ 63 }
-        ensures found { All (λ e. map.get self.now.places e.0 ≡ Some e.1) result }
     {
         self.places.iter()
     }

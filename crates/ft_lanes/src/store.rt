@@ -1,14 +1,15 @@
-//! The store of events: places in it, and what is added behind it.
+//! Places in the store of events.
 
-ghost use Rattle.std.specs.Prelude.{◌≡◌, ◌+◌, ◌++◌, ◌<◌, ◌^◌, length, option_map, OnOk, OnErr, IfOk, IfSome};
-ghost use Rattle.ft_lanes.specs.inner.Slots.{stored_at};
+ghost use Rattle.std.specs.Prelude.{◌≡◌, ◌+◌, ◌<◌, ◌^◌, length, option_map, OnOk, IfOk};
+ghost use Rattle.ft_store.specs.Stored.{stored_at};
 
 use ft_fields::Event;
+use ft_store::Store;
 use std::alloc::AllocError;
 
 /// The place behind the last event of a store. Refused for memory where 32 bits can't number it.
-pub(crate) fn end_of(store: &Vec<Event>) -> Result<u32, AllocError>
-    ensures { IfOk result (λ place. place ≡ length store.now.items) }
+pub(crate) fn end_of(store: &Store) -> Result<u32, AllocError>
+    ensures { IfOk result (λ place. place ≡ length store.now) }
 {
     match u32::try_from(store.len()) {
         Ok(place) => Ok(place),
@@ -18,36 +19,22 @@ pub(crate) fn end_of(store: &Vec<Event>) -> Result<u32, AllocError>
 
 /// The place behind the last event of a store. Refused for memory where 32 bits can't number the
 /// places of so many more.
-pub(crate) fn end_before(store: &Vec<Event>, more: &Vec<Event>) -> Result<u32, AllocError>
-    ensures value { IfOk result (λ place. place ≡ length store.now.items) }
-    ensures room { OnOk result (length store.now.items + length more.now.items < 2 ^ 32) }
+pub(crate) fn end_before(store: &Store, more: &Store) -> Result<u32, AllocError>
+    ensures value { IfOk result (λ place. place ≡ length store.now) }
+    ensures room { OnOk result (length store.now + length more.now < 2 ^ 32) }
 {
-    match u32::try_from(store.len() as u64 + more.len() as u64) {
+    match u32::try_from(store.len().saturating_add(more.len())) {
         Ok(_) => Ok(store.len() as u32),
         Err(_) => Err(AllocError),
     }
 }
 
-/// Adds events behind those of a store. An empty store takes them over. Refused for memory, and
-/// then the store is as it was.
-pub(crate) fn append(store: &mut Vec<Event>, events: Vec<Event>) -> Result<(), AllocError>
-    ensures ok { OnOk result (store.new.items ≡ store.old.items ++ events.items) }
-    ensures err { OnErr result (store.new.items ≡ store.old.items) }
-{
-    if store.is_empty() {
-        *store = events;
-        return Ok(());
-    }
-    store.extend_from_slice(&events)
-}
-
 /// The event at a place of a store.
-pub(crate) fn event_of(store: &[Event], place: Option<u32>) -> Option<Event>
-    requires { IfSome place (λ p. p < length store.now) }
+pub(crate) fn event_of(store: &Store, place: Option<u32>) -> Option<Event>
     ensures { result ≡ option_map (stored_at store.now) place }
 {
     match place {
-        Some(place) => Some(store[place as usize]),
+        Some(place) => Some(store.get(place as usize)),
         None => None,
     }
 }

@@ -4,42 +4,37 @@ ghost use Rattle.std.specs.Prelude.{length};
 ghost use Rattle.std.specs.Iterator.{at_most};
 ghost use Rattle.std.specs.Map.Iter.{TakesFirst};
 ghost use Rattle.ft_lanes.specs.Walks.{shown, itself};
-ghost use Rattle.ft_lanes.specs.inner.Within.{PlacesWithin};
 
 use crate::slots::Slots;
-use ft_fields::Event;
+use ft_store::{Store, Stored};
 use std::collections::btree_map::Iter;
 use std::marker::Model;
 
 /// The events of one CPU with their line numbers, by line number.
 #[derive(Drop)]
 pub struct Lines<'a> {
-    store: &'a [Event],
+    store: &'a Store,
     places: Iter<'a, u32, u32>,
 }
 
 impl<'a> Model for Lines<'a> {
-    ghost use Rattle.std.specs.Prelude.{ℕ, List, length};
+    ghost use Rattle.std.specs.Prelude.{ℕ, List};
     ghost use Rattle.ft_fields.specs.Traced.{Traced};
     ghost use Rattle.ft_maps.specs.Mapped.{entries_by};
-    ghost use Rattle.ft_lanes.specs.inner.Slots.{stored_at};
-    ghost use Rattle.ft_lanes.specs.inner.Within.{PlacesWithin};
+    ghost use Rattle.ft_store.specs.Stored.{stored_at};
 
     ghost Value = { List (ℕ × Traced) };
 
     ghost view = { λ l. entries_by (stored_at l.store.now) l.places };
-
-    ghost invariant = { λ l. PlacesWithin (length l.store.now) l.places };
 }
 
 impl<'a> Lines<'a> {
     ghost use Rattle.std.specs.Prelude.{◌≡◌};
     ghost use Rattle.ft_maps.specs.Mapped.{entries_by};
-    ghost use Rattle.ft_lanes.specs.inner.Slots.{stored_at};
+    ghost use Rattle.ft_store.specs.Stored.{stored_at};
 
     /// The events at these places of a store.
-    pub(crate) fn new(store: &'a [Event], places: Iter<'a, u32, u32>) -> Lines<'a>
-        requires { PlacesWithin (length store.now) places }
+    pub(crate) fn new(store: &'a Store, places: Iter<'a, u32, u32>) -> Lines<'a>
         ensures { result ≡ entries_by (stored_at store.now) places.entry }
     {
         Lines { store, places }
@@ -47,15 +42,15 @@ impl<'a> Lines<'a> {
 }
 
 impl<'a> Iterator for Lines<'a> {
-    type Item = (u32, &'a Event);
+    type Item = (u32, Stored<'a>);
 
     ghost next_gives = { TakesFirst shown };
 
     ghost remaining = { λ s. at_most (length s) };
 
-    fn next(&mut self) -> Option<(u32, &'a Event)> {
+    fn next(&mut self) -> Option<(u32, Stored<'a>)> {
         match self.places.next() {
-            Some((line, place)) => Some((*line, &self.store[*place as usize])),
+            Some((line, place)) => Some((*line, Stored::new(self.store, *place))),
             None => None,
         }
     }
@@ -64,14 +59,14 @@ impl<'a> Iterator for Lines<'a> {
 /// The lane of one CPU.
 #[derive(Drop)]
 pub struct Lane<'a> {
-    store: &'a [Event],
+    store: &'a Store,
     slots: &'a Slots,
 }
 
 impl<'a> Model for Lane<'a> {
-    ghost use Rattle.std.specs.Prelude.{length};
     ghost use Rattle.ft_lanes.specs.Held.{Lane as Held};
-    ghost use Rattle.ft_lanes.specs.inner.Slots.{stored_at, lane_by, IsWithin};
+    ghost use Rattle.ft_store.specs.Stored.{stored_at};
+    ghost use Rattle.ft_lanes.specs.inner.Slots.{lane_by};
     ghost use Rattle.ft_lanes.specs.Codes.{lane_code};
 
     ghost Value = { Held };
@@ -79,8 +74,6 @@ impl<'a> Model for Lane<'a> {
     ghost coded = { lane_code };
 
     ghost view = { λ l. lane_by (stored_at l.store.now) l.slots.now };
-
-    ghost invariant = { λ l. IsWithin (length l.store.now) l.slots.now };
 }
 
 impl<'a> Lane<'a> {
@@ -88,11 +81,11 @@ impl<'a> Lane<'a> {
     ghost use Rattle.std.specs.Map.Iter.{ShowsInOrder};
     ghost use Rattle.std.specs.FinMap as map;
     ghost use Rattle.ft_fields.specs.Traced.{Traced};
-    ghost use Rattle.ft_lanes.specs.inner.Slots.{stored_at, lane_by, IsWithin};
+    ghost use Rattle.ft_store.specs.Stored.{stored_at};
+    ghost use Rattle.ft_lanes.specs.inner.Slots.{lane_by};
 
     /// The events at the places of these slots in a store.
-    pub(crate) fn new(store: &'a [Event], slots: &'a Slots) -> Lane<'a>
-        requires { IsWithin (length store.now) slots.now }
+    pub(crate) fn new(store: &'a Store, slots: &'a Slots) -> Lane<'a>
         ensures { result ≡ lane_by (stored_at store.now) slots.now }
     {
         Lane { store, slots }
@@ -112,7 +105,7 @@ impl<'a> Lane<'a> {
         ensures rest { result ≡ map.entries self.now.events }
         ensures fits { length result < 2 ^ 63 }
         // A loop takes them from the front.
-        ensures runs { ShowsInOrder (shown {X = Traced}) }
+        ensures runs { ShowsInOrder shown }
     {
         Lines::new(self.store, self.slots.entries())
     }
@@ -121,36 +114,33 @@ impl<'a> Lane<'a> {
 /// The lanes with their CPUs, by CPU.
 #[derive(Drop)]
 pub struct ByCpu<'a> {
-    store: &'a [Event],
+    store: &'a Store,
     lanes: Iter<'a, u16, Slots>,
 }
 
 impl<'a> Model for ByCpu<'a> {
-    ghost use Rattle.std.specs.Prelude.{ℕ, List, length};
+    ghost use Rattle.std.specs.Prelude.{ℕ, List};
     ghost use Rattle.ft_maps.specs.Mapped.{entries_by};
     ghost use Rattle.ft_lanes.specs.Held.{Lane as Held};
-    ghost use Rattle.ft_lanes.specs.inner.Slots.{stored_at, lane_by};
+    ghost use Rattle.ft_store.specs.Stored.{stored_at};
+    ghost use Rattle.ft_lanes.specs.inner.Slots.{lane_by};
     ghost use Rattle.ft_lanes.specs.Codes.{walk_code};
-    ghost use Rattle.ft_lanes.specs.inner.Within.{SlotsWithin};
 
     ghost Value = { List (ℕ × Held) };
 
     ghost coded = { walk_code };
 
     ghost view = { λ w. entries_by (lane_by (stored_at w.store.now)) w.lanes };
-
-    ghost invariant = { λ w. SlotsWithin (length w.store.now) w.lanes };
 }
 
 impl<'a> ByCpu<'a> {
     ghost use Rattle.std.specs.Prelude.{◌≡◌};
     ghost use Rattle.ft_maps.specs.Mapped.{entries_by};
-    ghost use Rattle.ft_lanes.specs.inner.Slots.{stored_at, lane_by};
-    ghost use Rattle.ft_lanes.specs.inner.Within.{SlotsWithin};
+    ghost use Rattle.ft_store.specs.Stored.{stored_at};
+    ghost use Rattle.ft_lanes.specs.inner.Slots.{lane_by};
 
     /// The lanes of these slots in a store.
-    pub(crate) fn new(store: &'a [Event], lanes: Iter<'a, u16, Slots>) -> ByCpu<'a>
-        requires { SlotsWithin (length store.now) lanes }
+    pub(crate) fn new(store: &'a Store, lanes: Iter<'a, u16, Slots>) -> ByCpu<'a>
         ensures { result ≡ entries_by (lane_by (stored_at store.now)) lanes.entry }
     {
         ByCpu { store, lanes }

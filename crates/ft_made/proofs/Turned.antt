@@ -17,7 +17,7 @@ use Rattle.ft_hist.specs.Made.{made_of}
 use Rattle.ft_lanes.specs.Held.{Lanes}
 use Rattle.ft_maps.specs.Entries.{same_from_tie}
 use Rattle.ft_table.specs.Tabled.{Tabled}
-use Rattle.ft_table.specs.declared.spot.Spot.{Spot}
+use Rattle.ft_hits.specs.declared.spot.Spot.{Spot}
 use Rattle.ft_base.specs.Base.{Triggers}
 use Rattle.ft_base.proofs.Apart.{above-is, all_map, all_both, entries_found}
 use Rattle.ft_replay.specs.Merged.{merged, held_at}

@@ -11,8 +11,8 @@ use Rattle.ft_hist.specs.Hist.{Hist}
 use Rattle.ft_table.specs.Hits.{Hits}
 use Rattle.ft_table.specs.Rows.{AllFit}
 use Rattle.ft_table.specs.Tabled.{Tabled}
-use Rattle.ft_table.specs.declared.mark.Mark.{Mark}
-use Rattle.ft_table.specs.declared.spot.Spot.{Spot}
+use Rattle.ft_hits.specs.declared.mark.Mark.{Mark}
+use Rattle.ft_hits.specs.declared.spot.Spot.{Spot}
 use Rattle.ft_table.specs.Spots.{spot_cmp}
 use Rattle.ft_pairs.specs.declared.at.At.{At}
 use Rattle.ft_base.specs.Base.{Triggers}

@@ -6,7 +6,7 @@ use Rattle.std.specs.FinMap.{FinMap}
 use Rattle.ft_fields.specs.Traced.{Traced}
 use Rattle.ft_fields.specs.declared.pos.Pos.{Pos}
 use Rattle.ft_hist.specs.Made.{made_of}
-use Rattle.ft_table.specs.declared.spot.Spot.{Spot}
+use Rattle.ft_hits.specs.declared.spot.Spot.{Spot}
 use Rattle.ft_table.specs.Spots.{spot_cmp}
 use Rattle.ft_base.specs.Base.{Triggers}
 use Rattle.ft_replay.specs.Merged.{Events}

@@ -4,8 +4,8 @@ use Rattle.std.specs.FinMap as map
 use Rattle.ft_fields.specs.Traced.{Traced}
 use Rattle.ft_hist.specs.Hist.{Hist}
 use Rattle.ft_hist.specs.Hit.{hit}
-use Rattle.ft_table.specs.declared.mark.Mark.{Mark}
-use Rattle.ft_table.specs.declared.spot.Spot.{Spot}
+use Rattle.ft_hits.specs.declared.mark.Mark.{Mark}
+use Rattle.ft_hits.specs.declared.spot.Spot.{Spot}
 use Rattle.ft_table.specs.Hits.{Hits, same_key}
 use Rattle.ft_table.specs.Values.{values_at}
 use Rattle.ft_base.specs.Base.{Triggers}

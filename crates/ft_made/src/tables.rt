@@ -2,7 +2,6 @@
 
 ghost use Rattle.std.specs.Prelude.{◌≡◌, ◌+◌, ◌≤◌, ◌==◌, ℕ, IfOk, IfSome, OnOk, OnErr, Some, None};
 ghost use Rattle.std.specs.Prelude.{if◌then◌else◌};
-ghost use Rattle.std.specs.Option.{option_copied};
 ghost use Rattle.std.specs.Ordering.{nat_cmp};
 ghost use Rattle.std.specs.FinMap.{FinMap};
 ghost use Rattle.ft_fields.specs.Places.{pos_cmp};
@@ -186,15 +185,15 @@ pub(crate) fn made_of_pair(lanes: &Lanes, maker: &Trigger, pair: Pair) -> Option
     ensures stamped { IfSome result (λ made. pair.read.stamp ≡ made.stamp) }
 {
     match event_on(lanes, pair.read) {
-        Some(event) => maker.made(event, pair.saved),
+        Some(event) => maker.made(&event, pair.saved),
         None => None,
     }
 }
 
 /// The event that is held at a place.
-fn event_on(lanes: &Lanes, pos: Pos) -> Option<&Event>
-    ensures held { option_copied result ≡ held_at lanes.now pos }
-    ensures stamped { IfSome (option_copied result) (λ event. pos.stamp ≡ event.stamp) }
+fn event_on(lanes: &Lanes, pos: Pos) -> Option<Event>
+    ensures held { result ≡ held_at lanes.now pos }
+    ensures stamped { IfSome result (λ event. pos.stamp ≡ event.stamp) }
 {
     match lanes.get(pos.cpu, pos.line) {
         Some(event) => on_stamp(event, pos.stamp),
@@ -203,10 +202,9 @@ fn event_on(lanes: &Lanes, pos: Pos) -> Option<&Event>
 }
 
 /// The event, where it has this stamp.
-fn on_stamp(event: &Event, stamp: u64) -> Option<&Event>
-    ensures held { option_copied result
-        ≡ (if event.now.stamp == stamp then Some event.now else None) }
-    ensures stamped { IfSome (option_copied result) (λ event. stamp ≡ event.stamp) }
+fn on_stamp(event: Event, stamp: u64) -> Option<Event>
+    ensures held { result ≡ (if event.stamp == stamp then Some event else None) }
+    ensures stamped { IfSome result (λ event. stamp ≡ event.stamp) }
 {
     if event.stamp == stamp {
         Some(event)

@@ -2,6 +2,7 @@ mod listing;
 
 use ft_event::{Body, Comm, Event};
 use ft_lanes::*;
+use ft_store::Store;
 use std::alloc::{AllocError, Global};
 use std::test::*;
 
@@ -39,8 +40,8 @@ fn has_lines(lanes: &Lanes, cpu: u16, want: &[(u32, u64)]) -> bool {
         return false;
     };
     let mut at = 0;
-    for (line, event) in lines {
-        if want.get(at) != Some(&(line, event.stamp)) {
+    for (line, stored) in lines {
+        if want.get(at) != Some(&(line, stored.stamp())) {
             return false;
         }
         at += 1;
@@ -50,9 +51,9 @@ fn has_lines(lanes: &Lanes, cpu: u16, want: &[(u32, u64)]) -> bool {
 
 /// Loads events of these CPUs and stamps, unless a lane of theirs is held: whether they are.
 fn loaded(alloc: Global, lanes: &mut Lanes, places: &[(u16, u64)]) -> Option<bool> {
-    let mut events = Vec::new(alloc);
+    let mut events = Store::new(alloc);
     for (cpu, stamp) in places {
-        events.push(event_at(*cpu, *stamp)?).ok()?;
+        events.push(&event_at(*cpu, *stamp)?).ok()?;
     }
     if lanes.held_cpu(&events).is_some() || events.len() > 1_048_576 {
         return Some(false);
@@ -65,8 +66,8 @@ fn loaded(alloc: Global, lanes: &mut Lanes, places: &[(u16, u64)]) -> Option<boo
 fn walked(alloc: Global, lanes: &Lanes) -> Result<Vec<(u16, u32, u64)>, AllocError> {
     let mut all = Vec::new(alloc);
     for (cpu, lane) in lanes.lanes() {
-        for (line, event) in lane.lines() {
-            all.push((cpu, line, event.stamp))?;
+        for (line, stored) in lane.lines() {
+            all.push((cpu, line, stored.stamp()))?;
         }
     }
     Ok(all)

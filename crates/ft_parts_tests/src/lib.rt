@@ -23,6 +23,8 @@ mod pairs;
 #[cfg(test)]
 mod script;
 #[cfg(test)]
+mod store;
+#[cfg(test)]
 mod table;
 #[cfg(test)]
 mod text;

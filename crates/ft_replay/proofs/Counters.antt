@@ -22,7 +22,7 @@ use Rattle.ft_pairs.specs.declared.at.At.{At}
 use Rattle.ft_table.specs.Growth.{ComesLast, InGrows, RowsGrow, TotalsGrow, with_hit}
 use Rattle.ft_table.specs.Marks.{mark_cmp}
 use Rattle.ft_table.specs.Tabled.{is_in}
-use Rattle.ft_table.specs.declared.mark.Mark.{Mark}
+use Rattle.ft_hits.specs.declared.mark.Mark.{Mark}
 use Rattle.ft_lanes.specs.Held.{Lanes, event_at}
 use Rattle.ft_table.specs.Spots.{traced}
 use Rattle.ft_base.specs.Base.{Triggers}

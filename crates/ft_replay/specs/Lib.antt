@@ -18,4 +18,5 @@ pub use Rattle.ft_hist.specs.Steps
 pub use Rattle.ft_lanes.specs.Held
 pub use Rattle.ft_maps.specs.Seen
 pub use Rattle.ft_pairs.specs.Variables
+pub use Rattle.ft_store.specs.Stored
 pub use Rattle.ft_table.specs.Values

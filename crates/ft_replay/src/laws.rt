@@ -15,7 +15,7 @@ ghost use Rattle.ft_table.specs.Admission.{IsAmongFirst};
 ghost use Rattle.ft_table.specs.Hits.{Hits};
 ghost use Rattle.ft_table.specs.Rows.{row_at, rows_of, totals_of};
 ghost use Rattle.ft_table.specs.Tabled.{Tabled};
-ghost use Rattle.ft_table.specs.declared.mark.Mark.{Mark};
+ghost use Rattle.ft_hits.specs.declared.mark.Mark.{Mark};
 ghost use Rattle.ft_pairs.specs.declared.at.At.{At};
 ghost use Rattle.ft_pairs.specs.declared.at.Op.{Op};
 ghost use Rattle.ft_pairs.specs.Order.{at_cmp};

@@ -4,19 +4,20 @@ ghost use Rattle.std.specs.Prelude.{◌≡◌, ◌++◌, [], cond, IfOk, OnOk, I
 ghost use Rattle.std.specs.List.Sorted.{IsSortedByKey};
 ghost use Rattle.std.specs.Ordering.{nat_cmp};
 ghost use Rattle.std.specs.FinMap as map;
-ghost use Rattle.std.specs.Map.Iter.{deref};
 ghost use Rattle.ft_fields.specs.Places.{pos_cmp};
 ghost use Rattle.ft_fields.specs.Traced.{name_of};
 ghost use Rattle.ft_maps.specs.Mapped.{entries_by};
 ghost use Rattle.ft_maps.specs.Seen.{seen};
+ghost use Rattle.ft_store.specs.Stored.{held};
 ghost use Rattle.ft_replay.specs.Chosen.{is_among, lanes_but};
 ghost use Rattle.ft_replay.specs.Merged.{merged, placed};
 ghost use Rattle.ft_replay.specs.Named.{named, events_on, has_name};
 
 use crate::names::Names;
-use ft_fields::{Event, Pos};
+use ft_fields::Pos;
 use ft_hist::Trigger;
 use ft_lanes::{Lane, Lanes};
+use ft_store::Stored;
 use std::alloc::{AllocError, Global};
 use std::collections::BTreeMap;
 
@@ -26,8 +27,8 @@ pub fn merged_events<'a>(
     alloc: Global,
     lanes: &'a Lanes,
     triggers: &BTreeMap<u32, Trigger>,
-) -> Result<Vec<(Pos, &'a Event)>, AllocError>
-    ensures { IfOk result (λ events. entries_by deref events.items
+) -> Result<Vec<(Pos, Stored<'a>)>, AllocError>
+    ensures { IfOk result (λ events. entries_by held events.items
         ≡ map.entries (named (seen nat_cmp triggers.now) (merged lanes.now))) }
 {
     events_with(alloc, lanes, Names::of(triggers))
@@ -40,8 +41,8 @@ pub fn merged_events_but<'a>(
     lanes: &'a Lanes,
     triggers: &BTreeMap<u32, Trigger>,
     but: &[u16],
-) -> Result<Vec<(Pos, &'a Event)>, AllocError>
-    ensures { IfOk result (λ events. entries_by deref events.items
+) -> Result<Vec<(Pos, Stored<'a>)>, AllocError>
+    ensures { IfOk result (λ events. entries_by held events.items
         ≡ map.entries (named (seen nat_cmp triggers.now) (merged (lanes_but but.now lanes.now)))) }
 {
     events_but(alloc, lanes, Names::of(triggers), but)
@@ -52,8 +53,8 @@ pub fn events_with<'a>(
     alloc: Global,
     lanes: &'a Lanes,
     names: Names,
-) -> Result<Vec<(Pos, &'a Event)>, AllocError>
-    ensures { IfOk result (λ events. entries_by deref events.items
+) -> Result<Vec<(Pos, Stored<'a>)>, AllocError>
+    ensures { IfOk result (λ events. entries_by held events.items
         ≡ map.entries (events_on (has_name names) (merged lanes.now))) }
 {
     events_but(alloc, lanes, names, &[])
@@ -66,8 +67,8 @@ fn events_but<'a>(
     lanes: &'a Lanes,
     names: Names,
     but: &[u16],
-) -> Result<Vec<(Pos, &'a Event)>, AllocError>
-    ensures { IfOk result (λ events. entries_by deref events.items
+) -> Result<Vec<(Pos, Stored<'a>)>, AllocError>
+    ensures { IfOk result (λ events. entries_by held events.items
         ≡ map.entries (events_on (has_name names) (merged (lanes_but but.now lanes.now)))) }
 {
     let mut events = Vec::new(alloc);
@@ -81,13 +82,13 @@ fn events_but<'a>(
 /// Adds the events of a lane that have one of the names, with their places, unless its CPU is among
 /// some. What it added before a refusal for memory stays.
 fn push_unless<'a>(
-    events: &mut Vec<(Pos, &'a Event)>,
+    events: &mut Vec<(Pos, Stored<'a>)>,
     but: &[u16],
     cpu: u16,
     lane: &Lane<'a>,
     names: Names,
 ) -> Result<(), AllocError>
-    ensures { OnOk result (entries_by deref events.new.items ≡ entries_by deref events.old.items
+    ensures { OnOk result (entries_by held events.new.items ≡ entries_by held events.old.items
         ++ cond (is_among but.now cpu) []
         (filter (λ entry. has_name names (name_of entry.1.body)) (placed (cpu, lane.now)))) }
 {
@@ -100,28 +101,28 @@ fn push_unless<'a>(
 /// Adds the events of a lane that have one of the names, with their places. What it added before a
 /// refusal for memory stays.
 fn push_lane<'a>(
-    events: &mut Vec<(Pos, &'a Event)>,
+    events: &mut Vec<(Pos, Stored<'a>)>,
     cpu: u16,
     lane: &Lane<'a>,
     names: Names,
 ) -> Result<(), AllocError>
-    ensures { OnOk result (entries_by deref events.new.items ≡ entries_by deref events.old.items
+    ensures { OnOk result (entries_by held events.new.items ≡ entries_by held events.old.items
         ++ filter (λ entry. has_name names (name_of entry.1.body)) (placed (cpu, lane.now))) }
 {
     if names.are_none() {
         return Ok(());
     }
-    for (line, event) in lane.lines() {
-        if names.has(event.name()) {
-            let stamp = event.stamp;
-            events.push((Pos { stamp, cpu, line }, event))?;
+    for (line, stored) in lane.lines() {
+        if names.has(stored.name()) {
+            let stamp = stored.stamp();
+            events.push((Pos { stamp, cpu, line }, stored))?;
         }
     }
     Ok(())
 }
 
 /// Puts events in order of their places. Refused for memory.
-fn sort_by_place(events: &mut Vec<(Pos, &Event)>) -> Result<(), AllocError>
+fn sort_by_place(events: &mut Vec<(Pos, Stored<'_>)>) -> Result<(), AllocError>
     ensures permutation { IsPermutation events.old.items events.new.items }
     ensures sorted { OnOk result (IsSortedByKey (λ entry. entry.0) pos_cmp events.new.items) }
 {

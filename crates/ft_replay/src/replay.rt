@@ -43,8 +43,9 @@ pub fn replayed(
     let merged = merged_events(alloc, lanes, triggers)?;
     let mut counters = new_counters(alloc, triggers)?;
     let mut saved = BTreeMap::new(alloc);
-    for (pos, event) in &merged {
-        step(triggers, *pos, event, &mut counters, &mut saved, work)?;
+    for (pos, stored) in &merged {
+        let event = stored.event();
+        step(triggers, *pos, &event, &mut counters, &mut saved, work)?;
     }
     Ok(counters)
 }

@@ -22,8 +22,8 @@ use Rattle.ft_table.specs.Hits.{same_key}
 use Rattle.ft_table.specs.Spots.{traced}
 use Rattle.ft_table.specs.Tabled.{is_in}
 use Rattle.ft_table.specs.Values.{ValuesBy}
-use Rattle.ft_table.specs.declared.mark.Mark.{Mark}
-use Rattle.ft_table.specs.declared.spot.Spot.{Spot}
+use Rattle.ft_hits.specs.declared.mark.Mark.{Mark}
+use Rattle.ft_hits.specs.declared.spot.Spot.{Spot}
 use Rattle.ft_rivals.specs.Rivals.{is_of, rivals, AreTablesButFor, RivalsStay, RivalsAlone}
 use Rattle.ft_kept.specs.Acts.{Acts, op_of}
 use Rattle.ft_kept.specs.Entries.{IsEntry, IsRight, hits_here, read_here}

@@ -7,11 +7,11 @@ use Rattle.std.proofs.lemmas.List.{length-map, take-map, drop-map}
 use Rattle.std.proofs.lemmas.Map.Made.{length-from_same_keys, is_member-filter}
 use Rattle.ft_keys.specs.declared.key.Part.{Part}
 use Rattle.ft_keys.specs.Orders.{key_cmp_total}
-use Rattle.ft_table.specs.declared.mark.Mark.{Mark}
+use Rattle.ft_hits.specs.declared.mark.Mark.{Mark}
 use Rattle.ft_table.specs.Hits.{same_key}
 use Rattle.ft_table.specs.Tabled.{Tabled, order_of}
 use Rattle.ft_table.proofs.Distinct.{key_of, order_distinct}
-use Rattle.ft_table.proofs.Flat.{same_is}
+use Rattle.ft_hits.proofs.Flat.{same_is}
 use Rattle.ft_rivals.specs.Rivals.{is_of, rivals}
 use Rattle.ft_rivals.specs.inner.Edge.{inside, others_of}
 use Rattle.ft_rivals.proofs.Fronts.{left, distinct-filter, distinct-take, last_of_left}

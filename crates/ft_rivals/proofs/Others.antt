@@ -8,14 +8,14 @@ use Rattle.std.specs.FinMap as map
 use Rattle.std.specs.FinMap.{get-retain_keys, same_map}
 use Rattle.std.proofs.lemmas.List.{take-map}
 use Rattle.ft_keys.specs.declared.key.Part.{Part}
-use Rattle.ft_table.specs.declared.mark.Mark.{Mark}
+use Rattle.ft_hits.specs.declared.mark.Mark.{Mark}
 use Rattle.ft_table.specs.Spots.{spot_cmp, spot_cmp_total, spot_same}
 use Rattle.ft_table.specs.Marks.{mark_cmp_total, mark_same}
 use Rattle.ft_table.specs.Hits.{EntryHits, Hits, hits_of, least_key}
 use Rattle.ft_table.specs.Tabled.{Tabled, is_first, first_hits, order_of}
 use Rattle.ft_table.proofs.Distinct.{key_of}
 use Rattle.ft_table.proofs.Firsts.{get-first_hits}
-use Rattle.ft_table.proofs.Flat.{mark, get-hits_of}
+use Rattle.ft_hits.proofs.Flat.{mark, get-hits_of}
 use Rattle.ft_table.proofs.Retained.{keys-retained}
 use Rattle.ft_rivals.specs.Rivals.{is_of, hits_but, rivals, AreTablesButFor}
 use Rattle.ft_rivals.proofs.Fronts.{left}

@@ -16,7 +16,7 @@ use Rattle.ft_table.specs.Rows.{row_of}
 use Rattle.ft_table.specs.Tabled.{Tabled, order_of, is_in}
 use Rattle.ft_table.proofs.Changes.{insert-beside, remove-beside}
 use Rattle.ft_table.proofs.Distinct.{key_of, order_distinct}
-use Rattle.ft_table.proofs.Flat.{same_is}
+use Rattle.ft_hits.proofs.Flat.{same_is}
 use Rattle.ft_rivals.specs.Rivals.{is_of, rivals, RivalsStay, FewRivals, RivalsAreOthers, RivalsDiffer, RivalsAlone, RowsStayBut, ButForOneHit, ButForBack, ButForMore, ButForAmong}
 use Rattle.ft_rivals.proofs.Fronts.{left, distinct-filter, distinct-take, distinct-drop, in_end, in_front, first_of_left}
 use Rattle.ft_rivals.proofs.Others.{keys_of, rivals-left, same-but, same-left, hits_of-same}

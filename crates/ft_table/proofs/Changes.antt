@@ -5,15 +5,15 @@ use Rattle.std.specs.Ordering.{eq_by_cmp}
 use Rattle.std.specs.Cmp.{eq_by_cmp_equiv}
 use Rattle.std.specs.FinMap as map
 use Rattle.std.specs.FinMap.{get-insert, get-remove, len-insert, len-entries, same_map}
-use Rattle.ft_table.specs.declared.spot.Spot.{Spot}
+use Rattle.ft_hits.specs.declared.spot.Spot.{Spot}
 use Rattle.ft_keys.specs.declared.key.Part.{Part}
-use Rattle.ft_table.specs.declared.mark.Mark.{Mark}
-use Rattle.ft_table.specs.Spots.{spot_cmp, spot_cmp_total, spot_same}
-use Rattle.ft_table.specs.Marks.{mark_cmp, mark_cmp_total, mark_same}
-use Rattle.ft_table.specs.Hits.{Hits, same_key, hits_of, least_key, first_place, hitcount}
+use Rattle.ft_hits.specs.declared.mark.Mark.{Mark}
+use Rattle.ft_hits.specs.Spots.{spot_cmp, spot_cmp_total, spot_same}
+use Rattle.ft_hits.specs.Marks.{mark_cmp, mark_cmp_total, mark_same}
+use Rattle.ft_hits.specs.Hits.{Hits, same_key, hits_of, least_key, first_place, hitcount}
 use Rattle.ft_table.specs.Tabled.{order_of}
 use Rattle.ft_table.specs.inner.Moves.{order_before, with_less, with_more}
-use Rattle.ft_table.proofs.Flat.{mark, is_equal, marks_tie, same_itself, same_is, true_and, false_and, get-hits_of}
+use Rattle.ft_hits.proofs.Flat.{mark, is_equal, marks_tie, same_itself, same_is, true_and, false_and, get-hits_of}
 use Rattle.ft_table.proofs.Firsts.{SameBeside, hits_of-beside, others-beside, order-none, order-some}
 
 -- other keys' hits are no part of it

@@ -8,14 +8,14 @@ use Rattle.std.specs.FinMap as map
 use Rattle.std.specs.FinMap.{FinMap, get-insert, contains_key-keys}
 use Rattle.std.proofs.lemmas.Bool.{cases_order}
 use Rattle.ft_keys.specs.declared.key.Part.{Part}
-use Rattle.ft_table.specs.declared.mark.Mark.{Mark}
-use Rattle.ft_table.specs.Marks.{mark_cmp, mark_cmp_total, mark_same}
+use Rattle.ft_hits.specs.declared.mark.Mark.{Mark}
+use Rattle.ft_hits.specs.Marks.{mark_cmp, mark_cmp_total, mark_same}
 use Rattle.ft_table.specs.inner.Ascending.{IsRank}
 use Rattle.ft_table.specs.inner.Split.{IsSplit}
-use Rattle.ft_table.specs.Hits.{Hits, same_key}
+use Rattle.ft_hits.specs.Hits.{Hits, same_key}
 use Rattle.ft_table.specs.Tabled.{first_hits}
 use Rattle.ft_table.specs.inner.Moves.{others, order_without, order_with}
-use Rattle.ft_table.proofs.Flat.{is_equal}
+use Rattle.ft_hits.proofs.Flat.{is_equal}
 use Rattle.ft_table.proofs.Firsts.{get-others, order-found}
 use Rattle.ft_table.proofs.Sorted.{rises-keys, not_before_itself}
 use Rattle.ft_table.proofs.Edges.{same-sums, all_behind, one-more, one-more-before, one-more-behind, sum-drop-le}

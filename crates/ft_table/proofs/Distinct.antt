@@ -13,9 +13,9 @@ use Rattle.ft_hist.specs.declared.item.SortItem.{SortItem}
 use Rattle.ft_keys.specs.declared.key.Part.{Part}
 use Rattle.ft_hist.specs.Fitting.{KeyFits}
 use Rattle.ft_hist.specs.Hist.{Hist}
-use Rattle.ft_table.specs.declared.mark.Mark.{Mark}
+use Rattle.ft_hits.specs.declared.mark.Mark.{Mark}
 use Rattle.ft_rows.specs.Counted.{Counted}
-use Rattle.ft_table.specs.Hits.{Hits, same_key}
+use Rattle.ft_hits.specs.Hits.{Hits, same_key}
 use Rattle.ft_table.specs.Rows.{row_of, rows_of, AllFit}
 use Rattle.ft_rows.specs.Sorting.{in_order, HasDistinctKeys}
 use Rattle.ft_table.specs.Tabled.{Tabled, first_hits, is_first, order_of, keys_in}

@@ -7,14 +7,14 @@ use Rattle.std.specs.FinMap as map
 use Rattle.std.specs.FinMap.{get-empty, same_map}
 use Rattle.ft_keys.specs.declared.key.Part.{Part}
 use Rattle.ft_keys.specs.Parts.{key_cmp}
-use Rattle.ft_table.specs.declared.mark.Mark.{Mark}
-use Rattle.ft_table.specs.Marks.{mark_cmp, mark_cmp_total, mark_same}
+use Rattle.ft_hits.specs.declared.mark.Mark.{Mark}
+use Rattle.ft_hits.specs.Marks.{mark_cmp, mark_cmp_total, mark_same}
 use Rattle.ft_table.specs.inner.Split.{IsSplit}
-use Rattle.ft_table.specs.Hits.{EntryHits}
+use Rattle.ft_hits.specs.Hits.{EntryHits}
 use Rattle.ft_table.specs.Tabled.{is_first, first_hits, order_of}
-use Rattle.ft_table.specs.inner.ByKey.{flat}
+use Rattle.ft_hits.specs.ByKey.{flat}
 use Rattle.ft_maps.specs.Entries.{entries-empty}
-use Rattle.ft_table.proofs.Flat.{mark}
+use Rattle.ft_hits.proofs.Flat.{mark}
 use Rattle.ft_table.proofs.Firsts.{get-first_hits}
 
 pub flat-empty : flat map.empty ≡ map.empty

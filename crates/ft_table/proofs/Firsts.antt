@@ -7,16 +7,16 @@ use Rattle.std.specs.Ordering.{is_eq, eq_by_cmp}
 use Rattle.std.specs.FinMap as map
 use Rattle.std.specs.FinMap.{FinMap, find, get-entries, get-insert, get-retain_keys, same_map}
 use Rattle.std.proofs.lemmas.Cmp.{tied_itself}
-use Rattle.ft_table.specs.declared.spot.Spot.{Spot}
+use Rattle.ft_hits.specs.declared.spot.Spot.{Spot}
 use Rattle.ft_keys.specs.declared.key.Part.{Part}
-use Rattle.ft_table.specs.declared.mark.Mark.{Mark}
-use Rattle.ft_table.specs.Spots.{spot_cmp, spot_cmp_total, spot_same}
-use Rattle.ft_table.specs.Marks.{mark_cmp, mark_cmp_total, mark_same}
+use Rattle.ft_hits.specs.declared.mark.Mark.{Mark}
+use Rattle.ft_hits.specs.Spots.{spot_cmp, spot_cmp_total, spot_same}
+use Rattle.ft_hits.specs.Marks.{mark_cmp, mark_cmp_total, mark_same}
 use Rattle.ft_table.specs.inner.Ascending.{IsRank}
-use Rattle.ft_table.specs.Hits.{Hits, same_key, hits_of, least_key, first_place}
+use Rattle.ft_hits.specs.Hits.{Hits, same_key, hits_of, least_key, first_place}
 use Rattle.ft_table.specs.Tabled.{is_first, first_hits, order_of}
 use Rattle.ft_table.specs.inner.Moves.{others, order_without, order_with}
-use Rattle.ft_table.proofs.Flat.{mark, is_equal, marks_tie, same_itself, same_is, get-hits_of}
+use Rattle.ft_hits.proofs.Flat.{mark, is_equal, marks_tie, same_itself, same_is, get-hits_of}
 use Rattle.ft_table.proofs.Sorted.{keys-insert, keys-without, keys-found, keys-insert-any}
 
 pub get-first_hits : (hits : Hits) (q : Mark) → map.get (first_hits hits) q ≡ cond (is_first hits q) (map.get hits q) None

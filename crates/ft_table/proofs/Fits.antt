@@ -7,12 +7,12 @@ use Rattle.std.specs.FinMap as map
 use Rattle.std.specs.FinMap.{get-empty, get-insert, get-remove}
 use Rattle.ft_hist.specs.Fitting.{KeyFits}
 use Rattle.ft_hist.specs.Hist.{Hist}
-use Rattle.ft_table.specs.declared.mark.Mark.{Mark}
-use Rattle.ft_table.specs.Marks.{mark_cmp, mark_cmp_total, mark_same}
+use Rattle.ft_hits.specs.declared.mark.Mark.{Mark}
+use Rattle.ft_hits.specs.Marks.{mark_cmp, mark_cmp_total, mark_same}
 use Rattle.ft_table.specs.Rows.{AllFit}
 use Rattle.ft_table.specs.Tabled.{Tabled}
 use Rattle.ft_table.specs.Fits.{NoneFits, OneMoreFits, OneLessFits}
-use Rattle.ft_table.proofs.Flat.{is_equal}
+use Rattle.ft_hits.proofs.Flat.{is_equal}
 
 pub none_fits : NoneFits
 none_fits size hist m some = absurd (false≢true (subst IsSome (get-empty mark_cmp m) some))

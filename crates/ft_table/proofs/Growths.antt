@@ -6,20 +6,20 @@ use Rattle.std.specs.Ordering.{eq_by_cmp}
 use Rattle.std.specs.Map.{values_of}
 use Rattle.std.specs.FinMap as map
 use Rattle.std.specs.FinMap.{get-insert, get-retain_keys, len-insert, same_map}
-use Rattle.ft_table.specs.declared.spot.Spot.{Spot}
-use Rattle.ft_table.specs.Spots.{spot_cmp}
+use Rattle.ft_hits.specs.declared.spot.Spot.{Spot}
+use Rattle.ft_hits.specs.Spots.{spot_cmp}
 use Rattle.ft_keys.specs.declared.key.Part.{Part}
-use Rattle.ft_table.specs.declared.mark.Mark.{Mark}
+use Rattle.ft_hits.specs.declared.mark.Mark.{Mark}
 use Rattle.ft_rows.specs.Counted.{Counted}
-use Rattle.ft_table.specs.Marks.{mark_cmp, mark_cmp_total, mark_same}
-use Rattle.ft_table.specs.Hits.{Hits, EntryHits, same_key, hits_of, hitcount, unsigned_at, column, sums_of, least_key, first_place}
+use Rattle.ft_hits.specs.Marks.{mark_cmp, mark_cmp_total, mark_same}
+use Rattle.ft_hits.specs.Hits.{Hits, EntryHits, same_key, hits_of, hitcount, unsigned_at, column, sums_of, least_key, first_place}
 use Rattle.ft_table.specs.Tabled.{Tabled, keys_in, keys_out, is_in}
 use Rattle.ft_table.specs.Rows.{row_of, row_at, totals_of}
 use Rattle.ft_table.specs.Growth.{ComesLast, with_hit, has_room, is_counted, empty_row, grown, InGrows, RowsGrow, TotalsGrow}
-use Rattle.ft_table.proofs.Flat.{mark, is_equal, marks_tie, same_itself, same_is, false_and, get-hits_of}
+use Rattle.ft_hits.proofs.Flat.{mark, is_equal, marks_tie, same_itself, same_is, false_and, get-hits_of}
 use Rattle.ft_table.proofs.Firsts.{hits_of-beside, no_first}
 use Rattle.ft_table.proofs.Changes.{insert-beside, hits_of-insert, count-insert, hitcount-none}
-use Rattle.ft_table.proofs.Columns.{column-more}
+use Rattle.ft_hits.proofs.Columns.{column-more}
 use Rattle.ft_table.proofs.Appends.{keys_grow, known}
 use Rattle.ft_table.proofs.Tallies.{inside_count, whole_count}
 

@@ -8,13 +8,13 @@ use Rattle.ft_hist.specs.Fitting.{KeyFits}
 use Rattle.ft_hist.specs.Hist.{Hist}
 use Rattle.ft_keys.specs.declared.key.Part.{Part}
 use Rattle.ft_rows.specs.Counted.{Counted}
-use Rattle.ft_table.specs.declared.mark.Mark.{Mark}
-use Rattle.ft_table.specs.Hits.{same_key}
+use Rattle.ft_hits.specs.declared.mark.Mark.{Mark}
+use Rattle.ft_hits.specs.Hits.{same_key}
 use Rattle.ft_table.specs.Rows.{row_of, row_at, AllFit}
 use Rattle.ft_table.specs.Tabled.{Tabled, first_hits, is_first, order_of, is_in}
 use Rattle.ft_table.proofs.Counts.{listed}
 use Rattle.ft_table.proofs.Firsts.{get-first_hits}
-use Rattle.ft_table.proofs.Flat.{same_is}
+use Rattle.ft_hits.proofs.Flat.{same_is}
 
 -- a first hit is a hit
 hit_of_first : (first : Bool) (o : Option (List ℤ)) → is_some (cond first o None) ≡ true → IsSome o

@@ -1,6 +1,5 @@
 mod Appends
 pub mod Changes
-mod Columns
 mod Counts
 pub mod Distinct
 mod Edges
@@ -8,12 +7,10 @@ mod Empty
 mod FirstPlaces
 pub mod Firsts
 mod Fits
-pub mod Flat
 mod Growths
 mod KeyedRows
 mod Members
 mod OneKeys
-mod Only
 mod Outside
 mod Ranks
 pub mod Retained

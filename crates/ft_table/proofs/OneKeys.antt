@@ -9,19 +9,19 @@ use Rattle.std.specs.FinMap as map
 use Rattle.std.specs.FinMap.{find, put, is_sorted, entries_sorted, get-entries, get-remove}
 use Rattle.std.proofs.lemmas.List.{get_or_default}
 use Rattle.std.proofs.lemmas.List.Edits.{get_or-insert_below, get_or-insert_above, length-insert}
-use Rattle.ft_table.specs.declared.spot.Spot.{Spot}
+use Rattle.ft_hits.specs.declared.spot.Spot.{Spot}
 use Rattle.ft_keys.specs.declared.key.Part.{Part}
 use Rattle.ft_keys.specs.Parts.{key_cmp}
-use Rattle.ft_table.specs.declared.mark.Mark.{Mark}
-use Rattle.ft_table.specs.Spots.{traced, spot_cmp, spot_cmp_total}
-use Rattle.ft_table.specs.Marks.{mark_cmp, mark_cmp_total}
-use Rattle.ft_table.specs.Hits.{Hits, same_key, hits_of, least_key, first_place}
+use Rattle.ft_hits.specs.declared.mark.Mark.{Mark}
+use Rattle.ft_hits.specs.Spots.{traced, spot_cmp, spot_cmp_total}
+use Rattle.ft_hits.specs.Marks.{mark_cmp, mark_cmp_total}
+use Rattle.ft_hits.specs.Hits.{Hits, same_key, hits_of, least_key, first_place}
 use Rattle.ft_table.specs.Tabled.{order_of}
 use Rattle.ft_table.specs.inner.Moves.{order_without}
 use Rattle.ft_table.specs.OneKey.{AreSameBut, LastGoesOut, FirstComesIn, OneOtherMoves}
 use Rattle.std.proofs.lemmas.Cmp.{tied_itself}
 use Rattle.ft_keys.specs.Orders.{key_cmp_total}
-use Rattle.ft_table.proofs.Flat.{mark, same_itself, same_is, get-hits_of}
+use Rattle.ft_hits.proofs.Flat.{mark, same_itself, same_is, get-hits_of}
 use Rattle.ft_table.proofs.Firsts.{SameBeside, first_is_hit, no_first}
 use Rattle.ft_table.proofs.Changes.{insert-beside, remove-beside, order-before, order_before-beside}
 use Rattle.ft_table.proofs.Appends.{first_place-insert, first-empty}

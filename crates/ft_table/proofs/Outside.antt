@@ -6,10 +6,10 @@ use Rattle.std.specs.Cmp.{eq_by_cmp_equiv}
 use Rattle.std.proofs.lemmas.Bool.{false≢true}
 use Rattle.ft_keys.specs.Orders.{key_cmp_total}
 use Rattle.ft_keys.specs.declared.key.Part.{Part}
-use Rattle.ft_table.specs.Hits.{same_key}
+use Rattle.ft_hits.specs.Hits.{same_key}
 use Rattle.ft_table.specs.OneKey.{FirstIsOut}
 use Rattle.ft_table.specs.Tabled.{order_of}
-use Rattle.ft_table.specs.declared.mark.Mark.{Mark}
+use Rattle.ft_hits.specs.declared.mark.Mark.{Mark}
 use Rattle.ft_table.proofs.Tallies.{apart_after}
 
 abbrev key_of : Mark → List Part

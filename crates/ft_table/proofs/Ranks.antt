@@ -10,17 +10,17 @@ use Rattle.std.specs.Cmp.{IsTotalOrder, eq_by_cmp_equiv}
 use Rattle.std.specs.FinMap as map
 use Rattle.std.proofs.lemmas.Bool.{ltb-true}
 use Rattle.std.proofs.lemmas.Bool.Decides.{nat_tests}
-use Rattle.ft_table.specs.declared.spot.Spot.{Spot}
-use Rattle.ft_table.specs.Spots.{spot_cmp, spot_cmp_total, spot_same}
+use Rattle.ft_hits.specs.declared.spot.Spot.{Spot}
+use Rattle.ft_hits.specs.Spots.{spot_cmp, spot_cmp_total, spot_same}
 use Rattle.ft_keys.specs.declared.key.Part.{Part}
-use Rattle.ft_table.specs.declared.mark.Mark.{Mark}
-use Rattle.ft_table.specs.Marks.{mark_cmp, mark_cmp_total}
+use Rattle.ft_hits.specs.declared.mark.Mark.{Mark}
+use Rattle.ft_hits.specs.Marks.{mark_cmp, mark_cmp_total}
 use Rattle.ft_table.specs.inner.Ascending.{IsRank}
-use Rattle.ft_table.specs.Hits.{Hits, same_key, first_place}
+use Rattle.ft_hits.specs.Hits.{Hits, same_key, first_place}
 use Rattle.ft_table.specs.Tabled.{Tabled, is_first, first_hits, order_of, is_in}
 use Rattle.ft_table.specs.inner.Moves.{others, order_with}
 use Rattle.ft_table.specs.Admission.{IsFirstHit, FirstsAreFirst, earlier_firsts, IsAmongFirst, InByRank}
-use Rattle.ft_table.proofs.Flat.{mark}
+use Rattle.ft_hits.proofs.Flat.{mark}
 use Rattle.ft_table.proofs.Firsts.{get-first_hits, no_first, first_is_hit, order-none, order-some}
 use Rattle.ft_table.proofs.Members.{in-without, in-with}
 use Rattle.ft_table.proofs.OneKeys.{first_least}

@@ -13,17 +13,17 @@ use Rattle.std.proofs.lemmas.Cmp.{tied_itself}
 use Rattle.std.proofs.lemmas.List.{get_or_default, length-map}
 use Rattle.std.proofs.Math.Seq.{take-length}
 use Rattle.std.proofs.lemmas.List.Sums.{sum_by-cons, sum_by-take-drop}
-use Rattle.ft_table.specs.declared.spot.Spot.{Spot}
-use Rattle.ft_table.specs.Spots.{spot_cmp, spot_same}
+use Rattle.ft_hits.specs.declared.spot.Spot.{Spot}
+use Rattle.ft_hits.specs.Spots.{spot_cmp, spot_same}
 use Rattle.ft_keys.specs.declared.key.Part.{Part}
-use Rattle.ft_table.specs.declared.mark.Mark.{Mark}
-use Rattle.ft_table.specs.Marks.{mark_cmp, mark_cmp_total, mark_same}
+use Rattle.ft_hits.specs.declared.mark.Mark.{Mark}
+use Rattle.ft_hits.specs.Marks.{mark_cmp, mark_cmp_total, mark_same}
 use Rattle.ft_table.specs.inner.Ascending.{IsRank}
-use Rattle.ft_table.specs.Hits.{Hits, same_key, hits_of, hitcount, first_place}
+use Rattle.ft_hits.specs.Hits.{Hits, same_key, hits_of, hitcount, first_place}
 use Rattle.ft_table.specs.Tabled.{is_first, first_hits, order_of, keys_in, keys_out, is_in}
 use Rattle.ft_table.specs.inner.Moves.{others, order_with}
 use Rattle.ft_table.specs.Admission.{AllCount, InsideCount, OutsideDrop, WholeCount}
-use Rattle.ft_table.proofs.Flat.{mark, is_equal, same_is, same_back}
+use Rattle.ft_hits.proofs.Flat.{mark, is_equal, same_is, same_back}
 use Rattle.ft_table.proofs.FirstPlaces.{of_key, entries-hits_of}
 use Rattle.ft_table.proofs.Retained.{keys-retained}
 use Rattle.ft_table.proofs.Firsts.{get-first_hits, no_first, order-some, order-found}

@@ -3,12 +3,12 @@ use Rattle.std.specs.Prelude.{◌≡◌, ◌↔◌, ◌+◌, ◌<◌, not, List,
 use Rattle.std.specs.declared.cmp.Ordering.TheVariants.{Less}
 use Rattle.std.specs.Ordering.{is_lt}
 use Rattle.std.specs.FinMap as map
-use Rattle.ft_table.specs.declared.spot.Spot.{Spot}
-use Rattle.ft_table.specs.Spots.{spot_cmp}
+use Rattle.ft_hits.specs.declared.spot.Spot.{Spot}
+use Rattle.ft_hits.specs.Spots.{spot_cmp}
 use Rattle.ft_keys.specs.declared.key.Part.{Part}
-use Rattle.ft_table.specs.declared.mark.Mark.{Mark}
-use Rattle.ft_table.specs.Marks.{mark_cmp}
-use Rattle.ft_table.specs.Hits.{Hits, same_key, hitcount}
+use Rattle.ft_hits.specs.declared.mark.Mark.{Mark}
+use Rattle.ft_hits.specs.Marks.{mark_cmp}
+use Rattle.ft_hits.specs.Hits.{Hits, same_key, hitcount}
 use Rattle.ft_table.specs.Tabled.{Tabled, first_hits, is_in}
 use Rattle.ft_table.specs.Rows.{totals_of}
 

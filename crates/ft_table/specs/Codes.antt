@@ -2,8 +2,8 @@
 use Rattle.std.specs.Prelude.{ℕ, refl}
 use Rattle.std.specs.Coded.{Coded, code_by, coded×, coded_list, coded_ℤ, coded_ℕ}
 use Rattle.std.specs.FinMap as map
-use Rattle.ft_table.specs.contracts.mark.Mark as mark
-use Rattle.ft_table.specs.Hits.{Hits}
+use Rattle.ft_hits.specs.contracts.mark.Mark as mark
+use Rattle.ft_hits.specs.Hits.{Hits}
 use Rattle.ft_table.specs.Tabled.{Tabled}
 
 -- a table, stored as its hits and its size (our own choice)

@@ -2,12 +2,9 @@ pub mod Admission
 pub mod Codes
 pub mod Fits
 pub mod Growth
-pub mod Hits
-pub mod Marks
 pub mod OneKey
 pub mod Rows
 pub mod Runs
-pub mod Spots
 pub mod Tabled
 pub mod Values
 pub mod inner
@@ -16,6 +13,9 @@ pub use Rattle.ft_hist.specs.Fitting
 pub use Rattle.ft_hist.specs.Hist
 pub use Rattle.ft_keys.specs.Parts
 pub use Rattle.ft_hist.specs.Steps
+pub use Rattle.ft_hits.specs.Hits
+pub use Rattle.ft_hits.specs.Marks
+pub use Rattle.ft_hits.specs.Spots
 pub use Rattle.ft_rows.specs.Counted
 pub use Rattle.ft_rows.specs.Sorting
 pub use Rattle.ft_rows.specs.Text

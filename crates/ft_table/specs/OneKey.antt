@@ -2,8 +2,8 @@
 use Rattle.std.specs.Prelude.{◌≡◌, ℤ, false, List, Some}
 use Rattle.std.specs.FinMap as map
 use Rattle.ft_keys.specs.declared.key.Part.{Part}
-use Rattle.ft_table.specs.declared.mark.Mark.{Mark}
-use Rattle.ft_table.specs.Hits.{Hits}
+use Rattle.ft_hits.specs.declared.mark.Mark.{Mark}
+use Rattle.ft_hits.specs.Hits.{Hits}
 use Rattle.ft_table.specs.Tabled.{Tabled, is_in, last_in, first_out}
 use Rattle.ft_table.specs.Growth.{with_hit}
 

@@ -1,17 +1,16 @@
 -- What a table shows: rows and totals.
-use Rattle.std.specs.Prelude.{ℕ, List, length, map as list_map, Option, Some, None, option_map, if◌then◌else◌, IsSome}
+use Rattle.std.specs.Prelude.{ℕ, List, length, map as list_map, Option, Some, None, if◌then◌else◌, IsSome}
 use Rattle.std.specs.List.{sum_by}
 use Rattle.std.specs.FinMap as map
-use Rattle.ft_table.specs.declared.spot.Spot.{Spot}
 use Rattle.ft_hist.specs.declared.item.SortItem.{SortItem}
 use Rattle.ft_keys.specs.declared.key.Part.{Part}
 use Rattle.ft_hist.specs.Fitting.{KeyFits}
 use Rattle.ft_hist.specs.Hist.{Hist}
-use Rattle.ft_table.specs.declared.hit.Hit.{Hit}
 use Rattle.ft_rows.specs.Counted.{Counted}
 use Rattle.ft_rows.specs.declared.row.Totals.{Totals}
-use Rattle.ft_table.specs.Hits.{Hits, hits_of, hitcount, sums_of, first_entry, hits_after}
-use Rattle.ft_table.specs.declared.mark.Mark.{Mark}
+use Rattle.ft_hits.specs.Hits.{Hits, hits_of, hitcount, sums_of}
+pub use Rattle.ft_hits.specs.Hits.{hit_after}
+use Rattle.ft_hits.specs.declared.mark.Mark.{Mark}
 use Rattle.ft_rows.specs.Sorting.{in_order}
 use Rattle.ft_table.specs.Tabled.{Tabled, keys_in, keys_out, is_in}
 use Rattle.ft_rows.specs.Text.{rows_text}
@@ -31,10 +30,6 @@ rows_of table sort = in_order sort (list_map (row_of table.hits) (keys_in table)
 -- the totals: the hits of the keys in the table, these keys, and the hits of the keys outside (kernel: histogram.rst, `Hits`, `Entries` and `Dropped`)
 abbrev pub totals_of : Tabled → Totals
 totals_of table = record { hits = sum_by (hitcount table.hits) (keys_in table); entries = length (keys_in table); dropped = sum_by (hitcount table.hits) (keys_out table) }
-
--- the first hit of a key after a spot; without a spot its first (our own choice)
-abbrev pub hit_after : Hits → List Part → Option Spot → Option Hit
-hit_after hits key after = option_map (λ e. record { spot = e.0; key = key; values = e.1 }) (first_entry (hits_after after (hits_of hits key)))
 
 -- the key of each hit fits the trigger's key items (our own choice)
 abbrev pub AllFit : Tabled → Hist → Type 0

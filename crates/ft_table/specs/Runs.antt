@@ -2,9 +2,9 @@
 use Rattle.std.specs.Prelude.{◌≡◌, ℤ, List, None}
 use Rattle.std.specs.FinMap as map
 use Rattle.ft_keys.specs.declared.key.Part.{Part}
-use Rattle.ft_table.specs.declared.spot.Spot.{Spot}
-use Rattle.ft_table.specs.Spots.{spot_cmp}
-use Rattle.ft_table.specs.Hits.{Hits}
+use Rattle.ft_hits.specs.declared.spot.Spot.{Spot}
+use Rattle.ft_hits.specs.Spots.{spot_cmp}
+use Rattle.ft_hits.specs.Hits.{Hits}
 use Rattle.ft_table.specs.OneKey.{AreSameBut}
 use Rattle.ft_table.specs.Tabled.{Tabled}
 

@@ -1,29 +1,12 @@
 //! Laws of tables.
 
-ghost use Rattle.std.specs.Prelude.{◌≡◌};
-ghost use Rattle.std.specs.declared.cmp.Ordering.TheVariants.{Equal};
 ghost use Rattle.ft_table.specs.Admission.{FirstsAreFirst, InByRank, AllCount, InsideCount};
 ghost use Rattle.ft_table.specs.Admission.{OutsideDrop, WholeCount};
 ghost use Rattle.ft_table.specs.Fits.{NoneFits, OneMoreFits, OneLessFits};
 ghost use Rattle.ft_table.specs.Growth.{KeysGrow, InGrows, RowsGrow, TotalsGrow};
-ghost use Rattle.ft_table.specs.Marks.{mark_cmp};
-ghost use Rattle.ft_table.specs.Spots.{spot_cmp};
 ghost use Rattle.ft_table.specs.OneKey.{LastGoesOut, FirstComesIn, FirstIsOut, OneOtherMoves};
 
-use crate::mark::Mark;
-use crate::spot::Spot;
-
-/// A law: spots are ordered by place, then by maker, and spots that tie are equal.
-pub fn one_spot_order()
-    ensures order { (p q : Spot) → ⟦<Spot as Ord>⟧.cmp p q ≡ spot_cmp p q }
-    ensures ties { (p q : Spot) → spot_cmp p q ≡ Equal → p ≡ q }
-{}
-
-/// A law: marks are ordered by spot, then by key, and marks that tie are equal.
-pub fn one_mark_order()
-    ensures order { (p q : Mark) → ⟦<Mark as Ord>⟧.cmp p q ≡ mark_cmp p q }
-    ensures ties { (p q : Mark) → mark_cmp p q ≡ Equal → p ≡ q }
-{}
+pub use ft_hits::laws::{one_mark_order, one_spot_order};
 
 /// A law: a key is in a table just where it has a hit and fewer than `size` other keys have an
 /// earlier first hit.

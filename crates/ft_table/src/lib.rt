@@ -18,26 +18,18 @@
 //! ```
 #![tactic(auto)]
 
-mod entry;
-mod hit;
 mod keyed;
 pub mod laws;
-mod mark;
 mod order;
-mod run;
-mod series;
 mod split;
-mod spot;
 mod table;
 mod values;
 
+pub use ft_hits::{Hit, Mark, Spot};
 pub use ft_rows::{Row, Totals, one_row_order};
-pub use hit::Hit;
 pub use laws::{
     all_hits, first_keys, first_outside, fitting_keys, one_key, one_mark_order, one_more_hit,
     one_spot_order,
 };
-pub use mark::Mark;
-pub use spot::Spot;
 pub use table::{Edge, Table};
 pub use values::hit_with;

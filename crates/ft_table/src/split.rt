@@ -5,20 +5,17 @@ ghost use Rattle.std.specs.Prelude.{◌≡◌, ◌+◌, ◌<◌, ◌≤◌, ◌^
 ghost use Rattle.std.specs.FinMap as map;
 ghost use Rattle.std.specs.List.{insert, remove};
 ghost use Rattle.ft_table.specs.inner.Split.{IsSplit};
-ghost use Rattle.ft_table.specs.Hits.{hitcount};
+ghost use Rattle.ft_hits.specs.Hits.{hitcount};
 ghost use Rattle.ft_table.specs.Tabled.{order_of};
 ghost use Rattle.ft_table.specs.inner.Moves.{order_with, order_without, order_before};
 ghost use Rattle.ft_table.specs.inner.Moves.{with_more, with_less, TakesHits};
-ghost use Rattle.ft_table.specs.inner.ByKey.{hits_in};
-ghost use Rattle.ft_table.specs.Marks.{mark_of};
+ghost use Rattle.ft_hits.specs.ByKey.{hits_in};
+ghost use Rattle.ft_hits.specs.Marks.{mark_of};
 ghost use Rattle.ft_table.specs.Runs.{HasNone};
 
-use crate::entry::{Entry, count_of, first_at, put_behind, put_hit, take_hit};
-use crate::hit::Hit;
-use crate::mark::Mark;
 use crate::order::{last_rank_of, rank_of};
-use crate::spot::Spot;
 use ft_hist::Key;
+use ft_hits::{Entry, Hit, Mark, Spot, count_of, first_at, put_behind, put_hit, take_hit};
 use ft_maps::put;
 use std::alloc::{AllocError, Global};
 use std::collections::BTreeMap;

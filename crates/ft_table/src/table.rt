@@ -3,18 +3,14 @@
 ghost use Rattle.std.specs.Prelude.{◌≡◌, ◌↔◌, ◌+◌, ◌<◌, ◌++◌, length, OnOk, OnErr, IfOk, IsTrue};
 ghost use Rattle.std.specs.Prelude.{map as list_map};
 ghost use Rattle.std.specs.FinMap as map;
-ghost use Rattle.ft_table.specs.inner.ByKey.{hits_in};
+ghost use Rattle.ft_hits.specs.ByKey.{hits_in};
 ghost use Rattle.ft_text.specs.Fronts.{IsFront};
 ghost use Rattle.ft_table.specs.Rows.{row_of};
 
-use crate::entry::{Entry, count_of, first_at, holds, next_hit, sums_at};
-use crate::hit::Hit;
-use crate::mark::Mark;
 use crate::order::rank_of;
-use crate::run::count_puts;
 use crate::split::{Split, add_hit, add_key, drop_hit};
-use crate::spot::Spot;
 use ft_hist::{Key, SortItem, Trigger, Work};
+use ft_hits::{Entry, Hit, Mark, Spot, count_of, count_puts, first_at, holds, next_hit, sums_at};
 use ft_rows::{Row, Totals, sort_rows, write_heading, write_rows};
 use std::alloc::{AllocError, Global};
 use std::collections::BTreeMap;
@@ -61,9 +57,10 @@ impl Table {
     ghost use Rattle.std.specs.Prelude.{None, take};
     ghost use Rattle.std.specs.List.{list_any};
     ghost use Rattle.ft_table.specs.Growth.{with_hit};
-    ghost use Rattle.ft_table.specs.Hits.{same_key};
+    ghost use Rattle.ft_hits.specs.Hits.{same_key};
     ghost use Rattle.ft_table.specs.OneKey.{without_hit};
-    ghost use Rattle.ft_table.specs.Rows.{row_at, rows_of, totals_of, hit_after};
+    ghost use Rattle.ft_hits.specs.Hits.{hit_after};
+    ghost use Rattle.ft_table.specs.Rows.{row_at, rows_of, totals_of};
     ghost use Rattle.ft_table.specs.Rows.{AllFit, table_text};
     ghost use Rattle.ft_table.specs.Runs.{HasNone, TakesRun};
     ghost use Rattle.ft_rows.specs.Text.{heading};

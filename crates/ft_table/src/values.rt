@@ -4,10 +4,9 @@ ghost use Rattle.std.specs.Prelude.{◌≡◌};
 ghost use Rattle.ft_fields.specs.declared.pos.Pos.{Pos};
 ghost use Rattle.ft_table.specs.Values.{own_value, values_at};
 
-use crate::hit::Hit;
-use crate::spot::Spot;
 use ft_fields::{Event, Pos};
 use ft_hist::{Key, Trigger};
+use ft_hits::{Hit, Spot};
 
 /// The hit of a trigger at an event that stands at a spot, with its values by the place of the
 /// saving that it read, if it read.

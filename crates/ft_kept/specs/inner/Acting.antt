@@ -15,8 +15,8 @@ use Rattle.ft_table.specs.Tabled.{Tabled}
 use Rattle.ft_table.specs.Values.{values_at}
 use Rattle.ft_kept.specs.Bounds.{OtherSaversStay, table_on}
 use Rattle.ft_kept.specs.Repairs.{AreShelved, CanCome, HasCome, CanGo, HasGone}
-use Rattle.ft_kept.specs.Shelves.{Shelves, FormsStay, admits_on}
-use Rattle.ft_kept.specs.inner.Following.{Moves, MovesKeys}
+use Rattle.ft_shelves.specs.Shelves.{Shelves, FormsStay, admits_on}
+use Rattle.ft_shelves.specs.Following.{Moves, MovesKeys}
 use Rattle.ft_kept.specs.inner.Settling.{Owed, IsPartly, Pays, HasComeOwing, HasGoneOwing}
 use Rattle.ft_kept.specs.declared.act.Scene.{Scene}
 use Rattle.ft_kept.specs.declared.act.Act.{Act}

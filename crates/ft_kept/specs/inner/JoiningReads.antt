@@ -1,9 +1,5 @@
 -- A reader that joins, as the functions say it that put its reads, its hits and its readings.
 use Rattle.std.specs.Prelude.{◌≡◌, ◌++◌, ℤ, ℕ, List, [], ◌∷◌, Option, Some, None, map as list_map}
-use Rattle.std.specs.Map.{update_all}
-use Rattle.std.specs.Ordering.{eq_by_cmp}
-use Rattle.std.specs.FinMap as map
-use Rattle.ft_fields.specs.Places.{pos_cmp}
 use Rattle.ft_fields.specs.Traced.{Traced}
 use Rattle.ft_fields.specs.declared.pos.Pos.{Pos}
 use Rattle.ft_groups.specs.Grouped.{run_of}
@@ -11,13 +7,13 @@ use Rattle.ft_hist.specs.Hist.{Hist}
 use Rattle.ft_keys.specs.declared.key.Part.{Part}
 use Rattle.ft_pairs.specs.Runs.{FindEach, with_reads}
 use Rattle.ft_pairs.specs.declared.at.At.{At}
-use Rattle.ft_table.specs.Runs.{TakesRun}
 use Rattle.ft_table.specs.Spots.{traced}
 use Rattle.ft_table.specs.Values.{values_at}
-use Rattle.ft_table.specs.declared.spot.Spot.{Spot}
-use Rattle.ft_kept.specs.Shelves.{ChangesShelf, Shelved, Shelves, kept_on}
-use Rattle.ft_kept.specs.inner.Edits.{OpsChange}
-use Rattle.ft_kept.specs.declared.joining.Joining.{Joining}
+use Rattle.ft_hits.specs.declared.spot.Spot.{Spot}
+use Rattle.ft_shelves.specs.Shelves.{ChangesShelf, Shelves, kept_on}
+use Rattle.ft_shelves.specs.Edits.{OpsChange}
+use Rattle.ft_shelves.specs.Joining.{RunComes}
+use Rattle.ft_shelves.specs.declared.joining.Joining.{Joining}
 
 -- the reads of a run: one at each event (kernel: histogram.rst, inter-event hist triggers)
 abbrev pub reads_of_run : ℕ → List (Pos × Traced) → List At
@@ -47,27 +43,7 @@ readings_found [] found = []
 readings_found (e ∷ run) [] = []
 readings_found (e ∷ run) (f ∷ found) = reading_found e f ++ readings_found run found
 
--- what the reading at a place found, by a list; of those that name the place the last one tells (our own choice)
-abbrev pub found_last : List (Pos × Pos) → Pos → Option Pos
-found_last readings = update_all (eq_by_cmp pos_cmp) (λ _. None) readings
-
 -- ---- shelves
-
--- a shelf has the hits of a list for a key, and all else on it stays (our own choice)
-pub record RunComes (key : List Part) (run : List (Spot × List ℤ)) (old new : Shelved) : Type 0 where
-  pub role : new.role ≡ old.role
-  pub table : TakesRun key run old.table new.table
-  pub ops : new.ops ≡ old.ops
-  pub readings : new.readings ≡ old.readings
-  pub notes : new.notes ≡ old.notes
-
--- a shelf has the readings of a list, and all else on it stays (our own choice)
-pub record ReadingsSet (told : List (Pos × Pos)) (old new : Shelved) : Type 0 where
-  pub role : new.role ≡ old.role
-  pub table : new.table ≡ old.table
-  pub ops : new.ops ≡ old.ops
-  pub readings : (pos : Pos) → map.get new.readings pos ≡ found_last told pos
-  pub notes : new.notes ≡ old.notes
 
 -- the readings of a key's run came: first their reads, of which each found something or not, then the hits of those that did, and their readings behind others (our own choice)
 pub record KeyComes (joining : Joining) (saver : ℕ) (key : List Part) (old new : Shelves) (told more : List (Pos × Pos)) : Type 0 where

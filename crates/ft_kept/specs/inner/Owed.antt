@@ -13,7 +13,7 @@ use Rattle.ft_pairs.specs.declared.at.Op.TheVariants.{Save, Read}
 use Rattle.ft_pairs.specs.Roles.{Admits}
 use Rattle.ft_pairs.specs.declared.role.Role.{Role}
 use Rattle.ft_pairs.specs.declared.role.Role.TheVariants.{Reads}
-use Rattle.ft_kept.specs.Switches.{differ}
+use Rattle.ft_shelves.specs.Switches.{differ}
 use Rattle.ft_kept.specs.Acts.{Acts}
 
 -- an operation is a read (our own choice)

@@ -13,11 +13,11 @@ use Rattle.ft_pairs.specs.declared.at.Op.{Op}
 use Rattle.ft_pairs.specs.Roles.{Admits}
 use Rattle.ft_table.specs.Values.{values_by}
 use Rattle.ft_pairs.specs.declared.role.Variable.{Variable}
-use Rattle.ft_kept.specs.Shelves.{Shelves, role_on, admits_on, kept_on}
+use Rattle.ft_shelves.specs.Shelves.{Shelves, role_on, admits_on, kept_on}
 use Rattle.ft_kept.specs.Entries.{IsKeptBut, IsKept}
 use Rattle.ft_kept.specs.Acts.{Acts, AreHeld, Comes}
 use Rattle.ft_kept.specs.inner.Owed.{reads_at, is_next_read, is_switched}
-use Rattle.ft_kept.specs.inner.Following.{Moves}
+use Rattle.ft_shelves.specs.Following.{Moves}
 
 -- what is owed, after some of it was settled (our own choice)
 abbrev pub Owed : Type 0

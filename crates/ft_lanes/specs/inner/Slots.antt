@@ -1,12 +1,11 @@
 -- Lanes as places in a store of events, and the lanes of events that they stand for.
-use Rattle.std.specs.Prelude.{◌≡◌, ℕ, ◌+◌, ◌<◌, ◌≤◌, Bool, true, false, ◌==◌, List, [], ◌∷◌, length, Option, option_map, pos, slice_index_or, Some, None, unwrap_or, fold}
+use Rattle.std.specs.Prelude.{◌≡◌, ℕ, ◌+◌, ◌<◌, ◌≤◌, Bool, true, false, ◌==◌, List, [], ◌∷◌, length, Option, option_map, Some, None, unwrap_or, fold}
 use Rattle.std.specs.List.{sum_by, find, list_any, enumerate_from}
 use Rattle.std.specs.Map.{keys_of, values_of}
 use Rattle.std.specs.Option.{option_map_or}
 use Rattle.std.specs.Ordering.{nat_cmp}
 use Rattle.std.specs.FinMap as map
 use Rattle.std.specs.FinMap.{FinMap}
-use Rattle.ft_fields.specs.declared.event.Body.TheVariants as bodies
 use Rattle.ft_fields.specs.Traced.{Traced}
 use Rattle.ft_maps.specs.Mapped.{map_by}
 use Rattle.ft_lanes.specs.Held.{Lane, Lanes, number_limit}
@@ -89,14 +88,6 @@ AgreeBeside events old new = (cpu : ℕ) → has_cpu events cpu ≡ false → ma
 -- the lanes of the events' CPUs have numbers left for all of them (our own choice)
 abbrev pub HasRoom : AllSlots → List Traced → Type 0
 HasRoom all events = (cpu : ℕ) → has_cpu events cpu ≡ true → (unwrap_or (map.get all cpu) no_slots).next + length events ≤ number_limit + 1
-
--- what stands behind a store's end (our own choice)
-abbrev pub blank : Traced
-blank = record { task = []; pid = pos 0; cpu = 0; stamp = 0; body = bodies.Other }
-
--- the event at a place of a store (our own choice)
-abbrev pub stored_at : List Traced → ℕ → Traced
-stored_at store place = slice_index_or store place blank
 
 -- the lane that slots stand for (our own choice)
 abbrev pub lane_by : (ℕ → Traced) → SlotsOf → Lane

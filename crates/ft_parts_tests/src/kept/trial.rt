@@ -101,7 +101,7 @@ impl Trial {
         let Some(event) = lanes.get(0, line) else {
             return Err(Fail::new("no event is held there"));
         };
-        let pos = place(event, line);
+        let pos = place(&event, line);
         if get(&come, &pos).is_some() {
             return Err(Fail::new("it has come already"));
         }
@@ -109,11 +109,11 @@ impl Trial {
             &triggers,
             &lanes,
             pos,
-            event,
+            &event,
             &mut Acted::unasked(),
             &mut Work::new(),
         )?;
-        put(&mut come, pos, *event)?;
+        put(&mut come, pos, event)?;
         Ok(Trial {
             triggers,
             lanes,
@@ -133,7 +133,7 @@ impl Trial {
         let Some(held) = lanes.get(0, line) else {
             return Err(Fail::new("no event is held there"));
         };
-        let pos = place(held, line);
+        let pos = place(&held, line);
         let Some(event) = get(&come, &pos) else {
             return Err(Fail::new("it hasn't come"));
         };
@@ -192,7 +192,7 @@ impl Trial {
 
     /// The line of the saving that the reading of a line found.
     fn found(&self, line: u32) -> Option<u32> {
-        let read = place(self.lanes.get(0, line)?, line);
+        let read = place(&self.lanes.get(0, line)?, line);
         let saved = get(self.tables.shelf(READER)?.readings(), &read)?;
         Some(saved.line)
     }

@@ -15,7 +15,7 @@ use Rattle.ft_pairs.specs.declared.at.At.{At}
 use Rattle.ft_table.specs.Growth.{with_hit}
 use Rattle.ft_table.specs.Spots.{traced}
 use Rattle.ft_table.specs.Tabled.{is_in}
-use Rattle.ft_table.specs.declared.mark.Mark.{Mark}
+use Rattle.ft_hits.specs.declared.mark.Mark.{Mark}
 use Rattle.ft_base.specs.Base.{Triggers}
 use Rattle.ft_replay.specs.Counters.{Counting, Counters, tally_in}
 use Rattle.ft_replay.specs.Replay.{State}

@@ -2,7 +2,7 @@
 use Rattle.std.specs.Prelude.{ℕ, not, List, take, map as list_map}
 use Rattle.std.specs.List.{filter}
 use Rattle.ft_keys.specs.declared.key.Part.{Part}
-use Rattle.ft_table.specs.declared.mark.Mark.{Mark}
+use Rattle.ft_hits.specs.declared.mark.Mark.{Mark}
 use Rattle.ft_rivals.specs.Rivals.{is_of}
 
 -- the keys of so many first marks (our own choice)

@@ -1,9 +1,9 @@
 -- A table's fields: what contracts see of them, and that they are in step with its hits.
 use Rattle.std.specs.Prelude.{◌≡◌, ◌<◌}
 use Rattle.ft_table.specs.declared.table.Table.TheInside.{Inside}
-use Rattle.ft_table.specs.Hits.{hitcount}
+use Rattle.ft_hits.specs.Hits.{hitcount}
 use Rattle.ft_table.specs.Tabled.{Tabled, order_of}
-use Rattle.ft_table.specs.inner.ByKey.{hits_in}
+use Rattle.ft_hits.specs.ByKey.{hits_in}
 use Rattle.ft_table.specs.inner.Split.{IsSplit}
 
 -- what contracts see of a table's fields (our own choice)

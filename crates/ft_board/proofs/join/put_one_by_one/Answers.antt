@@ -1,10 +1,10 @@
 use Rattle.std.proofs.Common.{◌≡◌, List, [], drop, length, sym, ap, subst, arith}
-use Rattle.std.specs.Map.Iter.{deref}
 use Rattle.std.proofs.lemmas.List.{drop_all}
 use Rattle.ft_fields.specs.Traced.{Traced}
 use Rattle.ft_fields.specs.declared.pos.Pos.{Pos}
 use Rattle.ft_lanes.specs.Held.{Lanes}
 use Rattle.ft_maps.specs.Mapped.{entries_by}
+use Rattle.ft_store.specs.Stored.{held}
 use Rattle.ft_base.specs.Base.{Triggers}
 use Rattle.ft_replay.specs.Merged.{Events, merged}
 use Rattle.ft_replay.specs.Named.{events_on}
@@ -12,8 +12,9 @@ use Rattle.ft_replay.proofs.Stepping.{grow_none, grow_more}
 use Rattle.ft_board.specs.inner.Idle.{acts_outside, but_one, triggers_of}
 use Rattle.ft_board.proofs.KeptBoardActs.{held_is}
 use Rattle.ft_board.proofs.KeptBoardForms.{all_shelved}
-use Rattle.ft_board.proofs.OneTrigger.{IsJoined, joined_none, act_can_come, joined_more, joined_all, first_left, all_of_them}
+use Rattle.ft_board.proofs.OneTrigger.{IsJoined, joined_none, act_can_come, joined_more, joined_all}
 use Rattle.ft_board.proofs.Putting.{asked_once, outside_held, idle_none, idle_joined}
+use Rattle.ft_board.proofs.Unpacked.{first_left, all_of_them}
 use Rattle.ft_board.proofs.join.put_one_by_one.Goals as goal
 
 pub loop-pos-init : goal.loop-pos-init
@@ -38,7 +39,7 @@ comes_to-requires-clause-stamped c =
     let triggers : Triggers = triggers_of c.args.joining.now in
     let lanes : Lanes = c.args.joining.now.lanes.now in
     let wanted : Events = events_on c.requires.listed.names (merged lanes) in
-    let more = first_left c.args.events.now c.loop-pos.pos-index c.loop-pos-item.result c.loop-pos-test.true c.loop-pos-item.is in
+    let more = first_left c.args.events.now c.loop-pos.pos-index c.loop-pos-item.result c.event-event.result c.loop-pos-test.true c.loop-pos-item.is c.event-event.ensures in
     let joined = subst (λ (es : List (Pos × Traced)). IsJoined triggers lanes c.args.joining.now.id (acts_outside c.requires.can.idle triggers lanes) wanted c.loop-pos.tables es) more
     (c.loop-pos.invariant.joined c.requires.listed c.requires.can.idle c.requires.can.here c.requires.can.kept) in
     (held_is lanes _ _ joined.rest_held.0).1
@@ -49,7 +50,7 @@ comes_to-requires-clause-can c =
     let lanes : Lanes = c.args.joining.now.lanes.now in
     let wanted : Events = events_on c.requires.listed.names (merged lanes) in
     let idle = c.requires.can.idle in
-    let more = first_left c.args.events.now c.loop-pos.pos-index c.loop-pos-item.result c.loop-pos-test.true c.loop-pos-item.is in
+    let more = first_left c.args.events.now c.loop-pos.pos-index c.loop-pos-item.result c.event-event.result c.loop-pos-test.true c.loop-pos-item.is c.event-event.ensures in
     let joined = subst (λ (es : List (Pos × Traced)). IsJoined triggers lanes c.args.joining.now.id (acts_outside idle triggers lanes) wanted c.loop-pos.tables es) more
     (c.loop-pos.invariant.joined c.requires.listed idle c.requires.can.here c.requires.can.kept) in
     act_can_come triggers lanes c.args.joining.now.id (acts_outside idle triggers lanes) c.args.joining.now.trigger.now c.requires.attached (outside_held triggers lanes idle) wanted c.loop-pos.tables _ _ joined
@@ -58,7 +59,7 @@ pub loop-pos-preserved : goal.loop-pos-preserved
 loop-pos-preserved c =
     let triggers : Triggers = triggers_of c.args.joining.now in
     let lanes : Lanes = c.args.joining.now.lanes.now in
-    let more = first_left c.args.events.now c.loop-pos.pos-index c.loop-pos-item.result c.loop-pos-test.true c.loop-pos-item.is in
+    let more = first_left c.args.events.now c.loop-pos.pos-index c.loop-pos-item.result c.event-event.result c.loop-pos-test.true c.loop-pos-item.is c.event-event.ensures in
     record {
       joined = λ listed idle here kept.
           let wanted : Events = events_on listed.names (merged lanes) in
@@ -67,7 +68,7 @@ loop-pos-preserved c =
           c.in_ok-comes_to.ensures.forms c.in_ok-comes_to.ensures.right;
       evals =
           let count = ap (λ (es : List (Pos × Traced)). length es) more in
-          omega (arith, c.loop-pos.invariant.evals, count, c.in_ok-comes_to.ensures.evals, asked_once c.args.joining.now.trigger.now c.loop-pos-item.result.1.now);
+          omega (arith, c.loop-pos.invariant.evals, count, c.in_ok-comes_to.ensures.evals, asked_once c.args.joining.now.trigger.now c.event-event.result);
       grow = grow_more _ _ _ c.loop-pos.invariant.grow c.in_ok-comes_to.ensures.grow;
     }
 
@@ -76,7 +77,7 @@ returns-clause-joined c =
     let triggers : Triggers = triggers_of c.args.joining.now in
     let lanes : Lanes = c.args.joining.now.lanes.now in
     let listed = c.requires.listed in
-    let none : entries_by deref (drop c.loop-pos.pos-index c.args.events.now) ≡ [] = ap (entries_by deref) (drop_all c.loop-pos.pos-index c.args.events.now c.loop-pos-test.false) in
+    let none : entries_by held (drop c.loop-pos.pos-index c.args.events.now) ≡ [] = ap (entries_by held) (drop_all c.loop-pos.pos-index c.args.events.now c.loop-pos-test.false) in
     λ idle here kept.
     let joined = subst (λ (es : List (Pos × Traced)). IsJoined triggers lanes c.args.joining.now.id (acts_outside idle triggers lanes) (events_on listed.names (merged lanes)) c.loop-pos.tables es) none (c.loop-pos.invariant.joined listed idle here kept) in
     record {
@@ -90,6 +91,6 @@ returns-clause-evals c = omega (arith, c.loop-pos.invariant.evals, all_of_them c
 
 pub returns-in_err-comes_to-clause-evals : goal.returns-in_err-comes_to-clause-evals
 returns-in_err-comes_to-clause-evals c =
-    let more = first_left c.args.events.now c.loop-pos.pos-index c.loop-pos-item.result c.loop-pos-test.true c.loop-pos-item.is in
+    let more = first_left c.args.events.now c.loop-pos.pos-index c.loop-pos-item.result c.event-event.result c.loop-pos-test.true c.loop-pos-item.is c.event-event.ensures in
     let count = ap (λ (es : List (Pos × Traced)). length es) more in
-    omega (arith, c.loop-pos.invariant.evals, count, c.comes_to.ensures.evals, asked_once c.args.joining.now.trigger.now c.loop-pos-item.result.1.now, all_of_them c.args.events.now)
+    omega (arith, c.loop-pos.invariant.evals, count, c.comes_to.ensures.evals, asked_once c.args.joining.now.trigger.now c.event-event.result, all_of_them c.args.events.now)

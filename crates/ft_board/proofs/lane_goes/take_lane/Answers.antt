@@ -55,8 +55,8 @@ pub event_goes-requires-clause-can : goal.event_goes-requires-clause-can
 event_goes-requires-clause-can c =
     let triggers : Triggers = seen nat_cmp c.triggers-triggers.result.now in
     let lanes : Lanes = c.lanes-lanes.result.now in
-    let e : ℕ × Traced = (c.in-Some-2.line, c.in-Some-2.event.now) in
-    let more : c.loop-line.line-iterator ≡ e ∷ c.next.new.self = rest_more (shown {X = Traced}) _ _ _ _ c.in-Some-2.is c.next.ensures.steps in
+    let e : ℕ × Traced = (c.in-Some-2.line, c.event-event.result) in
+    let more : c.loop-line.line-iterator ≡ e ∷ c.next.new.self = rest_more shown _ _ _ _ c.in-Some-2.is c.next.ensures.steps ∙ ap (λ (x : ℕ × Traced). x ∷ c.next.new.self) (λ i. (c.in-Some-2.line, sym c.event-event.ensures i)) in
     let going = subst (λ (es : List (ℕ × Traced)). IsGoing triggers lanes c.args.cpu c.loop-line.tables es) more c.loop-line.invariant.going in
     let stamp : c.event.inside.stamp ≡ e.1.stamp = ap (λ (x : Traced). x.stamp) c.event.view_is in
     subst (λ (at : Pos). EventCanGo triggers lanes at e.1 c.loop-line.tables) (λ i. record { stamp = sym stamp i; cpu = c.args.cpu; line = e.0 })
@@ -66,8 +66,8 @@ pub loop-line-preserved : goal.loop-line-preserved
 loop-line-preserved c =
     let triggers : Triggers = seen nat_cmp c.triggers-triggers.result.now in
     let lanes : Lanes = c.lanes-lanes.result.now in
-    let e : ℕ × Traced = (c.in-Some-2.line, c.in-Some-2.event.now) in
-    let more : c.loop-line.line-iterator ≡ e ∷ c.next.new.self = rest_more (shown {X = Traced}) _ _ _ _ c.in-Some-2.is c.next.ensures.steps in
+    let e : ℕ × Traced = (c.in-Some-2.line, c.event-event.result) in
+    let more : c.loop-line.line-iterator ≡ e ∷ c.next.new.self = rest_more shown _ _ _ _ c.in-Some-2.is c.next.ensures.steps ∙ ap (λ (x : ℕ × Traced). x ∷ c.next.new.self) (λ i. (c.in-Some-2.line, sym c.event-event.ensures i)) in
     let going = subst (λ (es : List (ℕ × Traced)). IsGoing triggers lanes c.args.cpu c.loop-line.tables es) more c.loop-line.invariant.going in
     let stamp : c.event.inside.stamp ≡ e.1.stamp = ap (λ (x : Traced). x.stamp) c.event.view_is in
     let gone : EventHasGone triggers lanes (place_of c.args.cpu e) e.1 c.loop-line.tables c.event_goes.new.self =
@@ -91,8 +91,8 @@ pub returns-in_err-event_goes-clause-memory : goal.returns-in_err-event_goes-cla
 returns-in_err-event_goes-clause-memory c plain =
     let triggers : Triggers = seen nat_cmp c.triggers-triggers.result.now in
     let lanes : Lanes = c.lanes-lanes.result.now in
-    let e : ℕ × Traced = (c.in-Some-2.line, c.in-Some-2.event.now) in
-    let more : c.loop-line.line-iterator ≡ e ∷ c.next.new.self = rest_more (shown {X = Traced}) _ _ _ _ c.in-Some-2.is c.next.ensures.steps in
+    let e : ℕ × Traced = (c.in-Some-2.line, c.event-event.result) in
+    let more : c.loop-line.line-iterator ≡ e ∷ c.next.new.self = rest_more shown _ _ _ _ c.in-Some-2.is c.next.ensures.steps ∙ ap (λ (x : ℕ × Traced). x ∷ c.next.new.self) (λ i. (c.in-Some-2.line, sym c.event-event.ensures i)) in
     let going = subst (λ (es : List (ℕ × Traced)). IsGoing triggers lanes c.args.cpu c.loop-line.tables es) more c.loop-line.invariant.going in
     let hits : IsPlainLane triggers lanes c.args.cpu = subst (λ (held : Triggers × Lanes). IsPlainLane held.0 held.1 c.args.cpu) (λ i. (sym c.triggers-triggers.ensures i, sym c.lanes-lanes.ensures.lanes i)) plain in
     let done : c.event_goes.result ≡ Ok tt = c.event_goes.ensures.memory (going_plain triggers lanes c.args.cpu c.loop-line.tables e c.next.new.self going hits) in
@@ -102,8 +102,8 @@ returns-in_err-event_goes-clause-memory c plain =
 pub returns-in_err-event_goes-clause-evals : goal.returns-in_err-event_goes-clause-evals
 returns-in_err-event_goes-clause-evals c lane there =
     let triggers : Triggers = seen nat_cmp c.triggers-triggers.result.now in
-    let e : ℕ × Traced = (c.in-Some-2.line, c.in-Some-2.event.now) in
-    let more : c.loop-line.line-iterator ≡ e ∷ c.next.new.self = rest_more (shown {X = Traced}) _ _ _ _ c.in-Some-2.is c.next.ensures.steps in
+    let e : ℕ × Traced = (c.in-Some-2.line, c.event-event.result) in
+    let more : c.loop-line.line-iterator ≡ e ∷ c.next.new.self = rest_more shown _ _ _ _ c.in-Some-2.is c.next.ensures.steps ∙ ap (λ (x : ℕ × Traced). x ∷ c.next.new.self) (λ i. (c.in-Some-2.line, sym c.event-event.ensures i)) in
     let here : map.get c.lanes-lanes.result.now c.args.cpu ≡ Some lane = ap (λ (lanes : Lanes). map.get lanes c.args.cpu) c.lanes-lanes.ensures.lanes ∙ there in
     let tests = tests_fewer triggers e c.next.new.self (count_on_lane triggers lane) c.args.work.now.evals c.loop-line.work.evals c.event_goes.new.work.evals
     (subst (λ (es : List (ℕ × Traced)). c.loop-line.work.evals + count_lines triggers es ≤ c.args.work.now.evals + count_on_lane triggers lane) more (c.loop-line.invariant.evals lane here)) c.event_goes.ensures.evals in
@@ -113,7 +113,7 @@ pub returns-clause-kept : goal.returns-clause-kept
 returns-clause-kept c =
     let triggers : Triggers = seen nat_cmp c.triggers-triggers.result.now in
     let lanes : Lanes = c.lanes-lanes.result.now in
-    let none : c.loop-line.line-iterator ≡ [] = rest_all (shown {X = Traced}) _ _ _ c.in-None.is c.next.ensures.steps in
+    let none : c.loop-line.line-iterator ≡ [] = rest_all shown _ _ _ c.in-None.is c.next.ensures.steps in
     let kept : AreKept triggers (merged (map.remove lanes c.args.cpu)) c.loop-line.tables =
     going_none triggers lanes c.args.cpu c.loop-line.tables (subst (λ (es : List (ℕ × Traced)). IsGoing triggers lanes c.args.cpu c.loop-line.tables es) none c.loop-line.invariant.going) in
     subst (λ (held : Triggers × Lanes). AreKept held.0 (merged (map.remove held.1 c.args.cpu)) c.loop-line.tables) (λ i. (c.triggers-triggers.ensures i, c.lanes-lanes.ensures.lanes i)) kept

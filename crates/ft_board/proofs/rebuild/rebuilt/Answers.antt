@@ -1,12 +1,13 @@
 use Rattle.std.proofs.Common.{◌≡◌, ℕ, List, [], ◌∷◌, true, refl, sym, ap, subst, ◌∙◌}
 use Rattle.std.specs.Ordering.{nat_cmp}
 use Rattle.std.specs.FinMap as map
-use Rattle.std.specs.Map.Iter.{deref, deref_pair}
+use Rattle.std.specs.Map.Iter.{deref_pair}
 use Rattle.std.proofs.lemmas.Map.Iter.{rest_more, rest_all}
 use Rattle.ft_hist.specs.Hist.{Hist}
 use Rattle.ft_lanes.specs.Held.{Lanes}
 use Rattle.ft_maps.specs.Mapped.{entries_by}
 use Rattle.ft_maps.specs.Seen.{seen}
+use Rattle.ft_store.specs.Stored.{held}
 use Rattle.ft_base.specs.Base.{Triggers}
 use Rattle.ft_replay.proofs.Stepping.{grow_none, grow_more}
 use Rattle.ft_board.proofs.AtOnce.{named_listed}
@@ -35,7 +36,7 @@ put_events-requires c =
     record {
       savers = c.requires;
       attached = is.attached.0;
-      listed = named_listed triggers lanes e.0 e.1 is.attached.0 (entries_by deref c.deref.result.now) (ap (entries_by deref) c.deref.ensures.value ∙ c.in_ok-events.ensures);
+      listed = named_listed triggers lanes e.0 e.1 is.attached.0 (entries_by held c.deref.result.now) (ap (entries_by held) c.deref.ensures.value ∙ c.in_ok-events.ensures);
       can = record { idle = left_in (λ _. true) (e ∷ c.next.new.self); here = first_idle triggers lanes (λ _. true) e c.next.new.self c.loop-id.tables is refl; kept = is.idle };
     }
 

@@ -29,7 +29,7 @@ event_comes-repaired-requires-clause-shelved c =
 pub event_comes-repaired-requires-clause-can : goal.event_comes-repaired-requires-clause-can
 event_comes-repaired-requires-clause-can c =
     let base : Base = c.args.content.now in
-    let event : Traced = c.in-Some-get.event.now in
+    let event : Traced = c.in-Some-get.event in
     let kept : AreKeptWithout c.args.content.now c.args.place c.in-Some.tables = subst (λ (o : Option Shelves). IfSome o (AreKeptWithout c.args.content.now c.args.place)) (sym c.in-Some.ensures.value) c.requires in
     let there : event_at base.lanes c.args.place.cpu c.args.place.line ≡ Some event = ap (λ (lanes : Lanes). event_at lanes c.args.place.cpu c.args.place.line) (sym c.lanes-lanes.ensures.lanes) ∙ sym c.in-Some-get.ensures in
     let stamp : c.event.inside.stamp ≡ event.stamp = ap (λ (e : Traced). e.stamp) c.event.view_is in
@@ -40,7 +40,7 @@ event_comes-repaired-requires-clause-can c =
 pub returns-clause-kept : goal.returns-clause-kept
 returns-clause-kept c =
     let base : Base = c.args.content.now in
-    let event : Traced = c.in-Some-get.event.now in
+    let event : Traced = c.in-Some-get.event in
     let kept : AreKeptWithout c.args.content.now c.args.place c.in-Some.tables = subst (λ (o : Option Shelves). IfSome o (AreKeptWithout c.args.content.now c.args.place)) (sym c.in-Some.ensures.value) c.requires in
     let there : event_at base.lanes c.args.place.cpu c.args.place.line ≡ Some event = ap (λ (lanes : Lanes). event_at lanes c.args.place.cpu c.args.place.line) (sym c.lanes-lanes.ensures.lanes) ∙ sym c.in-Some-get.ensures in
     let stamp : c.event.inside.stamp ≡ event.stamp = ap (λ (e : Traced). e.stamp) c.event.view_is in
@@ -54,7 +54,7 @@ returns-clause-kept c =
 pub returns-clause-costs : goal.returns-clause-costs
 returns-clause-costs c =
     let base : Base = c.args.content.now in
-    let event : Traced = c.in-Some-get.event.now in
+    let event : Traced = c.in-Some-get.event in
     let kept : AreKeptWithout c.args.content.now c.args.place c.in-Some.tables = subst (λ (o : Option Shelves). IfSome o (AreKeptWithout c.args.content.now c.args.place)) (sym c.in-Some.ensures.value) c.requires in
     let there : event_at base.lanes c.args.place.cpu c.args.place.line ≡ Some event = ap (λ (lanes : Lanes). event_at lanes c.args.place.cpu c.args.place.line) (sym c.lanes-lanes.ensures.lanes) ∙ sym c.in-Some-get.ensures in
     let stamp : c.event.inside.stamp ≡ event.stamp = ap (λ (e : Traced). e.stamp) c.event.view_is in
@@ -70,7 +70,7 @@ returns-in_default-get-clause-now c missed gone =
 pub returns-clause-now : goal.returns-clause-now
 returns-clause-now c missed gone =
     let base : Base = c.args.content.now in
-    let event : Traced = c.in-Some-get.event.now in
+    let event : Traced = c.in-Some-get.event in
     let there : event_at base.lanes c.args.place.cpu c.args.place.line ≡ Some event = ap (λ (lanes : Lanes). event_at lanes c.args.place.cpu c.args.place.line) (sym c.lanes-lanes.ensures.lanes) ∙ sym c.in-Some-get.ensures in
     let same : missed.0 ≡ event = ap (λ (o : Option Traced). unwrap_or o event) (sym missed.1.0 ∙ there) in
     let none : IsNoHit base.triggers event = subst (IsNoHit base.triggers) same missed.1.1 in
@@ -84,7 +84,7 @@ returns-clause-forms c =
 pub returns-clause-quiet : goal.returns-clause-quiet
 returns-clause-quiet c plain =
     let base : Base = c.args.content.now in
-    let event : Traced = c.in-Some-get.event.now in
+    let event : Traced = c.in-Some-get.event in
     let kept : AreKeptWithout base c.args.place c.in-Some.tables = subst (λ (o : Option Shelves). IfSome o (AreKeptWithout base c.args.place)) (sym c.in-Some.ensures.value) c.requires in
     let there : event_at base.lanes c.args.place.cpu c.args.place.line ≡ Some event = ap (λ (lanes : Lanes). event_at lanes c.args.place.cpu c.args.place.line) (sym c.lanes-lanes.ensures.lanes) ∙ sym c.in-Some-get.ensures in
     let same : plain.0 ≡ event = ap (λ (o : Option Traced). unwrap_or o event) (sym plain.1.0 ∙ there) in
@@ -96,7 +96,7 @@ returns-clause-quiet c plain =
 pub returns-clause-acted : goal.returns-clause-acted
 returns-clause-acted c =
     let base : Base = c.args.content.now in
-    let event : Traced = c.in-Some-get.event.now in
+    let event : Traced = c.in-Some-get.event in
     let there : event_at base.lanes c.args.place.cpu c.args.place.line ≡ Some event = ap (λ (lanes : Lanes). event_at lanes c.args.place.cpu c.args.place.line) (sym c.lanes-lanes.ensures.lanes) ∙ sym c.in-Some-get.ensures in
     let after : Shelves = c.event_comes-repaired.new.self in
     subst (λ (o : Option Shelves). IfSome o (λ _. GathersAt base c.args.place c.args.acted.now c.event_comes-repaired.new.acted)) (sym c.put_back.ensures)

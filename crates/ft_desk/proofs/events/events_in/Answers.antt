@@ -14,7 +14,7 @@ loop-line-preserved c =
     let behind = c.in-Some.behind.now in
     let step = c.in_ok-add_line.ensures.ok (events_from (c.loop-line.number + 1) (lines_of behind)) in
     record {
-      same = read_more c.args.text.now c.loop-line.rest.now line behind _ c.loop-line.events.items c.add_line.new.events.items c.loop-line.invariant.same c.in-Some.ensures.cut step;
+      same = read_more c.args.text.now c.loop-line.rest.now line behind _ c.loop-line.events c.add_line.new.events c.loop-line.invariant.same c.in-Some.ensures.cut step;
       counted = omega (arith, c.in-Some.ensures.shorter);
     }
 
@@ -26,5 +26,5 @@ returns-in_err-add_line c =
     rw (same.1, same.2)
     (elim c.in_err-add_line.ensures.err [
       | inl memory ↦ inl memory
-      | inr bad ↦ inr (read_refused c.args.text.now c.loop-line.rest.now line behind _ c.loop-line.events.items _ c.loop-line.invariant.same c.in-Some.ensures.cut (bad (events_from (c.loop-line.number + 1) (lines_of behind))))
+      | inr bad ↦ inr (read_refused c.args.text.now c.loop-line.rest.now line behind _ c.loop-line.events _ c.loop-line.invariant.same c.in-Some.ensures.cut (bad (events_from (c.loop-line.number + 1) (lines_of behind))))
     ])

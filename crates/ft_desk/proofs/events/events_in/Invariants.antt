@@ -6,7 +6,7 @@ use Rattle.ft_desk.proofs.events.events_in.Given as goal
 
 abbrev pub invariant-loop-line : goal.invariant-loop-line
 invariant-loop-line l = record {
-  same : in_front l.events.items (events_from l.number (lines_of l.rest)) ≡ events_of l.fn.text;
+  same : in_front l.events (events_from l.number (lines_of l.rest)) ≡ events_of l.fn.text;
   counted : l.number + length l.rest ≤ length l.fn.text + 1;
 }
 

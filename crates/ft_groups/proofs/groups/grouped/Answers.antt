@@ -1,8 +1,7 @@
 -- One event more, which is a hit or none.
-use Rattle.std.proofs.Common.{◌≡◌, ◌+◌, ◌<◌, ◌≤◌, ◌++◌, ◌∷◌, ℕ, Bool, true, false, List, [], length, get_or, take, Bor, sym, ap, subst, ◌∙◌, arith, refl}
+use Rattle.std.proofs.Common.{◌≡◌, ◌+◌, ◌<◌, ◌≤◌, ◌++◌, ◌∷◌, ℕ, Bool, true, false, List, [], length, get_or, take, sym, ap, subst, ◌∙◌, arith, refl}
 use Rattle.std.specs.Prelude.{if◌then◌else◌}
 use Rattle.std.specs.FinMap as map
-use Rattle.std.specs.Map.Iter.{deref}
 use Rattle.std.proofs.lemmas.List.{take_more, map-append}
 use Rattle.ft_fields.specs.declared.pos.Pos.{Pos}
 use Rattle.ft_fields.specs.Traced.{Traced, name_of}
@@ -10,6 +9,8 @@ use Rattle.ft_hist.specs.Hist.{Hist}
 use Rattle.ft_hist.specs.Hit.{same_name}
 use Rattle.ft_hist.specs.Tests.{asked}
 use Rattle.ft_maps.specs.Mapped.{entries_by}
+use Rattle.ft_store.specs.Stored.{held}
+use Rattle.ft_store.specs.declared.stored.Stored.{Stored}
 use Rattle.ft_groups.specs.declared.sorted.Sorted.{Sorted}
 use Rattle.ft_groups.specs.Grouped.{Grouped}
 use Rattle.ft_groups.specs.inner.Sorted.{IsSorted, groups_of}
@@ -18,12 +19,12 @@ use Rattle.ft_groups.proofs.groups.grouped.Goals.{in-Some+in_ok-add, in_default}
 use Rattle.ft_groups.proofs.groups.grouped.Goals as goal
 
 -- the events so far, with the next
-next_too : (es : List (Pos × Bor Traced)) (i : ℕ) (e : Pos × Bor Traced) → i < length es → e ≡ get_or es i e
-    → entries_by deref (take (i + 1) es) ≡ entries_by deref (take i es) ++ (e.0, e.1.now) ∷ []
+next_too : (es : List (Pos × Stored)) (i : ℕ) (e : Pos × Stored) → i < length es → e ≡ get_or es i e
+    → entries_by held (take (i + 1) es) ≡ entries_by held (take i es) ++ (e.0, held e.1) ∷ []
 next_too es i e within is =
-    ap (entries_by deref) (take_more es i e within)
-    ∙ map-append (λ (x : Pos × Bor Traced). (x.0, deref x.1)) (take i es) (get_or es i e ∷ [])
-    ∙ ap (λ (x : Pos × Bor Traced). entries_by deref (take i es) ++ (x.0, x.1.now) ∷ []) (sym is)
+    ap (entries_by held) (take_more es i e within)
+    ∙ map-append (λ (x : Pos × Stored). (x.0, held x.1)) (take i es) (get_or es i e ∷ [])
+    ∙ ap (λ (x : Pos × Stored). entries_by held (take i es) ++ (x.0, held x.1) ∷ []) (sym is)
 
 -- an event takes one test at most
 asked_once : (hist : Hist) (event : Traced) → asked hist event ≤ 1
@@ -48,8 +49,8 @@ loop-pos-init c = record {
 pub loop-pos-preserved : goal.loop-pos-preserved
 loop-pos-preserved c =
     let hist : Hist = c.args.trigger.now in
-    let before : List (Pos × Traced) = entries_by deref (take c.loop-pos.pos-index c.args.events.now) in
-    let event : Pos × Traced = (c.loop-pos-item.result.0, c.loop-pos-item.result.1.now) in
+    let before : List (Pos × Traced) = entries_by held (take c.loop-pos.pos-index c.args.events.now) in
+    let event : Pos × Traced = (c.loop-pos-item.result.0, held c.loop-pos-item.result.1) in
     let more = next_too c.args.events.now c.loop-pos.pos-index c.loop-pos-item.result c.loop-pos-test.true c.loop-pos-item.is in
     let was : Sorted = c.loop-pos.sorted in
     let groups : Grouped = groups_of was in

@@ -6,9 +6,9 @@ use Rattle.std.specs.Cmp.{nat_cmp_total}
 use Rattle.std.specs.FinMap as map
 use Rattle.std.specs.FinMap.{nat_cmp-IsAntisymmetric}
 use Rattle.ft_maps.specs.Seen.{seen, get-seen, seen-found}
-use Rattle.ft_kept.specs.Shelves.{Shelves}
+use Rattle.ft_shelves.specs.Shelves.{Shelves}
 use Rattle.ft_kept.proofs.AtOnce.{joined_forms, saver_kept}
-use Rattle.ft_kept.proofs.Decided.{on_ok_as}
+use Rattle.ft_shelves.proofs.Decided.{on_ok_as}
 use Rattle.ft_kept.proofs.Forms.{ops_by, role_at}
 use Rattle.ft_kept.proofs.Noting.{notes_saver}
 use Rattle.ft_kept.proofs.Putting.{written, unwritten, shelved_there}

@@ -4,9 +4,10 @@ use Rattle.std.proofs.lemmas.Result.{on_ok_weaker}
 use Rattle.ft_groups.specs.Grouped.{run_of}
 use Rattle.ft_pairs.specs.Runs.{FindEach, with_reads}
 use Rattle.ft_pairs.specs.declared.at.At.{At}
-use Rattle.ft_kept.specs.Shelves.{ChangesShelf, kept_on}
-use Rattle.ft_kept.specs.inner.Edits.{OpsChange}
-use Rattle.ft_kept.specs.inner.JoiningReads.{RunComes, hits_found, readings_found, reads_of_run}
+use Rattle.ft_shelves.specs.Shelves.{ChangesShelf, kept_on}
+use Rattle.ft_shelves.specs.Edits.{OpsChange}
+use Rattle.ft_shelves.specs.Joining.{RunComes}
+use Rattle.ft_kept.specs.inner.JoiningReads.{hits_found, readings_found, reads_of_run}
 use Rattle.ft_kept.proofs.AtOnceRead.{length_reads}
 use Rattle.ft_kept.proofs.Forms.{read_hits}
 use Rattle.ft_kept.proofs.at_once_read.key_comes.Goals as goal

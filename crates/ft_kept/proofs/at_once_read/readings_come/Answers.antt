@@ -7,7 +7,7 @@ use Rattle.ft_fields.specs.declared.pos.Pos.{Pos}
 use Rattle.ft_keys.specs.declared.key.Part.{Part}
 use Rattle.ft_maps.specs.Seen.{seen}
 use Rattle.ft_kept.proofs.AtOnceRead.{ReadingsCame, all_forms, all_kept, came_more, next_none, none_came, saver_stays}
-use Rattle.ft_kept.proofs.KeyByKey.{IsOnce, first_key, keys_once}
+use Rattle.ft_shelves.proofs.KeyByKey.{IsOnce, first_key, keys_once}
 use Rattle.ft_kept.proofs.at_once_read.readings_come.Goals as goal
 
 pub loop-key-init : goal.loop-key-init

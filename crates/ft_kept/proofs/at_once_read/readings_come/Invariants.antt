@@ -3,7 +3,7 @@ use Rattle.std.specs.Ordering.{nat_cmp}
 use Rattle.ft_hist.specs.Steps.{StepsGrow}
 use Rattle.ft_maps.specs.Seen.{seen}
 use Rattle.ft_kept.proofs.AtOnceRead.{ReadingsCame}
-use Rattle.ft_kept.proofs.KeyByKey.{IsOnce}
+use Rattle.ft_shelves.proofs.KeyByKey.{IsOnce}
 use Rattle.ft_kept.proofs.at_once_read.readings_come.Given as goal
 
 abbrev pub invariant-loop-key : goal.invariant-loop-key

@@ -1,18 +1,18 @@
 -- Each event of the run gives its read.
-use Rattle.std.proofs.Common.{◌≡◌, ◌++◌, List, [], drop, Bor, refl, ap, ◌∙◌}
-use Rattle.std.specs.Map.Iter.{deref}
+use Rattle.std.proofs.Common.{◌≡◌, ◌++◌, List, [], drop, refl, ap, ◌∙◌}
 use Rattle.std.proofs.lemmas.List.{drop_all}
-use Rattle.ft_fields.specs.Traced.{Traced}
 use Rattle.ft_fields.specs.declared.pos.Pos.{Pos}
 use Rattle.ft_maps.specs.Mapped.{entries_by}
+use Rattle.ft_store.specs.Stored.{held}
+use Rattle.ft_store.specs.declared.stored.Stored.{Stored}
 use Rattle.ft_kept.specs.inner.JoiningReads.{reads_of_run}
-use Rattle.ft_kept.proofs.KeyByKey.{first_event, made_all, made_more}
+use Rattle.ft_shelves.proofs.KeyByKey.{first_event, made_all, made_more}
 use Rattle.ft_kept.proofs.at_once_read.reads_of.Goals as goal
 
 pub loop-pos-init : goal.loop-pos-init
 loop-pos-init c =
     let id = c.args.joining.now.id in
-    ap (λ reads. reads ++ reads_of_run id (entries_by deref c.run-run.result.now)) c.in_ok-reads.ensures.items ∙ ap (reads_of_run id) c.run-run.ensures
+    ap (λ reads. reads ++ reads_of_run id (entries_by held c.run-run.result.now)) c.in_ok-reads.ensures.items ∙ ap (reads_of_run id) c.run-run.ensures
 
 pub loop-pos-preserved : goal.loop-pos-preserved
 loop-pos-preserved c =
@@ -21,6 +21,6 @@ loop-pos-preserved c =
 
 pub returns : goal.returns
 returns c =
-    let items : List (Pos × Bor Traced) = c.run-run.result.now in
-    let none : entries_by deref (drop c.loop-pos.pos-index items) ≡ [] = ap (entries_by deref) (drop_all c.loop-pos.pos-index items c.loop-pos-test.false) in
+    let items : List (Pos × Stored) = c.run-run.result.now in
+    let none : entries_by held (drop c.loop-pos.pos-index items) ≡ [] = ap (entries_by held) (drop_all c.loop-pos.pos-index items c.loop-pos-test.false) in
     made_all c.loop-pos.reads.items _ _ (ap (reads_of_run c.args.joining.now.id) none) c.loop-pos.invariant

@@ -14,7 +14,7 @@ use Rattle.ft_table.specs.Growth.{with_hit}
 use Rattle.ft_table.specs.Values.{values_at}
 use Rattle.ft_table.specs.Spots.{traced}
 use Rattle.ft_kept.specs.Repairs.{CanCome, HasCome}
-use Rattle.ft_kept.specs.Shelves.{Shelves}
+use Rattle.ft_shelves.specs.Shelves.{Shelves}
 use Rattle.ft_kept.proofs.Between.{none_came}
 use Rattle.ft_kept.proofs.FewPuts.{act_few}
 use Rattle.ft_kept.proofs.Forms.{forms_refl}

@@ -7,9 +7,9 @@ use Rattle.std.specs.FinMap as map
 use Rattle.std.specs.FinMap.{nat_cmp-IsAntisymmetric}
 use Rattle.ft_maps.specs.Seen.{seen, get-seen, seen-found}
 use Rattle.ft_table.specs.Spots.{traced}
-use Rattle.ft_table.specs.declared.spot.Spot.{Spot}
-use Rattle.ft_kept.specs.Shelves.{Shelves, kept_on}
-use Rattle.ft_kept.specs.inner.Edits.{with_hit_on}
+use Rattle.ft_hits.specs.declared.spot.Spot.{Spot}
+use Rattle.ft_shelves.specs.Shelves.{Shelves, kept_on}
+use Rattle.ft_shelves.specs.Edits.{with_hit_on}
 use Rattle.ft_kept.proofs.FewPuts.{savers_but}
 use Rattle.ft_kept.proofs.Forms.{hits_by}
 use Rattle.ft_table.specs.Values.{values_at}

@@ -5,7 +5,7 @@ use Rattle.ft_kept.proofs.Putting.{stamped}
 use Rattle.ft_kept.proofs.Reading.{reading_free, put_shelved, put_reads, put_own, settled_shelved, settled_forms, settled_partly, read_comes}
 use Rattle.ft_kept.proofs.FewPuts.{reading_savers}
 use Rattle.ft_kept.proofs.Forms.{forms_trans, readers_forms}
-use Rattle.ft_kept.proofs.Decided.{on_ok_both}
+use Rattle.ft_shelves.proofs.Decided.{on_ok_both}
 use Rattle.ft_kept.proofs.comes.reading_comes.Goals as goal
 
 pub put_read-requires : goal.put_read-requires

@@ -13,7 +13,7 @@ use Rattle.ft_pairs.specs.declared.at.At.{At}
 use Rattle.ft_table.specs.OneKey.{without_hit}
 use Rattle.ft_table.specs.Spots.{traced}
 use Rattle.ft_kept.specs.Repairs.{CanGo, HasGone}
-use Rattle.ft_kept.specs.Shelves.{Shelves}
+use Rattle.ft_shelves.specs.Shelves.{Shelves}
 use Rattle.ft_kept.proofs.Between.{none_went}
 use Rattle.ft_kept.proofs.FewPuts.{act_few}
 use Rattle.ft_kept.proofs.Forms.{forms_refl}

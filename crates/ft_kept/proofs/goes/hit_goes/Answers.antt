@@ -2,7 +2,7 @@ use Rattle.std.proofs.Common.{ap}
 use Rattle.std.specs.Ordering.{nat_cmp}
 use Rattle.ft_maps.specs.Seen.{seen}
 use Rattle.ft_table.specs.Spots.{traced}
-use Rattle.ft_kept.specs.inner.Edits.{TakesHit}
+use Rattle.ft_shelves.specs.Edits.{TakesHit}
 use Rattle.ft_kept.proofs.FewPuts.{savers_but}
 use Rattle.ft_kept.proofs.HitGoes.{plain_goes}
 use Rattle.ft_kept.proofs.Quiet.{quiet_changed}

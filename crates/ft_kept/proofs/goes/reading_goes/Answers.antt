@@ -1,7 +1,7 @@
 -- What it found is noted; it goes with what it counted, then its read, and then the next reading is right.
 use Rattle.std.specs.Ordering.{nat_cmp}
 use Rattle.ft_maps.specs.Seen.{seen}
-use Rattle.ft_kept.proofs.Decided.{on_ok_both}
+use Rattle.ft_shelves.proofs.Decided.{on_ok_both}
 use Rattle.ft_kept.proofs.FewPuts.{reading_less_savers}
 use Rattle.ft_kept.proofs.ReadingGoes.{went_shelved, went_partly, read_goes, read_goes_forms}
 use Rattle.ft_kept.proofs.Taking.{note_then_take}

@@ -3,7 +3,7 @@ use Rattle.std.proofs.Common.{sym, ap, ◌∙◌}
 use Rattle.std.proofs.lemmas.Result.{on_ok_weaker}
 use Rattle.std.specs.Ordering.{nat_cmp}
 use Rattle.ft_maps.specs.Seen.{seen}
-use Rattle.ft_kept.specs.inner.Following.{Moves}
+use Rattle.ft_shelves.specs.Following.{Moves}
 use Rattle.ft_kept.proofs.Paying.{IsOtherPaid, other_paid, no_other_paid, paid_shelved, paid_partly, paid_readers, own_pays, next_pays}
 use Rattle.ft_kept.proofs.moved.settle_moved.Goals as goal
 use Rattle.ft_kept.proofs.moved.settle_moved.Goals.{in-Some+in_ok-settle_key, in_default}

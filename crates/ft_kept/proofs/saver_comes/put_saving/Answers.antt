@@ -8,12 +8,12 @@ use Rattle.ft_maps.specs.Seen.{seen, get-seen, seen-found}
 use Rattle.ft_pairs.specs.ByKey.{ops_of}
 use Rattle.ft_table.specs.Growth.{with_hit}
 use Rattle.ft_table.specs.Tabled.{is_in}
-use Rattle.ft_kept.specs.Shelves.{Shelves}
-use Rattle.ft_kept.specs.Switches.{HasMoved}
+use Rattle.ft_shelves.specs.Shelves.{Shelves}
+use Rattle.ft_shelves.specs.Switches.{HasMoved}
 use Rattle.ft_kept.specs.inner.Acting.{with_act}
-use Rattle.ft_table.specs.declared.spot.Spot.{Spot}
-use Rattle.ft_kept.specs.inner.Following.{HitFollows, MovesKeys}
-use Rattle.ft_kept.proofs.Decided.{if_ok_both}
+use Rattle.ft_hits.specs.declared.spot.Spot.{Spot}
+use Rattle.ft_shelves.specs.Following.{HitFollows, MovesKeys}
+use Rattle.ft_shelves.proofs.Decided.{if_ok_both}
 use Rattle.ft_kept.proofs.Putting.{stamped, traced_hit, written, unwritten, shelved_there}
 use Rattle.ft_kept.proofs.SaverHits.{saver_forms, saver_free, saver_moved, saver_outside, saver_owing, saver_unsaved}
 use Rattle.ft_kept.proofs.SaverTables.{table_written, table_moves}

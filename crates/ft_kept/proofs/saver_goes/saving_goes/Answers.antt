@@ -3,7 +3,7 @@ use Rattle.std.proofs.Common.{◌+◌, arith, inl, inr}
 use Rattle.std.specs.Ordering.{nat_cmp}
 use Rattle.ft_maps.specs.Seen.{seen}
 use Rattle.ft_kept.specs.inner.Acting.{without_act}
-use Rattle.ft_kept.proofs.Decided.{on_ok_both}
+use Rattle.ft_shelves.proofs.Decided.{on_ok_both}
 use Rattle.ft_kept.proofs.Forms.{forms_trans, readers_forms, shelved_stay}
 use Rattle.ft_kept.proofs.SavingGoes.{taken_partly, taken_has_gone}
 use Rattle.ft_kept.proofs.SaverTables.{few_or_moves, savers_stay}

@@ -5,9 +5,9 @@ use Rattle.std.specs.Cmp.{nat_cmp_total}
 use Rattle.std.specs.FinMap as map
 use Rattle.std.specs.FinMap.{nat_cmp-IsAntisymmetric}
 use Rattle.ft_maps.specs.Seen.{seen, get-seen, seen-found}
-use Rattle.ft_kept.specs.Shelves.{Shelves}
+use Rattle.ft_shelves.specs.Shelves.{Shelves}
 use Rattle.ft_kept.specs.inner.Acting.{without_act}
-use Rattle.ft_kept.proofs.Decided.{if_ok_both}
+use Rattle.ft_shelves.proofs.Decided.{if_ok_both}
 use Rattle.ft_kept.proofs.Putting.{written, unwritten}
 use Rattle.ft_kept.proofs.SaverGone.{gone_forms, gone_moved, gone_owing, goes_outside, saver_there}
 use Rattle.ft_kept.proofs.SaverTables.{table_written, table_moves}

@@ -7,8 +7,8 @@ use Rattle.std.proofs.lemmas.Result.{on_ok_weaker}
 use Rattle.ft_maps.specs.Seen.{seen, get-seen, seen-found}
 use Rattle.ft_pairs.specs.Source.{IsSource}
 use Rattle.ft_table.specs.Spots.{traced}
-use Rattle.ft_kept.specs.Shelves.{Shelves, kept_on}
-use Rattle.ft_kept.specs.inner.Edits.{with_hit_on, without_hit_on}
+use Rattle.ft_shelves.specs.Shelves.{Shelves, kept_on}
+use Rattle.ft_shelves.specs.Edits.{with_hit_on, without_hit_on}
 use Rattle.ft_table.specs.Values.{values_at, values_by}
 use Rattle.ft_kept.specs.contracts.tables.Tables as tables
 use Rattle.ft_kept.proofs.Putting.{traced_hit}

@@ -5,7 +5,7 @@ use Rattle.ft_pairs.specs.Next.{IsNext}
 use Rattle.ft_pairs.specs.Source.{Ops}
 use Rattle.ft_kept.specs.Entries.{IsKeptBut}
 use Rattle.ft_kept.specs.inner.Settling.{without_next_read, without_reads_of}
-use Rattle.ft_kept.specs.Shelves.{role_on, kept_on}
+use Rattle.ft_shelves.specs.Shelves.{role_on, kept_on}
 use Rattle.ft_table.specs.Values.{values_by}
 use Rattle.ft_kept.proofs.Forms.{readers_refl, readers_trans, readers_forms, readers_ops, shelved_stay}
 use Rattle.ft_kept.proofs.Paid.{owes_less, pays_then, pays_partly}

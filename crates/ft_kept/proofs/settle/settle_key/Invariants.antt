@@ -4,7 +4,7 @@ use Rattle.ft_pairs.specs.declared.at.At.{At}
 use Rattle.ft_pairs.specs.declared.at.Op.{Op}
 use Rattle.ft_kept.specs.inner.Acting.{Paid}
 use Rattle.ft_kept.specs.inner.Edits.{ReadersChange, left_on}
-use Rattle.ft_kept.specs.Shelves.{kept_on}
+use Rattle.ft_shelves.specs.Shelves.{kept_on}
 use Rattle.ft_kept.proofs.Walks.{on_walk}
 use Rattle.ft_kept.proofs.settle.settle_key.Given as goal
 

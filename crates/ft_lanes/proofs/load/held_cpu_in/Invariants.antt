@@ -7,7 +7,7 @@ use Rattle.ft_lanes.specs.Held.{HasCpu}
 use Rattle.ft_lanes.specs.inner.Slots.{first_cpu}
 use Rattle.ft_lanes.proofs.load.held_cpu_in.Given as goal
 
-abbrev pub invariant-loop-event : goal.invariant-loop-event
-invariant-loop-event l =
-    (first_cpu (map.contains_key (seen nat_cmp l.lanes)) l.events ≡ first_cpu (map.contains_key (seen nat_cmp l.lanes)) (drop l.event-index l.events))
-    × ((k : ℕ) (event : Traced) → k < l.event-index → HasCpu (get_or l.events k event))
+abbrev pub invariant-loop-place : goal.invariant-loop-place
+invariant-loop-place l =
+    (first_cpu (map.contains_key (seen nat_cmp l.lanes)) l.events ≡ first_cpu (map.contains_key (seen nat_cmp l.lanes)) (drop l.place l.events))
+    × ((k : ℕ) (event : Traced) → k < l.place → HasCpu (get_or l.events k event))

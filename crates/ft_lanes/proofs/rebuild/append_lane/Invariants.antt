@@ -7,5 +7,5 @@ use Rattle.ft_lanes.proofs.rebuild.append_lane.Given as goal
 -- with the lines that are left it is all of them
 abbrev pub invariant-loop-line : goal.invariant-loop-line
 invariant-loop-line l =
-    (l.store.items ++ values_of l.line-iterator ≡ l.initial.store.items ++ values_of (map.entries l.lane.events))
-    × (l.lines.items ++ placed_from (length l.store.items) (keys_of l.line-iterator) ≡ placed_from (length l.initial.store.items) (keys_of (map.entries l.lane.events)))
+    (l.store ++ values_of l.line-iterator ≡ l.initial.store ++ values_of (map.entries l.lane.events))
+    × (l.lines.items ++ placed_from (length l.store) (keys_of l.line-iterator) ≡ placed_from (length l.initial.store) (keys_of (map.entries l.lane.events)))

@@ -9,7 +9,7 @@ use Rattle.ft_lanes.proofs.Copies.{copy-ascends, copy-below}
 use Rattle.ft_lanes.proofs.rebuild.copy_lane.Goals as goal
 
 pub of-requires-clause-ascending : goal.of-requires-clause-ascending
-of-requires-clause-ascending c = subst (λ l. IsStrictlySortedBy nat_cmp (keys_of l)) (sym c.in_ok-lines.ensures.lines) (copy-ascends (length c.args.store.now.items) c.args.lane.now)
+of-requires-clause-ascending c = subst (λ l. IsStrictlySortedBy nat_cmp (keys_of l)) (sym c.in_ok-lines.ensures.lines) (copy-ascends (length c.args.store.now) c.args.lane.now)
 
 pub of-requires-clause-below : goal.of-requires-clause-below
-of-requires-clause-below c = subst (λ l. AreBelow c.next.result (map.from_entries l)) (sym c.in_ok-lines.ensures.lines) (copy-below (length c.args.store.now.items) c.args.lane.now c.next.result c.next.ensures.above)
+of-requires-clause-below c = subst (λ l. AreBelow c.next.result (map.from_entries l)) (sym c.in_ok-lines.ensures.lines) (copy-below (length c.args.store.now) c.args.lane.now c.next.result c.next.ensures.above)

@@ -6,6 +6,6 @@ use Rattle.ft_made.proofs.tables.made_of_pair.Goals as goal
 
 pub returns-in-Some-clause-stamped : goal.returns-in-Some-clause-stamped
 returns-in-Some-clause-stamped c =
-    let stamped : c.args.pair.read.stamp ≡ c.in-Some.event.now.stamp = c.in-Some.ensures.stamped in
+    let stamped : c.args.pair.read.stamp ≡ c.in-Some.event.stamp = c.in-Some.ensures.stamped in
     subst (λ (o : Option Traced). IfSome o (λ made. c.args.pair.read.stamp ≡ made.stamp)) (sym (c.made.ensures c.args.pair.read stamped))
-    (made_stamp c.args.maker.now c.args.pair.read c.in-Some.event.now c.args.pair.saved stamped)
+    (made_stamp c.args.maker.now c.args.pair.read c.in-Some.event c.args.pair.saved stamped)

@@ -1,8 +1,8 @@
 use Rattle.std.proofs.Common.{◌≡◌, [], ap, ◌∙◌}
 use Rattle.std.specs.FinMap as map
-use Rattle.std.specs.Map.Iter.{deref}
 use Rattle.ft_lanes.specs.Held.{Lanes}
 use Rattle.ft_maps.specs.Mapped.{entries_by}
+use Rattle.ft_store.specs.Stored.{held}
 use Rattle.ft_replay.specs.Chosen.{lanes_but}
 use Rattle.ft_replay.specs.Merged.{merged}
 use Rattle.ft_replay.specs.Named.{events_on, has_name}
@@ -15,6 +15,6 @@ returns c =
     let lanes : Lanes = c.args.lanes.now in
     let same = ap (λ (l : Lanes). map.entries (events_on (has_name c.args.names) (merged l))) (but_none lanes) in
     if_ok c.events_but.result
-    (λ events. entries_by deref events.items ≡ map.entries (events_on (has_name c.args.names) (merged (lanes_but [] lanes))))
-    (λ events. entries_by deref events.items ≡ map.entries (events_on (has_name c.args.names) (merged lanes)))
+    (λ events. entries_by held events.items ≡ map.entries (events_on (has_name c.args.names) (merged (lanes_but [] lanes))))
+    (λ events. entries_by held events.items ≡ map.entries (events_on (has_name c.args.names) (merged lanes)))
     (λ _ is. is ∙ same) c.events_but.ensures

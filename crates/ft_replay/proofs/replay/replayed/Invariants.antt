@@ -1,7 +1,6 @@
 use Rattle.std.proofs.Common.{◌≡◌, drop}
 use Rattle.std.specs.Prelude.{fold}
 use Rattle.std.specs.Map.{keys_of}
-use Rattle.std.specs.Map.Iter.{deref}
 use Rattle.std.specs.List.{AllByRecursion}
 use Rattle.std.specs.List.Sorted.{IsStrictlySortedBy}
 use Rattle.std.specs.Ordering.{nat_cmp}
@@ -9,6 +8,7 @@ use Rattle.std.specs.FinMap as map
 use Rattle.ft_fields.specs.Places.{pos_cmp}
 use Rattle.ft_maps.specs.Mapped.{entries_by}
 use Rattle.ft_maps.specs.Seen.{seen}
+use Rattle.ft_store.specs.Stored.{held}
 use Rattle.ft_replay.specs.Merged.{merged}
 use Rattle.ft_replay.specs.Named.{named}
 use Rattle.ft_replay.specs.Replay.{step, started}
@@ -21,11 +21,11 @@ use Rattle.ft_replay.proofs.replay.replayed.Given as goal
 -- the events that are left lead where all events lead; their places have their stamps, ascend, and stand behind all hits; each trigger has its counter; no count of steps fell
 abbrev pub invariant-loop-pos : goal.invariant-loop-pos
 invariant-loop-pos l = record {
-  rest : fold (step (seen nat_cmp l.triggers)) (state_in (seen nat_cmp l.counters, seen variable_cmp l.saved)) (entries_by deref (drop l.pos-index l.pos-items))
+  rest : fold (step (seen nat_cmp l.triggers)) (state_in (seen nat_cmp l.counters, seen variable_cmp l.saved)) (entries_by held (drop l.pos-index l.pos-items))
       ≡ fold (step (seen nat_cmp l.triggers)) (record { tallies = started (seen nat_cmp l.triggers); variables = map.empty }) (map.entries (named (seen nat_cmp l.triggers) (merged l.lanes)));
-  sorted : IsStrictlySortedBy pos_cmp (keys_of (entries_by deref (drop l.pos-index l.pos-items)));
-  stamped : AllByRecursion (λ e. e.0.stamp ≡ e.1.stamp) (entries_by deref (drop l.pos-index l.pos-items));
+  sorted : IsStrictlySortedBy pos_cmp (keys_of (entries_by held (drop l.pos-index l.pos-items)));
+  stamped : AllByRecursion (λ e. e.0.stamp ≡ e.1.stamp) (entries_by held (drop l.pos-index l.pos-items));
   complete : HaveCounters (seen nat_cmp l.triggers) (seen nat_cmp l.counters);
-  before : AllByRecursion (λ e. AllBeforePlace e.0 (seen nat_cmp l.counters)) (entries_by deref (drop l.pos-index l.pos-items));
+  before : AllByRecursion (λ e. AllBeforePlace e.0 (seen nat_cmp l.counters)) (entries_by held (drop l.pos-index l.pos-items));
   grow : StepsGrow l.fn.work l.work;
 }

@@ -2,7 +2,7 @@
 use Rattle.std.proofs.Common.{◌≡◌, ℕ, ◌-◌, List, [], length, take, drop, map as list_map, ap, sym, subst, ◌∙◌, arith, eqb-true, IfOk}
 use Rattle.std.proofs.lemmas.List.{length-drop, take_all, drop_all}
 use Rattle.ft_keys.specs.declared.key.Part.{Part}
-use Rattle.ft_table.specs.declared.mark.Mark.{Mark}
+use Rattle.ft_hits.specs.declared.mark.Mark.{Mark}
 use Rattle.ft_table.specs.Tabled.{order_of}
 use Rattle.std.specs.List.{filter}
 use Rattle.ft_rivals.specs.Rivals.{is_of, rivals}

@@ -1,6 +1,6 @@
 use Rattle.std.proofs.Common.{◌≡◌, sym, rules}
 use Rattle.std.specs.declared.cmp.Ordering.TheVariants.{Less}
-use Rattle.ft_table.specs.Marks.{mark_cmp, mark_cmp_total}
+use Rattle.ft_hits.specs.Marks.{mark_cmp, mark_cmp_total}
 use Rattle.ft_table.proofs.Sorted.{rank-behind}
 use Rattle.ft_table.proofs.order.last_rank_of.Goals as goal
 

@@ -1,4 +1,4 @@
-use Rattle.ft_table.specs.Marks.{mark_cmp_total}
+use Rattle.ft_hits.specs.Marks.{mark_cmp_total}
 use Rattle.ft_table.proofs.Sorted.{rank-found, rank-missed}
 use Rattle.ft_table.proofs.order.rank_of.Goals as goal
 

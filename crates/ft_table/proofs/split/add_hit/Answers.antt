@@ -3,14 +3,14 @@ use Rattle.std.proofs.Common.{◌≡◌, ℕ, List, sym, ap, subst, ◌∙◌, a
 use Rattle.std.specs.Prelude.{IfSome, MatchOption}
 use Rattle.std.specs.declared.cmp.Ordering.TheVariants.{Less}
 use Rattle.std.specs.FinMap as map
-use Rattle.ft_table.specs.declared.spot.Spot.{Spot}
-use Rattle.ft_table.specs.Spots.{spot_cmp}
+use Rattle.ft_hits.specs.declared.spot.Spot.{Spot}
+use Rattle.ft_hits.specs.Spots.{spot_cmp}
 use Rattle.ft_keys.specs.declared.key.Part.{Part}
-use Rattle.ft_table.specs.declared.mark.Mark.{Mark}
+use Rattle.ft_hits.specs.declared.mark.Mark.{Mark}
 use Rattle.ft_table.specs.inner.Split.{IsSplit}
-use Rattle.ft_table.specs.inner.ByKey.{hits_in}
-use Rattle.ft_table.specs.Marks.{mark_of}
-use Rattle.ft_table.specs.Hits.{Hits, hitcount, first_place}
+use Rattle.ft_hits.specs.ByKey.{hits_in}
+use Rattle.ft_hits.specs.Marks.{mark_of}
+use Rattle.ft_hits.specs.Hits.{Hits, hitcount, first_place}
 use Rattle.ft_table.specs.Tabled.{order_of}
 use Rattle.ft_table.specs.inner.Moves.{order_before, with_less}
 use Rattle.ft_table.proofs.Appends.{order-behind}

@@ -4,8 +4,8 @@ use Rattle.ft_keys.specs.Ties.{key_same}
 use Rattle.ft_keys.specs.Parts.{key_cmp}
 use Rattle.ft_maps.specs.Seen.{seen}
 use Rattle.ft_table.specs.inner.Split.{IsSplit}
-use Rattle.ft_table.specs.inner.ByKey.{hits_in, flat}
-use Rattle.ft_table.specs.Hits.{Hits, hitcount}
+use Rattle.ft_hits.specs.ByKey.{hits_in, flat}
+use Rattle.ft_hits.specs.Hits.{Hits, hitcount}
 use Rattle.ft_table.specs.inner.Moves.{TakesHits}
 use Rattle.ft_table.proofs.Firsts.{order-some}
 use Rattle.ft_table.proofs.Runs.{flat-put, takes-none, count-key, order-key, split-key, first-key}

@@ -1,14 +1,14 @@
 use Rattle.std.proofs.Common.{◌≡◌, ℕ, ◌+◌, ◌-◌, List, [], false, cond, sym, ap, subst}
 use Rattle.std.specs.FinMap as map
 use Rattle.ft_keys.specs.declared.key.Part.{Part}
-use Rattle.ft_table.specs.Marks.{mark_cmp}
+use Rattle.ft_hits.specs.Marks.{mark_cmp}
 use Rattle.ft_table.specs.inner.Ascending.{Rises, IsRank}
 use Rattle.ft_table.specs.inner.Split.{IsSplit}
-use Rattle.ft_table.specs.inner.ByKey.{hits_in}
-use Rattle.ft_table.specs.Hits.{Hits, hitcount, same_key}
+use Rattle.ft_hits.specs.ByKey.{hits_in}
+use Rattle.ft_hits.specs.Hits.{Hits, hitcount, same_key}
 use Rattle.ft_table.specs.inner.Moves.{others, with_more}
 use Rattle.ft_table.proofs.Sorted.{rises-keys}
-use Rattle.ft_table.proofs.Flat.{same_itself}
+use Rattle.ft_hits.proofs.Flat.{same_itself}
 use Rattle.ft_table.proofs.Counts.{split-down-in, split-down-out}
 use Rattle.ft_table.proofs.split.count_down.Goals as goal
 

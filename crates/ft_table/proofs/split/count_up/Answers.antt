@@ -1,16 +1,16 @@
 use Rattle.std.proofs.Common.{◌≡◌, ℕ, ◌+◌, ◌-◌, ◌<◌, ◌≤◌, length, List, [], false, cond, sym, ap, subst, arith}
 use Rattle.std.specs.FinMap as map
 use Rattle.ft_keys.specs.declared.key.Part.{Part}
-use Rattle.ft_table.specs.declared.mark.Mark.{Mark}
-use Rattle.ft_table.specs.Marks.{mark_cmp, mark_cmp_total}
+use Rattle.ft_hits.specs.declared.mark.Mark.{Mark}
+use Rattle.ft_hits.specs.Marks.{mark_cmp, mark_cmp_total}
 use Rattle.ft_table.specs.inner.Ascending.{Rises, IsRank}
 use Rattle.ft_table.specs.inner.Split.{IsSplit}
-use Rattle.ft_table.specs.inner.ByKey.{hits_in}
-use Rattle.ft_table.specs.Hits.{Hits, hitcount, same_key}
+use Rattle.ft_hits.specs.ByKey.{hits_in}
+use Rattle.ft_hits.specs.Hits.{Hits, hitcount, same_key}
 use Rattle.ft_table.specs.inner.Moves.{others, order_with, with_less}
 use Rattle.ft_table.proofs.Sorted.{rises-keys, rank-keys}
 use Rattle.ft_table.proofs.Firsts.{order-found}
-use Rattle.ft_table.proofs.Flat.{mark, same_itself}
+use Rattle.ft_hits.proofs.Flat.{mark, same_itself}
 use Rattle.ft_table.proofs.Counts.{split-up-in, split-up-out}
 use Rattle.ft_table.proofs.split.count_up.Goals as goal
 

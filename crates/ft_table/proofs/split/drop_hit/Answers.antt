@@ -2,12 +2,12 @@
 use Rattle.std.proofs.Common.{◌≡◌, ℕ, false, List, sym, ap, subst, ◌∙◌, Some, Option}
 use Rattle.std.specs.Prelude.{is_some}
 use Rattle.std.specs.FinMap as map
-use Rattle.ft_table.specs.declared.spot.Spot.{Spot}
+use Rattle.ft_hits.specs.declared.spot.Spot.{Spot}
 use Rattle.ft_keys.specs.declared.key.Part.{Part}
-use Rattle.ft_table.specs.declared.mark.Mark.{Mark}
+use Rattle.ft_hits.specs.declared.mark.Mark.{Mark}
 use Rattle.ft_table.specs.inner.Split.{IsSplit}
-use Rattle.ft_table.specs.inner.ByKey.{hits_in}
-use Rattle.ft_table.specs.Hits.{Hits, hitcount, first_place}
+use Rattle.ft_hits.specs.ByKey.{hits_in}
+use Rattle.ft_hits.specs.Hits.{Hits, hitcount, first_place}
 use Rattle.ft_table.specs.Tabled.{order_of}
 use Rattle.ft_table.specs.inner.Moves.{order_before, with_more}
 use Rattle.ft_table.proofs.Firsts.{no_first}

@@ -1,9 +1,9 @@
 use Rattle.std.proofs.Common.{List, sym, ap, subst, ◌∙◌}
 use Rattle.std.specs.List.{insert}
-use Rattle.ft_table.specs.declared.mark.Mark.{Mark}
-use Rattle.ft_table.specs.Marks.{mark_cmp}
+use Rattle.ft_hits.specs.declared.mark.Mark.{Mark}
+use Rattle.ft_hits.specs.Marks.{mark_cmp}
 use Rattle.ft_table.specs.inner.Ascending.{Rises, IsRank}
-use Rattle.ft_table.specs.inner.ByKey.{hits_in}
+use Rattle.ft_hits.specs.ByKey.{hits_in}
 use Rattle.ft_table.specs.inner.Moves.{others}
 use Rattle.ft_table.proofs.Sorted.{rises-keys}
 use Rattle.ft_table.proofs.Firsts.{order-enter}

@@ -2,11 +2,11 @@ use Rattle.std.proofs.Common.{◌≡◌, ℕ, ◌+◌, List, [], length, get_or,
 use Rattle.std.specs.List.{remove, sum_by}
 use Rattle.std.specs.FinMap as map
 use Rattle.std.proofs.lemmas.List.Sums.{sum_by-remove}
-use Rattle.ft_table.specs.declared.mark.Mark.{Mark}
-use Rattle.ft_table.specs.Marks.{mark_cmp}
+use Rattle.ft_hits.specs.declared.mark.Mark.{Mark}
+use Rattle.ft_hits.specs.Marks.{mark_cmp}
 use Rattle.ft_table.specs.inner.Ascending.{Rises, IsRank}
-use Rattle.ft_table.specs.inner.ByKey.{hits_in}
-use Rattle.ft_table.specs.Hits.{hitcount}
+use Rattle.ft_hits.specs.ByKey.{hits_in}
+use Rattle.ft_hits.specs.Hits.{hitcount}
 use Rattle.ft_table.specs.inner.Moves.{others}
 use Rattle.ft_table.proofs.Sorted.{rises-keys}
 use Rattle.ft_table.proofs.Firsts.{order-leave, order-found}

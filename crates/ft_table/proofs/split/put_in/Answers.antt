@@ -2,8 +2,8 @@
 use Rattle.std.proofs.Common.{◌≡◌, ℕ, List, ◌+◌, ◌-◌, ◌<◌, ◌≤◌, rules, ap, ◌∙◌, arith}
 use Rattle.std.specs.List.{insert}
 use Rattle.ft_keys.specs.declared.key.Part.{Part}
-use Rattle.ft_table.specs.Hits.{hitcount}
-use Rattle.ft_table.specs.inner.ByKey.{hits_in}
+use Rattle.ft_hits.specs.Hits.{hitcount}
+use Rattle.ft_hits.specs.ByKey.{hits_in}
 use Rattle.ft_table.proofs.Splits.{enters-full, enters-room, enters-behind, resplit}
 use Rattle.ft_table.proofs.split.put_in.Goals as goal
 use Rattle.ft_table.proofs.split.put_in.Goals.{then-rank-size+then-len-size, then-rank-size+else-len-size, else-rank-size}

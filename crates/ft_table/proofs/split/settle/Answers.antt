@@ -1,9 +1,9 @@
 -- The order before and after, by where the key's first hit stood and where it stands.
 use Rattle.std.proofs.Common.{◌≡◌, sym, ap, ◌∙◌, rules}
-use Rattle.ft_table.specs.declared.spot.Spot.{Spot}
-use Rattle.ft_table.specs.inner.ByKey.{hits_in}
+use Rattle.ft_hits.specs.declared.spot.Spot.{Spot}
+use Rattle.ft_hits.specs.ByKey.{hits_in}
 use Rattle.ft_table.specs.inner.Moves.{order_before, order_with}
-use Rattle.ft_table.proofs.Flat.{mark}
+use Rattle.ft_hits.proofs.Flat.{mark}
 use Rattle.ft_table.proofs.Firsts.{order-none, order-some}
 use Rattle.ft_table.proofs.split.settle.Goals as goal
 

@@ -2,8 +2,8 @@
 use Rattle.std.proofs.Common.{◌≡◌, ℕ, List, ◌+◌, ◌-◌, ap, ◌∙◌, arith}
 use Rattle.std.specs.List.{remove}
 use Rattle.ft_keys.specs.declared.key.Part.{Part}
-use Rattle.ft_table.specs.Hits.{hitcount}
-use Rattle.ft_table.specs.inner.ByKey.{hits_in}
+use Rattle.ft_hits.specs.Hits.{hitcount}
+use Rattle.ft_hits.specs.ByKey.{hits_in}
 use Rattle.ft_table.proofs.Splits.{leaves-full, leaves-room, leaves-behind, resplit}
 use Rattle.ft_table.proofs.split.take_out.Goals as goal
 use Rattle.ft_table.proofs.split.take_out.Goals.{then-rank-size, then-len-size, else-len-size, else-rank-size}

@@ -1,5 +1,5 @@
 use Rattle.std.proofs.Common.{◌≡◌, take, map as list_map}
-use Rattle.ft_table.specs.inner.ByKey.{hits_in}
+use Rattle.ft_hits.specs.ByKey.{hits_in}
 use Rattle.ft_table.specs.Rows.{row_of}
 use Rattle.ft_table.proofs.table.rows_at.Given as goal
 

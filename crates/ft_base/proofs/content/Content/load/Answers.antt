@@ -1,50 +1,44 @@
 -- Each way through is a case of `after_load` at the board's view.
-use Rattle.std.proofs.Common.{◌≡◌, ◌+◌, ◌≤◌, length, refl, sym, ap, ◌∙◌, subst, inr, None, Ok, Err, arith}
-use Rattle.std.specs.List.{AllByRecursion}
+use Rattle.std.proofs.Common.{◌≡◌, ◌+◌, ◌≤◌, length, refl, sym, ap, ◌∙◌, inr, Ok, Err, arith}
 use Rattle.ft_base.specs.contracts.content.Content.{the_view}
 use Rattle.ft_base.specs.declared.refused.Refused.TheVariants.{LaneHeld}
-use Rattle.ft_lanes.specs.Held.{HasCpu, event_limit, held_in}
-use Rattle.ft_lanes.specs.Loaded.{first_held, with_lanes}
+use Rattle.ft_lanes.specs.Held.{event_limit, held_in}
+use Rattle.ft_lanes.specs.Loaded.{with_lanes}
 use Rattle.ft_base.specs.After.{after_load}
 use Rattle.ft_base.proofs.After.{at_ok, load-held, load-full, load-ok}
 use Rattle.ft_base.proofs.Reachable.{load-IsReachable}
 use Rattle.ft_base.proofs.content.Content.load.Goals as goal
 
 pub returns-in-Some : goal.returns-in-Some
-returns-in-Some c =
-    let held = c.in-Some.ensures.value ∙ ap (first_held c.self.inside.lanes) c.deref.ensures.value in (
-      refl,
-      inr (
-          ap (λ b. after_load b c.args.events.items) (sym c.self.view_is)
-          ∙ load-held (the_view c.self.inside) c.args.events.items c.in-Some.cpu held
-          ∙ ap (λ cpu. Err (LaneHeld cpu)) (sym c.from.ensures)),
-    )
+returns-in-Some c = (
+  refl,
+  inr (
+      ap (λ b. after_load b c.args.events) (sym c.self.view_is)
+      ∙ load-held (the_view c.self.inside) c.args.events c.in-Some.cpu c.in-Some.ensures.value
+      ∙ ap (λ cpu. Err (LaneHeld cpu)) (sym c.from.ensures)),
+)
 
-pub returns-then-len-count-gt-EVENT_LIMIT : goal.returns-then-len-count-gt-EVENT_LIMIT
-returns-then-len-count-gt-EVENT_LIMIT c =
-    let free = c.in_default.ensures.value ∙ ap (first_held c.self.inside.lanes) c.deref.ensures.value in (
-      refl,
-      inr (
-          ap (λ b. after_load b c.args.events.items) (sym c.self.view_is)
-          ∙ load-full (the_view c.self.inside) c.args.events.items free (omega (arith, c.len.ensures))),
-    )
+pub returns-then-saturating_add-gt-EVENT_LIMIT : goal.returns-then-saturating_add-gt-EVENT_LIMIT
+returns-then-saturating_add-gt-EVENT_LIMIT c = (
+  refl,
+  inr (
+      ap (λ b. after_load b c.args.events) (sym c.self.view_is)
+      ∙ load-full (the_view c.self.inside) c.args.events c.in_default.ensures.value (omega (arith, c.len.ensures))),
+)
 
 pub invariant_of-self-2 : goal.invariant_of-self-2
 invariant_of-self-2 c =
     let base = the_view c.self.inside in
-    let es = c.args.events.items in
-    let free : first_held base.lanes es ≡ None = sym (c.in_default.ensures.value ∙ ap (first_held base.lanes) c.deref.ensures.value) in
-    let at : AllByRecursion HasCpu es = subst (AllByRecursion HasCpu) c.deref.ensures.value (c.in_default.ensures.cpus refl) in
+    let es = c.args.events in
     let lanes : c.load.new.self ≡ with_lanes base.lanes es = at_ok c.load.result c.if-is_err.ensures.value c.load.ensures.ok in
     let few : held_in base.lanes + length es ≤ event_limit = omega (arith, c.len.ensures) in
-    rw lanes (load-IsReachable base es c.self.invariant at free few)
+    rw lanes (load-IsReachable base es c.self.invariant (c.in_default.ensures.cpus refl) (sym c.in_default.ensures.value) few)
 
 pub returns : goal.returns
 returns c =
     let base = the_view c.self.inside in
-    let es = c.args.events.items in
-    let free = c.in_default.ensures.value ∙ ap (first_held base.lanes) c.deref.ensures.value in
+    let es = c.args.events in
     let lanes : c.load.new.self ≡ with_lanes base.lanes es = at_ok c.load.result c.if-is_err.ensures.value c.load.ensures.ok in
     let few : held_in base.lanes + length es ≤ event_limit = omega (arith, c.len.ensures) in
     let count : length es ≡ c.len-count.result = omega arith in
-    ap (λ b. after_load b es) (sym c.self.view_is) ∙ load-ok base es free few ∙ (λ i. Ok (record base { lanes = sym lanes i }, count i))
+    ap (λ b. after_load b es) (sym c.self.view_is) ∙ load-ok base es c.in_default.ensures.value few ∙ (λ i. Ok (record base { lanes = sym lanes i }, count i))

@@ -19,5 +19,5 @@ returns-in_err-events-clause-gives g c =
       ],
     )
 
-pub load-requires : goal.load-requires
-load-requires g c = text_held c.no_made_event.ensures c.args.text.now c.in_ok-events.events.items (search rules)
+pub load_store-requires : goal.load_store-requires
+load_store-requires g c = text_held c.no_made_event.ensures c.args.text.now c.in_ok-events.events (search rules)

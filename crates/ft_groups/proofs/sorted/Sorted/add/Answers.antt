@@ -9,6 +9,7 @@ use Rattle.ft_fields.specs.Traced.{Traced}
 use Rattle.ft_keys.specs.declared.key.Part.{Part}
 use Rattle.ft_keys.specs.Parts.{key_cmp}
 use Rattle.ft_maps.specs.Seen.{seen}
+use Rattle.ft_store.specs.Stored.{held}
 use Rattle.ft_groups.specs.declared.sorted.Sorted.{Sorted}
 use Rattle.ft_groups.specs.inner.Placed.{run_at}
 use Rattle.ft_groups.proofs.Placing.{place_within, adds_there}
@@ -30,7 +31,7 @@ returns-in-Some-clause-adds c =
     let keys : List (List Part) = c.args.self.now.keys.items in
     let runs : List (List (Pos × Traced)) = c.args.self.now.runs.items in
     let places : FinMap key_cmp ℕ = seen key_cmp c.args.self.now.places in
-    let event : Pos × Traced = (c.args.pos, c.args.event.now) in
+    let event : Pos × Traced = (c.args.pos, held c.args.stored) in
     let at : map.get places c.args.key ≡ Some c.in-Some.place = sym c.in-Some.ensures in
     let inside = place_within keys runs places c.requires c.args.key c.in-Some.place at in
     on_ok_weaker c.push.result (λ more.

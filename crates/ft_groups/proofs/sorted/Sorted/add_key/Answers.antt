@@ -7,6 +7,7 @@ use Rattle.ft_fields.specs.Traced.{Traced}
 use Rattle.ft_keys.specs.Parts.{key_cmp}
 use Rattle.ft_keys.specs.Ties.{key_same}
 use Rattle.ft_maps.specs.Seen.{seen}
+use Rattle.ft_store.specs.Stored.{held}
 use Rattle.ft_groups.proofs.Placing.{new_placed, adds_new}
 use Rattle.ft_groups.proofs.sorted.Sorted.add_key.Goals as goal
 
@@ -15,7 +16,7 @@ put-requires c = key_same
 
 pub returns-clause-placed : goal.returns-clause-placed
 returns-clause-placed c =
-    let event : Pos × Traced = (c.args.pos, c.args.event.now) in
+    let event : Pos × Traced = (c.args.pos, held c.args.stored) in
     let places : FinMap key_cmp ℕ = seen key_cmp c.args.self.now.places in
     let run : c.push.new.self ≡ event ∷ [] = c.in_ok-push.ensures ∙ ap (λ (es : List (Pos × Traced)). es ++ event ∷ []) c.new-run.ensures in
     let place = c.in_ok-put.ensures.ok ∙ ap (map.insert places c.args.key) (c.len-place.ensures ∙ c.args.self.now.keys.ok.0) in
@@ -24,7 +25,7 @@ returns-clause-placed c =
 
 pub returns-clause-adds : goal.returns-clause-adds
 returns-clause-adds c =
-    let event : Pos × Traced = (c.args.pos, c.args.event.now) in
+    let event : Pos × Traced = (c.args.pos, held c.args.stored) in
     let places : FinMap key_cmp ℕ = seen key_cmp c.args.self.now.places in
     let run : c.push.new.self ≡ event ∷ [] = c.in_ok-push.ensures ∙ ap (λ (es : List (Pos × Traced)). es ++ event ∷ []) c.new-run.ensures in
     let place = c.in_ok-put.ensures.ok ∙ ap (map.insert places c.args.key) (c.len-place.ensures ∙ c.args.self.now.keys.ok.0) in

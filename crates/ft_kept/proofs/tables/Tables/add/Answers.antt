@@ -1,7 +1,7 @@
 use Rattle.std.proofs.Common.{ap, ◌∙◌}
 use Rattle.std.specs.FinMap as map
 use Rattle.std.proofs.lemmas.Result.{on_ok_weaker}
-use Rattle.ft_kept.specs.Shelves.{Shelves}
+use Rattle.ft_shelves.specs.Shelves.{Shelves}
 use Rattle.ft_kept.proofs.tables.Tables.add.Goals as goal
 
 pub returns-clause-ok : goal.returns-clause-ok

@@ -5,7 +5,7 @@ use Rattle.std.specs.Cmp.{nat_cmp_total}
 use Rattle.std.specs.FinMap as map
 use Rattle.std.proofs.lemmas.Map.Lookups.{exact_unsigned}
 use Rattle.ft_maps.specs.Seen.{seen, get-seen, seen-found}
-use Rattle.ft_kept.specs.Shelves.{ChangesShelf, DropsNotes, Shelves}
+use Rattle.ft_shelves.specs.Shelves.{ChangesShelf, DropsNotes, Shelves}
 use Rattle.ft_kept.specs.declared.tables.Tables.TheInside.{Inside}
 use Rattle.ft_kept.proofs.Shelving.{shelf_changes, no_shelf}
 use Rattle.ft_kept.proofs.tables.Tables.drop_notes.Goals as goal

@@ -17,7 +17,7 @@ use Rattle.ft_kept.specs.Entries.{IsKept}
 use Rattle.ft_kept.specs.Repairs.{AreShelved}
 use Rattle.ft_hist.specs.Tests.{count_on}
 use Rattle.ft_kept.specs.Memory.{IsPlainHit}
-use Rattle.ft_kept.specs.Shelves.{FormsStay, NotesStay, role_on, admits_on, kept_on}
+use Rattle.ft_shelves.specs.Shelves.{FormsStay, NotesStay, role_on, admits_on, kept_on}
 use Rattle.ft_table.specs.Values.{values_by}
 use Rattle.ft_kept.proofs.Between.{all_but, asked_of}
 use Rattle.ft_kept.proofs.FewPuts.{Few, LeftStay}

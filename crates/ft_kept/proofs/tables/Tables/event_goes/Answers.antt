@@ -21,9 +21,9 @@ use Rattle.ft_kept.specs.Acts.{acts_of}
 use Rattle.ft_kept.specs.Bounds.{SomeSaverMoves, without_hit_of}
 use Rattle.ft_kept.specs.Entries.{IsKept}
 use Rattle.ft_hist.specs.Tests.{asked, count_on}
-use Rattle.ft_kept.specs.Shelves.{role_on, admits_on, kept_on}
+use Rattle.ft_shelves.specs.Shelves.{role_on, admits_on, kept_on}
 use Rattle.ft_table.specs.Values.{values_by}
-use Rattle.ft_kept.proofs.Attached.{each_found}
+use Rattle.ft_shelves.proofs.Attached.{each_found}
 use Rattle.ft_kept.proofs.Between.{kept_alike, kept_in_role, all_but, done_too, asked_of, asked_more, going_begins, going_ends, going_held, going_step}
 use Rattle.ft_kept.proofs.FewPuts.{Few, few_first, few_more, few_all, left_refl, left_step, some_moves, steps_refl, steps_trans}
 use Rattle.ft_kept.proofs.Forms.{forms_refl, forms_trans, roles_stay, shelved_stay}

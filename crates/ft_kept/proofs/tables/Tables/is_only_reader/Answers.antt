@@ -1,7 +1,7 @@
 -- Where none of the shelves is another reader's, each reader is the one.
 use Rattle.std.proofs.Common.{sym, ap, ◌∙◌}
 use Rattle.std.specs.FinMap as map
-use Rattle.ft_kept.specs.Shelves.{Shelves}
+use Rattle.ft_shelves.specs.Shelves.{Shelves}
 use Rattle.ft_kept.proofs.Bare.{other_reads, only_reader}
 use Rattle.ft_kept.proofs.tables.Tables.is_only_reader.Goals as goal
 

@@ -9,8 +9,8 @@ use Rattle.std.proofs.lemmas.Result.{on_ok_weaker}
 use Rattle.ft_maps.specs.Seen.{seen, get-seen, seen-found}
 use Rattle.ft_pairs.specs.Edits.{with_op}
 use Rattle.ft_pairs.specs.declared.at.Op.TheVariants.{Read}
-use Rattle.ft_kept.specs.Shelves.{ChangesShelf, Shelves}
-use Rattle.ft_kept.specs.inner.Edits.{OpsChange}
+use Rattle.ft_shelves.specs.Shelves.{ChangesShelf, Shelves}
+use Rattle.ft_shelves.specs.Edits.{OpsChange}
 use Rattle.ft_kept.specs.declared.tables.Tables.TheInside.{Inside}
 use Rattle.ft_kept.proofs.Forms.{ops_by}
 use Rattle.ft_kept.proofs.Shelving.{shelf_changes, no_shelf}

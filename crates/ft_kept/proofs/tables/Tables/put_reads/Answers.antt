@@ -11,8 +11,8 @@ use Rattle.ft_maps.specs.Seen.{seen, get-seen, seen-found}
 use Rattle.ft_pairs.specs.ByKey.{ops_of}
 use Rattle.ft_pairs.specs.Runs.{FindEach, with_reads}
 use Rattle.ft_pairs.specs.Source.{Ops}
-use Rattle.ft_kept.specs.Shelves.{ChangesShelf, Shelves, kept_on}
-use Rattle.ft_kept.specs.inner.Edits.{OpsChange}
+use Rattle.ft_shelves.specs.Shelves.{ChangesShelf, Shelves, kept_on}
+use Rattle.ft_shelves.specs.Edits.{OpsChange}
 use Rattle.ft_kept.specs.declared.tables.Tables.TheInside.{Inside}
 use Rattle.ft_kept.proofs.Forms.{ops_whole}
 use Rattle.ft_kept.proofs.Putting.{written}

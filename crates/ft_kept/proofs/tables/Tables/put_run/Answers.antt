@@ -7,8 +7,8 @@ use Rattle.std.specs.FinMap as map
 use Rattle.std.proofs.lemmas.Map.Lookups.{exact_unsigned}
 use Rattle.std.proofs.lemmas.Result.{on_ok_weaker}
 use Rattle.ft_maps.specs.Seen.{seen, get-seen, seen-found}
-use Rattle.ft_kept.specs.Shelves.{ChangesShelf, Shelves}
-use Rattle.ft_kept.specs.inner.JoiningReads.{RunComes}
+use Rattle.ft_shelves.specs.Shelves.{ChangesShelf, Shelves}
+use Rattle.ft_shelves.specs.Joining.{RunComes}
 use Rattle.ft_kept.specs.declared.tables.Tables.TheInside.{Inside}
 use Rattle.ft_kept.proofs.Forms.{hits_by}
 use Rattle.ft_kept.proofs.Shelving.{shelf_changes, no_shelf}

@@ -6,8 +6,8 @@ use Rattle.std.specs.FinMap as map
 use Rattle.std.proofs.lemmas.Map.Lookups.{exact_unsigned}
 use Rattle.ft_maps.specs.Seen.{seen, get-seen, seen-found}
 use Rattle.ft_table.specs.Spots.{traced}
-use Rattle.ft_kept.specs.Shelves.{ChangesShelf, Shelves}
-use Rattle.ft_kept.specs.inner.Edits.{TakesHit}
+use Rattle.ft_shelves.specs.Shelves.{ChangesShelf, Shelves}
+use Rattle.ft_shelves.specs.Edits.{TakesHit}
 use Rattle.ft_kept.specs.declared.tables.Tables.TheInside.{Inside}
 use Rattle.ft_kept.proofs.Shelving.{shelf_changes, no_shelf}
 use Rattle.ft_kept.proofs.tables.Tables.take_hit.Goals as goal

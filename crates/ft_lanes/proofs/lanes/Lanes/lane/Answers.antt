@@ -1,38 +1,30 @@
 -- The lines of a lane are those of its slots.
-use Rattle.std.proofs.Common.{◌≡◌, sym, ap, subst, ◌∙◌, length, Some, option_map}
+use Rattle.std.proofs.Common.{sym, ap, ◌∙◌, Some, option_map}
 use Rattle.std.specs.Ordering.{nat_cmp}
 use Rattle.std.specs.Cmp.{nat_cmp_total}
 use Rattle.std.specs.FinMap as map
 use Rattle.ft_maps.specs.Seen.{seen, get-seen}
 use Rattle.ft_maps.specs.Mapped.{entries_by}
 use Rattle.ft_lanes.specs.Held.{Lane, Lanes}
-use Rattle.ft_lanes.specs.inner.Slots.{SlotsOf, stored_at}
+use Rattle.ft_store.specs.Stored.{stored_at}
+use Rattle.ft_lanes.specs.inner.Slots.{SlotsOf}
 use Rattle.ft_lanes.specs.Walks.{shown}
-use Rattle.ft_lanes.specs.inner.Within.{PlacesWithin}
-use Rattle.ft_lanes.proofs.Each.{places-within}
 use Rattle.ft_lanes.proofs.Views.{lane-entries}
 use Rattle.ft_lanes.proofs.Runs.{shows_in_order}
 use Rattle.ft_lanes.proofs.lanes.Lanes.lane.Goals as goal
 
-pub new-requires : goal.new-requires
-new-requires c =
-    let n = length c.self.inside.store.items in
-    let at : map.get (seen nat_cmp c.self.inside.lanes) c.args.cpu ≡ Some c.in-Some.slots.now = get-seen nat_cmp_total c.self.inside.lanes c.args.cpu ∙ sym c.in-Some.ensures.value in
-    subst (λ k. PlacesWithin k c.entries.result) (ap length (sym c.deref.ensures.value))
-    (places-within n c.in-Some.slots.now c.entries.result (c.self.invariant.within c.args.cpu c.in-Some.slots.now at) c.entries.ensures.found)
-
 pub returns-in-Some-clause-rest : goal.returns-in-Some-clause-rest
 returns-in-Some-clause-rest c =
-    let at = stored_at c.self.inside.store.items in
+    let at = stored_at c.self.inside.store in
     let all = seen nat_cmp c.self.inside.lanes in
-    ap Some (c.new.ensures ∙ (λ i. entries_by (stored_at (c.deref.ensures.value i)) (c.entries.ensures.rest i)))
+    ap Some (c.new.ensures ∙ ap (entries_by at) c.entries.ensures.rest)
     ∙ ap (option_map (λ (s : SlotsOf). entries_by at (map.entries s.places))) (c.in-Some.ensures.value ∙ sym (get-seen nat_cmp_total c.self.inside.lanes c.args.cpu))
     ∙ sym (lane-entries at all c.args.cpu)
     ∙ ap (λ (lanes : Lanes). option_map (λ (lane : Lane). map.entries lane.events) (map.get lanes c.args.cpu)) c.self.view_is
 
 pub returns-in-None-clause-rest : goal.returns-in-None-clause-rest
 returns-in-None-clause-rest c =
-    let at = stored_at c.self.inside.store.items in
+    let at = stored_at c.self.inside.store in
     let all = seen nat_cmp c.self.inside.lanes in
     ap (option_map (λ (s : SlotsOf). entries_by at (map.entries s.places))) (c.in-None.ensures.value ∙ sym (get-seen nat_cmp_total c.self.inside.lanes c.args.cpu))
     ∙ sym (lane-entries at all c.args.cpu)

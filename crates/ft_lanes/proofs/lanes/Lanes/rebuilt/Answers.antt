@@ -6,7 +6,7 @@ use Rattle.std.specs.FinMap as map
 use Rattle.std.proofs.lemmas.Map.Iter.{rest_more, rest_all}
 use Rattle.ft_maps.specs.Seen.{seen, seen-empty}
 use Rattle.ft_lanes.specs.Held.{Lane, held_in}
-use Rattle.ft_lanes.specs.inner.Slots.{stored_at}
+use Rattle.ft_store.specs.Stored.{stored_at}
 use Rattle.ft_lanes.specs.Walks.{itself}
 use Rattle.ft_lanes.proofs.Counts.{held-slots}
 use Rattle.ft_lanes.proofs.Copies.{Copying, copying-start, copying-step, copied-stored}
@@ -16,14 +16,14 @@ pub loop-cpu-init : goal.loop-cpu-init
 loop-cpu-init c =
     let all = c.args.self.now in
     let left = c.into_iter-cpu-iterator.ensures.into_iter_gives ∙ c.lanes-cpu-items.ensures.rest in
-    subst (λ store. Copying all store (seen nat_cmp c.new-slots.result) c.into_iter-cpu-iterator.result) (sym c.new-store.ensures.items)
+    subst (λ store. Copying all store (seen nat_cmp c.new-slots.result) c.into_iter-cpu-iterator.result) (sym c.new-store.ensures)
     (subst (λ slots. Copying all [] slots c.into_iter-cpu-iterator.result) (sym (seen-empty nat_cmp c.new-slots.result c.new-slots.ensures.empty))
     (subst (Copying all [] map.empty) (sym left) (copying-start all)))
 
 pub loop-cpu-preserved : goal.loop-cpu-preserved
 loop-cpu-preserved c =
     let all = c.args.self.now in
-    let store = c.loop-cpu.store.items in
+    let store = c.loop-cpu.store in
     let slots = seen nat_cmp c.loop-cpu.slots in
     let e : ℕ × Lane = (c.in-Some.cpu, c.in-Some.lane) in
     let left : c.loop-cpu.cpu-iterator ≡ e ∷ c.next.new.self = rest_more (itself {X = ℕ × Lane}) _ _ _ e c.in-Some.is c.next.ensures.steps in
@@ -34,11 +34,11 @@ loop-cpu-preserved c =
 pub invariant_of-result : goal.invariant_of-result
 invariant_of-result c =
     let left : c.loop-cpu.cpu-iterator ≡ [] = rest_all (itself {X = ℕ × Lane}) _ _ _ c.in-None.is c.next.ensures.steps in
-    let end = subst (Copying c.args.self.now c.loop-cpu.store.items (seen nat_cmp c.loop-cpu.slots)) left c.loop-cpu.invariant in
-    copied-stored c.args.self.now c.loop-cpu.store.items (seen nat_cmp c.loop-cpu.slots) c.self.inside.held end
-    (c.self.invariant.counted ∙ sym (held-slots (stored_at c.self.inside.store.items) (seen nat_cmp c.self.inside.lanes)) ∙ ap held_in c.self.view_is)
+    let end = subst (Copying c.args.self.now c.loop-cpu.store (seen nat_cmp c.loop-cpu.slots)) left c.loop-cpu.invariant in
+    copied-stored c.args.self.now c.loop-cpu.store (seen nat_cmp c.loop-cpu.slots) c.self.inside.held end
+    (c.self.invariant.counted ∙ sym (held-slots (stored_at c.self.inside.store) (seen nat_cmp c.self.inside.lanes)) ∙ ap held_in c.self.view_is)
 
 pub returns : goal.returns
 returns c =
     let left : c.loop-cpu.cpu-iterator ≡ [] = rest_all (itself {X = ℕ × Lane}) _ _ _ c.in-None.is c.next.ensures.steps in
-    (subst (Copying c.args.self.now c.loop-cpu.store.items (seen nat_cmp c.loop-cpu.slots)) left c.loop-cpu.invariant).leads
+    (subst (Copying c.args.self.now c.loop-cpu.store (seen nat_cmp c.loop-cpu.slots)) left c.loop-cpu.invariant).leads

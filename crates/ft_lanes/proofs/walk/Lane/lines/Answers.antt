@@ -4,7 +4,7 @@ use Rattle.std.specs.Cmp.{nat_cmp_total}
 use Rattle.std.specs.FinMap as map
 use Rattle.ft_maps.specs.Mapped.{entries_by, entries-map_by}
 use Rattle.ft_lanes.specs.Held.{Lane}
-use Rattle.ft_lanes.specs.inner.Slots.{stored_at}
+use Rattle.ft_store.specs.Stored.{stored_at}
 use Rattle.ft_lanes.specs.Walks.{shown}
 use Rattle.ft_lanes.proofs.Runs.{shows_in_order}
 use Rattle.ft_lanes.proofs.walk.Lane.lines.Goals as goal

@@ -5,7 +5,7 @@ use Rattle.std.specs.FinMap as map
 use Rattle.std.proofs.lemmas.Option.{none-some}
 use Rattle.ft_maps.specs.Mapped.{get-map_by}
 use Rattle.ft_lanes.specs.Held.{Lane}
-use Rattle.ft_lanes.specs.inner.Slots.{stored_at}
+use Rattle.ft_store.specs.Stored.{stored_at}
 use Rattle.ft_lanes.proofs.walk.Lane.next.Goals as goal
 
 pub returns-clause-above : goal.returns-clause-above

@@ -1,12 +1,12 @@
 use Rattle.std.proofs.Common.{List, take, map as list_map, sym, ap, subst, ◌∙◌}
 use Rattle.std.specs.List.{list_any}
-use Rattle.ft_table.specs.declared.mark.Mark.{Mark}
-use Rattle.ft_table.specs.Marks.{mark_cmp}
+use Rattle.ft_hits.specs.declared.mark.Mark.{Mark}
+use Rattle.ft_hits.specs.Marks.{mark_cmp}
 use Rattle.ft_table.specs.inner.Ascending.{Rises, IsRank}
-use Rattle.ft_table.specs.inner.ByKey.{hits_in}
-use Rattle.ft_table.specs.Hits.{same_key}
+use Rattle.ft_hits.specs.ByKey.{hits_in}
+use Rattle.ft_hits.specs.Hits.{same_key}
 use Rattle.ft_table.specs.Tabled.{Tabled, first_hits, order_of}
-use Rattle.ft_table.proofs.Flat.{mark}
+use Rattle.ft_hits.proofs.Flat.{mark}
 use Rattle.ft_table.proofs.Sorted.{rises-keys}
 use Rattle.ft_table.proofs.Firsts.{order-none, order-some}
 use Rattle.ft_table.proofs.Members.{in-without, in-with}

@@ -3,8 +3,8 @@ use Rattle.std.proofs.Common.{◌≡◌, sym, ap, subst, ◌∙◌}
 use Rattle.std.specs.FinMap as map
 use Rattle.ft_keys.specs.Parts.{key_cmp}
 use Rattle.ft_table.specs.inner.Split.{IsSplit}
-use Rattle.ft_table.specs.inner.ByKey.{hits_in, flat}
-use Rattle.ft_table.specs.Hits.{Hits, hitcount}
+use Rattle.ft_hits.specs.ByKey.{hits_in, flat}
+use Rattle.ft_hits.specs.Hits.{Hits, hitcount}
 use Rattle.ft_table.specs.Tabled.{Tabled, order_of}
 use Rattle.ft_maps.specs.Seen.{seen-empty}
 use Rattle.ft_table.proofs.Empty.{flat-empty, order-empty, split-empty}

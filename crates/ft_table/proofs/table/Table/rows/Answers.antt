@@ -2,7 +2,7 @@
 use Rattle.std.proofs.Common.{List, sym, ap, subst, ◌∙◌}
 use Rattle.ft_rows.specs.Counted.{Counted}
 use Rattle.ft_rows.specs.Sorting.{in_order, HasDistinctKeys}
-use Rattle.ft_table.specs.inner.ByKey.{hits_in}
+use Rattle.ft_hits.specs.ByKey.{hits_in}
 use Rattle.ft_table.specs.inner.InStep.{table_of}
 use Rattle.ft_table.specs.Rows.{rows_of}
 use Rattle.ft_table.specs.Tabled.{Tabled}

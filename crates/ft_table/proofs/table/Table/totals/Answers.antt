@@ -4,9 +4,9 @@ use Rattle.std.specs.List.{sum_by}
 use Rattle.std.proofs.lemmas.List.{length-map, length-take}
 use Rattle.std.proofs.lemmas.List.Sums.{sum_by-take-drop}
 use Rattle.ft_keys.specs.declared.key.Part.{Part}
-use Rattle.ft_table.specs.declared.mark.Mark.{Mark}
-use Rattle.ft_table.specs.inner.ByKey.{hits_in}
-use Rattle.ft_table.specs.Hits.{hitcount}
+use Rattle.ft_hits.specs.declared.mark.Mark.{Mark}
+use Rattle.ft_hits.specs.ByKey.{hits_in}
+use Rattle.ft_hits.specs.Hits.{hitcount}
 use Rattle.ft_table.specs.Rows.{totals_of}
 use Rattle.ft_rows.specs.declared.row.Totals.{Totals}
 use Rattle.ft_table.proofs.Tallies.{sum-map}

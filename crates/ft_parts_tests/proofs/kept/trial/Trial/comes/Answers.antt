@@ -24,18 +24,18 @@ pub event_comes-requires-clause-can : goal.event_comes-requires-clause-can
 event_comes-requires-clause-can c =
     let triggers : FinMap nat_cmp Hist = seen nat_cmp c.self.inside.triggers in
     let events : FinMap pos_cmp Traced = seen pos_cmp c.self.inside.come in
-    let held : IsHeldAt c.self.inside.lanes c.place-pos.result c.in-Some.event.now =
-    subst (λ (p : Pos). IsHeldAt c.self.inside.lanes p c.in-Some.event.now) (sym c.place-pos.ensures) (sym c.in-Some.ensures, refl) in
+    let held : IsHeldAt c.self.inside.lanes c.place-pos.result c.in-Some.event =
+    subst (λ (p : Pos). IsHeldAt c.self.inside.lanes p c.in-Some.event) (sym c.place-pos.ensures) (sym c.in-Some.ensures, refl) in
     let absent : map.get events c.place-pos.result ≡ None = not_there c.get-2.result (map.get events c.place-pos.result) c.get-2.ensures c.if-is_some.ensures in
-    can_come triggers c.self.inside.lanes events c.self.inside.tables c.self.invariant c.place-pos.result c.in-Some.event.now absent held
+    can_come triggers c.self.inside.lanes events c.self.inside.tables c.self.invariant c.place-pos.result c.in-Some.event absent held
 
 pub invariant_of-result : goal.invariant_of-result
 invariant_of-result c =
     let triggers : FinMap nat_cmp Hist = seen nat_cmp c.self.inside.triggers in
     let events : FinMap pos_cmp Traced = seen pos_cmp c.self.inside.come in
-    let held : IsHeldAt c.self.inside.lanes c.place-pos.result c.in-Some.event.now =
-    subst (λ (p : Pos). IsHeldAt c.self.inside.lanes p c.in-Some.event.now) (sym c.place-pos.ensures) (sym c.in-Some.ensures, refl) in
+    let held : IsHeldAt c.self.inside.lanes c.place-pos.result c.in-Some.event =
+    subst (λ (p : Pos). IsHeldAt c.self.inside.lanes p c.in-Some.event) (sym c.place-pos.ensures) (sym c.in-Some.ensures, refl) in
     let absent : map.get events c.place-pos.result ≡ None = not_there c.get-2.result (map.get events c.place-pos.result) c.get-2.ensures c.if-is_some.ensures in
     subst (λ (more : FinMap pos_cmp Traced). AreRight triggers c.self.inside.lanes more c.event_comes.new.self) (sym c.in_ok-put.ensures.ok)
-    (right_with triggers c.self.inside.lanes events c.self.inside.tables c.self.invariant c.place-pos.result c.in-Some.event.now absent held
+    (right_with triggers c.self.inside.lanes events c.self.inside.tables c.self.invariant c.place-pos.result c.in-Some.event absent held
     c.event_comes.new.self c.in_ok-event_comes.ensures.forms c.in_ok-event_comes.ensures.right)

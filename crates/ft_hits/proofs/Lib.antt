@@ -1,0 +1,4 @@
+pub mod Columns
+pub mod Flat
+pub mod Only
+mod Runs

@@ -1,0 +1,5 @@
+use Rattle.ft_hits.specs.Marks.{mark_same}
+use Rattle.ft_hits.proofs.laws.one_mark_order.Goals as goal
+
+pub returns-clause-ties : goal.returns-clause-ties
+returns-clause-ties c = mark_same

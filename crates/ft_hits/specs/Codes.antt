@@ -1,0 +1,9 @@
+-- How the logic stores the hits of one key.
+use Rattle.std.specs.Coded.{Coded, coded_list, coded_ℤ}
+use Rattle.std.specs.FinMap as map
+use Rattle.ft_hits.specs.contracts.spot.Spot as spot
+use Rattle.ft_hits.specs.Hits.{EntryHits}
+
+-- the hits of one key, stored as their list (our own choice)
+abbrev pub entry_code : Coded EntryHits
+entry_code = map.code spot.the_row.coded (coded_list coded_ℤ)

@@ -1,0 +1,10 @@
+pub mod ByKey
+pub mod Codes
+pub mod Hits
+pub mod Marks
+pub mod Spots
+pub mod inner
+pub use Rattle.ft_fields.specs.Places
+pub use Rattle.ft_hist.specs.Steps
+pub use Rattle.ft_keys.specs.Parts
+pub use Rattle.ft_maps.specs.Seen

@@ -1,0 +1,2 @@
+-- Words of private functions: what an entry holds.
+pub mod Held

@@ -1,0 +1,14 @@
+pub mod Attached
+pub mod Both
+pub mod ComeIn
+pub mod Decided
+pub mod Finding
+pub mod Gone
+pub mod Grown
+pub mod Hitting
+pub mod KeyByKey
+pub mod Listed
+pub mod OneKey
+pub mod Passing
+pub mod Saving
+pub mod Shrunk

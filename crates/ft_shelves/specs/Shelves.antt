@@ -1,0 +1,148 @@
+-- Shelves: what is kept of each attached trigger.
+use Rattle.std.specs.Prelude.{◌≡◌, ◌&&◌, ℕ, ℤ, Bool, true, false, List, Option, Some, None, option_and_then, is_some, unwrap_or, refl}
+use Rattle.std.specs.Coded.{Coded, code_by, coded×, coded_option}
+use Rattle.std.specs.Option.{option_map_or}
+use Rattle.std.specs.Ordering.{nat_cmp}
+use Rattle.std.specs.FinMap as map
+use Rattle.std.specs.FinMap.{FinMap}
+use Rattle.ft_fields.specs.Places.{pos_cmp}
+use Rattle.ft_fields.specs.contracts.pos.Pos as pos
+use Rattle.ft_fields.specs.declared.pos.Pos.{Pos}
+use Rattle.ft_keys.specs.declared.key.Part.{Part}
+use Rattle.ft_pairs.specs.ByKey.{ByKey, ops_of}
+use Rattle.ft_pairs.specs.Codes.{by_key_code}
+use Rattle.ft_pairs.specs.Source.{Ops}
+use Rattle.ft_pairs.specs.declared.at.At.{At}
+use Rattle.ft_table.specs.Codes.{tabled_code}
+use Rattle.ft_table.specs.Hits.{Hits}
+use Rattle.ft_table.specs.Spots.{IsMade}
+use Rattle.ft_table.specs.Tabled.{Tabled, is_in}
+use Rattle.ft_hits.specs.declared.mark.Mark.{Mark}
+use Rattle.ft_pairs.specs.Roles.{Admits}
+use Rattle.ft_pairs.specs.contracts.role.Role as role
+use Rattle.ft_pairs.specs.declared.role.Role.{Role}
+use Rattle.ft_pairs.specs.declared.role.Role.TheVariants.{Plain, Saves, Reads}
+use Rattle.ft_pairs.specs.declared.role.Variable.{Variable}
+
+-- what readings found: by the place of the reading, the place of the saving (kernel: histogram.rst, inter-event hist triggers)
+abbrev pub Readings : Type 0
+Readings = FinMap pos_cmp Pos
+
+-- what readings had found before they changed: by the place of the reading, the place of the saving, or none (our own choice)
+abbrev pub Notes : Type 0
+Notes = FinMap pos_cmp (Option Pos)
+
+-- what is kept of one trigger: what it does with its variable, its hits, the operations on what it saves, what its readings found, and notes of what they had found, where notes are taken (our own choice)
+pub record Shelved : Type 0 where
+  pub role : Role
+  pub table : Tabled
+  pub ops : ByKey
+  pub readings : Readings
+  pub notes : Option Notes
+
+-- a shelf, stored as its parts (our own choice)
+abbrev pub shelved_code : Coded Shelved
+shelved_code = code_by
+    (Role × (Tabled × (ByKey × (Readings × Option Notes))))
+    (coded× role.the_row.coded (coded× tabled_code (coded× by_key_code (coded× (map.code pos.the_row.coded pos.the_row.coded) (coded_option (map.code pos.the_row.coded (coded_option pos.the_row.coded)))))))
+    (λ s. (s.role, (s.table, (s.ops, (s.readings, s.notes))))) (λ p. record { role = p.0; table = p.1.0; ops = p.1.1.0; readings = p.1.1.1.0; notes = p.1.1.1.1 }) (λ _. refl)
+
+-- shelves by the trigger's id (our own choice)
+abbrev pub Shelves : Type 0
+Shelves = FinMap nat_cmp Shelved
+
+-- ---- what shelves tell
+
+-- what the trigger with an id does with its variable (our own choice)
+unfoldable pub role_on : Shelves → ℕ → Role
+role_on shelves id = option_map_or (λ shelf. shelf.role) (map.get shelves id) Plain
+
+-- a trigger with this role saves (our own choice)
+abbrev pub is_saver : Role → Bool
+is_saver Saves = true
+is_saver other = false
+
+-- the keys that savers' tables have (kernel: histogram.rst, `size`)
+unfoldable pub admits_on : Shelves → Admits
+admits_on shelves id key = option_map_or (λ shelf. is_saver shelf.role && is_in shelf.table key) (map.get shelves id) false
+
+-- what is kept: what each hit adds, by trigger, spot and key; the operations on each variable; and the place of the saving that each reading found (our own choice)
+pub record Kept : Type 0 where
+  pub hits : ℕ → Mark → Option (List ℤ)
+  pub ops : Variable → Ops
+  pub read : ℕ → Pos → Option Pos
+
+-- what shelves keep (our own choice)
+unfoldable pub kept_on : Shelves → Kept
+kept_on shelves = record {
+  hits = λ id mark. option_and_then (λ shelf. map.get shelf.table.hits mark) (map.get shelves id);
+  ops = λ variable at. option_and_then (λ shelf. ops_of shelf.ops variable.key at) (map.get shelves variable.saver);
+  read = λ id pos. option_and_then (λ shelf. map.get shelf.readings pos) (map.get shelves id);
+}
+
+-- ---- what readings had found
+
+-- what is noted of a trigger's readings, where notes are taken (our own choice)
+abbrev pub notes_on : Shelves → ℕ → Option Notes
+notes_on shelves id = option_and_then (λ shelf. shelf.notes) (map.get shelves id)
+
+-- what a reading had found: what is noted of it, or else what it finds (our own choice)
+abbrev pub had_found : Shelved → Pos → Option Pos
+had_found shelf pos = unwrap_or (option_and_then (λ notes. map.get notes pos) shelf.notes) (map.get shelf.readings pos)
+
+-- notes are taken where they were, and by them readings had found the same (our own choice)
+pub record KeepsNotes (old new : Shelved) : Type 0 where
+  pub taken : is_some new.notes ≡ is_some old.notes
+  pub had : is_some old.notes ≡ true → (pos : Pos) → had_found new pos ≡ had_found old pos
+
+-- ---- what stays, while hits and operations change
+
+-- the hits of events that triggers made stay (our own choice)
+abbrev pub MadeStay : Hits → Hits → Type 0
+MadeStay old new = (m : Mark) → IsMade m.spot → map.get new m ≡ map.get old m
+
+-- a shelf keeps its role, its size, and the hits of events that triggers made; that of a reader tells what its readings had found (our own choice)
+pub record KeepsForm (old new : Shelved) : Type 0 where
+  pub role : new.role ≡ old.role
+  pub size : new.table.size ≡ old.table.size
+  pub made : MadeStay old.table.hits new.table.hits
+  pub notes : (saver : ℕ) → old.role ≡ Reads saver → KeepsNotes old new
+
+-- a shelf stays, with its role and its size; where there is none, there is none afterwards (our own choice)
+abbrev pub FormStays : Option Shelved → Option Shelved → Type 0
+FormStays None new = new ≡ None
+FormStays (Some shelf) new = (after : Shelved) × ((new ≡ Some after) × KeepsForm shelf after)
+
+-- each trigger keeps its shelf, with its role and its size (our own choice)
+abbrev pub FormsStay : Shelves → Shelves → Type 0
+FormsStay old new = (id : ℕ) → FormStays (map.get old id) (map.get new id)
+
+-- no notes are taken or lost (our own choice)
+abbrev pub NotesStay : Shelves → Shelves → Type 0
+NotesStay old new = (id : ℕ) → notes_on new id ≡ notes_on old id
+
+-- a shelf is as it was, and takes notes from now on (our own choice)
+abbrev pub TakesNotes : Shelved → Shelved → Type 0
+TakesNotes old new = new ≡ record old { notes = Some map.empty }
+
+-- a shelf is as it was, and takes no notes any more (our own choice)
+abbrev pub DropsNotes : Shelved → Shelved → Type 0
+DropsNotes old new = new ≡ record old { notes = None }
+
+-- a shelf of this role and size has nothing on it, and takes no notes (our own choice)
+pub record IsNewShelf (wanted : Role) (size : ℕ) (shelf : Shelved) : Type 0 where
+  pub role : shelf.role ≡ wanted
+  pub table : shelf.table ≡ record { hits = map.empty; size = size }
+  pub ops : (key : List Part) (at : At) → ops_of shelf.ops key at ≡ None
+  pub readings : shelf.readings ≡ map.empty
+  pub notes : shelf.notes ≡ None
+
+-- a trigger has a new shelf, and the others keep theirs (our own choice)
+abbrev pub AddsShelf : ℕ → Role → ℕ → Shelves → Shelves → Type 0
+AddsShelf id wanted size old new = (shelf : Shelved) × ((new ≡ map.insert old id shelf) × IsNewShelf wanted size shelf)
+
+-- one shelf changes so, if there is one, and the others stay (our own choice)
+pub record ChangesShelf (id : ℕ) (Change : Shelved → Shelved → Type 0) (old new : Shelves) : Type 0 where
+  pub others : (i : ℕ) → (i ≡ id → ⊥) → map.get new i ≡ map.get old i
+  pub none : map.get old id ≡ None → map.get new id ≡ None
+  pub here : (shelf : Shelved) → map.get old id ≡ Some shelf → (after : Shelved) × ((map.get new id ≡ Some after) × Change shelf after)

@@ -1,0 +1,130 @@
+//! A trigger that joins: each key's part of what is kept of it is made as a whole, from the events of
+//! that key.
+
+ghost use Rattle.std.specs.Prelude.{◌≡◌, List, None, OnOk, IfOk};
+ghost use Rattle.std.specs.FinMap as map;
+ghost use Rattle.ft_fields.specs.declared.pos.Pos.{Pos};
+ghost use Rattle.ft_hist.specs.Steps.{StepsGrow};
+ghost use Rattle.ft_groups.specs.Grouped.{run_of};
+ghost use Rattle.ft_keys.specs.declared.key.Part.{Part};
+ghost use Rattle.ft_pairs.specs.ByKey.{ops_of};
+ghost use Rattle.ft_pairs.specs.declared.at.At.{At};
+ghost use Rattle.ft_table.specs.Values.{own_value, values_at};
+ghost use Rattle.ft_shelves.specs.Joining.{AreGroupsOf};
+ghost use Rattle.ft_shelves.specs.Joining.{HasGroups, HasSaves, hits_of_run, saves_of_run};
+
+use ft_fields::Event;
+use ft_groups::Groups;
+use ft_hist::{Key, Trigger, Work};
+use ft_pairs::{At, Op, Pairs};
+use ft_table::{Spot, Table};
+use std::alloc::{AllocError, Global};
+use std::collections::BTreeMap;
+
+/// A trigger that joins others, and the events that it counts, grouped by key.
+#[derive(Clone, Copy)]
+pub struct Joining<'a, 'e> {
+    /// What memory comes from.
+    pub alloc: Global,
+    /// The attached triggers, it among them.
+    pub triggers: &'a BTreeMap<u32, Trigger>,
+    /// The trigger.
+    pub trigger: &'a Trigger,
+    /// Its id.
+    pub id: u32,
+    /// The events that it counts, by key.
+    pub groups: &'a Groups<'e>,
+}
+
+/// Puts the hits of all groups in a table that has none. Refused for memory.
+pub(crate) fn put_groups(
+    table: &mut Table,
+    joining: &Joining<'_, '_>,
+    work: &mut Work,
+) -> Result<(), AllocError>
+    requires empty { table.old.hits ≡ map.empty }
+    requires grouped { AreGroupsOf joining.now.trigger.now joining.now.groups.now }
+    ensures ok { OnOk result (HasGroups joining.now.trigger.now joining.now.groups.now
+        table.old table.new) }
+    ensures evals { work.new.evals ≡ work.old.evals }
+    ensures grow { StepsGrow work.old work.new }
+{
+    for key in joining.groups.keys() {
+        let run = hits_of(joining, key)?;
+        table.put_key(*key, run, work)?;
+    }
+    Ok(())
+}
+
+/// Puts a save at each event of the groups whose keys are in a table, where no operation stands.
+/// Refused for memory.
+pub(crate) fn save_groups(
+    pairs: &mut Pairs,
+    table: &Table,
+    joining: &Joining<'_, '_>,
+    work: &mut Work,
+) -> Result<(), AllocError>
+    requires free { (key : List Part) (at : At) → ops_of pairs.old key at ≡ None }
+    requires grouped { AreGroupsOf joining.now.trigger.now joining.now.groups.now }
+    ensures ok { OnOk result (HasSaves joining.now.id joining.now.groups.now table.now pairs.new) }
+    ensures evals { work.new.evals ≡ work.old.evals }
+    ensures grow { StepsGrow work.old work.new }
+{
+    for key in joining.groups.keys() {
+        if table.is_in(key) {
+            let run = saves_of(joining, key)?;
+            pairs.put_key(*key, run, work)?;
+        }
+    }
+    Ok(())
+}
+
+/// The hits of a key's events, where they read nothing. Refused for memory.
+fn hits_of(joining: &Joining<'_, '_>, key: &Key) -> Result<Vec<(Spot, [i64; 3])>, AllocError>
+    requires { AreGroupsOf joining.now.trigger.now joining.now.groups.now }
+    ensures { IfOk result (λ hits. hits.items
+        ≡ hits_of_run joining.now.trigger.now (run_of joining.now.groups.now key.now)) }
+{
+    let run = joining.groups.run(key);
+    let mut hits = Vec::with_capacity(joining.alloc, run.len())?;
+    for (pos, stored) in run {
+        let event = stored.bare();
+        let values = values_unread(joining.trigger, &event);
+        hits.push((Spot::traced(*pos), values))?;
+    }
+    Ok(hits)
+}
+
+/// What a trigger's hit at an event adds to its sums, where it reads nothing.
+fn values_unread(trigger: &Trigger, event: &Event) -> [i64; 3]
+    ensures { (pos : Pos) → pos.stamp ≡ event.now.stamp
+        → result ≡ values_at trigger.now pos event.now None }
+{
+    let own = own_value(event);
+    trigger.values_of(event, own)
+}
+
+/// The value of a trigger's own variable at an event where it reads nothing: the stamp.
+fn own_value(event: &Event) -> i64
+    ensures { (pos : Pos) → pos.stamp ≡ event.now.stamp → result ≡ own_value pos None }
+{
+    let stamp = event.stamp;
+    stamp as i64
+}
+
+/// The saves of a key's events. Refused for memory.
+fn saves_of(joining: &Joining<'_, '_>, key: &Key) -> Result<Vec<(At, Op)>, AllocError>
+    ensures { IfOk result (λ saves. saves.items
+        ≡ saves_of_run joining.now.id (run_of joining.now.groups.now key.now)) }
+{
+    let run = joining.groups.run(key);
+    let mut saves = Vec::with_capacity(joining.alloc, run.len())?;
+    for (pos, _) in run {
+        let at = At {
+            pos: *pos,
+            trigger: joining.id,
+        };
+        saves.push((at, Op::Save))?;
+    }
+    Ok(saves)
+}

@@ -1,0 +1,393 @@
+//! Shelves: what is kept of one attached trigger.
+
+ghost use Rattle.std.specs.Prelude.{◌≡◌, ◌+◌, ◌<◌, ◌≤◌, List, false, Some, None, OnOk, IfOk, IfSome, IsTrue};
+ghost use Rattle.std.specs.Prelude.{option_map};
+ghost use Rattle.std.specs.FinMap as map;
+ghost use Rattle.ft_fields.specs.Places.{pos_cmp};
+ghost use Rattle.ft_fields.specs.declared.pos.Pos.{Pos};
+ghost use Rattle.ft_keys.specs.declared.key.Part.{Part};
+ghost use Rattle.ft_maps.specs.Seen.{seen};
+ghost use Rattle.ft_pairs.specs.ByKey.{ChangesKey, ops_of, ops_left};
+ghost use Rattle.ft_pairs.specs.Edits.{with_op, without_op, reads_alone};
+ghost use Rattle.ft_pairs.specs.Next.{IsNext};
+ghost use Rattle.ft_pairs.specs.Runs.{FindEach, with_reads};
+ghost use Rattle.ft_pairs.specs.Source.{IsSource};
+ghost use Rattle.ft_pairs.specs.declared.at.At.{At};
+ghost use Rattle.ft_table.specs.Runs.{HasNone};
+ghost use Rattle.ft_table.specs.Spots.{traced};
+ghost use Rattle.ft_table.specs.Tabled.{is_in};
+ghost use Rattle.ft_hist.specs.Steps.{StepsGrow};
+ghost use Rattle.ft_shelves.specs.Shelves.{IsNewShelf};
+ghost use Rattle.ft_shelves.specs.Shelves.{DropsNotes, TakesNotes};
+ghost use Rattle.ft_shelves.specs.Edits.{OpsChange, with_hit_on, without_hit_on, with_note, note_at};
+ghost use Rattle.ft_shelves.specs.Joining.{AreGroupsOf};
+ghost use Rattle.ft_shelves.specs.Joining.{HitsCome};
+ghost use Rattle.ft_shelves.specs.inner.Joining.{SavesCome};
+ghost use Rattle.ft_shelves.specs.Joining.{ReadingsSet, RunComes, found_last};
+ghost use Rattle.ft_shelves.specs.inner.Following.{with_save};
+ghost use Rattle.ft_shelves.specs.Following.{with_saves, switched};
+
+use crate::joining::{Joining, put_groups, save_groups};
+use ft_fields::Pos;
+use ft_hist::{Key, Work};
+use ft_maps::{get, put, take};
+use ft_pairs::{At, Op, Pairs, Role};
+use ft_table::{Hit, Spot, Table};
+use std::alloc::{AllocError, Global};
+use std::collections::BTreeMap;
+use std::marker::Model;
+
+/// What is kept of one attached trigger: what it does with its variable, its hits, the operations
+/// on what it saves, and what its readings found. While notes are taken, also what readings that
+/// changed since had found.
+///
+/// Contracts see a record of the same fields.
+#[derive(Drop)]
+pub struct Shelf {
+    role: Role,
+    table: Table,
+    pairs: Pairs,
+    readings: BTreeMap<Pos, Pos>,
+    notes: Option<BTreeMap<Pos, Option<Pos>>>,
+}
+
+impl Model for Shelf {
+    ghost use Rattle.std.specs.Prelude.{option_map};
+    ghost use Rattle.ft_fields.specs.Places.{pos_cmp};
+    ghost use Rattle.ft_maps.specs.Seen.{seen};
+    ghost use Rattle.ft_shelves.specs.Shelves.{Shelved, shelved_code};
+
+    ghost Value = { Shelved };
+
+    ghost coded = { shelved_code };
+
+    ghost view = { λ s. record {
+      role = s.role;
+      table = s.table;
+      ops = s.pairs;
+      readings = seen pos_cmp s.readings;
+      notes = option_map (seen pos_cmp) s.notes;
+    } };
+}
+
+impl Shelf {
+    /// A shelf without hits, with room for at least one key. It takes no memory.
+    pub fn new(alloc: Global, role: Role, size: u32) -> Shelf
+        requires { 0 < size }
+        ensures { IsNewShelf role size result }
+    {
+        Shelf {
+            role,
+            table: Table::new(alloc, size),
+            pairs: Pairs::new(alloc),
+            readings: BTreeMap::new(alloc),
+            notes: None,
+        }
+    }
+
+    /// What the trigger does with its variable.
+    pub fn role(&self) -> Role
+        ensures { result ≡ self.now.role }
+    {
+        self.role
+    }
+
+    /// Its hits.
+    pub fn table(&self) -> &Table
+        ensures { result.now ≡ self.now.table }
+    {
+        &self.table
+    }
+
+    /// What its readings found: the place of the saving, by the place of the reading.
+    pub fn readings(&self) -> &BTreeMap<Pos, Pos>
+        ensures { seen pos_cmp result.now ≡ self.now.readings }
+    {
+        &self.readings
+    }
+
+    /// While notes are taken, what its readings that changed since had found: the place of the
+    /// saving, or none, by the place of the reading.
+    pub fn notes(&self) -> Option<&BTreeMap<Pos, Option<Pos>>>
+        ensures { option_map (λ notes. seen pos_cmp notes.now) result ≡ self.now.notes }
+    {
+        self.notes.as_ref()
+    }
+
+    /// Takes notes from now on of what readings had found before they changed. It takes no memory.
+    pub fn take_notes(&mut self, alloc: Global)
+        ensures { TakesNotes self.old self.new }
+    {
+        self.notes = Some(BTreeMap::new(alloc));
+    }
+
+    /// Takes no notes any more, and drops those that it took.
+    pub fn drop_notes(&mut self)
+        ensures { DropsNotes self.old self.new }
+    {
+        self.notes = None;
+    }
+
+    /// Notes what the reading at a place found, where notes are taken and nothing is noted of it
+    /// yet. Refused for memory.
+    pub fn note(&mut self, pos: Pos) -> Result<(), AllocError>
+        ensures { OnOk result (self.new ≡ with_note pos self.old) }
+    {
+        match &mut self.notes {
+            Some(notes) => note_at(notes, pos, get(&self.readings, &pos).copied()),
+            None => Ok(()),
+        }
+    }
+
+    /// What a reading of a key finds at a place: the saving, if the last operation before it is one.
+    pub fn source(&self, key: &Key, at: At) -> Option<At>
+        ensures { IsSource (ops_of self.now.ops key.now) at result }
+    {
+        self.pairs.source(key, at)
+    }
+
+    /// The first operation of a key behind a place, or its first of all.
+    pub fn next_op(&self, key: &Key, after: Option<At>) -> Option<(At, Op)>
+        ensures next { IsNext (ops_of self.now.ops key.now) after result }
+        ensures fewer { IfSome result (λ next.
+            ops_left self.now.ops key.now (Some next.0) < ops_left self.now.ops key.now after) }
+    {
+        self.pairs.next_op(key, after)
+    }
+
+    /// Puts a hit where none stands, and what it read, if it read. Refused for memory.
+    pub fn put_hit(
+        &mut self,
+        hit: Hit,
+        read: Option<Pos>,
+        work: &mut Work,
+    ) -> Result<(), AllocError>
+        requires { map.get self.old.table.hits (record { spot = hit.spot; key = hit.key }) ≡ None }
+        ensures ok { OnOk result (self.new
+            ≡ with_hit_on (record { spot = hit.spot; key = hit.key }) hit.values read self.old) }
+        ensures puts { work.new.puts ≤ work.old.puts + 1 }
+        ensures evals { work.new.evals ≡ work.old.evals }
+        ensures grow { StepsGrow work.old work.new }
+    {
+        if let Some(saved) = read {
+            put(&mut self.readings, hit.spot.pos, saved)?;
+        }
+        self.table.insert(hit, work)
+    }
+
+    /// Takes what stands at a place: the hit of the event there under a key, and what the reading
+    /// there found.
+    pub fn take_hit(&mut self, pos: Pos, key: Key)
+        ensures { self.new ≡ without_hit_on (record { spot = traced pos; key = key }) self.old }
+    {
+        self.table.remove(Spot::traced(pos), key);
+        take(&mut self.readings, &pos);
+    }
+
+    /// Puts an operation of a key at a place, where none stands. Refused for memory.
+    pub fn put_op(&mut self, key: Key, at: At, op: Op, work: &mut Work) -> Result<(), AllocError>
+        requires { ops_of self.old.ops key at ≡ None }
+        ensures ok { OnOk result (OpsChange key (with_op at op) self.old self.new) }
+        ensures puts { work.new.puts ≡ work.old.puts + 1 }
+        ensures evals { work.new.evals ≡ work.old.evals }
+    {
+        self.pairs.insert(key, at, op, work)
+    }
+
+    /// Takes the operation of a key at a place away, if one stands there.
+    pub fn take_op(&mut self, key: &Key, at: At)
+        ensures { OpsChange key.now (without_op at) self.old self.new }
+    {
+        self.pairs.remove(key, at);
+    }
+
+    /// Takes the saves of a key away. Its reads stay.
+    pub(crate) fn drop_saves(&mut self, key: &Key)
+        ensures { OpsChange key.now reads_alone self.old self.new }
+    {
+        self.pairs.remove_key(key);
+    }
+
+    /// Whether it has no hits, and takes no notes.
+    pub fn is_unused(&self) -> bool
+        ensures hits { IsTrue result → self.now.table.hits ≡ map.empty }
+        ensures notes { IsTrue result → self.now.notes ≡ None }
+    {
+        self.notes.is_none() && self.table.is_empty()
+    }
+
+    /// Whether no operation stands on what it saves.
+    pub fn has_no_ops(&self) -> bool
+        ensures { IsTrue result → (key : List Part) (at : At) → ops_of self.now.ops key at ≡ None }
+    {
+        self.pairs.is_empty()
+    }
+
+    /// Puts the hits of all groups of a trigger that joins, where it has none. Refused for memory.
+    pub fn put_groups(
+        &mut self,
+        joining: &Joining<'_, '_>,
+        work: &mut Work,
+    ) -> Result<(), AllocError>
+        requires empty { self.old.table.hits ≡ map.empty }
+        requires grouped { AreGroupsOf joining.now.trigger.now joining.now.groups.now }
+        ensures ok { OnOk result (HitsCome joining.now.trigger.now joining.now.groups.now
+            self.old self.new) }
+        ensures evals { work.new.evals ≡ work.old.evals }
+        ensures grow { StepsGrow work.old work.new }
+    {
+        put_groups(&mut self.table, joining, work)
+    }
+
+    /// Puts a save at each event of the groups of a saver that joins whose keys are in its table,
+    /// where no operation stands. Refused for memory.
+    pub(crate) fn save_groups(
+        &mut self,
+        joining: &Joining<'_, '_>,
+        work: &mut Work,
+    ) -> Result<(), AllocError>
+        requires free { (key : List Part) (at : At) → ops_of self.old.ops key at ≡ None }
+        requires grouped { AreGroupsOf joining.now.trigger.now joining.now.groups.now }
+        ensures ok { OnOk result (SavesCome joining.now.id joining.now.groups.now
+            self.old self.new) }
+        ensures evals { work.new.evals ≡ work.old.evals }
+        ensures grow { StepsGrow work.old work.new }
+    {
+        save_groups(&mut self.pairs, &self.table, joining, work)
+    }
+
+    /// Lets the operations of a key of this saver follow its table, where the key was in it or
+    /// not: as it comes in, each hit of it saves, and as it goes out, none does. Refused for memory.
+    pub(crate) fn switch(
+        &mut self,
+        id: u32,
+        key: Key,
+        was_in: bool,
+        work: &mut Work,
+    ) -> Result<(), AllocError>
+        requires { was_in ≡ false → (pos : Pos)
+            → ops_of self.old.ops key (record { pos = pos; trigger = id }) ≡ None }
+        ensures ok { OnOk result (OpsChange key
+            (switched was_in (is_in self.old.table key) self.old.table.hits id key)
+            self.old self.new) }
+        ensures puts { was_in ≡ is_in self.old.table key → work.new.puts ≡ work.old.puts }
+        ensures evals { work.new.evals ≡ work.old.evals }
+        ensures grow { StepsGrow work.old work.new }
+    {
+        match (was_in, self.table.is_in(&key)) {
+            (false, true) => self.put_saves(id, key, work),
+            (true, false) => {
+                self.drop_saves(&key);
+                Ok(())
+            }
+            (true, true) | (false, false) => Ok(()),
+        }
+    }
+
+    /// Puts a save at each hit of a key, where none stands yet. Refused for memory.
+    fn put_saves(&mut self, id: u32, key: Key, work: &mut Work) -> Result<(), AllocError>
+        requires { (pos : Pos)
+            → ops_of self.old.ops key (record { pos = pos; trigger = id }) ≡ None }
+        ensures ok { OnOk result (OpsChange key
+            (with_saves self.old.table.hits id key) self.old self.new) }
+        ensures evals { work.new.evals ≡ work.old.evals }
+        ensures grow { StepsGrow work.old work.new }
+    {
+        let mut next = self.table.hit_after(&key, None);
+        while let Some(hit) = next {
+            put_save(&mut self.pairs, id, key, hit.spot, work)?;
+            next = self.table.hit_after(&key, Some(hit.spot));
+        }
+        Ok(())
+    }
+
+    /// Puts reads of a key at places: what each of them finds then. Refused for memory.
+    pub fn put_reads(
+        &mut self,
+        key: Key,
+        reads: &[At],
+        work: &mut Work,
+    ) -> Result<Vec<Option<At>>, AllocError>
+        ensures ok { OnOk result (OpsChange key (with_reads reads.now) self.old self.new) }
+        ensures found { IfOk result (λ found.
+            FindEach (ops_of self.new.ops key) reads.now found.items) }
+        ensures evals { work.new.evals ≡ work.old.evals }
+        ensures grow { StepsGrow work.old work.new }
+    {
+        self.pairs.put_reads(key, reads, work)
+    }
+
+    /// Puts all hits of a key in, which has none yet. Refused for memory.
+    pub fn put_run(
+        &mut self,
+        key: Key,
+        run: Vec<(Spot, [i64; 3])>,
+        work: &mut Work,
+    ) -> Result<(), AllocError>
+        requires { HasNone key self.old.table.hits }
+        ensures ok { OnOk result (RunComes key run.items self.old self.new) }
+        ensures evals { work.new.evals ≡ work.old.evals }
+        ensures grow { StepsGrow work.old work.new }
+    {
+        self.table.put_key(key, run, work)
+    }
+
+    /// Has these readings from now on, in place of those that it has: the place of the saving by that
+    /// of the reading. Refused for memory.
+    pub fn set_readings(
+        &mut self,
+        alloc: Global,
+        readings: Vec<(Pos, Pos)>,
+    ) -> Result<(), AllocError>
+        ensures { OnOk result (ReadingsSet readings.items self.old self.new) }
+    {
+        self.readings = by_place(alloc, readings)?;
+        Ok(())
+    }
+}
+
+/// Notes what the reading at a place found, where nothing is noted of it yet. Refused for memory.
+fn note_at(
+    notes: &mut BTreeMap<Pos, Option<Pos>>,
+    pos: Pos,
+    found: Option<Pos>,
+) -> Result<(), AllocError>
+    ensures { OnOk result (seen pos_cmp notes.new ≡ note_at pos found (seen pos_cmp notes.old)) }
+{
+    if get(notes, &pos).is_some() {
+        return Ok(());
+    }
+    put(notes, pos, found)
+}
+
+/// Puts a save of a saver at a hit of a key, where none stands yet, if the hit is of an event of
+/// the trace: no other saves. Refused for memory.
+fn put_save(
+    pairs: &mut Pairs,
+    id: u32,
+    key: Key,
+    spot: Spot,
+    work: &mut Work,
+) -> Result<(), AllocError>
+    requires { spot.maker ≡ 0 → ops_of pairs.old key (record { pos = spot.pos; trigger = id }) ≡ None }
+    ensures ok { OnOk result (ChangesKey key (with_save id spot) pairs.old pairs.new) }
+    ensures evals { work.new.evals ≡ work.old.evals }
+    ensures grow { StepsGrow work.old work.new }
+{
+    if spot.maker != 0 {
+        return Ok(());
+    }
+    let at = At {
+        pos: spot.pos,
+        trigger: id,
+    };
+    pairs.insert(key, at, Op::Save, work)
+}
+
+/// The map of these readings, by place: of those at one place the last. Refused for memory.
+fn by_place(alloc: Global, readings: Vec<(Pos, Pos)>) -> Result<BTreeMap<Pos, Pos>, AllocError>
+    ensures { IfOk result (λ m. (pos : Pos)
+        → map.get (seen pos_cmp m) pos ≡ found_last readings.items pos) }
+{
+    readings.into_iter().collect(alloc)
+}

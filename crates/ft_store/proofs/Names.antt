@@ -1,0 +1,81 @@
+-- What is packed comes back from its names.
+use Rattle.std.proofs.Common.{◌≡◌, ◌+◌, ◌≤◌, ◌++◌, ℕ, List, length, take, drop, refl, ap, ◌∙◌, arith, length-append, length-drop}
+use Rattle.std.proofs.lemmas.List.{take_all, take_at, drop_at, take-append-le, drop-append-le}
+use Rattle.ft_fields.specs.declared.event.Body.{Body}
+use Rattle.ft_fields.specs.declared.event.Body.TheVariants as bodies
+use Rattle.ft_fields.specs.declared.event.Turn.{Turn}
+use Rattle.ft_fields.specs.declared.event.Wake.{Wake}
+use Rattle.ft_fields.specs.Traced.{Traced}
+use Rattle.ft_store.specs.declared.packed.Packed.{Packed}
+use Rattle.ft_store.specs.inner.Packing.{body_names, event_names, packed_wake, packed_turn, packed_body, packed, body_width, width, wake_of, turn_of, body_of, event_of, own_names, unpacked}
+
+-- ---- how many bytes names take
+
+body_takes : (body : Body) → body_width (packed_body body) ≡ length (body_names body)
+body_takes (bodies.Waking wake) = refl
+body_takes (bodies.Wakeup wake) = refl
+body_takes (bodies.WakeupNew wake) = refl
+body_takes (bodies.Switch turn) = omega (arith, length-append turn.prev_comm (turn.prev_state ++ turn.next_comm), length-append turn.prev_state turn.next_comm)
+body_takes (bodies.WakeupLatency matched) = refl
+body_takes bodies.Other = refl
+
+-- the lengths of an event's names are those of what is packed
+pub event_takes : (begins : ℕ) (event : Traced) → width (packed begins event) ≡ length (event_names event)
+event_takes begins event = omega (arith, body_takes event.body, length-append event.task (body_names event.body))
+
+-- ---- what comes back
+
+wake_back : (wake : Wake) → wake_of wake.comm (packed_wake wake) ≡ wake
+wake_back wake = ap (λ (comm : List ℕ). record { comm = comm; pid = wake.pid; prio = wake.prio; target_cpu = wake.target_cpu }) (take_all (length wake.comm) wake.comm (omega arith))
+
+turn_back : (turn : Turn) → turn_of (turn.prev_comm ++ (turn.prev_state ++ turn.next_comm)) (packed_turn turn) ≡ turn
+turn_back turn =
+    let all : List ℕ = turn.prev_comm ++ (turn.prev_state ++ turn.next_comm) in
+    let first : take (length turn.prev_comm) all ≡ turn.prev_comm = take_at turn.prev_comm (turn.prev_state ++ turn.next_comm) (length turn.prev_comm) refl in
+    let behind : drop (length turn.prev_comm) all ≡ turn.prev_state ++ turn.next_comm = drop_at turn.prev_comm (turn.prev_state ++ turn.next_comm) (length turn.prev_comm) refl in
+    let state : take (length turn.prev_state) (drop (length turn.prev_comm) all) ≡ turn.prev_state =
+    ap (take (length turn.prev_state)) behind ∙ take_at turn.prev_state turn.next_comm (length turn.prev_state) refl in
+    let last : take (length turn.next_comm) (drop (length turn.prev_state) (drop (length turn.prev_comm) all)) ≡ turn.next_comm =
+    ap (λ (names : List ℕ). take (length turn.next_comm) (drop (length turn.prev_state) names)) behind
+    ∙ ap (take (length turn.next_comm)) (drop_at turn.prev_state turn.next_comm (length turn.prev_state) refl)
+    ∙ take_all (length turn.next_comm) turn.next_comm (omega arith) in
+    ap (λ (name : List ℕ). record (turn_of all (packed_turn turn)) { prev_comm = name }) first
+    ∙ ap (λ (name : List ℕ). record (turn_of all (packed_turn turn)) { prev_comm = turn.prev_comm; prev_state = name }) state
+    ∙ ap (λ (name : List ℕ). record turn { next_comm = name }) last
+
+body_back : (body : Body) → body_of (body_names body) (packed_body body) ≡ body
+body_back (bodies.Waking wake) = ap bodies.Waking (wake_back wake)
+body_back (bodies.Wakeup wake) = ap bodies.Wakeup (wake_back wake)
+body_back (bodies.WakeupNew wake) = ap bodies.WakeupNew (wake_back wake)
+body_back (bodies.Switch turn) = ap bodies.Switch (turn_back turn)
+body_back (bodies.WakeupLatency matched) = refl
+body_back bodies.Other = refl
+
+-- an event comes back from its names
+event_back : (begins : ℕ) (event : Traced) → event_of (event_names event) (packed begins event) ≡ event
+event_back begins event =
+    let task : take (length event.task) (event_names event) ≡ event.task = take_at event.task (body_names event.body) (length event.task) refl in
+    let body : body_of (drop (length event.task) (event_names event)) (packed_body event.body) ≡ event.body =
+    ap (λ (names : List ℕ). body_of names (packed_body event.body)) (drop_at event.task (body_names event.body) (length event.task) refl)
+    ∙ body_back event.body in
+    ap (λ (name : List ℕ). record { task = name; pid = event.pid; cpu = event.cpu; stamp = event.stamp; body = body_of (drop (length event.task) (event_names event)) (packed_body event.body) }) task
+    ∙ ap (λ (said : Body). record { task = event.task; pid = event.pid; cpu = event.cpu; stamp = event.stamp; body = said }) body
+
+-- ---- names in a text
+
+-- names that are added to a text stand behind it
+added_names : (text names : List ℕ) (n : ℕ) → n ≡ length names → take n (drop (length text) (text ++ names)) ≡ names
+added_names text names n many = ap (take n) (drop_at text names (length text) refl) ∙ take_all n names (omega arith)
+
+-- an event whose names are added to a text comes back
+pub added_back : (text : List ℕ) (event : Traced) → unpacked (text ++ event_names event) (packed (length text) event) ≡ event
+added_back text event =
+    ap (λ (names : List ℕ). event_of names (packed (length text) event))
+    (added_names text (event_names event) (width (packed (length text) event)) (event_takes (length text) event))
+    ∙ event_back (length text) event
+
+-- names within a text stay where bytes are added to it
+pub names_stay : (text more : List ℕ) (event : Packed) → event.begins + width event ≤ length text → own_names (text ++ more) event ≡ own_names text event
+names_stay text more event within =
+    ap (take (width event)) (drop-append-le event.begins text more (omega arith))
+    ∙ take-append-le (width event) (drop event.begins text) more (omega (arith, length-drop event.begins text))

@@ -1,0 +1,11 @@
+-- An event that is laid is sound.
+use Rattle.std.proofs.Common.{List, length, subst}
+use Rattle.ft_store.specs.declared.packed.Packed.{Packed}
+use Rattle.ft_store.proofs.Laid.{StandsAt, laid_at}
+use Rattle.ft_store.proofs.store.Store.bare.Goals as goal
+
+pub bare-requires : goal.bare-requires
+bare-requires c =
+    let found = c.in-Some.ensures.lookup in
+    let at = subst (λ (events : List Packed). StandsAt events c.args.place c.in-Some.packed.now) c.deref.ensures.value (found.3.0, found.1) in
+    (laid_at 0 c.self.inside.events.items (length c.self.inside.names.items) c.args.place c.in-Some.packed.now c.self.invariant at).0

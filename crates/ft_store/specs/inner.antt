@@ -1,0 +1,2 @@
+-- Words of private functions: how a store packs its events.
+pub mod Packing

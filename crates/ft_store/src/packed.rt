@@ -1,0 +1,368 @@
+//! Events without their names, which stand in a text beside them.
+
+ghost use Rattle.std.specs.Prelude.{◌≡◌, ◌+◌, ◌≤◌, ◌++◌, ℕ, List, [], length, take, OnOk, OnErr};
+ghost use Rattle.ft_store.specs.inner.Packing.{turn_names, body_names, event_names, packed_wake, packed_turn, packed_body, packed};
+ghost use Rattle.ft_store.specs.inner.Packing.{turn_width, body_width, width, wake_of, turn_of, body_of, own_names, unpacked, kind_of};
+ghost use Rattle.ft_store.specs.inner.Packing.{IsShortTurn, IsShortBody, IsSound};
+ghost use Rattle.ft_store.specs.Stored.{bare_wake, bare_turn, bare_body, bare};
+
+use ft_fields::{Body, Comm, Event, Matched, Name, Turn, Wake};
+use std::alloc::AllocError;
+use std::mem::size_of;
+
+/// What a wake event says, with the length of its name.
+#[derive(Clone, Copy)]
+pub(crate) struct PackedWake {
+    pid: i32,
+    prio: i32,
+    target_cpu: i32,
+    comm: u8,
+}
+
+/// What a switch says, with the lengths of its names.
+#[derive(Clone, Copy)]
+pub(crate) struct PackedTurn {
+    prev_pid: i32,
+    prev_prio: i32,
+    next_pid: i32,
+    next_prio: i32,
+    prev_comm: u8,
+    prev_state: u8,
+    next_comm: u8,
+}
+
+/// What was traced, or made, with the lengths of its names.
+#[derive(Clone, Copy)]
+pub(crate) enum PackedBody {
+    Waking(PackedWake),
+    Wakeup(PackedWake),
+    WakeupNew(PackedWake),
+    Switch(PackedTurn),
+    WakeupLatency(Matched),
+    Other,
+}
+
+/// An event, with the place in the text where its names begin, and with their lengths.
+///
+/// The task's name is first. Those of the body are behind it, in the order of its fields.
+#[derive(Clone, Copy)]
+pub(crate) struct Packed {
+    pub(crate) stamp: u64,
+    pub(crate) begins: u32,
+    pid: i32,
+    pub(crate) cpu: u16,
+    task: u8,
+    body: PackedBody,
+}
+
+const _: () = prove!(size_of::<Packed>() == 56);
+
+/// How many bytes a name has.
+fn len_of(name: &Comm) -> u8
+    ensures value { result ≡ length name.now }
+    ensures short { result ≤ 31 }
+{
+    name.bytes().len() as u8
+}
+
+/// The name that these bytes begin with.
+#[inline(always)]
+fn name_in(names: &[u8], len: u8) -> Comm
+    requires short { len ≤ 31 }
+    requires within { len ≤ length names.now }
+    ensures { result ≡ take len names.now }
+{
+    Comm::filled(&names[..len as usize])
+}
+
+/// No name.
+#[inline(always)]
+fn no_name() -> Comm
+    ensures { result ≡ [] }
+{
+    Comm::filled(&[])
+}
+
+impl PackedWake {
+    /// A wake event without its name.
+    fn of(wake: &Wake) -> PackedWake
+        ensures value { result ≡ packed_wake wake.now }
+        ensures short { result.comm ≤ 31 }
+    {
+        PackedWake {
+            pid: wake.pid,
+            prio: wake.prio,
+            target_cpu: wake.target_cpu,
+            comm: len_of(&wake.comm),
+        }
+    }
+
+    /// The event with its name, which these bytes begin with.
+    #[inline(always)]
+    fn unpacked(&self, names: &[u8]) -> Wake
+        requires short { self.now.comm ≤ 31 }
+        requires within { self.now.comm ≤ length names.now }
+        ensures { result ≡ wake_of names.now self.now }
+    {
+        Wake {
+            comm: name_in(names, self.comm),
+            pid: self.pid,
+            prio: self.prio,
+            target_cpu: self.target_cpu,
+        }
+    }
+
+    /// The event without its name.
+    #[inline(always)]
+    fn bare(&self) -> Wake
+        ensures { (names : List ℕ) → result ≡ bare_wake (wake_of names self.now) }
+    {
+        Wake {
+            comm: no_name(),
+            pid: self.pid,
+            prio: self.prio,
+            target_cpu: self.target_cpu,
+        }
+    }
+}
+
+impl PackedTurn {
+    /// A switch without its names.
+    fn of(turn: &Turn) -> PackedTurn
+        ensures value { result ≡ packed_turn turn.now }
+        ensures short { IsShortTurn result }
+    {
+        PackedTurn {
+            prev_pid: turn.prev_pid,
+            prev_prio: turn.prev_prio,
+            next_pid: turn.next_pid,
+            next_prio: turn.next_prio,
+            prev_comm: len_of(&turn.prev_comm),
+            prev_state: len_of(&turn.prev_state),
+            next_comm: len_of(&turn.next_comm),
+        }
+    }
+
+    /// The switch with its names, which these bytes begin with.
+    #[inline(always)]
+    fn unpacked(&self, names: &[u8]) -> Turn
+        requires short { IsShortTurn self.now }
+        requires within { turn_width self.now ≤ length names.now }
+        ensures { result ≡ turn_of names.now self.now }
+    {
+        let behind = &names[self.prev_comm as usize..];
+        let last = &behind[self.prev_state as usize..];
+        Turn {
+            prev_comm: name_in(names, self.prev_comm),
+            prev_pid: self.prev_pid,
+            prev_prio: self.prev_prio,
+            prev_state: name_in(behind, self.prev_state),
+            next_comm: name_in(last, self.next_comm),
+            next_pid: self.next_pid,
+            next_prio: self.next_prio,
+        }
+    }
+
+    /// The switch without its names.
+    #[inline(always)]
+    fn bare(&self) -> Turn
+        ensures { (names : List ℕ) → result ≡ bare_turn (turn_of names self.now) }
+    {
+        Turn {
+            prev_comm: no_name(),
+            prev_pid: self.prev_pid,
+            prev_prio: self.prev_prio,
+            prev_state: no_name(),
+            next_comm: no_name(),
+            next_pid: self.next_pid,
+            next_prio: self.next_prio,
+        }
+    }
+}
+
+impl PackedBody {
+    /// What was traced, without its names.
+    fn of(body: &Body) -> PackedBody
+        ensures value { result ≡ packed_body body.now }
+        ensures short { IsShortBody result }
+    {
+        match body {
+            Body::Waking(wake) => PackedBody::Waking(PackedWake::of(wake)),
+            Body::Wakeup(wake) => PackedBody::Wakeup(PackedWake::of(wake)),
+            Body::WakeupNew(wake) => PackedBody::WakeupNew(PackedWake::of(wake)),
+            Body::Switch(turn) => PackedBody::Switch(PackedTurn::of(turn)),
+            Body::WakeupLatency(matched) => PackedBody::WakeupLatency(*matched),
+            Body::Other => PackedBody::Other,
+        }
+    }
+
+    /// The same with its names, which these bytes begin with.
+    #[inline(always)]
+    fn unpacked(&self, names: &[u8]) -> Body
+        requires short { IsShortBody self.now }
+        requires within { body_width self.now ≤ length names.now }
+        ensures { result ≡ body_of names.now self.now }
+    {
+        match self {
+            PackedBody::Waking(wake) => Body::Waking(wake.unpacked(names)),
+            PackedBody::Wakeup(wake) => Body::Wakeup(wake.unpacked(names)),
+            PackedBody::WakeupNew(wake) => Body::WakeupNew(wake.unpacked(names)),
+            PackedBody::Switch(turn) => Body::Switch(turn.unpacked(names)),
+            PackedBody::WakeupLatency(matched) => Body::WakeupLatency(*matched),
+            PackedBody::Other => Body::Other,
+        }
+    }
+
+    /// The same without its names.
+    #[inline(always)]
+    fn bare(&self) -> Body
+        ensures { (names : List ℕ) → result ≡ bare_body (body_of names self.now) }
+    {
+        match self {
+            PackedBody::Waking(wake) => Body::Waking(wake.bare()),
+            PackedBody::Wakeup(wake) => Body::Wakeup(wake.bare()),
+            PackedBody::WakeupNew(wake) => Body::WakeupNew(wake.bare()),
+            PackedBody::Switch(turn) => Body::Switch(turn.bare()),
+            PackedBody::WakeupLatency(matched) => Body::WakeupLatency(*matched),
+            PackedBody::Other => Body::Other,
+        }
+    }
+
+    /// How many bytes its names take.
+    #[inline(always)]
+    fn width(&self) -> usize
+        ensures value { result ≡ body_width self.now }
+        ensures small { result ≤ 765 }
+    {
+        match self {
+            PackedBody::Waking(wake) | PackedBody::Wakeup(wake) | PackedBody::WakeupNew(wake) => {
+                wake.comm as usize
+            }
+            PackedBody::Switch(turn) => {
+                turn.prev_comm as usize + (turn.prev_state as usize + turn.next_comm as usize)
+            }
+            PackedBody::WakeupLatency(_) | PackedBody::Other => 0,
+        }
+    }
+
+    /// Which event it is.
+    fn name(&self) -> Name
+        ensures { result ≡ kind_of self.now }
+    {
+        match self {
+            PackedBody::Waking(_) => Name::Waking,
+            PackedBody::Wakeup(_) => Name::Wakeup,
+            PackedBody::WakeupNew(_) => Name::WakeupNew,
+            PackedBody::Switch(_) => Name::Switch,
+            PackedBody::WakeupLatency(_) => Name::WakeupLatency,
+            PackedBody::Other => Name::Other,
+        }
+    }
+}
+
+impl Packed {
+    /// An event without its names, which begin at a place.
+    pub(crate) fn of(event: &Event, begins: u32) -> Packed
+        ensures value { result ≡ packed begins event.now }
+        ensures sound { IsSound result }
+    {
+        Packed {
+            stamp: event.stamp,
+            begins,
+            pid: event.pid,
+            cpu: event.cpu,
+            task: len_of(&event.task),
+            body: PackedBody::of(&event.body),
+        }
+    }
+
+    /// How many bytes its names take.
+    #[inline(always)]
+    fn width(&self) -> usize
+        ensures { result ≡ width self.now }
+    {
+        self.task as usize + self.body.width()
+    }
+
+    /// Its names in the text.
+    #[inline(always)]
+    fn own_names<'a>(&self, text: &'a [u8]) -> &'a [u8]
+        requires { self.now.begins + width self.now ≤ length text.now }
+        ensures value { result.now ≡ own_names text.now self.now }
+        ensures long { length result.now ≡ width self.now }
+    {
+        let begins = self.begins as usize;
+        &text[begins..begins + self.width()]
+    }
+
+    /// The event with its names from the text.
+    pub(crate) fn unpacked(&self, text: &[u8]) -> Event
+        requires sound { IsSound self.now }
+        requires within { self.now.begins + width self.now ≤ length text.now }
+        ensures { result ≡ unpacked text.now self.now }
+    {
+        let names = self.own_names(text);
+        Event {
+            task: name_in(names, self.task),
+            pid: self.pid,
+            cpu: self.cpu,
+            stamp: self.stamp,
+            body: self.body.unpacked(&names[self.task as usize..]),
+        }
+    }
+
+    /// The event without its names.
+    pub(crate) fn bare(&self) -> Event
+        requires { IsSound self.now }
+        ensures { (text : List ℕ) → result ≡ bare (unpacked text self.now) }
+    {
+        Event {
+            task: no_name(),
+            pid: self.pid,
+            cpu: self.cpu,
+            stamp: self.stamp,
+            body: self.body.bare(),
+        }
+    }
+
+    /// Which event it is.
+    pub(crate) fn name(&self) -> Name
+        ensures { result ≡ kind_of self.now.body }
+    {
+        self.body.name()
+    }
+}
+
+/// Adds the names of a switch to a text. After a refusal for memory some of them may be there.
+fn push_turn(text: &mut Vec<u8>, turn: &Turn) -> Result<(), AllocError>
+    ensures ok { OnOk result (text.new.items ≡ text.old.items ++ turn_names turn.now) }
+    ensures err { OnErr result (take (length text.old.items) text.new.items ≡ text.old.items) }
+{
+    text.extend_from_slice(turn.prev_comm.bytes())?;
+    text.extend_from_slice(turn.prev_state.bytes())?;
+    text.extend_from_slice(turn.next_comm.bytes())
+}
+
+/// Adds the names of what was traced to a text. After a refusal for memory some of them may be
+/// there.
+fn push_body(text: &mut Vec<u8>, body: &Body) -> Result<(), AllocError>
+    ensures ok { OnOk result (text.new.items ≡ text.old.items ++ body_names body.now) }
+    ensures err { OnErr result (take (length text.old.items) text.new.items ≡ text.old.items) }
+{
+    match body {
+        Body::Waking(wake) | Body::Wakeup(wake) | Body::WakeupNew(wake) => {
+            text.extend_from_slice(wake.comm.bytes())
+        }
+        Body::Switch(turn) => push_turn(text, turn),
+        Body::WakeupLatency(_) | Body::Other => Ok(()),
+    }
+}
+
+/// Adds the names of an event to a text. After a refusal for memory some of them may be there.
+pub(crate) fn push_names(text: &mut Vec<u8>, event: &Event) -> Result<(), AllocError>
+    ensures ok { OnOk result (text.new.items ≡ text.old.items ++ event_names event.now) }
+    ensures err { OnErr result (take (length text.old.items) text.new.items ≡ text.old.items) }
+{
+    text.extend_from_slice(event.task.bytes())?;
+    push_body(text, &event.body)
+}

@@ -1,0 +1,214 @@
+//! The store.
+
+ghost use Rattle.std.specs.Prelude.{◌≡◌, ◌≤◌, ◌++◌, ◌∷◌, [], length, take, OnOk, OnErr, IfOk};
+ghost use Rattle.ft_store.specs.inner.Packing.{event_names, packed, IsSound};
+
+use crate::packed::{Packed, push_names};
+use ft_fields::{Event, Name};
+use std::alloc::{AllocError, Global};
+use std::marker::Model;
+
+/// Events one behind the other.
+///
+/// The bytes of all names stand in one text, and the rest of each event in 56 bytes beside it.
+/// Contracts see the list of the events.
+#[derive(Drop)]
+pub struct Store {
+    names: Vec<u8>,
+    events: Vec<Packed>,
+}
+
+impl Model for Store {
+    ghost use Rattle.std.specs.Prelude.{List, length};
+    ghost use Rattle.ft_fields.specs.Traced.{Traced};
+    ghost use Rattle.ft_store.specs.Codes.{store_code};
+    ghost use Rattle.ft_store.specs.inner.Packing.{all_unpacked, AreLaid};
+
+    ghost Value = { List Traced };
+
+    ghost coded = { store_code };
+
+    ghost view = { λ s. all_unpacked s.names.items s.events.items };
+
+    ghost invariant = { λ s. AreLaid 0 s.events.items (length s.names.items) };
+}
+
+/// The last place of a text where the names of an event can begin.
+const LAST_PLACE: usize = 4_294_967_295;
+
+/// Adds an event to those that are packed, and its names to their text. After a refusal some of
+/// the names may be there.
+fn push_packed(
+    names: &mut Vec<u8>,
+    events: &mut Vec<Packed>,
+    event: &Event,
+) -> Result<(), AllocError>
+    ensures names { OnOk result (names.new.items ≡ names.old.items ++ event_names event.now) }
+    ensures events { OnOk result
+        (events.new.items ≡ events.old.items ++ packed (length names.old.items) event.now ∷ []) }
+    ensures sound { OnOk result (IsSound (packed (length names.old.items) event.now)) }
+    ensures err { OnErr result (take (length names.old.items) names.new.items ≡ names.old.items) }
+    ensures same { OnErr result (events.new.items ≡ events.old.items) }
+{
+    let begins = names.len();
+    if begins > LAST_PLACE {
+        return Err(AllocError);
+    }
+    push_names(names, event)?;
+    events.push(Packed::of(event, begins as u32))?;
+    Ok(())
+}
+
+impl Store {
+    ghost use Rattle.ft_fields.specs.Traced.{last_cpu, name_of};
+    ghost use Rattle.ft_store.specs.Stored.{bare, stored_at};
+
+    /// No events. It takes no memory.
+    pub fn new(alloc: Global) -> Store
+        ensures { result ≡ [] }
+    {
+        Store {
+            names: Vec::new(alloc),
+            events: Vec::new(alloc),
+        }
+    }
+
+    /// These events, in this order. Refused for memory.
+    pub fn of(alloc: Global, events: &[Event]) -> Result<Store, AllocError>
+        ensures { IfOk result (λ store. store ≡ events.now) }
+    {
+        let mut store = Store::new(alloc);
+        for event in events {
+            store.push(event)?;
+        }
+        Ok(store)
+    }
+
+    /// How many events there are.
+    pub fn len(&self) -> usize
+        ensures { result ≡ length self.now }
+    {
+        self.events.len()
+    }
+
+    /// For how many more events there is room before the store grows, more or less.
+    pub fn room(&self) -> usize {
+        self.events.capacity().saturating_sub(self.events.len())
+    }
+
+    /// Adds an event behind the others. Refused for memory, or where their names take 4 GiB, and
+    /// then all is as it was.
+    pub fn push(&mut self, event: &Event) -> Result<(), AllocError>
+        ensures ok { OnOk result (self.new ≡ self.old ++ event.now ∷ []) }
+        ensures err { OnErr result (self.new ≡ self.old) }
+    {
+        let begins = self.names.len();
+        if let Err(refused) = push_packed(&mut self.names, &mut self.events, event) {
+            self.names.truncate(begins);
+            return Err(refused);
+        }
+        Ok(())
+    }
+
+    /// Adds events behind the others. An empty store takes them over. Refused for memory, and then
+    /// all is as it was.
+    pub fn append(&mut self, events: Store) -> Result<(), AllocError>
+        ensures ok { OnOk result (self.new ≡ self.old ++ events) }
+        ensures err { OnErr result (self.new ≡ self.old) }
+    {
+        if self.events.is_empty() {
+            *self = events;
+            return Ok(());
+        }
+        let len = self.len();
+        if let Err(refused) = self.push_all(&events) {
+            self.truncate(len);
+            return Err(refused);
+        }
+        Ok(())
+    }
+
+    /// Adds events behind the others. After a refusal for memory some of them may be there.
+    fn push_all(&mut self, events: &Store) -> Result<(), AllocError>
+        ensures ok { OnOk result (self.new ≡ self.old ++ events.now) }
+        ensures err { OnErr result (take (length self.old) self.new ≡ self.old) }
+    {
+        for place in 0..events.len() {
+            self.push(&events.get(place))?;
+        }
+        Ok(())
+    }
+
+    /// Takes the events behind the first so many away.
+    pub fn truncate(&mut self, len: usize)
+        ensures { self.new ≡ take len self.old }
+    {
+        match self.events.get(len) {
+            Some(first) => {
+                let begins = first.begins as usize;
+                self.names.truncate(begins);
+                self.events.truncate(len);
+            }
+            None => {}
+        }
+    }
+
+    /// Takes all events away.
+    pub fn clear(&mut self)
+        ensures { self.new ≡ [] }
+    {
+        self.names.clear();
+        self.events.clear();
+    }
+
+    /// The event at a place, the blank one behind the last.
+    pub fn get(&self, place: usize) -> Event
+        ensures { result ≡ stored_at self.now place }
+    {
+        match self.events.get(place) {
+            Some(packed) => packed.unpacked(&self.names),
+            None => Event::blank(),
+        }
+    }
+
+    /// The event at a place without its names, the blank one behind the last. No name is read.
+    pub fn bare(&self, place: usize) -> Event
+        ensures { result ≡ bare (stored_at self.now place) }
+    {
+        match self.events.get(place) {
+            Some(packed) => packed.bare(),
+            None => Event::blank(),
+        }
+    }
+
+    /// The CPU of the event at a place, which is at most `Event::LAST_CPU`.
+    pub fn cpu(&self, place: usize) -> u16
+        ensures value { result ≡ (stored_at self.now place).cpu }
+        ensures fits { result ≤ last_cpu }
+    {
+        match self.events.get(place) {
+            Some(packed) => packed.cpu,
+            None => 0,
+        }
+    }
+
+    /// Which event stands at a place.
+    pub(crate) fn name_at(&self, place: usize) -> Name
+        ensures { result ≡ name_of (stored_at self.now place).body }
+    {
+        match self.events.get(place) {
+            Some(packed) => packed.name(),
+            None => Name::Other,
+        }
+    }
+
+    /// The stamp of the event at a place.
+    pub(crate) fn stamp_at(&self, place: usize) -> u64
+        ensures { result ≡ (stored_at self.now place).stamp }
+    {
+        match self.events.get(place) {
+            Some(packed) => packed.stamp,
+            None => 0,
+        }
+    }
+}

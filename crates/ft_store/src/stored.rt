@@ -1,0 +1,53 @@
+//! One event of a store.
+
+ghost use Rattle.std.specs.Prelude.{◌≡◌};
+
+use crate::store::Store;
+use ft_fields::{Event, Name};
+
+/// The event at a place of a store, as a reference to it.
+#[derive(Clone, Copy)]
+pub struct Stored<'a> {
+    store: &'a Store,
+    place: u32,
+}
+
+impl<'a> Stored<'a> {
+    ghost use Rattle.ft_fields.specs.Traced.{name_of};
+    ghost use Rattle.ft_store.specs.Stored.{bare, held, stored_at};
+
+    /// The event at a place of a store.
+    pub fn new(store: &'a Store, place: u32) -> Stored<'a>
+        ensures { held result ≡ stored_at store.now place }
+    {
+        Stored { store, place }
+    }
+
+    /// The event.
+    pub fn event(&self) -> Event
+        ensures { result ≡ held self.now }
+    {
+        self.store.get(self.place as usize)
+    }
+
+    /// The event without its names: what it says in numbers. No name is read.
+    pub fn bare(&self) -> Event
+        ensures { result ≡ bare (held self.now) }
+    {
+        self.store.bare(self.place as usize)
+    }
+
+    /// Which event it is.
+    pub fn name(&self) -> Name
+        ensures { result ≡ name_of (held self.now).body }
+    {
+        self.store.name_at(self.place as usize)
+    }
+
+    /// Its stamp, in microseconds.
+    pub fn stamp(&self) -> u64
+        ensures { result ≡ (held self.now).stamp }
+    {
+        self.store.stamp_at(self.place as usize)
+    }
+}

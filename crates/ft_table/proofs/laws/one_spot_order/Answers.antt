@@ -1,5 +1,0 @@
-use Rattle.ft_table.specs.Spots.{spot_same}
-use Rattle.ft_table.proofs.laws.one_spot_order.Goals as goal
-
-pub returns-clause-ties : goal.returns-clause-ties
-returns-clause-ties c = spot_same
