@@ -20,17 +20,17 @@ use Rattle.ft_table.specs.Rows.{row_of, row_at, rows_of}
 use Rattle.ft_table.specs.Tabled.{Tabled, keys_in, is_in}
 use Rattle.ft_base.specs.declared.refused.Refused.{Refused}
 use Rattle.ft_base.specs.declared.refused.Refused.TheVariants.{NoTrigger}
-use Rattle.ft_base.specs.Base.{Base, Triggers}
+use Rattle.ft_base.specs.Base.{Triggers}
 use Rattle.ft_replay.specs.Hits.{hits_of, pairs_of, table_for}
 use Rattle.ft_replay.specs.Merged.{Events, merged}
-use Rattle.ft_replay.specs.Replay.{State, replay}
+use Rattle.ft_replay.specs.Replay.{State}
 use Rattle.ft_replay.specs.Tally.{Tally, empty_tally, tally_of}
 use Rattle.ft_replay.specs.declared.pair.Pair.{Pair}
 use Rattle.ft_replay.proofs.Growing.{get-tally}
 use Rattle.ft_replay.proofs.Shown.{rows-tally}
 use Rattle.ft_made.specs.Laws.{HeldAreCounted, MadeAreTallied}
 use Rattle.ft_made.specs.MadeHits.{made_hits_of}
-use Rattle.ft_answers.specs.Answers.{rows_shown, row_shown, tally_at, tally_made, tally_shown, tally_rows, tally_row, of_attached}
+use Rattle.ft_answers.specs.Answers.{rows_shown, row_shown, tally_shown, tally_rows, tally_row, of_attached}
 use Rattle.ft_answers.specs.Counting.{counts_made}
 use Rattle.ft_answers.specs.Rows.{text_among, RowIsAmong}
 use Rattle.ft_answers.proofs.Answering.{of_attached-some, shown-made, shown-held}

@@ -4,7 +4,6 @@ use Rattle.std.specs.Prelude.{codes}
 use Rattle.std.proofs.lemmas.List.Folds.{flat_map-map}
 use Rattle.ft_hist.specs.Hist.{Hist}
 use Rattle.ft_rows.specs.Keyed.{KeyedText}
-use Rattle.ft_rows.specs.declared.row.Totals.{Totals}
 use Rattle.ft_rows.specs.Text.{heading, rows_text, totals_text, keyed_text}
 use Rattle.ft_base.specs.declared.refused.Refused.{Refused}
 use Rattle.ft_base.specs.Base.{Triggers}

@@ -13,7 +13,6 @@ use Rattle.std.proofs.lemmas.Bool.{cases_eq}
 use Rattle.ft_hist.specs.declared.label.Var.{Var}
 use Rattle.ft_hist.specs.declared.label.Var.TheVariants as vars
 use Rattle.ft_hist.specs.Hist.{Hist}
-use Rattle.ft_hist.specs.Matching.{keys_match}
 use Rattle.ft_base.specs.declared.refused.Refused.{Refused}
 use Rattle.ft_base.specs.declared.refused.Refused.TheVariants.{NameTaken}
 use Rattle.ft_base.specs.Base.{Triggers, Base, id_limit, trigger_limit}

@@ -1,5 +1,5 @@
 -- What an edit makes of a base, or why it is refused.
-use Rattle.std.specs.Prelude.{ℕ, Bool, true, ◌+◌, List, length, Option, Some, None, Result, Ok, Err, nat_lt, nat_le, ◌||◌, if◌then◌else◌, option_map, option_and_then}
+use Rattle.std.specs.Prelude.{ℕ, ◌+◌, List, length, Option, Some, None, Result, Ok, Err, nat_lt, nat_le, ◌||◌, if◌then◌else◌, option_map, option_and_then}
 use Rattle.std.specs.Option.{option_map_or}
 use Rattle.std.specs.FinMap as map
 use Rattle.ft_fields.specs.Traced.{Traced}

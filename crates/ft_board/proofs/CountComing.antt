@@ -25,8 +25,8 @@ use Rattle.ft_answers.specs.Costs.{count_on_all, count_on_lane}
 use Rattle.ft_replay.specs.Merged.{Events, merged, merged_with, placed, place_of}
 use Rattle.ft_replay.specs.Named.{is_named, named}
 use Rattle.ft_replay.proofs.Choosing.{get-chosen}
-use Rattle.ft_board.specs.inner.SomeLanes.{count_coming}
-use Rattle.ft_board.proofs.LanesCome.{among_lanes, count_events}
+use Rattle.ft_repair.specs.SomeLanes.{count_coming}
+use Rattle.ft_repair.proofs.LanesCome.{among_lanes, count_events}
 
 sum-map : {X Y : Type 0} (f : Y → ℕ) (g : X → Y) (xs : List X) → sum_by f (list_map g xs) ≡ sum_by (λ x. f (g x)) xs
 sum-map f g [] = refl

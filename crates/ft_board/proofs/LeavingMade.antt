@@ -30,10 +30,10 @@ use Rattle.ft_replay.specs.Merged.{Events, merged}
 use Rattle.ft_made.specs.MadeEvents.{made_by}
 use Rattle.ft_made.specs.MadeHits.{values_of_made}
 use Rattle.ft_made.specs.MadeTables.{IsMadeTable}
-use Rattle.ft_board.specs.KeptShelves.{AreKept, HasItsShelf}
+use Rattle.ft_repair.specs.KeptShelves.{AreKept, HasItsShelf}
 use Rattle.ft_board.specs.MadeShelves.{MadeTables, AreMadeBy, made_on}
-use Rattle.ft_board.specs.inner.ButOneTrigger.{AreKeptBut, OtherShelvesStay}
-use Rattle.ft_board.specs.inner.Repaired.{IfBoth}
+use Rattle.ft_repair.specs.ButOneTrigger.{AreKeptBut, OtherShelvesStay}
+use Rattle.ft_repair.specs.Repaired.{IfBoth}
 use Rattle.ft_board.proofs.StillMade.{ReadingsAre, AreRightIf, nothing_at, nothing_of}
 
 -- ---- it finds nothing

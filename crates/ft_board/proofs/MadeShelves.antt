@@ -29,7 +29,7 @@ use Rattle.ft_made.specs.MadeEvents.{made_by, made_at}
 use Rattle.ft_made.specs.MadeHits.{values_of_made}
 use Rattle.ft_made.specs.MadeTables.{Readings, IsMadeTable, found_in}
 use Rattle.ft_answers.specs.Counting.{counts_made}
-use Rattle.ft_board.specs.KeptShelves.{AreKept, HasItsShelf}
+use Rattle.ft_repair.specs.KeptShelves.{AreKept, HasItsShelf}
 use Rattle.ft_board.specs.MadeShelves.{MadeTables, made_on, AreMadeBy, AreMade}
 use Rattle.ft_board.specs.inner.Readings.{readings_on}
 

@@ -1,6 +1,6 @@
 -- A trigger that makes events of its readings reads.
-use Rattle.std.proofs.Common.{◌≡◌, Bool, true, false, Option, Some, None, is_some}
-use Rattle.std.specs.Prelude.{IsTrue, ◌&&◌, not}
+use Rattle.std.proofs.Common.{◌≡◌, true, Option, Some, None, is_some}
+use Rattle.std.specs.Prelude.{IsTrue}
 use Rattle.std.specs.Option.{option_map_or}
 use Rattle.std.proofs.lemmas.Bool.{and_parts}
 use Rattle.ft_fields.specs.declared.event.Name.{Name}

@@ -25,11 +25,11 @@ use Rattle.ft_replay.specs.Chosen.{is_among, lanes_of}
 use Rattle.ft_replay.specs.Merged.{Events, merged, held_at}
 use Rattle.ft_replay.proofs.Places.{merged_at}
 use Rattle.ft_board.specs.MadeShelves.{MadeTables}
-use Rattle.ft_board.specs.inner.ButOneEvent.{IsMissed, IsPlain, pos_at}
+use Rattle.ft_repair.specs.ButOneEvent.{IsMissed, IsPlain, pos_at}
 use Rattle.ft_board.specs.inner.Mending.{CanMend}
-use Rattle.ft_board.specs.inner.Repaired.{IfBoth}
-use Rattle.ft_board.proofs.KeptBoardLanes.{absent_before, merged_one_more, placed_there, put_back, merged_one_less}
-use Rattle.ft_board.proofs.LanesCome.{chosen_at, lanes_before, there_if}
+use Rattle.ft_repair.specs.Repaired.{IfBoth}
+use Rattle.ft_repair.proofs.MergedLanes.{absent_before, merged_one_more, placed_there, put_back, merged_one_less}
+use Rattle.ft_repair.proofs.LanesCome.{chosen_at, lanes_before, there_if}
 use Rattle.ft_board.proofs.StillMade.{ReadingsAre, AreAmong, AreNoted, AreRightIf, mend_if}
 
 -- an event that is no hit of any trigger is one of triggers without a variable alone

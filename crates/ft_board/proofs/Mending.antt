@@ -27,7 +27,7 @@ use Rattle.ft_replay.specs.Merged.{Events}
 use Rattle.ft_made.specs.MadeEvents.{made_by}
 use Rattle.ft_made.specs.MadeHits.{values_of_made}
 use Rattle.ft_made.specs.MadeTables.{Readings, IsMadeTable}
-use Rattle.ft_board.specs.KeptShelves.{AreKept, HasItsShelf}
+use Rattle.ft_repair.specs.KeptShelves.{AreKept, HasItsShelf}
 use Rattle.ft_board.specs.MadeShelves.{MadeTables, AreMadeBy, made_on}
 use Rattle.ft_board.specs.inner.Mending.{AreAlike, IsAlike}
 

@@ -41,13 +41,13 @@ use Rattle.ft_replay.proofs.Growing.{get-tally}
 use Rattle.ft_made.specs.Laws.{HeldAreCounted}
 use Rattle.ft_answers.specs.Answers.{tally_at}
 use Rattle.ft_answers.specs.Reporting.{IsReport, readers_in, row_in}
-use Rattle.ft_board.specs.KeptShelves.{AreKept, AreKeptOf, HasItsShelf}
-use Rattle.ft_board.specs.inner.ButOneEvent.{pos_at}
+use Rattle.ft_repair.specs.KeptShelves.{AreKept, AreKeptOf, HasItsShelf}
+use Rattle.ft_repair.specs.ButOneEvent.{pos_at, GathersAt}
 use Rattle.ft_board.specs.inner.Mending.{AreAlike}
-use Rattle.ft_board.specs.inner.Repaired.{IfBoth}
-use Rattle.ft_board.specs.inner.Reported.{GathersAt, IsReportBy, RepairsReported, base_with}
-use Rattle.ft_board.proofs.KeptBoardForms.{by_shelves, shelves_roles}
-use Rattle.ft_board.proofs.KeptBoardLanes.{absent_before, merged_one_less, merged_one_more, new_line_has, placed_there, put_back}
+use Rattle.ft_repair.specs.Repaired.{IfBoth}
+use Rattle.ft_board.specs.inner.Reported.{IsReportBy, RepairsReported, base_with}
+use Rattle.ft_repair.proofs.ShelfForms.{by_shelves, shelves_roles}
+use Rattle.ft_repair.proofs.MergedLanes.{absent_before, merged_one_less, merged_one_more, new_line_has, placed_there, put_back}
 use Rattle.ft_board.proofs.KeptBoardTold.{tally-first}
 use Rattle.ft_board.proofs.ReportedRows.{alike_report, reported_held, unreported_unnamed}
 

@@ -22,11 +22,11 @@ use Rattle.ft_replay.specs.Merged.{Events}
 use Rattle.ft_made.specs.MadeEvents.{made_by}
 use Rattle.ft_made.specs.MadeHits.{values_of_made}
 use Rattle.ft_made.specs.MadeTables.{Readings, found_in}
-use Rattle.ft_board.specs.KeptShelves.{AreKept, HasItsShelf}
+use Rattle.ft_repair.specs.KeptShelves.{AreKept, HasItsShelf}
 use Rattle.ft_board.specs.MadeShelves.{MadeTables, AreMadeBy}
 use Rattle.ft_board.specs.inner.Mending.{AreAlike, CanMend, MakersRead, NothingNoted, had_by}
 use Rattle.ft_board.specs.inner.Readings.{readings_on}
-use Rattle.ft_board.specs.inner.Repaired.{IfBoth}
+use Rattle.ft_repair.specs.Repaired.{IfBoth}
 use Rattle.ft_board.proofs.MadeShelves.{found_on}
 use Rattle.ft_board.proofs.Mending.{alike_kept, made_by_makers}
 

@@ -1,8 +1,8 @@
-pub mod KeptShelves
 pub mod MadeShelves
-pub mod Staying
 pub mod inner
 pub use Rattle.ft_kept.specs.Shelves
+pub use Rattle.ft_repair.specs.KeptShelves
+pub use Rattle.ft_repair.specs.Staying
 pub use Rattle.ft_answers.specs.Shown
 pub use Rattle.ft_base.specs.OneTrigger
 pub use Rattle.ft_answers.specs.Edited

@@ -1,12 +1,5 @@
--- Words of private functions: what is kept while tables are built, repaired, joined and asked.
-pub mod Built
-pub mod ButOneEvent
-pub mod ButOneLane
-pub mod ButOneTrigger
-pub mod Idle
+-- Words of private functions: what tables of made events are mended by, what is reported and what is told.
 pub mod Mending
 pub mod Readings
-pub mod Repaired
 pub mod Reported
-pub mod SomeLanes
 pub mod Told

@@ -2,16 +2,8 @@
 
 ghost use Rattle.std.specs.Prelude.{◌≡◌, true, false};
 
-use crate::join::join;
-use crate::lane_goes::let_lane_go;
-use crate::lanes_come::{cpus_before, let_lanes_come};
-use crate::laws::kept_shelves;
-use crate::leave::{leave, reads};
 use crate::made::{drop_made, remake};
 use crate::mend::{mend, take_notes};
-use crate::rebuild::renew;
-use crate::refilter::make_way;
-use crate::repair::{let_come, let_go};
 use crate::report::{report, reported_edits};
 use crate::told::{catch_up, latencies_in, row_in, rows_in, shelf_in, text_in, totals_in};
 use ft_answers::{Board, Done, Edited, Kept, Latency, TableRow};
@@ -20,6 +12,10 @@ use ft_fields::{Event, Name};
 use ft_filter::Filter;
 use ft_hist::{Key, Trigger, Work};
 use ft_kept::{Acted, Tables};
+use ft_repair::{
+    cpus_before, join, kept_shelves, leave, let_come, let_go, let_lane_go, let_lanes_come,
+    make_way, reads, renew,
+};
 use ft_store::Store;
 use ft_table::{Table, Totals};
 use std::alloc::Global;
@@ -44,7 +40,7 @@ impl Model for KeptBoard {
     ghost use Rattle.std.specs.Ordering.{nat_cmp};
     ghost use Rattle.ft_maps.specs.Seen.{seen};
     ghost use Rattle.ft_answers.specs.Codes.{shown_code};
-    ghost use Rattle.ft_board.specs.KeptShelves.{AreKeptOf};
+    ghost use Rattle.ft_repair.specs.KeptShelves.{AreKeptOf};
     ghost use Rattle.ft_board.specs.MadeShelves.{AreMade};
     ghost use Rattle.ft_answers.specs.Shown.{Shown};
 

@@ -1,16 +1,13 @@
 //! A board that keeps tables beside what it holds, and repairs them as it is edited, so that no
 //! answer replays the events.
 //!
-//! One event more or less changes a few entries. A trigger that is attached or removed leaves the
-//! tables of the others as they are; one that gets another filter leaves all but its own and those
-//! of the triggers that read what it saves. A reader takes readings from the others that read its
-//! variable, or leaves them to those: there a few entries change. Where fewer events are loaded or
-//! unloaded than stay, they come or go one by one; where more are, all is built anew. Beside these
-//! stand the tables of events that readings make. As events come or go, these are mended: the shelves
-//! note what readings had found, and behind the repair the hits of made events go and come where
-//! something is noted. They are made anew where shelves are built anew, as a trigger is attached or
-//! gets another filter, and as one goes that read. Where memory runs out for any of it, the edit
-//! stands, and the next answer builds it.
+//! Shelves, one of each trigger, follow the base by `ft_repair`: one event more or less changes a few
+//! entries, one trigger more or less leaves those of the others, and where more events are loaded or
+//! unloaded than stay, all is built anew. Beside them stand the tables of events that readings make.
+//! As events come or go, these are mended: the shelves note what readings had found, and behind the
+//! repair the hits of made events go and come where something is noted. They are made anew where
+//! shelves are built anew, as a trigger is attached or gets another filter, and as one goes that
+//! read. Where memory runs out for any of it, the edit stands, and the next answer builds it.
 //!
 //! An event that is inserted or struck may change a few rows, and these are reported: they are told
 //! by the triggers that act at the event and by what is kept behind it.
@@ -29,18 +26,11 @@
 //! ```
 #![tactic(auto)]
 
-mod join;
 mod kept;
-mod lane_goes;
-mod lanes_come;
 pub mod laws;
-mod leave;
 mod made;
 mod mend;
 mod readings;
-mod rebuild;
-mod refilter;
-mod repair;
 mod report;
 mod told;
 

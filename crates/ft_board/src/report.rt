@@ -3,9 +3,9 @@
 ghost use Rattle.std.specs.Prelude.{◌≡◌, None, IfSome};
 ghost use Rattle.ft_board.specs.inner.Reported.{IsReportBy, RepairsReported};
 
-use crate::laws::kept_shelves;
 use ft_base::Content;
 use ft_kept::{Acted, Tables};
+use ft_repair::kept_shelves;
 use ft_report::changed_rows;
 use ft_rivals::Changed;
 use std::alloc::Global;

@@ -3,10 +3,9 @@
 ghost use Rattle.std.specs.Prelude.{◌≡◌, ◌≢◌, option_map, IfOk};
 ghost use Rattle.std.specs.Option.{option_copied, ForSome};
 ghost use Rattle.ft_answers.specs.Edited.{AnswerIs};
-ghost use Rattle.ft_filter.specs.Answers.{filter_of};
 ghost use Rattle.ft_trigger.specs.TriggerIs.{trigger_of};
 ghost use Rattle.ft_desk.specs.Edits.{trigger_for, trigger_or_refused, refused_for};
-ghost use Rattle.ft_desk.specs.Edits.{filter_for, filter_or_refused, filter_refused};
+ghost use Rattle.ft_desk.specs.Edits.{filter_for, filter_refused};
 
 use crate::events::{event_in, events_in};
 use ft_answers::{Board, Done, Edited, Latency, Refused, TableRow};

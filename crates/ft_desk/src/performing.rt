@@ -1,6 +1,6 @@
 //! One line of a script.
 
-ghost use Rattle.std.specs.Prelude.{◌≡◌, ◌≢◌, ◌++◌, true, codes, map, IfOk, OnOk, Some, None, MatchOption};
+ghost use Rattle.std.specs.Prelude.{◌≡◌, ◌≢◌, true, map, IfOk, OnOk, Some, None, MatchOption};
 ghost use Rattle.ft_answers.specs.Edited.{EditGives};
 ghost use Rattle.ft_script.specs.Command.{asked};
 ghost use Rattle.ft_script.specs.Script.{asked_by};

@@ -22,7 +22,6 @@ use Rattle.ft_hist.specs.declared.item.KeyItem.{KeyItem}
 use Rattle.ft_hist.specs.Hist.{Hist}
 use Rattle.ft_hist.specs.Hit.{part_of, key_of, same_name, passes_filter, is_asked, hit}
 use Rattle.ft_hist.specs.Modifiers.{value_part}
-use Rattle.ft_hist.specs.Tests.{asked}
 use Rattle.ft_hist.specs.Values.{number_of_field, value_of, value_at, values_of}
 use Rattle.ft_keys.specs.declared.key.Part.{Part}
 use Rattle.ft_store.specs.Stored.{bare_wake, bare_turn, bare_body, bare}
@@ -164,10 +163,6 @@ bare_key (item ∷ items) event numbers =
     ∙ ap (option_and_then (λ part. option_map (λ rest. part ∷ rest) (key_of items event))) (bare_part item event parts.0)
 
 -- ---- hits
-
--- an event takes as many tests
-pub bare_asked : (hist : Hist) (event : Traced) → asked hist (bare event) ≡ asked hist event
-bare_asked hist event = ap (λ (name : Name). if same_name hist.event name then 1 else 0) (bare_name event.body)
 
 -- it is a hit under the same key, where there is no filter and no key of a text
 pub bare_hit : (hist : Hist) (event : Traced) → hist.filter ≡ None → list_any asks_text hist.keys ≡ false → hit hist (bare event) ≡ hit hist event

@@ -6,8 +6,8 @@ use Rattle.std.specs.List.{find, starts_with}
 use Rattle.std.specs.Str.{bytes_eq}
 use Rattle.ft_fields.specs.declared.event.Name.{Name}
 use Rattle.ft_head.specs.declared.draft.Kind.{Kind}
-use Rattle.ft_head.specs.Words.{Piece}
-use Rattle.ft_head.specs.Draft.{Draft, stamp_of, is_name, Since, with_part, with_other, is_part_left_out, labels}
+use Rattle.ft_pieces.specs.Words.{Piece, is_name}
+use Rattle.ft_head.specs.Draft.{Draft, stamp_of, Since, with_part, with_other, is_part_left_out, labels}
 
 -- what a map makes of nothing is nothing, and of nothing else
 none_of_map : {A B : Type 0} (f : A → B) (o : Option A) → option_map f o ≡ None → o ≡ None

@@ -11,8 +11,8 @@ use Rattle.std.specs.Str.Parse.{digits_value}
 use Rattle.ft_tokens.specs.Tokens.{is_in_name}
 use Rattle.ft_head.specs.Draft.{rounded, is_size, size_of}
 use Rattle.ft_head.specs.Sizes.{IsSize}
-use Rattle.ft_head.specs.Words.{is_number, number_in}
-use Rattle.ft_head.proofs.Separators.{is_bare, all_weaker, names_bare}
+use Rattle.ft_pieces.specs.Words.{is_number, number_in}
+use Rattle.ft_pieces.proofs.Separators.{is_bare, all_weaker, names_bare}
 use Rattle.ft_head.proofs.Rounding.{rounded_power, rounded_reached, rounded_least}
 
 -- a decimal digit is a digit

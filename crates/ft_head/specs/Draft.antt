@@ -21,7 +21,7 @@ use Rattle.ft_hist.specs.Hit.{same_name}
 use Rattle.ft_hist.specs.Modifiers.{named_modes, is_called}
 use Rattle.ft_hist.specs.Powers.{first_power}
 use Rattle.ft_head.specs.Onmatch.{Action, Handed, handed_of}
-use Rattle.ft_head.specs.Words.{Piece, pieces, Word, word_of, is_number, number_in}
+use Rattle.ft_pieces.specs.Words.{Piece, pieces, Word, word_of, is_word, same_word, is_name, is_number, number_in}
 use Rattle.ft_tokens.specs.Tokens.{name_at}
 
 -- what has been read so far; a list that has not stood yet is none, and names are not yet resolved (our own choice)
@@ -70,14 +70,6 @@ is_left_out None = false
 is_left_out (Some suffix) =
     list_any (bytes_eq suffix)
     (codes "execname" ∷ codes "sym" ∷ codes "sym-offset" ∷ codes "syscall" ∷ codes "percent" ∷ codes "graph" ∷ codes "stacktrace" ∷ [])
-
--- the word is this name, without a `$` (our own choice)
-abbrev pub is_word : Word → List ℕ → Bool
-is_word word name = not word.dollar && bytes_eq word.name name
-
--- two words have the same name, both with a `$` or both without one (our own choice)
-abbrev pub same_word : Word → Word → Bool
-same_word a b = bytes_eq a.name b.name && (if a.dollar then b.dollar else not b.dollar)
 
 -- ---- keys
 
@@ -179,10 +171,6 @@ size_of text = if is_number text && is_size (rounded (digits_value 10 text)) the
 pub data Stamp : Type 0 where
   Saved : Stamp
   Since : List ℕ → Stamp
-
--- the text is a name and nothing else (our own choice)
-abbrev pub is_name : List ℕ → Bool
-is_name text = option_map_or (λ cut. length cut.1 == 0) (name_at text) false
 
 -- the value of a variable's part (kernel: histogram.rst, inter-event hist triggers)
 unfoldable pub stamp_of : List ℕ → Option Stamp

@@ -2,10 +2,9 @@ pub mod Draft
 pub mod Drafts
 pub mod Given
 pub mod Onmatch
+pub mod PartSpelling
 pub mod Sizes
-pub mod Spelling
 pub mod TriggerFault
-pub mod Words
 pub mod inner
 pub use Rattle.ft_fields.specs.Fields
 pub use Rattle.ft_fields.specs.Names
@@ -13,3 +12,5 @@ pub use Rattle.ft_hist.specs.Hit
 pub use Rattle.ft_hist.specs.Modifiers
 pub use Rattle.ft_hist.specs.Powers
 pub use Rattle.ft_tokens.specs.Tokens
+pub use Rattle.ft_pieces.specs.Words
+pub use Rattle.ft_pieces.specs.Spelling

@@ -20,11 +20,9 @@ mod fault;
 pub mod laws;
 mod lists;
 mod onmatch;
-mod pieces;
-mod words;
 
 pub use draft::{Draft, Kind, parts_of};
 pub use fault::TriggerFault;
+pub use ft_pieces::Word;
 pub use laws::{one_action, one_list, one_word, sizes};
 pub use onmatch::Action;
-pub use words::Word;

@@ -5,16 +5,15 @@ ghost use Rattle.std.specs.Option.{option_copied, option_map_or, is_some};
 ghost use Rattle.std.specs.List.{list_any};
 ghost use Rattle.ft_head.specs.declared.fault.TriggerFault.TheVariants.{Syntax, LeftOut, BadModifier};
 ghost use Rattle.ft_head.specs.declared.fault.TriggerFault.{TriggerFault};
-ghost use Rattle.ft_head.specs.Words.{Word, word_of};
-ghost use Rattle.ft_head.specs.Draft.{given_or, unless, items_of, with_key, with_value, with_sort, is_left_out, is_word, same_word, mode_of, number_mode, buckets_of, is_key, besides_hitcount, value_fault, is_direction, is_no_key, with_field};
+ghost use Rattle.ft_pieces.specs.Words.{Word, word_of, is_word, same_word};
+ghost use Rattle.ft_head.specs.Draft.{given_or, unless, items_of, with_key, with_value, with_sort, is_left_out, mode_of, number_mode, buckets_of, is_key, besides_hitcount, value_fault, is_direction, is_no_key, with_field};
 ghost use Rattle.ft_head.specs.Given.{Gives};
 ghost use Rattle.ft_head.specs.inner.Leaving.{Leaves};
 
 use crate::fault::TriggerFault;
-use crate::pieces::{Piece, Pieces};
-use crate::words::{Word, number_in, word_of};
 use ft_fields::{Field, Name, field_named, field_text};
 use ft_hist::{KeyItem, Mode, mode_named};
+use ft_pieces::{Piece, Pieces, Word, number_in, word_of};
 use ft_text::is_same;
 use std::alloc::Global;
 

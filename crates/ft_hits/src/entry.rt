@@ -1,9 +1,8 @@
 //! Entries: the hits of one key with their sums, and all keys with theirs.
 
-ghost use Rattle.std.specs.Prelude.{◌≡◌, ℕ, ◌+◌, ◌%◌, ◌<◌, ◌^◌, OnOk, OnErr, IfOk, None, Some, IsTrue};
+ghost use Rattle.std.specs.Prelude.{◌≡◌, ◌<◌, ◌^◌, OnOk, OnErr, IfOk, None, Some, IsTrue};
 ghost use Rattle.std.specs.Prelude.{IfSome, MatchOption};
 ghost use Rattle.std.specs.declared.cmp.Ordering.TheVariants.{Less};
-ghost use Rattle.std.specs.Int.{w64, cast_unsigned};
 ghost use Rattle.std.specs.FinMap as map;
 ghost use Rattle.ft_hits.specs.Hits.{sums_of, least_key, first_place, hitcount, hits_of};
 ghost use Rattle.ft_hits.specs.Hits.{first_entry, hits_after};

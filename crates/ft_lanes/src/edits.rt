@@ -6,7 +6,7 @@ ghost use Rattle.std.specs.Ordering.{nat_cmp};
 ghost use Rattle.std.specs.FinMap as map;
 ghost use Rattle.ft_maps.specs.Seen.{seen};
 ghost use Rattle.ft_lanes.specs.Held.{number_limit};
-ghost use Rattle.ft_lanes.specs.inner.Slots.{no_slots, slots_with, slots_without, all_with, all_without, slots_in};
+ghost use Rattle.ft_lanes.specs.inner.Slots.{no_slots, all_with, all_without, slots_in};
 
 use crate::slots::Slots;
 use ft_maps::put;

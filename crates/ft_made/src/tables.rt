@@ -14,7 +14,7 @@ ghost use Rattle.ft_replay.specs.Merged.{merged, held_at};
 ghost use Rattle.ft_made.specs.Laws.{MakeNone};
 ghost use Rattle.ft_made.specs.MadeTables.{IsMadeTable, AreInOrder, ArePairsOf, found_in};
 ghost use Rattle.ft_made.specs.MadeTables.{IsFreeAt, with_made, without_made};
-ghost use Rattle.ft_made.specs.inner.Pairs.{AreFree, IsIdle, made_of_pair};
+ghost use Rattle.ft_made.specs.inner.Pairs.{AreFree, made_of_pair};
 ghost use Rattle.ft_made.specs.inner.Pairs.{with_pair, with_pairs, with_maker};
 
 use crate::readings::KeptReadings;

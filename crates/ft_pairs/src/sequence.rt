@@ -7,7 +7,7 @@ ghost use Rattle.ft_maps.specs.Seen.{seen};
 ghost use Rattle.ft_pairs.specs.Edits.{if_read};
 ghost use Rattle.ft_pairs.specs.Next.{IsNext};
 ghost use Rattle.ft_pairs.specs.Order.{at_cmp};
-ghost use Rattle.ft_pairs.specs.Runs.{ops_listed, with_reads, FindEach};
+ghost use Rattle.ft_pairs.specs.Runs.{with_reads, FindEach};
 ghost use Rattle.ft_pairs.specs.Source.{IsSource};
 ghost use Rattle.ft_pairs.specs.inner.Met.{as_reads, met, saved_by, with_read, FindFirst};
 ghost use Rattle.ft_pairs.specs.declared.at.At.{At};

@@ -1,11 +1,8 @@
 //! The text of a table.
 
-ghost use Rattle.std.specs.Prelude.{◌≡◌, ◌+◌, ◌<◌, ◌≤◌, ◌++◌, All, OnOk, OnErr, IfOk, IsTrue};
-ghost use Rattle.std.specs.Prelude.{length, decimal, map};
-ghost use Rattle.std.specs.List.{list_all};
+ghost use Rattle.std.specs.Prelude.{◌≡◌, ◌+◌, ◌<◌, ◌++◌, All, OnOk, OnErr, IfOk};
+ghost use Rattle.std.specs.Prelude.{decimal, map};
 ghost use Rattle.std.specs.Option.{option_copied};
-ghost use Rattle.ft_fields.specs.declared.event.Name.{Name};
-ghost use Rattle.ft_hist.specs.Sound.{key_suits};
 ghost use Rattle.ft_hist.specs.Fitting.{KeyFits};
 ghost use Rattle.ft_text.specs.Fronts.{IsFront};
 ghost use Rattle.ft_rows.specs.Text.{listed_parts, key_text, title, sums_text};

@@ -18,13 +18,13 @@ use Rattle.ft_hist.specs.Hit.{same_name}
 use Rattle.ft_hist.specs.Sound.{number_suits}
 use Rattle.ft_head.specs.Draft.{Draft, ◌>>=◌, unless, given_or, number_field, action_of, with_handed, with_onmatch, with_other}
 use Rattle.ft_head.specs.Onmatch.{Action, Handed, handed_of}
-use Rattle.ft_head.specs.Spelling.{IsHanded}
-use Rattle.ft_head.specs.Words.{Piece}
+use Rattle.ft_head.specs.PartSpelling.{IsHanded}
+use Rattle.ft_pieces.specs.Words.{Piece}
 use Rattle.ft_trigger.proofs.Inversions.{then_parts, unless_parts, given_parts}
 use Rattle.ft_head.proofs.Handing.{handed_parts, event_named}
-use Rattle.ft_head.proofs.Separators.{is_inner, bare_inner, names_bare}
-use Rattle.ft_head.proofs.Spelled.{name_told}
-use Rattle.ft_head.proofs.Spellings.{IsName, find_passes, bytes_same}
+use Rattle.ft_pieces.proofs.Separators.{is_inner, bare_inner, names_bare}
+use Rattle.ft_pieces.proofs.Spelled.{name_told}
+use Rattle.ft_pieces.proofs.Spellings.{IsName, find_passes, bytes_same}
 
 -- the part that says what events are made of
 abbrev pub action_bytes : Action → List ℕ

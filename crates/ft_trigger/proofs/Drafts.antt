@@ -8,13 +8,13 @@ use Rattle.ft_head.specs.declared.fault.TriggerFault.TheVariants.{Duplicate, Bad
 use Rattle.ft_head.specs.declared.draft.Kind.{Kind}
 use Rattle.ft_head.specs.declared.draft.Kind.TheVariants.{Keys, Values, Sort, Size}
 use Rattle.ft_head.specs.Draft.{Draft, blank, ◌>>=◌, given_or, items_of, with_key, with_value, with_sort, size_of, labels, is_part_left_out, with_kind, with_variable, with_onmatch, with_other, with_part, parts_from}
-use Rattle.ft_head.specs.Words.{Piece, pieces, Word}
+use Rattle.ft_pieces.specs.Words.{Piece, pieces, Word}
 use Rattle.ft_trigger.proofs.Actions.{ActionFits, action_fits}
 use Rattle.ft_trigger.proofs.Chains.{Chain, Steps, items_grow}
 use Rattle.ft_trigger.proofs.Inversions.{then_parts, unless_parts, given_parts}
 use Rattle.ft_trigger.proofs.Keyed.{KeyFits, key_steps}
 use Rattle.ft_head.proofs.Numerals.{SizeFits, size_fits}
-use Rattle.ft_head.proofs.Separators.{pieces_some}
+use Rattle.ft_pieces.proofs.Separators.{pieces_some}
 use Rattle.ft_trigger.proofs.Sorted.{SortFits, sort_steps}
 use Rattle.ft_trigger.proofs.Valued.{ValueFits, value_steps}
 use Rattle.ft_trigger.proofs.Variables.{VarFits, var_fits}

@@ -16,7 +16,7 @@ use Rattle.ft_filter.specs.Matching.{items_of, is_glob}
 use Rattle.ft_filter.specs.Answers.{going, joined_at, operand_at, filter_of}
 use Rattle.ft_hist.specs.Hist.{Hist}
 use Rattle.ft_head.specs.Onmatch.{handed_of}
-use Rattle.ft_head.specs.Words.{word_with, word_of, number_in}
+use Rattle.ft_pieces.specs.Words.{word_with, word_of, number_in}
 use Rattle.ft_head.specs.Draft.{rounded, with_key, with_value, with_sort, stamp_of, with_kind, with_variable, with_onmatch, with_part, parts_from}
 use Rattle.ft_trigger.specs.TriggerIs.{filter_in, sort_by, finished, trigger_of}
 use Rattle.ft_hist.specs.Canonical.{canonical}

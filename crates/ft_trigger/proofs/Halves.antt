@@ -10,8 +10,8 @@ use Rattle.ft_tokens.specs.Tokens.{is_gap, skip}
 use Rattle.ft_trigger.specs.Shape.{Opens, Closes, IsCut, Cut}
 use Rattle.ft_trigger.specs.TriggerIs.{head_len, behind_head, without_end, tail_of}
 use Rattle.ft_trigger.proofs.Cutting.{skip-front}
-use Rattle.ft_head.proofs.Separators.{is_seen}
-use Rattle.ft_head.proofs.Spellings.{run_front, run_passes}
+use Rattle.ft_pieces.proofs.Separators.{is_seen}
+use Rattle.ft_pieces.proofs.Spellings.{run_front, run_passes}
 use Rattle.ft_trigger.proofs.Tails.{skip_none}
 
 -- ---- runs

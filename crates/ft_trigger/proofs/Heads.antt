@@ -11,15 +11,15 @@ use Rattle.ft_hist.specs.declared.label.Var.{Var}
 use Rattle.ft_hist.specs.Canonical.{listed, more_items, key_text}
 use Rattle.ft_head.specs.Draft.{Draft, blank, ◌>>=◌, given_or, besides_hitcount, with_key, with_kind, with_part, parts_from}
 use Rattle.ft_head.specs.Onmatch.{Action}
-use Rattle.ft_head.specs.Words.{pieces, Word}
+use Rattle.ft_pieces.specs.Words.{pieces, Word}
 use Rattle.ft_trigger.proofs.Actions.{ActionFits, action_bytes}
 use Rattle.ft_trigger.proofs.Chains.{Chain, items_again, chain_inner}
 use Rattle.ft_trigger.proofs.Drafts.{If}
 use Rattle.ft_trigger.proofs.Keyed.{KeyFits, key_again, key_bare}
 use Rattle.ft_head.proofs.Numerals.{SizeFits}
-use Rattle.ft_head.proofs.Separators.{is_inner, is_seen, bare_inner, inner_free, inner_seen, pieces_first, pieces_last}
+use Rattle.ft_pieces.proofs.Separators.{is_inner, is_seen, bare_inner, inner_free, inner_seen, pieces_first, pieces_last}
 use Rattle.ft_trigger.proofs.Sorted.{SortFits, directed, sorts_again, sorts_inner}
-use Rattle.ft_head.proofs.Spellings.{word_text}
+use Rattle.ft_pieces.proofs.Spellings.{word_text}
 use Rattle.ft_trigger.proofs.Valued.{ValueFits, hits, values_again, values_inner}
 use Rattle.ft_trigger.proofs.Variables.{VarFits, var_bytes}
 

@@ -18,12 +18,12 @@ use Rattle.ft_hist.specs.declared.modifier.Mode.TheVariants as modes
 use Rattle.ft_hist.specs.Canonical.{key_text}
 use Rattle.ft_hist.specs.Modifiers.{mode_name, named_modes, is_called, mode_suffix, mode_suits}
 use Rattle.ft_head.specs.Draft.{unless, given_or, is_left_out, mode_of, number_mode, buckets_of, is_key, with_key}
-use Rattle.ft_head.specs.Words.{Word, word_of, number_in}
+use Rattle.ft_pieces.specs.Words.{Word, word_of, number_in}
 use Rattle.ft_trigger.proofs.Chains.{Steps, Again}
 use Rattle.ft_trigger.proofs.Inversions.{unless_parts, given_parts}
 use Rattle.ft_head.proofs.Numerals.{number_again, number_parts, decimal_bare}
-use Rattle.ft_head.proofs.Separators.{is_bare, names_bare, bare_free}
-use Rattle.ft_head.proofs.Spellings.{find_passes, IsName, suffix_text, IsSuffix, word_text, word_name, word_again, bytes_same}
+use Rattle.ft_pieces.proofs.Separators.{is_bare, names_bare, bare_free}
+use Rattle.ft_pieces.proofs.Spellings.{find_passes, IsName, suffix_text, IsSuffix, word_text, word_name, word_again, bytes_same}
 
 -- names that no key has
 abbrev unkept : List (List ℕ)

@@ -9,9 +9,9 @@ use Rattle.ft_hist.specs.declared.item.SortItem.{SortItem}
 use Rattle.ft_hist.specs.Hist.{Hist, IsWithin}
 use Rattle.ft_head.specs.declared.fault.TriggerFault.{TriggerFault}
 use Rattle.ft_head.specs.declared.fault.TriggerFault.TheVariants.{NoField, BadSort}
-use Rattle.ft_head.specs.Draft.{Draft, ◌>>=◌, is_word, besides_hitcount}
+use Rattle.ft_head.specs.Draft.{Draft, ◌>>=◌, besides_hitcount}
+use Rattle.ft_pieces.specs.Words.{is_word, Word, pieces}
 use Rattle.ft_trigger.specs.TriggerIs.{head_len, behind_head, tail_of, own_name, value_item, value_items, sort_by, sorts_of, is_descending, by_hits, sort_of, trigger_of}
-use Rattle.ft_head.specs.Words.{Word, pieces}
 use Rattle.ft_trigger.proofs.Chains.{Chain}
 use Rattle.ft_trigger.proofs.Drafts.{Listed, If, DraftFits, draft_fits}
 use Rattle.ft_trigger.proofs.Inversions.{then_parts, given_parts}

@@ -21,7 +21,7 @@ use Rattle.ft_head.specs.Draft.{Draft, blank, ◌>>=◌, unless, besides_hitcoun
 use Rattle.ft_hist.specs.Hist.{Hist, with_filter}
 use Rattle.ft_trigger.specs.TriggerIs.{head_len, behind_head, tail_of, own_name, value_items, sort_by, sorts_of, by_hits, sort_of, hands_other, sort_in, filter_in, finished, trigger_of}
 use Rattle.ft_head.specs.Onmatch.{Action}
-use Rattle.ft_head.specs.Words.{pieces, Word}
+use Rattle.ft_pieces.specs.Words.{pieces, Word}
 use Rattle.ft_trigger.proofs.Chains.{Chain}
 use Rattle.ft_trigger.proofs.Drafts.{Listed, If, DraftFits, draft_fits}
 use Rattle.ft_trigger.proofs.Heads.{Told, behind_values, behind_size, body, whole, told, head_again, body_seen}
@@ -29,9 +29,9 @@ use Rattle.ft_trigger.proofs.Inversions.{then_parts, unless_parts, given_parts}
 use Rattle.ft_trigger.proofs.Keyed.{KeyFits}
 use Rattle.ft_head.proofs.Numerals.{SizeFits, default_fits}
 use Rattle.ft_trigger.proofs.ReadSo.{read_so}
-use Rattle.ft_head.proofs.Separators.{is_seen}
+use Rattle.ft_pieces.proofs.Separators.{is_seen}
 use Rattle.ft_trigger.proofs.Sorted.{SortFits, directed, sorts_spelled, sorts_directed}
-use Rattle.ft_head.proofs.Spellings.{bytes_same, run_front, word_text}
+use Rattle.ft_pieces.proofs.Spellings.{bytes_same, run_front, word_text}
 use Rattle.ft_trigger.proofs.Tails.{FilterLaws, TreeFits, trimmed, if_gap, filter_again, filter_fits}
 use Rattle.ft_trigger.proofs.Valued.{ValueFits, hits, values_spelled, others_fit, besides_twice}
 

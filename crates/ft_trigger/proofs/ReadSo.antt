@@ -7,7 +7,7 @@ use Rattle.ft_hist.specs.Hist.{Hist}
 use Rattle.ft_head.specs.declared.fault.TriggerFault.TheVariants.{Syntax}
 use Rattle.ft_head.specs.Draft.{Draft, blank, ◌>>=◌, parts_from}
 use Rattle.ft_trigger.specs.TriggerIs.{head_len, behind_head, tail_of, finished, trigger_of}
-use Rattle.ft_head.specs.Words.{pieces}
+use Rattle.ft_pieces.specs.Words.{pieces}
 use Rattle.ft_trigger.proofs.Inversions.{then_parts, unless_parts}
 
 -- what was read of its head, and how it was made of that

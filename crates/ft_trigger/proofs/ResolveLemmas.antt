@@ -14,8 +14,8 @@ use Rattle.ft_hist.specs.declared.item.SortItem.{SortItem}
 use Rattle.ft_hist.specs.declared.label.Var.{Var}
 use Rattle.ft_hist.specs.declared.label.Var.TheVariants as vars
 use Rattle.ft_hist.specs.Canonical.{name_of}
-use Rattle.ft_head.specs.Words.{Word}
-use Rattle.ft_head.specs.Draft.{◌>>=◌, given_or, is_word, besides_hitcount}
+use Rattle.ft_pieces.specs.Words.{Word, is_word}
+use Rattle.ft_head.specs.Draft.{◌>>=◌, given_or, besides_hitcount}
 use Rattle.ft_trigger.specs.TriggerIs.{own_name, value_item, value_items, sort_by, sorts_of, is_descending}
 
 -- what is still to be read, behind what is read already

@@ -21,11 +21,11 @@ use Rattle.ft_head.specs.declared.fault.TriggerFault.TheVariants.{Syntax}
 use Rattle.ft_head.specs.Draft.{Draft, blank, ◌>>=◌, unless, given_or, besides_hitcount, parts_from}
 use Rattle.ft_trigger.specs.Shape.{Opens, IsCut, IsIf, TailIs, nothing, filtered, unread, other, with_tail, IsShaped}
 use Rattle.ft_trigger.specs.TriggerIs.{head_len, behind_head, tail_of, behind_if, filter_or_fault, filter_in, own_name, value_items, sort_in, finished, trigger_of}
-use Rattle.ft_head.specs.Words.{pieces}
+use Rattle.ft_pieces.specs.Words.{pieces}
 use Rattle.ft_trigger.proofs.Halves.{Known, known, cut_of, skip_opens, skip_some, skip_blank}
 use Rattle.ft_trigger.proofs.Inversions.{then_parts, unless_parts}
 use Rattle.ft_trigger.proofs.ReadAgain.{made}
-use Rattle.ft_head.proofs.Spellings.{front_same, run_passes}
+use Rattle.ft_pieces.proofs.Spellings.{front_same, run_passes}
 use Rattle.ft_trigger.proofs.Tails.{OneFilter, filter_none}
 
 -- ---- a head, and then a filter

@@ -20,14 +20,14 @@ use Rattle.ft_hist.specs.declared.item.SortItem.{SortItem}
 use Rattle.ft_hist.specs.declared.label.Var.{Var}
 use Rattle.ft_hist.specs.declared.label.Var.TheVariants as vars
 use Rattle.ft_hist.specs.Canonical.{more_items, value_text, by_text, sort_text}
-use Rattle.ft_head.specs.Draft.{◌>>=◌, items_from, is_word, same_word, is_direction, with_sort}
+use Rattle.ft_head.specs.Draft.{◌>>=◌, items_from, is_direction, with_sort}
+use Rattle.ft_pieces.specs.Words.{is_word, same_word, Word, pieces}
 use Rattle.ft_hist.specs.Hist.{Hist}
 use Rattle.ft_trigger.specs.TriggerIs.{own_name, index_where, names_value, sort_by, is_descending, sorts_of}
-use Rattle.ft_head.specs.Words.{Word, pieces}
 use Rattle.ft_trigger.proofs.Chains.{Chain, Steps, Again, items_again, chain_inner}
 use Rattle.ft_trigger.proofs.Inversions.{then_parts, unless_parts, given_parts}
-use Rattle.ft_head.proofs.Separators.{is_bare, is_inner, names_bare, bare_free, bare_inner}
-use Rattle.ft_head.proofs.Spellings.{IsName, IsSuffix, suffix_text, word_text, word_name, word_again, bytes_same}
+use Rattle.ft_pieces.proofs.Separators.{is_bare, is_inner, names_bare, bare_free, bare_inner}
+use Rattle.ft_pieces.proofs.Spellings.{IsName, IsSuffix, suffix_text, word_text, word_name, word_again, bytes_same}
 
 -- the word is one that can be read as a sort item behind others
 pub record SortFits (words : List Word) (word : Word) : Type 0 where

@@ -20,7 +20,8 @@ use Rattle.ft_hist.specs.declared.item.SortBy.TheVariants as sorts
 use Rattle.ft_hist.specs.declared.item.SortItem.{SortItem}
 use Rattle.ft_hist.specs.declared.label.Var.{Var}
 use Rattle.ft_hist.specs.declared.label.Var.TheVariants as vars
-use Rattle.ft_head.specs.Draft.{Draft, blank, ◌>>=◌, is_word, besides_hitcount, value_fault, parts_from}
+use Rattle.ft_head.specs.Draft.{Draft, blank, ◌>>=◌, besides_hitcount, value_fault, parts_from}
+use Rattle.ft_pieces.specs.Words.{is_word, Word, pieces}
 use Rattle.ft_hist.specs.Hist.{Hist, with_onmatch}
 use Rattle.ft_filter.specs.Tree.{Tree}
 use Rattle.ft_hist.specs.declared.onmatch.Onmatch.{Onmatch}
@@ -28,7 +29,6 @@ use Rattle.ft_hist.specs.Hit.{same_name}
 use Rattle.ft_hist.specs.Sound.{key_suits, value_suits, by_suits, is_reader, onmatch_suits, IsSound}
 use Rattle.ft_trigger.specs.TriggerIs.{own_name, value_item, value_items, index_where, names_value, sort_by, is_descending, sorts_of, by_hits, sort_of, hands_other, head_len, behind_head, tail_of, filter_in, finished, trigger_of}
 use Rattle.ft_head.specs.Onmatch.{Action}
-use Rattle.ft_head.specs.Words.{Word, pieces}
 use Rattle.ft_trigger.proofs.Actions.{ActionFits}
 use Rattle.ft_trigger.proofs.Chains.{Chain}
 use Rattle.ft_trigger.proofs.Inversions.{then_parts, given_parts}
@@ -37,7 +37,7 @@ use Rattle.ft_trigger.proofs.ReadAgain.{Made, made_so, keys_of, words_of}
 use Rattle.ft_trigger.proofs.Keyed.{KeyFits}
 use Rattle.ft_trigger.proofs.ReadSo.{read_so}
 use Rattle.ft_trigger.proofs.Sorted.{index_parts}
-use Rattle.ft_head.proofs.Spellings.{find_passes, bytes_same}
+use Rattle.ft_pieces.proofs.Spellings.{find_passes, bytes_same}
 use Rattle.ft_trigger.proofs.Valued.{ValueFits, hits, others_fit}
 use Rattle.ft_trigger.proofs.Variables.{VarFits}
 

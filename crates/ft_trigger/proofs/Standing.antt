@@ -20,10 +20,10 @@ use Rattle.ft_head.specs.Draft.{Draft, blank, ◌>>=◌, unless, given_or, besid
 use Rattle.ft_trigger.specs.PartFaults.{PartsFail, is_late}
 use Rattle.ft_trigger.specs.Shape.{IsCut, Cut}
 use Rattle.ft_trigger.specs.TriggerIs.{behind_if, filter_or_fault, filter_in, own_name, value_item, value_items, sort_by, sorts_of, sort_of, hands_other, sort_in, is_descending, trigger_of}
-use Rattle.ft_head.specs.Words.{Piece, Word, pieces}
+use Rattle.ft_pieces.specs.Words.{Piece, Word, pieces}
 use Rattle.ft_trigger.proofs.Halves.{cut_of}
 use Rattle.ft_trigger.proofs.ReadAgain.{made}
-use Rattle.ft_head.proofs.Separators.{pieces_append}
+use Rattle.ft_pieces.proofs.Separators.{pieces_append}
 use Rattle.ft_trigger.proofs.Shaped.{make_of, with_made, alone_cut, cut_by}
 
 -- ---- parts behind parts

@@ -16,14 +16,14 @@ use Rattle.ft_head.specs.declared.fault.TriggerFault.{TriggerFault}
 use Rattle.ft_head.specs.declared.fault.TriggerFault.TheVariants.{Syntax, Duplicate, BadSize, LeftOut}
 use Rattle.ft_head.specs.Draft.{Draft, blank, ◌>>=◌, given_or, items_from, items_of, with_key, with_value, with_sort, size_of, var_of, labels, is_part_left_out, with_kind, with_variable, with_onmatch, with_other, with_part, parts_from, besides_hitcount}
 use Rattle.ft_head.specs.Onmatch.{Action}
-use Rattle.ft_head.specs.Words.{Piece, grown, pieces, Word, word_of}
+use Rattle.ft_pieces.specs.Words.{Piece, grown, pieces, Word, word_of}
 use Rattle.ft_trigger.proofs.Actions.{onmatch_parts, onmatch_adds}
 use Rattle.ft_trigger.proofs.Inversions.{then_parts, unless_parts, given_parts}
-use Rattle.ft_head.specs.Spelling.{is_part, more_parts, joined}
+use Rattle.ft_head.specs.PartSpelling.{is_part, more_parts, joined}
 use Rattle.ft_trigger.specs.TriggerIs.{own_name, value_items, sort_in, trigger_of}
 use Rattle.ft_trigger.proofs.Keyed.{key_shift}
 use Rattle.ft_trigger.proofs.ReadAgain.{made}
-use Rattle.ft_head.proofs.Separators.{Free, is_seen, is_inner, all_weaker, pieces_first, pieces_last}
+use Rattle.ft_pieces.proofs.Separators.{Free, is_seen, is_inner, all_weaker, pieces_first, pieces_last}
 use Rattle.ft_trigger.proofs.Shaped.{make_of, with_made, alone_cut, cut_by}
 use Rattle.ft_trigger.proofs.Tails.{filter_none}
 use Rattle.ft_trigger.proofs.Valued.{value_shift}

@@ -18,7 +18,7 @@ use Rattle.ft_trigger.specs.TriggerIs.{behind_if, filter_or_fault, filter_in}
 use Rattle.ft_trigger.proofs.Drafts.{If}
 use Rattle.ft_trigger.proofs.Edges.{Opens, Closes, Edged, filter_edged}
 use Rattle.ft_trigger.proofs.Inversions.{given_parts}
-use Rattle.ft_head.proofs.Separators.{is_seen}
+use Rattle.ft_pieces.proofs.Separators.{is_seen}
 
 -- the grammar of filters relates one answer to a text
 pub record OneFilter : Type 0 where

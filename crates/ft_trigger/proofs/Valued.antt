@@ -17,14 +17,14 @@ use Rattle.ft_hist.specs.declared.item.Item.TheVariants as items
 use Rattle.ft_hist.specs.declared.label.Var.{Var}
 use Rattle.ft_hist.specs.declared.label.Var.TheVariants as vars
 use Rattle.ft_hist.specs.Canonical.{more_items, name_of, value_text}
-use Rattle.ft_head.specs.Draft.{◌>>=◌, unless, items_from, is_left_out, is_word, same_word, besides_hitcount, value_fault, with_value}
+use Rattle.ft_head.specs.Draft.{◌>>=◌, unless, items_from, is_left_out, besides_hitcount, value_fault, with_value}
+use Rattle.ft_pieces.specs.Words.{is_word, same_word, Word, pieces}
 use Rattle.ft_trigger.specs.TriggerIs.{own_name, value_item, value_items}
-use Rattle.ft_head.specs.Words.{Word, pieces}
 use Rattle.ft_trigger.proofs.Chains.{Chain, Steps, Again, items_again, chain_inner}
 use Rattle.ft_trigger.proofs.Inversions.{then_parts, unless_parts, given_parts, no_fault}
 use Rattle.ft_trigger.proofs.Keyed.{field_name}
-use Rattle.ft_head.proofs.Separators.{is_bare, is_inner, names_bare, bare_free}
-use Rattle.ft_head.proofs.Spellings.{IsName, IsSuffix, word_text, word_name, word_again, bytes_same}
+use Rattle.ft_pieces.proofs.Separators.{is_bare, is_inner, names_bare, bare_free}
+use Rattle.ft_pieces.proofs.Spellings.{IsName, IsSuffix, word_text, word_name, word_again, bytes_same}
 
 -- the name of the count of hits
 abbrev hitcount : List ℕ

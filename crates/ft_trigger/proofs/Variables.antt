@@ -14,12 +14,12 @@ use Rattle.ft_head.specs.declared.fault.TriggerFault.TheVariants.{Syntax, Duplic
 use Rattle.ft_hist.specs.declared.label.Var.{Var}
 use Rattle.ft_hist.specs.declared.label.Var.TheVariants as vars
 use Rattle.ft_hist.specs.Hit.{same_name}
-use Rattle.ft_head.specs.Draft.{Draft, unless, given_or, Stamp, Saved, Since, is_name, stamp_of, var_of, is_taken, labels, is_part_left_out, with_variable, with_other}
+use Rattle.ft_head.specs.Draft.{Draft, unless, given_or, Stamp, Saved, Since, stamp_of, var_of, is_taken, labels, is_part_left_out, with_variable, with_other}
+use Rattle.ft_pieces.specs.Words.{is_name, Piece}
 use Rattle.ft_tokens.specs.Tokens.{name_at}
-use Rattle.ft_head.specs.Words.{Piece}
 use Rattle.ft_trigger.proofs.Inversions.{unless_parts, given_parts}
-use Rattle.ft_head.proofs.Separators.{is_inner, bare_inner, names_bare}
-use Rattle.ft_head.proofs.Spellings.{IsName, name_parts, front_same, bytes_same}
+use Rattle.ft_pieces.proofs.Separators.{is_inner, bare_inner, names_bare}
+use Rattle.ft_pieces.proofs.Spellings.{IsName, name_parts, front_same, bytes_same}
 
 -- a variable's part
 abbrev pub var_bytes : Var → List ℕ

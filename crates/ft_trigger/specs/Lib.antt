@@ -13,9 +13,10 @@ pub use Rattle.ft_filter.specs.Tree
 pub use Rattle.ft_head.specs.Draft
 pub use Rattle.ft_head.specs.Onmatch
 pub use Rattle.ft_head.specs.Sizes
-pub use Rattle.ft_head.specs.Spelling
+pub use Rattle.ft_head.specs.PartSpelling
+pub use Rattle.ft_pieces.specs.Spelling
 pub use Rattle.ft_head.specs.TriggerFault
-pub use Rattle.ft_head.specs.Words
+pub use Rattle.ft_pieces.specs.Words
 pub use Rattle.ft_hist.specs.Canonical
 pub use Rattle.ft_hist.specs.Hist
 pub use Rattle.ft_hist.specs.Hit

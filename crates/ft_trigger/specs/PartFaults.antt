@@ -4,7 +4,7 @@ use Rattle.ft_fields.specs.declared.event.Name.{Name}
 use Rattle.ft_head.specs.declared.fault.TriggerFault.{TriggerFault}
 use Rattle.ft_head.specs.declared.fault.TriggerFault.TheVariants.{Syntax, NoField, BadSort, BadFilter}
 use Rattle.ft_head.specs.Draft.{blank, parts_from}
-use Rattle.ft_head.specs.Words.{pieces}
+use Rattle.ft_pieces.specs.Words.{pieces}
 
 -- parts that stand behind `hist:` have this fault, read from the left (kernel: histogram.rst, hist triggers)
 abbrev pub PartsFail : Name → List ℕ → TriggerFault → Type 0

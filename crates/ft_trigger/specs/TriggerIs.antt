@@ -21,8 +21,8 @@ use Rattle.ft_hist.specs.declared.label.Var.{Var}
 use Rattle.ft_hist.specs.declared.label.Var.TheVariants as vars
 use Rattle.std.specs.List.{find}
 use Rattle.ft_head.specs.Onmatch.{Action}
-use Rattle.ft_head.specs.Words.{pieces, Word}
-use Rattle.ft_head.specs.Draft.{Draft, blank, ◌>>=◌, unless, given_or, is_word, besides_hitcount, parts_from}
+use Rattle.ft_pieces.specs.Words.{pieces, Word, is_word}
+use Rattle.ft_head.specs.Draft.{Draft, blank, ◌>>=◌, unless, given_or, besides_hitcount, parts_from}
 use Rattle.ft_hist.specs.Hist.{Hist}
 
 -- ---- head and tail

@@ -10,7 +10,7 @@ ghost use Rattle.ft_hist.specs.Canonical.{canonical};
 ghost use Rattle.ft_hist.specs.Hist.{Hist, IsWithin, with_filter};
 ghost use Rattle.ft_hist.specs.Sound.{IsSound};
 ghost use Rattle.ft_head.specs.declared.fault.TriggerFault.{TriggerFault};
-ghost use Rattle.ft_head.specs.Spelling.{is_part, joined};
+ghost use Rattle.ft_head.specs.PartSpelling.{is_part, joined};
 ghost use Rattle.ft_trigger.specs.TriggerIs.{TriggerIs, trigger_of, filter_in};
 ghost use Rattle.ft_trigger.specs.PartFaults.{PartsFail, is_late};
 ghost use Rattle.ft_trigger.specs.Shape.{Cut, IsCut, TailIs, with_tail, IsShaped};

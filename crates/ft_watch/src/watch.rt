@@ -5,7 +5,6 @@ ghost use Rattle.std.specs.Io.{StartsWith};
 ghost use Rattle.ft_answers.specs.After.{after_strike};
 ghost use Rattle.ft_answers.specs.Base.{empty_base};
 ghost use Rattle.ft_script.specs.Script.{asked_by};
-ghost use Rattle.ft_script.specs.Command.{asked};
 ghost use Rattle.ft_printed.specs.Answered.{numbered};
 ghost use Rattle.ft_desk.specs.Edits.{after_insert_text, after_attach_text};
 ghost use Rattle.ft_desk.specs.Output.{outcome, edit_outcome};

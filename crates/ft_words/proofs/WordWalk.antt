@@ -5,7 +5,7 @@ use Rattle.std.specs.Str.{bytes_eq, chars}
 use Rattle.std.proofs.lemmas.Bool.{true≢false, false≢true}
 use Rattle.std.proofs.lemmas.Bool.Decides.{eqb_tells}
 use Rattle.clap.specs.Lexer.{long_of, short_of, name_and_value}
-use Rattle.clap.specs.Walk.{Held, Names, Row, Rule, Text, Waiting, Walk, idle, positional, trailing, value, walked, walk, arg_by_index, long_or_other, plain_word, subcommand_met, to_positional, word_met, finished, settled, reading_by, rows_after, first_of, all_of, bundle_met, rows_of}
+use Rattle.clap.specs.Walk.{Held, Row, Rule, Text, Waiting, Walk, idle, positional, value, walked, arg_by_index, long_or_other, plain_word, subcommand_met, to_positional, finished, settled, reading_by, first_of, all_of, bundle_met, rows_of}
 use Rattle.clap.specs.Words.{first_value, found_of, matched_of, raw_values}
 use Rattle.clap.specs.declared.parser.matches.ArgMatches.{ArgMatches}
 use Rattle.clap.specs.declared.parser.matches.Found.{Found}

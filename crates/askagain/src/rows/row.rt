@@ -1,6 +1,6 @@
 //! Rows: scripts with their trace files, and what they must give.
 
-ghost use Rattle.std.specs.Prelude.{◌≡◌, Some, IfOk, slice_get};
+ghost use Rattle.std.specs.Prelude.{Some};
 
 use ft_desk::{FileFault, Status, read_file};
 use std::alloc::Global;

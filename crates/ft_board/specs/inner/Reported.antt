@@ -1,22 +1,17 @@
--- What is gathered of an event that comes or goes, and the report that is made of it.
+-- The report that is made of what is gathered of an event that comes or goes.
 use Rattle.std.specs.Prelude.{◌≡◌, List, Option, Some}
 use Rattle.ft_fields.specs.Traced.{Traced}
 use Rattle.ft_fields.specs.declared.pos.Pos.{Pos}
 use Rattle.ft_rivals.specs.declared.changed.Changed.{Changed}
-use Rattle.ft_lanes.specs.Held.{Lanes, event_at}
-use Rattle.ft_kept.specs.Acted.{Gathered, Gathers, acting_of}
+use Rattle.ft_lanes.specs.Held.{Lanes}
+use Rattle.ft_kept.specs.Acted.{Gathered, acting_of}
 use Rattle.ft_kept.specs.Shelves.{Shelves}
 use Rattle.ft_kept.specs.declared.acted.Acting.{Acting}
 use Rattle.ft_report.specs.Events.{CameOrWent}
 use Rattle.ft_report.specs.Report.{report_of}
-use Rattle.ft_base.specs.declared.refused.Place.{Place}
 use Rattle.ft_base.specs.Base.{Base, Triggers}
 use Rattle.ft_answers.specs.Reporting.{IsReport}
-use Rattle.ft_board.specs.KeptShelves.{AreKeptOf}
-
--- the acts at the event of a line are gathered behind others (our own choice)
-abbrev pub GathersAt : Base → Place → Gathered → Gathered → Type 0
-GathersAt base place old new = (event : Traced) → event_at base.lanes place.cpu place.line ≡ Some event → Gathers (acting_of base.triggers event) old new
+use Rattle.ft_repair.specs.KeptShelves.{AreKeptOf}
 
 -- rows are the report of what was gathered, by shelves that are kept (our own choice)
 pub record IsReportBy (triggers : Triggers) (kept : Option Shelves) (acted : Gathered) (rows : List Changed) : Type 0 where

@@ -1,6 +1,6 @@
 use Rattle.std.proofs.Common.{◌≡◌, length}
 use Rattle.ft_head.specs.Draft.{blank, parts_from}
-use Rattle.ft_head.specs.Words.{pieces}
+use Rattle.ft_pieces.specs.Words.{pieces}
 use Rattle.ft_head.proofs.draft.parts_of.Given as goal
 
 -- the parts that are left make of the draft so far what all parts make of none

@@ -1,10 +1,9 @@
 use Rattle.std.proofs.lemmas.Result.{err_from_is_err_and}
 use Rattle.std.specs.Prelude.{option_map}
 use Rattle.std.specs.Option.{option_copied}
-use Rattle.ft_head.specs.Draft.{besides_hitcount}
+use Rattle.ft_head.specs.Draft.{besides_hitcount, Draft}
 use Rattle.ft_trigger.proofs.Plain.{values_no_filter, sort_no_filter}
 use Rattle.std.proofs.Common.{subst, Ok, ◌≡◌, rules}
-use Rattle.ft_head.specs.Draft.{Draft}
 use Rattle.ft_head.specs.Drafts.{draft_of}
 use Rattle.ft_trigger.specs.TriggerIs.{finished}
 use Rattle.ft_trigger.proofs.SoundLemmas.{finished_is, bare_sound}

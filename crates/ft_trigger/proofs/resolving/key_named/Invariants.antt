@@ -1,6 +1,6 @@
 use Rattle.std.proofs.Common.{◌≡◌, drop}
 use Rattle.ft_fields.specs.Fields.{text_of}
-use Rattle.ft_head.specs.Draft.{is_word}
+use Rattle.ft_pieces.specs.Words.{is_word}
 use Rattle.ft_trigger.specs.TriggerIs.{index_where}
 use Rattle.ft_trigger.proofs.resolving.key_named.Given as goal
 

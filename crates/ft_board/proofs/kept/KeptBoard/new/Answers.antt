@@ -3,9 +3,9 @@ use Rattle.std.proofs.Common.{sym, subst}
 use Rattle.std.specs.Ordering.{nat_cmp}
 use Rattle.ft_maps.specs.Seen.{seen}
 use Rattle.ft_base.specs.Base.{Base, empty_base}
-use Rattle.ft_board.specs.KeptShelves.{AreKeptOf}
+use Rattle.ft_repair.specs.KeptShelves.{AreKeptOf}
 use Rattle.ft_board.specs.MadeShelves.{AreMade}
-use Rattle.ft_board.proofs.Joining.{empty_kept}
+use Rattle.ft_repair.proofs.Joining.{empty_kept}
 use Rattle.ft_board.proofs.MadeShelves.{none_counts}
 use Rattle.ft_board.proofs.kept.KeptBoard.new.Goals as goal
 

@@ -11,13 +11,13 @@ use Rattle.ft_answers.specs.Deferral.{IsNoHit}
 use Rattle.ft_answers.specs.Reporting.{IsReport}
 use Rattle.ft_replay.specs.Merged.{merged}
 use Rattle.ft_answers.specs.Shown.{Shown}
-use Rattle.ft_board.specs.inner.Reported.{GathersAt}
+use Rattle.ft_repair.specs.ButOneEvent.{GathersAt}
 use Rattle.ft_board.proofs.CountingNone.{inserted_triggers}
-use Rattle.ft_board.proofs.FewSteps.{inserted_costs}
-use Rattle.ft_board.proofs.KeptBoardRepair.{inserted_if, inserted_missed}
+use Rattle.ft_repair.proofs.FewSteps.{inserted_costs}
+use Rattle.ft_repair.proofs.OneEvent.{inserted_if, inserted_missed}
 use Rattle.ft_board.proofs.KeptBoardTold.{none_is}
 use Rattle.ft_board.proofs.MendedEdits.{inserted_mend, missed_plain}
-use Rattle.ft_board.proofs.Repaired.{still_there}
+use Rattle.ft_repair.proofs.Repaired.{still_there}
 use Rattle.ft_board.proofs.Reports.{AreRepaired, if_there_is, inserted_reported}
 use Rattle.ft_board.proofs.StillMade.{AreNoted, among_same, alike_if, mended_if, noted_by, quiet_if}
 use Rattle.ft_board.proofs.kept.KeptBoardBoard.insert.Goals as goal

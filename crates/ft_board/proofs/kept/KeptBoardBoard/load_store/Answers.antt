@@ -10,10 +10,10 @@ use Rattle.ft_answers.specs.Costs.{count_on_all}
 use Rattle.ft_answers.specs.Counting.{MakesNothing}
 use Rattle.ft_answers.specs.Shown.{Shown}
 use Rattle.ft_replay.specs.Merged.{merged}
-use Rattle.ft_board.specs.inner.SomeLanes.{count_coming}
+use Rattle.ft_repair.specs.SomeLanes.{count_coming}
 use Rattle.ft_board.proofs.CountComing.{coming_few}
 use Rattle.ft_board.proofs.CountingNone.{loaded_triggers}
-use Rattle.ft_board.proofs.LanesCome.{loaded_if}
+use Rattle.ft_repair.proofs.LanesCome.{loaded_if}
 use Rattle.ft_board.proofs.MendedEdits.{loaded_mend}
 use Rattle.ft_board.proofs.StillMade.{AreNoted, among_same, alike_if, mended_if, noted_by}
 use Rattle.ft_board.proofs.kept.KeptBoardBoard.load_store.Goals as goal

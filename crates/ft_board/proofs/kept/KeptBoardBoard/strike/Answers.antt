@@ -15,13 +15,13 @@ use Rattle.ft_answers.specs.Reporting.{IsReport}
 use Rattle.ft_replay.specs.Merged.{merged}
 use Rattle.ft_answers.specs.Shown.{Shown}
 use Rattle.ft_base.proofs.Cases.{strike-place}
-use Rattle.ft_board.specs.inner.ButOneEvent.{IsPlain}
-use Rattle.ft_board.specs.inner.Reported.{GathersAt, base_with}
-use Rattle.ft_board.proofs.FewSteps.{struck_costs}
-use Rattle.ft_board.proofs.KeptBoardRepair.{struck_if}
+use Rattle.ft_repair.specs.ButOneEvent.{IsPlain, GathersAt}
+use Rattle.ft_board.specs.inner.Reported.{base_with}
+use Rattle.ft_repair.proofs.FewSteps.{struck_costs}
+use Rattle.ft_repair.proofs.OneEvent.{struck_if}
 use Rattle.ft_board.proofs.KeptBoardTold.{none_is}
 use Rattle.ft_board.proofs.MendedEdits.{struck_among}
-use Rattle.ft_board.proofs.Repaired.{still_there}
+use Rattle.ft_repair.proofs.Repaired.{still_there}
 use Rattle.ft_board.proofs.Reports.{AreRepaired, if_there_is, struck_reported}
 use Rattle.ft_board.proofs.StillMade.{AreNoted, AreRightIf, among_same, alike_if, mend_if, mended_if, noted_by, quiet_if}
 use Rattle.ft_board.proofs.kept.KeptBoardBoard.strike.Goals as goal

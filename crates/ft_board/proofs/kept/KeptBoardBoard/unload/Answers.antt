@@ -7,7 +7,7 @@ use Rattle.ft_answers.specs.Deferral.{IsPlainLane}
 use Rattle.ft_answers.specs.Shown.{Shown}
 use Rattle.ft_replay.specs.Merged.{merged}
 use Rattle.ft_board.proofs.MendedEdits.{lane_among}
-use Rattle.ft_board.proofs.Repaired.{still_there}
+use Rattle.ft_repair.proofs.Repaired.{still_there}
 use Rattle.ft_board.proofs.StillMade.{AreNoted, AreRightIf, among_same, alike_if, mend_if, mended_if, noted_by, quiet_if}
 use Rattle.ft_board.proofs.kept.KeptBoardBoard.unload.Goals as goal
 

@@ -1,7 +1,6 @@
 -- The lanes of a walk are those of the slots, which `get` finds.
 use Rattle.std.proofs.Common.{sym, ap, ◌∙◌}
 use Rattle.std.specs.Ordering.{nat_cmp}
-use Rattle.std.specs.BTreeMap as tree
 use Rattle.std.specs.Cmp.{nat_cmp_total}
 use Rattle.std.specs.FinMap as map
 use Rattle.ft_maps.specs.Seen.{seen, entries-seen}

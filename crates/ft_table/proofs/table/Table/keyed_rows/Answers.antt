@@ -1,5 +1,5 @@
 -- The rows are those of hits, whose keys fit.
-use Rattle.std.proofs.Common.{List, sym, subst, ap, ◌∙◌, map as list_map}
+use Rattle.std.proofs.Common.{List, sym, subst, ◌∙◌}
 use Rattle.std.specs.List.{All}
 use Rattle.ft_hist.specs.Fitting.{KeyFits}
 use Rattle.ft_rows.specs.Counted.{Counted}

@@ -1,4 +1,4 @@
-use Rattle.std.proofs.Common.{◌≡◌, Bool, true, false, refl, sym, ap, subst, Some, None, Option, Bor}
+use Rattle.std.proofs.Common.{◌≡◌, true, false, refl, sym, ap, subst, Some, None, Option, Bor}
 use Rattle.std.specs.Option.{is_some, option_copied}
 use Rattle.std.specs.Ordering.{nat_cmp}
 use Rattle.std.specs.FinMap as map

@@ -1,8 +1,0 @@
-use Rattle.std.specs.Ordering.{nat_cmp}
-use Rattle.ft_maps.specs.Seen.{seen}
-use Rattle.ft_board.proofs.KeptBoardBuilt.{AreNewBut}
-use Rattle.ft_board.proofs.rebuild.new_tables.Given as goal
-
--- all triggers but those that are left have new shelves
-abbrev pub invariant-loop-id : goal.invariant-loop-id
-invariant-loop-id l = AreNewBut (seen nat_cmp l.triggers) l.id-iterator l.tables

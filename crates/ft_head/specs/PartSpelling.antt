@@ -1,0 +1,35 @@
+-- Parts of a head, told by the texts that they make (kernel: histogram.rst, hist triggers).
+use Rattle.std.specs.Prelude.{◌≡◌, ◌==◌, ◌&&◌, ℕ, Bool, not, true, List, [], ◌∷◌, ◌++◌, Some, codes}
+use Rattle.std.specs.List.{list_all}
+use Rattle.ft_fields.specs.Names.{is_traced, name_text}
+use Rattle.ft_tokens.specs.Tokens.{is_gap}
+use Rattle.ft_head.specs.Onmatch.{Handed}
+use Rattle.ft_pieces.specs.Spelling.{IsNamed}
+
+-- ---- parts that say what events are made of
+
+-- the part is of this form, without spaces: the event is one of the kernel's, and what is handed on is spelled like fields (kernel: histogram.rst, the `onmatch` handler)
+pub record IsHanded (part : List ℕ) (words : Handed) : Type 0 where
+  pub event : List ℕ
+  pub called : name_text words.event ≡ Some event
+  pub traced : is_traced words.event ≡ true
+  pub own : IsNamed words.own
+  pub pid : IsNamed words.pid
+  pub prio : IsNamed words.prio
+  pub is : part ≡ codes "onmatch(sched." ++ (event ++ (codes ").wakeup_latency($" ++ (words.own ++ (codes "," ++ (words.pid ++ (codes "," ++ (words.prio ++ codes ")")))))))
+
+-- ---- parts
+
+-- a text that a part may be: no space, no tab and no `:` is in it (kernel: histogram.rst, hist triggers)
+abbrev pub is_part : List ℕ → Bool
+is_part text = list_all (λ byte. not (is_gap byte) && not (byte == 58)) text
+
+-- parts behind others, each behind a `:` (kernel: histogram.rst, hist triggers)
+abbrev pub more_parts : List (List ℕ) → List ℕ
+more_parts [] = []
+more_parts (part ∷ parts) = 58 ∷ (part ++ more_parts parts)
+
+-- parts joined by `:` (kernel: histogram.rst, hist triggers)
+abbrev pub joined : List (List ℕ) → List ℕ
+joined [] = []
+joined (part ∷ parts) = part ++ more_parts parts

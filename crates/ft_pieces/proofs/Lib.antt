@@ -1,0 +1,4 @@
+pub mod PieceLemmas
+pub mod Separators
+pub mod Spelled
+pub mod Spellings

@@ -1,0 +1,107 @@
+-- All acts of an idle trigger come at once, from a list of events with its own.
+use Rattle.std.proofs.Common.{◌≡◌, ℕ, Bool, true, false, cond, refl, sym, ap, subst, ◌∙◌, List, [], ◌∷◌, Option, Some, None, Result, Ok, Err, OnOk, unwrap_or}
+use Rattle.std.specs.Prelude.{if◌then◌else◌}
+use Rattle.std.specs.List.{list_any}
+use Rattle.std.specs.Ordering.{nat_cmp, eq_by_cmp}
+use Rattle.std.specs.FinMap as map
+use Rattle.std.specs.FinMap.{find, get-entries}
+use Rattle.std.proofs.lemmas.Bool.{or_parts, eq-eqb, ne_eqb, true≢false}
+use Rattle.ft_fields.specs.Traced.{Traced}
+use Rattle.ft_fields.specs.declared.event.Name.{Name}
+use Rattle.ft_fields.specs.declared.pos.Pos.{Pos}
+use Rattle.ft_hist.specs.Hist.{Hist}
+use Rattle.ft_hist.specs.Hit.{same_name}
+use Rattle.ft_groups.specs.Grouped.{Grouped, AreGrouped}
+use Rattle.ft_keys.specs.declared.key.Part.{Part}
+use Rattle.ft_kept.specs.Acts.{Acts, acts_of}
+use Rattle.ft_kept.specs.AtOnce.{AllCome, AllHaveCome, AreGroupsOf, acts_with}
+use Rattle.ft_kept.specs.Shelves.{Shelves, FormsStay, admits_on, kept_on}
+use Rattle.ft_lanes.specs.Held.{Lanes}
+use Rattle.ft_pairs.specs.declared.at.At.{At}
+use Rattle.ft_base.specs.Base.{Triggers}
+use Rattle.ft_replay.specs.Merged.{merged}
+use Rattle.ft_replay.specs.Named.{is_on, named, events_on}
+use Rattle.ft_repair.specs.Outside.{acts_outside}
+use Rattle.ft_repair.specs.inner.Idle.{HasItsEvents, HasJoined, but_one}
+use Rattle.ft_repair.proofs.HeldActs.{held_is}
+use Rattle.ft_repair.proofs.ShelfForms.{shelves_stay, by_shelves, by_triggers}
+use Rattle.ft_repair.proofs.OneTrigger.{IsAmong, act_by, on_held, own_acts}
+use Rattle.ft_repair.proofs.Putting.{idle_none, idle_joined, outside_held}
+
+-- the name of an attached trigger is one on which some trigger is
+among_all : (triggers : Triggers) (id : ℕ) (hist : Hist) → map.get triggers id ≡ Some hist → IsAmong hist (is_on triggers)
+unfolding is_on
+among_all triggers id hist attached name same =
+    elim (is_on triggers name) as (λ (b : Bool). is_on triggers name ≡ b → b ≡ true) [
+      | true ↦ λ _. refl
+      | false ↦ λ none. absurd (true≢false (sym same ∙ others (map.entries triggers) none (sym (get-entries triggers id) ∙ attached)))
+    ] refl
+  where
+    others : (es : List (ℕ × Hist)) → list_any (λ attached. same_name attached.1.event name) es ≡ false → find nat_cmp id es ≡ Some hist → same_name hist.event name ≡ false
+    others [] none found = let both : ◌≡◌ {A = Option Hist} None (Some hist) = found in absurd cc
+    others (e ∷ es) none found =
+        let parts = or_parts (same_name e.1.event name) (list_any (λ (attached : ℕ × Hist). same_name attached.1.event name) es) none in
+        elim (eq_by_cmp nat_cmp id e.0) as (λ (b : Bool). cond b (Some e.1) (find nat_cmp id es) ≡ Some hist → same_name hist.event name ≡ false) [
+          | true ↦ λ here. ap (λ (h : Hist). same_name h.event name) (sym (ap (λ (o : Option Hist). unwrap_or o e.1) here)) ∙ parts.0
+          | false ↦ λ later. others es parts.1 later
+        ] found
+
+-- and so the named events are a list with its own
+pub named_listed : (triggers : Triggers) (lanes : Lanes) (id : ℕ) (hist : Hist) → map.get triggers id ≡ Some hist
+    → (es : List (Pos × Traced)) → es ≡ map.entries (named triggers (merged lanes)) → HasItsEvents lanes hist es
+unfolding named events_on
+named_listed triggers lanes id hist attached es are = record { names = is_on triggers; own = among_all triggers id hist attached; all = are }
+
+-- groups of a list with a trigger's events are those of the events at their places
+module _ (lanes : Lanes) (hist : Hist) (es : List (Pos × Traced)) (listed : HasItsEvents lanes hist es) (groups : Grouped) (are : AreGrouped hist es groups) where
+  pub its_groups : AreGrouped hist (map.entries (events_on listed.names (merged lanes))) groups
+  its_groups = subst (λ (events : List (Pos × Traced)). AreGrouped hist events groups) listed.all are
+
+  pub are_groups : AreGroupsOf hist groups
+  are_groups = record {
+    events = events_on listed.names (merged lanes);
+    stamped = λ pos event is. (held_is lanes pos event (on_held lanes listed.names pos event is)).1;
+    grouped = its_groups;
+  }
+
+-- what two facts of a success tell together
+pub both_ok : {T E : Type 0} {P Q S : Type 0} (r : Result T E) → (P → Q → S) → OnOk r P → OnOk r Q → OnOk r S
+both_ok (Ok x) f p q = f p q
+both_ok (Err e) f p q = tt
+
+module _ (triggers : Triggers) (lanes : Lanes) (id : ℕ) (hist : Hist) (attached : map.get triggers id ≡ Some hist) (names : Name → Bool) (among : IsAmong hist names) where
+  abbrev its_acts : Pos → Option (List Part × Traced)
+  its_acts = acts_with hist (events_on names (merged lanes))
+
+  module _ (idle : ℕ → Bool) (here : idle id ≡ true) where
+    abbrev before : Acts
+    before = acts_outside idle triggers lanes
+
+    abbrev after : Acts
+    after = acts_outside (but_one id idle) triggers lanes
+
+    its_own : (pos : Pos) → acts_of triggers (events_on names (merged lanes)) (record { pos = pos; trigger = id }) ≡ its_acts pos
+    unfolding acts_of
+    its_own pos = ap (λ (h : Option Hist). act_by h (map.get (events_on names (merged lanes)) pos)) attached
+
+    all_come : AllCome id its_acts before after
+    all_come = record {
+      elsewhere = λ q apart. sym (idle_joined triggers lanes id idle q) ∙ ap (λ (b : Bool). if b then acts_of triggers (merged lanes) q else before q) (ne_eqb q.trigger id apart);
+      absent = λ pos. idle_none triggers lanes id idle here (record { pos = pos; trigger = id }) refl;
+      here = λ pos.
+          let at : At = record { pos = pos; trigger = id } in
+          sym (idle_joined triggers lanes id idle at)
+          ∙ ap (λ (b : Bool). if b then acts_of triggers (merged lanes) at else before at) (eq-eqb id id refl)
+          ∙ sym (own_acts triggers lanes id before hist attached (outside_held triggers lanes idle) names among at refl)
+          ∙ its_own pos;
+    }
+
+  pub joined_at_once : (old new : Shelves) → FormsStay old new → AllHaveCome triggers id its_acts old new → HasJoined id triggers lanes old new
+  joined_at_once old new forms come idle here is =
+      let before = acts_outside idle triggers lanes in
+      let after = acts_outside (but_one id idle) triggers lanes in
+      record {
+        each = shelves_stay triggers old new is.each forms;
+        kept = by_triggers triggers old is.each (admits_on new) after (kept_on new)
+            (come before after (all_come idle here) (by_shelves triggers old is.each (admits_on old) before (kept_on old) is.kept));
+      }

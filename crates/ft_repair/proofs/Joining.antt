@@ -1,0 +1,180 @@
+-- A family gets new shelves: nothing is kept of it, and of the others all stays.
+use Rattle.std.proofs.Common.{◌≡◌, ℕ, Bool, true, false, true≢false, inr, List, refl, sym, ap, subst, ◌∙◌, Option, Some, None}
+use Rattle.std.specs.Prelude.{option_and_then, if◌then◌else◌}
+use Rattle.std.specs.Ordering.{nat_cmp}
+use Rattle.std.specs.FinMap as map
+use Rattle.std.specs.FinMap.{get-empty}
+use Rattle.ft_fields.specs.declared.pos.Pos.{Pos}
+use Rattle.ft_fields.specs.Places.{pos_cmp}
+use Rattle.ft_hist.specs.Hist.{Hist}
+use Rattle.ft_keys.specs.declared.key.Part.{Part}
+use Rattle.ft_lanes.specs.Held.{Lanes}
+use Rattle.ft_pairs.specs.ByKey.{ops_of}
+use Rattle.ft_pairs.specs.declared.at.At.{At}
+use Rattle.ft_pairs.specs.declared.role.Role.TheVariants.{Reads}
+use Rattle.ft_pairs.specs.declared.role.Variable.{Variable}
+use Rattle.ft_table.specs.Tabled.{Tabled}
+use Rattle.ft_table.specs.Values.{values_by}
+use Rattle.ft_table.specs.Spots.{traced}
+use Rattle.ft_kept.specs.Acts.{Acts, acts_of, op_of}
+use Rattle.ft_kept.specs.Entries.{IsKept, IsRight, hits_here, read_here}
+use Rattle.ft_kept.specs.Shelves.{Shelved, Shelves, admits_on, kept_on}
+use Rattle.ft_base.specs.Base.{Triggers}
+use Rattle.ft_base.specs.Roles.{role_at}
+use Rattle.ft_replay.specs.Merged.{merged}
+use Rattle.ft_repair.specs.KeptShelves.{AreKept, HasItsShelf}
+use Rattle.ft_repair.specs.inner.Built.{AreNew, HasNewShelf}
+use Rattle.ft_repair.specs.Outside.{AreKeptOutside, acts_outside}
+use Rattle.ft_repair.specs.inner.Idle.{AreKeptIdle, AreRenewed}
+use Rattle.ft_repair.proofs.Alike.{no_act_of, same_ops, no_hits, no_read, no_ops, op_same, no_op_there, no_op_of, right_moves, right_none}
+
+-- nothing is kept of a trigger
+record IsBare (shelves : Shelves) (id : ℕ) : Type 0 where
+  hits : (pos : Pos) (key : List Part) → hits_here (kept_on shelves) (record { pos = pos; trigger = id }) key ≡ None
+  read : (pos : Pos) → read_here (kept_on shelves) (record { pos = pos; trigger = id }) ≡ None
+  ops : (key : List Part) (at : At) → (kept_on shelves).ops (record { saver = id; key = key }) at ≡ None
+
+bare_none : (shelves : Shelves) (id : ℕ) → map.get shelves id ≡ None → IsBare shelves id
+bare_none shelves id none = record {
+  hits = no_hits shelves id none;
+  read = no_read shelves id none;
+  ops = no_ops shelves id none;
+}
+
+bare_new : (triggers : Triggers) (hist : Hist) (shelves : Shelves) (id : ℕ) → HasNewShelf triggers (Some hist) (map.get shelves id) → IsBare shelves id
+unfolding kept_on
+bare_new triggers hist shelves id has = record {
+  hits = λ pos key. ap (λ (o : Option Shelved). option_and_then (λ (s : Shelved). map.get s.table.hits (record { spot = traced pos; key = key })) o) has.1.0
+      ∙ ap (λ (t : Tabled). map.get t.hits (record { spot = traced pos; key = key })) has.1.1.table ∙ get-empty _ _;
+  read = λ pos. ap (λ (o : Option Shelved). option_and_then (λ (s : Shelved). map.get s.readings pos) o) has.1.0
+      ∙ ap (λ m. map.get m pos) has.1.1.readings ∙ get-empty {X = Pos} pos_cmp pos;
+  ops = λ key at. ap (λ (o : Option Shelved). option_and_then (λ (s : Shelved). ops_of s.ops key at) o) has.1.0 ∙ has.1.1.ops key at;
+}
+
+its_new : (triggers : Triggers) (hist : Hist) (shelf : Option Shelved) → HasNewShelf triggers (Some hist) shelf → HasItsShelf triggers (Some hist) shelf
+its_new triggers hist shelf has = (
+  has.0,
+  (
+    has.1.0,
+    record {
+      role = has.1.1.role;
+      size = ap (λ (t : Tabled). t.size) has.1.1.table;
+      traced = λ m _. ap (λ (t : Tabled). map.get t.hits m) has.1.1.table ∙ get-empty _ m;
+    },
+  ),
+)
+
+module _ (triggers : Triggers) (lanes : Lanes) (family : ℕ → Bool) (old new : Shelves) (outside : AreKeptOutside family triggers lanes old) (renewed : AreRenewed triggers family old new)
+    (closed : (reader saver : ℕ) → family reader ≡ false → family saver ≡ true → role_at triggers reader ≡ Reads saver → ⊥) where
+  abbrev acts : Acts
+  acts = acts_outside family triggers lanes
+
+  no_act : (at : At) → family at.trigger ≡ true → acts at ≡ None
+  no_act at inside = ap (λ (b : Bool). if b then None else acts_of triggers (merged lanes) at) inside
+
+  bare : (id : ℕ) → family id ≡ true → IsBare new id
+  bare id inside =
+      elim (map.get triggers id) as (λ (o : Option Hist). map.get triggers id ≡ o → IsBare new id) [
+        | None ↦ λ none. bare_none new id (renewed.none id none ∙ outside.none id none)
+        | Some hist ↦ λ there. bare_new triggers hist new id (renewed.fresh id hist inside there)
+      ] refl
+
+  its_inside : (id : ℕ) → family id ≡ true → HasItsShelf triggers (map.get triggers id) (map.get new id)
+  its_inside id inside =
+      elim (map.get triggers id) as (λ (o : Option Hist). map.get triggers id ≡ o → HasItsShelf triggers o (map.get new id)) [
+        | None ↦ λ none. renewed.none id none ∙ outside.none id none
+        | Some hist ↦ λ there. its_new triggers hist (map.get new id) (renewed.fresh id hist inside there)
+      ] refl
+
+  its : (id : ℕ) → HasItsShelf triggers (map.get triggers id) (map.get new id)
+  its id =
+      elim (family id) as (λ (b : Bool). family id ≡ b → HasItsShelf triggers (map.get triggers id) (map.get new id)) [
+        | true ↦ λ inside. its_inside id inside
+        | false ↦ λ out. subst (HasItsShelf triggers (map.get triggers id)) (sym (renewed.stay id out)) (outside.each id out)
+      ] refl
+
+  -- who acts on a variable of the family is inside
+  none_done : (variable : Variable) (at : At) → family variable.saver ≡ true → op_of (role_at triggers) (admits_on new) acts variable at ≡ None
+  none_done variable at inside =
+      elim (family at.trigger) as (λ (b : Bool). family at.trigger ≡ b → op_of (role_at triggers) (admits_on new) acts variable at ≡ None) [
+        | true ↦ λ there. no_op_there (role_at triggers) (admits_on new) acts variable at (no_act at there)
+        | false ↦ λ out. no_op_of (role_at triggers) (admits_on new) acts variable at
+            (λ _ same. true≢false (sym inside ∙ ap family (sym same) ∙ out))
+            (λ reads. closed at.trigger variable.saver out inside reads)
+      ] refl
+
+  op_stays : (variable : Variable) (at : At) → op_of (role_at triggers) (admits_on new) acts variable at ≡ op_of (role_at triggers) (admits_on old) acts variable at
+  op_stays variable at =
+      elim (family at.trigger) as (λ (b : Bool). family at.trigger ≡ b → op_of (role_at triggers) (admits_on new) acts variable at ≡ op_of (role_at triggers) (admits_on old) acts variable at) [
+        | true ↦ λ there. no_op_there (role_at triggers) (admits_on new) acts variable at (no_act at there) ∙ sym (no_op_there (role_at triggers) (admits_on old) acts variable at (no_act at there))
+        | false ↦ λ out. op_same (role_at triggers) (role_at triggers) old new acts acts variable at refl (renewed.stay at.trigger out) refl
+      ] refl
+
+  ops : (variable : Variable) (at : At) → (kept_on new).ops variable at ≡ op_of (role_at triggers) (admits_on new) acts variable at
+  ops variable at =
+      elim (family variable.saver) as (λ (b : Bool). family variable.saver ≡ b → (kept_on new).ops variable at ≡ op_of (role_at triggers) (admits_on new) acts variable at) [
+        | true ↦ λ inside. (bare variable.saver inside).ops variable.key at ∙ sym (none_done variable at inside)
+        | false ↦ λ out. same_ops old new variable.saver (renewed.stay variable.saver out) variable.key at ∙ outside.ops variable at out ∙ sym (op_stays variable at)
+      ] refl
+
+  -- a trigger outside reads a saver outside
+  saver_stays : (at : At) → family at.trigger ≡ false → (saver : ℕ) → role_at triggers at.trigger ≡ Reads saver → map.get new saver ≡ map.get old saver
+  saver_stays at out saver reads =
+      elim (family saver) as (λ (b : Bool). family saver ≡ b → map.get new saver ≡ map.get old saver) [
+        | true ↦ λ inside. absurd (closed at.trigger saver out inside reads)
+        | false ↦ λ there. renewed.stay saver there
+      ] refl
+
+  right : (at : At) → IsRight (role_at triggers) (values_by triggers) acts (kept_on new) at
+  right at =
+      elim (family at.trigger) as (λ (b : Bool). family at.trigger ≡ b → IsRight (role_at triggers) (values_by triggers) acts (kept_on new) at) [
+        | true ↦ λ inside. right_none (role_at triggers) (values_by triggers) acts (kept_on new) at (no_act at inside) ((bare at.trigger inside).read at.pos) (λ key. (bare at.trigger inside).hits at.pos key)
+        | false ↦ λ out. right_moves triggers triggers acts acts old new at refl refl refl (renewed.stay at.trigger out)
+            (λ saver reads key i q. same_ops old new saver (saver_stays at out saver reads) key q i) (outside.entries at out)
+      ] refl
+
+  pub renewed_idle : AreKeptIdle family triggers lanes new
+  renewed_idle = record { each = its; kept = record { ops = ops; entries = λ at. inr (right at) } }
+
+-- ---- all get new shelves
+
+-- where all have new shelves, all are idle
+pub new_idle : (triggers : Triggers) (lanes : Lanes) (shelves : Shelves) → AreNew triggers shelves → AreKeptIdle (λ _. true) triggers lanes shelves
+new_idle triggers lanes shelves new = renewed_idle triggers lanes (λ _. true) nothing shelves
+    (record {
+      each = λ _ out. absurd (true≢false out);
+      none = λ id _. nothing_at id;
+      ops = λ _ _ out. absurd (true≢false out);
+      entries = λ _ out. absurd (true≢false out);
+    })
+    (record {
+      stay = λ _ out. absurd (true≢false out);
+      none = λ id none. subst (λ (o : Option Hist). HasNewShelf triggers o (map.get shelves id)) none (new id) ∙ sym (nothing_at id);
+      fresh = λ id hist _ there. subst (λ (o : Option Hist). HasNewShelf triggers o (map.get shelves id)) there (new id);
+    })
+    (λ _ _ out _ _. true≢false out)
+  where
+    nothing : Shelves
+    nothing = map.empty
+
+    nothing_at : (id : ℕ) → map.get nothing id ≡ None
+    nothing_at id = get-empty {X = Shelved} nat_cmp id
+
+-- without triggers nothing is kept
+pub empty_kept : AreKept map.empty (merged map.empty) map.empty
+empty_kept = record {
+  each = idle.each;
+  kept = subst (λ (acts : Acts). IsKept (role_at none) (values_by none) (admits_on nothing) acts (kept_on nothing)) no_acts idle.kept;
+}
+  where
+    none : Triggers
+    none = map.empty
+
+    nothing : Shelves
+    nothing = map.empty
+
+    idle : AreKeptIdle (λ _. true) none map.empty nothing
+    idle = new_idle none map.empty nothing (λ id. subst (λ (o : Option Hist). HasNewShelf none o (map.get nothing id)) (sym (get-empty {X = Hist} nat_cmp id)) (get-empty {X = Shelved} nat_cmp id))
+
+    no_acts : acts_outside (λ _. true) none map.empty ≡ acts_of none (merged map.empty)
+    no_acts i at = sym (no_act_of none (merged map.empty) at (get-empty {X = Hist} nat_cmp at.trigger)) i

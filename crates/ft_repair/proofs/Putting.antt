@@ -1,0 +1,240 @@
+-- Trigger by trigger a family gets new shelves, and then its acts.
+use Rattle.std.proofs.Common.{◌≡◌, ◌+◌, ◌≤◌, ℕ, Bool, true, false, cond, List, [], ◌∷◌, length, refl, sym, ap, subst, ◌∙◌, Option, Some, None, is_some, arith}
+use Rattle.std.specs.Prelude.{◌==◌, ◌&&◌, if◌then◌else◌}
+use Rattle.std.specs.List.{AllByRecursion, sum_by}
+use Rattle.std.specs.List.Sorted.{IsStrictlySortedBy}
+use Rattle.std.specs.Map.{keys_of}
+use Rattle.std.specs.Ordering.{nat_cmp, is_eq, eq_by_cmp}
+use Rattle.std.specs.Cmp.{eq_by_cmp_equiv, nat_cmp_total}
+use Rattle.std.specs.declared.cmp.Ordering.TheVariants.{Less}
+use Rattle.std.specs.FinMap as map
+use Rattle.std.specs.FinMap.{find, get-entries, get-insert, len-entries, entries_sorted, nat_cmp-IsAntisymmetric}
+use Rattle.std.proofs.lemmas.Bool.{eqb-true, eqb-false, true≢false}
+use Rattle.std.proofs.lemmas.List.Sums.{sum_by-cons}
+use Rattle.std.proofs.lemmas.Map.Keys.{sorted_head, sorted_tail}
+use Rattle.ft_fields.specs.Traced.{Traced, name_of}
+use Rattle.ft_hist.specs.Hist.{Hist}
+use Rattle.ft_hist.specs.Hit.{same_name}
+use Rattle.ft_hist.specs.Tests.{asked}
+use Rattle.ft_keys.specs.declared.key.Part.{Part}
+use Rattle.ft_lanes.specs.Held.{Lanes, event_at}
+use Rattle.ft_maps.specs.Entries.{same_from_tie, strictly_sorted}
+use Rattle.ft_pairs.specs.declared.at.At.{At}
+use Rattle.ft_table.specs.Values.{values_by}
+use Rattle.ft_kept.specs.Acts.{Acts, AreHeld, acts_of}
+use Rattle.ft_kept.specs.Entries.{IsKept}
+use Rattle.ft_kept.specs.Shelves.{Shelves, AddsShelf, admits_on, kept_on}
+use Rattle.ft_base.specs.Base.{Triggers}
+use Rattle.ft_base.specs.Roles.{role_of, role_at}
+use Rattle.ft_base.proofs.Apart.{entries_found}
+use Rattle.ft_answers.specs.Costs.{named_in}
+use Rattle.ft_replay.specs.Merged.{merged}
+use Rattle.ft_repair.specs.KeptShelves.{AreKept}
+use Rattle.ft_repair.specs.inner.Built.{HasNewShelf}
+use Rattle.ft_repair.specs.Outside.{acts_outside}
+use Rattle.ft_repair.specs.inner.Idle.{AreKeptIdle, AreRenewed, HasJoined, but_one}
+use Rattle.ft_repair.proofs.Alike.{no_act_of}
+use Rattle.ft_repair.proofs.OneTrigger.{own_events, all_acts_held}
+
+-- ---- new shelves, one by one
+
+module _ (triggers : Triggers) (family : ℕ → Bool) (old : Shelves) where
+  -- all of the family but those that are left have new shelves
+  pub record AreRenewedBut (rest : List (ℕ × Hist)) (now : Shelves) : Type 0 where
+    pub stay : (id : ℕ) → family id ≡ false → map.get now id ≡ map.get old id
+    pub none : (id : ℕ) → map.get triggers id ≡ None → map.get now id ≡ map.get old id
+    pub fresh : (id : ℕ) (hist : Hist) → family id ≡ true → map.get triggers id ≡ Some hist → find nat_cmp id rest ≡ None → HasNewShelf triggers (Some hist) (map.get now id)
+    pub attached : AllByRecursion (λ e. map.get triggers e.0 ≡ Some e.1) rest
+
+  pub renewed_none : AreRenewedBut (map.entries triggers) old
+  renewed_none = record {
+    stay = λ _ _. refl;
+    none = λ _ _. refl;
+    fresh = λ id hist _ there gone. let both : ◌≡◌ {A = Option Hist} None (Some hist) = sym gone ∙ sym (get-entries triggers id) ∙ there in absurd cc;
+    attached = entries_found nat_cmp nat_cmp_total triggers;
+  }
+
+  module _ (e : ℕ × Hist) (rest : List (ℕ × Hist)) (now : Shelves) (is : AreRenewedBut (e ∷ rest) now) where
+    -- one that is not of the family
+    pub renewed_skip : family e.0 ≡ false → AreRenewedBut rest now
+    renewed_skip out = record {
+      stay = is.stay;
+      none = is.none;
+      fresh = λ id hist inside there gone. is.fresh id hist inside there
+          (elim (eq_by_cmp nat_cmp id e.0) as (λ (b : Bool). eq_by_cmp nat_cmp id e.0 ≡ b → cond b (Some e.1) (find nat_cmp id rest) ≡ None) [
+            | true ↦ λ tie. absurd (true≢false (sym inside ∙ ap family (same_from_tie nat_cmp-IsAntisymmetric id e.0 tie) ∙ out))
+            | false ↦ λ _. gone
+          ] refl);
+      attached = is.attached.1;
+    }
+
+    -- one that is
+    module _ (more : Shelves) (adds : AddsShelf e.0 (role_of triggers e.1.variable) e.1.size now more) where
+      at_id : (id : ℕ) → map.get more id ≡ cond (eq_by_cmp nat_cmp id e.0) (Some adds.0) (map.get now id)
+      at_id id = ap (λ (s : Shelves). map.get s id) adds.1.0 ∙ get-insert nat_cmp_total now e.0 adds.0 id
+
+      elsewhere : (id : ℕ) → (id ≡ e.0 → ⊥) → map.get more id ≡ map.get now id
+      elsewhere id apart = at_id id ∙ (elim (eq_by_cmp nat_cmp id e.0) as (λ (b : Bool). eq_by_cmp nat_cmp id e.0 ≡ b → cond b (Some adds.0) (map.get now id) ≡ map.get now id) [
+        | true ↦ λ tie. absurd (apart (same_from_tie nat_cmp-IsAntisymmetric id e.0 tie))
+        | false ↦ λ _. refl
+      ] refl)
+
+      pub renewed_more : family e.0 ≡ true → AreRenewedBut rest more
+      renewed_more member = record {
+        stay = λ id out. elsewhere id (λ same. true≢false (sym member ∙ ap family (sym same) ∙ out)) ∙ is.stay id out;
+        none = λ id gone. elsewhere id (λ same. let both : ◌≡◌ {A = Option Hist} None (Some e.1) = sym gone ∙ ap (map.get triggers) same ∙ is.attached.0 in absurd cc) ∙ is.none id gone;
+        fresh = λ id hist inside there gone. elim (eq_by_cmp nat_cmp id e.0) as (λ (b : Bool). eq_by_cmp nat_cmp id e.0 ≡ b → HasNewShelf triggers (Some hist) (map.get more id)) [
+          | true ↦ λ tie.
+              let same : id ≡ e.0 = same_from_tie nat_cmp-IsAntisymmetric id e.0 tie in
+              subst (λ (o : Option Hist). HasNewShelf triggers o (map.get more id)) (sym is.attached.0 ∙ ap (map.get triggers) (sym same) ∙ there)
+              (adds.0, (at_id id ∙ ap (λ (b : Bool). cond b (Some adds.0) (map.get now id)) tie, adds.1.1))
+          | false ↦ λ other.
+              let kept : map.get more id ≡ map.get now id = at_id id ∙ ap (λ (b : Bool). cond b (Some adds.0) (map.get now id)) other in
+              subst (HasNewShelf triggers (Some hist)) (sym kept) (is.fresh id hist inside there (ap (λ (b : Bool). cond b (Some e.1) (find nat_cmp id rest)) other ∙ gone))
+        ] refl;
+        attached = is.attached.1;
+      }
+
+  pub renewed_all : (now : Shelves) → AreRenewedBut [] now → AreRenewed triggers family old now
+  renewed_all now is = record { stay = is.stay; none = is.none; fresh = λ id hist inside there. is.fresh id hist inside there refl }
+
+-- ---- acts, trigger by trigger
+
+-- the same acts, where who has some is idle alike
+module _ (triggers : Triggers) (lanes : Lanes) where
+  acts_alike : (idle other : ℕ → Bool) → ((id : ℕ) (hist : Hist) → map.get triggers id ≡ Some hist → idle id ≡ other id) → acts_outside idle triggers lanes ≡ acts_outside other triggers lanes
+  acts_alike idle other alike i at =
+      (elim (map.get triggers at.trigger) as (λ (o : Option Hist). map.get triggers at.trigger ≡ o → acts_outside idle triggers lanes at ≡ acts_outside other triggers lanes at) [
+        | None ↦ λ none. no_acts idle at none ∙ sym (no_acts other at none)
+        | Some hist ↦ λ there. ap (λ (b : Bool). if b then None else acts_of triggers (merged lanes) at) (alike at.trigger hist there)
+      ] refl) i
+    where
+      no_acts : (some : ℕ → Bool) (at : At) → map.get triggers at.trigger ≡ None → acts_outside some triggers lanes at ≡ None
+      no_acts some at none = elim (some at.trigger) as (λ (b : Bool). (if b then None else acts_of triggers (merged lanes) at) ≡ None) [
+        | true ↦ refl
+        | false ↦ no_act_of triggers (merged lanes) at none
+      ]
+
+  pub idle_alike : (idle other : ℕ → Bool) → ((id : ℕ) (hist : Hist) → map.get triggers id ≡ Some hist → idle id ≡ other id) → (shelves : Shelves) → AreKeptIdle idle triggers lanes shelves → AreKeptIdle other triggers lanes shelves
+  idle_alike idle other alike shelves is = record {
+    each = is.each;
+    kept = subst (λ (acts : Acts). IsKept (role_at triggers) (values_by triggers) (admits_on shelves) acts (kept_on shelves)) (acts_alike idle other alike) is.kept;
+  }
+
+  -- where none is idle, all is kept
+  pub none_idle : (shelves : Shelves) → AreKeptIdle (λ _. false) triggers lanes shelves → AreKept triggers (merged lanes) shelves
+  none_idle shelves is = record { each = is.each; kept = is.kept }
+
+  pub outside_held : (idle : ℕ → Bool) → AreHeld lanes (acts_outside idle triggers lanes)
+  outside_held idle at key event is =
+      elim (idle at.trigger) as (λ (b : Bool). (if b then None else acts_of triggers (merged lanes) at) ≡ Some (key, event) → (event_at lanes at.pos.cpu at.pos.line ≡ Some event) × (event.stamp ≡ at.pos.stamp)) [
+        | true ↦ λ h. let both : ◌≡◌ {A = Option (List Part × Traced)} None (Some (key, event)) = h in absurd cc
+        | false ↦ λ there. all_acts_held triggers lanes at key event there
+      ] is
+
+  -- an idle trigger has no act
+  pub idle_none : (id : ℕ) (idle : ℕ → Bool) → idle id ≡ true → (at : At) → at.trigger ≡ id → acts_outside idle triggers lanes at ≡ None
+  idle_none id idle here at same = ap (λ (b : Bool). if b then None else acts_of triggers (merged lanes) at) (ap idle same ∙ here)
+
+  -- with all of its acts it is idle no more
+  pub idle_joined : (id : ℕ) (idle : ℕ → Bool) (at : At) → (if at.trigger == id then acts_of triggers (merged lanes) at else acts_outside idle triggers lanes at) ≡ acts_outside (but_one id idle) triggers lanes at
+  idle_joined id idle at = elim (at.trigger == id) as (λ (b : Bool). (if b then acts_of triggers (merged lanes) at else acts_outside idle triggers lanes at) ≡ (if (if b then false else idle at.trigger) then None else acts_of triggers (merged lanes) at)) [
+    | true ↦ refl
+    | false ↦ refl
+  ]
+
+-- who of a family is left
+abbrev pub left_in : (ℕ → Bool) → List (ℕ × Hist) → ℕ → Bool
+left_in family rest id = is_some (find nat_cmp id rest) && family id
+
+-- what a trigger of the family is asked, and others not
+abbrev pub tests_in : (ℕ → Bool) → Lanes → List (ℕ × Hist) → ℕ
+tests_in family lanes rest = sum_by (λ e. if family e.0 then named_in lanes e.1 else 0) rest
+
+module _ (triggers : Triggers) (lanes : Lanes) (family : ℕ → Bool) where
+  -- those of the family that are left are idle
+  pub record IsPut (rest : List (ℕ × Hist)) (shelves : Shelves) : Type 0 where
+    pub idle : AreKeptIdle (left_in family rest) triggers lanes shelves
+    pub attached : AllByRecursion (λ e. map.get triggers e.0 ≡ Some e.1) rest
+    pub sorted : IsStrictlySortedBy nat_cmp (keys_of rest)
+
+  pub put_none : (shelves : Shelves) → AreKeptIdle family triggers lanes shelves → IsPut (map.entries triggers) shelves
+  put_none shelves is = record {
+    idle = idle_alike triggers lanes family (left_in family (map.entries triggers)) (λ id hist there. ap (λ (o : Option Hist). is_some o && family id) (sym there ∙ get-entries triggers id)) shelves is;
+    attached = entries_found nat_cmp nat_cmp_total triggers;
+    sorted = strictly_sorted nat_cmp (map.entries triggers) (entries_sorted triggers);
+  }
+
+  pub put_all : (shelves : Shelves) → IsPut [] shelves → AreKept triggers (merged lanes) shelves
+  put_all shelves is = none_idle triggers lanes shelves is.idle
+
+  none_behind : (k : ℕ) (es : List (ℕ × Hist)) → AllByRecursion (λ q. nat_cmp k q ≡ Less) (keys_of es) → find nat_cmp k es ≡ None
+  none_behind k [] h = refl
+  none_behind k (e ∷ es) h = ap (λ (b : Bool). cond b (Some e.1) (find nat_cmp k es)) (ap is_eq h.0) ∙ none_behind k es h.1
+
+  module _ (e : ℕ × Hist) (rest : List (ℕ × Hist)) (shelves : Shelves) (is : IsPut (e ∷ rest) shelves) where
+    left_skip : family e.0 ≡ false → (id : ℕ) → left_in family (e ∷ rest) id ≡ left_in family rest id
+    left_skip out id = elim (eq_by_cmp nat_cmp id e.0) as (λ (b : Bool). eq_by_cmp nat_cmp id e.0 ≡ b → (is_some (cond b (Some e.1) (find nat_cmp id rest)) && family id) ≡ (is_some (find nat_cmp id rest) && family id)) [
+      | true ↦ λ tie. none_of id (ap family (same_from_tie nat_cmp-IsAntisymmetric id e.0 tie) ∙ out) true ∙ sym (none_of id (ap family (same_from_tie nat_cmp-IsAntisymmetric id e.0 tie) ∙ out) (is_some (find nat_cmp id rest)))
+      | false ↦ λ _. refl
+    ] refl
+      where
+        none_of : (id : ℕ) → family id ≡ false → (b : Bool) → (b && family id) ≡ false
+        none_of id out true = out
+        none_of id out false = refl
+
+    pub put_skip : family e.0 ≡ false → IsPut rest shelves
+    put_skip out = record {
+      idle = idle_alike triggers lanes (left_in family (e ∷ rest)) (left_in family rest) (λ id _ _. left_skip out id) shelves is.idle;
+      attached = is.attached.1;
+      sorted = sorted_tail nat_cmp e.0 (keys_of rest) is.sorted;
+    }
+
+    -- the first of them is idle
+    pub first_idle : family e.0 ≡ true → left_in family (e ∷ rest) e.0 ≡ true
+    first_idle member = ap (λ (b : Bool). is_some (cond b (Some e.1) (find nat_cmp e.0 rest)) && family e.0) ((eq_by_cmp_equiv nat_cmp_total).refl e.0) ∙ member
+
+    but_first : (id : ℕ) → but_one e.0 (left_in family (e ∷ rest)) id ≡ left_in family rest id
+    but_first id = elim (id == e.0) as (λ (b : Bool). (id == e.0) ≡ b → cond b false (left_in family (e ∷ rest) id) ≡ left_in family rest id) [
+      | true ↦ λ tie. ap (λ (o : Option Hist). is_some o && family id) (sym (ap (λ (k : ℕ). find nat_cmp k rest) (eqb-true id e.0 tie) ∙ none_behind e.0 rest (sorted_head nat_cmp e.0 (keys_of rest) is.sorted)))
+      | false ↦ λ other. ap (λ (b : Bool). is_some (cond b (Some e.1) (find nat_cmp id rest)) && family id) (untied id (eqb-false id e.0 other))
+    ] refl
+      where
+        untied : (id : ℕ) → (id ≡ e.0 → ⊥) → eq_by_cmp nat_cmp id e.0 ≡ false
+        untied id apart = elim (eq_by_cmp nat_cmp id e.0) as (λ (b : Bool). eq_by_cmp nat_cmp id e.0 ≡ b → b ≡ false) [
+          | true ↦ λ tie. absurd (apart (same_from_tie nat_cmp-IsAntisymmetric id e.0 tie))
+          | false ↦ λ _. refl
+        ] refl
+
+    -- and as it has joined, the rest are left
+    pub put_more : (new : Shelves) → family e.0 ≡ true → HasJoined e.0 triggers lanes shelves new → IsPut rest new
+    put_more new member joined = record {
+      idle = idle_alike triggers lanes (but_one e.0 (left_in family (e ∷ rest))) (left_in family rest) (λ id _ _. but_first id) new (joined (left_in family (e ∷ rest)) (first_idle member) is.idle);
+      attached = is.attached.1;
+      sorted = sorted_tail nat_cmp e.0 (keys_of rest) is.sorted;
+    }
+
+-- ---- tests
+
+-- how many events are on a name
+pub named_count : (lanes : Lanes) (hist : Hist) → named_in lanes hist ≡ length (map.entries (own_events lanes hist))
+named_count lanes hist = len-entries (own_events lanes hist)
+
+-- one event, one test at most
+pub asked_once : (hist : Hist) (event : Traced) → asked hist event ≤ 1
+asked_once hist event = elim (same_name hist.event (name_of event.body)) as (λ (b : Bool). (if b then 1 else 0) ≤ 1) [
+  | true ↦ omega arith
+  | false ↦ omega arith
+]
+
+module _ (family : ℕ → Bool) (lanes : Lanes) (e : ℕ × Hist) (rest : List (ℕ × Hist)) where
+  abbrev its_tests : ℕ × Hist → ℕ
+  its_tests x = if family x.0 then named_in lanes x.1 else 0
+
+  pub tests_member : family e.0 ≡ true → tests_in family lanes (e ∷ rest) ≡ named_in lanes e.1 + tests_in family lanes rest
+  tests_member member = sum_by-cons its_tests e rest ∙ ap (λ (b : Bool). (if b then named_in lanes e.1 else 0) + tests_in family lanes rest) member
+
+  pub tests_other : family e.0 ≡ false → tests_in family lanes (e ∷ rest) ≡ tests_in family lanes rest
+  tests_other out =
+      let none : 0 + tests_in family lanes rest ≡ tests_in family lanes rest = omega arith in
+      sum_by-cons its_tests e rest ∙ ap (λ (b : Bool). (if b then named_in lanes e.1 else 0) + tests_in family lanes rest) out ∙ none

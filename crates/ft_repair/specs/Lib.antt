@@ -1,0 +1,14 @@
+pub mod KeptShelves
+pub mod Outside
+pub mod ButOneEvent
+pub mod ButOneLane
+pub mod ButOneTrigger
+pub mod SomeLanes
+pub mod Repaired
+pub mod Staying
+pub mod inner
+pub use Rattle.ft_kept.specs.Shelves
+pub use Rattle.ft_base.specs.OneTrigger
+pub use Rattle.ft_base.specs.Base
+pub use Rattle.ft_answers.specs.Costs
+pub use Rattle.ft_answers.specs.Deferral

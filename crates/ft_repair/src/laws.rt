@@ -1,0 +1,96 @@
+//! Laws: functions that do nothing, whose clauses are proved.
+
+ghost use Rattle.std.specs.Prelude.{◌≡◌, ℕ, List, false, Some};
+ghost use Rattle.std.specs.FinMap as map;
+ghost use Rattle.ft_hist.specs.Hist.{Hist};
+ghost use Rattle.ft_fields.specs.declared.pos.Pos.{Pos};
+ghost use Rattle.ft_keys.specs.declared.key.Part.{Part};
+ghost use Rattle.ft_kept.specs.Shelves.{Shelved, Shelves, kept_on};
+ghost use Rattle.ft_pairs.specs.declared.at.At.{At};
+ghost use Rattle.ft_pairs.specs.declared.role.Role.TheVariants.{Reads};
+ghost use Rattle.ft_pairs.specs.declared.role.Variable.{Variable};
+ghost use Rattle.ft_table.specs.Rows.{AllFit};
+ghost use Rattle.ft_base.specs.Base.{Base, Triggers};
+ghost use Rattle.ft_base.specs.OneTrigger.{GetsFilter};
+ghost use Rattle.ft_base.specs.Roles.{is_reader, role_at};
+ghost use Rattle.ft_replay.specs.Merged.{Events};
+ghost use Rattle.ft_replay.specs.Found.{pairs_in, saving_found};
+ghost use Rattle.ft_replay.specs.Hits.{hits_of, table_for};
+ghost use Rattle.ft_replay.specs.Operations.{ops_on};
+ghost use Rattle.ft_repair.specs.KeptShelves.{AreKept, AreKeptOf};
+ghost use Rattle.ft_repair.specs.Staying.{IsReadAlike};
+ghost use Rattle.ft_replay.specs.Replay.{replay};
+ghost use Rattle.ft_replay.specs.Tally.{tally_of};
+
+/// A law: where shelves keep what the triggers' acts at events say, told place by place, a
+/// trigger's shelf gives the tally that replaying the events gives it, and the keys of its hits fit
+/// the trigger's key items. Its table is made of the hits that the trigger has in the whole replay,
+/// its readings found there what is kept of them, and the operations that are kept on a variable are
+/// those of the whole replay.
+pub fn kept_shelves()
+    ensures tally { (triggers : Triggers) (events : Events) (shelves : Shelves)
+        → AreKept triggers events shelves → (id : ℕ) (hist : Hist) (shelf : Shelved)
+        → map.get triggers id ≡ Some hist → map.get shelves id ≡ Some shelf
+        → map.get (replay triggers events).tallies id
+        ≡ Some (tally_of shelf.table (pairs_in shelf.readings)) }
+    ensures fit { (triggers : Triggers) (events : Events) (shelves : Shelves)
+        → AreKept triggers events shelves → (id : ℕ) (hist : Hist) (shelf : Shelved)
+        → map.get triggers id ≡ Some hist → map.get shelves id ≡ Some shelf
+        → AllFit shelf.table hist }
+    ensures hits { (triggers : Triggers) (events : Events) (shelves : Shelves)
+        → AreKept triggers events shelves → (id : ℕ) (hist : Hist) (shelf : Shelved)
+        → map.get triggers id ≡ Some hist → map.get shelves id ≡ Some shelf
+        → shelf.table ≡ table_for hist (hits_of triggers events id) }
+    ensures readings { (triggers : Triggers) (events : Events) (shelves : Shelves)
+        → AreKept triggers events shelves → (id : ℕ) (hist : Hist) (shelf : Shelved)
+        → map.get triggers id ≡ Some hist → map.get shelves id ≡ Some shelf → (at : Pos)
+        → map.get shelf.readings at ≡ saving_found triggers events id at }
+    ensures ops { (triggers : Triggers) (events : Events) (shelves : Shelves)
+        → AreKept triggers events shelves → (variable : Variable) (at : At)
+        → (kept_on shelves).ops variable at ≡ ops_on triggers events variable at }
+{
+    ft_hist::laws::fitting_parts();
+    ft_table::laws::one_more_hit();
+    ft_pairs::laws::one_source();
+}
+
+/// A law: a trigger that reads nothing keeps its table, whatever other triggers come, go or get
+/// another filter.
+pub fn others_stay()
+    ensures { (triggers others : Triggers) (events : Events) (old new : Shelves)
+        → AreKept triggers events old → AreKept others events new → (id : ℕ) (hist : Hist)
+        → map.get triggers id ≡ Some hist → map.get others id ≡ Some hist
+        → is_reader hist.variable ≡ false → (shelf its : Shelved)
+        → map.get old id ≡ Some shelf → map.get new id ≡ Some its → its.table ≡ shelf.table }
+{}
+
+/// A law: a trigger that reads keeps its table and what its readings found, whatever other triggers
+/// come, go or get another filter, where its saver stays and the triggers that read it are those
+/// that did; the operations on what that saver saves stay too. So another filter of one trigger
+/// leaves a reader's table and readings as they are, but where that trigger is the saver or reads
+/// it: since a reading unsets its variable, what one reader's filter admits another may miss.
+pub fn readers_stay()
+    ensures operations { (triggers others : Triggers) (events : Events) (old new : Shelves)
+        → AreKept triggers events old → AreKept others events new → (saver : ℕ)
+        → IsReadAlike triggers others saver → (key : List Part) (at : At)
+        → (kept_on new).ops (record { saver = saver; key = key }) at
+        ≡ (kept_on old).ops (record { saver = saver; key = key }) at }
+    ensures table { (triggers others : Triggers) (events : Events) (old new : Shelves)
+        → AreKept triggers events old → AreKept others events new → (saver : ℕ)
+        → IsReadAlike triggers others saver → (id : ℕ) → role_at triggers id ≡ Reads saver
+        → (shelf its : Shelved) → map.get old id ≡ Some shelf → map.get new id ≡ Some its
+        → its.table ≡ shelf.table }
+    ensures readings { (triggers others : Triggers) (events : Events) (old new : Shelves)
+        → AreKept triggers events old → AreKept others events new → (saver : ℕ)
+        → IsReadAlike triggers others saver → (id : ℕ) → role_at triggers id ≡ Reads saver
+        → (shelf its : Shelved) → map.get old id ≡ Some shelf → map.get new id ≡ Some its
+        → its.readings ≡ shelf.readings }
+    ensures filter { (id : ℕ) (base changed : Base) → GetsFilter id base changed
+        → (old new : Shelves) → AreKeptOf base old → AreKeptOf changed new → (saver : ℕ)
+        → (saver ≡ id → ⊥) → (role_at base.triggers id ≡ Reads saver → ⊥) → (reader : ℕ)
+        → role_at base.triggers reader ≡ Reads saver → (shelf its : Shelved)
+        → map.get old reader ≡ Some shelf → map.get new reader ≡ Some its
+        → (its.table ≡ shelf.table) × (its.readings ≡ shelf.readings) }
+{
+    ft_pairs::laws::one_source();
+}
