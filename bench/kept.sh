@@ -1,12 +1,12 @@
 #!/usr/bin/env bash
 # kept.sh [EVENTS..]: at so many held events (10,000, 100,000 and 1,000,000), with a saver and a reader attached, times an
 # insert and a strike, each alone and followed by `totals` or by `hist` of the reader, and the same answers of `plaindesk`,
-# which replays at each, in one run.
+# which replays at each, in one run. HISTDESK and PLAINDESK may name programs that are built already.
 set -euo pipefail
 
 here=$(dirname -- "$(realpath -- "${BASH_SOURCE[0]}")")
-histdesk=$here/../histdesk
-plaindesk=$here/../crates/plaindesk/out/plaindesk
+histdesk=${HISTDESK:-$here/../histdesk}
+plaindesk=${PLAINDESK:-$here/../crates/plaindesk/out/plaindesk}
 export GLIBC_TUNABLES=${GLIBC_TUNABLES:+$GLIBC_TUNABLES:}glibc.malloc.hugetlb=1
 times=5
 if (($# == 0)); then
@@ -18,7 +18,9 @@ trap 'rm -rf -- "$folder"' EXIT
 
 # Builds both programs where they are stale, which is not measured.
 "$histdesk" /dev/null
-(cd -- "$here/../crates/plaindesk" && rt run </dev/null >"$folder/log" 2>&1)
+if [[ -z ${PLAINDESK:-} ]]; then
+    (cd -- "$here/../crates/plaindesk" && rt run </dev/null >"$folder/log" 2>&1)
+fi
 
 # Scripts that load and attach the pair, and then edit or ask so often: each edit alone, with `totals` and with `hist`.
 write_scripts() {
