@@ -1,13 +1,13 @@
 #!/usr/bin/env bash
 # speed.sh [EVENTS]: whole runs of histdesk beside a plain program in Rust (plain.rs), which reads the same trace, replays it
 # once and keeps nothing for edits: a load, a table, the totals of wakeup latencies. Both print the same bytes, which is
-# tested. They run in turn, five times each, and the least time counts.
+# tested. They run in turn, five times each or as often as TIMES says, and the least time counts.
 set -euo pipefail
 
 here=$(dirname -- "$(realpath -- "${BASH_SOURCE[0]}")")
 histdesk=${HISTDESK:-$here/../histdesk}
 events=${1:-1000000}
-times=5
+times=${TIMES:-5}
 export GLIBC_TUNABLES=${GLIBC_TUNABLES:+$GLIBC_TUNABLES:}glibc.malloc.hugetlb=1
 
 folder=$(mktemp -d)
