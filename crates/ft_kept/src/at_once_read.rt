@@ -1,14 +1,12 @@
 //! All acts of a reader that joins come at once: key by key its reads, what they find, and its hits.
 
-ghost use Rattle.std.specs.Prelude.{◌≡◌, ◌++◌, true, None, Some, OnOk, IfOk, is_some, length};
+ghost use Rattle.std.specs.Prelude.{◌≡◌, ◌++◌, true, None, OnOk, IfOk, is_some, length};
 ghost use Rattle.std.specs.FinMap as map;
-ghost use Rattle.ft_fields.specs.declared.pos.Pos.{Pos};
 ghost use Rattle.ft_groups.specs.Grouped.{run_of};
 ghost use Rattle.ft_hist.specs.Steps.{StepsGrow};
 ghost use Rattle.ft_pairs.specs.Runs.{FindEach, with_reads};
 ghost use Rattle.ft_pairs.specs.declared.role.Role.TheVariants.{Reads};
 ghost use Rattle.ft_store.specs.Stored.{held};
-ghost use Rattle.ft_table.specs.Values.{own_value, values_at};
 ghost use Rattle.ft_hits.specs.declared.spot.Spot.{Spot};
 ghost use Rattle.ft_shelves.specs.Joining.{AreGroupsOf};
 ghost use Rattle.ft_shelves.specs.Shelves.{ChangesShelf, kept_on, role_on};
@@ -19,10 +17,10 @@ ghost use Rattle.ft_shelves.specs.Joining.{ReadingsSet, RunComes};
 ghost use Rattle.ft_kept.specs.inner.JoiningReads.{hit_found, hits_found, reading_found, readings_found, reads_of_run};
 
 use crate::tables::Tables;
-use ft_fields::{Event, Pos};
+use ft_fields::Pos;
 use ft_hist::{Key, Trigger, Work};
 use ft_pairs::At;
-use ft_shelves::Joining;
+use ft_shelves::{Joining, sums_at};
 use ft_store::Stored;
 use ft_table::Spot;
 use std::alloc::AllocError;
@@ -133,29 +131,10 @@ fn add_found(
     let Some(saved) = found else {
         return Ok(());
     };
-    let event = stored.bare();
-    let values = values_read(trigger, &event, saved.pos);
+    let values = sums_at(trigger, pos, stored, Some(saved.pos));
     hits.push((Spot::traced(pos), values))?;
     readings.push((pos, saved.pos))?;
     Ok(())
-}
-
-/// What a trigger's hit at an event adds to its sums, where it read what was saved at a place.
-fn values_read(trigger: &Trigger, event: &Event, saved: Pos) -> [i64; 3]
-    ensures { (pos : Pos) → pos.stamp ≡ event.now.stamp
-        → result ≡ values_at trigger.now pos event.now (Some saved) }
-{
-    let own = time_since(event, saved);
-    trigger.values_of(event, own)
-}
-
-/// The value of a trigger's own variable at an event where it read what was saved at a place: the
-/// time since then, in microseconds.
-fn time_since(event: &Event, saved: Pos) -> i64
-    ensures { (pos : Pos) → pos.stamp ≡ event.now.stamp → result ≡ own_value pos (Some saved) }
-{
-    let stamp = event.stamp;
-    stamp.saturating_sub(saved.stamp) as i64
 }
 
 impl Tables {

@@ -12,3 +12,4 @@ pub mod OneKey
 pub mod Passing
 pub mod Saving
 pub mod Shrunk
+pub mod Unasked

@@ -3,17 +3,15 @@
 
 ghost use Rattle.std.specs.Prelude.{◌≡◌, List, None, OnOk, IfOk};
 ghost use Rattle.std.specs.FinMap as map;
-ghost use Rattle.ft_fields.specs.declared.pos.Pos.{Pos};
 ghost use Rattle.ft_hist.specs.Steps.{StepsGrow};
 ghost use Rattle.ft_groups.specs.Grouped.{run_of};
 ghost use Rattle.ft_keys.specs.declared.key.Part.{Part};
 ghost use Rattle.ft_pairs.specs.ByKey.{ops_of};
 ghost use Rattle.ft_pairs.specs.declared.at.At.{At};
-ghost use Rattle.ft_table.specs.Values.{own_value, values_at};
 ghost use Rattle.ft_shelves.specs.Joining.{AreGroupsOf};
 ghost use Rattle.ft_shelves.specs.Joining.{HasGroups, HasSaves, hits_of_run, saves_of_run};
 
-use ft_fields::Event;
+use crate::sums::sums_at;
 use ft_groups::Groups;
 use ft_hist::{Key, Trigger, Work};
 use ft_pairs::{At, Op, Pairs};
@@ -88,28 +86,10 @@ fn hits_of(joining: &Joining<'_, '_>, key: &Key) -> Result<Vec<(Spot, [i64; 3])>
     let run = joining.groups.run(key);
     let mut hits = Vec::with_capacity(joining.alloc, run.len())?;
     for (pos, stored) in run {
-        let event = stored.bare();
-        let values = values_unread(joining.trigger, &event);
+        let values = sums_at(joining.trigger, *pos, stored, None);
         hits.push((Spot::traced(*pos), values))?;
     }
     Ok(hits)
-}
-
-/// What a trigger's hit at an event adds to its sums, where it reads nothing.
-fn values_unread(trigger: &Trigger, event: &Event) -> [i64; 3]
-    ensures { (pos : Pos) → pos.stamp ≡ event.now.stamp
-        → result ≡ values_at trigger.now pos event.now None }
-{
-    let own = own_value(event);
-    trigger.values_of(event, own)
-}
-
-/// The value of a trigger's own variable at an event where it reads nothing: the stamp.
-fn own_value(event: &Event) -> i64
-    ensures { (pos : Pos) → pos.stamp ≡ event.now.stamp → result ≡ own_value pos None }
-{
-    let stamp = event.stamp;
-    stamp as i64
 }
 
 /// The saves of a key's events. Refused for memory.

@@ -19,7 +19,9 @@
 mod joining;
 mod saver;
 mod shelf;
+mod sums;
 
 pub use joining::Joining;
 pub use saver::{Moved, put_saver_hit, put_savings, take_saver_hit};
 pub use shelf::Shelf;
+pub use sums::sums_at;

@@ -1,14 +1,12 @@
 -- Each event of the run gives its hit.
-use Rattle.std.proofs.Common.{◌≡◌, ◌++◌, List, [], drop, sym, ap, subst, ◌∙◌, None}
+use Rattle.std.proofs.Common.{◌≡◌, ◌++◌, List, [], drop, sym, ap, subst, ◌∙◌}
 use Rattle.std.specs.List.{AllByRecursion}
 use Rattle.std.proofs.lemmas.List.{drop_all}
 use Rattle.ft_fields.specs.Traced.{Traced}
 use Rattle.ft_fields.specs.declared.pos.Pos.{Pos}
-use Rattle.ft_groups.proofs.Bare.{bare_values}
 use Rattle.ft_maps.specs.Mapped.{entries_by}
-use Rattle.ft_store.specs.Stored.{bare, held}
+use Rattle.ft_store.specs.Stored.{held}
 use Rattle.ft_store.specs.declared.stored.Stored.{Stored}
-use Rattle.ft_table.specs.Values.{own_value, values_at}
 use Rattle.ft_shelves.specs.Joining.{hits_of_run}
 use Rattle.ft_shelves.proofs.KeyByKey.{first_event, made_all, made_more, stamped_run}
 use Rattle.ft_shelves.proofs.joining.hits_of.Goals as goal
@@ -32,14 +30,9 @@ loop-pos-preserved c =
     let e = c.loop-pos-item.result in
     let first = first_event c.run-run.result.now c.loop-pos.pos-index e c.loop-pos-test.true c.loop-pos-item.is in
     let stamped = subst (AllByRecursion HasStamp) first c.loop-pos.invariant.stamped in
-    let is : c.bare-event.result ≡ bare (held e.1) = c.bare-event.ensures in
-    let worth : c.values_unread-values.result ≡ values_at hist e.0 (held e.1) None =
-    c.values_unread-values.ensures e.0 (sym stamped.0 ∙ ap (λ (x : Traced). x.stamp) (sym is))
-    ∙ ap (λ (x : Traced). values_at hist e.0 x None) is
-    ∙ bare_values hist (held e.1) (own_value e.0 None) in
     record {
       made = made_more c.loop-pos.hits.items c.push.new.self.items _ _ _ _ _ c.in_ok-push.ensures.items
-          (λ i. (c.traced.ensures i, worth i))
+          (λ i. (c.traced.ensures i, c.sums_at-values.ensures i))
           (ap (hits_of_run hist) first)
           c.loop-pos.invariant.made;
       stamped = stamped.1;
