@@ -22,28 +22,40 @@ fn event_in(line: &[u8]) -> Option<Event> {
     }
 }
 
+/// Whether these bytes are a name's, which gives them back.
+fn is_name(bytes: &[u8]) -> bool {
+    match Comm::of(bytes) {
+        Some(comm) => comm.bytes() == bytes,
+        None => false,
+    }
+}
+
 #[test]
-fn names_hold_31_bytes_and_are_ordered_by_them(rt: HostRuntime) -> Result<(), Fail> {
-    let longest = comm_of(LONGEST)?;
-    let a = comm_of("a")?;
-    let zero = comm_of("a\0")?;
-    assert_eq!(rt; longest.bytes(), LONGEST.as_bytes());
-    assert_eq!(rt; zero.bytes(), b"a\0".as_slice());
+fn names_hold_31_bytes(rt: HostRuntime) {
+    assert!(rt; is_name(LONGEST.as_bytes()));
+    assert!(rt; is_name(b"a\0"));
     assert!(rt; Comm::of(&[b'a'; 32]).is_none());
+}
+
+#[test]
+fn names_are_ordered_by_their_bytes(rt: HostRuntime) -> Result<(), Fail> {
+    let (a, zero) = (comm_of("a")?, comm_of("a\0")?);
     assert!(rt; a == a && a != zero);
-    assert_eq!(rt; a.cmp(&zero), Ordering::Less);
-    assert_eq!(rt;
-        comm_of("b")?.partial_cmp(&longest),
-        Some(Ordering::Greater)
-    );
+    assert!(rt; a.cmp(&zero) == Ordering::Less);
+    let (b, longest) = (comm_of("b")?, comm_of(LONGEST)?);
+    assert!(rt; b.partial_cmp(&longest) == Some(Ordering::Greater));
     Ok(())
+}
+
+/// A place in a trace.
+fn at(stamp: u64, cpu: u16, line: u32) -> Pos {
+    Pos { stamp, cpu, line }
 }
 
 #[test]
 fn places(rt: HostRuntime) {
     one_order();
-    let at = |stamp: u64, cpu: u16, line: u32| Pos { stamp, cpu, line };
-    assert_eq!(rt; at(1, 9, 9).cmp(&at(2, 0, 1)), Ordering::Less);
-    assert_eq!(rt; at(1, 1, 2).cmp(&at(1, 1, 1)), Ordering::Greater);
+    assert!(rt; at(1, 9, 9).cmp(&at(2, 0, 1)) == Ordering::Less);
+    assert!(rt; at(1, 1, 2).cmp(&at(1, 1, 1)) == Ordering::Greater);
     assert!(rt; at(1, 0, 9) < at(1, 1, 1) && at(1, 0, 9) == at(1, 0, 9));
 }

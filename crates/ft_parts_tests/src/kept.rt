@@ -5,18 +5,34 @@ mod trial;
 
 use ft_kept::*;
 use ft_pairs::Role;
+use std::alloc::{AllocError, Global};
 use std::test::*;
+
+/// The tables of a saver and a reader.
+fn two_tables(alloc: Global) -> Result<Tables, AllocError> {
+    let mut tables = Tables::new(alloc);
+    tables.add(1, Role::Saves, 128)?;
+    tables.add(2, Role::Reads(1), 256)?;
+    Ok(tables)
+}
+
+/// Whether a trigger has a shelf in this role, which holds nothing.
+fn is_empty(tables: &Tables, id: u32, role: Role) -> bool {
+    match tables.shelf(id) {
+        Some(shelf) => {
+            shelf.role() == role
+                && shelf.table().totals().entries == 0
+                && shelf.readings().len() == 0
+        }
+        None => false,
+    }
+}
 
 #[test]
 fn new_shelves_hold_nothing(rt: HostRuntime) -> Result<(), Fail> {
-    let mut tables = Tables::new(rt.alloc());
-    assert!(rt; tables.shelf(1).is_none());
-    tables.add(1, Role::Saves, 128)?;
-    tables.add(2, Role::Reads(1), 256)?;
-    let shelf = tables.shelf(2).ok_or("the second trigger has no shelf")?;
-    assert_eq!(rt; shelf.role(), Role::Reads(1));
-    assert_eq!(rt; shelf.table().totals().entries, 0);
-    assert_eq!(rt; shelf.readings().len(), 0);
+    assert!(rt; Tables::new(rt.alloc()).shelf(1).is_none());
+    let tables = two_tables(rt.alloc())?;
+    assert!(rt; is_empty(&tables, 2, Role::Reads(1)));
     assert!(rt; tables.shelf(3).is_none());
     Ok(())
 }

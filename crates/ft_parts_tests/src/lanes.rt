@@ -73,63 +73,95 @@ fn walked(alloc: Global, lanes: &Lanes) -> Result<Vec<(u16, u32, u64)>, AllocErr
     Ok(all)
 }
 
+/// Two events of CPU 1 and one of CPU 0.
+const FIRST: [(u16, u64); 3] = [(1, 5), (0, 6), (1, 7)];
+
+/// An event each of two other CPUs.
+const SECOND: [(u16, u64); 2] = [(2, 8), (4, 9)];
+
+#[test]
+fn a_lane_that_is_held_is_not_loaded_again(rt: HostRuntime) {
+    let mut lanes = Lanes::new(rt.alloc());
+    assert!(rt; loaded(rt.alloc(), &mut lanes, &FIRST) == Some(true));
+    assert!(rt; has_lines(&lanes, 1, &[(1, 5), (2, 7)]));
+    assert!(rt; loaded(rt.alloc(), &mut lanes, &[(2, 8), (1, 9)]) == Some(false));
+    assert!(rt; loaded(rt.alloc(), &mut lanes, &SECOND) == Some(true));
+}
+
+/// Lanes of both loads. None where memory ran out.
+fn lanes_of_both(alloc: Global) -> Option<Lanes> {
+    let mut lanes = Lanes::new(alloc);
+    loaded(alloc, &mut lanes, &FIRST)?;
+    loaded(alloc, &mut lanes, &SECOND)?;
+    Some(lanes)
+}
+
+/// Takes CPU 1 out of the lanes, and says whether it had two events and is gone.
+fn unloads(lanes: &mut Lanes) -> bool {
+    lanes.take_lane(1) == Some(2) && lanes.take_lane(1).is_none() && lanes.len() == 3
+}
+
 #[test]
 fn an_unloaded_lane_begins_anew(rt: HostRuntime) -> Result<(), Fail> {
-    let mut lanes = Lanes::new(rt.alloc());
-    assert_eq!(rt;
-        loaded(rt.alloc(), &mut lanes, &[(1, 5), (0, 6), (1, 7)]),
-        Some(true)
-    );
-    assert!(rt; has_lines(&lanes, 1, &[(1, 5), (2, 7)]));
-    assert_eq!(rt;
-        loaded(rt.alloc(), &mut lanes, &[(2, 8), (1, 9)]),
-        Some(false)
-    );
-    assert_eq!(rt;
-        loaded(rt.alloc(), &mut lanes, &[(2, 8), (4, 9)]),
-        Some(true)
-    );
-    assert_eq!(rt; (lanes.take_lane(1), lanes.take_lane(1)), (Some(2), None));
-    assert_eq!(rt; lanes.len(), 3);
-    assert_eq!(rt; pushed(&mut lanes, event_at(1, 11)), Some(1));
+    let mut lanes = lanes_of_both(rt.alloc()).ok_or("no lanes")?;
+    assert!(rt; unloads(&mut lanes));
+    assert!(rt; pushed(&mut lanes, event_at(1, 11)) == Some(1));
     assert!(rt; has_lines(&lanes, 0, &[(1, 6)]) && has_lines(&lanes, 4, &[(1, 9)]));
     assert!(rt; has_lines(&lanes, 1, &[(1, 11)]));
     let all = walked(rt.alloc(), &lanes)?;
-    assert_eq!(rt;
-        all.as_slice(),
-        [(0, 1, 6), (1, 1, 11), (2, 1, 8), (4, 1, 9)].as_slice()
-    );
+    let wanted = [(0, 1, 6), (1, 1, 11), (2, 1, 8), (4, 1, 9)];
+    assert_eq!(rt; all.as_slice(), wanted.as_slice());
     Ok(())
 }
 
+/// Whether the lanes hold the first load, or nothing.
+fn has_first(lanes: &Lanes, first: bool) -> bool {
+    let held = if first { 3 } else { 0 };
+    lanes.len() == held && (!first || has_lines(lanes, 1, &[(1, 5), (2, 7)]))
+}
+
+/// Whether the lanes hold these loads, and no other.
+fn has_both(lanes: &Lanes, first: bool, second: bool) -> bool {
+    let held = if first { 3 } else { 0 } + if second { 2 } else { 0 };
+    lanes.len() == held
+        && has_lines(lanes, 4, &[(1, 9)]) == second
+        && (!first || has_lines(lanes, 0, &[(1, 6)]))
+}
+
+/// Passes whichever allocation is refused: `rt try --test --fail-alloc N`.
 #[test]
 fn what_is_refused_leaves_the_lanes(rt: HostRuntime) {
     let mut lanes = Lanes::new(rt.alloc());
-    let first = loaded(rt.alloc(), &mut lanes, &[(1, 5), (0, 6), (1, 7)]).is_some();
-    let held = if first { 3 } else { 0 };
-    assert_eq!(rt; lanes.len(), held);
-    assert!(rt; !first || has_lines(&lanes, 1, &[(1, 5), (2, 7)]));
-    let second = loaded(rt.alloc(), &mut lanes, &[(2, 8), (4, 9)]).is_some();
-    assert_eq!(rt; lanes.len(), held + if second { 2 } else { 0 });
-    assert_eq!(rt; has_lines(&lanes, 4, &[(1, 9)]), second);
-    assert!(rt; !first || has_lines(&lanes, 0, &[(1, 6)]));
+    let first = loaded(rt.alloc(), &mut lanes, &FIRST).is_some();
+    assert!(rt; has_first(&lanes, first));
+    let second = loaded(rt.alloc(), &mut lanes, &SECOND).is_some();
+    assert!(rt; has_both(&lanes, first, second));
     let third = pushed(&mut lanes, event_at(0, 12)).is_some();
-    assert_eq!(rt; lanes.next_line(0), 1 + u64::from(first) + u64::from(third));
+    assert!(rt; lanes.next_line(0) == 1 + u64::from(first) + u64::from(third));
 }
 
+/// Takes the event of CPU 0 and the first two of CPU 1 out, and says whether each was there, or
+/// none.
+fn takes_three(lanes: &mut Lanes, are_there: bool) -> bool {
+    lanes.take(1, 1).is_some() == are_there
+        && lanes.take(0, 1).is_some() == are_there
+        && lanes.take(1, 2).is_some() == are_there
+}
+
+/// Whether the third event of CPU 1 is left of four, or nothing was there.
+fn has_third(lanes: &Lanes, is_there: bool) -> bool {
+    let (stamp, next) = if is_there { (Some(8), 4) } else { (None, 1) };
+    stamp_at(lanes, 1, 3) == stamp && lanes.next_line(1) == next
+}
+
+/// Passes whichever allocation is refused: `rt try --test --fail-alloc N`.
 #[test]
 fn a_refused_rebuild_leaves_the_lanes(rt: HostRuntime) {
     let mut lanes = Lanes::new(rt.alloc());
     let first = loaded(rt.alloc(), &mut lanes, &[(1, 5), (0, 6), (1, 7), (1, 8)]).is_some();
-    assert_eq!(rt; lanes.take(1, 1).is_some(), first);
-    assert_eq!(rt; lanes.take(0, 1).is_some(), first);
-    assert_eq!(rt; lanes.take(1, 2).is_some(), first);
+    assert!(rt; takes_three(&mut lanes, first));
     let second = pushed(&mut lanes, event_at(0, 12)).is_some();
-    assert_eq!(rt; lanes.len(), u64::from(first) + u64::from(second));
-    assert_eq!(rt; stamp_at(&lanes, 1, 3), if first { Some(8) } else { None });
-    assert_eq!(rt;
-        lanes.next_line(0),
-        1 + u64::from(first) + u64::from(second)
-    );
-    assert_eq!(rt; lanes.next_line(1), if first { 4 } else { 1 });
+    assert!(rt; has_third(&lanes, first));
+    let left = u64::from(first) + u64::from(second);
+    assert!(rt; lanes.len() == left && lanes.next_line(0) == 1 + left);
 }

@@ -79,98 +79,172 @@ fn has_kinds(store: &Store, kinds: &[usize]) -> bool {
     store.len() == kinds.len() && store.get(kinds.len()) == Event::blank()
 }
 
+/// A store of an event of each of the six kinds.
+fn store_of_all(alloc: Global) -> Result<Store, &'static str> {
+    store_of(alloc, 6).ok_or("no store")
+}
+
 #[test]
 fn events_come_back_as_they_were(rt: HostRuntime) -> Result<(), Fail> {
-    let store = store_of(rt.alloc(), 6).ok_or("no store")?;
+    let store = store_of_all(rt.alloc())?;
     assert!(rt; has_kinds(&store, &[0, 1, 2, 3, 4, 5]));
-    assert_eq!(rt; (store.cpu(5), store.cpu(6)), (8191, 0));
+    assert!(rt; store.cpu(5) == 8191 && store.cpu(6) == 0);
     Ok(())
+}
+
+/// The event of a switch without its names.
+fn bare_switch() -> Option<Event> {
+    let none = Comm::of(b"")?;
+    let said = Turn {
+        prev_comm: none,
+        prev_state: none,
+        next_comm: none,
+        ..turn()?
+    };
+    Some(Event {
+        task: none,
+        body: Body::Switch(said),
+        ..event_of(3)?
+    })
 }
 
 /// A bare event has the numbers of its event, and no names.
 #[test]
 fn a_bare_event_has_its_numbers_alone(rt: HostRuntime) -> Result<(), Fail> {
-    let store = store_of(rt.alloc(), 6).ok_or("no store")?;
-    let none = Comm::of(b"").ok_or("no name")?;
-    let mut event = event_of(3).ok_or("no event")?;
-    let mut said = turn().ok_or("no switch")?;
-    said.prev_comm = none;
-    said.prev_state = none;
-    said.next_comm = none;
-    event.task = none;
-    event.body = Body::Switch(said);
+    let event = bare_switch().ok_or("no event")?;
+    let store = store_of_all(rt.alloc())?;
     assert!(rt; store.bare(3) == event && Stored::new(&store, 3).bare() == event);
     Ok(())
 }
 
+/// Whether a reference tells the event of a kind, which has that name.
+fn tells(stored: Stored<'_>, kind: usize, name: Name) -> bool {
+    let Some(event) = event_of(kind) else {
+        return false;
+    };
+    stored.name() == name && stored.stamp() == event.stamp && stored.event() == event
+}
+
+/// The names of the events of the six kinds.
+const NAMES: [Name; 6] = [
+    Name::Waking,
+    Name::Wakeup,
+    Name::WakeupNew,
+    Name::Switch,
+    Name::WakeupLatency,
+    Name::Other,
+];
+
 #[test]
 fn a_reference_tells_its_event(rt: HostRuntime) -> Result<(), Fail> {
-    let store = store_of(rt.alloc(), 6).ok_or("no store")?;
-    let names = [
-        Name::Waking,
-        Name::Wakeup,
-        Name::WakeupNew,
-        Name::Switch,
-        Name::WakeupLatency,
-        Name::Other,
-    ];
-    for (place, name) in names.iter().enumerate() {
+    let store = store_of_all(rt.alloc())?;
+    for (place, name) in NAMES.iter().enumerate() {
         let stored = Stored::new(&store, place as u32);
-        let event = event_of(place).ok_or("no event")?;
-        assert_eq!(rt; stored.name(), *name);
-        assert_eq!(rt; stored.stamp(), event.stamp);
-        assert!(rt; stored.event() == event);
+        assert!(rt; tells(stored, place, *name), "at {place}");
     }
+    Ok(())
+}
+
+#[test]
+fn a_reference_behind_the_last_tells_of_nothing(rt: HostRuntime) -> Result<(), Fail> {
+    let store = store_of_all(rt.alloc())?;
     let behind = Stored::new(&store, 6);
-    assert_eq!(rt; (behind.name(), behind.stamp()), (Name::Other, 0));
+    assert!(rt; behind.name() == Name::Other && behind.stamp() == 0);
     assert!(rt; behind.event() == Event::blank());
     Ok(())
 }
 
 #[test]
-fn stores_are_cut_and_joined(rt: HostRuntime) -> Result<(), Fail> {
-    let mut store = store_of(rt.alloc(), 6).ok_or("no store")?;
+fn a_store_is_cut(rt: HostRuntime) -> Result<(), Fail> {
+    let mut store = store_of_all(rt.alloc())?;
     store.truncate(7);
     assert!(rt; has_kinds(&store, &[0, 1, 2, 3, 4, 5]));
     store.truncate(3);
     assert!(rt; has_kinds(&store, &[0, 1, 2]));
-    store.push(&event_of(3).ok_or("no event")?)?;
-    store.append(store_of(rt.alloc(), 4).ok_or("no store")?)?;
+    Ok(())
+}
+
+/// A store of three events, one more that is pushed after a cut, and four that are appended.
+fn joined(alloc: Global) -> Option<Store> {
+    let mut store = store_of(alloc, 6)?;
+    store.truncate(3);
+    store.push(&event_of(3)?).ok()?;
+    store.append(store_of(alloc, 4)?).ok()?;
+    Some(store)
+}
+
+#[test]
+fn stores_are_joined(rt: HostRuntime) -> Result<(), Fail> {
+    let store = joined(rt.alloc()).ok_or("no store")?;
     assert!(rt; has_kinds(&store, &[0, 1, 2, 3, 0, 1, 2, 3]));
     let mut other = Store::new(rt.alloc());
     other.append(store)?;
     assert!(rt; has_kinds(&other, &[0, 1, 2, 3, 0, 1, 2, 3]));
-    other.clear();
-    assert!(rt; has_kinds(&other, &[]));
-    other.push(&event_of(2).ok_or("no event")?)?;
-    assert!(rt; has_kinds(&other, &[2]));
-    let events = [
-        event_of(3).ok_or("no event")?,
-        event_of(0).ok_or("no event")?,
-    ];
-    assert!(rt; has_kinds(&Store::of(rt.alloc(), &events)?, &[3, 0]));
     Ok(())
+}
+
+#[test]
+fn a_cleared_store_is_filled_again(rt: HostRuntime) -> Result<(), Fail> {
+    let event = event_of(2).ok_or("no event")?;
+    let mut store = store_of_all(rt.alloc())?;
+    store.clear();
+    assert!(rt; has_kinds(&store, &[]));
+    store.push(&event)?;
+    assert!(rt; has_kinds(&store, &[2]));
+    Ok(())
+}
+
+/// A switch, and then a waking.
+fn two_events() -> Option<[Event; 2]> {
+    Some([event_of(3)?, event_of(0)?])
+}
+
+#[test]
+fn a_store_of_events(rt: HostRuntime) -> Result<(), Fail> {
+    let events = two_events().ok_or("no events")?;
+    let store = Store::of(rt.alloc(), &events)?;
+    assert!(rt; has_kinds(&store, &[3, 0]));
+    Ok(())
+}
+
+/// The last event of a store.
+fn last_of(store: &Store) -> Event {
+    store.get(store.len().saturating_sub(1))
+}
+
+/// Whether the store still has so many events, and this one is the last of them.
+fn begins_with(store: &Store, count: usize, last: Event) -> bool {
+    count == 0 || store.get(count - 1) == last
+}
+
+/// Whether a push adds the event of a kind, or leaves the store.
+fn adds_or_leaves(store: &mut Store, kind: usize) -> bool {
+    let Some(event) = event_of(kind) else {
+        return false;
+    };
+    let (before, last) = (store.len(), last_of(store));
+    let pushed = store.push(&event).is_ok();
+    let behind = if pushed { event } else { Event::blank() };
+    (store.len() == before) != pushed
+        && store.get(before) == behind
+        && begins_with(store, before, last)
+}
+
+/// Whether an append adds the events, or leaves the store.
+fn joins_or_leaves(store: &mut Store, events: Store) -> bool {
+    let (before, last) = (store.len(), last_of(store));
+    let appended = store.append(events).is_ok();
+    (store.len() == before) != appended && begins_with(store, before, last)
 }
 
 /// Passes whichever allocation is refused: `rt try --test --fail-alloc N`.
 #[test]
-fn a_refused_growth_leaves_the_store(rt: HostRuntime) -> Result<(), Fail> {
+fn a_refused_growth_leaves_the_store(rt: HostRuntime) {
     let mut store = Store::new(rt.alloc());
     for turn in 0..30 {
-        let event = event_of(turn % 6).ok_or("no event")?;
-        let before = store.len();
-        let last = store.get(before.saturating_sub(1));
-        let pushed = store.push(&event).is_ok();
-        assert_eq!(rt; store.len() == before, !pushed);
-        assert!(rt; store.get(before) == if pushed { event } else { Event::blank() });
-        assert!(rt; before == 0 || store.get(before - 1) == last);
+        assert!(rt; adds_or_leaves(&mut store, turn % 6), "at {turn}");
     }
-    let before = store.len();
-    let last = store.get(before.saturating_sub(1));
     if let Some(more) = store_of(rt.alloc(), 6) {
-        let appended = store.append(more).is_ok();
-        assert_eq!(rt; store.len() == before, !appended);
-        assert!(rt; before == 0 || store.get(before - 1) == last);
+        assert!(rt; joins_or_leaves(&mut store, more));
     }
-    Ok(())
 }

@@ -37,14 +37,19 @@ fn item(field: Field, mode: Mode) -> KeyItem {
 /// What a text is answered: the canonical text of the trigger that it gives, or the first fault.
 type Answer = Result<&'static str, TriggerFault>;
 
-/// The text of the trigger that a text on events of this name gives.
-fn written(alloc: Global, name: Name, text: &str) -> Result<Vec<u8>, TriggerFault> {
-    let trigger = parse(alloc, name, text.as_bytes())?;
+/// The canonical text of a trigger.
+fn text_of(alloc: Global, trigger: &Trigger) -> Result<Vec<u8>, TriggerFault> {
     let mut line = Vec::new(alloc);
     match trigger.write(&mut line) {
         Ok(()) => Ok(line),
         Err(AllocError) => Err(TriggerFault::Memory),
     }
+}
+
+/// The text of the trigger that a text on events of this name gives.
+fn written(alloc: Global, name: Name, text: &str) -> Result<Vec<u8>, TriggerFault> {
+    let trigger = parse(alloc, name, text.as_bytes())?;
+    text_of(alloc, &trigger)
 }
 
 /// Whether such an answer is wanted.
@@ -54,4 +59,9 @@ fn is_wanted(found: &Result<Vec<u8>, TriggerFault>, want: Answer) -> bool {
         (Err(fault), Err(other)) => *fault == other,
         _ => false,
     }
+}
+
+/// Whether a text on events of this name is answered so.
+fn is_answered(alloc: Global, name: Name, text: &str, want: Answer) -> bool {
+    is_wanted(&written(alloc, name, text), want)
 }

@@ -3,12 +3,12 @@
 use ft_event::{Body, Comm, Event, Name, Wake};
 use ft_filter::*;
 use std::alloc::Global;
-use std::test::Fail;
+use std::test::*;
 
 /// A wake of `cyclictest`, traced on CPU 3 under PID 7.
-fn wake_of(pid: i32, prio: i32) -> Result<Event, &'static str> {
-    let comm = Comm::of(b"cyclictest").ok_or("the text is too long for a name")?;
-    Ok(Event {
+fn wake_of(pid: i32, prio: i32) -> Option<Event> {
+    let comm = Comm::of(b"cyclictest")?;
+    Some(Event {
         task: comm,
         pid: 7,
         cpu: 3,
@@ -22,14 +22,15 @@ fn wake_of(pid: i32, prio: i32) -> Result<Event, &'static str> {
     })
 }
 
-/// Whether the event passes the filter with this text, where the text is one for wakings.
-fn answer(alloc: Global, text: &str, event: &Event) -> Option<bool> {
+/// Whether a wake of this PID and priority passes the filter with this text, where the text is one
+/// for wakings.
+fn answer(alloc: Global, text: &str, pid: i32, prio: i32) -> Option<bool> {
     let filter = parse(alloc, text.as_bytes(), Name::Waking).ok()?;
-    Some(filter.holds(event))
+    Some(filter.holds(&wake_of(pid, prio)?))
 }
 
 #[test]
-fn filters_join(rt: HostRuntime) -> Result<(), Fail> {
+fn filters_join(rt: HostRuntime) {
     for (text, pid, prio, want) in [
         ("comm ~ \"cyc*\" && prio < 100", 1, 99, true),
         ("comm ~ \"cyc*\" && prio < 100", 1, 100, false),
@@ -41,9 +42,7 @@ fn filters_join(rt: HostRuntime) -> Result<(), Fail> {
         ("!(pid == 1 && prio == 1)", 1, 2, true),
         ("!pid == 1 && prio == 1", 1, 2, false),
     ] {
-        let event = wake_of(pid, prio)?;
-        let found = answer(rt.alloc(), text, &event);
-        assert_eq!(rt; found, Some(want), "{text} at {pid} and {prio}");
+        let found = answer(rt.alloc(), text, pid, prio);
+        assert!(rt; found == Some(want), "{text} at {pid} and {prio}");
     }
-    Ok(())
 }

@@ -2,23 +2,37 @@
 
 use ft_event::{Field, Name};
 use ft_filter::*;
+use std::alloc::Global;
 use std::test::*;
 
 #[test]
-fn words(rt: HostRuntime) {
+fn gaps_are_spaces_and_tabs(rt: HostRuntime) {
     words_of_texts();
-    numbers_of_words();
     assert!(rt; is_gap(b' ') && is_gap(b'\t') && !is_gap(b'\n'));
-    assert_eq!(rt; skip(b" \t a "), b"a ".as_slice());
+    assert!(rt; skip(b" \t a ") == b"a ".as_slice());
+}
+
+#[test]
+fn names_begin_with_no_digit(rt: HostRuntime) {
+    numbers_of_words();
     let found = Some((b"_a1".as_slice(), b"-b".as_slice()));
-    assert_eq!(rt; name_at(b"_a1-b"), found);
+    assert!(rt; name_at(b"_a1-b") == found);
     assert!(rt; name_at(b"1a").is_none());
+}
+
+/// Whether the text is no filter for wakings, by such a fault.
+fn is_refused(alloc: Global, text: &str, fault: FilterFault) -> bool {
+    parse(alloc, text.as_bytes(), Name::Waking).err() == Some(fault)
+}
+
+/// Whether a fault has this number, and stands at this place.
+fn is_at(fault: FilterFault, number: u8, place: usize) -> bool {
+    fault.number() == number && fault.place() == Some(place)
 }
 
 #[test]
 fn faults_and_their_places(rt: HostRuntime) {
     predicates_of_texts();
-    one_answer();
     for (text, fault, number, place) in [
         ("pid == 010", FilterFault::Syntax(7), 2, 7),
         ("nope $", FilterFault::NoField(0), 3, 0),
@@ -31,13 +45,16 @@ fn faults_and_their_places(rt: HostRuntime) {
             7,
         ),
     ] {
-        let found = parse(rt.alloc(), text.as_bytes(), Name::Waking).err();
-        assert_eq!(rt; found, Some(fault), "{text}");
-        assert_eq!(rt; fault.number(), number);
-        assert_eq!(rt; fault.place(), Some(place));
+        assert!(rt; is_refused(rt.alloc(), text, fault), "{text}");
+        assert!(rt; is_at(fault, number, place), "{text}");
     }
-    assert_eq!(rt; FilterFault::Memory.number(), 1);
-    assert_eq!(rt; FilterFault::TooDeep.place(), None);
+}
+
+#[test]
+fn faults_without_a_place(rt: HostRuntime) {
+    one_answer();
+    assert!(rt; FilterFault::Memory.number() == 1);
+    assert!(rt; FilterFault::TooDeep.place().is_none());
 }
 
 /// The comparison that is an operand of a filter by `&&`.
@@ -52,28 +69,40 @@ fn operand(filter: &Filter, at: usize) -> Option<&Pred> {
     }
 }
 
+/// Whether a comparison is of names with a glob, in which a bracket has a class.
+fn is_by_glob(pred: &Pred) -> bool {
+    let Literal::Glob(pattern) = &pred.value else {
+        return false;
+    };
+    pred.field == Field::Comm
+        && pred.op.text() == b"~".as_slice()
+        && pattern.bytes() == b"sim-[0-9]".as_slice()
+        && pattern.matches(b"sim-1")
+        && !pattern.matches(b"sim-[0-9]")
+}
+
+/// Whether a comparison is with another text than `x`.
+fn is_not_x(pred: &Pred) -> bool {
+    match &pred.value {
+        Literal::Text(text) => pred.op == Op::Ne && text.bytes() == b"x".as_slice(),
+        Literal::Number(_) | Literal::Glob(_) => false,
+    }
+}
+
+/// Whether a filter joins these two comparisons.
+fn joins_both(filter: &Filter) -> bool {
+    match (operand(filter, 0), operand(filter, 1)) {
+        (Some(first), Some(second)) => is_by_glob(first) && is_not_x(second),
+        _ => false,
+    }
+}
+
 #[test]
 fn parts_of_a_filter(rt: HostRuntime) -> Result<(), Fail> {
     trees_of_texts();
-    let filter = parse(
-        rt.alloc(),
-        b"comm ~ 'sim-[0-9]' && comm != 'x'",
-        Name::Wakeup,
-    )?;
-    assert_eq!(rt; filter.event(), Name::Wakeup);
-    let first = operand(&filter, 0).ok_or("there is no first operand")?;
-    assert_eq!(rt; first.field, Field::Comm);
-    assert_eq!(rt; first.op.text(), b"~".as_slice());
-    let Literal::Glob(pattern) = &first.value else {
-        return Err("the value is no glob")?;
-    };
-    assert_eq!(rt; pattern.bytes(), b"sim-[0-9]".as_slice());
-    assert!(rt; pattern.matches(b"sim-1") && !pattern.matches(b"sim-[0-9]"));
-    let second = operand(&filter, 1).ok_or("there is no second operand")?;
-    assert_eq!(rt; second.op, Op::Ne);
-    let Literal::Text(text) = &second.value else {
-        return Err("the value is no text")?;
-    };
-    assert_eq!(rt; text.bytes(), b"x".as_slice());
+    let text = b"comm ~ 'sim-[0-9]' && comm != 'x'";
+    let filter = parse(rt.alloc(), text, Name::Wakeup)?;
+    assert!(rt; filter.event() == Name::Wakeup);
+    assert!(rt; joins_both(&filter));
     Ok(())
 }

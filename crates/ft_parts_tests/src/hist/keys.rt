@@ -36,24 +36,35 @@ fn keys_in_order(rt: HostRuntime) -> Result<(), Fail> {
         Key::of_one(text),
     ];
     assert!(rt; ascend(&ascending));
+    Ok(())
+}
+
+#[test]
+fn numbers_stand_before_texts(rt: HostRuntime) -> Result<(), Fail> {
+    let (one, text) = (Part::Num(1), Part::Text(comm_of("b")?));
     assert!(rt; one < text && one != text);
     assert!(rt; one.partial_cmp(&text) == Some(Ordering::Less));
     assert!(rt; Key::of_one(one).partial_cmp(&Key::of_one(text)) == Some(Ordering::Less));
     Ok(())
 }
 
-/// The part that a trigger of one key makes of a waking with a priority.
-fn part_of_prio(alloc: Global, text: &[u8], prio: i32) -> Option<Part> {
-    let trigger = parse(alloc, Name::Waking, text).ok()?;
-    let event = waking(0, prio).ok()?;
+/// The first part of the key that a trigger counts an event under.
+fn first_part(trigger: &Trigger, event: &Event) -> Option<Part> {
     let mut work = Work::new();
     // Contracts alone see what it counts.
     work.tick_put();
-    trigger.hit_of(&event, &mut work)?.part(0)
+    trigger.hit_of(event, &mut work)?.part(0)
+}
+
+/// The part that a trigger of one key makes of a waking with a priority.
+fn part_of_prio(alloc: Global, text: &[u8], prio: i32) -> Option<Part> {
+    let event = waking(0, prio).ok()?;
+    let trigger = parse(alloc, Name::Waking, text).ok()?;
+    first_part(&trigger, &event)
 }
 
 #[test]
-fn parts_of_keys(rt: HostRuntime) -> Result<(), Fail> {
+fn parts_that_modifiers_make(rt: HostRuntime) {
     powers();
     multiples();
     fitting_parts();
@@ -73,15 +84,17 @@ fn parts_of_keys(rt: HostRuntime) -> Result<(), Fail> {
             Part::Bucket(18_446_744_073_709_551_584),
         ),
     ] {
-        assert!(rt;
-            part_of_prio(rt.alloc(), text, prio) == Some(part),
-            "of {prio}"
-        );
+        let found = part_of_prio(rt.alloc(), text, prio);
+        assert!(rt; found == Some(part), "of {prio}");
     }
+}
+
+#[test]
+fn parts_of_keys(rt: HostRuntime) -> Result<(), Fail> {
     let (first, second) = (Part::Num(-1), Part::Log2(3));
-    let key = Key::of_three(first, second, Part::Text(comm_of("sim")?));
-    assert!(rt; key.part(0) == Some(first));
-    assert!(rt; key.part(2) == Some(Part::Text(comm_of("sim")?)));
+    let third = Part::Text(comm_of("sim")?);
+    let key = Key::of_three(first, second, third);
+    assert!(rt; key.part(0) == Some(first) && key.part(2) == Some(third));
     assert!(rt; Key::of_two(first, second).part(1) == Some(second));
     assert!(rt; Key::of_one(first).part(1).is_none());
     Ok(())

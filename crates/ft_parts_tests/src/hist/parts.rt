@@ -32,14 +32,27 @@ fn made(alloc: Global) -> Result<Trigger, Fail> {
     ))
 }
 
+/// Whether the trigger's variable has that name.
+fn has_variable(trigger: &Trigger, name: &[u8]) -> bool {
+    match trigger.variable() {
+        Some(variable) => variable.own_name() == name,
+        None => false,
+    }
+}
+
+/// The canonical text of a trigger.
+fn written(alloc: Global, trigger: &Trigger) -> Result<Vec<u8>, AllocError> {
+    let mut text = Vec::new(alloc);
+    trigger.write(&mut text)?;
+    Ok(text)
+}
+
 #[test]
 fn trigger_of_parts(rt: HostRuntime) -> Result<(), Fail> {
     let trigger = made(rt.alloc())?;
     assert!(rt; trigger.event() == Name::Waking && trigger.size() == 256);
-    let variable = trigger.variable().ok_or("the trigger has no variable")?;
-    assert!(rt; variable.own_name() == b"ts0".as_slice());
-    let mut text = Vec::new(rt.alloc());
-    trigger.write(&mut text)?;
+    assert!(rt; has_variable(&trigger, b"ts0"));
+    let text = written(rt.alloc(), &trigger)?;
     let wanted = "hist:keys=pid.hex:vals=hitcount,prio,$ts0:ts0=common_timestamp.usecs:\
         sort=prio.descending:size=256 if prio < 100";
     assert_eq!(rt; text.as_slice(), wanted.as_bytes());

@@ -49,20 +49,31 @@ fn trigger_of(alloc: Global, values: &[Item], variable: Option<Var>) -> Result<T
     Ok(Trigger::of(name, keys, value_items, sort, variable, 2048, None))
 }
 
-/// Two fields and the trigger's own variable; an event of another name has no such field.
-#[test]
-fn values_of_events(rt: HostRuntime) -> Result<(), Fail> {
-    summed_fields();
-    let alloc = rt.alloc();
-    let label = Label::of(alloc, b"ts0")?;
-    assert!(rt; label.bytes() == b"ts0".as_slice());
+/// A trigger that sums two fields and its own variable.
+fn summing(alloc: Global) -> Result<Trigger, AllocError> {
+    let variable = Var::Saves(Label::of(alloc, b"ts0")?);
     let values = [
         Item::Num(Field::NextPrio),
         Item::Num(Field::CommonPid),
         Item::Own,
     ];
-    let trigger = trigger_of(alloc, &values, Some(Var::Saves(label)))?;
-    assert!(rt; trigger.values_of(&switch()?, GREATEST_STAMP) == [-5, 7, GREATEST_STAMP]);
-    assert!(rt; trigger.values_of(&waking(42, 120)?, -170) == [0, 7, -170]);
+    trigger_of(alloc, &values, Some(variable))
+}
+
+/// An event of another name has no such field.
+#[test]
+fn values_of_events(rt: HostRuntime) -> Result<(), Fail> {
+    summed_fields();
+    let (switch, waking) = (switch()?, waking(42, 120)?);
+    let trigger = summing(rt.alloc())?;
+    assert!(rt; trigger.values_of(&switch, GREATEST_STAMP) == [-5, 7, GREATEST_STAMP]);
+    assert!(rt; trigger.values_of(&waking, -170) == [0, 7, -170]);
+    Ok(())
+}
+
+#[test]
+fn a_label_has_its_bytes(rt: HostRuntime) -> Result<(), Fail> {
+    let label = Label::of(rt.alloc(), b"ts0")?;
+    assert!(rt; label.bytes() == b"ts0".as_slice());
     Ok(())
 }

@@ -66,13 +66,13 @@ impl Model for Trial {
 impl Trial {
     /// What happens on CPU 0, held from line 1 on. None of it has come.
     pub(super) fn of(alloc: Global, events: &[What]) -> Result<Trial, Fail> {
-        let lanes = holding(alloc, events)?;
         let mut triggers = BTreeMap::new(alloc);
-        let mut tables = Tables::new(alloc);
         put(&mut triggers, SAVER, parse(alloc, Name::Waking, SAVES)?)?;
-        tables.add(SAVER, Role::Saves, 2)?;
         put(&mut triggers, READER, parse(alloc, Name::Switch, READS)?)?;
+        let mut tables = Tables::new(alloc);
+        tables.add(SAVER, Role::Saves, 2)?;
         tables.add(READER, Role::Reads(SAVER), 2)?;
+        let lanes = holding(alloc, events)?;
         Ok(Trial {
             triggers,
             lanes,
@@ -92,19 +92,19 @@ impl Trial {
 
     /// The event of a line comes, which hasn't come yet.
     pub(super) fn comes(self, line: u32) -> Result<Trial, Fail> {
+        let Some(event) = self.lanes.get(0, line) else {
+            return Err(Fail::new("no event is held there"));
+        };
+        let pos = place(&event, line);
+        if get(&self.come, &pos).is_some() {
+            return Err(Fail::new("it has come already"));
+        }
         let Trial {
             triggers,
             lanes,
             mut tables,
             mut come,
         } = self;
-        let Some(event) = lanes.get(0, line) else {
-            return Err(Fail::new("no event is held there"));
-        };
-        let pos = place(&event, line);
-        if get(&come, &pos).is_some() {
-            return Err(Fail::new("it has come already"));
-        }
         tables.event_comes(
             &triggers,
             &lanes,
@@ -124,16 +124,16 @@ impl Trial {
 
     /// The event of a line goes, which has come.
     pub(super) fn goes(self, line: u32) -> Result<Trial, Fail> {
+        let Some(held) = self.lanes.get(0, line) else {
+            return Err(Fail::new("no event is held there"));
+        };
+        let pos = place(&held, line);
         let Trial {
             triggers,
             lanes,
             mut tables,
             mut come,
         } = self;
-        let Some(held) = lanes.get(0, line) else {
-            return Err(Fail::new("no event is held there"));
-        };
-        let pos = place(&held, line);
         let Some(event) = get(&come, &pos) else {
             return Err(Fail::new("it hasn't come"));
         };

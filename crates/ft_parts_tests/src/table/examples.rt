@@ -1,5 +1,7 @@
 //! Worked examples.
 
+ghost use Rattle.std.specs.Prelude.{◌<◌};
+
 use super::*;
 
 /// Whether a table of two keys has no hit.
@@ -50,19 +52,31 @@ fn has_four_hits(table: &Table) -> bool {
         && is_row(table, pid(6), None)
 }
 
+/// Where the hit of a PID behind a spot stands, and its values.
+fn next(table: &Table, number: i64, after: Option<Spot>) -> Option<(Spot, [i64; 3])> {
+    let hit = table.hit_after(&pid(number), after)?;
+    let values = hit.values;
+    Some((hit.spot, values))
+}
+
+/// A table with room for so many keys, of these hits: their stamps, PIDs and first values.
+fn table_of(alloc: Global, size: u32, hits: &[(u64, i64, i64)]) -> Result<Table, AllocError>
+    requires { 0 < size }
+{
+    let mut table = Table::new(alloc, size);
+    for (stamp, number, value) in hits {
+        put(&mut table, hit(*stamp, *number, [*value, 0, 0]))?;
+    }
+    Ok(table)
+}
+
 #[test]
 fn hits_of_a_key_in_order(rt: HostRuntime) -> Result<(), Fail> {
-    let mut table = Table::new(rt.alloc(), 1);
-    put(&mut table, hit(30, 5, [3, 0, 0]))?;
-    put(&mut table, hit(10, 5, [1, 0, 0]))?;
-    put(&mut table, hit(20, 6, [2, 0, 0]))?;
-    let first = table.hit_after(&pid(5), None);
-    assert!(rt; first.map(|hit| hit.values) == Some([1, 0, 0]));
-    let second = table.hit_after(&pid(5), Some(on(10)));
-    assert!(rt; second.map(|hit| hit.values) == Some([3, 0, 0]));
-    assert!(rt; table.hit_after(&pid(5), Some(on(30))).is_none());
-    let other = table.hit_after(&pid(6), Some(on(10)));
-    assert!(rt; other.map(|hit| hit.spot) == Some(on(20)));
+    let table = table_of(rt.alloc(), 1, &[(30, 5, 3), (10, 5, 1), (20, 6, 2)])?;
+    assert!(rt; next(&table, 5, None) == Some((on(10), [1, 0, 0])));
+    assert!(rt; next(&table, 5, Some(on(10))) == Some((on(30), [3, 0, 0])));
+    assert!(rt; next(&table, 5, Some(on(30))).is_none());
+    assert!(rt; next(&table, 6, Some(on(10))) == Some((on(20), [2, 0, 0])));
     Ok(())
 }
 
@@ -92,40 +106,61 @@ fn each_key_comes_before_the_others(rt: HostRuntime) -> Result<(), Fail> {
     Ok(())
 }
 
+/// Four hits, the third of which is dropped by a table of two keys, until its PID comes before the
+/// others by the fourth.
+fn four_hits() -> [Hit; 4] {
+    [
+        hit(10, 5, [1, 0, 0]),
+        hit(20, 6, [2, 0, 0]),
+        hit(30, 7, [3, 0, 0]),
+        hit(5, 7, [4, 0, 0]),
+    ]
+}
+
+/// Whether a table of two keys has the first of the four hits, so many of them.
+fn has_first(table: &Table, count: usize) -> bool {
+    match count {
+        0 => has_no_hits(table),
+        1 => has_one_hit(table),
+        2 => has_two_hits(table),
+        3 => has_three_hits(table),
+        _ => has_four_hits(table),
+    }
+}
+
 /// Passes whichever allocation is refused: `rt try --test --fail-alloc N`.
 #[test]
 fn unchanged_after_want_of_memory(rt: HostRuntime) -> Result<(), Fail> {
     let mut table = Table::new(rt.alloc(), 2);
-    if put(&mut table, hit(10, 5, [1, 0, 0])).is_err() {
-        assert!(rt; has_no_hits(&table));
-        put(&mut table, hit(10, 5, [1, 0, 0]))?;
+    for (count, hit) in four_hits().iter().enumerate() {
+        if put(&mut table, *hit).is_err() {
+            assert!(rt; has_first(&table, count));
+            put(&mut table, *hit)?;
+        }
+        assert!(rt; has_first(&table, count + 1), "behind {count}");
     }
-    if put(&mut table, hit(20, 6, [2, 0, 0])).is_err() {
-        assert!(rt; has_one_hit(&table));
-        put(&mut table, hit(20, 6, [2, 0, 0]))?;
-    }
-    if put(&mut table, hit(30, 7, [3, 0, 0])).is_err() {
-        assert!(rt; has_two_hits(&table));
-        put(&mut table, hit(30, 7, [3, 0, 0]))?;
-    }
-    assert!(rt; has_three_hits(&table));
-    if put(&mut table, hit(5, 7, [4, 0, 0])).is_err() {
-        assert!(rt; has_three_hits(&table));
-        put(&mut table, hit(5, 7, [4, 0, 0]))?;
-    }
-    assert!(rt; has_four_hits(&table));
     table.remove(on(5), pid(7));
-    assert!(rt; has_three_hits(&table));
+    assert!(rt; has_first(&table, 3));
     Ok(())
+}
+
+/// A table of four keys, whose sums are three for each hit. The last of six hits is dropped.
+fn table_of_ties(alloc: Global) -> Result<Table, AllocError> {
+    let hits = [
+        (10, 9, 3),
+        (20, 7, 3),
+        (30, 8, 3),
+        (40, 7, 3),
+        (50, -1, 3),
+        (60, 5, 3),
+    ];
+    table_of(alloc, 4, &hits)
 }
 
 #[test]
 fn rows_that_tie_stand_by_key(rt: HostRuntime) -> Result<(), Fail> {
     one_row_order();
-    let mut table = Table::new(rt.alloc(), 4);
-    for (stamp, number) in [(10, 9), (20, 7), (30, 8), (40, 7), (50, -1), (60, 5)] {
-        put(&mut table, hit(stamp, number, [3, 0, 0]))?;
-    }
+    let table = table_of_ties(rt.alloc())?;
     let (negative, seven) = (row_of(-1, 1, 3), row_of(7, 2, 6));
     let (eight, nine) = (row_of(8, 1, 3), row_of(9, 1, 3));
     let down = table.rows(&[by(SortBy::Hits, true)])?;
@@ -133,11 +168,16 @@ fn rows_that_tie_stand_by_key(rt: HostRuntime) -> Result<(), Fail> {
     let items = [by(SortBy::Value(0), false), by(SortBy::Key(0), true)];
     let up = table.rows(&items)?;
     assert!(rt; up.as_slice() == [nine, eight, negative, seven].as_slice());
-    let (hits, entries, dropped) = (5, 4, 1);
+    Ok(())
+}
+
+#[test]
+fn totals_of_a_table(rt: HostRuntime) -> Result<(), Fail> {
+    let table = table_of_ties(rt.alloc())?;
     let totals = Totals {
-        hits,
-        entries,
-        dropped,
+        hits: 5,
+        entries: 4,
+        dropped: 1,
     };
     assert_eq!(rt; table.totals(), totals);
     Ok(())

@@ -91,25 +91,31 @@ const ON_MADE: [(&str, Answer); 3] = [
 
 #[test]
 fn an_onmatch_part_is_written_behind_the_size(rt: HostRuntime) {
-    let found = written(rt.alloc(), Name::Switch, MAKER);
-    assert!(rt; is_wanted(&found, Ok(MAKER_WRITTEN)));
-    let again = written(rt.alloc(), Name::Switch, MAKER_WRITTEN);
-    assert!(rt; is_wanted(&again, Ok(MAKER_WRITTEN)));
+    for text in [MAKER, MAKER_WRITTEN] {
+        assert!(rt;
+            is_answered(rt.alloc(), Name::Switch, text, Ok(MAKER_WRITTEN)),
+            "{text}"
+        );
+    }
 }
 
 #[test]
 fn faults_of_onmatch_parts(rt: HostRuntime) {
     for (text, fault) in FAULTS {
-        let found = written(rt.alloc(), Name::Switch, text);
-        assert!(rt; is_wanted(&found, Err(fault)), "{text}");
+        assert!(rt;
+            is_answered(rt.alloc(), Name::Switch, text, Err(fault)),
+            "{text}"
+        );
     }
 }
 
 #[test]
 fn triggers_on_made_events(rt: HostRuntime) {
     for (text, want) in ON_MADE {
-        let found = written(rt.alloc(), Name::WakeupLatency, text);
-        assert!(rt; is_wanted(&found, want), "{text}");
+        assert!(rt;
+            is_answered(rt.alloc(), Name::WakeupLatency, text, want),
+            "{text}"
+        );
     }
 }
 
@@ -131,33 +137,42 @@ fn switch() -> Result<Event, &'static str> {
     })
 }
 
+/// Where a stamp was saved 50 microseconds before that switch.
+const SAVED: Pos = Pos {
+    stamp: 1_000_000,
+    cpu: 1,
+    line: 7,
+};
+
+/// The latency that is found at that switch.
+const LATENCY: Matched = Matched {
+    lat: 50,
+    pid: 42,
+    prio: 120,
+};
+
 #[test]
 fn the_event_of_a_latency(rt: HostRuntime) -> Result<(), Fail> {
+    let reading = switch()?;
+    let made = Event {
+        body: Body::WakeupLatency(LATENCY),
+        ..reading
+    };
     let maker = parse(rt.alloc(), Name::Switch, MAKER.as_bytes())?;
-    let wanted = Onmatch {
+    let onmatch = Onmatch {
         event: Name::Waking,
         pid: Field::NextPid,
         prio: Field::NextPrio,
     };
-    assert!(rt; maker.onmatch() == Some(&wanted));
-    let saved = Pos {
-        stamp: 1_000_000,
-        cpu: 1,
-        line: 7,
-    };
+    assert!(rt; maker.onmatch() == Some(&onmatch));
+    assert!(rt; maker.made(&reading, SAVED) == Some(made));
+    Ok(())
+}
+
+#[test]
+fn no_event_without_an_onmatch_part(rt: HostRuntime) -> Result<(), Fail> {
     let reading = switch()?;
-    let matched = Matched {
-        lat: 50,
-        pid: 42,
-        prio: 120,
-    };
-    let made = Event {
-        body: Body::WakeupLatency(matched),
-        ..reading
-    };
-    assert!(rt; maker.made(&reading, saved) == Some(made));
     let bare = parse(rt.alloc(), Name::Switch, b"hist:keys=next_pid")?;
-    assert!(rt; bare.onmatch().is_none());
-    assert!(rt; bare.made(&reading, saved).is_none());
+    assert!(rt; bare.onmatch().is_none() && bare.made(&reading, SAVED).is_none());
     Ok(())
 }

@@ -19,12 +19,15 @@ const NO_GLOB: TriggerFault = TriggerFault::BadFilter(FilterFault::BadGlob(7));
 #[test]
 fn a_fault_has_a_number_and_may_have_a_place(rt: HostRuntime) {
     one_answer();
+    let left_out = TriggerFault::LeftOut(14);
+    assert!(rt; left_out.number() == 10 && left_out.place() == Some(14));
+    assert!(rt; NO_GLOB.number() == 11 && NO_GLOB.place().is_none());
+}
+
+#[test]
+fn an_action_that_is_left_out(rt: HostRuntime) {
     let found = parse(rt.alloc(), Name::Waking, b"hist:keys=pid:pause").err();
     assert!(rt; found == Some(TriggerFault::LeftOut(14)));
-    assert!(rt; TriggerFault::LeftOut(14).number() == 10);
-    assert!(rt; TriggerFault::LeftOut(14).place() == Some(14));
-    assert!(rt; NO_GLOB.number() == 11);
-    assert!(rt; NO_GLOB.place().is_none());
 }
 
 /// Calls the laws of what texts are read as, which do nothing as they run.
@@ -60,16 +63,24 @@ fn filter_text(alloc: Global, trigger: &Trigger) -> Result<Vec<u8>, Fail> {
     Ok(line)
 }
 
-#[test]
-fn parts_of_a_rich_text(rt: HostRuntime) -> Result<(), Fail> {
-    laws();
-    let trigger = parse(rt.alloc(), Name::Waking, RICH.as_bytes())?;
+/// The trigger of the rich text.
+fn rich(alloc: Global) -> Result<Trigger, TriggerFault> {
+    parse(alloc, Name::Waking, RICH.as_bytes())
+}
+
+/// Whether a trigger has the keys of the rich text.
+fn has_keys(trigger: &Trigger) -> bool {
     let keys = [
         item(Field::Pid, Mode::Hex),
         item(Field::Prio, Mode::Buckets(32)),
         item(Field::Comm, Mode::Plain),
     ];
-    // The priority is a key and a value: rows are sorted by the key.
+    trigger.keys() == keys.as_slice()
+}
+
+/// Whether a trigger sorts as the rich text says. The priority is a key and a value: rows are
+/// sorted by the key.
+fn sorts_by_keys(trigger: &Trigger) -> bool {
     let sort = [
         SortItem {
             what: SortBy::Key(2),
@@ -80,28 +91,27 @@ fn parts_of_a_rich_text(rt: HostRuntime) -> Result<(), Fail> {
             descending: false,
         },
     ];
-    assert!(rt; trigger.event() == Name::Waking);
-    assert!(rt; trigger.size() == 256);
-    assert!(rt; trigger.keys() == keys.as_slice());
+    trigger.sort() == sort.as_slice()
+}
+
+#[test]
+fn items_of_a_rich_text(rt: HostRuntime) -> Result<(), Fail> {
+    let trigger = rich(rt.alloc())?;
+    assert!(rt; has_keys(&trigger));
     assert!(rt; trigger.values() == [Item::Num(Field::Prio), Item::Own].as_slice());
-    assert!(rt; trigger.sort() == sort.as_slice());
+    assert!(rt; sorts_by_keys(&trigger));
+    Ok(())
+}
+
+#[test]
+fn other_parts_of_a_rich_text(rt: HostRuntime) -> Result<(), Fail> {
+    laws();
+    let trigger = rich(rt.alloc())?;
+    assert!(rt; trigger.event() == Name::Waking && trigger.size() == 256);
     assert!(rt; is_reader(trigger.variable()));
     let filter = filter_text(rt.alloc(), &trigger)?;
     assert_eq!(rt; filter.as_slice(), b"pid == 42".as_slice());
     Ok(())
-}
-
-/// The key that the trigger of the rich text counts a waking under.
-fn key_of_rich(alloc: Global, pid: i32, prio: i32) -> Result<Option<Key>, Fail> {
-    let trigger = parse(alloc, Name::Waking, RICH.as_bytes())?;
-    Ok(trigger.hit_of(&waking(pid, prio)?, &mut Work::new()))
-}
-
-/// Whether the rich text's keys match those of a text on switches.
-fn keys_match(alloc: Global, saver: &str) -> Result<bool, TriggerFault> {
-    let reader = parse(alloc, Name::Waking, RICH.as_bytes())?;
-    let saver = parse(alloc, Name::Switch, saver.as_bytes())?;
-    Ok(reader.keys_match(&saver))
 }
 
 #[test]
@@ -109,12 +119,26 @@ fn hits_of_a_rich_text(rt: HostRuntime) -> Result<(), Fail> {
     asked_events();
     let name = Part::Text(comm_of("w")?);
     let key = Key::of_three(Part::Num(42), Part::Bucket(96), name);
-    assert!(rt; key_of_rich(rt.alloc(), 42, 120)? == Some(key));
-    assert!(rt; key_of_rich(rt.alloc(), 41, 120)?.is_none());
-    // Its keys are of the kinds of these fields, whether printed in hexadecimal or not.
+    let (hit, miss) = (waking(42, 120)?, waking(41, 120)?);
+    let trigger = rich(rt.alloc())?;
+    assert!(rt; trigger.hit_of(&hit, &mut Work::new()) == Some(key));
+    assert!(rt; trigger.hit_of(&miss, &mut Work::new()).is_none());
+    Ok(())
+}
+
+/// Whether a trigger's keys match those of a text on switches.
+fn keys_match(alloc: Global, reader: &Trigger, saver: &str) -> Option<bool> {
+    let saver = parse(alloc, Name::Switch, saver.as_bytes()).ok()?;
+    Some(reader.keys_match(&saver))
+}
+
+/// Keys match by the kinds of their fields, whether printed in hexadecimal or not.
+#[test]
+fn keys_that_match_those_of_a_rich_text(rt: HostRuntime) -> Result<(), Fail> {
+    let trigger = rich(rt.alloc())?;
     let saver = "hist:keys=next_pid,next_prio.buckets=32,next_comm:ts0=common_timestamp.usecs";
-    assert!(rt; keys_match(rt.alloc(), saver)?);
-    assert!(rt; !keys_match(rt.alloc(), "hist:keys=next_pid")?);
+    assert!(rt; keys_match(rt.alloc(), &trigger, saver) == Some(true));
+    assert!(rt; keys_match(rt.alloc(), &trigger, "hist:keys=next_pid") == Some(false));
     Ok(())
 }
 
@@ -135,27 +159,35 @@ fn answers_after_want_of_memory(rt: HostRuntime) {
     }
 }
 
-/// The trigger of the rich text.
-fn rich(alloc: Global) -> Result<Trigger, TriggerFault> {
-    parse(alloc, Name::Waking, RICH.as_bytes())
+/// The trigger of the rich text, asked again where memory ran out.
+fn rich_at_last(alloc: Global) -> Result<Trigger, TriggerFault> {
+    match rich(alloc) {
+        Ok(trigger) => Ok(trigger),
+        Err(_) => rich(alloc),
+    }
+}
+
+/// A copy of bytes, asked again where memory ran out.
+fn copy_at_last(alloc: Global, bytes: &[u8]) -> Result<Vec<u8>, AllocError> {
+    match Vec::from_slice(alloc, bytes) {
+        Ok(copy) => Ok(copy),
+        Err(_) => Vec::from_slice(alloc, bytes),
+    }
+}
+
+/// Whether a trigger is written behind these bytes, asked again where memory ran out, which has to
+/// leave them.
+fn is_written_at_last(trigger: &Trigger, line: &mut Vec<u8>, before: &[u8]) -> bool {
+    trigger.write(line).is_ok() || line.as_slice() == before && trigger.write(line).is_ok()
 }
 
 /// Passes whichever allocation is refused: `rt try --test --fail-alloc N`.
 #[test]
 fn old_bytes_after_want_of_memory(rt: HostRuntime) -> Result<(), Fail> {
-    let before: &[u8] = b"!";
-    let trigger = match rich(rt.alloc()) {
-        Ok(trigger) => trigger,
-        Err(_) => rich(rt.alloc())?,
-    };
-    let mut line = match Vec::from_slice(rt.alloc(), before) {
-        Ok(line) => line,
-        Err(_) => Vec::from_slice(rt.alloc(), before)?,
-    };
-    if trigger.write(&mut line).is_err() {
-        assert_eq!(rt; line.as_slice(), before);
-        trigger.write(&mut line)?;
-    }
+    let before = b"!";
+    let trigger = rich_at_last(rt.alloc())?;
+    let mut line = copy_at_last(rt.alloc(), before)?;
+    assert!(rt; is_written_at_last(&trigger, &mut line, before));
     assert_eq!(rt; line.strip_prefix(before), Some(RICH_WRITTEN.as_bytes()));
     Ok(())
 }
