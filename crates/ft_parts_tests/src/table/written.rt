@@ -107,8 +107,8 @@ fn written(
     Ok(text)
 }
 
-#[test]
-fn two_rows_of_three_keys(rt: HostRuntime) -> Result<(), Fail> {
+/// A trigger by PIDs in hexadecimal that sums priorities, the greatest sum first.
+fn by_sum(alloc: Global) -> Result<Trigger, AllocError> {
     let keys = [KeyItem {
         field: Field::Pid,
         mode: Mode::Hex,
@@ -118,13 +118,23 @@ fn two_rows_of_three_keys(rt: HostRuntime) -> Result<(), Fail> {
         what: SortBy::Value(0),
         descending: true,
     };
-    let trigger = trigger_of(rt.alloc(), &keys, &values, sort)?;
-    let events = [
+    trigger_of(alloc, &keys, &values, sort)
+}
+
+/// Wakings of three tasks: their lines, and their hits' values.
+fn wakings() -> Result<[(u32, Event, [i64; 3]); 4], &'static str> {
+    Ok([
         (1, waking(5)?, [120, 0, 0]),
         (2, waking(10)?, [120, 0, 0]),
         (3, waking(10)?, [120, 0, 0]),
         (4, waking(7)?, [120, 0, 0]),
-    ];
+    ])
+}
+
+#[test]
+fn two_rows_of_three_keys(rt: HostRuntime) -> Result<(), Fail> {
+    let events = wakings()?;
+    let trigger = by_sum(rt.alloc())?;
     let text = written(rt.alloc(), 2, &trigger, &events)?;
     assert_eq!(rt; text.as_slice(), TWO_OF_THREE);
     Ok(())
