@@ -16,7 +16,6 @@ use ft_event::{Body, Comm, Event, Name, Turn, Wake};
 use ft_table::Totals;
 use ft_trigger::{TriggerFault, parse};
 use std::alloc::Global;
-use std::process::Abort;
 use std::test::*;
 
 /// Saves `ts0` by the PID of a waking.

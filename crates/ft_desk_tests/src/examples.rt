@@ -50,8 +50,8 @@ fn ran(alloc: Global, traces: &[Vec<u8>], out: &mut Sink) -> Result<Status, RunF
 fn filtered_wakings(rt: HostRuntime) -> Result<(), Fail> {
     let traces = traces(rt.alloc())?;
     let mut out = Sink::new(rt.alloc(), 4096);
-    assert!(rt; ran(rt.alloc(), &traces, &mut out)? == Status::AllAccepted);
-    assert!(rt; out.has(PRINTED, 1));
+    let ended = ran(rt.alloc(), &traces, &mut out);
+    assert!(rt; matches!(ended, Ok(Status::AllAccepted)) && out.has(PRINTED, 1));
     Ok(())
 }
 
@@ -59,7 +59,6 @@ fn filtered_wakings(rt: HostRuntime) -> Result<(), Fail> {
 fn filtered_wakings_in_memory(rt: HostRuntime) -> Result<(), Fail> {
     let traces = traces(rt.alloc())?;
     let ran = run_text(rt.alloc(), PlainBoard::new(rt.alloc()), &traces, SCRIPT)?;
-    assert!(rt; ran.status == Status::AllAccepted);
-    assert!(rt; ran.output.as_slice() == PRINTED);
+    assert!(rt; ran.status == Status::AllAccepted && ran.output.as_slice() == PRINTED);
     Ok(())
 }

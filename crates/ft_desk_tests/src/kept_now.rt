@@ -1,7 +1,7 @@
 //! While memory lasts, the kept tables have each edit as soon as it is answered.
 
 use ft_board::KeptBoard;
-use ft_desk::{Desk, Done, Edited, Kept, Latency, Name, Place, Refused, Totals};
+use ft_desk::{Board, Desk, Done, Edited, Kept, Latency, Name, Place, Refused, Totals};
 use ft_hist::{Key, Part};
 
 /// An edit of a desk.
@@ -24,7 +24,7 @@ pub(crate) enum Edit<'a> {
 }
 
 /// What an accepted edit tells.
-#[derive(Clone, Copy, Debug, PartialEq)]
+#[derive(Clone, Copy, PartialEq)]
 pub(crate) enum Told {
     /// How many events came or went.
     Count(u64),
@@ -98,70 +98,68 @@ const FROM_FIRST: Latency = Latency {
 };
 
 /// Each kind of edit. The switch reads the last waking before it, which the edits change.
-pub(crate) fn session() -> [Step<'static>; 10] {
-    [
-        Step {
-            edit: Edit::Load(TRACE),
-            told: Told::Count(3),
-            hits: [None, None, None],
-            latency: None,
-        },
-        Step {
-            edit: Edit::Attach(Name::Waking, SAVER),
-            told: Told::Id(1),
-            hits: [Some(2), None, None],
-            latency: None,
-        },
-        Step {
-            edit: Edit::Attach(Name::Switch, READER),
-            told: Told::Id(2),
-            hits: [Some(2), Some(1), None],
-            latency: Some(STRUCK_READ),
-        },
-        Step {
-            edit: Edit::Attach(Name::Switch, COUNTER),
-            told: Told::Id(3),
-            hits: [Some(2), Some(1), Some(1)],
-            latency: Some(STRUCK_READ),
-        },
-        Step {
-            edit: Edit::Insert(SWITCH),
-            told: Told::At(Place { cpu: 0, line: 3 }),
-            hits: [Some(2), Some(1), Some(2)],
-            latency: Some(STRUCK_READ),
-        },
-        Step {
-            edit: Edit::Strike(0, 2),
-            told: Told::At(Place { cpu: 0, line: 2 }),
-            hits: [Some(2), Some(1), Some(1)],
-            latency: Some(FROM_OTHER_LANE),
-        },
-        Step {
-            edit: Edit::Insert(WAKING),
-            told: Told::At(Place { cpu: 0, line: 4 }),
-            hits: [Some(3), Some(1), Some(1)],
-            latency: Some(FROM_FILTERED),
-        },
-        Step {
-            edit: Edit::Refilter(1, b"prio == 120"),
-            told: Told::Id(1),
-            hits: [Some(2), Some(1), Some(1)],
-            latency: Some(FROM_OTHER_LANE),
-        },
-        Step {
-            edit: Edit::Remove(3),
-            told: Told::Id(3),
-            hits: [Some(2), Some(1), None],
-            latency: Some(FROM_OTHER_LANE),
-        },
-        Step {
-            edit: Edit::Unload(1),
-            told: Told::Count(1),
-            hits: [Some(1), Some(1), None],
-            latency: Some(FROM_FIRST),
-        },
-    ]
-}
+pub(crate) static SESSION: [Step<'static>; 10] = [
+    Step {
+        edit: Edit::Load(TRACE),
+        told: Told::Count(3),
+        hits: [None, None, None],
+        latency: None,
+    },
+    Step {
+        edit: Edit::Attach(Name::Waking, SAVER),
+        told: Told::Id(1),
+        hits: [Some(2), None, None],
+        latency: None,
+    },
+    Step {
+        edit: Edit::Attach(Name::Switch, READER),
+        told: Told::Id(2),
+        hits: [Some(2), Some(1), None],
+        latency: Some(STRUCK_READ),
+    },
+    Step {
+        edit: Edit::Attach(Name::Switch, COUNTER),
+        told: Told::Id(3),
+        hits: [Some(2), Some(1), Some(1)],
+        latency: Some(STRUCK_READ),
+    },
+    Step {
+        edit: Edit::Insert(SWITCH),
+        told: Told::At(Place { cpu: 0, line: 3 }),
+        hits: [Some(2), Some(1), Some(2)],
+        latency: Some(STRUCK_READ),
+    },
+    Step {
+        edit: Edit::Strike(0, 2),
+        told: Told::At(Place { cpu: 0, line: 2 }),
+        hits: [Some(2), Some(1), Some(1)],
+        latency: Some(FROM_OTHER_LANE),
+    },
+    Step {
+        edit: Edit::Insert(WAKING),
+        told: Told::At(Place { cpu: 0, line: 4 }),
+        hits: [Some(3), Some(1), Some(1)],
+        latency: Some(FROM_FILTERED),
+    },
+    Step {
+        edit: Edit::Refilter(1, b"prio == 120"),
+        told: Told::Id(1),
+        hits: [Some(2), Some(1), Some(1)],
+        latency: Some(FROM_OTHER_LANE),
+    },
+    Step {
+        edit: Edit::Remove(3),
+        told: Told::Id(3),
+        hits: [Some(2), Some(1), None],
+        latency: Some(FROM_OTHER_LANE),
+    },
+    Step {
+        edit: Edit::Unload(1),
+        told: Told::Count(1),
+        hits: [Some(1), Some(1), None],
+        latency: Some(FROM_FIRST),
+    },
+];
 
 /// What `hist` shows of trigger 2 after the session.
 pub(crate) const TABLE: &[u8] = b"# event histogram
@@ -190,7 +188,7 @@ pub(crate) const LANE: &[u8] =
 ";
 
 /// Asks a desk for an edit.
-pub(crate) fn ask(desk: &mut Desk<KeptBoard>, edit: Edit<'_>) -> Result<Done<Told>, Refused> {
+pub(crate) fn ask<B: Board>(desk: &mut Desk<B>, edit: Edit<'_>) -> Result<Done<Told>, Refused> {
     match edit {
         Edit::Load(text) => counted(desk.load(text)),
         Edit::Unload(cpu) => counted(desk.unload(cpu)),
@@ -254,7 +252,7 @@ pub(crate) fn is_measured(
 }
 
 /// Whether an edit is in the tables when it is answered.
-fn does(desk: &mut Desk<KeptBoard>, step: Step<'_>) -> bool {
+fn does<B: Board>(desk: &mut Desk<B>, step: Step<'_>) -> bool {
     let done = Done {
         value: step.told,
         kept: Kept::Now,
@@ -263,7 +261,7 @@ fn does(desk: &mut Desk<KeptBoard>, step: Step<'_>) -> bool {
 }
 
 /// Whether the triggers answer as they should after a step.
-fn answers(desk: &mut Desk<KeptBoard>, step: Step<'_>) -> bool {
+fn answers<B: Board>(desk: &mut Desk<B>, step: Step<'_>) -> bool {
     let [saver, reader, counter] = step.hits;
     is_measured(&desk.latencies(2), step.latency)
         && desk.totals(1) == totals_of(saver)
@@ -272,7 +270,7 @@ fn answers(desk: &mut Desk<KeptBoard>, step: Step<'_>) -> bool {
 }
 
 /// Whether trigger 2 shows the table of the session, and CPU 0 lists its lane.
-fn shows_and_lists(desk: &mut Desk<KeptBoard>) -> bool {
+fn shows_and_lists<B: Board>(desk: &mut Desk<B>) -> bool {
     match (desk.hist(2), desk.list(0)) {
         (Ok(table), Ok(lane)) => table.as_slice() == TABLE && lane.as_slice() == LANE,
         _ => false,
@@ -280,18 +278,24 @@ fn shows_and_lists(desk: &mut Desk<KeptBoard>) -> bool {
 }
 
 /// Whether trigger 2 tells its table's one row, among all and by its key.
-fn tells_row(desk: &mut Desk<KeptBoard>) -> bool {
+fn tells_row<B: Board>(desk: &mut Desk<B>) -> bool {
     match (desk.rows(2), desk.row(2, &Key::of_one(Part::Num(42)))) {
         (Ok(rows), Ok(Some(row))) => rows.len() == 1 && row.as_slice() == ROW,
         _ => false,
     }
 }
 
+/// Whether a desk has each edit of the session as soon as it is answered.
+fn has_each_edit<B: Board>(mut desk: Desk<B>) -> bool {
+    for step in &SESSION {
+        if !does(&mut desk, *step) || !answers(&mut desk, *step) {
+            return false;
+        }
+    }
+    shows_and_lists(&mut desk) && tells_row(&mut desk)
+}
+
 #[test]
 fn each_edit_of_a_session(rt: HostRuntime) {
-    let mut desk = Desk::new(rt.alloc(), KeptBoard::new(rt.alloc()));
-    for step in session() {
-        assert!(rt; does(&mut desk, step) && answers(&mut desk, step));
-    }
-    assert!(rt; shows_and_lists(&mut desk) && tells_row(&mut desk));
+    assert!(rt; has_each_edit(Desk::new(rt.alloc(), KeptBoard::new(rt.alloc()))));
 }

@@ -1,9 +1,10 @@
 //! Held events in merged order.
 
-use ft_event::{Body, Comm, Event, Name, Wake};
+use ft_event::{Body, Comm, Event, Name, Pos, Wake};
 use ft_hist::Trigger;
 use ft_lanes::Lanes;
 use ft_replay::{merged_events, merged_order, named_events};
+use ft_store::Stored;
 use ft_trigger::parse;
 use std::alloc::Global;
 use std::collections::BTreeMap;
@@ -36,6 +37,23 @@ fn pushed(lanes: &mut Lanes, cpu: u16, stamp: u64, wakes: bool) -> Option<u32> {
     lanes.push(event).ok()
 }
 
+/// Lanes of five events, where each gets its line.
+fn lanes_of_five(alloc: Global) -> Option<Lanes> {
+    let mut lanes = Lanes::new(alloc);
+    for (cpu, stamp, wakes, line) in [
+        (1, 100, true, 1),
+        (1, 100, true, 2),
+        (0, 200, true, 1),
+        (0, 100, false, 2),
+        (0, 100, true, 3),
+    ] {
+        if pushed(&mut lanes, cpu, stamp, wakes)? != line {
+            return None;
+        }
+    }
+    Some(lanes)
+}
+
 /// One trigger, which is on wakings.
 fn on_wakings(alloc: Global) -> Option<BTreeMap<u32, Trigger>> {
     let trigger = parse(alloc, Name::Waking, b"hist:keys=pid").ok()?;
@@ -44,26 +62,29 @@ fn on_wakings(alloc: Global) -> Option<BTreeMap<u32, Trigger>> {
     Some(triggers)
 }
 
+/// Whether those events stand at these places: stamp, CPU and line.
+fn stand_at(merged: &[(Pos, Stored<'_>)], places: &[(u64, u16, u32)]) -> bool {
+    for ((pos, _), place) in merged.iter().zip(places) {
+        if (pos.stamp, pos.cpu, pos.line) != *place {
+            return false;
+        }
+    }
+    merged.len() == places.len()
+}
+
+/// Whether the lanes' events on wakings stand in merged order. None for want of memory.
+fn are_merged(alloc: Global, lanes: &Lanes) -> Option<bool> {
+    let triggers = on_wakings(alloc)?;
+    let merged = merged_events(alloc, lanes, &triggers).ok()?;
+    let want = [(100, 0, 3), (100, 1, 1), (100, 1, 2), (200, 0, 1)];
+    Some(stand_at(&merged, &want))
+}
+
 /// Equal stamps stand by CPU, then by line. Events on whose name no trigger is are left out.
 #[test]
 fn named_events_in_merged_order(rt: HostRuntime) -> Result<(), Fail> {
-    let mut lanes = Lanes::new(rt.alloc());
-    for (cpu, stamp, wakes, line) in [
-        (1, 100, true, 1),
-        (1, 100, true, 2),
-        (0, 200, true, 1),
-        (0, 100, false, 2),
-        (0, 100, true, 3),
-    ] {
-        assert_eq!(rt; pushed(&mut lanes, cpu, stamp, wakes), Some(line));
-    }
-    let triggers = on_wakings(rt.alloc()).ok_or("no trigger")?;
-    let merged = merged_events(rt.alloc(), &lanes, &triggers)?;
-    let want = [(100, 0, 3), (100, 1, 1), (100, 1, 2), (200, 0, 1)];
-    assert_eq!(rt; merged.len(), want.len());
-    for ((pos, _), place) in merged.iter().zip(want) {
-        assert_eq!(rt; (pos.stamp, pos.cpu, pos.line), place);
-    }
+    let lanes = lanes_of_five(rt.alloc()).ok_or("another line")?;
+    assert!(rt; are_merged(rt.alloc(), &lanes) == Some(true));
     merged_order();
     named_events();
     Ok(())

@@ -28,15 +28,20 @@ fn prints<B: Board>(
     }
 }
 
+/// The first of those lines of which a desk prints something else.
+fn other_line<B: Board>(mut desk: Desk<B>, alloc: Global) -> Option<&'static [u8]> {
+    for (line, text, refused) in lines() {
+        if !prints(&mut desk, alloc, line, text, refused) {
+            return Some(line);
+        }
+    }
+    None
+}
+
 #[test]
 fn prints_what_a_line_does(rt: HostRuntime) {
-    let mut desk = Desk::new(rt.alloc(), PlainBoard::new(rt.alloc()));
-    for (line, text, refused) in lines() {
-        assert!(rt;
-            prints(&mut desk, rt.alloc(), line, text, refused),
-            "{line:?}"
-        );
-    }
+    let desk = Desk::new(rt.alloc(), PlainBoard::new(rt.alloc()));
+    assert_eq!(rt; other_line(desk, rt.alloc()), None);
 }
 
 #[test]

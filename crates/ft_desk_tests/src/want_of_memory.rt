@@ -1,13 +1,13 @@
 //! Edits and answers where memory runs out once: what was asked in vain is done when it is asked
 //! again. Each test passes whichever allocation is refused: `tests/each_allocation.sh`.
 
-use crate::kept_now::{Edit, LANE, Step, TABLE, Told, ask, is_measured, session, totals_of};
+use crate::kept_now::{LANE, SESSION, Step, TABLE, ask, is_measured, totals_of};
 use ft_board::KeptBoard;
-use ft_desk::{Desk, Done, Kept, Latency, Refused, Totals};
+use ft_desk::{Board, Desk, Done, Kept, Latency, Refused, Totals};
 
 /// Whether the edit of a step tells what it should, and answers `Later` just where the desk is
 /// deferred. Where memory runs out for it, it is asked again, and then its tables have it.
-fn does(desk: &mut Desk<KeptBoard>, step: Step<'_>) -> bool {
+fn does<B: Board>(desk: &mut Desk<B>, step: Step<'_>) -> bool {
     match ask(desk, step.edit) {
         Ok(done) => done.value == step.told && is_told(done.kept, desk.is_deferred()),
         Err(Refused::Memory) => {
@@ -31,7 +31,7 @@ fn is_told(kept: Kept, deferred: bool) -> bool {
 
 /// Whether the trigger with an id has counted so much, and then the desk is not deferred. Where
 /// memory runs out for it, it is asked again.
-fn counts(desk: &mut Desk<KeptBoard>, id: u32, hits: Option<u64>) -> bool {
+fn counts<B: Board>(desk: &mut Desk<B>, id: u32, hits: Option<u64>) -> bool {
     let want = totals_of(hits);
     let answer = match desk.totals(id) {
         Err(Refused::Memory) => desk.totals(id),
@@ -42,7 +42,7 @@ fn counts(desk: &mut Desk<KeptBoard>, id: u32, hits: Option<u64>) -> bool {
 
 /// Whether trigger 2 measured that, and then the desk is not deferred. Where memory runs out for
 /// it, it is asked again.
-fn measures(desk: &mut Desk<KeptBoard>, latency: Option<Latency>) -> bool {
+fn measures<B: Board>(desk: &mut Desk<B>, latency: Option<Latency>) -> bool {
     let answer = match desk.latencies(2) {
         Err(Refused::Memory) => desk.latencies(2),
         answer => answer,
@@ -52,7 +52,7 @@ fn measures(desk: &mut Desk<KeptBoard>, latency: Option<Latency>) -> bool {
 
 /// Whether trigger 2 shows the table of the session, and then the desk is not deferred. Where
 /// memory runs out for it, it is asked again.
-fn shows(desk: &mut Desk<KeptBoard>) -> bool {
+fn shows<B: Board>(desk: &mut Desk<B>) -> bool {
     let answer = match desk.hist(2) {
         Err(Refused::Memory) => desk.hist(2),
         answer => answer,
@@ -64,7 +64,7 @@ fn shows(desk: &mut Desk<KeptBoard>) -> bool {
 }
 
 /// Whether CPU 0 lists the lane of the session. Where memory runs out for it, it is asked again.
-fn lists(desk: &Desk<KeptBoard>) -> bool {
+fn lists<B: Board>(desk: &Desk<B>) -> bool {
     let answer = match desk.list(0) {
         Err(Refused::Memory) => desk.list(0),
         answer => answer,
@@ -76,7 +76,7 @@ fn lists(desk: &Desk<KeptBoard>) -> bool {
 }
 
 /// Whether the triggers answer as they should after a step.
-fn answers(desk: &mut Desk<KeptBoard>, step: Step<'_>) -> bool {
+fn answers<B: Board>(desk: &mut Desk<B>, step: Step<'_>) -> bool {
     let [saver, reader, counter] = step.hits;
     measures(desk, step.latency)
         && counts(desk, 1, saver)
@@ -84,23 +84,42 @@ fn answers(desk: &mut Desk<KeptBoard>, step: Step<'_>) -> bool {
         && counts(desk, 3, counter)
 }
 
+/// Whether a desk does each edit of the session, and answers after it.
+fn does_each<B: Board>(mut desk: Desk<B>) -> bool {
+    for step in &SESSION {
+        if !does(&mut desk, *step) || !answers(&mut desk, *step) {
+            return false;
+        }
+    }
+    shows(&mut desk) && lists(&desk)
+}
+
 /// Passes whichever allocation is refused: each edit, and what is answered after it.
 #[test]
 fn session_after_want_of_memory(rt: HostRuntime) {
-    let mut desk = Desk::new(rt.alloc(), KeptBoard::new(rt.alloc()));
-    for step in session() {
-        assert!(rt; does(&mut desk, step) && answers(&mut desk, step));
+    assert!(rt; does_each(Desk::new(rt.alloc(), KeptBoard::new(rt.alloc()))));
+}
+
+/// Whether a desk does all edits of the session, and answers after them.
+fn does_all<B: Board>(mut desk: Desk<B>) -> bool {
+    for step in &SESSION {
+        if !does(&mut desk, *step) {
+            return false;
+        }
     }
-    assert!(rt; shows(&mut desk) && lists(&desk));
+    lists(&desk) && shows(&mut desk) && answers_at_the_end(&mut desk)
+}
+
+/// Whether the triggers answer as they should after the session.
+fn answers_at_the_end<B: Board>(desk: &mut Desk<B>) -> bool {
+    match SESSION.last() {
+        Some(last) => answers(desk, *last),
+        None => false,
+    }
 }
 
 /// Passes whichever allocation is refused: all edits, and what is answered after them.
 #[test]
 fn edits_in_a_row_after_want_of_memory(rt: HostRuntime) {
-    let mut desk = Desk::new(rt.alloc(), KeptBoard::new(rt.alloc()));
-    for step in session() {
-        assert!(rt; does(&mut desk, step));
-    }
-    let [.., last] = session();
-    assert!(rt; lists(&desk) && shows(&mut desk) && answers(&mut desk, last));
+    assert!(rt; does_all(Desk::new(rt.alloc(), KeptBoard::new(rt.alloc()))));
 }

@@ -18,6 +18,13 @@ const LATENCY: Latency = Latency {
     micros: 50,
 };
 
+/// The hit of the first switch.
+const ONE_HIT: Totals = Totals {
+    hits: 1,
+    entries: 1,
+    dropped: 0,
+};
+
 /// The one row of the reader's table.
 const ROW: &[u8] = b"{ next_pid:         42 } hitcount:          1  lat:         50";
 
@@ -26,18 +33,16 @@ fn measuring<B: Board>(alloc: Global, board: B) -> Result<B, Refused> {
     board_with(alloc, board, &LINES, &[SAVER, READER])
 }
 
-/// A reading unsets the variable, so that the second one finds nothing.
-fn measures_once<B: Board>(rt: &impl Abort, alloc: Global, board: B) -> Result<(), Refused> {
+/// Whether a board that measures has the one latency. A reading unsets the variable, so that the
+/// second one finds nothing.
+fn has_one_latency<B: Board>(board: &mut B) -> Result<bool, Refused> {
+    Ok(board.latencies(2)?.as_slice() == [LATENCY].as_slice())
+}
+
+/// Whether a board measures once, and then isn't deferred.
+fn measures_once<B: Board>(alloc: Global, board: B) -> Result<bool, Refused> {
     let mut board = measuring(alloc, board)?;
-    assert_eq!(rt; board.latencies(2)?.as_slice(), [LATENCY].as_slice());
-    let want = Totals {
-        hits: 1,
-        entries: 1,
-        dropped: 0,
-    };
-    assert_eq!(rt; board.totals(2)?, want);
-    assert!(rt; !board.is_deferred());
-    Ok(())
+    Ok(has_one_latency(&mut board)? && board.totals(2)? == ONE_HIT && !board.is_deferred())
 }
 
 #[test]
@@ -45,10 +50,10 @@ fn one_latency(rt: HostRuntime) -> Result<(), Fail> {
     let alloc = rt.alloc();
     let plain = PlainBoard::new(alloc);
     plain_board_keeps_none(&plain);
-    measures_once(&rt, alloc, plain)?;
+    assert!(rt; measures_once(alloc, plain)?);
     let kept = KeptBoard::new(alloc);
     kept_board_keeps(&kept);
-    measures_once(&rt, alloc, kept)?;
+    assert!(rt; measures_once(alloc, kept)?);
     Ok(())
 }
 
@@ -68,48 +73,49 @@ fn is_there(found: Option<Vec<u8>>, text: &[u8]) -> bool {
     }
 }
 
-/// A table's rows one by one, and the row of a key alone, where the key is in the table.
-fn tells_rows<B: Board>(rt: &impl Abort, alloc: Global, board: B) -> Result<(), Refused> {
+/// Whether a board tells a table's rows one by one, and the row of a key alone, where the key is in
+/// the table.
+fn tells_rows<B: Board>(alloc: Global, board: B) -> Result<bool, Refused> {
     let mut board = measuring(alloc, board)?;
-    let key = Key::of_one(Part::Num(42));
-    assert!(rt; is_only(&board.rows(2)?, key, ROW));
-    assert!(rt; is_there(board.row(2, &key)?, ROW));
-    assert!(rt; board.row(2, &Key::of_one(Part::Num(43)))?.is_none());
-    Ok(())
+    let (key, other) = (Key::of_one(Part::Num(42)), Key::of_one(Part::Num(43)));
+    Ok(
+        is_only(&board.rows(2)?, key, ROW)
+            && is_there(board.row(2, &key)?, ROW)
+            && board.row(2, &other)?.is_none(),
+    )
 }
 
 #[test]
 fn one_row(rt: HostRuntime) -> Result<(), Fail> {
     let alloc = rt.alloc();
     rows_make_the_text();
-    tells_rows(&rt, alloc, PlainBoard::new(alloc))?;
-    tells_rows(&rt, alloc, KeptBoard::new(alloc))?;
+    assert!(rt; tells_rows(alloc, PlainBoard::new(alloc))?);
+    assert!(rt; tells_rows(alloc, KeptBoard::new(alloc))?);
     Ok(())
 }
 
-/// Asks a board that measures for its latencies, once more where memory ran out.
-fn measures_at_last<B: Board>(rt: &impl Abort, mut board: B) -> Result<(), Refused> {
-    let found = match board.latencies(2) {
-        Err(Refused::Memory) => board.latencies(2)?,
-        other => other?,
-    };
-    assert_eq!(rt; found.as_slice(), [LATENCY].as_slice());
-    Ok(())
+/// A board that measures. Where memory ran out for one, it is made of the other.
+fn measuring_at_last<B: Board>(alloc: Global, board: B, other: B) -> Result<B, Refused> {
+    match measuring(alloc, board) {
+        Err(Refused::Memory) => measuring(alloc, other),
+        made => made,
+    }
+}
+
+/// Whether a board measures once. It is asked once more where memory ran out.
+fn measures_at_last<B: Board>(alloc: Global, board: B, other: B) -> Result<bool, Refused> {
+    let mut board = measuring_at_last(alloc, board, other)?;
+    match has_one_latency(&mut board) {
+        Err(Refused::Memory) => has_one_latency(&mut board),
+        told => told,
+    }
 }
 
 /// Passes whichever allocation is refused: `rt try --test --fail-alloc N`.
 #[test]
 fn answer_after_want_of_memory(rt: HostRuntime) -> Result<(), Fail> {
     let alloc = rt.alloc();
-    let plain = match measuring(alloc, PlainBoard::new(alloc)) {
-        Err(Refused::Memory) => measuring(alloc, PlainBoard::new(alloc))?,
-        other => other?,
-    };
-    measures_at_last(&rt, plain)?;
-    let kept = match measuring(alloc, KeptBoard::new(alloc)) {
-        Err(Refused::Memory) => measuring(alloc, KeptBoard::new(alloc))?,
-        other => other?,
-    };
-    measures_at_last(&rt, kept)?;
+    assert!(rt; measures_at_last(alloc, PlainBoard::new(alloc), PlainBoard::new(alloc))?);
+    assert!(rt; measures_at_last(alloc, KeptBoard::new(alloc), KeptBoard::new(alloc))?);
     Ok(())
 }

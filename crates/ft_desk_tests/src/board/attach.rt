@@ -2,23 +2,31 @@
 
 use super::*;
 
-/// Attaches a saver and its reader, each once more where memory ran out. A refusal uses up no id.
-fn attaches_at_last<B: Board>(rt: &impl Abort, alloc: Global, mut board: B) -> Result<(), Refused> {
-    for ((event, text), id) in [(SAVER, 1), (READER, 2)] {
-        let got = match attach_text(alloc, &mut board, event, text) {
-            Err(Refused::Memory) => attach_text(alloc, &mut board, event, text)?,
-            other => other?,
-        };
-        assert_eq!(rt; got, id, "{text}");
+/// Attaches a trigger, once more where memory ran out: its id.
+fn attach_at_last<B: Board>(
+    alloc: Global,
+    board: &mut B,
+    (event, text): (Name, &str),
+) -> Result<u32, Refused> {
+    match attach_text(alloc, board, event, text) {
+        Err(Refused::Memory) => attach_text(alloc, board, event, text),
+        other => other,
     }
-    Ok(())
+}
+
+/// Attaches a saver and its reader, each once more where memory ran out: their ids. A refusal uses
+/// up no id.
+fn attach_both<B: Board>(alloc: Global, mut board: B) -> Result<[u32; 2], Refused> {
+    let saver = attach_at_last(alloc, &mut board, SAVER)?;
+    let reader = attach_at_last(alloc, &mut board, READER)?;
+    Ok([saver, reader])
 }
 
 /// Passes whichever allocation is refused: `rt try --test --fail-alloc N`.
 #[test]
 fn attach_after_want_of_memory(rt: HostRuntime) -> Result<(), Fail> {
     let alloc = rt.alloc();
-    attaches_at_last(&rt, alloc, PlainBoard::new(alloc))?;
-    attaches_at_last(&rt, alloc, KeptBoard::new(alloc))?;
+    assert_eq!(rt; attach_both(alloc, PlainBoard::new(alloc))?, [1, 2]);
+    assert_eq!(rt; attach_both(alloc, KeptBoard::new(alloc))?, [1, 2]);
     Ok(())
 }

@@ -44,26 +44,30 @@ fn refilter_text<B: Board>(
     board.refilter(id, Some(filter))
 }
 
-/// A filter holds for events held before it. Tables have each edit, as memory lasts.
-fn edits_a_trigger<B: Board>(rt: &impl Abort, alloc: Global, board: B) -> Result<(), Refused> {
-    let lines = [(Waking(42), 0, 1_000_100), (Waking(43), 0, 1_000_200)];
-    let triggers = [(Name::Waking, "hist:keys=pid")];
-    let mut board = board_with(alloc, board, &lines, &triggers)?;
+/// Two wakings.
+const LINES: [Line; 2] = [(Waking(42), 0, 1_000_100), (Waking(43), 0, 1_000_200)];
+
+/// Whether a trigger gets another filter, and goes. A filter holds for events held before it.
+/// Tables have each edit, as memory lasts.
+fn edits_a_trigger<B: Board>(alloc: Global, board: B) -> Result<bool, Refused> {
+    let mut board = board_with(alloc, board, &LINES, &[(Name::Waking, "hist:keys=pid")])?;
     let done = Done {
         value: 1,
         kept: Kept::Now,
     };
-    assert_eq!(rt; refilter_text(alloc, &mut board, 1, "pid==43")?, done);
-    assert_eq!(rt; board.hist(1)?.as_slice(), ONLY_43);
-    assert_eq!(rt; board.remove(1)?, done);
-    assert_eq!(rt; board.name_of(1), None);
-    Ok(())
+    Ok(
+        refilter_text(alloc, &mut board, 1, "pid==43")? == done
+            && board.hist(1)?.as_slice() == ONLY_43
+            && board.remove(1)? == done
+            && board.name_of(1).is_none(),
+    )
 }
 
 #[test]
 fn edits_of_a_trigger(rt: HostRuntime) -> Result<(), Fail> {
-    edits_a_trigger(&rt, rt.alloc(), PlainBoard::new(rt.alloc()))?;
-    edits_a_trigger(&rt, rt.alloc(), KeptBoard::new(rt.alloc()))?;
-    assert_eq!(rt; Refused::NoTrigger.number(), 10);
+    let alloc = rt.alloc();
+    assert!(rt; edits_a_trigger(alloc, PlainBoard::new(alloc))?);
+    assert!(rt; edits_a_trigger(alloc, KeptBoard::new(alloc))?);
+    assert!(rt; Refused::NoTrigger.number() == 10);
     Ok(())
 }

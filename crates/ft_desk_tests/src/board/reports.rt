@@ -4,6 +4,9 @@ use super::*;
 use ft_answers::{Changed, Edited};
 use ft_hist::{Key, Part};
 
+/// The waking that is read.
+const WAKING: Line = (Waking(42), 0, 1_000_100);
+
 /// The row of pid 42 in the table of the trigger with an id.
 fn row_of(id: u32) -> Changed {
     Changed {
@@ -20,26 +23,30 @@ fn names(done: &Done<Edited>, rows: &[Changed]) -> bool {
     }
 }
 
-/// A switch touches its reader's table alone, a waking those of its saver and of the reader.
+/// Whether a switch touches its reader's table alone, a waking those of its saver and of the
+/// reader.
+fn names_rows<B: Board>(alloc: Global, board: B) -> Result<bool, Refused> {
+    let mut board = board_with(alloc, board, &[WAKING], &[SAVER, READER])?;
+    let switched = board.insert(event_of((Switch(42), 0, 1_000_150))?)?;
+    Ok(names(&switched, &[row_of(2)]) && names(&board.strike(0, 1)?, &[row_of(1), row_of(2)]))
+}
+
 #[test]
 fn rows_of_two_triggers(rt: HostRuntime) -> Result<(), Fail> {
-    let alloc = rt.alloc();
-    let lines = [(Waking(42), 0, 1_000_100)];
-    let mut board = board_with(alloc, KeptBoard::new(alloc), &lines, &[SAVER, READER])?;
-    let done = board.insert(event_of((Switch(42), 0, 1_000_150))?)?;
-    assert!(rt; names(&done, &[row_of(2)]));
-    let done = board.strike(0, 1)?;
-    assert!(rt; names(&done, &[row_of(1), row_of(2)]));
+    assert!(rt; names_rows(rt.alloc(), KeptBoard::new(rt.alloc()))?);
     Ok(())
+}
+
+/// Whether neither an insert nor a strike has a report.
+fn reports_nothing<B: Board>(alloc: Global, board: B) -> Result<bool, Refused> {
+    let mut board = board_with(alloc, board, &[], &[SAVER])?;
+    let inserted = board.insert(event_of(WAKING)?)?;
+    Ok(inserted.value.report.is_none() && board.strike(0, 1)?.value.report.is_none())
 }
 
 /// A board that keeps no tables has no report.
 #[test]
 fn no_report(rt: HostRuntime) -> Result<(), Fail> {
-    let alloc = rt.alloc();
-    let mut board = board_with(alloc, PlainBoard::new(alloc), &[], &[SAVER])?;
-    let done = board.insert(event_of((Waking(42), 0, 1_000_100))?)?;
-    assert!(rt; done.value.report.is_none());
-    assert!(rt; board.strike(0, 1)?.value.report.is_none());
+    assert!(rt; reports_nothing(rt.alloc(), PlainBoard::new(rt.alloc()))?);
     Ok(())
 }
