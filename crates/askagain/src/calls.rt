@@ -1,7 +1,6 @@
 //! The calls of a desk that a script's commands ask for.
 
-use ft_board::KeptBoard;
-use ft_desk::{Desk, Done, Edited, Kept, Latency, Refused, Totals};
+use ft_desk::{Board, Desk, Done, Edited, Kept, Latency, Refused, Totals};
 use ft_script::{Command, Numbered};
 
 /// What a call answers that isn't refused.
@@ -20,8 +19,8 @@ pub(crate) enum Answer {
 }
 
 /// Does what a command asks of a desk, the Nth trace being what `load @N` loads.
-pub(crate) fn call(
-    desk: &mut Desk<KeptBoard>,
+pub(crate) fn call<B: Board>(
+    desk: &mut Desk<B>,
     traces: &[Vec<u8>],
     command: Command<'_>,
 ) -> Result<Answer, Refused> {
@@ -40,7 +39,11 @@ pub(crate) fn call(
 }
 
 /// Does what is asked of a desk about one number.
-fn call_about(desk: &mut Desk<KeptBoard>, what: Numbered, number: u32) -> Result<Answer, Refused> {
+fn call_about<B: Board>(
+    desk: &mut Desk<B>,
+    what: Numbered,
+    number: u32,
+) -> Result<Answer, Refused> {
     match what {
         Numbered::Unload => {
             let done = desk.unload(number)?;

@@ -28,7 +28,7 @@ use crate::calls::{Answer, call};
 use crate::rows::check_rows;
 use crate::watching::watch;
 use ft_board::KeptBoard;
-use ft_desk::{Changed, Desk, Edited, Kept, Latency, Refused};
+use ft_desk::{Board, Changed, Desk, Edited, Kept, Latency, Refused};
 use ft_keys::Part;
 use ft_script::{Command, read_command};
 use std::process::ExitCode;
@@ -65,13 +65,20 @@ fn exit_status<P: Eprint>(rt: &P, ended: io::Result<bool>) -> u8
 fn run_words<P: Env + Files + Print + Eprint + AllocGlobal>(rt: &P) -> io::Result<bool> {
     let words: Vec<String> = env::args(rt)?.skip(1).collect(rt.alloc())?;
     match words.as_slice().split_first() {
-        Some((first, folders)) if first.as_str() == ROWS => {
-            return Ok(check_rows(rt, folders)?.all_hold());
+        Some((first, folders)) if first.as_str() == ROWS => Ok(check_rows(rt, folders)?.all_hold()),
+        _ => {
+            run_files(rt, words.as_slice())?;
+            Ok(true)
         }
-        Some((first, paths)) if first.as_str() == WATCH_PLAIN => watch_files(rt, paths)?,
-        _ => ask_files(rt, words.as_slice())?,
     }
-    Ok(true)
+}
+
+/// Watches or asks what the program's words say.
+fn run_files<P: Files + Print + Eprint + AllocGlobal>(rt: &P, words: &[String]) -> io::Result<()> {
+    match words.split_first() {
+        Some((first, paths)) if first.as_str() == WATCH_PLAIN => watch_files(rt, paths),
+        _ => ask_files(rt, words),
+    }
 }
 
 /// Watches a plain board doing what the first of these files says; the others are what it may load.
@@ -89,11 +96,23 @@ fn watch_files<P: Files + Print + Eprint + AllocGlobal>(
 /// Asks a desk what the first of these files says; the others are what it may load.
 fn ask_files<P: Files + Print + Eprint + AllocGlobal>(rt: &P, paths: &[String]) -> io::Result<()> {
     let files = read_files(rt, paths)?;
-    let Some((script, traces)) = files.as_slice().split_first() else {
-        return Err(io::Error::from(io::ErrorKind::InvalidInput));
-    };
-    let mut desk = Desk::new(rt.alloc(), KeptBoard::new(rt.alloc()));
-    for line in script.as_slice().split(|byte| *byte == b'\n') {
+    match files.as_slice().split_first() {
+        Some((script, traces)) => {
+            let desk = Desk::new(rt.alloc(), KeptBoard::new(rt.alloc()));
+            ask_lines(rt, desk, script.as_slice(), traces)
+        }
+        None => Err(io::Error::from(io::ErrorKind::InvalidInput)),
+    }
+}
+
+/// Asks a desk what the lines of a script say.
+fn ask_lines<B: Board, P: Print + Eprint>(
+    rt: &P,
+    mut desk: Desk<B>,
+    script: &[u8],
+    traces: &[Vec<u8>],
+) -> io::Result<()> {
+    for line in script.split(|byte| *byte == b'\n') {
         match read_command(line) {
             Command::Nothing => {}
             command => ask(rt, &mut desk, traces, command)?,
@@ -112,9 +131,9 @@ fn read_files<P: Files + AllocGlobal>(rt: &P, paths: &[String]) -> io::Result<Ve
 }
 
 /// Makes a call, and once more where it wants memory; and prints what each answers.
-fn ask<P: Print + Eprint>(
+fn ask<B: Board, P: Print + Eprint>(
     rt: &P,
-    desk: &mut Desk<KeptBoard>,
+    desk: &mut Desk<B>,
     traces: &[Vec<u8>],
     command: Command<'_>,
 ) -> io::Result<()> {

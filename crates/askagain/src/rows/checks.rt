@@ -82,7 +82,7 @@ pub(crate) fn check(alloc: Global, row: &Row) -> Result<(), Unheld> {
     if !is_run_in_memory(alloc, PlainBoard::new(alloc), row)? {
         return Err(Unheld::TextOverPlain);
     }
-    check_lines(alloc, row)
+    check_lines(alloc, Desks::new(alloc), row)
 }
 
 /// Whether `run` gives what it must over an empty board.
@@ -113,8 +113,11 @@ fn gives(row: &Row, output: &[u8], status: Status) -> bool {
 }
 
 /// Whether the lines print what they must over both boards.
-fn check_lines(alloc: Global, row: &Row) -> Result<(), Unheld> {
-    let mut desks = Desks::new(alloc);
+fn check_lines<K: Board, P: Board>(
+    alloc: Global,
+    mut desks: Desks<K, P>,
+    row: &Row,
+) -> Result<(), Unheld> {
     desks.perform_script(alloc, row.traces.as_slice(), row.script.as_slice())?;
     if desks.printed.as_slice() == row.expected.as_slice() {
         Ok(())
@@ -125,22 +128,24 @@ fn check_lines(alloc: Global, row: &Row) -> Result<(), Unheld> {
 
 /// A desk over each board, and what the lines have printed.
 #[derive(Drop)]
-struct Desks {
-    kept: Desk<KeptBoard>,
-    plain: Desk<PlainBoard>,
+struct Desks<K: Board, P: Board> {
+    kept: Desk<K>,
+    plain: Desk<P>,
     printed: Vec<u8>,
 }
 
-impl Desks {
+impl Desks<KeptBoard, PlainBoard> {
     /// Desks over empty boards.
-    fn new(alloc: Global) -> Desks {
+    fn new(alloc: Global) -> Desks<KeptBoard, PlainBoard> {
         Desks {
             kept: Desk::new(alloc, KeptBoard::new(alloc)),
             plain: Desk::new(alloc, PlainBoard::new(alloc)),
             printed: Vec::new(alloc),
         }
     }
+}
 
+impl<K: Board, P: Board> Desks<K, P> {
     /// Does the lines of a script. Behind the last line's end there is an empty line more, which asks
     /// for nothing.
     fn perform_script(
