@@ -1,4 +1,4 @@
-use Rattle.std.proofs.Common.{◌≡◌, ◌≢◌, ℕ, ◌+◌, ◌≤◌, false, List, [], ◌∷◌, ◌++◌, All, Option, Result, Ok, Err, OnOk, length, take, subst, sym, ap, ◌∙◌, ⊎_elim, arith}
+use Rattle.std.proofs.Common.{◌≡◌, ◌≢◌, ℕ, ◌+◌, ◌≤◌, false, List, [], ◌∷◌, ◌++◌, All, Option, Result, Ok, Err, OnOk, length, take, subst, sym, ap, ◌∙◌, ⊎_elim, arith, rules}
 use Rattle.std.specs.Result.{is_err}
 use Rattle.std.specs.Io.KnownBytes.{Consumes}
 use Rattle.std.specs.Io.BufRead.{FillKeeps}
@@ -55,3 +55,9 @@ returns-clause-gives g c =
     let within = amount_within took shown part _ c.cut-part.ensures.end amount in
     let moved = Consumes_shown _ _ _ _ shown c.match-taken.amount within c.in-Ok.ensures.front c.in-Ok.ensures.end filled.0 filled.1 c.consume.ensures.bytes in
     taking_gives took _ _ _ _ shown part _ c.cut-part.ensures.plain c.cut-part.ensures.end amount moved.0 (added c.add_part.result c.add_part.ensures (sym c.if-is_err.false ∙ c.is_err.ensures.value))
+
+pub returns-in-Err-clause-gives : goal.returns-in-Err-clause-gives
+returns-in-Err-clause-gives g c = search rules
+
+pub returns-in-Err-clause-failed : goal.returns-in-Err-clause-failed
+returns-in-Err-clause-failed g c = search rules

@@ -1,4 +1,5 @@
-use Rattle.std.proofs.Common.{◌∙◌, List, ℕ, Vec, Global, Err, map, ap, sym, subst, take, ◌+◌, ◌∷◌, []}
+use Rattle.std.proofs.lemmas.Grind.{common_steps}
+use Rattle.std.proofs.Common.{◌∙◌, List, ℕ, Vec, Global, Err, map, ap, sym, subst, take, ◌+◌, ◌∷◌, [], arith}
 use Rattle.std.proofs.lemmas.List.{map-append}
 use Rattle.ft_desk.specs.declared.program.Fault.{Fault}
 use Rattle.ft_desk.specs.Program.{TellsFiles, FilesGive}
@@ -21,3 +22,6 @@ loop-path-preserved g c =
     let grown = ap bytes_of c.in_ok-push-in-Ok.ensures.items ∙ map-append (λ file. file.items) c.loop-path.traces.items (trace ∷ []) in
     subst (λ (files : List (List ℕ)). TellsFiles (g.P.Paths.told c.args.files.now) (texts_at (take (i + 1) c.args.paths.now)) files) (sym grown)
     (tells_more _ c.args.paths.now i _ (bytes_of c.loop-path.traces.items) trace.items c.loop-path-test.true c.loop-path.invariant c.in-Ok.ensures.whole)
+
+pub returns : goal.returns
+returns g c = grind (arith, common_steps)

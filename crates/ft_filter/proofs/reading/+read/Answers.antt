@@ -93,3 +93,6 @@ read_operand-returns-clause-reads t c =
     let no_not : starts_with eqb c.skip-text.result.now (33 ∷ []) ≡ false = search rules in
     let no_paren : starts_with eqb c.skip-text.result.now (40 ∷ []) ≡ false = search rules in
     gives c.compared.result (compared_so c.args.source.event c.args.source.len c.args.room c.args.text.now c.skip-text.result.now c.skip-text.ensures.value no_not no_paren) c.compared.ensures.reads
+
+pub read_below-returns-in-Or-clause-reads : goal.read_below-returns-in-Or-clause-reads
+read_below-returns-in-Or-clause-reads t c = search rules

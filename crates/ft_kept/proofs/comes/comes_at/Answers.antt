@@ -1,4 +1,4 @@
-use Rattle.std.proofs.Common.{◌≡◌, Some, None, sym, ap, subst, ◌∙◌, arith}
+use Rattle.std.proofs.Common.{◌≡◌, Some, None, sym, ap, subst, ◌∙◌, arith, rules}
 use Rattle.std.specs.Prelude.{Option, option_map, List}
 use Rattle.std.specs.Ordering.{nat_cmp}
 use Rattle.std.specs.FinMap.{FinMap}
@@ -97,3 +97,12 @@ returns-in-Saves-clause-puts c =
     act_few (λ key table. with_hit table (record { spot = traced c.args.at.pos; key = key }) (values_at c.args.trigger.now c.args.at.pos c.args.event.now None))
     c.args.trigger.now c.args.event.now c.in-Some.key one c.args.tables.now c.args.at.trigger (sym c.role.ensures ∙ c.in-Saves.is)
     c.args.work.now.puts c.key_at.new.work.puts c.saving_comes.new.work.puts 3 (omega arith) c.key_at.ensures.puts c.saving_comes.ensures.puts
+
+pub returns-in-Plain-clause-acted : goal.returns-in-Plain-clause-acted
+returns-in-Plain-clause-acted c = search rules
+
+pub returns-in-Saves-clause-acted : goal.returns-in-Saves-clause-acted
+returns-in-Saves-clause-acted c = search rules
+
+pub returns-in-Reads-clause-acted : goal.returns-in-Reads-clause-acted
+returns-in-Reads-clause-acted c = search rules

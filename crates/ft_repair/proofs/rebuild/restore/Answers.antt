@@ -1,6 +1,9 @@
-use Rattle.std.proofs.Common.{sym, subst}
+use Rattle.std.proofs.Common.{sym, subst, rules}
 use Rattle.ft_base.specs.Reachable.{HasSavers}
 use Rattle.ft_repair.proofs.rebuild.restore.Goals as goal
 
 pub rebuilt-requires : goal.rebuilt-requires
 rebuilt-requires c = subst HasSavers (sym c.triggers.ensures) c.lanes.ensures.reachable.savers
+
+pub returns-clause-kept : goal.returns-clause-kept
+returns-clause-kept c = search rules

@@ -1,5 +1,5 @@
 -- The next number is above all lines, so its slot is a new one.
-use Rattle.std.proofs.Common.{sym, ap, ◌∙◌, ◌+◌, subst}
+use Rattle.std.proofs.Common.{sym, ap, ◌∙◌, ◌+◌, subst, rules}
 use Rattle.std.specs.Ordering.{nat_cmp}
 use Rattle.std.specs.FinMap as map
 use Rattle.ft_maps.specs.Seen.{seen}
@@ -15,3 +15,6 @@ returns-clause-grows c =
     ap map.len c.in_ok-put.ensures.ok
     ∙ len-with c.self.inside.next (seen nat_cmp c.self.inside.places) c.args.place c.self.invariant
     ∙ ap (λ s. map.len s.places + 1) c.self.view_is
+
+pub returns-clause-line : goal.returns-clause-line
+returns-clause-line c = search rules
