@@ -101,16 +101,26 @@ fn unloads(lanes: &mut Lanes) -> bool {
     lanes.take_lane(1) == Some(2) && lanes.take_lane(1).is_none() && lanes.len() == 3
 }
 
+/// Whether what is left of both loads is there, and the event that was pushed.
+fn has_rest(lanes: &Lanes) -> bool {
+    has_lines(lanes, 0, &[(1, 6)])
+        && has_lines(lanes, 4, &[(1, 9)])
+        && has_lines(lanes, 1, &[(1, 11)])
+}
+
+/// Whether these events are all, lane by lane.
+fn is_walked(alloc: Global, lanes: &Lanes) -> Result<bool, AllocError> {
+    let all = walked(alloc, lanes)?;
+    let wanted = [(0, 1, 6), (1, 1, 11), (2, 1, 8), (4, 1, 9)];
+    Ok(all.as_slice() == wanted.as_slice())
+}
+
 #[test]
 fn an_unloaded_lane_begins_anew(rt: HostRuntime) -> Result<(), Fail> {
     let mut lanes = lanes_of_both(rt.alloc()).ok_or("no lanes")?;
-    assert!(rt; unloads(&mut lanes));
-    assert!(rt; pushed(&mut lanes, event_at(1, 11)) == Some(1));
-    assert!(rt; has_lines(&lanes, 0, &[(1, 6)]) && has_lines(&lanes, 4, &[(1, 9)]));
-    assert!(rt; has_lines(&lanes, 1, &[(1, 11)]));
-    let all = walked(rt.alloc(), &lanes)?;
-    let wanted = [(0, 1, 6), (1, 1, 11), (2, 1, 8), (4, 1, 9)];
-    assert_eq!(rt; all.as_slice(), wanted.as_slice());
+    assert!(rt; unloads(&mut lanes) && pushed(&mut lanes, event_at(1, 11)) == Some(1));
+    assert!(rt; has_rest(&lanes));
+    assert!(rt; is_walked(rt.alloc(), &lanes)?);
     Ok(())
 }
 

@@ -47,12 +47,27 @@ fn written(alloc: Global, trigger: &Trigger) -> Result<Vec<u8>, AllocError> {
     Ok(text)
 }
 
+/// Whether the trigger has its event, its size and its variable.
+fn has_parts(trigger: &Trigger) -> bool {
+    trigger.event() == Name::Waking && trigger.size() == 256 && has_variable(trigger, b"ts0")
+}
+
 #[test]
 fn trigger_of_parts(rt: HostRuntime) -> Result<(), Fail> {
     let trigger = made(rt.alloc())?;
-    assert!(rt; trigger.event() == Name::Waking && trigger.size() == 256);
-    assert!(rt; has_variable(&trigger, b"ts0"));
-    let text = written(rt.alloc(), &trigger)?;
+    assert!(rt; has_parts(&trigger));
+    Ok(())
+}
+
+/// The canonical text of that trigger.
+fn made_text(alloc: Global) -> Result<Vec<u8>, Fail> {
+    let trigger = made(alloc)?;
+    Ok(written(alloc, &trigger)?)
+}
+
+#[test]
+fn text_of_parts(rt: HostRuntime) -> Result<(), Fail> {
+    let text = made_text(rt.alloc())?;
     let wanted = "hist:keys=pid.hex:vals=hitcount,prio,$ts0:ts0=common_timestamp.usecs:\
         sort=prio.descending:size=256 if prio < 100";
     assert_eq!(rt; text.as_slice(), wanted.as_bytes());

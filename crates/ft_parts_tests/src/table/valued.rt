@@ -63,7 +63,6 @@ fn a_hit_has_its_events_values(rt: HostRuntime) -> Result<(), Fail> {
     let key = Key::of_one(Part::Num(42));
     let spot = Spot::traced(at(1_000_100));
     let hit = hit_with(&trigger, &event, spot, key, Some(at(1_000_000)));
-    assert!(rt; hit.spot == spot && hit.key == key);
-    assert!(rt; hit.values == [120, 0, 0]);
+    assert!(rt; hit.spot == spot && hit.key == key && hit.values == [120, 0, 0]);
     Ok(())
 }

@@ -131,11 +131,16 @@ fn wakings() -> Result<[(u32, Event, [i64; 3]); 4], &'static str> {
     ])
 }
 
+/// The text of a trigger's table of two keys, fed with those wakings.
+fn written_of_wakings(alloc: Global, trigger: &Trigger) -> Result<Vec<u8>, Fail> {
+    let events = wakings()?;
+    Ok(written(alloc, 2, trigger, &events)?)
+}
+
 #[test]
 fn two_rows_of_three_keys(rt: HostRuntime) -> Result<(), Fail> {
-    let events = wakings()?;
     let trigger = by_sum(rt.alloc())?;
-    let text = written(rt.alloc(), 2, &trigger, &events)?;
+    let text = written_of_wakings(rt.alloc(), &trigger)?;
     assert_eq!(rt; text.as_slice(), TWO_OF_THREE);
     Ok(())
 }

@@ -94,24 +94,50 @@ fn sorts_by_keys(trigger: &Trigger) -> bool {
     trigger.sort() == sort.as_slice()
 }
 
+/// Whether a trigger has the keys, the values and the order of the rich text.
+fn has_items(trigger: &Trigger) -> bool {
+    has_keys(trigger)
+        && trigger.values() == [Item::Num(Field::Prio), Item::Own].as_slice()
+        && sorts_by_keys(trigger)
+}
+
 #[test]
 fn items_of_a_rich_text(rt: HostRuntime) -> Result<(), Fail> {
     let trigger = rich(rt.alloc())?;
-    assert!(rt; has_keys(&trigger));
-    assert!(rt; trigger.values() == [Item::Num(Field::Prio), Item::Own].as_slice());
-    assert!(rt; sorts_by_keys(&trigger));
+    assert!(rt; has_items(&trigger));
     Ok(())
+}
+
+/// Whether a trigger has the event, the size and the variable of the rich text.
+fn has_other_parts(trigger: &Trigger) -> bool {
+    trigger.event() == Name::Waking && trigger.size() == 256 && is_reader(trigger.variable())
 }
 
 #[test]
 fn other_parts_of_a_rich_text(rt: HostRuntime) -> Result<(), Fail> {
     laws();
     let trigger = rich(rt.alloc())?;
-    assert!(rt; trigger.event() == Name::Waking && trigger.size() == 256);
-    assert!(rt; is_reader(trigger.variable()));
-    let filter = filter_text(rt.alloc(), &trigger)?;
+    assert!(rt; has_other_parts(&trigger));
+    Ok(())
+}
+
+/// The text of the rich text's filter.
+fn rich_filter(alloc: Global) -> Result<Vec<u8>, Fail> {
+    let trigger = rich(alloc)?;
+    filter_text(alloc, &trigger)
+}
+
+#[test]
+fn filter_of_a_rich_text(rt: HostRuntime) -> Result<(), Fail> {
+    let filter = rich_filter(rt.alloc())?;
     assert_eq!(rt; filter.as_slice(), b"pid == 42".as_slice());
     Ok(())
+}
+
+/// Whether a trigger counts the first event under that key, and not the second.
+fn counts_first(trigger: &Trigger, first: &Event, second: &Event, key: Key) -> bool {
+    trigger.hit_of(first, &mut Work::new()) == Some(key)
+        && trigger.hit_of(second, &mut Work::new()).is_none()
 }
 
 #[test]
@@ -121,8 +147,7 @@ fn hits_of_a_rich_text(rt: HostRuntime) -> Result<(), Fail> {
     let key = Key::of_three(Part::Num(42), Part::Bucket(96), name);
     let (hit, miss) = (waking(42, 120)?, waking(41, 120)?);
     let trigger = rich(rt.alloc())?;
-    assert!(rt; trigger.hit_of(&hit, &mut Work::new()) == Some(key));
-    assert!(rt; trigger.hit_of(&miss, &mut Work::new()).is_none());
+    assert!(rt; counts_first(&trigger, &hit, &miss, key));
     Ok(())
 }
 
@@ -132,13 +157,18 @@ fn keys_match(alloc: Global, reader: &Trigger, saver: &str) -> Option<bool> {
     Some(reader.keys_match(&saver))
 }
 
+/// Whether a trigger's keys match those of the first text on switches, and not those of the second.
+fn keys_match_first(alloc: Global, reader: &Trigger, first: &str, second: &str) -> bool {
+    keys_match(alloc, reader, first) == Some(true)
+        && keys_match(alloc, reader, second) == Some(false)
+}
+
 /// Keys match by the kinds of their fields, whether printed in hexadecimal or not.
 #[test]
 fn keys_that_match_those_of_a_rich_text(rt: HostRuntime) -> Result<(), Fail> {
     let trigger = rich(rt.alloc())?;
     let saver = "hist:keys=next_pid,next_prio.buckets=32,next_comm:ts0=common_timestamp.usecs";
-    assert!(rt; keys_match(rt.alloc(), &trigger, saver) == Some(true));
-    assert!(rt; keys_match(rt.alloc(), &trigger, "hist:keys=next_pid") == Some(false));
+    assert!(rt; keys_match_first(rt.alloc(), &trigger, saver, "hist:keys=next_pid"));
     Ok(())
 }
 
