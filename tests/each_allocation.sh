@@ -74,7 +74,7 @@ tests_of() {
     case $1 in
         ft_parts_tests)
             each ft_parts_tests \
-                "filter::passing::filters_join trigger::reading::hits_of_a_rich_text
+                "filter::passing::filters_join trigger::reading::parts_of_a_rich_text
                 table::examples::each_key_comes_before_the_others pairs::examples::save_and_two_reads
                 lanes::an_unloaded_lane_begins_anew" \
                 filter::writing::old_bytes_after_want_of_memory \

@@ -37,14 +37,25 @@ fn names_hold_31_bytes(rt: HostRuntime) {
     assert!(rt; Comm::of(&[b'a'; 32]).is_none());
 }
 
+/// Whether two names are ordered so, and are equal where they should be.
+fn are_ordered(left: &[u8], right: &[u8], want: Ordering) -> bool {
+    let (Some(one), Some(other)) = (Comm::of(left), Comm::of(right)) else {
+        return false;
+    };
+    one.cmp(&other) == want
+        && one.partial_cmp(&other) == Some(want)
+        && (one == other) == (want == Ordering::Equal)
+}
+
 #[test]
-fn names_are_ordered_by_their_bytes(rt: HostRuntime) -> Result<(), Fail> {
-    let (a, zero) = (comm_of("a")?, comm_of("a\0")?);
-    assert!(rt; a == a && a != zero);
-    assert!(rt; a.cmp(&zero) == Ordering::Less);
-    let (b, longest) = (comm_of("b")?, comm_of(LONGEST)?);
-    assert!(rt; b.partial_cmp(&longest) == Some(Ordering::Greater));
-    Ok(())
+fn names_are_ordered_by_their_bytes(rt: HostRuntime) {
+    for (left, right, want) in [
+        (b"a".as_slice(), b"a".as_slice(), Ordering::Equal),
+        (b"a", b"a\0", Ordering::Less),
+        (b"b", LONGEST.as_bytes(), Ordering::Greater),
+    ] {
+        assert!(rt; are_ordered(left, right, want));
+    }
 }
 
 /// A place in a trace.

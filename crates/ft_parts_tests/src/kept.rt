@@ -3,6 +3,7 @@
 mod repairs;
 mod trial;
 
+use crate::holds::holds;
 use ft_kept::*;
 use ft_pairs::Role;
 use std::alloc::{AllocError, Global};
@@ -28,11 +29,13 @@ fn is_empty(tables: &Tables, id: u32, role: Role) -> bool {
     }
 }
 
+/// Whether the reader has its shelf, and a third trigger has none.
+fn has_two(tables: &Tables) -> bool {
+    is_empty(tables, 2, Role::Reads(1)) && tables.shelf(3).is_none()
+}
+
 #[test]
-fn new_shelves_hold_nothing(rt: HostRuntime) -> Result<(), Fail> {
+fn new_shelves_hold_nothing(rt: HostRuntime) {
     assert!(rt; Tables::new(rt.alloc()).shelf(1).is_none());
-    let tables = two_tables(rt.alloc())?;
-    assert!(rt; is_empty(&tables, 2, Role::Reads(1)));
-    assert!(rt; tables.shelf(3).is_none());
-    Ok(())
+    assert!(rt; holds(two_tables(rt.alloc()), has_two));
 }

@@ -13,11 +13,15 @@ mod glob;
 #[cfg(test)]
 mod hist;
 #[cfg(test)]
+mod holds;
+#[cfg(test)]
 mod kept;
 #[cfg(test)]
 mod lanes;
 #[cfg(test)]
 mod maps;
+#[cfg(test)]
+mod memory;
 #[cfg(test)]
 mod pairs;
 #[cfg(test)]

@@ -1,3 +1,4 @@
+use crate::holds::{changes, holds};
 use ft_maps::*;
 use std::alloc::{AllocError, Global};
 use std::collections::BTreeMap;
@@ -24,20 +25,24 @@ fn has_keys(map: &BTreeMap<u32, u64>, want: &[u32]) -> bool {
     at == want.len() && len(map) == at
 }
 
-#[test]
-fn numbers_as_keys(rt: HostRuntime) -> Result<(), Fail> {
-    let map = sevens_and_threes(rt.alloc())?;
-    assert!(rt; has_keys(&map, &[3, 7]));
-    assert!(rt; get(&map, &3) == Some(&30) && get(&map, &7) == Some(&71));
-    Ok(())
+/// Whether the map has both.
+fn has_both(map: &BTreeMap<u32, u64>) -> bool {
+    has_keys(map, &[3, 7]) && get(map, &3) == Some(&30) && get(map, &7) == Some(&71)
 }
 
 #[test]
-fn a_key_is_taken_if_it_is_there(rt: HostRuntime) -> Result<(), Fail> {
-    let mut map = sevens_and_threes(rt.alloc())?;
-    take(&mut map, &3);
-    take(&mut map, &5);
-    assert!(rt; has_keys(&map, &[7]));
-    assert!(rt; get(&map, &3).is_none() && get(&map, &7) == Some(&71));
-    Ok(())
+fn numbers_as_keys(rt: HostRuntime) {
+    assert!(rt; holds(sevens_and_threes(rt.alloc()), has_both));
+}
+
+/// Takes 3 away, and 5, which isn't there: whether 7 is left.
+fn takes_threes(map: &mut BTreeMap<u32, u64>) -> bool {
+    take(map, &3);
+    take(map, &5);
+    has_keys(map, &[7]) && get(map, &3).is_none() && get(map, &7) == Some(&71)
+}
+
+#[test]
+fn a_key_is_taken_if_it_is_there(rt: HostRuntime) {
+    assert!(rt; changes(sevens_and_threes(rt.alloc()), takes_threes));
 }

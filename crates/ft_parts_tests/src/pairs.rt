@@ -2,6 +2,7 @@
 
 mod examples;
 
+use crate::holds::{changes, holds};
 use ft_event::Pos;
 use ft_hist::{Key, Part, Work};
 use ft_pairs::*;

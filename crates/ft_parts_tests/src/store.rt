@@ -1,5 +1,6 @@
 //! Stores of events.
 
+use crate::holds::{changes, holds};
 use ft_fields::{Body, Comm, Event, Matched, Name, Turn, Wake};
 use ft_store::{Store, Stored};
 use std::alloc::Global;
@@ -84,12 +85,14 @@ fn store_of_all(alloc: Global) -> Result<Store, &'static str> {
     store_of(alloc, 6).ok_or("no store")
 }
 
+/// Whether the store has an event of each of the six kinds.
+fn has_all(store: &Store) -> bool {
+    has_kinds(store, &[0, 1, 2, 3, 4, 5]) && store.cpu(5) == 8191 && store.cpu(6) == 0
+}
+
 #[test]
-fn events_come_back_as_they_were(rt: HostRuntime) -> Result<(), Fail> {
-    let store = store_of_all(rt.alloc())?;
-    assert!(rt; has_kinds(&store, &[0, 1, 2, 3, 4, 5]));
-    assert!(rt; store.cpu(5) == 8191 && store.cpu(6) == 0);
-    Ok(())
+fn events_come_back_as_they_were(rt: HostRuntime) {
+    assert!(rt; holds(store_of_all(rt.alloc()), has_all));
 }
 
 /// The event of a switch without its names.
@@ -108,13 +111,15 @@ fn bare_switch() -> Option<Event> {
     })
 }
 
-/// A bare event has the numbers of its event, and no names.
+/// Whether the bare event of the store's switch has its numbers, and no names.
+fn has_bare_switch(store: &Store) -> bool {
+    let bare = Some(store.bare(3));
+    bare == bare_switch() && bare == Some(Stored::new(store, 3).bare())
+}
+
 #[test]
-fn a_bare_event_has_its_numbers_alone(rt: HostRuntime) -> Result<(), Fail> {
-    let event = bare_switch().ok_or("no event")?;
-    let store = store_of_all(rt.alloc())?;
-    assert!(rt; store.bare(3) == event && Stored::new(&store, 3).bare() == event);
-    Ok(())
+fn a_bare_event_has_its_numbers_alone(rt: HostRuntime) {
+    assert!(rt; holds(store_of_all(rt.alloc()), has_bare_switch));
 }
 
 /// Whether a reference tells the event of a kind, which has that name.
@@ -135,33 +140,43 @@ const NAMES: [Name; 6] = [
     Name::Other,
 ];
 
-#[test]
-fn a_reference_tells_its_event(rt: HostRuntime) -> Result<(), Fail> {
-    let store = store_of_all(rt.alloc())?;
+/// Whether a reference to each event of the store tells it.
+fn tells_all(store: &Store) -> bool {
     for (place, name) in NAMES.iter().enumerate() {
-        let stored = Stored::new(&store, place as u32);
-        assert!(rt; tells(stored, place, *name), "at {place}");
+        if !tells(Stored::new(store, place as u32), place, *name) {
+            return false;
+        }
     }
-    Ok(())
+    true
 }
 
 #[test]
-fn a_reference_behind_the_last_tells_of_nothing(rt: HostRuntime) -> Result<(), Fail> {
-    let store = store_of_all(rt.alloc())?;
-    let behind = Stored::new(&store, 6);
-    assert!(rt; behind.name() == Name::Other && behind.stamp() == 0);
-    assert!(rt; behind.event() == Event::blank());
-    Ok(())
+fn a_reference_tells_its_event(rt: HostRuntime) {
+    assert!(rt; holds(store_of_all(rt.alloc()), tells_all));
+}
+
+/// Whether a reference behind the six events tells of nothing.
+fn tells_nothing_behind(store: &Store) -> bool {
+    let behind = Stored::new(store, 6);
+    behind.name() == Name::Other && behind.stamp() == 0 && behind.event() == Event::blank()
 }
 
 #[test]
-fn a_store_is_cut(rt: HostRuntime) -> Result<(), Fail> {
-    let mut store = store_of_all(rt.alloc())?;
+fn a_reference_behind_the_last_tells_of_nothing(rt: HostRuntime) {
+    assert!(rt; holds(store_of_all(rt.alloc()), tells_nothing_behind));
+}
+
+/// Cuts a store of six events to as many as it may have, and then to three.
+fn is_cut(store: &mut Store) -> bool {
     store.truncate(7);
-    assert!(rt; has_kinds(&store, &[0, 1, 2, 3, 4, 5]));
+    let stays = has_all(store);
     store.truncate(3);
-    assert!(rt; has_kinds(&store, &[0, 1, 2]));
-    Ok(())
+    stays && has_kinds(store, &[0, 1, 2])
+}
+
+#[test]
+fn a_store_is_cut(rt: HostRuntime) {
+    assert!(rt; changes(store_of_all(rt.alloc()), is_cut));
 }
 
 /// A store of three events, one more that is pushed after a cut, and four that are appended.
@@ -173,25 +188,36 @@ fn joined(alloc: Global) -> Option<Store> {
     Some(store)
 }
 
-#[test]
-fn stores_are_joined(rt: HostRuntime) -> Result<(), Fail> {
-    let store = joined(rt.alloc()).ok_or("no store")?;
-    assert!(rt; has_kinds(&store, &[0, 1, 2, 3, 0, 1, 2, 3]));
-    let mut other = Store::new(rt.alloc());
-    other.append(store)?;
-    assert!(rt; has_kinds(&other, &[0, 1, 2, 3, 0, 1, 2, 3]));
-    Ok(())
+/// Those events, appended to a store that has none.
+fn appended(alloc: Global) -> Option<Store> {
+    let mut store = Store::new(alloc);
+    store.append(joined(alloc)?).ok()?;
+    Some(store)
+}
+
+/// Whether a store has those events.
+fn has_joined(store: &Store) -> bool {
+    has_kinds(store, &[0, 1, 2, 3, 0, 1, 2, 3])
 }
 
 #[test]
-fn a_cleared_store_is_filled_again(rt: HostRuntime) -> Result<(), Fail> {
-    let event = event_of(2).ok_or("no event")?;
-    let mut store = store_of_all(rt.alloc())?;
+fn stores_are_joined(rt: HostRuntime) {
+    assert!(rt; holds(joined(rt.alloc()).ok_or("no store"), has_joined));
+    assert!(rt; holds(appended(rt.alloc()).ok_or("no store"), has_joined));
+}
+
+/// Takes all events away and pushes one.
+fn is_filled_again(store: &mut Store) -> bool {
+    let Some(event) = event_of(2) else {
+        return false;
+    };
     store.clear();
-    assert!(rt; has_kinds(&store, &[]));
-    store.push(&event)?;
-    assert!(rt; has_kinds(&store, &[2]));
-    Ok(())
+    has_kinds(store, &[]) && store.push(&event).is_ok() && has_kinds(store, &[2])
+}
+
+#[test]
+fn a_cleared_store_is_filled_again(rt: HostRuntime) {
+    assert!(rt; changes(store_of_all(rt.alloc()), is_filled_again));
 }
 
 /// A switch, and then a waking.
@@ -199,11 +225,15 @@ fn two_events() -> Option<[Event; 2]> {
     Some([event_of(3)?, event_of(0)?])
 }
 
+/// Whether a store has those two.
+fn has_two(store: &Store) -> bool {
+    has_kinds(store, &[3, 0])
+}
+
 #[test]
 fn a_store_of_events(rt: HostRuntime) -> Result<(), Fail> {
     let events = two_events().ok_or("no events")?;
-    let store = Store::of(rt.alloc(), &events)?;
-    assert!(rt; has_kinds(&store, &[3, 0]));
+    assert!(rt; holds(Store::of(rt.alloc(), &events), has_two));
     Ok(())
 }
 

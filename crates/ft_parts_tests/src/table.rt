@@ -8,6 +8,7 @@ mod examples;
 mod valued;
 mod written;
 
+use crate::holds::holds;
 use ft_event::Pos;
 use ft_hist::{Key, Part, SortBy, SortItem, Work};
 use ft_table::*;

@@ -1,15 +1,21 @@
 use ft_text::*;
+use std::alloc::AllocError;
 use std::test::*;
+
+/// Adds numbers of each form to a text.
+fn write_each(text: &mut Vec<u8>) -> Result<(), AllocError> {
+    write_decimal(u64::MAX, text)?;
+    write_fill(3, 5, b'.', text)?;
+    write_signed(i64::MIN, text)?;
+    write_fill(5, 3, b'.', text)?;
+    write_right(42, 4, b'0', text)?;
+    write_right(12345, 4, b'0', text)
+}
 
 #[test]
 fn numbers_added_to_texts(rt: HostRuntime) -> Result<(), Fail> {
     let mut text = Vec::new(rt.alloc());
-    write_decimal(u64::MAX, &mut text)?;
-    write_fill(3, 5, b'.', &mut text)?;
-    write_signed(i64::MIN, &mut text)?;
-    write_fill(5, 3, b'.', &mut text)?;
-    write_right(42, 4, b'0', &mut text)?;
-    write_right(12345, 4, b'0', &mut text)?;
+    write_each(&mut text)?;
     let wanted = "18446744073709551615..-9223372036854775808004212345";
     assert_eq!(rt; text.as_slice(), wanted.as_bytes());
     Ok(())

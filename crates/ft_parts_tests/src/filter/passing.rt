@@ -1,8 +1,8 @@
 //! Whether an event passes a filter.
 
+use crate::holds::holds;
 use ft_event::{Body, Comm, Event, Name, Wake};
 use ft_filter::*;
-use std::alloc::Global;
 use std::test::*;
 
 /// A wake of `cyclictest`, traced on CPU 3 under PID 7.
@@ -22,11 +22,12 @@ fn wake_of(pid: i32, prio: i32) -> Option<Event> {
     })
 }
 
-/// Whether a wake of this PID and priority passes the filter with this text, where the text is one
-/// for wakings.
-fn answer(alloc: Global, text: &str, pid: i32, prio: i32) -> Option<bool> {
-    let filter = parse(alloc, text.as_bytes(), Name::Waking).ok()?;
-    Some(filter.holds(&wake_of(pid, prio)?))
+/// Whether a wake of this PID and priority passes a filter, or doesn't, as is wanted.
+fn answers(filter: &Filter, pid: i32, prio: i32, want: bool) -> bool {
+    match wake_of(pid, prio) {
+        Some(wake) => filter.holds(&wake) == want,
+        None => false,
+    }
 }
 
 #[test]
@@ -42,7 +43,10 @@ fn filters_join(rt: HostRuntime) {
         ("!(pid == 1 && prio == 1)", 1, 2, true),
         ("!pid == 1 && prio == 1", 1, 2, false),
     ] {
-        let found = answer(rt.alloc(), text, pid, prio);
-        assert!(rt; found == Some(want), "{text} at {pid} and {prio}");
+        let filter = parse(rt.alloc(), text.as_bytes(), Name::Waking);
+        assert!(rt;
+            holds(filter, |filter| answers(filter, pid, prio, want)),
+            "{text} at {pid} and {prio}"
+        );
     }
 }

@@ -1,5 +1,6 @@
 //! Which texts are filters, of what parts, and what is wrong with others.
 
+use crate::holds::holds;
 use ft_event::{Field, Name};
 use ft_filter::*;
 use std::alloc::Global;
@@ -97,12 +98,15 @@ fn joins_both(filter: &Filter) -> bool {
     }
 }
 
+/// Whether a filter is one for wakeups.
+fn is_of_wakeups(filter: &Filter) -> bool {
+    filter.event() == Name::Wakeup
+}
+
 #[test]
-fn parts_of_a_filter(rt: HostRuntime) -> Result<(), Fail> {
+fn parts_of_a_filter(rt: HostRuntime) {
     trees_of_texts();
     let text = b"comm ~ 'sim-[0-9]' && comm != 'x'";
-    let filter = parse(rt.alloc(), text, Name::Wakeup)?;
-    assert!(rt; filter.event() == Name::Wakeup);
-    assert!(rt; joins_both(&filter));
-    Ok(())
+    assert!(rt; holds(parse(rt.alloc(), text, Name::Wakeup), is_of_wakeups));
+    assert!(rt; holds(parse(rt.alloc(), text, Name::Wakeup), joins_both));
 }

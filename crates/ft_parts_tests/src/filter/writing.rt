@@ -1,8 +1,10 @@
 //! What is written of filters.
 
+use crate::holds::holds;
+use crate::memory::copy_at_last;
 use ft_event::Name;
 use ft_filter::{Filter, FilterFault, parse, reads_again};
-use std::alloc::{AllocError, Global};
+use std::alloc::Global;
 use std::test::*;
 
 /// A text with each way to join, and its canonical text.
@@ -20,44 +22,49 @@ fn joined_at_last(alloc: Global) -> Result<Filter, FilterFault> {
     }
 }
 
-/// A copy of bytes, asked again where memory ran out.
-fn copy_at_last(alloc: Global, bytes: &[u8]) -> Result<Vec<u8>, AllocError> {
-    match Vec::from_slice(alloc, bytes) {
-        Ok(copy) => Ok(copy),
-        Err(_) => Vec::from_slice(alloc, bytes),
-    }
-}
-
 /// Whether a filter is written behind these bytes, asked again where memory ran out, which has to
 /// leave them.
 fn is_written_at_last(filter: &Filter, line: &mut Vec<u8>, before: &[u8]) -> bool {
     filter.write(line).is_ok() || line.as_slice() == before && filter.write(line).is_ok()
 }
 
+/// Whether a filter is written so behind these bytes.
+fn is_written_behind(alloc: Global, filter: &Filter, before: &[u8], want: &[u8]) -> bool {
+    let Ok(mut line) = copy_at_last(alloc, before) else {
+        return false;
+    };
+    is_written_at_last(filter, &mut line, before) && line.strip_prefix(before) == Some(want)
+}
+
 /// Passes whichever allocation is refused: `rt try --test --fail-alloc N`.
 #[test]
-fn old_bytes_after_want_of_memory(rt: HostRuntime) -> Result<(), Fail> {
+fn old_bytes_after_want_of_memory(rt: HostRuntime) {
     reads_again();
-    let before = b"if ";
-    let filter = joined_at_last(rt.alloc())?;
-    let mut line = copy_at_last(rt.alloc(), before)?;
-    assert!(rt; is_written_at_last(&filter, &mut line, before));
-    assert_eq!(rt; line.strip_prefix(before), Some(JOINED_WRITTEN));
-    Ok(())
+    let alloc = rt.alloc();
+    assert!(rt;
+        holds(
+            joined_at_last(alloc),
+            |filter| is_written_behind(alloc, filter, b"if ", JOINED_WRITTEN)
+        )
+    );
 }
 
-/// The canonical text of a filter of latencies.
-fn written(alloc: Global, text: &[u8]) -> Result<Vec<u8>, Fail> {
+/// Whether a filter is written so.
+fn is_written(alloc: Global, filter: &Filter, want: &[u8]) -> bool {
     let mut line = Vec::new(alloc);
-    parse(alloc, text, Name::WakeupLatency)?.write(&mut line)?;
-    Ok(line)
+    filter.write(&mut line).is_ok() && line.as_slice() == want
 }
 
 #[test]
-fn a_filter_of_latencies(rt: HostRuntime) -> Result<(), Fail> {
-    let line = written(rt.alloc(), b"lat>5&&prio<100")?;
-    assert_eq!(rt; line.as_slice(), b"lat > 5 && prio < 100".as_slice());
-    let fault = parse(rt.alloc(), b"comm == \"x\"", Name::WakeupLatency).err();
+fn a_filter_of_latencies(rt: HostRuntime) {
+    let alloc = rt.alloc();
+    let filter = parse(alloc, b"lat>5&&prio<100", Name::WakeupLatency);
+    assert!(rt;
+        holds(
+            filter,
+            |filter| is_written(alloc, filter, b"lat > 5 && prio < 100")
+        )
+    );
+    let fault = parse(alloc, b"comm == \"x\"", Name::WakeupLatency).err();
     assert!(rt; fault == Some(FilterFault::NoField(0)));
-    Ok(())
 }

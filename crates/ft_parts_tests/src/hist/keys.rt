@@ -1,6 +1,7 @@
 //! The order of keys, and the parts that modifiers make of numbers.
 
 use super::*;
+use crate::holds::holds;
 use ft_trigger::parse;
 use std::cmp::Ordering;
 
@@ -48,19 +49,13 @@ fn numbers_stand_before_texts(rt: HostRuntime) -> Result<(), Fail> {
     Ok(())
 }
 
-/// The first part of the key that a trigger counts an event under.
-fn first_part(trigger: &Trigger, event: &Event) -> Option<Part> {
+/// The first part of the key that a trigger counts a waking of a priority under.
+fn part_of_prio(trigger: &Trigger, prio: i32) -> Option<Part> {
+    let event = waking(0, prio).ok()?;
     let mut work = Work::new();
     // Contracts alone see what it counts.
     work.tick_put();
-    trigger.hit_of(event, &mut work)?.part(0)
-}
-
-/// The part that a trigger of one key makes of a waking with a priority.
-fn part_of_prio(alloc: Global, text: &[u8], prio: i32) -> Option<Part> {
-    let event = waking(0, prio).ok()?;
-    let trigger = parse(alloc, Name::Waking, text).ok()?;
-    first_part(&trigger, &event)
+    trigger.hit_of(&event, &mut work)?.part(0)
 }
 
 #[test]
@@ -84,8 +79,11 @@ fn parts_that_modifiers_make(rt: HostRuntime) {
             Part::Bucket(18_446_744_073_709_551_584),
         ),
     ] {
-        let found = part_of_prio(rt.alloc(), text, prio);
-        assert!(rt; found == Some(part), "of {prio}");
+        let trigger = parse(rt.alloc(), Name::Waking, text);
+        assert!(rt;
+            holds(trigger, |trigger| part_of_prio(trigger, prio) == Some(part)),
+            "of {prio}"
+        );
     }
 }
 

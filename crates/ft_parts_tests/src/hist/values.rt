@@ -6,6 +6,7 @@ ghost use Rattle.ft_fields.specs.declared.event.Name.TheVariants.{Switch};
 ghost use Rattle.ft_hist.specs.Sound.{value_suits};
 
 use super::*;
+use crate::holds::holds;
 use ft_event::Turn;
 
 /// The greatest stamp that a trace can show, in microseconds.
@@ -60,20 +61,28 @@ fn summing(alloc: Global) -> Result<Trigger, AllocError> {
     trigger_of(alloc, &values, Some(variable))
 }
 
-/// An event of another name has no such field.
-#[test]
-fn values_of_events(rt: HostRuntime) -> Result<(), Fail> {
-    summed_fields();
-    let (switch, waking) = (switch()?, waking(42, 120)?);
-    let trigger = summing(rt.alloc())?;
-    assert!(rt; trigger.values_of(&switch, GREATEST_STAMP) == [-5, 7, GREATEST_STAMP]);
-    assert!(rt; trigger.values_of(&waking, -170) == [0, 7, -170]);
-    Ok(())
+/// Whether a trigger sums the values of those fields and its own. An event of another name has no
+/// such field.
+fn sums_fields(trigger: &Trigger) -> bool {
+    let (Ok(switch), Ok(waking)) = (switch(), waking(42, 120)) else {
+        return false;
+    };
+    trigger.values_of(&switch, GREATEST_STAMP) == [-5, 7, GREATEST_STAMP]
+        && trigger.values_of(&waking, -170) == [0, 7, -170]
 }
 
 #[test]
-fn a_label_has_its_bytes(rt: HostRuntime) -> Result<(), Fail> {
-    let label = Label::of(rt.alloc(), b"ts0")?;
-    assert!(rt; label.bytes() == b"ts0".as_slice());
-    Ok(())
+fn values_of_events(rt: HostRuntime) {
+    summed_fields();
+    assert!(rt; holds(summing(rt.alloc()), sums_fields));
+}
+
+/// Whether a label is `ts0`.
+fn is_ts0(label: &Label) -> bool {
+    label.bytes() == b"ts0".as_slice()
+}
+
+#[test]
+fn a_label_has_its_bytes(rt: HostRuntime) {
+    assert!(rt; holds(Label::of(rt.alloc(), b"ts0"), is_ts0));
 }

@@ -27,12 +27,45 @@ const SAVES: &[u8] = b"hist:keys=pid:ts0=common_timestamp.usecs";
 const READS: &[u8] = b"hist:keys=next_pid:vals=$lat:lat=common_timestamp.usecs-$ts0";
 
 /// What happens at a stamp to the task of a PID.
-#[derive(Clone, Copy)]
 pub(super) enum What {
     /// It is woken.
     Wakes(u16, i32),
     /// CPU 0 switches to it.
     Runs(u16, i32),
+}
+
+/// What becomes of the event of a line.
+#[derive(Drop)]
+pub(super) enum Step {
+    /// It comes, and hasn't come yet.
+    Comes(u32),
+    /// It goes, and has come.
+    Goes(u32),
+}
+
+/// The hits, the entries and the drops of a table.
+pub(super) type Counts = (u64, u64, u64);
+
+/// A reading that found a saving.
+#[derive(Drop)]
+pub(super) struct Found {
+    /// The line of the reading.
+    pub(super) read: u32,
+    /// The line of the saving.
+    pub(super) saved: u32,
+    /// The PID that the reader has one hit of.
+    pub(super) pid: i64,
+    /// The latency of that hit.
+    pub(super) latency: u64,
+}
+
+/// What the tables show.
+#[derive(Drop)]
+pub(super) struct Shown {
+    pub(super) saver: Counts,
+    pub(super) reader: Counts,
+    /// What one reading found, where the others found nothing.
+    pub(super) found: Option<Found>,
 }
 
 /// The two triggers, events that are held on CPU 0, and the tables that are kept of those of them
@@ -90,8 +123,28 @@ impl Trial {
         Ok(trial)
     }
 
+    /// Takes steps until one shows something else than it should, which is the answer.
+    pub(super) fn first_wrong(self, steps: &[(Step, Shown)]) -> Result<Option<usize>, Fail> {
+        let mut trial = self;
+        for (at, (step, shown)) in steps.iter().enumerate() {
+            trial = trial.behind(step)?;
+            if !trial.shows(shown) {
+                return Ok(Some(at));
+            }
+        }
+        Ok(None)
+    }
+
+    /// What is there behind a step.
+    fn behind(self, step: &Step) -> Result<Trial, Fail> {
+        match step {
+            Step::Comes(line) => self.comes(*line),
+            Step::Goes(line) => self.goes(*line),
+        }
+    }
+
     /// The event of a line comes, which hasn't come yet.
-    pub(super) fn comes(self, line: u32) -> Result<Trial, Fail> {
+    fn comes(self, line: u32) -> Result<Trial, Fail> {
         let Some(event) = self.lanes.get(0, line) else {
             return Err(Fail::new("no event is held there"));
         };
@@ -123,7 +176,7 @@ impl Trial {
     }
 
     /// The event of a line goes, which has come.
-    pub(super) fn goes(self, line: u32) -> Result<Trial, Fail> {
+    fn goes(self, line: u32) -> Result<Trial, Fail> {
         let Some(held) = self.lanes.get(0, line) else {
             return Err(Fail::new("no event is held there"));
         };
@@ -154,28 +207,29 @@ impl Trial {
         })
     }
 
-    /// Whether the tables have these hits, entries and drops: the saver's, then the reader's.
-    pub(super) fn counts(&self, saver: (u64, u64, u64), reader: (u64, u64, u64)) -> bool {
-        self.totals(SAVER) == Some(saver) && self.totals(READER) == Some(reader)
+    /// Whether the tables show this.
+    fn shows(&self, shown: &Shown) -> bool {
+        self.counts(SAVER) == Some(shown.saver)
+            && self.counts(READER) == Some(shown.reader)
+            && self.finds(&shown.found)
     }
 
-    /// The hits, entries and drops of a trigger's table.
-    fn totals(&self, id: u32) -> Option<(u64, u64, u64)> {
+    /// The counts of a trigger's table.
+    fn counts(&self, id: u32) -> Option<Counts> {
         let totals = self.tables.shelf(id)?.table().totals();
         Some((totals.hits, totals.entries, totals.dropped))
     }
 
-    /// Whether one reading found something: that of a line found the saving of this line, and the
-    /// reader has one hit of this PID, with this latency.
-    pub(super) fn pairs(&self, read: u32, saved: u32, pid: i64, latency: u64) -> bool {
-        self.found(read) == Some(saved)
-            && self.readings() == Some(1)
-            && self.latencies(pid) == Some((1, latency))
-    }
-
-    /// Whether no reading found anything.
-    pub(super) fn pairs_nothing(&self) -> bool {
-        self.readings() == Some(0)
+    /// Whether one reading found that, or none found anything.
+    fn finds(&self, found: &Option<Found>) -> bool {
+        match found {
+            Some(found) => {
+                self.saving(found.read) == Some(found.saved)
+                    && self.readings() == Some(1)
+                    && self.latencies(found.pid) == Some((1, found.latency))
+            }
+            None => self.readings() == Some(0),
+        }
     }
 
     /// The reader's row of a PID: its hits, and the sum of their latencies.
@@ -191,7 +245,7 @@ impl Trial {
     }
 
     /// The line of the saving that the reading of a line found.
-    fn found(&self, line: u32) -> Option<u32> {
+    fn saving(&self, line: u32) -> Option<u32> {
         let read = place(&self.lanes.get(0, line)?, line);
         let saved = get(self.tables.shelf(READER)?.readings(), &read)?;
         Some(saved.line)
@@ -213,7 +267,7 @@ fn place(event: &Event, line: u32) -> Pos
 fn holding(alloc: Global, events: &[What]) -> Result<Lanes, Fail> {
     let mut lanes = Lanes::new(alloc);
     for what in events {
-        let event = event_of(*what)?;
+        let event = event_of(what)?;
         if lanes.next_line(event.cpu) <= 4_294_967_295 {
             lanes.push(event)?;
         }
@@ -222,28 +276,28 @@ fn holding(alloc: Global, events: &[What]) -> Result<Lanes, Fail> {
 }
 
 /// The event that is traced of what happens.
-fn event_of(what: What) -> Result<Event, &'static str> {
+fn event_of(what: &What) -> Result<Event, &'static str> {
     let comm = Comm::of(b"w").ok_or("the text is too long for a name")?;
     let prio = 120;
     let (stamp, body) = match what {
         What::Wakes(stamp, pid) => (
-            stamp,
+            *stamp,
             Body::Waking(Wake {
                 comm,
-                pid,
+                pid: *pid,
                 prio,
                 target_cpu: 0,
             }),
         ),
         What::Runs(stamp, next_pid) => (
-            stamp,
+            *stamp,
             Body::Switch(Turn {
                 prev_comm: comm,
                 prev_pid: 0,
                 prev_prio: prio,
                 prev_state: comm,
                 next_comm: comm,
-                next_pid,
+                next_pid: *next_pid,
                 next_prio: prio,
             }),
         ),

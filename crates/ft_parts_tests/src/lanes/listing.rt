@@ -1,5 +1,6 @@
 //! Texts of lanes.
 
+use crate::holds::holds;
 use ft_event::{Event, Line, read_line};
 use ft_lanes::Lanes;
 use std::alloc::Global;
@@ -61,11 +62,16 @@ const BOTH_LISTED: &[u8] =
 3:2 <idle>-0 [003] 7.100000: sched_switch: prev_comm=swapper/3 prev_pid=0 prev_prio=120 prev_state=R+ ==> next_comm=my app next_pid=42 next_prio=-5
 ";
 
+/// Whether the lanes of CPUs 0 and 3 have their texts, and that of CPU 1 has none.
+fn lists_both(alloc: Global, lanes: &Lanes) -> bool {
+    lists(alloc, lanes, 0, OTHER_LISTED)
+        && lists(alloc, lanes, 3, BOTH_LISTED)
+        && matches!(lanes.list(alloc, 1), Ok(None))
+}
+
 #[test]
-fn each_lane_has_its_lines(rt: HostRuntime) -> Result<(), Fail> {
-    let lanes = lanes_of(rt.alloc(), &[OTHER, WAKING, SWITCH]).ok_or("no lanes")?;
-    assert!(rt; lists(rt.alloc(), &lanes, 0, OTHER_LISTED));
-    assert!(rt; lists(rt.alloc(), &lanes, 3, BOTH_LISTED));
-    assert!(rt; matches!(lanes.list(rt.alloc(), 1), Ok(None)));
-    Ok(())
+fn each_lane_has_its_lines(rt: HostRuntime) {
+    let alloc = rt.alloc();
+    let lanes = lanes_of(alloc, &[OTHER, WAKING, SWITCH]).ok_or("no lanes");
+    assert!(rt; holds(lanes, |lanes| lists_both(alloc, lanes)));
 }

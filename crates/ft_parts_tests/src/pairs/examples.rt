@@ -51,46 +51,61 @@ fn has_first(pairs: &Pairs, count: usize) -> bool {
         && found(pairs, at(170, 2)) == second
 }
 
+/// Whether the three operations stand there, the save of PID 5 alone.
+fn has_three(pairs: &Pairs) -> bool {
+    has_first(pairs, 3)
+        && pairs.op_at(&pid(5), at(100, 1)) == Some(Op::Save)
+        && pairs.op_at(&pid(6), at(100, 1)).is_none()
+}
+
 #[test]
-fn save_and_two_reads(rt: HostRuntime) -> Result<(), Fail> {
+fn save_and_two_reads(rt: HostRuntime) {
     one_source();
     local_sources();
     one_operation();
-    let pairs = pairs_of(rt.alloc(), &operations())?;
-    assert!(rt; has_first(&pairs, 3));
-    assert!(rt; pairs.op_at(&pid(5), at(100, 1)) == Some(Op::Save));
-    assert!(rt; pairs.op_at(&pid(6), at(100, 1)).is_none());
-    Ok(())
+    assert!(rt; holds(pairs_of(rt.alloc(), &operations()), has_three));
+}
+
+/// Takes the first read away, and then what the key saves: whether the second read finds the save
+/// at first, and then nothing.
+fn takes_away(pairs: &mut Pairs) -> bool {
+    pairs.remove(&pid(5), at(150, 2));
+    let before = found(pairs, at(170, 2));
+    pairs.remove_key(&pid(5));
+    before == Some(at(100, 1))
+        && found(pairs, at(170, 2)).is_none()
+        && has_operations(pairs, &[(at(170, 2), Op::Read)])
 }
 
 #[test]
-fn operations_go(rt: HostRuntime) -> Result<(), Fail> {
+fn operations_go(rt: HostRuntime) {
     own_operations();
     reads_of_one_key();
-    let mut pairs = pairs_of(rt.alloc(), &operations())?;
-    pairs.remove(&pid(5), at(150, 2));
-    assert!(rt; found(&pairs, at(170, 2)) == Some(at(100, 1)));
-    pairs.remove_key(&pid(5));
-    assert!(rt; found(&pairs, at(170, 2)).is_none());
-    assert!(rt; has_operations(&pairs, &[(at(170, 2), Op::Read)]));
-    Ok(())
+    assert!(rt; changes(pairs_of(rt.alloc(), &operations()), takes_away));
+}
+
+/// Whether three triggers act at one event, in order of id.
+fn has_one_event(pairs: &Pairs) -> bool {
+    let (first, second, last) = (at(100, 1), at(100, 2), at(100, 10));
+    has_operations(
+        pairs,
+        &[(first, Op::Read), (second, Op::Save), (last, Op::Read)],
+    ) && found(pairs, first).is_none()
+        && found(pairs, second).is_none()
+        && found(pairs, last) == Some(second)
 }
 
 #[test]
-fn triggers_at_one_event(rt: HostRuntime) -> Result<(), Fail> {
+fn triggers_at_one_event(rt: HostRuntime) {
     one_act_order();
     one_next();
     whole_walks();
-    let (first, second, last) = (at(100, 1), at(100, 2), at(100, 10));
-    let by_trigger = [(first, Op::Read), (second, Op::Save), (last, Op::Read)];
-    let pairs = pairs_of(
-        rt.alloc(),
-        &[(second, Op::Save), (first, Op::Read), (last, Op::Read)],
-    )?;
-    assert!(rt; has_operations(&pairs, &by_trigger));
-    assert!(rt; found(&pairs, first).is_none() && found(&pairs, second).is_none());
-    assert!(rt; found(&pairs, last) == Some(second));
-    Ok(())
+    let operations = [
+        (at(100, 2), Op::Save),
+        (at(100, 1), Op::Read),
+        (at(100, 10), Op::Read),
+    ];
+    assert!(rt; holds(pairs_of(rt.alloc(), &operations), has_one_event));
 }
 
 #[test]
@@ -98,19 +113,19 @@ fn places_stand_by_stamp_then_trigger(rt: HostRuntime) {
     assert!(rt; at(100, 2) < at(100, 10) && at(100, 10) < at(101, 1));
 }
 
+/// Whether an operation is put behind the first so many, asked again where memory ran out, which has
+/// to leave them.
+fn is_put(pairs: &mut Pairs, count: usize, at: At, op: Op) -> bool {
+    put(pairs, 5, at, op).is_ok() || has_first(pairs, count) && put(pairs, 5, at, op).is_ok()
+}
+
 /// Passes whichever allocation is refused: `rt try --test --fail-alloc N`.
 #[test]
-fn unchanged_after_want_of_memory(rt: HostRuntime) -> Result<(), Fail> {
+fn unchanged_after_want_of_memory(rt: HostRuntime) {
     let mut pairs = Pairs::new(rt.alloc());
     for (count, (at, op)) in operations().iter().enumerate() {
-        if put(&mut pairs, 5, *at, *op).is_err() {
-            assert!(rt; has_first(&pairs, count));
-            put(&mut pairs, 5, *at, *op)?;
-        }
-        assert!(rt; has_first(&pairs, count + 1), "behind {count}");
+        let is_put = is_put(&mut pairs, count, *at, *op);
+        assert!(rt; is_put && has_first(&pairs, count + 1), "behind {count}");
     }
-    pairs.remove(&pid(5), at(150, 2));
-    pairs.remove_key(&pid(5));
-    assert!(rt; has_operations(&pairs, &[(at(170, 2), Op::Read)]));
-    Ok(())
+    assert!(rt; takes_away(&mut pairs));
 }

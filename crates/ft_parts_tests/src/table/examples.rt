@@ -70,24 +70,23 @@ fn table_of(alloc: Global, size: u32, hits: &[(u64, i64, i64)]) -> Result<Table,
     Ok(table)
 }
 
-#[test]
-fn hits_of_a_key_in_order(rt: HostRuntime) -> Result<(), Fail> {
-    let table = table_of(rt.alloc(), 1, &[(30, 5, 3), (10, 5, 1), (20, 6, 2)])?;
-    assert!(rt; next(&table, 5, None) == Some((on(10), [1, 0, 0])));
-    assert!(rt; next(&table, 5, Some(on(10))) == Some((on(30), [3, 0, 0])));
-    assert!(rt; next(&table, 5, Some(on(30))).is_none());
-    assert!(rt; next(&table, 6, Some(on(10))) == Some((on(20), [2, 0, 0])));
-    Ok(())
+/// Whether a table has two hits of PID 5, and one of PID 6 between them.
+fn has_hits_in_order(table: &Table) -> bool {
+    next(table, 5, None) == Some((on(10), [1, 0, 0]))
+        && next(table, 5, Some(on(10))) == Some((on(30), [3, 0, 0]))
+        && next(table, 5, Some(on(30))).is_none()
+        && next(table, 6, Some(on(10))) == Some((on(20), [2, 0, 0]))
 }
 
 #[test]
-fn each_key_comes_before_the_others(rt: HostRuntime) -> Result<(), Fail> {
-    first_keys();
-    all_hits();
-    one_more_hit();
-    one_key();
-    first_outside();
-    let mut table = Table::new(rt.alloc(), 5);
+fn hits_of_a_key_in_order(rt: HostRuntime) {
+    let table = table_of(rt.alloc(), 1, &[(30, 5, 3), (10, 5, 1), (20, 6, 2)]);
+    assert!(rt; holds(table, has_hits_in_order));
+}
+
+/// A table of five keys, of hits of eight PIDs, each of which comes before the ones before.
+fn table_of_eight(alloc: Global) -> Result<Table, AllocError> {
+    let mut table = Table::new(alloc, 5);
     for (stamp, number) in [
         (80, 0),
         (70, 1),
@@ -101,9 +100,22 @@ fn each_key_comes_before_the_others(rt: HostRuntime) -> Result<(), Fail> {
         put(&mut table, hit(stamp, number, [1, 1, 1]))?;
         put(&mut table, hit(90, number, [1, 1, 1]))?;
     }
-    assert!(rt; are_totals(&table, 10, 5, 6));
-    assert!(rt; is_edge(&table, Some(pid(3)), Some(pid(2))));
-    Ok(())
+    Ok(table)
+}
+
+/// Whether a table has room for the last five of eight PIDs.
+fn has_five_of_eight(table: &Table) -> bool {
+    are_totals(table, 10, 5, 6) && is_edge(table, Some(pid(3)), Some(pid(2)))
+}
+
+#[test]
+fn each_key_comes_before_the_others(rt: HostRuntime) {
+    first_keys();
+    all_hits();
+    one_more_hit();
+    one_key();
+    first_outside();
+    assert!(rt; holds(table_of_eight(rt.alloc()), has_five_of_eight));
 }
 
 /// Four hits, the third of which is dropped by a table of two keys, until its PID comes before the
@@ -128,20 +140,24 @@ fn has_first(table: &Table, count: usize) -> bool {
     }
 }
 
+/// Whether a hit is put in behind the first so many, asked again where memory ran out, which has to
+/// leave the table.
+fn is_put(table: &mut Table, count: usize, hit: &Hit) -> bool {
+    put(table, *hit).is_ok() || has_first(table, count) && put(table, *hit).is_ok()
+}
+
 /// Passes whichever allocation is refused: `rt try --test --fail-alloc N`.
 #[test]
-fn unchanged_after_want_of_memory(rt: HostRuntime) -> Result<(), Fail> {
+fn unchanged_after_want_of_memory(rt: HostRuntime) {
     let mut table = Table::new(rt.alloc(), 2);
     for (count, hit) in four_hits().iter().enumerate() {
-        if put(&mut table, *hit).is_err() {
-            assert!(rt; has_first(&table, count));
-            put(&mut table, *hit)?;
-        }
-        assert!(rt; has_first(&table, count + 1), "behind {count}");
+        assert!(rt;
+            is_put(&mut table, count, hit) && has_first(&table, count + 1),
+            "behind {count}"
+        );
     }
     table.remove(on(5), pid(7));
     assert!(rt; has_first(&table, 3));
-    Ok(())
 }
 
 /// A table of four keys, whose sums are three for each hit. The last of six hits is dropped.
@@ -157,30 +173,57 @@ fn table_of_ties(alloc: Global) -> Result<Table, AllocError> {
     table_of(alloc, 4, &hits)
 }
 
-#[test]
-fn rows_that_tie_stand_by_key(rt: HostRuntime) -> Result<(), Fail> {
-    one_row_order();
-    let table = table_of_ties(rt.alloc())?;
-    let (negative, seven) = (row_of(-1, 1, 3), row_of(7, 2, 6));
-    let (eight, nine) = (row_of(8, 1, 3), row_of(9, 1, 3));
-    let down = table.rows(&[by(SortBy::Hits, true)])?;
-    assert!(rt; down.as_slice() == [seven, negative, eight, nine].as_slice());
+/// Whether a table shows these rows, sorted by these items.
+fn shows(table: &Table, items: &[SortItem], want: &[Row]) -> bool {
+    match table.rows(items) {
+        Ok(rows) => rows.as_slice() == want,
+        Err(_) => false,
+    }
+}
+
+/// Whether a table of ties shows its rows by descending hits.
+fn shows_by_hits(table: &Table) -> bool {
+    let rows = [
+        row_of(7, 2, 6),
+        row_of(-1, 1, 3),
+        row_of(8, 1, 3),
+        row_of(9, 1, 3),
+    ];
+    shows(table, &[by(SortBy::Hits, true)], &rows)
+}
+
+/// Whether a table of ties shows its rows by their sums, and then by descending keys.
+fn shows_by_sums(table: &Table) -> bool {
     let items = [by(SortBy::Value(0), false), by(SortBy::Key(0), true)];
-    let up = table.rows(&items)?;
-    assert!(rt; up.as_slice() == [nine, eight, negative, seven].as_slice());
-    Ok(())
+    let rows = [
+        row_of(9, 1, 3),
+        row_of(8, 1, 3),
+        row_of(-1, 1, 3),
+        row_of(7, 2, 6),
+    ];
+    shows(table, &items, &rows)
 }
 
 #[test]
-fn totals_of_a_table(rt: HostRuntime) -> Result<(), Fail> {
-    let table = table_of_ties(rt.alloc())?;
+fn rows_that_tie_stand_by_key(rt: HostRuntime) {
+    one_row_order();
+    assert!(rt; holds(table_of_ties(rt.alloc()), shows_by_hits));
+    assert!(rt; holds(table_of_ties(rt.alloc()), shows_by_sums));
+}
+
+/// Whether a table of ties has its totals.
+fn has_totals(table: &Table) -> bool {
     let totals = Totals {
         hits: 5,
         entries: 4,
         dropped: 1,
     };
-    assert_eq!(rt; table.totals(), totals);
-    Ok(())
+    table.totals() == totals
+}
+
+#[test]
+fn totals_of_a_table(rt: HostRuntime) {
+    assert!(rt; holds(table_of_ties(rt.alloc()), has_totals));
 }
 
 #[test]

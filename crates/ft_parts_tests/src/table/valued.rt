@@ -2,6 +2,7 @@
 
 ghost use Rattle.std.specs.Prelude.{◌≡◌, ◌≤◌, IfOk};
 
+use crate::holds::holds;
 use ft_event::{Body, Comm, Event, Field, Name, Pos, Wake};
 use ft_hist::{Item, Key, KeyItem, Mode, Part, SortBy, SortItem, Trigger};
 use ft_table::{Spot, hit_with};
@@ -56,13 +57,18 @@ fn by_pid(alloc: Global) -> Result<Trigger, AllocError> {
     Ok(Trigger::of(Name::Waking, keys, values, sort, None, 128, None))
 }
 
-#[test]
-fn a_hit_has_its_events_values(rt: HostRuntime) -> Result<(), Fail> {
-    let event = waking(1_000_100)?;
-    let trigger = by_pid(rt.alloc())?;
+/// Whether a trigger's hit at that waking has its place, its key and its values.
+fn is_hit(trigger: &Trigger) -> bool {
+    let Ok(event) = waking(1_000_100) else {
+        return false;
+    };
     let key = Key::of_one(Part::Num(42));
     let spot = Spot::traced(at(1_000_100));
-    let hit = hit_with(&trigger, &event, spot, key, Some(at(1_000_000)));
-    assert!(rt; hit.spot == spot && hit.key == key && hit.values == [120, 0, 0]);
-    Ok(())
+    let hit = hit_with(trigger, &event, spot, key, Some(at(1_000_000)));
+    hit.spot == spot && hit.key == key && hit.values == [120, 0, 0]
+}
+
+#[test]
+fn a_hit_has_its_events_values(rt: HostRuntime) {
+    assert!(rt; holds(by_pid(rt.alloc()), is_hit));
 }

@@ -131,16 +131,19 @@ fn wakings() -> Result<[(u32, Event, [i64; 3]); 4], &'static str> {
     ])
 }
 
-/// The text of a trigger's table of two keys, fed with those wakings.
-fn written_of_wakings(alloc: Global, trigger: &Trigger) -> Result<Vec<u8>, Fail> {
-    let events = wakings()?;
-    Ok(written(alloc, 2, trigger, &events)?)
+/// Whether the text of a trigger's table of two keys is that one, fed with those wakings.
+fn shows_two(alloc: Global, trigger: &Trigger) -> bool {
+    let Ok(events) = wakings() else {
+        return false;
+    };
+    match written(alloc, 2, trigger, &events) {
+        Ok(text) => text.as_slice() == TWO_OF_THREE,
+        Err(_) => false,
+    }
 }
 
 #[test]
-fn two_rows_of_three_keys(rt: HostRuntime) -> Result<(), Fail> {
-    let trigger = by_sum(rt.alloc())?;
-    let text = written_of_wakings(rt.alloc(), &trigger)?;
-    assert_eq!(rt; text.as_slice(), TWO_OF_THREE);
-    Ok(())
+fn two_rows_of_three_keys(rt: HostRuntime) {
+    let alloc = rt.alloc();
+    assert!(rt; holds(by_sum(alloc), |trigger| shows_two(alloc, trigger)));
 }

@@ -1,6 +1,7 @@
 //! Triggers that make events of latencies, and triggers on these events.
 
 use super::*;
+use crate::holds::holds;
 use ft_event::Turn;
 use ft_fields::{Matched, Pos};
 
@@ -151,28 +152,41 @@ const LATENCY: Matched = Matched {
     prio: 120,
 };
 
-#[test]
-fn the_event_of_a_latency(rt: HostRuntime) -> Result<(), Fail> {
-    let reading = switch()?;
+/// What the onmatch part of the maker says.
+const ONMATCH: Onmatch = Onmatch {
+    event: Name::Waking,
+    pid: Field::NextPid,
+    prio: Field::NextPrio,
+};
+
+/// Whether a trigger has that onmatch part, and makes an event of that latency at that switch.
+fn makes_latency(trigger: &Trigger) -> bool {
+    let Ok(reading) = switch() else {
+        return false;
+    };
     let made = Event {
         body: Body::WakeupLatency(LATENCY),
         ..reading
     };
-    let maker = parse(rt.alloc(), Name::Switch, MAKER.as_bytes())?;
-    let onmatch = Onmatch {
-        event: Name::Waking,
-        pid: Field::NextPid,
-        prio: Field::NextPrio,
-    };
-    assert!(rt; maker.onmatch() == Some(&onmatch));
-    assert!(rt; maker.made(&reading, SAVED) == Some(made));
-    Ok(())
+    trigger.onmatch() == Some(&ONMATCH) && trigger.made(&reading, SAVED) == Some(made)
 }
 
 #[test]
-fn no_event_without_an_onmatch_part(rt: HostRuntime) -> Result<(), Fail> {
-    let reading = switch()?;
-    let bare = parse(rt.alloc(), Name::Switch, b"hist:keys=next_pid")?;
-    assert!(rt; bare.onmatch().is_none() && bare.made(&reading, SAVED).is_none());
-    Ok(())
+fn the_event_of_a_latency(rt: HostRuntime) {
+    let maker = parse(rt.alloc(), Name::Switch, MAKER.as_bytes());
+    assert!(rt; holds(maker, makes_latency));
+}
+
+/// Whether a trigger has no onmatch part, and makes no event at that switch.
+fn makes_nothing(trigger: &Trigger) -> bool {
+    let Ok(reading) = switch() else {
+        return false;
+    };
+    trigger.onmatch().is_none() && trigger.made(&reading, SAVED).is_none()
+}
+
+#[test]
+fn no_event_without_an_onmatch_part(rt: HostRuntime) {
+    let bare = parse(rt.alloc(), Name::Switch, b"hist:keys=next_pid");
+    assert!(rt; holds(bare, makes_nothing));
 }

@@ -1,6 +1,8 @@
 //! What texts of triggers are read as.
 
 use super::*;
+use crate::holds::holds;
+use crate::memory::copy_at_last;
 
 /// A text with three keys, two values, two sort items, a variable and a filter.
 const RICH: &str =
@@ -55,12 +57,13 @@ fn is_reader(variable: Option<&Var>) -> bool {
     }
 }
 
-/// The text of the trigger's filter.
-fn filter_text(alloc: Global, trigger: &Trigger) -> Result<Vec<u8>, Fail> {
-    let filter = trigger.filter().ok_or("the trigger has no filter")?;
+/// Whether a trigger's filter is written so.
+fn has_filter(alloc: Global, trigger: &Trigger, want: &[u8]) -> bool {
+    let Some(filter) = trigger.filter() else {
+        return false;
+    };
     let mut line = Vec::new(alloc);
-    filter.write(&mut line)?;
-    Ok(line)
+    filter.write(&mut line).is_ok() && line.as_slice() == want
 }
 
 /// The trigger of the rich text.
@@ -101,54 +104,43 @@ fn has_items(trigger: &Trigger) -> bool {
         && sorts_by_keys(trigger)
 }
 
-#[test]
-fn items_of_a_rich_text(rt: HostRuntime) -> Result<(), Fail> {
-    let trigger = rich(rt.alloc())?;
-    assert!(rt; has_items(&trigger));
-    Ok(())
-}
-
 /// Whether a trigger has the event, the size and the variable of the rich text.
 fn has_other_parts(trigger: &Trigger) -> bool {
     trigger.event() == Name::Waking && trigger.size() == 256 && is_reader(trigger.variable())
 }
 
 #[test]
-fn other_parts_of_a_rich_text(rt: HostRuntime) -> Result<(), Fail> {
-    laws();
-    let trigger = rich(rt.alloc())?;
-    assert!(rt; has_other_parts(&trigger));
-    Ok(())
+fn filter_of_a_rich_text(rt: HostRuntime) {
+    let alloc = rt.alloc();
+    assert!(rt;
+        holds(
+            rich(alloc),
+            |trigger| has_filter(alloc, trigger, b"pid == 42")
+        )
+    );
 }
 
-/// The text of the rich text's filter.
-fn rich_filter(alloc: Global) -> Result<Vec<u8>, Fail> {
-    let trigger = rich(alloc)?;
-    filter_text(alloc, &trigger)
+/// The key under which a trigger counts a waking of a PID with priority 120, if it does.
+fn key_of(trigger: &Trigger, pid: i32) -> Option<Key> {
+    trigger.hit_of(&waking(pid, 120).ok()?, &mut Work::new())
+}
+
+/// Whether a trigger counts the wakings that the filter of the rich text lets pass, by its keys.
+fn counts_by_keys(trigger: &Trigger) -> bool {
+    let Ok(name) = comm_of("w") else {
+        return false;
+    };
+    let key = Key::of_three(Part::Num(42), Part::Bucket(96), Part::Text(name));
+    key_of(trigger, 42) == Some(key) && key_of(trigger, 41).is_none()
 }
 
 #[test]
-fn filter_of_a_rich_text(rt: HostRuntime) -> Result<(), Fail> {
-    let filter = rich_filter(rt.alloc())?;
-    assert_eq!(rt; filter.as_slice(), b"pid == 42".as_slice());
-    Ok(())
-}
-
-/// Whether a trigger counts the first event under that key, and not the second.
-fn counts_first(trigger: &Trigger, first: &Event, second: &Event, key: Key) -> bool {
-    trigger.hit_of(first, &mut Work::new()) == Some(key)
-        && trigger.hit_of(second, &mut Work::new()).is_none()
-}
-
-#[test]
-fn hits_of_a_rich_text(rt: HostRuntime) -> Result<(), Fail> {
+fn parts_of_a_rich_text(rt: HostRuntime) {
     asked_events();
-    let name = Part::Text(comm_of("w")?);
-    let key = Key::of_three(Part::Num(42), Part::Bucket(96), name);
-    let (hit, miss) = (waking(42, 120)?, waking(41, 120)?);
-    let trigger = rich(rt.alloc())?;
-    assert!(rt; counts_first(&trigger, &hit, &miss, key));
-    Ok(())
+    laws();
+    assert!(rt; holds(rich(rt.alloc()), has_items));
+    assert!(rt; holds(rich(rt.alloc()), has_other_parts));
+    assert!(rt; holds(rich(rt.alloc()), counts_by_keys));
 }
 
 /// Whether a trigger's keys match those of a text on switches.
@@ -165,11 +157,16 @@ fn keys_match_first(alloc: Global, reader: &Trigger, first: &str, second: &str) 
 
 /// Keys match by the kinds of their fields, whether printed in hexadecimal or not.
 #[test]
-fn keys_that_match_those_of_a_rich_text(rt: HostRuntime) -> Result<(), Fail> {
-    let trigger = rich(rt.alloc())?;
-    let saver = "hist:keys=next_pid,next_prio.buckets=32,next_comm:ts0=common_timestamp.usecs";
-    assert!(rt; keys_match_first(rt.alloc(), &trigger, saver, "hist:keys=next_pid"));
-    Ok(())
+fn keys_that_match_those_of_a_rich_text(rt: HostRuntime) {
+    let alloc = rt.alloc();
+    let first = "hist:keys=next_pid,next_prio.buckets=32,next_comm:ts0=common_timestamp.usecs";
+    let second = "hist:keys=next_pid";
+    assert!(rt;
+        holds(
+            rich(alloc),
+            |trigger| keys_match_first(alloc, trigger, first, second)
+        )
+    );
 }
 
 /// What a text on wakings is answered, when asked again where memory ran out.
@@ -197,27 +194,28 @@ fn rich_at_last(alloc: Global) -> Result<Trigger, TriggerFault> {
     }
 }
 
-/// A copy of bytes, asked again where memory ran out.
-fn copy_at_last(alloc: Global, bytes: &[u8]) -> Result<Vec<u8>, AllocError> {
-    match Vec::from_slice(alloc, bytes) {
-        Ok(copy) => Ok(copy),
-        Err(_) => Vec::from_slice(alloc, bytes),
-    }
-}
-
 /// Whether a trigger is written behind these bytes, asked again where memory ran out, which has to
 /// leave them.
 fn is_written_at_last(trigger: &Trigger, line: &mut Vec<u8>, before: &[u8]) -> bool {
     trigger.write(line).is_ok() || line.as_slice() == before && trigger.write(line).is_ok()
 }
 
+/// Whether a trigger is written so behind these bytes.
+fn is_written_behind(alloc: Global, trigger: &Trigger, before: &[u8], want: &[u8]) -> bool {
+    let Ok(mut line) = copy_at_last(alloc, before) else {
+        return false;
+    };
+    is_written_at_last(trigger, &mut line, before) && line.strip_prefix(before) == Some(want)
+}
+
 /// Passes whichever allocation is refused: `rt try --test --fail-alloc N`.
 #[test]
-fn old_bytes_after_want_of_memory(rt: HostRuntime) -> Result<(), Fail> {
-    let before = b"!";
-    let trigger = rich_at_last(rt.alloc())?;
-    let mut line = copy_at_last(rt.alloc(), before)?;
-    assert!(rt; is_written_at_last(&trigger, &mut line, before));
-    assert_eq!(rt; line.strip_prefix(before), Some(RICH_WRITTEN.as_bytes()));
-    Ok(())
+fn old_bytes_after_want_of_memory(rt: HostRuntime) {
+    let (alloc, want) = (rt.alloc(), RICH_WRITTEN.as_bytes());
+    assert!(rt;
+        holds(
+            rich_at_last(alloc),
+            |trigger| is_written_behind(alloc, trigger, b"!", want)
+        )
+    );
 }
