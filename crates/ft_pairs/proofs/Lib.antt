@@ -3,6 +3,7 @@ pub mod Alone
 pub mod Found
 pub mod Left
 pub mod Nexts
+pub mod Partly
 pub mod Ranges
 pub mod Runs
 pub mod Touched

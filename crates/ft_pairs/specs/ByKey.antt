@@ -1,5 +1,5 @@
 -- Operations by key and place, and what edits of one key make of them.
-use Rattle.std.specs.Prelude.{◌≡◌, ℕ, Bool, true, List, length, Option, Some, None, option_and_then, unwrap_or, if◌then◌else◌}
+use Rattle.std.specs.Prelude.{◌≡◌, ◌⊎◌, ℕ, Bool, true, List, length, Option, Some, None, option_and_then, unwrap_or, if◌then◌else◌}
 use Rattle.std.specs.List.{filter}
 use Rattle.std.specs.Ordering.{eq_by_cmp, is_lt}
 use Rattle.std.specs.FinMap as map
@@ -30,6 +30,10 @@ same_key = eq_by_cmp key_cmp
 -- one key's operations become what an edit makes of them, and those of other keys stay (our own choice)
 abbrev pub ChangesKey : List Part → (Ops → Ops) → ByKey → ByKey → Type 0
 ChangesKey key edit old new = (k : List Part) (at : At) → ops_of new k at ≡ (if same_key k key then edit (ops_of old k) at else ops_of old k at)
+
+-- each place of one key has what it had or what an edit makes of it, and those of other keys have what they had (our own choice)
+abbrev pub PartlyChangesKey : List Part → (Ops → Ops) → ByKey → ByKey → Type 0
+PartlyChangesKey key edit old new = (k : List Part) (at : At) → (ops_of new k at ≡ ops_of old k at) ⊎ ((k ≡ key) × (ops_of new k at ≡ edit (ops_of old k) at))
 
 -- whether a place is behind another, if another is given (our own choice)
 abbrev pub is_behind : Option At → At → Bool

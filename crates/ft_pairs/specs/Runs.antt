@@ -1,5 +1,5 @@
 -- Runs: all operations of one key at once, and reads that come together.
-use Rattle.std.specs.Prelude.{◌≡◌, ℕ, ◌<◌, List, length, Option, Some, None, slice_index_or, if◌then◌else◌}
+use Rattle.std.specs.Prelude.{◌≡◌, ◌⊎◌, ℕ, ◌<◌, List, length, Option, Some, None, slice_index_or, if◌then◌else◌}
 use Rattle.std.specs.List.{list_any}
 use Rattle.std.specs.FinMap as map
 use Rattle.ft_pairs.specs.declared.at.At.{At}
@@ -16,6 +16,10 @@ ops_listed run ops at = let listed : KeyOps = map.from_entries run in map.get li
 -- the operations with a read at each of some places (our own choice)
 abbrev pub with_reads : List At → Ops → Ops
 with_reads reads ops at = if list_any (same_at at) reads then Some Read else ops at
+
+-- the operations where some of these reads were put, and others not: each place has what it had, or what it has with all of them (our own choice)
+abbrev pub SomeReads : List At → Ops → Ops → Type 0
+SomeReads reads old new = (at : At) → (new at ≡ old at) ⊎ (new at ≡ with_reads reads old at)
 
 -- what the reading at each of some places finds (our own choice)
 pub record FindEach (ops : Ops) (reads : List At) (found : List (Option At)) : Type 0 where

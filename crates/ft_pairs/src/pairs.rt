@@ -6,7 +6,7 @@ ghost use Rattle.ft_keys.specs.declared.key.Part.{Part};
 ghost use Rattle.ft_keys.specs.Parts.{key_cmp};
 ghost use Rattle.ft_maps.specs.Seen.{seen};
 ghost use Rattle.ft_pairs.specs.declared.at.At.{At};
-ghost use Rattle.ft_pairs.specs.ByKey.{ops_of, ops_left, ChangesKey};
+ghost use Rattle.ft_pairs.specs.ByKey.{ops_of, ops_left, ChangesKey, PartlyChangesKey};
 ghost use Rattle.ft_pairs.specs.Edits.{with_op, without_op, reads_alone};
 ghost use Rattle.ft_pairs.specs.Runs.{ops_listed, with_reads, FindEach};
 
@@ -97,8 +97,8 @@ impl Pairs {
     }
 
     /// Puts reads of a key at places, in place of what stands there: what each of them finds then,
-    /// in their order. Counts a put in `work` for each. Refused for memory, and then some of them
-    /// may stand.
+    /// in their order. Counts a put in `work` for each, refused or not. Refused for memory, and then
+    /// some of them may stand, and all else is as it was.
     pub fn put_reads(
         &mut self,
         key: Key,
@@ -107,9 +107,11 @@ impl Pairs {
     ) -> Result<Vec<Option<At>>, AllocError>
         ensures ok { IfOk result (λ found.
             ChangesKey key (with_reads reads.now) self.old self.new) }
+        ensures err { OnErr result
+            (PartlyChangesKey key (with_reads reads.now) self.old self.new) }
         ensures found { IfOk result (λ found.
             FindEach (ops_of self.new key) reads.now found.items) }
-        ensures puts { work.new.puts ≤ work.old.puts + length reads.now }
+        ensures puts { work.new.puts ≡ work.old.puts + length reads.now }
         ensures evals { work.new.evals ≡ work.old.evals }
         ensures grow { StepsGrow work.old work.new }
     {
@@ -257,7 +259,7 @@ fn put_run(
 }
 
 /// Puts reads of a key at places: what each of them finds. Refused for memory, and then some of them
-/// may stand.
+/// may stand, and all else is as it was.
 fn read_key(
     alloc: Global,
     by_key: &mut BTreeMap<Key, Sequence>,
@@ -266,6 +268,8 @@ fn read_key(
 ) -> Result<Vec<Option<At>>, AllocError>
     ensures ok { IfOk result (λ found.
         ChangesKey key (with_reads reads.now) (seen key_cmp by_key.old) (seen key_cmp by_key.new)) }
+    ensures err { OnErr result (PartlyChangesKey key (with_reads reads.now)
+        (seen key_cmp by_key.old) (seen key_cmp by_key.new)) }
     ensures found { IfOk result (λ found.
         FindEach (ops_of (seen key_cmp by_key.new) key) reads.now found.items) }
 {

@@ -7,7 +7,7 @@ ghost use Rattle.ft_maps.specs.Seen.{seen};
 ghost use Rattle.ft_pairs.specs.Edits.{if_read};
 ghost use Rattle.ft_pairs.specs.Next.{IsNext};
 ghost use Rattle.ft_pairs.specs.Order.{at_cmp};
-ghost use Rattle.ft_pairs.specs.Runs.{with_reads, FindEach};
+ghost use Rattle.ft_pairs.specs.Runs.{with_reads, FindEach, SomeReads};
 ghost use Rattle.ft_pairs.specs.Source.{IsSource};
 ghost use Rattle.ft_pairs.specs.inner.Met.{as_reads, met, saved_by, with_read, FindFirst};
 ghost use Rattle.ft_pairs.specs.declared.at.At.{At};
@@ -96,6 +96,7 @@ impl Sequence {
     ) -> Result<Vec<Option<At>>, AllocError>
         ensures ops { OnOk result ((at : At)
             → map.get self.new at ≡ with_reads reads.now (map.get self.old) at) }
+        ensures err { OnErr result (SomeReads reads.now (map.get self.old) (map.get self.new)) }
         ensures found { IfOk result (λ found.
             FindEach (map.get self.new) reads.now found.items) }
     {
@@ -187,8 +188,10 @@ fn collected_backwards(alloc: Global, run: &[(At, Op)]) -> Result<BTreeMap<At, O
 /// Puts reads at places, in place of what stands there. Refused for memory, and then some of them
 /// may stand.
 fn add_reads(alloc: Global, ops: &mut BTreeMap<At, Op>, reads: &[At]) -> Result<(), AllocError>
-    ensures { OnOk result ((at : At) → map.get (seen at_cmp ops.new) at
+    ensures ok { OnOk result ((at : At) → map.get (seen at_cmp ops.new) at
         ≡ with_reads reads.now (map.get (seen at_cmp ops.old)) at) }
+    ensures err { OnErr result (SomeReads reads.now
+        (map.get (seen at_cmp ops.old)) (map.get (seen at_cmp ops.new))) }
 {
     if reads.len() <= FEW {
         return insert_reads(ops, reads);
@@ -198,15 +201,19 @@ fn add_reads(alloc: Global, ops: &mut BTreeMap<At, Op>, reads: &[At]) -> Result<
 
 /// Puts reads at places, one by one.
 fn insert_reads(ops: &mut BTreeMap<At, Op>, reads: &[At]) -> Result<(), AllocError>
-    ensures { OnOk result ((at : At) → map.get (seen at_cmp ops.new) at
+    ensures ok { OnOk result ((at : At) → map.get (seen at_cmp ops.new) at
         ≡ with_reads reads.now (map.get (seen at_cmp ops.old)) at) }
+    ensures err { OnErr result (SomeReads reads.now
+        (map.get (seen at_cmp ops.old)) (map.get (seen at_cmp ops.new))) }
 {
     put_each(ops, reads)
 }
 
 /// Puts a read at each place in turn.
 fn put_each(ops: &mut BTreeMap<At, Op>, reads: &[At]) -> Result<(), AllocError>
-    ensures { OnOk result (seen at_cmp ops.new ≡ fold with_read (seen at_cmp ops.old) reads.now) }
+    ensures ok { OnOk result (seen at_cmp ops.new ≡ fold with_read (seen at_cmp ops.old) reads.now) }
+    ensures err { OnErr result (SomeReads reads.now
+        (map.get (seen at_cmp ops.old)) (map.get (seen at_cmp ops.new))) }
 {
     for at in reads {
         put(ops, *at, Op::Read)?;
@@ -216,8 +223,10 @@ fn put_each(ops: &mut BTreeMap<At, Op>, reads: &[At]) -> Result<(), AllocError>
 
 /// Puts reads at places, by a tree of them that is merged in.
 fn merge_reads(alloc: Global, ops: &mut BTreeMap<At, Op>, reads: &[At]) -> Result<(), AllocError>
-    ensures { OnOk result ((at : At) → map.get (seen at_cmp ops.new) at
+    ensures ok { OnOk result ((at : At) → map.get (seen at_cmp ops.new) at
         ≡ with_reads reads.now (map.get (seen at_cmp ops.old)) at) }
+    ensures err { OnErr result (SomeReads reads.now
+        (map.get (seen at_cmp ops.old)) (map.get (seen at_cmp ops.new))) }
 {
     let mut added = collected_reads(alloc, reads)?;
     ops.append(&mut added)

@@ -1,8 +1,8 @@
 -- The operations that `get_mut` finds are those that the finite map has.
-use Rattle.std.proofs.Common.{◌≡◌, sym, ap, subst, ◌∙◌, Some, None}
+use Rattle.std.proofs.Common.{◌≡◌, ◌⊎◌, sym, ap, subst, ◌∙◌, Some, None}
 use Rattle.std.specs.FinMap as map
 use Rattle.std.specs.FinMap.{get-empty}
-use Rattle.std.proofs.lemmas.Result.{IfOk-weaker}
+use Rattle.std.proofs.lemmas.Result.{IfOk-weaker, on_err_weaker}
 use Rattle.ft_keys.specs.Parts.{key_cmp}
 use Rattle.ft_keys.specs.Orders.{key_cmp_total}
 use Rattle.ft_keys.specs.Ties.{key_same}
@@ -11,8 +11,9 @@ use Rattle.ft_maps.specs.Entries.{get-insert_same}
 use Rattle.ft_pairs.specs.Order.{at_cmp}
 use Rattle.ft_pairs.specs.Source.{Ops}
 use Rattle.ft_pairs.specs.Runs.{with_reads, FindEach}
-use Rattle.ft_pairs.specs.ByKey.{KeyOps, ByKey, ChangesKey}
+use Rattle.ft_pairs.specs.ByKey.{KeyOps, ByKey, ChangesKey, PartlyChangesKey}
 use Rattle.ft_pairs.proofs.Found.{found_in, changed, at_key}
+use Rattle.ft_pairs.proofs.Partly.{partly_changed}
 use Rattle.ft_pairs.proofs.pairs.read_key.Goals as goal
 
 pub put-requires : goal.put-requires
@@ -61,3 +62,16 @@ returns-in_ok-put-in-None-clause-found c =
     let at : map.get (seen key_cmp c.put.new.map) key ≡ Some new =
     ap (λ (l : ByKey). map.get l key) c.in_ok-put-in-None.ensures.ok ∙ get-insert_same key_cmp_total _ key new in
     subst (λ (ops : Ops). FindEach ops c.args.reads.now c.in_ok-found-in-None.found.items) (sym (at_key (seen key_cmp c.put.new.map) key (Some new) at)) c.in_ok-found-in-None.ensures.found
+
+pub returns-in-Some-clause-err : goal.returns-in-Some-clause-err
+returns-in-Some-clause-err c =
+    let m = c.args.by_key.now in
+    let key = c.args.key in
+    let reads = c.args.reads.now in
+    let new = c.put_reads.new.self in
+    let at : map.get (seen key_cmp m) key ≡ Some c.in-Some.sequence.now = get-seen key_cmp_total m key ∙ sym c.in-Some.ensures.value in
+    on_err_weaker c.put_reads.result (λ put.
+    subst (PartlyChangesKey key (with_reads reads) (seen key_cmp m))
+    (sym (seen-found key_cmp_total key_same m (c.get_mut.follows.lender new) key c.in-Some.sequence.now new c.in-Some.ensures.value (c.get_mut.follows.holds new)))
+    (partly_changed (seen key_cmp m) key new (with_reads reads) (λ q.
+    subst (λ (ops : Ops). (map.get new q ≡ ops q) ⊎ (map.get new q ≡ with_reads reads ops q)) (ap found_in (sym at)) (put q)))) c.put_reads.ensures.err

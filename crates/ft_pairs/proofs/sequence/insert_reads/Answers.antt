@@ -8,5 +8,5 @@ use Rattle.ft_pairs.specs.ByKey.{KeyOps}
 use Rattle.ft_pairs.proofs.Runs.{in_turn}
 use Rattle.ft_pairs.proofs.sequence.insert_reads.Goals as goal
 
-pub returns : goal.returns
-returns c = on_ok_weaker c.put_each.result (λ e q. ap (λ (ops : KeyOps). map.get ops q) e ∙ in_turn (seen at_cmp c.args.ops.now) c.args.reads.now q) c.put_each.ensures
+pub returns-clause-ok : goal.returns-clause-ok
+returns-clause-ok c = on_ok_weaker c.put_each.result (λ e q. ap (λ (ops : KeyOps). map.get ops q) e ∙ in_turn (seen at_cmp c.args.ops.now) c.args.reads.now q) c.put_each.ensures.ok
