@@ -31,6 +31,7 @@ with_own both at ops = if both then with_op at Save ops else ops
 pub record IsGrown (id : ℕ) (m : Mark) (v : List ℤ) (old new : Shelved) : Type 0 where
   pub role : new.role ≡ old.role
   pub readings : new.readings ≡ old.readings
+  pub notes : new.notes ≡ old.notes
   pub table : new.table ≡ with_hit old.table m v
   pub ops : (k : List Part) (q : At) → ops_of new.ops k q
       ≡ cond (same_key k m.key) (with_own (is_in old.table m.key && is_in (with_hit old.table m v) m.key) (record { pos = m.spot.pos; trigger = id }) (ops_of old.ops k) q) (ops_of old.ops k q)
@@ -51,6 +52,7 @@ module _ (id : ℕ) (m : Mark) (v : List ℤ) (old grown : Shelved) (is : grown 
   grown_without apart = record {
     role = ap (λ (s : Shelved). s.role) is;
     readings = ap (λ (s : Shelved). s.readings) is;
+    notes = ap (λ (s : Shelved). s.notes) is;
     table = ap (λ (s : Shelved). s.table) is;
     ops = λ k q. same_ops k q ∙ same_both (same_key k m.key) (ops_of old.ops k q)
         ∙ sym (ap (λ b. cond (same_key k m.key) (with_own b (record { pos = m.spot.pos; trigger = id }) (ops_of old.ops k) q) (ops_of old.ops k q)) apart);
@@ -63,6 +65,7 @@ module _ (id : ℕ) (m : Mark) (v : List ℤ) (old grown : Shelved) (is : grown 
       record {
         role = put.role ∙ ap (λ (s : Shelved). s.role) is;
         readings = put.readings ∙ ap (λ (s : Shelved). s.readings) is;
+        notes = put.notes ∙ ap (λ (s : Shelved). s.notes) is;
         table = put.table ∙ ap (λ (s : Shelved). s.table) is;
         ops = λ k q. put.ops k q
             ∙ ap (λ (s : Shelved). cond (same_key k m.key) (with_op at Save (ops_of s.ops k) q) (ops_of s.ops k q)) is
@@ -86,6 +89,10 @@ drops_role (Some out) old new h = h.role
 drops_readings : (o : Option (List Part)) (old new : Shelved) → Drops o old new → new.readings ≡ old.readings
 drops_readings None old new h = ap (λ (s : Shelved). s.readings) h
 drops_readings (Some out) old new h = h.readings
+
+drops_notes : (o : Option (List Part)) (old new : Shelved) → Drops o old new → new.notes ≡ old.notes
+drops_notes None old new h = ap (λ (s : Shelved). s.notes) h
+drops_notes (Some out) old new h = h.notes
 
 drops_table : (o : Option (List Part)) (old new : Shelved) → Drops o old new → new.table ≡ old.table
 drops_table None old new h = ap (λ (s : Shelved). s.table) h
@@ -179,6 +186,7 @@ module _ (law : LastGoesOut) (id : ℕ) (m : Mark) (v : List ℤ) (old grown swi
   hit_follows = record {
     role = drops_role o switch final drops ∙ switches.role ∙ grows.role;
     readings = drops_readings o switch final drops ∙ switches.readings ∙ grows.readings;
+    notes = drops_notes o switch final drops ∙ switches.notes ∙ grows.notes;
     table = table_is;
     ops = λ k q. subst (λ (t : Tabled). ops_of final.ops k q ≡ followed old.table t id m k (ops_of old.ops k) q) (sym table_is) (ops_follow k q);
   }

@@ -35,6 +35,10 @@ module _ (id : ℕ) (old new : Shelved) where
   brings_readings None h = ap (λ (s : Shelved). s.readings) h
   brings_readings (Some key) h = h.readings
 
+  brings_notes : (o : Option (List Part)) → BringsIn id o old new → new.notes ≡ old.notes
+  brings_notes None h = ap (λ (s : Shelved). s.notes) h
+  brings_notes (Some key) h = h.notes
+
   brings_table : (o : Option (List Part)) → BringsIn id o old new → new.table ≡ old.table
   brings_table None h = ap (λ (s : Shelved). s.table) h
   brings_table (Some key) h = h.table
@@ -137,6 +141,7 @@ module _ (law : FirstComesIn) (outside : FirstIsOut) (id : ℕ) (m : Mark) (old 
     hit_less_follows = record {
       role = brings_role id switch final o brings ∙ switches.role ∙ lessens.role ∙ ap (λ (s : Shelved). s.role) takes;
       readings = brings_readings id switch final o brings ∙ switches.readings ∙ lessens.readings ∙ ap (λ (s : Shelved). s.readings) takes;
+      notes = brings_notes id switch final o brings ∙ switches.notes ∙ lessens.notes ∙ ap (λ (s : Shelved). s.notes) takes;
       table = table_is;
       ops = λ k q. subst (λ (t : Tabled). ops_of final.ops k q ≡ followed_less old.table t id m k (ops_of old.ops k) q) (sym table_is) (ops_follow k q);
     }

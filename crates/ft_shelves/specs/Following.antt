@@ -41,6 +41,7 @@ followed old new id mark key ops =
 pub record HitFollows (id : ℕ) (mark : Mark) (values : List ℤ) (old new : Shelved) : Type 0 where
   pub role : new.role ≡ old.role
   pub readings : new.readings ≡ old.readings
+  pub notes : new.notes ≡ old.notes
   pub table : new.table ≡ with_hit old.table mark values
   pub ops : (key : List Part) (q : At) → ops_of new.ops key q ≡ followed old.table new.table id mark key (ops_of old.ops key) q
 
@@ -53,6 +54,7 @@ followed_less old new id mark key ops =
 pub record HitLessFollows (id : ℕ) (mark : Mark) (old new : Shelved) : Type 0 where
   pub role : new.role ≡ old.role
   pub readings : new.readings ≡ map.remove old.readings mark.spot.pos
+  pub notes : new.notes ≡ old.notes
   pub table : new.table ≡ without_hit old.table mark
   pub ops : (key : List Part) (q : At) → ops_of new.ops key q ≡ followed_less old.table new.table id mark key (ops_of old.ops key) q
 

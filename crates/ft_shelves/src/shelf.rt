@@ -1,6 +1,6 @@
 //! Shelves: what is kept of one attached trigger.
 
-ghost use Rattle.std.specs.Prelude.{◌≡◌, ◌+◌, ◌<◌, ◌≤◌, List, false, Some, None, OnOk, IfOk, IfSome, IsTrue};
+ghost use Rattle.std.specs.Prelude.{◌≡◌, ◌+◌, ◌<◌, ◌≤◌, List, length, false, Some, None, OnOk, IfOk, IfSome, IsTrue};
 ghost use Rattle.std.specs.Prelude.{option_map};
 ghost use Rattle.std.specs.FinMap as map;
 ghost use Rattle.ft_fields.specs.Places.{pos_cmp};
@@ -311,6 +311,7 @@ impl Shelf {
         ensures ok { OnOk result (OpsChange key (with_reads reads.now) self.old self.new) }
         ensures found { IfOk result (λ found.
             FindEach (ops_of self.new.ops key) reads.now found.items) }
+        ensures puts { work.new.puts ≡ work.old.puts + length reads.now }
         ensures evals { work.new.evals ≡ work.old.evals }
         ensures grow { StepsGrow work.old work.new }
     {
