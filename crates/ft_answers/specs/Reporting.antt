@@ -35,7 +35,7 @@ pub record IsReport (old new : Base) (report : List Changed) : Type 0 where
   pub two : (id : ℕ) → ((saver : ℕ) → role_at old.triggers id ≡ Reads saver → ⊥) → reported_of report id ≤ 2
   pub reader : (id saver : ℕ) → role_at old.triggers id ≡ Reads saver → reported_of report id ≤ 4 + 2 * readers_in old.triggers saver
 
--- an accepted edit's report, where it has one, is of the base before it and behind it; a board whose tables lack the edit has none (our own choice)
+-- an accepted edit's report, where it has one, is of the base before it and behind it; a board whose tables lack the edit has none, and so has one that keeps no tables (our own choice)
 abbrev pub Reports : Shown → Shown → Result (Done Edited) Refused → Type 0
-Reports old new (Ok done) = IfSome done.value.report (λ rows. IsReport old.base new.base rows.items) × (new.deferred ≡ true → done.value.report ≡ None)
+Reports old new (Ok done) = IfSome done.value.report (λ rows. IsReport old.base new.base rows.items) × (new.deferred ≡ true → done.value.report ≡ None) × (new.keeps ≡ false → done.value.report ≡ None)
 Reports old new (Err refused) = ⊤

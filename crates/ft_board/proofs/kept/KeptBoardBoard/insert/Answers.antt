@@ -1,5 +1,6 @@
 use Rattle.std.proofs.Common.{[], Some, sym, ap, subst, ◌∙◌}
 use Rattle.std.specs.Option.{IfSome}
+use Rattle.std.proofs.lemmas.Bool.{true≢false}
 use Rattle.std.specs.Ordering.{nat_cmp}
 use Rattle.ft_hist.specs.Steps.{Steps}
 use Rattle.ft_maps.specs.Seen.{seen}
@@ -85,4 +86,5 @@ returns-clause-reports c =
           c.take_notes.new.kept c.let_come.new.kept c.mend-kept.new.kept repaired c.let_come.new.acted gathered rows.items by)
           c.report-report.ensures.rows),
       λ up. c.report-report.ensures.none (none_is c.mend-kept.new.kept up),
+      λ unkept. absurd (true≢false unkept),
     )
