@@ -12,8 +12,10 @@
 //! ```
 #![tactic(auto)]
 
+pub mod laws;
 mod lines;
 mod script;
 
+pub use laws::written_commands;
 pub use lines::next_line;
 pub use script::{Command, LINE_LIMIT, Numbered, read_command};
