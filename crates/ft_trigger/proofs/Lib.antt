@@ -4,6 +4,7 @@ mod Cutting
 mod Drafts
 mod Edges
 mod Examples
+mod Firsts
 mod Halves
 mod Heads
 mod Inversions

@@ -1,3 +1,4 @@
+pub mod FirstFaults
 pub mod Given
 pub mod PartFaults
 pub mod Shape

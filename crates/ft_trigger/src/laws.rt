@@ -10,7 +10,11 @@ ghost use Rattle.ft_hist.specs.Canonical.{canonical};
 ghost use Rattle.ft_hist.specs.Hist.{Hist, IsWithin, with_filter};
 ghost use Rattle.ft_hist.specs.Sound.{IsSound};
 ghost use Rattle.ft_head.specs.declared.fault.TriggerFault.{TriggerFault};
+ghost use Rattle.ft_head.specs.Draft.{Draft, blank, parts_from, items_of, with_key, with_value, with_sort};
 ghost use Rattle.ft_head.specs.PartSpelling.{is_part, joined};
+ghost use Rattle.ft_hist.specs.declared.item.KeyItem.{KeyItem};
+ghost use Rattle.ft_pieces.specs.Words.{pieces, Word};
+ghost use Rattle.ft_trigger.specs.FirstFaults.{AreBetween, FailFirst, ReadAs, of_parts, of_items};
 ghost use Rattle.ft_trigger.specs.TriggerIs.{TriggerIs, trigger_of, filter_in};
 ghost use Rattle.ft_trigger.specs.PartFaults.{PartsFail, is_late};
 ghost use Rattle.ft_trigger.specs.Shape.{Cut, IsCut, TailIs, with_tail, IsShaped};
@@ -120,4 +124,41 @@ pub fn any_order()
         → list_all is_part (front ++ a ∷ b ∷ behind) ≡ true
         → TriggerIs event (codes "hist:" ++ joined (front ++ a ∷ b ∷ behind)) (Ok hist)
         → TriggerIs event (codes "hist:" ++ joined (front ++ b ∷ a ∷ behind)) (Ok hist) }
+{}
+
+/// A law: a text is cut at a separator in one way.
+pub fn one_cut()
+    ensures some { (separator : ℕ) (text : List ℕ)
+        → (texts : List (List ℕ)) × AreBetween separator text texts }
+    ensures one { (separator : ℕ) (text : List ℕ) (texts other : List (List ℕ))
+        → AreBetween separator text texts → AreBetween separator text other → texts ≡ other }
+{}
+
+/// A law: of the parts of a head, which stand between `:`, the first that has a fault behind what is
+/// read of those in front of it decides, and where none has one, what is read of all. A text has the
+/// first fault of its parts, whatever its tail is.
+pub fn first_parts()
+    ensures parts { (event : Name) (text : List ℕ) (parts : List (List ℕ))
+        (answer : Result Draft TriggerFault) → AreBetween 58 text parts
+        → (parts_from event blank (pieces 58 5 text) ≡ answer)
+        ↔ ReadAs (of_parts event) parts answer }
+    ensures texts { (event : Name) (text head gap tail end : List ℕ) (parts : List (List ℕ))
+        (fault : TriggerFault) → IsCut text (codes "hist:" ++ head) gap tail end
+        → AreBetween 58 head parts → FailFirst (of_parts event) parts fault
+        → TriggerIs event text (Err fault) }
+{}
+
+/// A law: so it is with the items of keys, of values and of sort items, which stand between `,`.
+pub fn first_items()
+    ensures keys { (event : Name) (place : ℕ) (text : List ℕ) (items : List (List ℕ))
+        (answer : Result (List KeyItem) TriggerFault) → AreBetween 44 text items
+        → (items_of (with_key event) place text ≡ answer)
+        ↔ ReadAs (of_items (with_key event) place) items answer }
+    ensures values { (event : Name) (place : ℕ) (text : List ℕ) (items : List (List ℕ))
+        (answer : Result (List Word) TriggerFault) → AreBetween 44 text items
+        → (items_of (with_value event) place text ≡ answer)
+        ↔ ReadAs (of_items (with_value event) place) items answer }
+    ensures sort { (place : ℕ) (text : List ℕ) (items : List (List ℕ))
+        (answer : Result (List Word) TriggerFault) → AreBetween 44 text items
+        → (items_of with_sort place text ≡ answer) ↔ ReadAs (of_items with_sort place) items answer }
 {}
