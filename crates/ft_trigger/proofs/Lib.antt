@@ -5,6 +5,7 @@ mod Drafts
 mod Edges
 mod Examples
 mod Firsts
+mod Fronts
 mod Halves
 mod Heads
 mod Inversions

@@ -1,4 +1,5 @@
 pub mod FirstFaults
+pub mod Forms
 pub mod Given
 pub mod PartFaults
 pub mod Shape

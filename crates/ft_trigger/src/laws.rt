@@ -1,6 +1,6 @@
 //! Laws on what triggers' texts are read as, apart from the steps that read them.
 
-ghost use Rattle.std.specs.Prelude.{◌≡◌, ◌↔◌, ◌+◌, ◌++◌, ◌∷◌, ℕ, true, false, codes, List, length, Option, Some, None, Result, Ok, Err};
+ghost use Rattle.std.specs.Prelude.{◌≡◌, ◌↔◌, ◌+◌, ◌++◌, ◌∷◌, [], ℕ, true, false, codes, List, length, Option, Some, None, Result, Ok, Err};
 ghost use Rattle.ft_fields.specs.declared.event.Name.{Name};
 ghost use Rattle.std.specs.List.{list_all, list_any};
 ghost use Rattle.ft_filter.specs.FilterIs.{FilterIs};
@@ -9,12 +9,15 @@ ghost use Rattle.ft_tokens.specs.Tokens.{is_gap};
 ghost use Rattle.ft_hist.specs.Canonical.{canonical};
 ghost use Rattle.ft_hist.specs.Hist.{Hist, IsWithin, with_filter};
 ghost use Rattle.ft_hist.specs.Sound.{IsSound};
+ghost use Rattle.ft_head.specs.declared.draft.Kind.{Kind};
 ghost use Rattle.ft_head.specs.declared.fault.TriggerFault.{TriggerFault};
-ghost use Rattle.ft_head.specs.Draft.{Draft, blank, parts_from, items_of, with_key, with_value, with_sort};
+ghost use Rattle.ft_head.specs.declared.fault.TriggerFault.TheVariants.{Duplicate};
+ghost use Rattle.ft_head.specs.Draft.{Draft, blank, parts_from, with_part, is_part_left_out, items_of, with_key, with_value, with_sort};
 ghost use Rattle.ft_head.specs.PartSpelling.{is_part, joined};
 ghost use Rattle.ft_hist.specs.declared.item.KeyItem.{KeyItem};
-ghost use Rattle.ft_pieces.specs.Words.{pieces, Word};
-ghost use Rattle.ft_trigger.specs.FirstFaults.{AreBetween, FailFirst, ReadAs, of_parts, of_items};
+ghost use Rattle.ft_pieces.specs.Words.{Piece, pieces, Word};
+ghost use Rattle.ft_trigger.specs.FirstFaults.{AreBetween, AreRead, FailFirst, ReadAs, of_parts, of_items};
+ghost use Rattle.ft_trigger.specs.Forms.{Form, OfKind, form_of, stands, has_read};
 ghost use Rattle.ft_trigger.specs.TriggerIs.{TriggerIs, trigger_of, filter_in};
 ghost use Rattle.ft_trigger.specs.PartFaults.{PartsFail, is_late};
 ghost use Rattle.ft_trigger.specs.Shape.{Cut, IsCut, TailIs, with_tail, IsShaped};
@@ -161,4 +164,24 @@ pub fn first_items()
     ensures sort { (place : ℕ) (text : List ℕ) (items : List (List ℕ))
         (answer : Result (List Word) TriggerFault) → AreBetween 44 text items
         → (items_of with_sort place text ≡ answer) ↔ ReadAs (of_items with_sort place) items answer }
+{}
+
+/// A law: what is read of parts tells which forms stand among them, each once, and a part's fault
+/// depends on nothing else in front of it: it is the same behind all parts of the same forms. A
+/// second part of a kind is told as one that stands twice.
+pub fn forms_in_front()
+    ensures read { (event : Name) (front : List (List ℕ)) (draft : Draft) (form : Form)
+        → AreRead (of_parts event) front draft → has_read form draft ≡ stands form front }
+    ensures once { (event : Name) (front : List (List ℕ)) (part : List ℕ) (draft : Draft)
+        → AreRead (of_parts event) (front ++ part ∷ []) draft
+        → stands (form_of part) front ≡ false }
+    ensures alike { (event : Name) (front before : List (List ℕ)) (draft other : Draft)
+        (part : Piece) (fault : TriggerFault) → AreRead (of_parts event) front draft
+        → AreRead (of_parts event) before other
+        → ((form : Form) → stands form front ≡ stands form before)
+        → with_part event draft part ≡ Err fault → with_part event other part ≡ Err fault }
+    ensures twice { (event : Name) (front : List (List ℕ)) (draft : Draft) (part : Piece)
+        (kind : Kind) → AreRead (of_parts event) front draft
+        → form_of part.bytes ≡ OfKind kind → is_part_left_out part.bytes ≡ false
+        → stands (OfKind kind) front ≡ true → with_part event draft part ≡ Err Duplicate }
 {}

@@ -28,7 +28,7 @@ pub use ft_hist::{
     summed_fields,
 };
 pub use laws::{
-    any_order, cuts, faults_stay, first_items, first_parts, heads_first, one_answer, one_cut,
-    one_tail, reads_again, refiltered_reads_again, shapes, sound_triggers,
+    any_order, cuts, faults_stay, first_items, first_parts, forms_in_front, heads_first,
+    one_answer, one_cut, one_tail, reads_again, refiltered_reads_again, shapes, sound_triggers,
 };
 pub use reading::parse;
