@@ -2,3 +2,4 @@ mod Asking
 pub mod Cuts
 mod Spelled
 pub mod WordLemmas
+mod Writable

@@ -39,7 +39,7 @@ dropped test (byte ∷ front) rest all =
 -- ---- spaces at the ends
 
 -- a text that no space begins
-abbrev Opens : List ℕ → Type 0
+abbrev pub Opens : List ℕ → Type 0
 Opens text = (byte : ℕ) (rest : List ℕ) → text ≡ byte ∷ rest → is_space byte ≡ false
 
 -- a text that no space ends

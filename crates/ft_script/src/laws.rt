@@ -1,6 +1,6 @@
-//! A law of script lines, apart from the steps that read them: what is written out is asked for.
+//! Laws of script lines, apart from the steps that read them.
 
-ghost use Rattle.std.specs.Prelude.{◌≡◌, ◌≤◌, length};
+ghost use Rattle.std.specs.Prelude.{◌≡◌, ◌≤◌, ℕ, List, length};
 ghost use Rattle.ft_script.specs.Script.{Asked, line_limit, asked_by};
 ghost use Rattle.ft_script.specs.Written.{written, IsWritable};
 
@@ -10,4 +10,9 @@ ghost use Rattle.ft_script.specs.Written.{written, IsWritable};
 pub fn written_commands()
     ensures { (what : Asked) → IsWritable what → length (written what) ≤ line_limit
         → asked_by (written what) ≡ what }
+{}
+
+/// A law: what any line asks for may be written out so.
+pub fn writable_commands()
+    ensures { (line : List ℕ) → IsWritable (asked_by line) }
 {}

@@ -16,6 +16,6 @@ pub mod laws;
 mod lines;
 mod script;
 
-pub use laws::written_commands;
+pub use laws::{writable_commands, written_commands};
 pub use lines::next_line;
 pub use script::{Command, LINE_LIMIT, Numbered, read_command};
