@@ -11,3 +11,4 @@ pub mod Naming
 pub mod MadeTables
 pub mod Filling
 pub mod Turned
+pub mod TurnedKeys

@@ -37,11 +37,11 @@ use Rattle.ft_made.proofs.Filling.{put_at, put_other, put_size}
 -- ---- keys fit
 
 -- the hit of a key, at a mark
-abbrev hit_under : Hist → Mark → Traced → List Part → TriggerHit
+abbrev pub hit_under : Hist → Mark → Traced → List Part → TriggerHit
 hit_under hist mark event key = record { spot = mark.spot; key = key; saved = None; values = values_at hist mark.spot.pos event None }
 
 -- what a hit adds under a key, where that is the hit's
-abbrev adds_under : List Part → TriggerHit → Option (List ℤ)
+abbrev pub adds_under : List Part → TriggerHit → Option (List ℤ)
 adds_under key found = if same_key key found.key then Some found.values else None
 
 module _ (fits : (hist : Hist) (event : Traced) (parts : List Part) → hit hist event ≡ Some parts → KeyFits hist.keys parts) where

@@ -1,8 +1,9 @@
--- What is read off a fold, and one item more of a fold.
-use Rattle.std.proofs.Common.{◌≡◌, List, [], ◌∷◌, refl, sym, ap, ◌∙◌, Some, None, Option}
+-- What is read off a fold, and one item more of a fold or of a list.
+use Rattle.std.proofs.Common.{◌≡◌, List, [], ◌∷◌, ◌++◌, refl, sym, ap, ◌∙◌, Some, None, Option}
 use Rattle.std.specs.Prelude.{fold}
-use Rattle.std.specs.List.{cons_option}
+use Rattle.std.specs.List.{cons_option, flat_map}
 use Rattle.std.specs.Option.{option_map_or}
+use Rattle.std.proofs.lemmas.List.{append-nil, append_assoc}
 
 -- a view of a fold, where the view of each step is a step of the view
 pub seen_fold : {S T X : Type 0} (p : S → T) (f : S → X → S) (g : T → X → T) → ((s : S) (x : X) → p (f s x) ≡ g (p s) x) → (s : S) (xs : List X) → p (fold f s xs) ≡ fold g (p s) xs
@@ -17,3 +18,22 @@ fold_option g s (Some x) xs = refl
 -- where a fold of some items leads, one step and the fold of the others lead
 pub fold_step : {S X : Type 0} (g : S → X → S) (s t whole : S) (x : X) (rest all : List X) → t ≡ g s x → all ≡ x ∷ rest → fold g s all ≡ whole → fold g t rest ≡ whole
 fold_step g s t whole x rest all step more is = ap (λ u. fold g u rest) step ∙ sym (ap (fold g s) more) ∙ is
+
+-- ---- lists made one after the other
+
+module _ {X Y : Type 0} (f : X → List Y) where
+  -- the first of those that are left is done
+  pub flat_step : (found more all : List Y) (x : X) (rest left : List X) → left ≡ x ∷ rest → more ≡ found ++ f x → found ++ flat_map f left ≡ all → more ++ flat_map f rest ≡ all
+  flat_step found more all x rest left is puts goal =
+      ap (λ (ys : List Y). ys ++ flat_map f rest) puts
+      ∙ append_assoc found (f x) (flat_map f rest)
+      ∙ sym (ap (λ (xs : List X). found ++ flat_map f xs) is)
+      ∙ goal
+
+  -- it has none
+  pub flat_skip : (found all : List Y) (x : X) (rest left : List X) → left ≡ x ∷ rest → f x ≡ [] → found ++ flat_map f left ≡ all → found ++ flat_map f rest ≡ all
+  flat_skip found all x rest left is none goal = flat_step found found all x rest left is (sym (append-nil found) ∙ ap (λ (ys : List Y). found ++ ys) (sym none)) goal
+
+  -- none is left
+  pub flat_done : (found all : List Y) (left : List X) → left ≡ [] → found ++ flat_map f left ≡ all → found ≡ all
+  flat_done found all left none goal = sym (append-nil found) ∙ sym (ap (λ (xs : List X). found ++ flat_map f xs) none) ∙ goal

@@ -7,7 +7,9 @@ use Rattle.std.specs.FinMap.{FinMap}
 use Rattle.ft_fields.specs.Places.{pos_cmp}
 use Rattle.ft_fields.specs.declared.pos.Pos.{Pos}
 use Rattle.ft_fields.specs.Traced.{Traced}
+use Rattle.ft_keys.specs.declared.key.Part.{Part}
 use Rattle.ft_hist.specs.Hist.{Hist}
+use Rattle.ft_rivals.specs.Rivals.{AreTablesButFor}
 use Rattle.ft_table.specs.Hits.{Hits}
 use Rattle.ft_table.specs.Rows.{AllFit}
 use Rattle.ft_table.specs.Tabled.{Tabled}
@@ -30,6 +32,7 @@ use Rattle.ft_made.specs.ReplayMaking.{replay_making}
 use Rattle.ft_made.specs.MadeEvents.{made_by, made_at, made_list, made_events}
 use Rattle.ft_made.specs.MadeHits.{made_hits_of, values_made, values_of_made}
 use Rattle.ft_made.specs.MadeTables.{Readings, IsMadeTable, AreInOrder, ArePairsOf, AreReplayed, found_in, ChangesMade, HoldsMade, IsFreeAt, with_made, without_made}
+use Rattle.ft_made.specs.Turning.{HaveKey, HaveTurned, keys_turned, made_as}
 
 -- ---- two replays, one after the other
 
@@ -150,3 +153,16 @@ PutMadeChanges = (hist : Hist) (spot : Spot) (made : Option Traced) (table : Tab
 -- and so does one that is taken out, where a table holds at the spot just what the event adds: then no hit stands there (our own choice)
 abbrev pub TakeMadeChanges : Type 0
 TakeMadeChanges = (hist : Hist) (spot : Spot) (made : Option Traced) (table : Tabled) → HoldsMade hist spot made table → ChangesMade hist spot None table (without_made hist spot made table)
+
+-- ---- keys of tables that are turned
+
+-- what readings make by what they found, and by what they find later, makes tables that differ by hits of such keys alone (our own choice)
+abbrev pub TurnedButForKeys : Type 0
+TurnedButForKeys = (triggers : Triggers) (events : Events) (found later : Readings) (hist : Hist) (keys : List (List Part)) (before after : Tabled)
+    → IsMadeTable triggers events found hist before → IsMadeTable triggers events later hist after → HaveTurned triggers events found later hist keys
+    → AreTablesButFor keys before after
+
+-- the keys of a turn have those of what was made at each noted place, and of what is made there now (our own choice)
+abbrev pub KeysAreTurned : Type 0
+KeysAreTurned = (events : Events) (hist maker : Hist) (notes : FinMap pos_cmp (Option Pos)) (readings : FinMap pos_cmp Pos) (pos : Pos) (had : Option Pos) → map.get notes pos ≡ Some had
+    → HaveKey hist (made_as events maker pos had) (keys_turned events hist maker notes readings) × HaveKey hist (made_as events maker pos (map.get readings pos)) (keys_turned events hist maker notes readings)

@@ -1,11 +1,12 @@
 //! Laws of made events: functions that do nothing, whose clauses are proved.
 
-ghost use Rattle.ft_made.specs.Laws.{FoundMakeAll, HeldAreCounted, KeptAreTallied};
+ghost use Rattle.ft_made.specs.Laws.{FoundMakeAll, HeldAreCounted, KeptAreTallied, KeysAreTurned};
 ghost use Rattle.ft_made.specs.Laws.{MadeAreCounted, MadeAreTallied, MadeBySpot, MadeHitsAre};
 ghost use Rattle.ft_made.specs.Laws.{MadeInOrder, MadeTablesChange, MadeTablesFit, NamedMakeAll};
 ghost use Rattle.ft_made.specs.Laws.{NoneIsMade, OthersCountNone, ReadingsAreTallied, SameIsMade};
 ghost use Rattle.ft_made.specs.Laws.{PutMadeChanges, SpotsAreDistinct, TablesAreTallied};
 ghost use Rattle.ft_made.specs.Laws.{ReplayedAreInOrder, ReplayedAreTallied, TakeMadeChanges};
+ghost use Rattle.ft_made.specs.Laws.{TurnedButForKeys};
 
 /// A law: replaying with made events comes apart into two replays. Tallies of held events and
 /// variables are those of the replay that makes none. Beside them each attached trigger counts the
@@ -74,3 +75,11 @@ pub fn replayed_pairs()
     ft_replay::counted_hits();
     made_tables();
 }
+
+/// A law: what readings make by what they found, and by what they find later, makes tables that
+/// differ by hits of those keys alone under which the made events are counted that differ. The keys of
+/// a turn have these wherever something is noted.
+pub fn turned_keys()
+    ensures tables { TurnedButForKeys }
+    ensures keys { KeysAreTurned }
+{}

@@ -5,7 +5,7 @@
 //! events go past as if none were made, and what their readings find says which events are made;
 //! these are counted in order of their spots. So a trigger that counts made events needs no replay:
 //! its table is made of what is kept of readings. And where notes tell what readings had found before
-//! they changed, the table is turned at these alone.
+//! they changed, the table is turned at these alone; these tell too which keys' hits that changes.
 //!
 //! ```ignore
 //! let mut table = made_table(rt.alloc(), lanes, triggers, &readings, trigger, &mut work)?;
@@ -16,6 +16,7 @@
 //! }
 //! // Later readings of it changed: notes tell what they had found.
 //! let turn = Turn { notes, readings };
+//! put_turned_keys(&mut keys, lanes, trigger, maker, turn, &mut work)?;
 //! turn_made(&mut table, lanes, trigger, 2, maker, turn, &mut work)?;
 //! ```
 #![tactic(auto)]
@@ -25,7 +26,9 @@ mod readings;
 mod tables;
 mod turning;
 
-pub use laws::{counted_made, made_by_spot, made_tables, replayed_pairs, same_made, tallied_made};
+pub use laws::{
+    counted_made, made_by_spot, made_tables, replayed_pairs, same_made, tallied_made, turned_keys,
+};
 pub use readings::KeptReadings;
 pub use tables::{made_table, put_made, take_made};
-pub use turning::{Turn, turn_made};
+pub use turning::{Turn, put_turned_keys, turn_made};

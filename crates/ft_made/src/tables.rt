@@ -68,7 +68,7 @@ pub fn take_made(table: &mut Table, trigger: &Trigger, spot: Spot, made: &Event,
 
 /// The key that a trigger counts an event under, if the event is a hit of it. Tests it where the
 /// trigger is on its name alone.
-fn key_at(trigger: &Trigger, event: &Event, work: &mut Work) -> Option<Key>
+pub(crate) fn key_at(trigger: &Trigger, event: &Event, work: &mut Work) -> Option<Key>
     ensures key { result ≡ hit trigger.now event.now }
     ensures evals { work.new.evals ≡ work.old.evals + asked trigger.now event.now }
     ensures puts { work.new.puts ≡ work.old.puts }

@@ -1,6 +1,6 @@
 //! Tables of made events, turned from what readings had found to what they find.
 
-ghost use Rattle.std.specs.Prelude.{◌≡◌, IfSome, Ok, OnOk};
+ghost use Rattle.std.specs.Prelude.{◌≡◌, ◌++◌, IfSome, Ok, OnOk};
 ghost use Rattle.std.specs.FinMap as map;
 ghost use Rattle.ft_fields.specs.Places.{pos_cmp};
 ghost use Rattle.ft_hist.specs.Steps.{StepsGrow};
@@ -8,12 +8,12 @@ ghost use Rattle.ft_maps.specs.Seen.{seen};
 ghost use Rattle.ft_replay.specs.Merged.{merged};
 ghost use Rattle.ft_made.specs.MadeTables.{ChangesMade, HoldsMade, IsFreeAt};
 ghost use Rattle.ft_made.specs.MadeTables.{with_made, without_made};
-ghost use Rattle.ft_made.specs.Turning.{CanTurn, HasTurned};
+ghost use Rattle.ft_made.specs.Turning.{CanTurn, HasTurned, keys_of_made, keys_turned};
 ghost use Rattle.ft_made.specs.inner.Turns.{made_found};
 
-use crate::tables::{made_of_pair, put_made, take_made};
+use crate::tables::{key_at, made_of_pair, put_made, take_made};
 use ft_fields::{Event, Pos};
-use ft_hist::{Trigger, Work};
+use ft_hist::{Key, Trigger, Work};
 use ft_lanes::Lanes;
 use ft_maps::{entries, get};
 use ft_replay::Pair;
@@ -60,6 +60,51 @@ pub fn turn_made(
             maker: id,
         };
         turn_spot(table, trigger, spot, before, after, work)?;
+    }
+    Ok(())
+}
+
+/// Puts the keys behind others under which a trigger counts the events that another made of what its
+/// readings had found, and those that it makes of what they find: at each place that is noted, and as
+/// often as they are. Hits under other keys stay as the trigger's table is turned. Refused for memory.
+pub fn put_turned_keys(
+    keys: &mut Vec<Key>,
+    lanes: &Lanes,
+    trigger: &Trigger,
+    maker: &Trigger,
+    turn: Turn<'_>,
+    work: &mut Work,
+) -> Result<(), AllocError>
+    ensures keys { OnOk result (keys.new.items ≡ keys.old.items
+        ++ keys_turned (merged lanes.now) trigger.now maker.now (seen pos_cmp turn.entry.notes.now)
+        (seen pos_cmp turn.entry.readings.now)) }
+    ensures grow { StepsGrow work.old work.new }
+{
+    for (pos, had) in entries(turn.notes) {
+        let before = made_of_found(lanes, maker, *pos, *had);
+        let after = made_of_found(lanes, maker, *pos, get(turn.readings, pos).copied());
+        put_key(keys, trigger, before, work)?;
+        put_key(keys, trigger, after, work)?;
+    }
+    Ok(())
+}
+
+/// Puts the key behind others under which a trigger counts an event, if one was made and is a hit.
+/// Refused for memory.
+fn put_key(
+    keys: &mut Vec<Key>,
+    trigger: &Trigger,
+    made: Option<Event>,
+    work: &mut Work,
+) -> Result<(), AllocError>
+    ensures key { OnOk result (keys.new.items ≡ keys.old.items ++ keys_of_made trigger.now made) }
+    ensures grow { StepsGrow work.old work.new }
+{
+    let Some(made) = made else {
+        return Ok(());
+    };
+    if let Some(key) = key_at(trigger, &made, work) {
+        keys.push(key)?;
     }
     Ok(())
 }
