@@ -15,13 +15,17 @@ use Rattle.ft_base.specs.Roles.{role_at}
 use Rattle.ft_replay.specs.Merged.{merged}
 use Rattle.ft_answers.specs.declared.done.Done.{Done}
 use Rattle.ft_answers.specs.declared.edited.Edited.{Edited}
-use Rattle.ft_answers.specs.Answers.{tally_at}
+use Rattle.ft_answers.specs.Answers.{tally_at, tally_made}
 use Rattle.ft_answers.specs.Counting.{counts_made}
 use Rattle.ft_answers.specs.Shown.{Shown}
 
 -- what a trigger has counted under a key of the held events: its table's row, or none (kernel: histogram.rst, the `hist` file)
 unfoldable pub row_in : Base → ℕ → List Part → Option Counted
 row_in base id key = map.get (tally_at base.triggers (merged base.lanes) id).table key
+
+-- what a trigger has counted under a key of the events that readings make (kernel: histogram.rst, synthetic events)
+unfoldable pub made_row_in : Base → ℕ → List Part → Option Counted
+made_row_in base id key = map.get (tally_made base.triggers (merged base.lanes) id).table key
 
 -- how many attached triggers read what a saver saves (kernel: histogram.rst, inter-event hist triggers)
 unfoldable pub readers_in : Triggers → ℕ → ℕ
@@ -35,7 +39,17 @@ pub record IsReport (old new : Base) (report : List Changed) : Type 0 where
   pub two : (id : ℕ) → ((saver : ℕ) → role_at old.triggers id ≡ Reads saver → ⊥) → reported_of report id ≤ 2
   pub reader : (id saver : ℕ) → role_at old.triggers id ≡ Reads saver → reported_of report id ≤ 4 + 2 * readers_in old.triggers saver
 
--- an accepted edit's report, where it has one, is of the base before it and behind it; a board whose tables lack the edit has none, and so has one that keeps no tables (our own choice)
+-- the same of made events: none twice, each of an attached trigger that counts them, and all that differ of these (our own choice)
+pub record IsMadeReport (old new : Base) (report : List Changed) : Type 0 where
+  pub once : IsDistinct same_row report
+  pub made : (id : ℕ) (key : List Part) → is_reported report id key ≡ true → (hist : Hist) × ((map.get old.triggers id ≡ Some hist) × (counts_made hist ≡ true))
+  pub all : (id : ℕ) (hist : Hist) → map.get old.triggers id ≡ Some hist → counts_made hist ≡ true → (key : List Part) → is_reported report id key ≡ false → made_row_in new id key ≡ made_row_in old id key
+
+-- the rows of made events that an accepted edit names, where it does, are a report of the base before it and behind it; a board whose tables lack the edit names none, nor does one that keeps no tables (our own choice)
+abbrev pub ReportsMade : Shown → Shown → Done Edited → Type 0
+ReportsMade old new done = IfSome done.value.made (λ rows. IsMadeReport old.base new.base rows.items) × ((new.deferred ≡ true → done.value.made ≡ None) × (new.keeps ≡ false → done.value.made ≡ None))
+
+-- an accepted edit's report, where it has one, is of the base before it and behind it; a board whose tables lack the edit has none, and so has one that keeps no tables; and so with the rows of made events (our own choice)
 abbrev pub Reports : Shown → Shown → Result (Done Edited) Refused → Type 0
-Reports old new (Ok done) = IfSome done.value.report (λ rows. IsReport old.base new.base rows.items) × (new.deferred ≡ true → done.value.report ≡ None) × (new.keeps ≡ false → done.value.report ≡ None)
+Reports old new (Ok done) = (IfSome done.value.report (λ rows. IsReport old.base new.base rows.items) × (new.deferred ≡ true → done.value.report ≡ None) × (new.keeps ≡ false → done.value.report ≡ None)) × ReportsMade old new done
 Reports old new (Err refused) = ⊤

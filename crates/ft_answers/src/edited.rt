@@ -12,4 +12,7 @@ pub struct Edited {
     /// The rows that may have changed, of all triggers that count held events; none where the board
     /// has no report.
     pub report: Option<Vec<Changed>>,
+    /// The rows that may have changed, of all triggers that count made events; none where the board
+    /// doesn't tell.
+    pub made: Option<Vec<Changed>>,
 }

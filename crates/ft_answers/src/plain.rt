@@ -172,12 +172,14 @@ impl Board for PlainBoard {
 fn unreported(place: Place) -> Done<Edited>
     ensures place { result.value.place ≡ place }
     ensures report { result.value.report ≡ None }
+    ensures made { result.value.made ≡ None }
     ensures kept { result.kept ≡ Kept.Now }
 {
     Done {
         value: Edited {
             place,
             report: None,
+            made: None,
         },
         kept: Kept::Now,
     }

@@ -11,3 +11,5 @@ pub mod LeavingMade
 pub mod MendedEdits
 pub mod ReportedRows
 pub mod Reports
+pub mod TurnedRows
+pub mod MadeReports

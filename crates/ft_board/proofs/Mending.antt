@@ -125,7 +125,7 @@ module _ (key : ℕ) (old new : Shelves) (takes : ChangesShelf key TakesNotes ol
 
 -- ---- tables are a matter of what the readings find of triggers that make events
 
-no_onmatch : (at : Pos) (event : Traced) (saved : Option Pos) (hist : Hist) → hist.onmatch ≡ None → option_and_then (made_of hist at event) saved ≡ None
+pub no_onmatch : (at : Pos) (event : Traced) (saved : Option Pos) (hist : Hist) → hist.onmatch ≡ None → option_and_then (made_of hist at event) saved ≡ None
 no_onmatch at event None hist none = refl
 no_onmatch at event (Some saved) hist none = ap (λ (o : Option Onmatch). option_map (made_event at event saved) o) none
 

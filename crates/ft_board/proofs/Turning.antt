@@ -40,10 +40,10 @@ shelfless shelves id none pos =
     ∙ sym (ap (option_and_then (λ (s : Shelved). had_found s pos)) none)
 
 module _ (shelves : Shelves) (id : ℕ) (shelf : Shelved) (there : map.get shelves id ≡ Some shelf) where
-  finds_there : (pos : Pos) → found_in (readings_on shelves) id pos ≡ map.get shelf.readings pos
+  pub finds_there : (pos : Pos) → found_in (readings_on shelves) id pos ≡ map.get shelf.readings pos
   finds_there pos = ap (λ (o : Option Shelved). map.get (option_map_or (λ (s : Shelved). s.readings) o map.empty) pos) there
 
-  had_there : (notes : Option Notes) → shelf.notes ≡ notes → (pos : Pos) → had_by shelves id pos ≡ unwrap_or (option_and_then (λ (n : Notes). map.get n pos) notes) (map.get shelf.readings pos)
+  pub had_there : (notes : Option Notes) → shelf.notes ≡ notes → (pos : Pos) → had_by shelves id pos ≡ unwrap_or (option_and_then (λ (n : Notes). map.get n pos) notes) (map.get shelf.readings pos)
   had_there notes are pos =
       ap (option_and_then (λ (s : Shelved). had_found s pos)) there
       ∙ ap (λ (o : Option Notes). unwrap_or (option_and_then (λ (n : Notes). map.get n pos) o) (map.get shelf.readings pos)) are

@@ -6,6 +6,7 @@ use crate::made::{drop_made, remake};
 use crate::mend::{mend, take_notes};
 use crate::report::{report, reported_edits};
 use crate::told::{catch_up, latencies_in, row_in, rows_in, shelf_in, text_in, totals_in};
+use crate::turned::{turned, where_kept};
 use ft_answers::{Board, Done, Edited, Kept, Latency, TableRow};
 use ft_base::{Content, Refused, attached, is_reader};
 use ft_fields::{Event, Name};
@@ -160,6 +161,7 @@ impl Board for KeptBoard {
     fn insert(&mut self, event: Event) -> Result<Done<Edited>, Refused> {
         kept_shelves();
         reported_edits();
+        ft_made::made_tables();
         let place = self.content.insert(event)?;
         let mut acted = Acted::new(self.alloc);
         take_notes(&mut self.kept, self.content.triggers());
@@ -170,6 +172,13 @@ impl Board for KeptBoard {
             &mut acted,
             &mut self.work,
         );
+        let made = turned(
+            &self.kept,
+            &self.made,
+            self.alloc,
+            &self.content,
+            &mut self.work,
+        );
         let kept = mend(
             &mut self.kept,
             &mut self.made,
@@ -178,13 +187,19 @@ impl Board for KeptBoard {
             &mut self.work,
         );
         let report = report(&self.kept, self.alloc, &self.content, &acted);
-        let value = Edited { place, report };
+        let made = where_kept(&self.kept, made);
+        let value = Edited {
+            place,
+            report,
+            made,
+        };
         Ok(Done { value, kept })
     }
 
     fn strike(&mut self, cpu: u32, line: u32) -> Result<Done<Edited>, Refused> {
         kept_shelves();
         reported_edits();
+        ft_made::made_tables();
         let place = self.content.place_of(cpu, line)?;
         let mut acted = Acted::new(self.alloc);
         take_notes(&mut self.kept, self.content.triggers());
@@ -195,6 +210,13 @@ impl Board for KeptBoard {
             &mut acted,
             &mut self.work,
         );
+        let made = turned(
+            &self.kept,
+            &self.made,
+            self.alloc,
+            &self.content,
+            &mut self.work,
+        );
         let kept = mend(
             &mut self.kept,
             &mut self.made,
@@ -203,8 +225,13 @@ impl Board for KeptBoard {
             &mut self.work,
         );
         let report = report(&self.kept, self.alloc, &self.content, &acted);
+        let made = where_kept(&self.kept, made);
         self.content.strike(place);
-        let value = Edited { place, report };
+        let value = Edited {
+            place,
+            report,
+            made,
+        };
         Ok(Done { value, kept })
     }
 

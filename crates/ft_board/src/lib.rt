@@ -33,6 +33,7 @@ mod mend;
 mod readings;
 mod report;
 mod told;
+mod turned;
 
 pub use kept::KeptBoard;
 pub use laws::{kept_board_keeps, kept_shelves, others_stay, readers_stay};

@@ -72,7 +72,7 @@ fn drop_notes(tables: &mut Tables, triggers: &BTreeMap<u32, Trigger>)
 }
 
 /// Whether something is noted of the readings of some attached trigger that makes events.
-fn is_noted(tables: &Tables, triggers: &BTreeMap<u32, Trigger>) -> bool
+pub(crate) fn is_noted(tables: &Tables, triggers: &BTreeMap<u32, Trigger>) -> bool
     ensures same { result ≡ false → FindTheSame (seen nat_cmp triggers.now) tables.now }
     ensures quiet { NothingNoted (seen nat_cmp triggers.now) tables.now → result ≡ false }
     ensures nothing { ReadersMakeNone (seen nat_cmp triggers.now) → result ≡ false }
@@ -102,11 +102,11 @@ fn has_notes(tables: &Tables, id: u32) -> bool
 
 /// What tables of made events are mended by.
 #[derive(Drop)]
-struct Scene<'a> {
-    alloc: Global,
-    lanes: &'a Lanes,
-    triggers: &'a BTreeMap<u32, Trigger>,
-    tables: &'a Tables,
+pub(crate) struct Scene<'a> {
+    pub(crate) alloc: Global,
+    pub(crate) lanes: &'a Lanes,
+    pub(crate) triggers: &'a BTreeMap<u32, Trigger>,
+    pub(crate) tables: &'a Tables,
 }
 
 /// Mends the tables of made events behind a repair of the shelves, by the notes that were taken, and

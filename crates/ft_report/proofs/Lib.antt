@@ -2,7 +2,7 @@ mod Acts
 mod Changing
 mod Entries
 mod Few
-mod Ids
-mod Once
-mod Reported
+pub mod Ids
+pub mod Once
+pub mod Reported
 mod Rows

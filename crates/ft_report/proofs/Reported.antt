@@ -34,7 +34,7 @@ rows_at id keys = list_map (λ key. record { id = id; key = key }) keys
 -- ---- the rows of one trigger
 
 -- they have those of the keys
-reported_at : (id i : ℕ) (key : List Part) (keys : List (List Part)) → is_reported (rows_at i keys) id key ≡ (nat_eq id i && is_of keys key)
+pub reported_at : (id i : ℕ) (key : List Part) (keys : List (List Part)) → is_reported (rows_at i keys) id key ≡ (nat_eq id i && is_of keys key)
 reported_at id i key [] = none (nat_eq id i) where
   none : (a : Bool) → false ≡ (a && false)
   none true = refl
@@ -49,7 +49,7 @@ rows_apart : (i : ℕ) (k : List Part) (keys : List (List Part)) → AllByRecurs
 rows_apart i k [] apart = tt
 rows_apart i k (y ∷ keys) apart = (and_right (nat_eq i i) (same_key k y) apart.0, rows_apart i k keys apart.1)
 
-rows_once : (i : ℕ) (keys : List (List Part)) → IsDistinct same_key keys → IsDistinct same_row (rows_at i keys)
+pub rows_once : (i : ℕ) (keys : List (List Part)) → IsDistinct same_key keys → IsDistinct same_row (rows_at i keys)
 unfolding IsDistinct
 rows_once i [] apart = tt
 rows_once i (k ∷ keys) apart = (rows_apart i k keys apart.0, rows_once i keys apart.1)

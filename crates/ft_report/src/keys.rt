@@ -140,7 +140,7 @@ fn reads(tables: &Tables, id: u32, saver: u32) -> bool
 
 /// Some keys, each once: the first of equal ones stays. Refused for memory.
 #[tactic(auto, unfolding(crate::specs::Touched::each_once))]
-fn distinct(alloc: Global, keys: &[Key]) -> Result<Vec<Key>, AllocError>
+pub fn distinct(alloc: Global, keys: &[Key]) -> Result<Vec<Key>, AllocError>
     ensures { IfOk result (λ found. found.items ≡ each_once keys.now) }
 {
     let mut found = Vec::new(alloc);

@@ -23,5 +23,6 @@ mod report;
 
 pub use ft_kept::Acting;
 pub use ft_rivals::Changed;
+pub use keys::distinct;
 pub use laws::{event_rows, reported_rows, touched_rows};
-pub use report::changed_rows;
+pub use report::{changed_rows, put_rows};

@@ -63,7 +63,7 @@ fn counts_made(trigger: &Trigger) -> bool
 }
 
 /// Puts the rows of some keys of a trigger behind others. Refused for memory.
-fn put_rows(rows: &mut Vec<Changed>, id: u32, keys: &[Key]) -> Result<(), AllocError>
+pub fn put_rows(rows: &mut Vec<Changed>, id: u32, keys: &[Key]) -> Result<(), AllocError>
     ensures { OnOk result (rows.new.items
         ≡ rows.old.items ++ list_map (λ key. record { id = id; key = key }) keys.now) }
 {

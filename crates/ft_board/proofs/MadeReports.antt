@@ -1,0 +1,69 @@
+-- What the rows that were told of tables of made events say of the bases before an edit and behind it.
+use Rattle.std.proofs.Common.{◌≡◌, ℕ, [], true, List, refl, sym, ap, subst, ◌∙◌, Option, Some, None, unwrap_or}
+use Rattle.std.specs.Prelude.{option_and_then}
+use Rattle.std.specs.Option.{IfSome, option_map_or}
+use Rattle.std.specs.FinMap as map
+use Rattle.ft_hist.specs.Hist.{Hist}
+use Rattle.ft_keys.specs.declared.key.Part.{Part}
+use Rattle.ft_rivals.specs.declared.changed.Changed.{Changed}
+use Rattle.ft_table.specs.Rows.{row_at}
+use Rattle.ft_kept.specs.Shelves.{Readings, Shelved, Shelves}
+use Rattle.ft_base.specs.Base.{Base, Triggers}
+use Rattle.ft_replay.specs.Merged.{merged}
+use Rattle.ft_replay.specs.Tally.{Tally, empty_tally}
+use Rattle.ft_replay.proofs.Growing.{get-tally}
+use Rattle.ft_replay.specs.Found.{saving_found}
+use Rattle.ft_made.specs.Laws.{TablesAreTallied}
+use Rattle.ft_made.specs.MadeTables.{found_in}
+use Rattle.ft_answers.specs.Counting.{counts_made}
+use Rattle.ft_answers.specs.Reporting.{IsMadeReport, made_row_in}
+use Rattle.ft_repair.specs.Repaired.{IfBoth}
+use Rattle.ft_board.specs.MadeShelves.{MadeTables, AreMade, AreMadeBy, made_on}
+use Rattle.ft_board.specs.inner.Mending.{AreAlike}
+use Rattle.ft_board.specs.inner.Readings.{readings_on}
+use Rattle.ft_board.specs.inner.Turned.{AreTurnedRows}
+use Rattle.ft_board.proofs.Mending.{alike_part}
+
+-- shelves that are the same but for their notes have the same readings
+alike_readings : (old new : Shelves) → AreAlike old new → readings_on new ≡ readings_on old
+alike_readings old new alike = λ i id. alike_part (λ (o : Option Shelved). option_map_or (λ (s : Shelved). s.readings) o map.empty) (λ shelf notes. refl) (map.get old id) (map.get new id) (alike id) i
+
+module _ (tallied : TablesAreTallied) where
+  -- the row of a key that replaying gives is that of the table of made events
+  made_row : (base : Base) (made : MadeTables) → AreMade base made → (id : ℕ) (hist : Hist) → map.get base.triggers id ≡ Some hist → counts_made hist ≡ true
+      → (key : List Part) → made_row_in base id key ≡ row_at (made_on made id hist) key
+  unfolding made_row_in
+  made_row base made are id hist there counts key =
+      ap (λ (o : Option Tally). map.get (unwrap_or o empty_tally).table key)
+      (tallied base.triggers (merged base.lanes) (saving_found base.triggers (merged base.lanes)) (λ other its attached pos. refl) id hist there (made_on made id hist) (are id hist there counts))
+      ∙ get-tally (made_on made id hist) [] key
+
+  module _ (base mid new : Base) (same_mid : mid.triggers ≡ base.triggers) (same_new : new.triggers ≡ base.triggers) where
+    -- rows that were told before tables were mended are a report of the bases
+    rows_reported : (shelves : Shelves) (before after : MadeTables) → AreMade base before → AreMade new after
+        → AreMadeBy mid.triggers (merged mid.lanes) (found_in (readings_on shelves)) after
+        → (rows : List Changed) → AreTurnedRows mid.triggers (merged mid.lanes) shelves before rows → IsMadeReport base new rows
+    rows_reported shelves before after was is turns rows told = record {
+      once = told.once;
+      made = λ id key some. let its = told.counted id key some in (its.0, (ap (λ (ts : Triggers). map.get ts id) (sym same_mid) ∙ its.1.0, its.1.1));
+      all = λ id hist there counts key none.
+          let there_mid : map.get mid.triggers id ≡ Some hist = ap (λ (ts : Triggers). map.get ts id) same_mid ∙ there in
+          made_row new after is id hist (ap (λ (ts : Triggers). map.get ts id) same_new ∙ there) counts key
+          ∙ told.all id hist there_mid counts (made_on after id hist) (turns id hist there_mid counts) key none
+          ∙ sym (made_row base before was id hist there counts key);
+    }
+
+    -- and so where shelves are kept all along; else none are told
+    pub told_made : {V : Type 0} (rows : Option V) (items : V → List Changed) (old later mended : Option Shelves) (before after : MadeTables) → IfSome old (λ _. AreMade base before) → (old ≡ None → later ≡ None)
+        → IfBoth AreAlike later mended → (later ≡ None → mended ≡ None) → IfSome mended (λ _. AreMade new after)
+        → IfSome mended (λ shelves. AreMadeBy mid.triggers (merged mid.lanes) (found_in (readings_on shelves)) after)
+        → IfSome rows (λ r. IfSome later (λ shelves. AreTurnedRows mid.triggers (merged mid.lanes) shelves before (items r)))
+        → IfSome (option_and_then (λ _. rows) mended) (λ r. IsMadeReport base new (items r))
+    told_made rows items old later None before after was gone alike given is turns told = tt
+    told_made None items old later (Some mended) before after was gone alike given is turns told = tt
+    told_made (Some rows) items old None (Some mended) before after was gone alike given is turns told = let both : ◌≡◌ {A = Option Shelves} (Some mended) None = given refl in absurd cc
+    told_made (Some rows) items None (Some later) (Some mended) before after was gone alike given is turns told = let both : ◌≡◌ {A = Option Shelves} (Some later) None = gone refl in absurd cc
+    told_made (Some rows) items (Some old) (Some later) (Some mended) before after was gone alike given is turns told =
+        rows_reported later before after was is
+        (subst (λ (r : ℕ → Readings). AreMadeBy mid.triggers (merged mid.lanes) (found_in r) after) (alike_readings later mended alike) turns)
+        (items rows) told
