@@ -73,9 +73,9 @@ pub trait Board: Drop {
             → PutsNothingOff (shown self.old) (shown self.new) };
 
     /// Adds an event, none that triggers make, at the next line of its CPU's lane: the event's
-    /// place, and which rows may have changed, if the board has a report. The lane is made where
-    /// there is none. Refused where too many events would be or the lane's line numbers are used
-    /// up, or for memory.
+    /// place, and which rows of triggers that count held events may have changed, if the board has
+    /// a report. The lane is made where there is none. Refused where too many events would be or
+    /// the lane's line numbers are used up, or for memory.
     fn insert(&mut self, event: Event) -> Result<Done<Edited>, Refused>
         requires { is_made event.body ≡ false }
         ensures gives { EditGives (λ edited. edited.place) (after_insert (shown self.old).base event)
@@ -86,9 +86,9 @@ pub trait Board: Drop {
             → PutsNothingOff (shown self.old) (shown self.new) }
         ensures reports { Reports (shown self.old) (shown self.new) result };
 
-    /// Takes the event of a CPU's line away: its place, and which rows may have changed, if the
-    /// board has a report. The number is not given again while the lane is held. Refused where the
-    /// lane is not held, or has no such line.
+    /// Takes the event of a CPU's line away: its place, and which rows of triggers that count held
+    /// events may have changed, if the board has a report. The number is not given again while the
+    /// lane is held. Refused where the lane is not held, or has no such line.
     fn strike(&mut self, cpu: u32, line: u32) -> Result<Done<Edited>, Refused>
         ensures gives { EditGives (λ edited. edited.place) (after_strike (shown self.old).base cpu line)
             (shown self.old) (shown self.new) result }

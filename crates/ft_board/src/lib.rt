@@ -9,8 +9,9 @@
 //! shelves are built anew, as a trigger is attached or gets another filter, and as one goes that
 //! read. Where memory runs out for any of it, the edit stands, and the next answer builds it.
 //!
-//! An event that is inserted or struck may change a few rows, and these are reported: they are told
-//! by the triggers that act at the event and by what is kept behind it.
+//! An event that is inserted or struck may change a few rows of each trigger that counts held events,
+//! and these are reported: they are told by the triggers that act at the event and by what is kept
+//! behind it. Of triggers that count made events no rows are reported.
 //!
 //! ```ignore
 //! let mut board = KeptBoard::new(rt.alloc());
@@ -18,7 +19,8 @@
 //! let id = board.attach(trigger)?.value;
 //! let Done { value: edited, kept } = board.insert(event)?;
 //! assert!(rt; board.is_deferred() == (kept == Kept::Later));
-//! // Which rows may have changed, as far as memory was found: all others are as they were.
+//! // Which rows may have changed, as far as memory was found: all others are as they were, but of
+//! // triggers that count made events.
 //! let rows = edited.report;
 //! // Read off the tables: no event is tested, where they have the edit.
 //! let totals = board.totals(id)?;

@@ -92,9 +92,9 @@ impl<B: Board> Desk<B> {
     }
 
     /// Adds the event of a trace line, which has no line break, at the next line of its CPU's lane:
-    /// the event's place, and which rows may have changed, if the board has a report. Refused where
-    /// the line cannot be read or holds no event, where too many events would be or the lane's line
-    /// numbers are used up, or for memory.
+    /// the event's place, and which rows of triggers that count held events may have changed, if
+    /// the board has a report. Refused where the line cannot be read or holds no event, where too
+    /// many events would be or the lane's line numbers are used up, or for memory.
     pub fn insert(&mut self, line: &[u8]) -> Result<Done<Edited>, Refused>
         ensures gives { EditGives (λ edited. edited.place) (after_insert_text self.old.base line.now)
             self.old self.new result }
@@ -110,8 +110,9 @@ impl<B: Board> Desk<B> {
         self.board.insert(event)
     }
 
-    /// Takes the event of a CPU's line away: its place, and which rows may have changed, if the
-    /// board has a report. Refused where the lane is not held, or has no such line.
+    /// Takes the event of a CPU's line away: its place, and which rows of triggers that count held
+    /// events may have changed, if the board has a report. Refused where the lane is not held, or
+    /// has no such line.
     pub fn strike(&mut self, cpu: u32, line: u32) -> Result<Done<Edited>, Refused>
         ensures gives { EditGives (λ edited. edited.place) (after_strike self.old.base cpu line)
             self.old self.new result }

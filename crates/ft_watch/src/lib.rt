@@ -1,7 +1,7 @@
 //! A desk whose tables are watched: behind each accepted insert or strike of a script stand the rows
 //! that it changed, as `hist` prints them. What changed is found by the edit's report of few rows,
-//! where the board has one, and else by all rows; what is printed is the same. And the program
-//! `histwatch`, all but its `main`.
+//! where the board has one, and by all rows where it has none or a trigger counts made events; what
+//! is printed is the same. And the program `histwatch`, all but its `main`.
 //!
 //! ```ignore
 //! let mut watch = Watch::new(alloc, KeptBoard::new(alloc));
