@@ -1,12 +1,13 @@
 #!/usr/bin/env python3
 """Holds that `explain` tells each refusal of the rows at its place.
 
-    explain_rows.py EXPLAIN ROW... > WHAT WENT WRONG
+    explain_rows.py [--watched] EXPLAIN ROW... > WHAT WENT WRONG
 
 The plain model, asked command by command, says which line of the script each output belongs to. Behind each refused
 line of it, and nowhere else, stands an explanation: with that line's number and, where the refusal has a place, a caret
-under that byte of the command; of a refused trace with its line. The last line says how many rows hold. HISTDESK names
-the program, as for explain.
+under that byte of the command; of a refused trace with its line. With --watched the program is histwatch, and behind
+each accepted insert and strike stand rows that it changed and how many they are. The last line says how many rows hold.
+HISTDESK names the program, as for explain.
 """
 
 import os
@@ -16,6 +17,7 @@ import sys
 
 sys.dont_write_bytecode = True
 words = sys.argv[1:]
+is_watched = words[:1] == ["--watched"]
 # The model is a program, which runs as it is taken in: here with no commands.
 sys.argv[1:] = [os.devnull]
 sys.path.insert(0, os.path.dirname(os.path.realpath(__file__)))
@@ -56,6 +58,16 @@ def shows(told, front, text):
     return told.startswith(text) if len(text) <= 300 else told.removeprefix("..")[:100] in text
 
 
+def behind_rows(told, at):
+    """Where the rows that changed end, with the line behind them that says how many they are; None where it does not."""
+    start = at
+    while told[at : at + 1] and re.match("[-+] [0-9]+ { ", told[at]):
+        at += 1
+    # A row that has changed has two lines, which differ behind its key.
+    rows = {line[2:].rpartition(" } hitcount: ")[0] for line in told[start:at]}
+    return at + 1 if told[at : at + 1] == [f"changed {len(rows)}"] else None
+
+
 def first_wrong(row, told):
     """What is wrong first in what explain told of a row, or None."""
     traces = [os.path.join(row, f"trace{number}") for number in range(1, 10)]
@@ -66,6 +78,10 @@ def first_wrong(row, told):
         if told[at : at + len(wanted)] != wanted:
             return f"line {number}: other output"
         at += len(wanted)
+        if is_watched and re.match("inserted |struck ", text):
+            at = behind_rows(told, at)
+            if at is None:
+                return f"line {number}: not how many rows changed"
         if not text.startswith("refused "):
             continue
         front = f"  line {number}: "
@@ -107,7 +123,7 @@ def main():
     # The launcher would start a build.
     if not os.environ.get("HISTDESK"):
         raise SystemExit("explain_rows: HISTDESK names no program")
-    explain, *paths = words
+    explain, *paths = words[is_watched:]
     good = 0
     for row in paths:
         wrong = wrong_with(explain, row)

@@ -6,7 +6,7 @@
 A row is a command, the refusal that FORMAT gives it, some words of the explanation, and the text from the byte above
 the caret to the command's end, or None where no caret stands. All rows are one script, whose first commands are not
 refused. The last line says how many rows hold. FOLDER is for the script and its traces; HISTDESK names the program, as
-for explain.
+for explain, which may be histwatch.
 """
 
 import os
@@ -16,6 +16,8 @@ import sys
 WAKE, TURN, MADE = "attach sched_waking hist:", "attach sched_switch hist:", "attach wakeup_latency hist:"
 FIRST = ["load @1", "# one saver, one reader, one without", WAKE + "keys=pid:ts0=common_timestamp.usecs", ""]
 FIRST += [TURN + "keys=next_pid:lat=common_timestamp.usecs-$ts0", "   ", WAKE + "keys=comm"]
+# Behind these histwatch prints rows.
+FIRST += ["insert a-1 [003] 1.000000: sched_waking: comm=x pid=7 prio=1 target_cpu=000", "strike 3:1"]
 TRACES = {"good.trace": "a-1 [001] 1.000000:\n", "bad.trace": "# tracer: nop\na-1 [001] 1.000000:\nb-2 [001] 1.00\n"}
 LINE = "insert a-1 [000] 1.000000: "
 MAKER = TURN + "keys=next_pid:l=common_timestamp.usecs-$ts0:onmatch(sched.sched_"

@@ -152,7 +152,7 @@ asks_again() {
 # The tools around the program: each of their tests is a test here.
 tools() {
     local told
-    told=$("$here/tools.sh" "$histdesk" 2>&1)
+    told=$("$here/tools.sh" "$histdesk" ${histwatch:+"$histwatch"} 2>&1)
     if ! [[ ${told##*$'\n'} =~ ^([0-9]+)' passed, '([0-9]+)' failed'$ ]]; then
         fail "tools: $told"
         return

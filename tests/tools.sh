@@ -1,12 +1,13 @@
 #!/usr/bin/env bash
-# tools.sh [HISTDESK]: runs the scripts of tools/ as a user would: explain over the rows and over a table of refusals
-# and faults, the others on short texts and on a folder that stands for tracefs. Without a word, it runs the launcher.
-# It prints what went wrong, and a last line with the counts.
+# tools.sh [HISTDESK [HISTWATCH]]: runs the scripts of tools/ as a user would: explain over the rows and over a table of
+# refusals and faults, by HISTWATCH too where it is given, the others on short texts and on a folder that stands for
+# tracefs. Without a word, it runs the launcher. It prints what went wrong, and a last line with the counts.
 set -uo pipefail
 
 here=$(dirname -- "$(realpath -- "${BASH_SOURCE[0]}")")
 HISTDESK=$(realpath -- "${1:-$here/../histdesk}")
 export HISTDESK
+histwatch=${2:+$(realpath -- "$2")}
 tools=$(realpath -- "$here/../tools")
 examples=$(realpath -- "$here/../examples")
 . "$here/counts.sh"
@@ -43,6 +44,13 @@ inserted 1:2
 refused 10
   line 10: totals 5: no trigger has that id; none is attached'
 
+if [[ -n $histwatch ]]; then
+    HISTDESK=$histwatch holds "$here/explained.py" "$tools/explain" "$folder/table"
+    HISTDESK=$histwatch holds "$here/explain_rows.py" --watched "$tools/explain" "$here"/rows/*
+    HISTDESK=$histwatch gives watched 0 "" "$tools/explain" "$examples/changes.script" "$examples/wakeups.trace"
+    prints watched "$(<"$examples/changes.expected")"
+fi
+
 # Programs that stand for the desk, where it would take long or never print it.
 script full 'echo "refused 7"; echo "refused 15"; echo "refused 1"' 'echo told >&2' 'exit 3'
 printf '%s\n' '# full' 'insert x' 'attach sched_switch hist:keys=next_pid' 'load @1' >"$folder/asked"
@@ -57,6 +65,30 @@ script other 'echo "removed 2"; echo "refused 10"'
 lost='explain: line 1 of the output is no answer to the command on line 2; nothing behind it is explained'
 HISTDESK=$folder/bin/other gives other_output 0 "$lost" "$tools/explain" "$folder/asked"
 prints other_output $'removed 2\nrefused 10'
+# Programs that stand for histwatch. Rows that changed stand behind an accepted insert or strike alone.
+printf '%s\n' 'insert a-1 [000] 1.000000:' 'strike 0:1' 'list 0' 'insert x' 'hist 9' >"$folder/asked"
+cat >"$folder/changed" <<'END'
+inserted 0:1
+- 1 { comm: a, } { b: - 2 } hitcount:          1
++ 1 { comm: a, } { b: - 2 } hitcount:          2
++ 12 { lat: ~ 2^4  } hitcount:          1  lat:         20
+changed 2
+struck 0:1
+changed 0
+refused 3: line 1 fault 1
+END
+script watch "cat -- '$folder/changed'" 'echo "refused 10"' 'exit 1'
+HISTDESK=$folder/bin/watch gives changed_rows 1 "" "$tools/explain" "$folder/asked"
+prints changed_rows "$(<"$folder/changed")
+  line 4: insert x: no TASK-PID [CPU] and a space begin the line
+refused 10
+  line 5: hist 9: no trigger has that id; none is attached"
+script watch_twice 'echo "inserted 0:1"' 'echo "changed 0"' 'echo "changed 0"' 'echo "refused 10"'
+lost='explain: line 3 of the output is no answer to the command on line 2; nothing behind it is explained'
+HISTDESK=$folder/bin/watch_twice gives changed_twice 0 "$lost" "$tools/explain" "$folder/asked"
+script watch_refused 'echo "refused 3: line 1 fault 1"' 'echo "+ 1 { pid:          7 } hitcount:          1"'
+lost='explain: line 2 of the output is no answer to the command on line 2; nothing behind it is explained'
+HISTDESK=$folder/bin/watch_refused gives changed_by_nothing 0 "$lost" "$tools/explain" "$folder/asked"
 script killed 'kill -KILL $$'
 HISTDESK=$folder/bin/killed gives killed 137 "" "$tools/explain" "$folder/asked"
 HISTDESK=$folder/bin/none gives no_program 2 "explain: cannot run *" "$tools/explain" "$folder/asked"

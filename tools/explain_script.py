@@ -13,6 +13,9 @@ from explain_texts import near, shown, with_caret
 LONGEST = 8192
 LATENCY = re.compile(r"[0-9]+:[0-9]+ -> [0-9]+:[0-9]+: [0-9]+ us")
 LISTED = re.compile(r"([0-9]+):([0-9]+) .*", re.DOTALL)
+# What histwatch prints of a row behind an accepted insert or strike, and last of how many rows.
+ROW = re.compile(r"[-+] [0-9]+ \{ .*")
+CHANGED = re.compile(r"changed [0-9]+")
 # How the accepted answer of a command begins, but for `list`.
 BEGINS = {
     "load": "loaded ",
@@ -59,6 +62,8 @@ class Walk:
         self.script, self.traces = script, traces
         # What the answer that is being printed ends with, or the lane and line that were listed last.
         self.end = self.listed = None
+        # Whether rows that changed may come, and how many they are.
+        self.rows = False
         # Attached triggers by id: the script's line, the event and the text.
         self.triggers = {}
         # Why lines can't be told apart any more.
@@ -97,6 +102,9 @@ class Walk:
                 self.listed = cpu, int(found[2])
                 return True
             self.listed = None
+        if self.rows:
+            self.rows = ROW.fullmatch(text) is not None
+            return self.rows or CHANGED.fullmatch(text) is not None
         return False
 
     def is_silent_list(self, asked, text):
@@ -123,6 +131,7 @@ class Walk:
             return bool(self.end) or text.startswith("Latencies: ")
         if word not in BEGINS or not text.startswith(BEGINS[word]):
             return False
+        self.rows = word in ("insert", "strike")
         if word == "hist":
             self.end = "    Dropped: "
         elif word == "attach":
