@@ -3,12 +3,12 @@
 
     watched.py HISTDESK HISTWATCH [ASKAGAIN]
 
-First come two scripts whose changes are written here by hand. Then edits by chance of all kinds (random_script.py) and over
-full tables (crowded_script.py), some hundreds accepted. Of each script `histdesk` runs another one that has `hist` of each
-attached trigger before and behind each accepted insert and strike. By these tables, the `-` and `+` lines behind each such
-edit are told, in order of trigger id, then key; `histwatch` must print the output of `histdesk` with these lines, byte for
-byte, and end with its status, and say of each edit that it had a report. ASKAGAIN, if it is given, watches over the board
-that keeps no tables, where no edit has a report: of the shorter scripts it must print the same, and say so.
+First come three scripts whose changes are written here by hand. Then edits by chance of all kinds (random_script.py) and
+over full tables (crowded_script.py), some hundreds accepted. Of each script `histdesk` runs another one that has `hist` of
+each attached trigger before and behind each accepted insert and strike. By these tables, the `-` and `+` lines behind each
+such edit are told, in order of trigger id, then key, and how many rows changed; `histwatch` must print the output of
+`histdesk` with these lines, byte for byte, end with its status and say nothing on standard error. ASKAGAIN, if it is given,
+watches over the board that keeps no tables, where no edit has a report: of the shorter scripts it must print the same.
 """
 
 import os
@@ -20,7 +20,6 @@ import tempfile
 HERE = os.path.dirname(os.path.realpath(__file__))
 # A command that is always refused, and what it prints: so outputs of commands are told apart.
 MARK, MARKED = b"unload 8191", b"refused 5: cpu 8191\n"
-COUNTS = re.compile(rb"(\w+): (\d+) edits, (\d+) rows, (\d+) without a report\n")
 LATENCY = (
     b" sim-1 [000] d.h.. 1.000050: sched_waking: comm=v pid=7 prio=120 target_cpu=000\n"
     b" sim-1 [000] d.h.. 1.000100: sched_waking: comm=w pid=42 prio=120 target_cpu=000\n"
@@ -29,6 +28,8 @@ LATENCY = (
     b" sim-1 [000] d.h.. 1.000170: sched_waking: comm=w pid=42 prio=120 target_cpu=000\n"
 )
 READER = b"hist:keys=next_pid:vals=$lat:lat=common_timestamp.usecs-$ts0"
+MAKER = READER + b":onmatch(sched.sched_waking).wakeup_latency($lat,next_pid,next_prio)"
+# The scripts, and what they print over the trace above.
 BY_HAND = [
     # A saving goes, and with it the row of the only reading that found it.
     (
@@ -38,14 +39,14 @@ BY_HAND = [
         b"- 1 { pid:         42 } hitcount:          2\n"
         b"+ 1 { pid:         42 } hitcount:          1\n"
         b"- 2 { next_pid:         42 } hitcount:          1  lat:         50\n"
+        b"changed 2\n"
         b"refused 6\n",
-        (1, 0),
     ),
     # An event that readings make goes and another comes, as an earlier saving is found; and a task before all others
     # comes in.
     (
-        b"attach sched_waking hist:keys=pid:ts0=common_timestamp.usecs\nload @1\nattach sched_switch " + READER + b":"
-        b"onmatch(sched.sched_waking).wakeup_latency($lat,next_pid,next_prio)\nattach wakeup_latency hist:keys=lat\n"
+        b"attach sched_waking hist:keys=pid:ts0=common_timestamp.usecs\nload @1\nattach sched_switch " + MAKER + b"\n"
+        b"attach wakeup_latency hist:keys=lat\n"
         b"insert a-1 [001] 1.000110: sched_waking: comm=w pid=42 prio=120 target_cpu=000\n"
         b"filter 1 if pid != 7\n"
         b"insert a-1 [001] 0.000001: sched_waking: comm=v pid=7 prio=120 target_cpu=000\n"
@@ -58,9 +59,35 @@ BY_HAND = [
         b"+ 2 { next_pid:         42 } hitcount:          1  lat:         40\n"
         b"+ 3 { lat:         40 } hitcount:          1\n"
         b"- 3 { lat:         50 } hitcount:          1\n"
-        b"refiltered 1\ninserted 1:2\nrefiltered 1\ninserted 1:3\n"
-        b"+ 1 { pid: 18446744073709551615 } hitcount:          1\n",
-        (3, 0),
+        b"changed 4\n"
+        b"refiltered 1\ninserted 1:2\nchanged 0\nrefiltered 1\ninserted 1:3\n"
+        b"+ 1 { pid: 18446744073709551615 } hitcount:          1\n"
+        b"changed 1\n",
+    ),
+    # An event that readings make changes within a row, and beside a table that doesn't count what changed; then it goes
+    # with the reading. A switch that finds no saving changes nothing.
+    (
+        b"attach sched_waking hist:keys=pid:ts0=common_timestamp.usecs\nload @1\nattach sched_switch " + MAKER + b"\n"
+        b"attach wakeup_latency hist:keys=lat.log2:vals=lat\nattach wakeup_latency hist:keys=pid\n"
+        b"insert a-1 [001] 1.000110: sched_waking: comm=w pid=42 prio=120 target_cpu=000\n"
+        b"strike 0:3\nstrike 0:3\n"
+        b"insert a-1 [000] 1.000180: sched_switch: prev_comm=w prev_pid=42 prev_prio=120 prev_state=S"
+        b" ==> next_comm=u next_pid=9 next_prio=120\n",
+        b"attached 1\nloaded 4\nattached 2\nattached 3\nattached 4\ninserted 1:1\n"
+        b"- 1 { pid:         42 } hitcount:          2\n"
+        b"+ 1 { pid:         42 } hitcount:          3\n"
+        b"- 2 { next_pid:         42 } hitcount:          1  lat:         50\n"
+        b"+ 2 { next_pid:         42 } hitcount:          1  lat:         40\n"
+        b"- 3 { lat: ~ 2^6  } hitcount:          1  lat:         50\n"
+        b"+ 3 { lat: ~ 2^6  } hitcount:          1  lat:         40\n"
+        b"changed 3\n"
+        b"struck 0:3\n"
+        b"- 2 { next_pid:         42 } hitcount:          1  lat:         40\n"
+        b"- 3 { lat: ~ 2^6  } hitcount:          1  lat:         40\n"
+        b"- 4 { pid:         42 } hitcount:          1\n"
+        b"changed 3\n"
+        b"refused 6\n"
+        b"inserted 0:5\nchanged 0\n",
     ),
 ]
 
@@ -128,39 +155,43 @@ def rows_of(text):
 
 
 def changes(before, now):
-    """The lines of the rows that differ, of tables by id."""
-    lines, made = b"", 0
+    """The lines of the rows that differ, of tables by id; and the id of each such row's table."""
+    lines, ids = b"", []
     for number in sorted(before):
         for key in sorted({**before[number], **now[number]}):
             old, new = before[number].get(key), now[number].get(key)
             if old != new:
                 lines += b"" if old is None else b"- %d %s\n" % (number, old)
                 lines += b"" if new is None else b"+ %d %s\n" % (number, new)
-                made += 1
-    return lines, made
+                ids.append(number)
+    return lines + b"changed %d\n" % len(ids), ids
 
 
 # ---- scripts
 
 
 def attached_at(commands, texts):
-    """The attached triggers' ids before each command."""
-    ids, at = [], []
+    """The attached triggers' ids before each command; and the ids of those on the event that readings make."""
+    ids, at, made = [], [], set()
     for command, text in zip(commands, texts):
         at.append(list(ids))
         found = re.fullmatch(rb"(attached|removed) (\d+)\n", text)
         if found and found[1] == b"attached":
             ids.append(int(found[2]))
+            if command.split()[1] == b"wakeup_latency":
+                made.add(ids[-1])
         elif found:
             ids.remove(int(found[2]))
-    return at
+    return at, made
 
 
 def expected(histdesk, commands, traces):
-    """What a script must print, how many edits tell of rows, and how many rows changed."""
+    """What a script must print, how many edits tell of rows, how many rows changed, and how many of those count what
+    readings make."""
     texts = outputs(histdesk, commands, traces)
+    attached, made = attached_at(commands, texts)
     asked, edits = [], []
-    for command, text, ids in zip(commands, texts, attached_at(commands, texts)):
+    for command, text, ids in zip(commands, texts, attached):
         hists = [b"hist %d" % number for number in ids]
         if re.match(rb"(inserted|struck) ", text):
             edits.append((len(asked), ids))
@@ -168,38 +199,33 @@ def expected(histdesk, commands, traces):
         else:
             asked.append(command)
     answers = outputs(histdesk, asked, traces)
-    printed, last, rows = b"", 0, 0
+    printed, last, rows = b"", 0, []
     for at, ids in edits:
         count = len(ids)
         tables = list(zip(ids, answers[at : at + count], answers[at + count + 1 : at + 2 * count + 1]))
         before = {number: rows_of(old) for number, old, new in tables if old != new}
         now = {number: rows_of(new) for number, old, new in tables if old != new}
-        lines, made = changes(before, now)
+        lines, changed = changes(before, now)
         printed += b"".join(answers[last:at]) + answers[at + count] + lines
-        last, rows = at + 2 * count + 1, rows + made
-    return printed + b"".join(answers[last:]), len(edits), rows
+        last, rows = at + 2 * count + 1, rows + changed
+    return printed + b"".join(answers[last:]), len(edits), len(rows), len([number for number in rows if number in made])
 
 
-def hold(words, script, traces, wanted, status, edits, unreported):
-    """Holds what a program prints of a script, and its counts: how many rows were named."""
+def hold(words, script, traces, wanted, status):
+    """Holds what a program prints of a script, and how it ends."""
     ended, output, error = run(words, script, traces)
     if output != wanted:
         pairs = zip(output.splitlines(), wanted.splitlines())
         at = next((number for number, (one, other) in enumerate(pairs) if one != other), min(output.count(b"\n"), wanted.count(b"\n")))
         demand(False, f"{words}: line {at + 1}: {output.splitlines()[at : at + 2]}, not {wanted.splitlines()[at : at + 2]}")
-    counts = COUNTS.fullmatch(error)
-    demand(counts, f"{words}: {error}")
-    demand((int(counts[2]), int(counts[4])) == (edits, unreported), f"{words}: {error}, and {edits} edits")
-    demand(ended == status, f"{words}: status {ended}")
-    return int(counts[3])
+    demand((ended, error) == (status, b""), f"{words}: status {ended}, {error}")
 
 
 def by_hand(histwatch, plain):
-    for script, wanted, (edits, _) in BY_HAND:
-        status = int(b"refused" in wanted)
-        hold([histwatch], script, [LATENCY], wanted, status, edits, 0)
+    for script, wanted in BY_HAND:
+        hold([histwatch], script, [LATENCY], wanted, int(b"refused" in wanted))
         if plain:
-            demand(hold(plain, script, [LATENCY], wanted, 0, edits, edits) == 0, "rows named by no report")
+            hold(plain, script, [LATENCY], wanted, 0)
 
 
 def made_by(words, folder):
@@ -216,31 +242,31 @@ def made_by(words, folder):
 
 
 def by_chance(histdesk, histwatch, plain):
-    """How many edits told of rows, how many rows changed, and how many were named."""
+    """How many edits told of rows, how many rows changed, and how many of those count what readings make."""
     scripts = [["random_script.py", "400", "600", "1"], ["crowded_script.py", "250", "2"]]
     # The plain board replays for each table, so its scripts are short.
     short = [["random_script.py", "400", "300", "5"], ["random_script.py", "300", "150", "8"]]
-    edits = rows = named = 0
+    edits = rows = made = 0
     with tempfile.TemporaryDirectory() as folder:
         for number, words in enumerate(scripts + short):
             commands, traces = made_by(words, os.path.join(folder, str(number)))
-            wanted, told, changed = expected(histdesk, commands, traces)
+            wanted, told, changed, of_made = expected(histdesk, commands, traces)
             script = b"".join(command + b"\n" for command in commands)
-            status = run([histdesk], script, traces)[0]
-            named += hold([histwatch], script, traces, wanted, status, told, 0)
+            hold([histwatch], script, traces, wanted, run([histdesk], script, traces)[0])
             if plain and words in short:
-                demand(hold(plain, script, traces, wanted, 0, told, told) == 0, "rows named by no report")
-            edits, rows = edits + told, rows + changed
-    return edits, rows, named
+                hold(plain, script, traces, wanted, 0)
+            edits, rows, made = edits + told, rows + changed, made + of_made
+    return edits, rows, made
 
 
 def main():
     histdesk, histwatch = map(os.path.abspath, sys.argv[1:3])
     plain = [os.path.abspath(sys.argv[3]), "watch-plain"] if len(sys.argv) > 3 else None
     by_hand(histwatch, plain)
-    edits, rows, named = by_chance(histdesk, histwatch, plain)
+    edits, rows, made = by_chance(histdesk, histwatch, plain)
     demand(edits >= 500 and 2 * rows > edits, f"{edits} edits held, with {rows} rows that changed")
-    print(f"watched: {edits} edits by chance, {rows} rows changed, {named} rows named by reports")
+    demand(10 * made > edits, f"{edits} edits held, with {made} rows that changed of what readings make")
+    print(f"watched: {edits} edits by chance, {rows} rows changed, {made} of them count what readings make")
     print(f"{edits + len(BY_HAND)} of {edits + len(BY_HAND)} edits hold")
 
 
