@@ -1,6 +1,7 @@
 //! Tests, and what they share.
 
 mod examples;
+mod mixed;
 
 use crate::holds::{changes, holds};
 use ft_event::Pos;
