@@ -37,5 +37,6 @@ mod report;
 mod told;
 mod turned;
 
+pub use ft_answers::{Board, PlainBoard};
 pub use kept::KeptBoard;
 pub use laws::{kept_board_keeps, kept_shelves, others_stay, readers_stay};
