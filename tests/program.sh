@@ -121,7 +121,7 @@ reports() {
 # watches HISTWATCH: what it prints of its example, of words that are refused, and of edits by chance, and that it ends
 # cleanly where a growth of memory is refused.
 watches() {
-    gives watched 0 "histwatch: 4 edits, 7 rows, 0 without a report" "$1" "$examples/changes.script" "$examples/wakeups.trace"
+    gives watched 0 "" "$1" "$examples/changes.script" "$examples/wakeups.trace"
     prints watched "$examples/changes.expected"
     gives watched_words 2 "histwatch: bad words" "$1" --help
     gives watched_trace 2 "histwatch: cannot read $folder/gone" "$1" "$folder/empty" "$folder/gone"

@@ -10,7 +10,7 @@ use Rattle.ft_desk.specs.declared.running.RunFault.{RunFault}
 use Rattle.ft_desk.specs.declared.running.RunFault.TheVariants as faults
 use Rattle.ft_script.specs.Lines.{ended_lines}
 use Rattle.ft_script.specs.Script.{asked_by}
-use Rattle.ft_desk.specs.Output.{outcome, output_of_lines}
+use Rattle.ft_desk.specs.Output.{Meaning, output_of_lines}
 use Rattle.ft_desk.specs.Counts.{Counts}
 use Rattle.ft_desk.specs.Run.{asking_limit, status_of, text_behind, BreaksOff, RunEnds}
 use Rattle.ft_desk.specs.Steps.{TakingGives, LineGives, FlushGives, AsksReader, read_failures}
@@ -18,10 +18,10 @@ use Rattle.ft_desk.proofs.LineLemmas.{last_piece, ended_lines-line}
 use Rattle.ft_desk.proofs.OutputLemmas.{output_from-push, asked_by-kept}
 use Rattle.ft_desk.proofs.Progress.{Progress, Next, all_read, front_read, last_lines, whole_lines, kept-some, kept-none, line_kept}
 
-module _ (files : List (List ℕ)) where
+module _ (means : Meaning) where
   -- a flush that failed or not, behind an answer
-  pub flush_ends : (answer result : Result Status RunFault) (flushed : Counts) (reader rest before after later : Option (List ℕ)) → RunEnds files answer reader rest before after → Keeps after later
-      → FlushGives answer result flushed → RunEnds files result reader rest before later
+  pub flush_ends : (answer result : Result Status RunFault) (flushed : Counts) (reader rest before after later : Option (List ℕ)) → RunEnds means answer reader rest before after → Keeps after later
+      → FlushGives answer result flushed → RunEnds means result reader rest before later
   flush_ends (Ok status) result flushed reader rest before after later ends kept gives = elim gives.1 [
     | inl well ↦ rw well.0 (ends.0, ends.1, Appends-kept before after later _ ends.2 kept, ends.3)
     | inr failed ↦ rw failed.0 (inr (ends.0, ends.1, Appends-kept before after later _ ends.2 kept))
@@ -37,13 +37,13 @@ module _ (files : List (List ℕ)) where
   ])
 
   -- the reader failed, or gave no end in all its turns
-  pub gives_up : (base : Base) (refused : Bool) (piece : List ℕ) (turns : ℕ) (reader left rest before after : Option (List ℕ)) (p : Progress files reader left before after base refused piece turns)
-      → turns ≤ asking_limit → Keeps left rest → RunEnds files (Err faults.Read) reader rest before after
+  pub gives_up : (base : Base) (refused : Bool) (piece : List ℕ) (turns : ℕ) (reader left rest before after : Option (List ℕ)) (p : Progress means reader left before after base refused piece turns)
+      → turns ≤ asking_limit → Keeps left rest → RunEnds means (Err faults.Read) reader rest before after
   gives_up base refused piece turns reader left rest before after p within kept = (p.read, (Consumes-kept reader left rest p.read p.consumed kept, omega (arith, p.lines)), p.written)
 
-  module _ (base : Base) (refused : Bool) (piece next : List ℕ) (turns : ℕ) (reader left rest before after : Option (List ℕ)) (p : Progress files reader left before after base refused piece turns) where
+  module _ (base : Base) (refused : Bool) (piece next : List ℕ) (turns : ℕ) (reader left rest before after : Option (List ℕ)) (p : Progress means reader left before after base refused piece turns) where
     -- no memory for bytes of a line
-    no_room : turns < asking_limit → Keeps left rest → IfSome left (λ bytes. bytes ≢ []) → RunEnds files (Err faults.Memory) reader rest before after
+    no_room : turns < asking_limit → Keeps left rest → IfSome left (λ bytes. bytes ≢ []) → RunEnds means (Err faults.Memory) reader rest before after
     no_room turn kept some = inr (p.read, front_read reader left rest p.read (omega (arith, p.lines)) p.consumed kept some, p.written)
 
     -- the line whose end was taken is the next one
@@ -57,7 +57,7 @@ module _ (files : List (List ℕ)) where
         record {
           line = line;
           reads = (p.read ++ part, inl ((consumed, omega (arith, p.lines, ap length ended, length-append (ended_lines p.read) (line ∷ []))), ended));
-          asked = ap asked_by (line_kept files reader left before after base refused piece next turns p part took.2) ∙ asked_by-kept line;
+          asked = ap asked_by (line_kept means reader left before after base refused piece next turns p part took.2) ∙ asked_by-kept line;
         }
 
     -- so is a last line without an end
@@ -72,20 +72,20 @@ module _ (files : List (List ℕ)) where
         }
 
     -- no memory for the next line
-    no_memory : (later : Option (List ℕ)) → Next reader rest p.read next → Keeps after later → RunEnds files (Err faults.Memory) reader rest before later
+    no_memory : (later : Option (List ℕ)) → Next reader rest p.read next → Keeps after later → RunEnds means (Err faults.Memory) reader rest before later
     no_memory later is kept = inl (ended_lines p.read, is.line, is.reads, Appends-kept before after later _ p.written kept)
 
     -- a write of the next line's text failed
-    no_write : (later : Option (List ℕ)) → Next reader rest p.read next → BreaksOff after later [] (outcome files base (asked_by next)).text
-        → RunEnds files (Err faults.Write) reader rest before later
+    no_write : (later : Option (List ℕ)) → Next reader rest p.read next → BreaksOff after later [] (means base (asked_by next)).text
+        → RunEnds means (Err faults.Write) reader rest before later
     no_write later is breaks =
         let lines = ended_lines p.read in
-        let same : (outcome files base (asked_by next)).text ≡ text_behind files lines is.line =
-        ap (λ b. (outcome files b (asked_by next)).text) p.held ∙ ap (λ a. (outcome files (output_of_lines files lines).base a).text) is.asked in
+        let same : (means base (asked_by next)).text ≡ text_behind means lines is.line =
+        ap (λ b. (means b (asked_by next)).text) p.held ∙ ap (λ a. (means (output_of_lines means lines).base a).text) is.asked in
         inl (lines, is.line, is.reads, (breaks.0, breaks.1, Appends-trans before after later _ breaks.0 p.written breaks.2, sym same ∙ breaks.3, breaks.4))
 
     -- the script's end behind a line's end
-    pub ends : turns < asking_limit → TakingGives (Ok takes.End) left rest piece next → next ≡ [] → RunEnds files (Ok (status_of refused)) reader rest before after
+    pub ends : turns < asking_limit → TakingGives (Ok takes.End) left rest piece next → next ≡ [] → RunEnds means (Ok (status_of refused)) reader rest before after
     ends turn took none =
         let lines = whole_lines p.read (kept-none (last_piece p.read) next (took.2 ∙ p.kept) none) in (
           p.read,
@@ -96,30 +96,30 @@ module _ (files : List (List ℕ)) where
 
     -- the script's end behind a last line without an end, which is done
     pub ends_with : turns < asking_limit → TakingGives (Ok takes.End) left rest piece next → next ≢ [] → (later : Option (List ℕ)) (held : Base) (told : Bool)
-        → LineGives (outcome files base (asked_by next)) held after later (Ok told) → RunEnds files (Ok (status_of (refused || told))) reader rest before later
+        → LineGives (means base (asked_by next)) held after later (Ok told) → RunEnds means (Ok (status_of (refused || told))) reader rest before later
     ends_with turn took some later held told gives =
         let line = last_piece p.read in
         let kept = took.2 ∙ p.kept in
         let lines = last_lines p.read (kept-some line next kept some) in
-        let pushed = output_from-push files empty_base (ended_lines p.read) line in
-        let done = output_of_lines files (ended_lines p.read) in
-        let does = outcome files done.base (asked_by line) in
-        let same = ap (λ b. outcome files b (asked_by next)) p.held ∙ ap (outcome files done.base) (ap asked_by kept ∙ asked_by-kept line) in (
+        let pushed = output_from-push means empty_base (ended_lines p.read) line in
+        let done = output_of_lines means (ended_lines p.read) in
+        let does = means done.base (asked_by line) in
+        let same = ap (λ b. means b (asked_by next)) p.held ∙ ap (means done.base) (ap asked_by kept ∙ asked_by-kept line) in (
           p.read,
           all_read reader left rest p.read (omega (arith, p.lines)) p.consumed took.0 took.1,
           rw (lines, pushed.0) (Appends-trans before after later _ does.text p.written (subst (λ o. Appends after later o.text) same gives.2)),
-          ap status_of (ap (λ t. refused || t) gives.0 ∙ ap (λ o. refused || o.refused) same ∙ ap (λ r. r || does.refused) p.told ∙ sym pushed.2 ∙ ap (λ l. (output_of_lines files l).refused) (sym lines)),
+          ap status_of (ap (λ t. refused || t) gives.0 ∙ ap (λ o. refused || o.refused) same ∙ ap (λ r. r || does.refused) p.told ∙ sym pushed.2 ∙ ap (λ l. (output_of_lines means l).refused) (sym lines)),
         )
 
     -- a taking that failed
-    pub taking_fails : (fault : RunFault) → turns < asking_limit → TakingGives (Err fault) left rest piece next → RunEnds files (Err fault) reader rest before after
+    pub taking_fails : (fault : RunFault) → turns < asking_limit → TakingGives (Err fault) left rest piece next → RunEnds means (Err fault) reader rest before after
     taking_fails faults.Memory turn took = no_room turn took.0 took.1
     taking_fails faults.Read turn took = gives_up base refused piece turns reader left rest before after p (omega arith) took
     taking_fails faults.Write turn took = absurd took
 
     -- a line that failed
     pub line_fails : (fault : RunFault) (later : Option (List ℕ)) (held : Base) → Next reader rest p.read next
-        → LineGives (outcome files base (asked_by next)) held after later (Err fault) → RunEnds files (Err fault) reader rest before later
+        → LineGives (means base (asked_by next)) held after later (Err fault) → RunEnds means (Err fault) reader rest before later
     line_fails faults.Memory later held is gives = no_memory later is gives
     line_fails faults.Read later held is gives = absurd gives
     line_fails faults.Write later held is gives = no_write later is gives
@@ -131,8 +131,8 @@ asked_failing faults.Read asked failed = inl failed
 asked_failing faults.Write asked failed = failed
 
 -- and where a line failed
-pub asked_well : (files : List (List ℕ)) (base held : Base) (piece : List ℕ) (fault : RunFault) (after later : Option (List ℕ))
-    → LineGives (outcome files base (asked_by piece)) held after later (Err fault) → (asked : Counts) → asked.failed ≡ 0 → AsksReader (Err fault) asked
-asked_well files base held piece faults.Memory after later gives asked well = well
-asked_well files base held piece faults.Read after later gives asked well = absurd gives
-asked_well files base held piece faults.Write after later gives asked well = well
+pub asked_well : (means : Meaning) (base held : Base) (piece : List ℕ) (fault : RunFault) (after later : Option (List ℕ))
+    → LineGives (means base (asked_by piece)) held after later (Err fault) → (asked : Counts) → asked.failed ≡ 0 → AsksReader (Err fault) asked
+asked_well means base held piece faults.Memory after later gives asked well = well
+asked_well means base held piece faults.Read after later gives asked well = absurd gives
+asked_well means base held piece faults.Write after later gives asked well = well

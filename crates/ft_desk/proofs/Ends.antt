@@ -14,6 +14,7 @@ use Rattle.ft_desk.specs.declared.program.Fault.{Fault}
 use Rattle.ft_desk.specs.declared.program.Fault.TheVariants.{Words, File, Memory, Read, Write}
 use Rattle.ft_desk.specs.Program.{told_of_words, told_of_file}
 use Rattle.ft_desk.specs.Program.{TellsFiles, FilesGive}
+use Rattle.ft_desk.specs.Output.{Meaning}
 use Rattle.ft_desk.specs.inner.Ends.{RunTells, told_of_script, ProgramEnds}
 
 -- the texts of paths
@@ -51,13 +52,14 @@ module _ (told : List ℕ → Told) where
   fails_at paths i d files of_file.Memory within so_far = tt
   fails_at paths i d files of_file.Unreadable within so_far = (texts_at (take i paths), texts_at (drop (i + 1) paths), files, texts-around paths i d within, so_far)
 
+module _ (means : List (List ℕ) → Meaning) (told : List ℕ → Told) where
   -- words that cannot be read end the program
-  pub words_end : (named : Option Named) (fault : WordsFault) → WordsGive named (Err fault) → ProgramEnds told named (Err (told_of_words fault))
+  pub words_end : (named : Option Named) (fault : WordsFault) → WordsGive named (Err fault) → ProgramEnds means told named (Err (told_of_words fault))
   words_end named of_words.Memory gives = tt
   words_end named of_words.Refused gives = gives
 
   -- a trace that cannot be read ends the program
-  pub traces_end : (words : Named) (fault : Fault) → FilesGive told words.traces (Err fault) → ProgramEnds told (Some words) (Err fault)
+  pub traces_end : (words : Named) (fault : Fault) → FilesGive told words.traces (Err fault) → ProgramEnds means told (Some words) (Err fault)
   traces_end words Memory gives = tt
   traces_end words Words gives = absurd gives
   traces_end words Read gives = absurd gives
@@ -68,20 +70,20 @@ module _ (told : List ℕ → Told) where
 
   -- so does its fault where it is passed on
   pub fault_ends : (words : Named) (fault : Fault) (result : Result Status Fault) → IsErr result → IsErrAnd result (λ passed. passed ≡ fault) → FilesGive told words.traces (Err fault)
-      → ProgramEnds told (Some words) result
+      → ProgramEnds means told (Some words) result
   fault_ends words fault (Ok status) err passed gives = absurd passed
-  fault_ends words fault (Err other) err passed gives = subst (λ (one : Fault). ProgramEnds told (Some words) (Err one)) (sym passed) (traces_end words fault gives)
+  fault_ends words fault (Err other) err passed gives = subst (λ (one : Fault). ProgramEnds means told (Some words) (Err one)) (sym passed) (traces_end words fault gives)
 
   -- a script that cannot be opened ends the program
   pub script_ends : (words : Named) (path : Bor (List ℕ)) (files : List (List ℕ)) (fault : FileFault) → words.script ≡ Some path.now → TellsFiles told words.traces files
-      → ProgramEnds told (Some words) (Err (told_of_file path fault))
+      → ProgramEnds means told (Some words) (Err (told_of_file path fault))
   script_ends words path files of_file.Memory script tells = tt
   script_ends words path files of_file.Unreadable script tells =
       (words, refl, (words.traces, [], files, ap (λ named. words.traces ++ option_map_or (λ (path : List ℕ). path ∷ []) named []) script, tells))
 
   -- the run of the script ends the program
-  run_of : (words : Named) (files : List (List ℕ)) (result : Result Status Fault) → TellsFiles told words.traces files → RunTells files (told_of_script told words.script) result
-      → ProgramEnds told (Some words) result
+  run_of : (words : Named) (files : List (List ℕ)) (result : Result Status Fault) → TellsFiles told words.traces files → RunTells (means files) (told_of_script told words.script) result
+      → ProgramEnds means told (Some words) result
   run_of words files (Ok status) tells ran = (words, files, refl, tells, ran)
   run_of words files (Err Memory) tells ran = tt
   run_of words files (Err Read) tells ran = (words, files, refl, tells, ran)
@@ -91,6 +93,6 @@ module _ (told : List ℕ → Told) where
 
   -- so does the run of a script that is told by what the words name
   pub run_ends : (words : Named) (script : Option (List ℕ)) (files : List (List ℕ)) (result : Result Status Fault) → words.script ≡ script → TellsFiles told words.traces files
-      → RunTells files (told_of_script told script) result → ProgramEnds told (Some words) result
+      → RunTells (means files) (told_of_script told script) result → ProgramEnds means told (Some words) result
   run_ends words script files result named tells ran =
-      run_of words files result tells (subst (λ (script : Option (List ℕ)). RunTells files (told_of_script told script) result) (sym named) ran)
+      run_of words files result tells (subst (λ (script : Option (List ℕ)). RunTells (means files) (told_of_script told script) result) (sym named) ran)

@@ -9,3 +9,4 @@ pub mod Endings
 pub mod Written
 pub mod InMemory
 pub mod Ends
+pub mod Flushed

@@ -10,7 +10,7 @@ use Rattle.ft_desk.specs.declared.pieces.Taken.TheVariants as takes
 use Rattle.ft_desk.specs.declared.running.RunFault.{RunFault}
 use Rattle.ft_script.specs.Lines.{lines_of, ended_lines}
 use Rattle.ft_script.specs.Script.{line_limit, asked_by}
-use Rattle.ft_desk.specs.Output.{outcome, output_from, output_of_lines}
+use Rattle.ft_desk.specs.Output.{Meaning, output_from, output_of_lines}
 use Rattle.ft_desk.specs.Run.{asking_limit, ReadsWhole, ReadsFront, ReadsTo}
 use Rattle.ft_desk.specs.Steps.{AddsPart, TakingGives, LineGives}
 use Rattle.ft_desk.proofs.LineLemmas.{last_piece, lines_of-split, lines_of-plain, last_piece-plain, ended_lines-part, ended_lines-line}
@@ -69,18 +69,18 @@ pub record Next (reader rest : Option (List ℕ)) (read piece : List ℕ) : Type
   pub asked : asked_by piece ≡ asked_by line
 
 -- what was read, and what is known by it: the piece is the beginning of the last line, the lines before it are done, and each of them took a turn
-pub record Progress (files : List (List ℕ)) (reader left before after : Option (List ℕ)) (base : Base) (refused : Bool) (piece : List ℕ) (turns : ℕ) : Type 0 where
+pub record Progress (means : Meaning) (reader left before after : Option (List ℕ)) (base : Base) (refused : Bool) (piece : List ℕ) (turns : ℕ) : Type 0 where
   pub read : List ℕ
   pub lines : length (ended_lines read) ≤ turns
   pub consumed : Consumes reader left read
   pub kept : piece ≡ take (line_limit + 1) (last_piece read)
-  pub written : Appends before after (output_of_lines files (ended_lines read)).text
-  pub held : base ≡ (output_of_lines files (ended_lines read)).base
-  pub told : refused ≡ (output_of_lines files (ended_lines read)).refused
+  pub written : Appends before after (output_of_lines means (ended_lines read)).text
+  pub held : base ≡ (output_of_lines means (ended_lines read)).base
+  pub told : refused ≡ (output_of_lines means (ended_lines read)).refused
 
-module _ (files : List (List ℕ)) where
+module _ (means : Meaning) where
   -- nothing is done
-  pub begins : (reader before : Option (List ℕ)) (base : Base) (turns : ℕ) → base ≡ empty_base → Progress files reader reader before before base false [] turns
+  pub begins : (reader before : Option (List ℕ)) (base : Base) (turns : ℕ) → base ≡ empty_base → Progress means reader reader before before base false [] turns
   unfolding output_from
   begins reader before base turns empty = record {
     read = [];
@@ -93,17 +93,17 @@ module _ (files : List (List ℕ)) where
   }
 
   -- the piece stays short
-  pub piece_within : {reader left before after : Option (List ℕ)} {base : Base} {refused : Bool} {piece : List ℕ} {turns : ℕ} → Progress files reader left before after base refused piece turns → length piece ≤ line_limit + 1
+  pub piece_within : {reader left before after : Option (List ℕ)} {base : Base} {refused : Bool} {piece : List ℕ} {turns : ℕ} → Progress means reader left before after base refused piece turns → length piece ≤ line_limit + 1
   piece_within p = omega (arith, ap length p.kept, length-take (line_limit + 1) (last_piece p.read))
 
   -- the piece of a line that ends is the beginning of the line
-  pub line_kept : (reader left before after : Option (List ℕ)) (base : Base) (refused : Bool) (piece next : List ℕ) (turns : ℕ) (p : Progress files reader left before after base refused piece turns)
+  pub line_kept : (reader left before after : Option (List ℕ)) (base : Base) (refused : Bool) (piece next : List ℕ) (turns : ℕ) (p : Progress means reader left before after base refused piece turns)
       (part : List ℕ) → AddsPart piece next part → next ≡ take (line_limit + 1) (last_piece p.read ++ part)
   line_kept reader left before after base refused piece next turns p part adds = adds.1 ∙ ap (λ l. take (line_limit + 1) (l ++ part)) p.kept ∙ take-take-append (line_limit + 1) (last_piece p.read) part
 
-  module _ (reader left rest before after : Option (List ℕ)) (base : Base) (refused : Bool) (piece next : List ℕ) (turns later_turns : ℕ) (turned : later_turns ≡ turns + 1) (p : Progress files reader left before after base refused piece turns) where
+  module _ (reader left rest before after : Option (List ℕ)) (base : Base) (refused : Bool) (piece next : List ℕ) (turns later_turns : ℕ) (turned : later_turns ≡ turns + 1) (p : Progress means reader left before after base refused piece turns) where
     -- a part of a line was read
-    pub reads_part : TakingGives (Ok takes.Part) left rest piece next → Progress files reader rest before after base refused next later_turns
+    pub reads_part : TakingGives (Ok takes.Part) left rest piece next → Progress means reader rest before after base refused next later_turns
     reads_part took =
         let part = took.0 in
         let same = ended_lines-part p.read part took.2.0 in
@@ -119,27 +119,27 @@ module _ (files : List (List ℕ)) where
 
     -- a line was read to its end and done
     pub reads_line : TakingGives (Ok takes.Line) left rest piece next → (later : Option (List ℕ)) (held : Base) (told : Bool)
-        → LineGives (outcome files base (asked_by next)) held after later (Ok told) → Progress files reader rest before later held (refused || told) [] later_turns
+        → LineGives (means base (asked_by next)) held after later (Ok told) → Progress means reader rest before later held (refused || told) [] later_turns
     reads_line took later held told gives =
         let part = took.0 in
         let line = last_piece p.read ++ part in
         let ended = ended_lines-line p.read part took.2.0 in
         let asked = ap asked_by (line_kept reader left before after base refused piece next turns p part took.2) ∙ asked_by-kept line in
-        let pushed = output_from-push files empty_base (ended_lines p.read) line in
-        let done = output_of_lines files (ended_lines p.read) in
-        let does = outcome files done.base (asked_by line) in
-        let same = ap (λ b. outcome files b (asked_by next)) p.held ∙ ap (outcome files done.base) asked in
+        let pushed = output_from-push means empty_base (ended_lines p.read) line in
+        let done = output_of_lines means (ended_lines p.read) in
+        let does = means done.base (asked_by line) in
+        let same = ap (λ b. means b (asked_by next)) p.held ∙ ap (means done.base) asked in
         record {
           read = p.read ++ (part ++ 10 ∷ []);
           lines = omega (arith, ap length ended.0, length-append (ended_lines p.read) (line ∷ []));
           consumed = Consumes-trans _ _ _ _ _ p.consumed took.1;
           kept = sym (ap (take (line_limit + 1)) ended.1 ∙ take_all (line_limit + 1) [] (omega arith));
           written = rw (ended.0, pushed.0) (Appends-trans _ _ _ _ _ p.written (subst (λ o. Appends after later o.text) same gives.2));
-          held = gives.1 ∙ ap (λ o. o.base) same ∙ sym pushed.1 ∙ ap (λ l. (output_of_lines files l).base) (sym ended.0);
-          told = ap (λ t. refused || t) gives.0 ∙ ap (λ o. refused || o.refused) same ∙ ap (λ r. r || does.refused) p.told ∙ sym pushed.2 ∙ ap (λ l. (output_of_lines files l).refused) (sym ended.0);
+          held = gives.1 ∙ ap (λ o. o.base) same ∙ sym pushed.1 ∙ ap (λ l. (output_of_lines means l).base) (sym ended.0);
+          told = ap (λ t. refused || t) gives.0 ∙ ap (λ o. refused || o.refused) same ∙ ap (λ r. r || does.refused) p.told ∙ sym pushed.2 ∙ ap (λ l. (output_of_lines means l).refused) (sym ended.0);
         }
 
   -- what a line left, where it is the piece
   pub line_of_piece : (base held : Base) (line piece : List ℕ) (after later : Option (List ℕ)) (result : Result Bool RunFault) → line ≡ piece
-      → LineGives (outcome files base (asked_by line)) held after later result → LineGives (outcome files base (asked_by piece)) held after later result
-  line_of_piece base held line piece after later result same gives = subst (λ l. LineGives (outcome files base (asked_by l)) held after later result) same gives
+      → LineGives (means base (asked_by line)) held after later result → LineGives (means base (asked_by piece)) held after later result
+  line_of_piece base held line piece after later result same gives = subst (λ l. LineGives (means base (asked_by l)) held after later result) same gives

@@ -58,18 +58,26 @@ outcome files base (Asked.Refilter id text) = edit_outcome decimal base (codes "
 outcome files base (Asked.About what number) = outcome_about base what number
 outcome files base Asked.NoForm = record { text = refused_text BadCommand; base = base; refused = true }
 
+-- what commands mean: what each prints of a base and makes of it
+abbrev pub Meaning : Type 0
+Meaning = Base → Asked → Outcome
+
 -- what lines of a script do, one after the other, from a base on
-unfoldable pub output_from : List (List ℕ) → Base → List (List ℕ) → Outcome
-output_from files base [] = record { text = []; base = base; refused = false }
-output_from files base (line ∷ lines) =
-    let first = outcome files base (asked_by line) in
-    let rest = output_from files first.base lines in
+unfoldable pub output_from : Meaning → Base → List (List ℕ) → Outcome
+output_from means base [] = record { text = []; base = base; refused = false }
+output_from means base (line ∷ lines) =
+    let first = means base (asked_by line) in
+    let rest = output_from means first.base lines in
     record { text = first.text ++ rest.text; base = rest.base; refused = first.refused || rest.refused }
 
 -- what the first lines of a script do
-abbrev pub output_of_lines : List (List ℕ) → List (List ℕ) → Outcome
-output_of_lines files lines = output_from files empty_base lines
+abbrev pub output_of_lines : Meaning → List (List ℕ) → Outcome
+output_of_lines means lines = output_from means empty_base lines
 
--- what a script does, with the trace files that it may load
+-- what a script does
+abbrev pub output_by : Meaning → List ℕ → Outcome
+output_by means script = output_of_lines means (lines_of script)
+
+-- what a script does of a desk, with the trace files that it may load
 abbrev pub output : List (List ℕ) → List ℕ → Outcome
-output files script = output_of_lines files (lines_of script)
+output files script = output_by (outcome files) script

@@ -8,7 +8,7 @@ use Rattle.ft_desk.specs.declared.running.RunFault.{RunFault}
 use Rattle.ft_desk.specs.declared.running.RunFault.TheVariants as faults
 use Rattle.ft_script.specs.Lines.{lines_of, ended_lines}
 use Rattle.ft_script.specs.Script.{asked_by}
-use Rattle.ft_desk.specs.Output.{outcome, output, output_of_lines}
+use Rattle.ft_desk.specs.Output.{Meaning, output_by, output_of_lines}
 
 -- how often a reader is asked at most
 abbrev pub asking_limit : ℕ
@@ -40,39 +40,39 @@ abbrev pub BreaksOff : Option (List ℕ) → Option (List ℕ) → List ℕ → 
 BreaksOff before after done text = (front : List ℕ) × (left : List ℕ) × Appends before after (done ++ front) × (text ≡ front ++ left) × (left ≢ [])
 
 -- the script was read to its end, its whole output written, and its status told
-abbrev pub EndsWhole : List (List ℕ) → Status → Option (List ℕ) → Option (List ℕ) → Option (List ℕ) → Option (List ℕ) → Type 0
-EndsWhole files status reader rest before after = (script : List ℕ) × ReadsWhole reader rest script × Appends before after (output files script).text × (status ≡ status_of (output files script).refused)
+abbrev pub EndsWhole : Meaning → Status → Option (List ℕ) → Option (List ℕ) → Option (List ℕ) → Option (List ℕ) → Type 0
+EndsWhole means status reader rest before after = (script : List ℕ) × ReadsWhole reader rest script × Appends before after (output_by means script).text × (status ≡ status_of (output_by means script).refused)
 
 -- the last line that was read found no memory for its command: the whole output of the lines before it is written
-abbrev pub EndsAtCommand : List (List ℕ) → Option (List ℕ) → Option (List ℕ) → Option (List ℕ) → Option (List ℕ) → Type 0
-EndsAtCommand files reader rest before after = (lines : List (List ℕ)) × (last : List ℕ) × ReadsTo reader rest lines last × Appends before after (output_of_lines files lines).text
+abbrev pub EndsAtCommand : Meaning → Option (List ℕ) → Option (List ℕ) → Option (List ℕ) → Option (List ℕ) → Type 0
+EndsAtCommand means reader rest before after = (lines : List (List ℕ)) × (last : List ℕ) × ReadsTo reader rest lines last × Appends before after (output_of_lines means lines).text
 
 -- no memory for bytes that are left: the whole output of the lines that had ended is written
-abbrev pub EndsInLine : List (List ℕ) → Option (List ℕ) → Option (List ℕ) → Option (List ℕ) → Option (List ℕ) → Type 0
-EndsInLine files reader rest before after = (read : List ℕ) × ReadsFront reader rest read × Appends before after (output_of_lines files (ended_lines read)).text
+abbrev pub EndsInLine : Meaning → Option (List ℕ) → Option (List ℕ) → Option (List ℕ) → Option (List ℕ) → Type 0
+EndsInLine means reader rest before after = (read : List ℕ) × ReadsFront reader rest read × Appends before after (output_of_lines means (ended_lines read)).text
 
 -- the reader failed, or was asked too often: the whole output of the lines that had ended is written
-abbrev pub EndsAtReader : List (List ℕ) → Option (List ℕ) → Option (List ℕ) → Option (List ℕ) → Option (List ℕ) → Type 0
-EndsAtReader files reader rest before after = (read : List ℕ) × Reads reader rest read × Appends before after (output_of_lines files (ended_lines read)).text
+abbrev pub EndsAtReader : Meaning → Option (List ℕ) → Option (List ℕ) → Option (List ℕ) → Option (List ℕ) → Type 0
+EndsAtReader means reader rest before after = (read : List ℕ) × Reads reader rest read × Appends before after (output_of_lines means (ended_lines read)).text
 
 -- what a line prints, behind lines that are done
-abbrev pub text_behind : List (List ℕ) → List (List ℕ) → List ℕ → List ℕ
-text_behind files lines line = (outcome files (output_of_lines files lines).base (asked_by line)).text
+abbrev pub text_behind : Meaning → List (List ℕ) → List ℕ → List ℕ
+text_behind means lines line = (means (output_of_lines means lines).base (asked_by line)).text
 
 -- the writer failed at the last line that was read: the whole output of the lines before it is written, and a beginning of its own
-abbrev pub EndsAtWriter : List (List ℕ) → Option (List ℕ) → Option (List ℕ) → Option (List ℕ) → Option (List ℕ) → Type 0
-EndsAtWriter files reader rest before after = (lines : List (List ℕ)) × (last : List ℕ) × ReadsTo reader rest lines last × BreaksOff before after (output_of_lines files lines).text (text_behind files lines last)
+abbrev pub EndsAtWriter : Meaning → Option (List ℕ) → Option (List ℕ) → Option (List ℕ) → Option (List ℕ) → Type 0
+EndsAtWriter means reader rest before after = (lines : List (List ℕ)) × (last : List ℕ) × ReadsTo reader rest lines last × BreaksOff before after (output_of_lines means lines).text (text_behind means lines last)
 
 -- the flush failed: the script was read to its end, and its whole output written
-abbrev pub EndsAtFlush : List (List ℕ) → Option (List ℕ) → Option (List ℕ) → Option (List ℕ) → Option (List ℕ) → Type 0
-EndsAtFlush files reader rest before after = (script : List ℕ) × ReadsWhole reader rest script × Appends before after (output files script).text
+abbrev pub EndsAtFlush : Meaning → Option (List ℕ) → Option (List ℕ) → Option (List ℕ) → Option (List ℕ) → Type 0
+EndsAtFlush means reader rest before after = (script : List ℕ) × ReadsWhole reader rest script × Appends before after (output_by means script).text
 
 -- what was read and written, by how the run ended
-abbrev pub RunEnds : List (List ℕ) → Result Status RunFault → Option (List ℕ) → Option (List ℕ) → Option (List ℕ) → Option (List ℕ) → Type 0
-RunEnds files (Ok status) reader rest before after = EndsWhole files status reader rest before after
-RunEnds files (Err faults.Memory) reader rest before after = EndsAtCommand files reader rest before after ⊎ EndsInLine files reader rest before after
-RunEnds files (Err faults.Read) reader rest before after = EndsAtReader files reader rest before after
-RunEnds files (Err faults.Write) reader rest before after = EndsAtWriter files reader rest before after ⊎ EndsAtFlush files reader rest before after
+abbrev pub RunEnds : Meaning → Result Status RunFault → Option (List ℕ) → Option (List ℕ) → Option (List ℕ) → Option (List ℕ) → Type 0
+RunEnds means (Ok status) reader rest before after = EndsWhole means status reader rest before after
+RunEnds means (Err faults.Memory) reader rest before after = EndsAtCommand means reader rest before after ⊎ EndsInLine means reader rest before after
+RunEnds means (Err faults.Read) reader rest before after = EndsAtReader means reader rest before after
+RunEnds means (Err faults.Write) reader rest before after = EndsAtWriter means reader rest before after ⊎ EndsAtFlush means reader rest before after
 
 -- all lines of what was read are these: those that a byte 10 ended, and at the script's end a last one without
 abbrev pub ReadsLines : Option (List ℕ) → Option (List ℕ) → List (List ℕ) → Type 0
@@ -83,5 +83,5 @@ abbrev pub WritesFront : Option (List ℕ) → Option (List ℕ) → List ℕ �
 WritesFront before after text = (written : List ℕ) × Appends before after written × StartsWith text written
 
 -- a beginning of the output of the lines that were read was written
-abbrev pub WritesInOrder : List (List ℕ) → Option (List ℕ) → Option (List ℕ) → Option (List ℕ) → Option (List ℕ) → Type 0
-WritesInOrder files reader rest before after = (lines : List (List ℕ)) × ReadsLines reader rest lines × WritesFront before after (output_of_lines files lines).text
+abbrev pub WritesInOrder : Meaning → Option (List ℕ) → Option (List ℕ) → Option (List ℕ) → Option (List ℕ) → Type 0
+WritesInOrder means reader rest before after = (lines : List (List ℕ)) × ReadsLines reader rest lines × WritesFront before after (output_of_lines means lines).text

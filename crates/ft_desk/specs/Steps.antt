@@ -10,6 +10,7 @@ use Rattle.ft_answers.specs.Base.{Base}
 use Rattle.ft_script.specs.Script.{line_limit}
 use Rattle.ft_desk.specs.Output.{Outcome}
 use Rattle.ft_desk.specs.Counts.{Counts}
+use Rattle.ft_desk.specs.declared.calls.RunCalls.{RunCalls}
 use Rattle.ft_desk.specs.Run.{asking_limit, BreaksOff}
 
 -- a line's end stands at this place, or the bytes end there
@@ -22,9 +23,9 @@ CutsAt takes.End shown place = ⊥
 abbrev pub AddsPart : List ℕ → List ℕ → List ℕ → Type 0
 AddsPart before after part = All (λ byte. byte ≢ 10) part × (after ≡ take (line_limit + 1) (before ++ part))
 
--- what taking from the script did to the bytes left and to the piece: a part of a line was taken, or one and the line's end, or the script is at its end; or the reader failed, or there was no memory for bytes that are there
+-- what taking from the script did to the bytes left and to the piece: a part of a line was taken, which isn't empty, or one and the line's end, or the script is at its end; or the reader failed, or there was no memory for bytes that are there
 abbrev pub TakingGives : Result Taken RunFault → Option (List ℕ) → Option (List ℕ) → List ℕ → List ℕ → Type 0
-TakingGives (Ok takes.Part) left rest before after = (part : List ℕ) × Consumes left rest part × AddsPart before after part
+TakingGives (Ok takes.Part) left rest before after = (part : List ℕ) × Consumes left rest part × AddsPart before after part × (part ≢ [])
 TakingGives (Ok takes.Line) left rest before after = (part : List ℕ) × Consumes left rest (part ++ 10 ∷ []) × AddsPart before after part
 TakingGives (Ok takes.End) left rest before after = Keeps left rest × IsAtEnd left × (after ≡ before)
 TakingGives (Err faults.Read) left rest before after = Keeps left rest
@@ -63,3 +64,17 @@ FlushGives (Ok status) result flushed = (flushed.made ≡ 1) × (((result ≡ Ok
 FlushGives (Err faults.Memory) result flushed = (flushed.made ≡ 1) × (result ≡ Err faults.Memory)
 FlushGives (Err faults.Read) result flushed = (flushed.made ≡ 1) × (result ≡ Err faults.Read)
 FlushGives (Err faults.Write) result flushed = (flushed.made ≡ 0) × (result ≡ Err faults.Write)
+
+-- how often the writer was flushed, by how a run ended: once, but not after a failed write
+abbrev pub FlushesOnce : Result Status RunFault → Counts → Type 0
+FlushesOnce (Ok status) flushed = (flushed.made ≡ 1) × (flushed.failed ≡ 0)
+FlushesOnce (Err faults.Memory) flushed = flushed.made ≡ 1
+FlushesOnce (Err faults.Read) flushed = flushed.made ≡ 1
+FlushesOnce (Err faults.Write) flushed = (flushed.made ≡ 0) ⊎ ((flushed.made ≡ 1) × (flushed.failed ≡ 1))
+
+-- a run has not called yet: neither asked its reader nor flushed its writer
+pub record NoCalls (calls : RunCalls) : Type 0 where
+  pub unasked : calls.asked.made ≡ 0
+  pub well : calls.asked.failed ≡ 0
+  pub unflushed : calls.flushed.made ≡ 0
+  pub sound : calls.flushed.failed ≡ 0

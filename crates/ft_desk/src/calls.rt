@@ -1,6 +1,7 @@
 //! Counts of calls that a run makes, which contracts alone see.
 
 ghost use Rattle.std.specs.Prelude.{◌≡◌, ◌+◌};
+ghost use Rattle.ft_desk.specs.Steps.{NoCalls};
 
 use ft_counts::Count;
 use std::marker::Model;
@@ -25,7 +26,7 @@ impl Model for Calls {
 
 impl Calls {
     /// No call yet.
-    pub fn none() -> Calls
+    pub(crate) fn none() -> Calls
         ensures made { result.made ≡ 0 }
         ensures failed { result.failed ≡ 0 }
     {
@@ -36,7 +37,7 @@ impl Calls {
     }
 
     /// Counts a call, before it is known how it goes.
-    pub fn tick(&mut self)
+    pub(crate) fn tick(&mut self)
         ensures made { self.new.made ≡ self.old.made + 1 }
         ensures failed { self.new.failed ≡ self.old.failed }
     {
@@ -44,10 +45,31 @@ impl Calls {
     }
 
     /// Counts that a call failed.
-    pub fn tick_failed(&mut self)
+    pub(crate) fn tick_failed(&mut self)
         ensures made { self.new.made ≡ self.old.made }
         ensures failed { self.new.failed ≡ self.old.failed + 1 }
     {
         self.failed.raise();
+    }
+}
+
+/// How often a run has asked its reader, and flushed its writer.
+#[derive(Drop)]
+pub struct RunCalls {
+    /// How often the reader was called for bytes.
+    pub asked: Calls,
+    /// How often the writer was flushed.
+    pub flushed: Calls,
+}
+
+impl RunCalls {
+    /// No call yet.
+    pub fn none() -> RunCalls
+        ensures { NoCalls result }
+    {
+        RunCalls {
+            asked: Calls::none(),
+            flushed: Calls::none(),
+        }
     }
 }

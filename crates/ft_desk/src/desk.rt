@@ -62,6 +62,11 @@ impl<B: Board> Desk<B> {
         Desk { board, alloc }
     }
 
+    /// Its allocator.
+    pub(crate) fn allocator(&self) -> Global {
+        self.alloc
+    }
+
     /// Loads a trace text, a lane for each of its CPUs: how many events were loaded. Refused at the
     /// first line that cannot be read, where a lane is held, where too many events would be, or for
     /// memory.

@@ -25,8 +25,9 @@ mod pieces;
 mod program;
 mod running;
 mod sending;
+mod session;
 
-pub use calls::Calls;
+pub use calls::{Calls, RunCalls};
 pub use desk::Desk;
 pub use ft_answers::{
     Board, Changed, Done, Edited, Kept, Latency, Place, PlainBoard, Refused, TableRow,
@@ -34,12 +35,11 @@ pub use ft_answers::{
 pub use ft_event::{LineFault, Name};
 pub use ft_filter::FilterFault;
 pub use ft_table::Totals;
-pub use ft_trigger::TriggerFault;
+pub use ft_trigger::{Key, Part, TriggerFault};
 pub use ft_words::{FileFault, Words, WordsFault, read_file, read_whole, read_words};
 pub use in_memory::{Ran, run_text};
 pub use laws::{first_lines, what_runs_write};
 pub use performing::{Performed, perform, refused};
-pub use pieces::{Taken, take_part};
-pub use program::{BUFFER, Fault, arguments, exit_status, histdesk, read_traces};
-pub use running::{ASKING_LIMIT, RunFault, Status, flush_after, run, status_from};
-pub use sending::send;
+pub use program::{Fault, histdesk, run_program};
+pub use running::{ASKING_LIMIT, RunFault, Status, run, run_counted};
+pub use session::Session;

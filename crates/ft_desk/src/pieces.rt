@@ -18,7 +18,7 @@ const KEPT: usize = LINE_LIMIT + 1;
 
 /// What was taken of a script, as its reader was asked once.
 #[derive(Clone, Copy, Debug, PartialEq, Eq)]
-pub enum Taken {
+pub(crate) enum Taken {
     /// A part of a line.
     Part,
     /// The rest of a line, and its end.
@@ -27,10 +27,11 @@ pub enum Taken {
     End,
 }
 
-/// Reads what the reader shows, up to and with a line's end, and adds the line's part to its piece.
+/// Reads what the reader shows, up to and with a line's end, and adds the line's part to its piece: a
+/// part without an end isn't empty.
 /// Memory and the reader can fail; an interrupted read is an error too. Here alone the reader is
 /// asked, which is counted: not once more than the bound, and not after it failed.
-pub fn take_part<R: BufRead>(
+pub(crate) fn take_part<R: BufRead>(
     script: &mut R,
     asked: &mut Calls,
     piece: &mut Vec<u8>,

@@ -9,8 +9,10 @@ ghost use Rattle.ft_desk.specs.Program.{exit_status_of, told_of_words, told_of_r
 ghost use Rattle.ft_desk.specs.inner.Ends.{RunTells, ProgramEnds};
 ghost use Rattle.ft_desk.specs.declared.program.Fault.TheVariants.{Memory};
 
+use crate::calls::RunCalls;
 use crate::desk::Desk;
-use crate::running::{RunFault, Status, run_over};
+use crate::running::{RunFault, Status, run_counted};
+use crate::session::Session;
 use ft_answers::Board;
 use ft_words::{FileFault, Paths, WordsFault, read_file, read_words};
 use std::alloc::{AllocError, AllocFailed, Global};
@@ -23,7 +25,7 @@ use thiserror::Error;
 const NAME: &str = "histdesk";
 
 /// How many bytes of the script are read at once.
-pub const BUFFER: usize = 65_536;
+const BUFFER: usize = 65_536;
 
 /// Why the program ended before its script did.
 #[derive(Debug, Drop, Error)]
@@ -114,20 +116,32 @@ where
     requires { (B.shown board).base ≡ empty_base }
     ensures { result ≤ 2 }
 {
+    run_program(rt, NAME, Desk::new(rt.alloc(), board))
+}
+
+/// A program of a name that runs the script of its words, over what answers its lines and holds
+/// nothing yet: its exit status, as that of `histdesk`.
+pub fn run_program<P, S>(rt: &P, name: &str, session: S) -> u8
+where
+    P: Env + Files + Input + Print + Eprint + AllocGlobal,
+    S: Session,
+    requires { S.base session ≡ empty_base }
+    ensures { result ≤ 2 }
+{
     let args = match arguments(rt) {
         Ok(args) => args,
-        Err(error) => return exit_status(rt, NAME, Err(Fault::of_arguments(&error))),
+        Err(error) => return exit_status(rt, name, Err(Fault::of_arguments(&error))),
     };
-    exit_status(rt, NAME, run_words(rt, board, args.as_slice()))
+    exit_status(rt, name, run_words(rt, session, args.as_slice()))
 }
 
 /// The program's words, its own name first.
-pub fn arguments<P: Env + AllocGlobal>(rt: &P) -> io::Result<Vec<String>> {
+fn arguments<P: Env + AllocGlobal>(rt: &P) -> io::Result<Vec<String>> {
     Ok(env::args(rt)?.collect(rt.alloc())?)
 }
 
 /// The exit status of a run of the program of a name. A fault is printed behind the name.
-pub fn exit_status<P: Eprint>(rt: &P, name: &str, ended: Result<Status, Fault<'_>>) -> u8
+fn exit_status<P: Eprint>(rt: &P, name: &str, ended: Result<Status, Fault<'_>>) -> u8
     ensures { result ≡ exit_status_of ended.entry }
 {
     match ended {
@@ -141,27 +155,27 @@ pub fn exit_status<P: Eprint>(rt: &P, name: &str, ended: Result<Status, Fault<'_
 }
 
 /// Reads the words, then the trace files in order, then runs the script: the first fault decides.
-fn run_words<'a, P, B>(rt: &P, board: B, args: &'a [String]) -> Result<Status, Fault<'a>>
+fn run_words<'a, P, S>(rt: &P, session: S, args: &'a [String]) -> Result<Status, Fault<'a>>
 where
     P: Paths + Input + Print + AllocGlobal,
-    B: Board,
-    requires { (B.shown board).base ≡ empty_base }
-    ensures { ProgramEnds (P.told rt.now) (named_in (map string_bytes args.entry.now)) result }
+    S: Session,
+    requires { S.base session ≡ empty_base }
+    ensures { ProgramEnds S.means (P.told rt.now) (named_in (map string_bytes args.entry.now)) result }
 {
     let alloc = rt.alloc();
     let words = read_words(alloc, args)?;
     let traces = read_traces(alloc, rt, words.traces.as_slice())?;
     let Some(path) = words.script else {
-        return run_script(rt, board, traces.as_slice(), rt.reader());
+        return run_script(rt, session, traces.as_slice(), rt.reader());
     };
     match rt.open_at(path) {
-        Ok(script) => run_script(rt, board, traces.as_slice(), script),
+        Ok(script) => run_script(rt, session, traces.as_slice(), script),
         Err(error) => Err(Fault::at(path, FileFault::from(error))),
     }
 }
 
 /// The trace files at these paths, each read whole.
-pub fn read_traces<'a, P: Paths>(
+fn read_traces<'a, P: Paths>(
     alloc: Global,
     files: &P,
     paths: &[&'a str],
@@ -180,27 +194,27 @@ pub fn read_traces<'a, P: Paths>(
 }
 
 /// Runs a script from its reader to standard output.
-fn run_script<'a, P, B, R>(
+fn run_script<'a, P, S, R>(
     rt: &P,
-    board: B,
+    mut session: S,
     traces: &[Vec<u8>],
     script: R,
 ) -> Result<Status, Fault<'a>>
 where
     P: Print + AllocGlobal,
-    B: Board,
+    S: Session,
     R: Read + Drop,
-    requires { (B.shown board).base ≡ empty_base }
+    requires { S.base session ≡ empty_base }
     ensures { (told : Told) → TellsReader told (R.remaining script)
-        → RunTells (map (λ trace. trace.items) traces.now) told result }
+        → RunTells (S.means (map (λ trace. trace.items) traces.now)) told result }
 {
     let alloc = rt.alloc();
     let mut script = BufReader::with_capacity(alloc, BUFFER, script).map_err(|_| Fault::Memory)?;
     // A command's output is written at once, so that who types a script sees it.
     let mut out = io::writer(rt);
-    let mut desk = Desk::new(alloc, board);
-    let ended = run_over(&mut desk, alloc, traces, &mut script, &mut out);
+    let mut calls = RunCalls::none();
+    let ended = run_counted(&mut session, traces, &mut script, &mut out, &mut calls);
     // The process ends next, and with it goes all that is held at once.
-    mem::forget(desk);
+    mem::forget(session);
     Ok(ended?)
 }

@@ -7,12 +7,13 @@ ghost use Rattle.ft_script.specs.Script.{asked_by};
 ghost use Rattle.ft_desk.specs.Output.{outcome};
 ghost use Rattle.ft_desk.specs.Run.{asking_limit, status_of, RunEnds};
 ghost use Rattle.ft_desk.specs.Steps.{LineGives, AsksReader, failures_of, FlushGives};
+ghost use Rattle.ft_desk.specs.Steps.{FlushesOnce, NoCalls};
 
-use crate::calls::Calls;
+use crate::calls::{Calls, RunCalls};
 use crate::desk::Desk;
-use crate::performing::perform;
 use crate::pieces::{Taken, take_part};
 use crate::sending::send;
+use crate::session::Session;
 use ft_answers::Board;
 use std::alloc::{AllocError, Global};
 use std::io::{self, BufRead, Write};
@@ -63,65 +64,68 @@ pub fn run<B: Board, R: BufRead, W: Write>(
     out: &mut W,
 ) -> Result<Status, RunFault>
     requires { (B.shown board).base ≡ empty_base }
-    ensures { RunEnds (map (λ f. f.items) files.now) result
+    ensures { RunEnds (outcome (map (λ f. f.items) files.now)) result
         (R.remaining script.old) (R.remaining script.new)
         (W.contents out.old) (W.contents out.new) }
 {
     let mut desk = Desk::new(alloc, board);
-    run_over(&mut desk, alloc, files, script, out)
+    run_counted(&mut desk, files, script, out, &mut RunCalls::none())
 }
 
-/// Runs a script as `run` does, over a desk on which nothing is held or attached yet: what it holds
-/// at the end is left to the caller.
-pub(crate) fn run_over<B: Board, R: BufRead, W: Write>(
-    desk: &mut Desk<B>,
-    alloc: Global,
+/// Runs a script as `run` does, over anything that answers its lines and holds nothing yet: what that
+/// holds at the end is left to the caller. How often the reader is asked and the writer flushed is
+/// counted: the reader `ASKING_LIMIT` times at most, and not again after it failed; the writer once,
+/// but not after a failed write.
+pub fn run_counted<S: Session, R: BufRead, W: Write>(
+    session: &mut S,
     files: &[Vec<u8>],
     script: &mut R,
     out: &mut W,
+    calls: &mut RunCalls,
 ) -> Result<Status, RunFault>
-    requires { desk.old.base ≡ empty_base }
-    ensures { RunEnds (map (λ f. f.items) files.now) result
+    requires empty { S.base session.old ≡ empty_base }
+    requires uncounted { NoCalls calls.old }
+    ensures ends { RunEnds (S.means (map (λ f. f.items) files.now)) result
         (R.remaining script.old) (R.remaining script.new)
         (W.contents out.old) (W.contents out.new) }
+    ensures turns { calls.new.asked.made ≤ asking_limit }
+    ensures asks { AsksReader result calls.new.asked }
+    ensures flushes { FlushesOnce result calls.new.flushed }
 {
-    let mut asked = Calls::none();
-    let answer = answer_script(desk, alloc, files, script, &mut asked, out);
-    let mut flushed = Calls::none();
-    flush_after(answer, out, &mut flushed)
+    let answer = answer_script(session, files, script, &mut calls.asked, out);
+    flush_after(answer, out, &mut calls.flushed)
 }
 
 /// Answers the lines of a script, one after the other. The reader is asked `ASKING_LIMIT` times at
 /// most, and not again once it failed.
-fn answer_script<B: Board, R: BufRead, W: Write>(
-    desk: &mut Desk<B>,
-    alloc: Global,
+fn answer_script<S: Session, R: BufRead, W: Write>(
+    session: &mut S,
     files: &[Vec<u8>],
     script: &mut R,
     asked: &mut Calls,
     out: &mut W,
 ) -> Result<Status, RunFault>
-    requires empty { desk.old.base ≡ empty_base }
+    requires empty { S.base session.old ≡ empty_base }
     requires first { asked.old.made ≡ 0 }
     requires well { asked.old.failed ≡ 0 }
-    ensures ends { RunEnds (map (λ f. f.items) files.now) result
+    ensures ends { RunEnds (S.means (map (λ f. f.items) files.now)) result
         (R.remaining script.old) (R.remaining script.new)
         (W.contents out.old) (W.contents out.new) }
     ensures turns { asked.new.made ≤ asking_limit }
     ensures asks { AsksReader result asked.new }
 {
-    let mut piece = Vec::new(alloc);
+    let mut piece = Vec::new(session.alloc());
     let mut refused = false;
     for _turn in 0..ASKING_LIMIT {
         match take_part(script, asked, &mut piece)? {
             Taken::Part => {}
             Taken::Line => {
-                refused |= answer_line(desk, alloc, files, &piece, out)?;
+                refused |= answer_line(session, files, &piece, out)?;
                 piece.clear();
             }
             Taken::End => {
                 if !piece.is_empty() {
-                    refused |= answer_line(desk, alloc, files, &piece, out)?;
+                    refused |= answer_line(session, files, &piece, out)?;
                 }
                 return Ok(status_from(refused));
             }
@@ -131,17 +135,17 @@ fn answer_script<B: Board, R: BufRead, W: Write>(
 }
 
 /// Does what a line asks for, and then writes what it prints: whether it was refused.
-fn answer_line<B: Board, W: Write>(
-    desk: &mut Desk<B>,
-    alloc: Global,
+fn answer_line<S: Session, W: Write>(
+    session: &mut S,
     files: &[Vec<u8>],
     line: &[u8],
     out: &mut W,
 ) -> Result<bool, RunFault>
-    ensures { LineGives (outcome (map (λ f. f.items) files.now) desk.old.base (asked_by line.now))
-        desk.new.base (W.contents out.old) (W.contents out.new) result }
+    ensures { LineGives
+        (S.means (map (λ f. f.items) files.now) (S.base session.old) (asked_by line.now))
+        (S.base session.new) (W.contents out.old) (W.contents out.new) result }
 {
-    let done = match perform(desk, alloc, files, line) {
+    let done = match session.perform(files, line) {
         Ok(done) => done,
         Err(AllocError) => return Err(RunFault::Memory),
     };
@@ -152,7 +156,7 @@ fn answer_line<B: Board, W: Write>(
 }
 
 /// The status, from whether some command was refused.
-pub fn status_from(refused: bool) -> Status
+pub(crate) fn status_from(refused: bool) -> Status
     ensures { result ≡ status_of refused }
 {
     if refused {
@@ -163,7 +167,7 @@ pub fn status_from(refused: bool) -> Status
 }
 
 /// Flushes the writer once, but not after a failed write. A failing flush spoils a status alone.
-pub fn flush_after<W: Write>(
+fn flush_after<W: Write>(
     answer: Result<Status, RunFault>,
     out: &mut W,
     flushed: &mut Calls,

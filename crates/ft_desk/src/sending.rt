@@ -8,7 +8,7 @@ use std::io::{self, ErrorKind, Write};
 
 /// Writes a text, by as many calls as the writer asks for. An error of the writer, an interrupted
 /// write too, and a write that takes nothing end that, and something of it is left.
-pub fn send<W: Write>(out: &mut W, text: &[u8]) -> io::Result<()>
+pub(crate) fn send<W: Write>(out: &mut W, text: &[u8]) -> io::Result<()>
     ensures ok { OnOk result (Appends (W.contents out.old) (W.contents out.new) text.now) }
     ensures err { OnErr result (BreaksOff (W.contents out.old) (W.contents out.new) [] text.now) }
 {

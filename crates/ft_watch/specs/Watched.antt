@@ -1,13 +1,16 @@
--- What a watch prints of a command. All of it is our own choice.
-use Rattle.std.specs.Prelude.{◌≡◌, Result, IfOk}
-use Rattle.std.specs.Io.{StartsWith}
-use Rattle.std.specs.declared.alloc.AllocError.{AllocError}
+-- What commands mean to a watch. All of it is our own choice.
+use Rattle.std.specs.Prelude.{ℕ, List, ◌++◌, if◌then◌else◌}
 use Rattle.ft_answers.specs.Base.{Base}
-use Rattle.ft_desk.specs.declared.performing.Performed.{Performed}
-use Rattle.ft_desk.specs.Output.{Outcome}
+use Rattle.ft_script.specs.Script.{Asked}
+use Rattle.ft_desk.specs.Output.{Outcome, Meaning, outcome}
+use Rattle.ft_watch.specs.Changes.{changes_text}
 
--- what was printed begins with the text of an outcome; whether it was refused, and the base that was left, are those of the outcome; want of memory prints nothing
-pub record Watches (outcome : Outcome) (left : Base) (result : Result Performed AllocError) : Type 0 where
-  pub text : IfOk result (λ done. StartsWith done.text.items outcome.text)
-  pub refused : IfOk result (λ done. done.refused ≡ outcome.refused)
-  pub base : IfOk result (λ _. left ≡ outcome.base)
+-- an edit that was accepted prints also which rows it changed
+abbrev pub told : Base → Outcome → Outcome
+told base done = if done.refused then done else record done { text = done.text ++ changes_text base done.base }
+
+-- a command does what it does to a desk; an accepted insert or strike prints also which rows it changed
+abbrev pub watched : List (List ℕ) → Meaning
+watched files base (Asked.Insert line) = told base (outcome files base (Asked.Insert line))
+watched files base (Asked.Strike cpu line) = told base (outcome files base (Asked.Strike cpu line))
+watched files base asked = outcome files base asked

@@ -1,23 +1,44 @@
-//! The program: the run of its script, its counts, and its exit status.
+//! Running a script over a watch, and the program, all but its `main`.
 
-ghost use Rattle.std.specs.Prelude.{◌≡◌, ◌≤◌};
+ghost use Rattle.std.specs.Prelude.{◌≡◌, ◌≤◌, map};
 ghost use Rattle.ft_answers.specs.Base.{empty_base};
+ghost use Rattle.ft_desk.specs.Run.{RunEnds};
+ghost use Rattle.ft_watch.specs.Watched.{watched};
 
-use crate::running::run_watch;
 use crate::watch::Watch;
-use ft_desk::{
-    BUFFER, Board, Fault, FileFault, Status, arguments, exit_status, read_traces, read_words,
-};
-use ft_words::Paths;
-use std::io::{self, BufReader, Read};
+use ft_desk::{Board, RunCalls, RunFault, Status, run_counted, run_program};
+use std::alloc::Global;
+use std::io::{BufRead, Write};
 use std::rt::{Env, Files};
 
-/// The program's name, which stands before its faults and its counts.
+/// The program's name, which stands before its faults.
 const NAME: &str = "histwatch";
 
+/// Runs a script as `ft_desk::run` does, over a watch of a board on which nothing is held or
+/// attached: behind what an accepted insert or strike prints stand the rows that it changed.
+///
+/// Fails as `ft_desk::run` does, and for memory also where rows that changed find none: the output of
+/// the commands before is then written whole. How often it asks its reader and flushes its writer is
+/// told by `ft_desk::run_counted`, over a `Watch`.
+pub fn run_watch<B: Board, R: BufRead, W: Write>(
+    alloc: Global,
+    board: B,
+    files: &[Vec<u8>],
+    script: &mut R,
+    out: &mut W,
+) -> Result<Status, RunFault>
+    requires { (B.shown board).base ≡ empty_base }
+    ensures { RunEnds (watched (map (λ f. f.items) files.now)) result
+        (R.remaining script.old) (R.remaining script.new)
+        (W.contents out.old) (W.contents out.new) }
+{
+    let mut watch = Watch::new(alloc, board);
+    run_counted(&mut watch, files, script, out, &mut RunCalls::none())
+}
+
 /// The whole program, over a board that holds nothing: its exit status, 0 where each command of the
-/// script was accepted, 1 where some was refused, and 2 after a fault. Its counts go to standard
-/// error, or the fault does.
+/// script was accepted, 1 where some was refused, and 2 after a fault, which goes to standard
+/// error.
 pub fn histwatch<P, B>(rt: &P, board: B) -> u8
 where
     P: Env + Files + Input + Print + Eprint + AllocGlobal,
@@ -25,52 +46,5 @@ where
     requires { (B.shown board).base ≡ empty_base }
     ensures { result ≤ 2 }
 {
-    let args = match arguments(rt) {
-        Ok(args) => args,
-        Err(error) => return exit_status(rt, NAME, Err(Fault::of_arguments(&error))),
-    };
-    exit_status(rt, NAME, run_words(rt, board, args.as_slice()))
-}
-
-/// Reads the words, then the trace files in order, then runs the script: the first fault decides.
-fn run_words<'a, P, B>(rt: &P, board: B, args: &'a [String]) -> Result<Status, Fault<'a>>
-where
-    P: Paths + Input + Print + Eprint + AllocGlobal,
-    B: Board,
-    requires { (B.shown board).base ≡ empty_base }
-{
-    let alloc = rt.alloc();
-    let words = read_words(alloc, args)?;
-    let traces = read_traces(alloc, rt, words.traces.as_slice())?;
-    let Some(path) = words.script else {
-        return run_script(rt, board, traces.as_slice(), rt.reader());
-    };
-    match rt.open_at(path) {
-        Ok(script) => run_script(rt, board, traces.as_slice(), script),
-        Err(error) => Err(Fault::at(path, FileFault::from(error))),
-    }
-}
-
-/// Runs a script from its reader to standard output, and prints the counts.
-fn run_script<'a, P, B, R>(
-    rt: &P,
-    board: B,
-    traces: &[Vec<u8>],
-    script: R,
-) -> Result<Status, Fault<'a>>
-where
-    P: Print + Eprint + AllocGlobal,
-    B: Board,
-    R: Read + Drop,
-    requires { (B.shown board).base ≡ empty_base }
-{
-    let alloc = rt.alloc();
-    let mut script = BufReader::with_capacity(alloc, BUFFER, script).map_err(|_| Fault::Memory)?;
-    // A command's output is written at once, so that who types a script sees it.
-    let mut out = io::writer(rt);
-    let mut watch = Watch::new(alloc, board);
-    let status = run_watch(alloc, &mut watch, traces, &mut script, &mut out)?;
-    let counts = watch.counts();
-    let _unheeded = eprintln!(rt; "{NAME}: {counts}");
-    Ok(status)
+    run_program(rt, NAME, Watch::new(rt.alloc(), board))
 }

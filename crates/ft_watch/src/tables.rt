@@ -1,213 +1,234 @@
 //! The tables of a watch.
 
-ghost use Rattle.std.specs.Prelude.{◌≡◌, OnOk};
-ghost use Rattle.std.specs.Io.{StartsWith};
+ghost use Rattle.std.specs.Prelude.{◌≡◌, ◌+◌, ◌++◌, false, codes, decimal, option_map, ℕ, IfOk, OnOk, OnErr};
+ghost use Rattle.std.specs.Ordering.{nat_cmp};
+ghost use Rattle.std.specs.FinMap as map;
+ghost use Rattle.ft_keys.specs.Parts.{key_cmp};
+ghost use Rattle.ft_maps.specs.Seen.{seen};
+ghost use Rattle.ft_printed.specs.Answered.{numbered};
+ghost use Rattle.std.specs.List.{AllByRecursion};
+ghost use Rattle.ft_watch.specs.Changes.{texts_at};
+ghost use Rattle.ft_watch.specs.inner.Told.{with_table, lines_since, count_since, NamesRows};
+ghost use Rattle.ft_watch.specs.inner.Told.{AreKnown, attached_at_most};
 
-use crate::change::add_change;
-use ft_answers::TableRow;
-use ft_desk::{Board, Changed, Desk, Refused};
-use ft_keys::Key;
+use crate::changes::Changes;
+use crate::keys::add_named;
+use crate::table::Table;
+use ft_desk::{Board, Desk, Edited, Performed};
+use ft_maps::{put, take};
+use ft_printed::done_line;
+use ft_text::write_decimal;
 use std::alloc::{AllocError, Global};
-use std::collections::{BTreeMap, BTreeSet};
+use std::collections::BTreeMap;
+use std::mem;
 
-/// The table of an attached trigger, as it was when it was looked at last.
+/// What is known of the tables of the attached triggers.
+#[derive(Clone, Copy, Debug, PartialEq, Eq)]
+pub(crate) enum Known {
+    /// Each is there with the rows that it shows.
+    Shown,
+    /// Each is there.
+    Attached,
+    /// Nothing: memory ran out.
+    Nothing,
+}
+
+impl Known {
+    /// What is known after an edit that attaches nothing and removes nothing.
+    pub(crate) fn attached(self) -> Known
+        ensures { result ≡ attached_at_most self }
+    {
+        match self {
+            Known::Shown | Known::Attached => Known::Attached,
+            Known::Nothing => Known::Nothing,
+        }
+    }
+}
+
+/// Tables by the trigger's id.
 #[derive(Drop)]
-pub(crate) struct Table {
-    /// Whether it counts events that readings make, whose rows no report names.
-    counts_made: bool,
-    /// The texts of its rows, by key.
-    texts: BTreeMap<Key, Vec<u8>>,
+pub(crate) struct Tables {
+    pub(crate) by_id: BTreeMap<u32, Table>,
+    pub(crate) known: Known,
 }
 
-impl Table {
-    /// A table without rows.
-    pub(crate) fn new(alloc: Global, counts_made: bool) -> Table {
-        Table {
-            counts_made,
-            texts: BTreeMap::new(alloc),
+impl Tables {
+    /// No tables, where no trigger is attached. It takes no memory.
+    pub(crate) fn new(alloc: Global) -> Tables
+        ensures by_id { seen nat_cmp result.by_id ≡ map.empty }
+        ensures known { result.known ≡ Known.Shown }
+    {
+        Tables {
+            by_id: BTreeMap::new(alloc),
+            known: Known::Shown,
         }
     }
 
-    /// Takes the rows that it has now.
-    pub(crate) fn take<B: Board>(
+    /// Looks at all tables, unless their rows are known. Refused for memory.
+    pub(crate) fn look<B: Board>(
         &mut self,
         desk: &mut Desk<B>,
         alloc: Global,
-        id: u32,
     ) -> Result<(), AllocError>
+        requires { AreKnown self.old.known desk.old.base (seen nat_cmp self.old.by_id) }
         ensures base { desk.new.base ≡ desk.old.base }
+        ensures known { AreKnown self.new.known desk.new.base (seen nat_cmp self.new.by_id) }
+        ensures shown { OnOk result (self.new.known ≡ Known.Shown) }
     {
-        self.texts = texts_now(desk, alloc, id)?;
-        Ok(())
-    }
-
-    /// Adds the lines of its rows that changed by an edit of one event, by the edit's report, and
-    /// takes these rows as they are now.
-    pub(crate) fn add_changes<B: Board>(
-        &mut self,
-        desk: &mut Desk<B>,
-        alloc: Global,
-        id: u32,
-        report: Option<&[Changed]>,
-        lines: &mut Vec<u8>,
-    ) -> Result<(), AllocError>
-        ensures base { desk.new.base ≡ desk.old.base }
-        ensures more { OnOk result (StartsWith lines.new.items lines.old.items) }
-    {
-        match report {
-            Some(rows) if !self.counts_made => {
-                let keys = keys_named(alloc, rows, id)?;
-                self.add_named(desk, id, &keys, lines)
-            }
-            _ => self.add_all(desk, alloc, id, lines),
-        }
-    }
-
-    /// Adds the lines of those rows of these keys that changed.
-    fn add_named<B: Board>(
-        &mut self,
-        desk: &mut Desk<B>,
-        id: u32,
-        keys: &BTreeSet<Key>,
-        lines: &mut Vec<u8>,
-    ) -> Result<(), AllocError>
-        ensures base { desk.new.base ≡ desk.old.base }
-        ensures more { OnOk result (StartsWith lines.new.items lines.old.items) }
-    {
-        for key in keys.iter() {
-            let now = row_now(desk, id, key)?;
-            add_change(lines, id, text_of(&self.texts, key), now.as_deref())?;
-            match now {
-                Some(text) => {
-                    self.texts.insert(*key, text)?;
-                }
-                None => {
-                    self.texts.remove(key);
-                }
+        match self.known {
+            Known::Shown => Ok(()),
+            Known::Nothing => Err(AllocError),
+            Known::Attached => {
+                self.known = Known::Nothing;
+                let old = mem::replace(&mut self.by_id, BTreeMap::new(alloc));
+                self.by_id = looked_at(old, desk, alloc)?;
+                self.known = Known::Shown;
+                Ok(())
             }
         }
+    }
+
+    /// Adds a table for a trigger that was attached. Refused for memory, and then nothing is known.
+    pub(crate) fn attach(&mut self, alloc: Global, id: u32) -> Result<(), AllocError>
+        ensures by_id { OnOk result (seen nat_cmp self.new.by_id
+            ≡ map.insert (seen nat_cmp self.old.by_id) id map.empty) }
+        ensures known { OnOk result (self.new.known ≡ attached_at_most self.old.known) }
+        ensures failed { OnErr result (self.new.known ≡ Known.Nothing) }
+    {
+        let known = self.known.attached();
+        self.known = Known::Nothing;
+        put(&mut self.by_id, id, Table::new(alloc))?;
+        self.known = known;
         Ok(())
     }
 
-    /// Adds the lines of all rows that changed.
-    fn add_all<B: Board>(
+    /// Takes the table of a trigger away that was removed, where this was known before.
+    pub(crate) fn remove(&mut self, known: Known, id: u32)
+        ensures by_id { seen nat_cmp self.new.by_id ≡ map.remove (seen nat_cmp self.old.by_id) id }
+        ensures known { self.new.known ≡ attached_at_most known }
+    {
+        take(&mut self.by_id, &id);
+        self.known = known.attached();
+    }
+
+    /// What an accepted edit of one event prints: its word, its place, the rows that changed since
+    /// the tables were looked at, and how many they are. Then the tables have the rows that they show
+    /// now. Refused for memory, and then nothing is known.
+    pub(crate) fn tell<B: Board>(
         &mut self,
         desk: &mut Desk<B>,
         alloc: Global,
-        id: u32,
-        lines: &mut Vec<u8>,
-    ) -> Result<(), AllocError>
+        word: &[u8],
+        edited: &Edited,
+    ) -> Result<Performed, AllocError>
+        requires { AllByRecursion (NamesRows edited.now desk.old.base)
+            (map.entries (seen nat_cmp self.old.by_id)) }
         ensures base { desk.new.base ≡ desk.old.base }
-        ensures more { OnOk result (StartsWith lines.new.items lines.old.items) }
+        ensures tables { OnOk result ((id : ℕ) → map.get (seen nat_cmp self.new.by_id) id
+            ≡ option_map (λ _. texts_at desk.old.base id) (map.get (seen nat_cmp self.old.by_id) id)) }
+        ensures known { OnOk result (self.new.known ≡ Known.Shown) }
+        ensures text { IfOk result (λ done. done.text.items
+            ≡ (word.now ++ numbered edited.now.place ++ codes "\n")
+            ++ (lines_since (map.entries (seen nat_cmp self.old.by_id)) desk.old.base
+            ++ (codes "changed " ++ (decimal (count_since (map.entries (seen nat_cmp self.old.by_id))
+            desk.old.base) ++ codes "\n")))) }
+        ensures refused { IfOk result (λ done. done.refused ≡ false) }
+        ensures failed { OnErr result (self.new.known ≡ Known.Nothing) }
     {
-        let now = texts_now(desk, alloc, id)?;
-        let keys = keys_of_both(alloc, &self.texts, &now)?;
-        for key in keys.iter() {
-            add_change(lines, id, text_of(&self.texts, key), text_of(&now, key))?;
-        }
-        self.texts = now;
-        Ok(())
+        self.known = Known::Nothing;
+        let changes = Changes::behind(done_line(alloc, word, edited.place)?);
+        let old = mem::replace(&mut self.by_id, BTreeMap::new(alloc));
+        let told = told_of(old, desk, alloc, edited, changes)?;
+        self.by_id = told.by_id;
+        let count = told.changes.count();
+        let mut text = told.changes.into_lines();
+        text.extend_from_slice(b"changed ")?;
+        write_decimal(count, &mut text)?;
+        text.extend_from_slice(b"\n")?;
+        self.known = Known::Shown;
+        Ok(Performed {
+            text,
+            refused: false,
+        })
     }
 }
 
-/// Takes the rows that all tables have now.
-pub(crate) fn take_all<B: Board>(
-    tables: &mut BTreeMap<u32, Table>,
+/// Tables that were looked at, and the changes that were found.
+#[derive(Drop)]
+struct Looked {
+    by_id: BTreeMap<u32, Table>,
+    changes: Changes,
+}
+
+/// The tables with the rows that they show now. Refused for memory.
+fn looked_at<B: Board>(
+    old: BTreeMap<u32, Table>,
     desk: &mut Desk<B>,
     alloc: Global,
-) -> Result<(), AllocError>
+) -> Result<BTreeMap<u32, Table>, AllocError>
     ensures base { desk.new.base ≡ desk.old.base }
+    ensures tables { IfOk result (λ now. (id : ℕ) → map.get (seen nat_cmp now) id
+        ≡ option_map (λ _. texts_at desk.old.base id) (map.get (seen nat_cmp old) id)) }
 {
-    for (id, table) in tables.iter_mut() {
-        table.take(desk, alloc, *id)?;
+    let mut now = BTreeMap::new(alloc);
+    for (id, mut table) in old {
+        table.look(desk, alloc, id)?;
+        put(&mut now, id, table)?;
     }
-    Ok(())
+    Ok(now)
 }
 
-/// Adds the lines of all rows that changed by an edit of one event, by the edit's report, in order of
-/// id, then key.
-pub(crate) fn add_changes<B: Board>(
-    tables: &mut BTreeMap<u32, Table>,
+/// The tables with the rows that they show after an edit, behind changes those of them. Refused for
+/// memory.
+fn told_of<B: Board>(
+    old: BTreeMap<u32, Table>,
     desk: &mut Desk<B>,
     alloc: Global,
-    report: Option<&[Changed]>,
-    lines: &mut Vec<u8>,
-) -> Result<(), AllocError>
+    edited: &Edited,
+    changes: Changes,
+) -> Result<Looked, AllocError>
+    requires { AllByRecursion (NamesRows edited.now desk.old.base) (map.entries (seen nat_cmp old)) }
     ensures base { desk.new.base ≡ desk.old.base }
-    ensures more { OnOk result (StartsWith lines.new.items lines.old.items) }
+    ensures tables { IfOk result (λ told. (id : ℕ) → map.get (seen nat_cmp told.by_id) id
+        ≡ option_map (λ _. texts_at desk.old.base id) (map.get (seen nat_cmp old) id)) }
+    ensures lines { IfOk result (λ told. told.changes.lines
+        ≡ changes.lines ++ lines_since (map.entries (seen nat_cmp old)) desk.old.base) }
+    ensures count { IfOk result (λ told. told.changes.count
+        ≡ changes.count + count_since (map.entries (seen nat_cmp old)) desk.old.base) }
 {
-    for (id, table) in tables.iter_mut() {
-        table.add_changes(desk, alloc, *id, report, lines)?;
+    let mut now = BTreeMap::new(alloc);
+    let mut told = changes;
+    for (id, mut table) in old {
+        told = add_changes(&mut table, desk, alloc, id, edited, told)?;
+        put(&mut now, id, table)?;
     }
-    Ok(())
+    Ok(Looked {
+        by_id: now,
+        changes: told,
+    })
 }
 
-/// The text of a key's row.
-fn text_of<'a>(texts: &'a BTreeMap<Key, Vec<u8>>, key: &Key) -> Option<&'a [u8]> {
-    match texts.get(key) {
-        Some(text) => Some(text.as_slice()),
-        None => None,
-    }
-}
-
-/// The keys of a trigger's rows that a report names.
-fn keys_named(alloc: Global, rows: &[Changed], id: u32) -> Result<BTreeSet<Key>, AllocError> {
-    let mut keys = BTreeSet::new(alloc);
-    for row in rows {
-        if row.id == id {
-            keys.insert(row.key)?;
-        }
-    }
-    Ok(keys)
-}
-
-/// The keys of two tables' rows.
-fn keys_of_both(
-    alloc: Global,
-    before: &BTreeMap<Key, Vec<u8>>,
-    now: &BTreeMap<Key, Vec<u8>>,
-) -> Result<BTreeSet<Key>, AllocError> {
-    let mut keys = BTreeSet::new(alloc);
-    for key in before.keys() {
-        keys.insert(*key)?;
-    }
-    for key in now.keys() {
-        keys.insert(*key)?;
-    }
-    Ok(keys)
-}
-
-/// The texts of a table's rows as they are now. A trigger that isn't attached has no rows.
-fn texts_now<B: Board>(
+/// Adds the lines of a table's rows that changed by an edit, by the rows that the edit names, where it
+/// names some, and takes the rows that it has now. Refused for memory.
+fn add_changes<B: Board>(
+    table: &mut Table,
     desk: &mut Desk<B>,
     alloc: Global,
     id: u32,
-) -> Result<BTreeMap<Key, Vec<u8>>, AllocError>
+    edited: &Edited,
+    changes: Changes,
+) -> Result<Changes, AllocError>
+    requires { NamesRows edited.now desk.old.base (id, table.old) }
     ensures base { desk.new.base ≡ desk.old.base }
+    ensures table { OnOk result (table.new ≡ texts_at desk.old.base id) }
+    ensures changes { IfOk result (λ told. told
+        ≡ with_table id table.old (texts_at desk.old.base id) changes) }
 {
-    match desk.rows(id) {
-        Ok(rows) => by_key(alloc, rows),
-        Err(Refused::Memory) => Err(AllocError),
-        Err(_) => Ok(BTreeMap::new(alloc)),
-    }
-}
-
-/// The texts of rows by their keys.
-fn by_key(alloc: Global, rows: Vec<TableRow>) -> Result<BTreeMap<Key, Vec<u8>>, AllocError> {
-    let mut texts = BTreeMap::new(alloc);
-    for row in rows {
-        texts.insert(row.key, row.text)?;
-    }
-    Ok(texts)
-}
-
-/// The text of a key's row as it is now, if there is one. A trigger that isn't attached has no rows.
-fn row_now<B: Board>(desk: &mut Desk<B>, id: u32, key: &Key) -> Result<Option<Vec<u8>>, AllocError>
-    ensures base { desk.new.base ≡ desk.old.base }
-{
-    match desk.row(id, key) {
-        Ok(text) => Ok(text),
-        Err(Refused::Memory) => Err(AllocError),
-        Err(_) => Ok(None),
-    }
+    let (Some(held), Some(made)) = (&edited.report, &edited.made) else {
+        return table.add_all(desk, alloc, id, changes);
+    };
+    let mut keys = BTreeMap::new(alloc);
+    add_named(&mut keys, held, id)?;
+    add_named(&mut keys, made, id)?;
+    table.add_named(desk, id, &keys, changes)
 }

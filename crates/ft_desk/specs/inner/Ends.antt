@@ -6,24 +6,24 @@ use Rattle.ft_words.specs.Words.{Named}
 use Rattle.ft_desk.specs.declared.running.Status.{Status}
 use Rattle.ft_desk.specs.declared.program.Fault.{Fault}
 use Rattle.ft_desk.specs.declared.program.Fault.TheVariants.{Words, File, Memory, Read, Write}
-use Rattle.ft_desk.specs.Output.{output}
+use Rattle.ft_desk.specs.Output.{Meaning, output_by}
 use Rattle.ft_desk.specs.Program.{TellsFiles, FailsFirst}
 use Rattle.ft_desk.specs.Run.{status_of}
 
 -- the status of a script that has these bytes, where they are told
-abbrev pub StatusTells : List (List ℕ) → Told → Status → Type 0
-StatusTells files (Bytes script) status = status ≡ status_of (output files script).refused
-StatusTells files Missing status = ⊥
-StatusTells files Untold status = ⊤
+abbrev pub StatusTells : Meaning → Told → Status → Type 0
+StatusTells means (Bytes script) status = status ≡ status_of (output_by means script).refused
+StatusTells means Missing status = ⊥
+StatusTells means Untold status = ⊤
 
 -- a script's status, or a fault of a run
-abbrev pub RunTells : List (List ℕ) → Told → Result Status Fault → Type 0
-RunTells files script (Ok status) = StatusTells files script status
-RunTells files script (Err Memory) = ⊤
-RunTells files script (Err Read) = ⊤
-RunTells files script (Err Write) = ⊤
-RunTells files script (Err Words) = ⊥
-RunTells files script (Err (File path)) = ⊥
+abbrev pub RunTells : Meaning → Told → Result Status Fault → Type 0
+RunTells means script (Ok status) = StatusTells means script status
+RunTells means script (Err Memory) = ⊤
+RunTells means script (Err Read) = ⊤
+RunTells means script (Err Write) = ⊤
+RunTells means script (Err Words) = ⊥
+RunTells means script (Err (File path)) = ⊥
 
 -- what is told of a script: nothing of standard input
 abbrev pub told_of_script : (List ℕ → Told) → Option (List ℕ) → Told
@@ -35,14 +35,14 @@ abbrev pub paths_of : Named → List (List ℕ)
 paths_of words = words.traces ++ option_map_or (λ path. path ∷ []) words.script []
 
 -- the script that the words name is run with the files at the paths that they name
-abbrev pub Runs : (List ℕ → Told) → Option Named → Result Status Fault → Type 0
-Runs told named result = (words : Named) × (files : List (List ℕ)) × (named ≡ Some words) × TellsFiles told words.traces files × RunTells files (told_of_script told words.script) result
+abbrev pub Runs : (List (List ℕ) → Meaning) → (List ℕ → Told) → Option Named → Result Status Fault → Type 0
+Runs means told named result = (words : Named) × (files : List (List ℕ)) × (named ≡ Some words) × TellsFiles told words.traces files × RunTells (means files) (told_of_script told words.script) result
 
 -- how the program ends: words that name nothing are refused, the first path that cannot be read is told, and else the script is run
-abbrev pub ProgramEnds : (List ℕ → Told) → Option Named → Result Status Fault → Type 0
-ProgramEnds told named (Err Memory) = ⊤
-ProgramEnds told named (Err Words) = named ≡ None
-ProgramEnds told named (Err (File path)) = (words : Named) × (named ≡ Some words) × FailsFirst told (paths_of words) path.now
-ProgramEnds told named (Err Read) = Runs told named (Err Read)
-ProgramEnds told named (Err Write) = Runs told named (Err Write)
-ProgramEnds told named (Ok status) = Runs told named (Ok status)
+abbrev pub ProgramEnds : (List (List ℕ) → Meaning) → (List ℕ → Told) → Option Named → Result Status Fault → Type 0
+ProgramEnds means told named (Err Memory) = ⊤
+ProgramEnds means told named (Err Words) = named ≡ None
+ProgramEnds means told named (Err (File path)) = (words : Named) × (named ≡ Some words) × FailsFirst told (paths_of words) path.now
+ProgramEnds means told named (Err Read) = Runs means told named (Err Read)
+ProgramEnds means told named (Err Write) = Runs means told named (Err Write)
+ProgramEnds means told named (Ok status) = Runs means told named (Ok status)

@@ -3,7 +3,8 @@ use Rattle.std.specs.Result.{is_err}
 use Rattle.std.specs.Io.KnownBytes.{Consumes}
 use Rattle.std.specs.Io.BufRead.{FillKeeps}
 use Rattle.std.proofs.BufReadLemmas.{Consumes_shown}
-use Rattle.std.proofs.lemmas.List.{take_more}
+use Rattle.std.proofs.lemmas.Bool.{eqb-false}
+use Rattle.std.proofs.lemmas.List.{take_more, take_all}
 use Rattle.ft_script.specs.Script.{line_limit}
 use Rattle.ft_desk.specs.declared.pieces.Taken.{Taken}
 use Rattle.ft_desk.specs.declared.pieces.Taken.TheVariants as takes
@@ -30,16 +31,16 @@ added (Err e) kept is = absurd (cc)
 
 -- what was taken, as a whole
 taking_gives : (took : Taken) (left rest : Option (List ℕ)) (before after shown : List ℕ) (part amount : ℕ)
-    → All (λ byte. byte ≢ 10) (take part shown) → CutsAt took shown part → amount ≡ amount_with took part
+    → shown ≢ [] → All (λ byte. byte ≢ 10) (take part shown) → CutsAt took shown part → amount ≡ amount_with took part
     → Consumes left rest (take amount shown) → after ≡ take (line_limit + 1) (before ++ take part shown)
     → TakingGives (Ok took) left rest before after
-taking_gives takes.Part left rest before after shown part amount plain end is consumed kept =
-    (take part shown, subst (λ n. Consumes left rest (take n shown)) is consumed, (plain, kept))
-taking_gives takes.Line left rest before after shown part amount plain end is consumed kept =
+taking_gives takes.Part left rest before after shown part amount some plain end is consumed kept =
+    (take part shown, subst (λ n. Consumes left rest (take n shown)) is consumed, (plain, kept), λ none. some (sym (take_all part shown (omega (arith, end))) ∙ none))
+taking_gives takes.Line left rest before after shown part amount some plain end is consumed kept =
     let line : take amount shown ≡ take part shown ++ 10 ∷ [] =
     ap (λ n. take n shown) is ∙ take_more shown part 0 end.0 ∙ ap (λ byte. take part shown ++ byte ∷ []) end.1 in
     (take part shown, subst (Consumes left rest) line consumed, (plain, kept))
-taking_gives takes.End left rest before after shown part amount plain end is consumed kept = absurd end
+taking_gives takes.End left rest before after shown part amount some plain end is consumed kept = absurd end
 
 pub returns-clause-gives : goal.returns-clause-gives
 returns-clause-gives g c =
@@ -54,7 +55,7 @@ returns-clause-gives g c =
     ] in
     let within = amount_within took shown part _ c.cut-part.ensures.end amount in
     let moved = Consumes_shown _ _ _ _ shown c.match-taken.amount within c.in-Ok.ensures.front c.in-Ok.ensures.end filled.0 filled.1 c.consume.ensures.bytes in
-    taking_gives took _ _ _ _ shown part _ c.cut-part.ensures.plain c.cut-part.ensures.end amount moved.0 (added c.add_part.result c.add_part.ensures (sym c.if-is_err.false ∙ c.is_err.ensures.value))
+    taking_gives took _ _ _ _ shown part _ (λ none. eqb-false _ 0 (sym c.is_empty.ensures ∙ c.if-is_empty.false) (ap length none)) c.cut-part.ensures.plain c.cut-part.ensures.end amount moved.0 (added c.add_part.result c.add_part.ensures (sym c.if-is_err.false ∙ c.is_err.ensures.value))
 
 pub returns-in-Err-clause-gives : goal.returns-in-Err-clause-gives
 returns-in-Err-clause-gives g c = search rules

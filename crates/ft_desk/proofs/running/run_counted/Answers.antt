@@ -1,0 +1,14 @@
+use Rattle.std.proofs.Common.{map}
+use Rattle.ft_desk.proofs.Endings.{flush_ends}
+use Rattle.ft_desk.proofs.Flushed.{flush_asks, flush_once}
+use Rattle.ft_desk.proofs.running.run_counted.Goals as goal
+
+pub returns-clause-ends : goal.returns-clause-ends
+returns-clause-ends g c =
+    flush_ends (g.S.Session.means (map (λ f. f.items) c.args.files.now)) _ _ _ _ _ _ _ _ c.answer_script-answer.ensures.ends c.flush_after.ensures.kept c.flush_after.ensures.answer
+
+pub returns-clause-asks : goal.returns-clause-asks
+returns-clause-asks g c = flush_asks _ _ _ _ c.answer_script-answer.ensures.asks c.flush_after.ensures.answer
+
+pub returns-clause-flushes : goal.returns-clause-flushes
+returns-clause-flushes g c = flush_once _ _ _ c.flush_after.ensures.answer

@@ -1,0 +1,2 @@
+-- Words of private functions: what helps to prove, and nothing that public clauses say.
+pub mod Told
