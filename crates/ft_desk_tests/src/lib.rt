@@ -15,6 +15,8 @@ mod kept_now;
 #[cfg(test)]
 mod merge;
 #[cfg(test)]
+mod midway;
+#[cfg(test)]
 mod no_room;
 #[cfg(test)]
 mod performing;
