@@ -14,6 +14,8 @@ made once more at once, with memory. Of each run is held:
   isn't deferred: a `strike` where no attached trigger has a variable, a `remove` of a trigger that reads none;
 - the rows that an accepted insert or strike names are those that it names with memory, or there is no report, as on a
   deferred desk;
+- an insert or a strike that a refused growth defers has a growth before that, of what is gathered for its report, which
+  costs it the report alone: it answers `Now`;
 - what is refused, or wants memory, leaves the desk deferred or not as it was; but where tables are asked for and the
   text of the answer wants memory, the desk may be no more deferred;
 - behind a table, totals or latencies that were answered the desk isn't deferred, and a `list` leaves it as it was.
@@ -100,6 +102,13 @@ class Desk:
             del self.triggers[int(others[0])]
 
 
+class CameTo:
+    """Which commands a run deferred the desk by, and which it left without a report, and not deferred."""
+
+    def __init__(self):
+        self.deferred, self.unreported = set(), set()
+
+
 def demand(holds, otherwise):
     if not holds:
         raise Wrong(otherwise)
@@ -131,33 +140,43 @@ class Row:
             return answers, int(file.read())
 
     def hold(self, wanted, answers):
-        """Holds the answers of a run, where with memory they are `wanted`."""
-        desk, left = Desk(), iter(answers)
-        for command, want in zip(self.commands, wanted):
+        """Holds the answers of a run, where with memory they are `wanted`: what it came to."""
+        desk, left, came = Desk(), iter(answers), CameTo()
+        for number, (command, want) in enumerate(zip(self.commands, wanted)):
             for again in [False, True]:
-                answer = next(left, None)
+                answer, was_deferred = next(left, None), desk.is_deferred
                 try:
                     demand(answer is not None, "no answer")
                     desk.hold(command, want, answer, again)
                 except Wrong as wrong:
                     raise Wrong(f"{command}: {wrong}") from wrong
+                if answer.kept == "later" and not was_deferred:
+                    came.deferred.add(number)
+                if answer.kept == "now" and answer.report == NO_REPORT:
+                    came.unreported.add(number)
                 if answer.text != MEMORY:
                     break
         demand(next(left, None) is None, "more answers than commands")
+        return came
 
     def series(self, mode, plain):
-        """How many growths were refused, or those from each on, and in how many runs an edit answered `Later`."""
-        later = 0
+        """How many growths were refused, or those from each on, and in how many runs an edit answered `Later`. By the
+        commands that the refused growth deferred, or left without a report alone, the first such growth."""
+        later, deferred, unreported = 0, {}, {}
         for number in itertools.count(1):
             try:
                 answers, made = self.run(**{mode: str(number)})
-                self.hold(plain, answers)
+                came = self.hold(plain, answers)
                 demand(made >= number or answers == plain, "another answer, with nothing refused")
             except Wrong as wrong:
                 raise Wrong(f"{mode}={number}: {wrong}") from wrong
             if made < number:
-                return number - 1, later
+                return number - 1, later, deferred, unreported
             later += any(answer.kept == "later" for answer in answers)
+            for command in came.deferred:
+                deferred.setdefault(command, number)
+            for command in came.unreported:
+                unreported.setdefault(command, number)
 
     def check(self):
         """What was run."""
@@ -168,10 +187,15 @@ class Row:
         self.hold(plain, plain)
         demand(not any(answer.report == NO_REPORT for answer in plain), "nothing refused, and no report")
         demand(not any(answer.is_deferred for answer in plain), "nothing refused, and deferred")
-        alone, alone_later = self.series("REFUSE_AT", plain)
-        onward, onward_later = self.series("REFUSE_FROM", plain)
+        alone, alone_later, deferred, unreported = self.series("REFUSE_AT", plain)
+        onward, onward_later, _, _ = self.series("REFUSE_FROM", plain)
         demand(alone_later + onward_later > 0, "no edit answered Later")
-        return f"{alone} growths alone, {alone_later} runs with Later; from each of {onward} on, {onward_later} with Later"
+        reported = [command for command in deferred if plain[command].report is not None]
+        for command in reported:
+            demand(command in unreported and unreported[command] < deferred[command],
+                   f"{self.commands[command]}: deferred, and no growth before that cost it the report alone")
+        return (f"{alone} growths alone, {alone_later} runs with Later; from each of {onward} on, {onward_later} with Later; "
+                f"{len(reported)} edits whose report went first")
 
 
 def check(program, library, path):
