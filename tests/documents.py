@@ -18,7 +18,12 @@ from collections import Counter
 
 ROOT = os.path.join(os.path.dirname(os.path.realpath(__file__)), "..")
 CRATES = os.path.join(ROOT, "crates")
-CARRIERS = ["ft_desk/src/in_memory.rt", "ft_desk/src/running.rt", "ft_answers/src/board.rt"]
+CARRIERS = [
+    "ft_desk/src/in_memory.rt",
+    "ft_desk/src/running.rt",
+    "ft_watch/src/program.rt",
+    "ft_answers/src/board.rt",
+]
 IMPORT = re.compile(r"^ *(?:ghost )?(?:pub )?use Rattle\.(\w+)\.specs\.((?:inner\.)?\w+)\b", re.MULTILINE)
 FILE = r"(?:src|specs(?:/inner)?)/\w+\.(?:rt|antt)"
 # The tests' own crates, and files that stand in each crate.
