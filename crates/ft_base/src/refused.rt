@@ -7,6 +7,7 @@ use ft_event::LineFault;
 use ft_filter::FilterFault;
 use ft_head::TriggerFault;
 use std::alloc::AllocError;
+use thiserror::Error;
 
 /// Where an event stands: its lane, and its line number there.
 #[derive(Clone, Copy, Debug, PartialEq, Eq)]
@@ -18,41 +19,58 @@ pub struct Place {
 }
 
 /// Why an edit or an answer is refused. Nothing held has changed then.
-#[derive(Clone, Copy, Debug, PartialEq, Eq)]
+#[derive(Clone, Copy, Debug, PartialEq, Eq, Error)]
 pub enum Refused {
     /// Memory ran out.
+    #[error("out of memory")]
     Memory,
     /// The script has no trace file with that number.
+    #[error("there is no such file")]
     NoFile,
     /// A line cannot be read: the first such line, counted from 1, and what is wrong with it.
+    #[error("line {0}: {1}")]
     BadLine(u64, LineFault),
     /// The CPU's lane is held already.
+    #[error("events of CPU {0} are held already")]
     LaneHeld(u32),
     /// No lane of the CPU is held.
+    #[error("no events of CPU {0} are held")]
     NoLane(u32),
     /// The lane has no such line, or the line to insert is one that is skipped.
+    #[error("no event is there")]
     NoEvent,
     /// More than 1,048,576 events would be held, or a line number would pass 4,294,967,295.
+    #[error("more than 1048576 events would be held, or a line number would pass 4294967295")]
     Full,
     /// The trigger's text cannot be read.
+    #[error("the trigger can't be read: {0}")]
     BadTrigger(TriggerFault),
     /// The filter's text cannot be read.
+    #[error("the filter can't be read: {0}")]
     BadFilter(FilterFault),
     /// No trigger with that id is attached.
+    #[error("no such trigger is attached")]
     NoTrigger,
     /// The trigger saves a variable that the trigger with this id reads, the first by id.
+    #[error("trigger {0} reads what it saves")]
     InUse(u32),
     /// The trigger saves a variable of a name that the trigger with this id saves already.
+    #[error("trigger {0} saves a variable of that name already")]
     NameTaken(u32),
     /// The trigger reads a variable that no attached trigger saves.
+    #[error("no attached trigger saves the variable that it reads")]
     NoVariable,
     /// The keys of a reader and of the trigger that saves what it reads don't match.
+    #[error("its keys don't match those of the trigger that saves what it reads")]
     KeyMismatch,
     /// 64 triggers are attached, or the ids are used up.
+    #[error("64 triggers are attached, or the ids are used up")]
     TooManyTriggers,
     /// The command or its event has no such form.
+    #[error("there is no such command or event")]
     BadCommand,
     /// The trigger reads no variable, so it has no latencies.
+    #[error("the trigger reads no variable, so it measures no latencies")]
     NotReading,
 }
 

@@ -3,22 +3,31 @@
 ghost use Rattle.std.specs.Prelude.{◌≡◌};
 ghost use Rattle.ft_filter.specs.FilterFault.{number_of, place_of};
 
+use thiserror::Error;
+
 /// The first thing that is wrong with a filter's text. Places are bytes of the text, from 0.
-#[derive(Clone, Copy, Debug, PartialEq, Eq)]
+#[derive(Clone, Copy, Debug, PartialEq, Eq, Error)]
 pub enum FilterFault {
     /// Memory ran out.
+    #[error("out of memory")]
     Memory,
     /// A token that may not stand here; at the end of the text, its length.
+    #[error("this can't be read")]
     Syntax(usize),
     /// The event has no such field.
+    #[error("the event has no such field")]
     NoField(usize),
     /// The operator is not one of the field's kind, or the value is not of it.
+    #[error("the operator or the value is of another kind than the field")]
     WrongKind(usize),
     /// The value behind `~` is no glob.
+    #[error("this is no pattern")]
     BadGlob(usize),
     /// The number is not one of 64 bits with a sign.
+    #[error("the number isn't in -2^63 to 2^63-1")]
     NumberRange(usize),
     /// More than 32 of `(` and `!` are open.
+    #[error("more than 32 of ( and ! are open")]
     TooDeep,
 }
 

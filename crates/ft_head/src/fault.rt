@@ -4,31 +4,43 @@ ghost use Rattle.std.specs.Prelude.{◌≡◌};
 ghost use Rattle.ft_head.specs.TriggerFault.{number_of, place_of};
 
 use ft_filter::FilterFault;
+use thiserror::Error;
 
 /// The first thing that is wrong with a trigger's text. Places are bytes of the text, from 0.
-#[derive(Clone, Copy, Debug, PartialEq, Eq)]
+#[derive(Clone, Copy, Debug, PartialEq, Eq, Error)]
 pub enum TriggerFault {
     /// Memory ran out.
+    #[error("out of memory")]
     Memory,
     /// No such thing may stand here.
+    #[error("this can't be read")]
     Syntax(usize),
     /// The event has no such field, or the trigger no such variable.
+    #[error("the event has no such field, or the trigger no such variable")]
     NoField,
     /// A value's field holds texts.
+    #[error("a number is due, and this field is a text")]
     NotNumeric,
     /// More than three keys, three values or two sort items.
+    #[error("3 keys, 3 values besides hitcount and 2 sort items are the most")]
     TooMany,
     /// A part, an item or a name stands twice.
+    #[error("a part, an item or a name stands twice")]
     Duplicate,
     /// The size is no number, or out of range.
+    #[error("the size is no number from 65 to 131072")]
     BadSize,
     /// A sort item is no key and no value, or has an unknown suffix.
+    #[error("a sort item is no key and no value, or has an unknown suffix")]
     BadSort,
     /// A modifier is unknown, or not for its field.
+    #[error("a modifier is unknown, or not for its field")]
     BadModifier,
     /// The kernel has this form, and the desk has not.
+    #[error("the kernel has this form, and the desk has not")]
     LeftOut(usize),
     /// The filter's text cannot be read. Its place counts in the filter's text.
+    #[error("its filter: {0}")]
     BadFilter(FilterFault),
 }
 
