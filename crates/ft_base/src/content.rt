@@ -12,7 +12,7 @@ ghost use Rattle.ft_maps.specs.Seen.{seen};
 ghost use Rattle.ft_base.specs.declared.refused.Refused.TheVariants.{Memory};
 ghost use Rattle.ft_base.specs.After.{after_load, after_unload, after_insert};
 ghost use Rattle.ft_base.specs.After.{after_attach, after_refilter};
-ghost use Rattle.ft_base.specs.Answers.{AnswerIs, list_text};
+ghost use Rattle.ft_base.specs.Answers.{AnswerIs, list_text, trigger_text, attached_in};
 ghost use Rattle.ft_base.specs.Base.{empty_base};
 ghost use Rattle.ft_base.specs.Edited.{BaseGives, FindsToUnload, FindsToStrike, FindsToRemove};
 ghost use Rattle.ft_base.specs.OneTrigger.{IsUnread, JoinsAs, GetsFilter, base_without};
@@ -20,15 +20,16 @@ ghost use Rattle.ft_base.specs.Reachable.{IsReachable};
 
 use crate::attach::variable_refused;
 use crate::edits::{held_lane, refilter_in};
+use crate::listed::{AttachedTrigger, attached_in};
 use crate::refused::{Place, Refused};
-use crate::roles::reader_on;
+use crate::roles::{attached, reader_on};
 use ft_event::{Event, Name};
 use ft_filter::Filter;
 use ft_hist::Trigger;
 use ft_lanes::Lanes;
 use ft_maps::{get, len, put, take};
 use ft_store::Store;
-use std::alloc::Global;
+use std::alloc::{AllocError, Global};
 use std::collections::BTreeMap;
 use std::marker::Model;
 
@@ -263,6 +264,25 @@ impl Content {
         ensures { result ≡ option_map (λ hist. hist.event) (map.get self.now.triggers id) }
     {
         get(&self.triggers, &id).map(|trigger| trigger.event())
+    }
+
+    /// The attached triggers, by id. Refused for memory.
+    pub fn attached_triggers(&self, alloc: Global) -> Result<Vec<AttachedTrigger>, AllocError>
+        ensures { IfOk result (λ attached.
+            attached.items ≡ attached_in self.now.triggers) }
+    {
+        attached_in(alloc, &self.triggers)
+    }
+
+    /// The canonical text of the trigger with an id. Refused where no trigger has the id, or for
+    /// memory.
+    pub fn trigger_text(&self, alloc: Global, id: u32) -> Result<Vec<u8>, Refused>
+        ensures { AnswerIs (λ text. text.items) (trigger_text self.now id) result }
+    {
+        let trigger = attached(&self.triggers, id)?;
+        let mut text = Vec::new(alloc);
+        trigger.write(&mut text)?;
+        Ok(text)
     }
 
     /// The text of a CPU's lane.

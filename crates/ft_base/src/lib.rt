@@ -23,10 +23,12 @@ mod attach;
 mod content;
 mod edits;
 pub mod laws;
+mod listed;
 mod refused;
 mod roles;
 
 pub use content::Content;
 pub use laws::{last_numbers, one_saver, reachable_bases};
+pub use listed::AttachedTrigger;
 pub use refused::{Place, Refused};
 pub use roles::{attached, is_reader, role_of};

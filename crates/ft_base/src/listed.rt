@@ -1,0 +1,38 @@
+//! The attached triggers one by one.
+
+ghost use Rattle.std.specs.Prelude.{◌≡◌, IfOk};
+ghost use Rattle.std.specs.Ordering.{nat_cmp};
+ghost use Rattle.ft_maps.specs.Seen.{seen};
+ghost use Rattle.ft_base.specs.Answers.{attached_in};
+
+use ft_event::Name;
+use ft_hist::Trigger;
+use ft_maps::{entries, len};
+use std::alloc::{AllocError, Global};
+use std::collections::BTreeMap;
+
+/// An attached trigger: its id, and the event that it is on.
+#[derive(Clone, Copy, Debug, PartialEq, Eq)]
+pub struct AttachedTrigger {
+    /// Its id, from 1.
+    pub id: u32,
+    /// The event that it is on.
+    pub event: Name,
+}
+
+/// The attached triggers, by id. Refused for memory.
+pub(crate) fn attached_in(
+    alloc: Global,
+    triggers: &BTreeMap<u32, Trigger>,
+) -> Result<Vec<AttachedTrigger>, AllocError>
+    ensures { IfOk result (λ attached. attached.items ≡ attached_in (seen nat_cmp triggers.now)) }
+{
+    let mut attached = Vec::with_capacity(alloc, len(triggers))?;
+    for (id, trigger) in entries(triggers) {
+        attached.push(AttachedTrigger {
+            id: *id,
+            event: trigger.event(),
+        })?;
+    }
+    Ok(attached)
+}
