@@ -1,6 +1,6 @@
 //! The names of the events that attached triggers are on.
 
-ghost use Rattle.std.specs.Prelude.{◌≡◌, IsTrue, false};
+ghost use Rattle.std.specs.Prelude.{◌≡◌, IsTrue, false, true};
 ghost use Rattle.std.specs.Ordering.{nat_cmp};
 ghost use Rattle.ft_fields.specs.declared.event.Name.{Name};
 ghost use Rattle.ft_hist.specs.Hit.{same_name};
@@ -49,6 +49,20 @@ impl Names {
             switch: name == Name::Switch,
             wakeup_latency: name == Name::WakeupLatency,
             other: name == Name::Other,
+        }
+    }
+
+    /// Every name.
+    pub fn all() -> Names
+        ensures { (name : Name) → has_name result name ≡ true }
+    {
+        Names {
+            waking: true,
+            wakeup: true,
+            wakeup_new: true,
+            switch: true,
+            wakeup_latency: true,
+            other: true,
         }
     }
 
