@@ -276,6 +276,7 @@ impl Content {
 
     /// The canonical text of the trigger with an id. Refused where no trigger has the id, or for
     /// memory.
+    #[tactic(auto, unfolding(crate::specs::Answers::trigger_text))]
     pub fn trigger_text(&self, alloc: Global, id: u32) -> Result<Vec<u8>, Refused>
         ensures { AnswerIs (λ text. text.items) (trigger_text self.now id) result }
     {
