@@ -1,0 +1,389 @@
+/* histdesk: the scheduler trace desk, for C.
+ *
+ * A desk holds the events of texts of the kernel's tracefs `trace` file, by CPU and line number, and the hist triggers
+ * that are attached to them. It answers what replaying the events that it holds now gives for the triggers that are
+ * attached now. The forms of texts are those of docs/FORMAT.md, what they mean is in docs/MEANING.md.
+ *
+ *     histdesk desk = {0};
+ *     uint64_t events;
+ *     if (histdesk_new(&desk) == HISTDESK_OK && histdesk_load(&desk, trace, length, &events) == HISTDESK_OK)
+ *         ..
+ *     histdesk_free(&desk);
+ *
+ * Codes. A call that can be refused answers a code: HISTDESK_OK, the number of the refusal, or HISTDESK_CLOSED where the
+ * handle has no desk. Only where the code is HISTDESK_OK has anything changed, and only then is what the call hands out
+ * written: an edit that is refused changes nothing that is held or attached, and a question that is refused leaves what
+ * was asked for before. Each call says which codes it has, in the order in which they are tested. HISTDESK_MEMORY may
+ * come in place of any answer, where nothing else is said; the same call may be made again. HISTDESK_CLOSED comes from each
+ * call with a code but histdesk_new.
+ *
+ * Answers. What is larger than a number is asked for by one call, which says how much it is, and copied by another one.
+ * The desk keeps one answer of each kind (a text, rows, latencies, places, triggers) as it was when it was asked for, also
+ * over edits, until the next of its kind is asked for, or histdesk_forget. It is copied a part at a time: a .._copy call
+ * takes the items from number `from` on, counted from 0, writes as many as there are and as `room` allows to `to`, and
+ * answers how many that was. It answers 0 from the end on, where nothing was asked for, and without a desk. What is behind
+ * the items in `to` stays as it was. It needs no memory and changes nothing.
+ *
+ *     for (uint64_t from = 0; (count = histdesk_rows_copy(&desk, from, rows, 64)) > 0; from += count)
+ *         ..
+ *
+ * Units. Stamps and differences of stamps are microseconds; lengths and places in texts are bytes, places from 0; lines and
+ * ids count from 1. Texts are bytes of no encoding, and none ends with a zero byte, neither those that are handed in nor
+ * those that come back.
+ *
+ * What the caller owes.
+ * - A handle is all zero before its first call. Then only the library writes it, and no copy of it is used.
+ * - One call at a time has a handle: it is used by the thread that made the desk, or behind one lock. Desks have nothing
+ *   in common, so each thread may have its own.
+ * - No pointer is null, also where its length or room is 0: any other pointer does then. Each points to as much as is
+ *   said, and what a call reads and what it writes don't overlap. Lengths are at most PTRDIFF_MAX.
+ * - No call is made from a signal handler, nor in a forked child of a process that had several threads.
+ * - histdesk_free ends a desk. What is copied is the caller's; the library keeps no pointer that it is handed. */
+#ifndef HISTDESK_H
+#define HISTDESK_H
+
+#include <stdbool.h>
+#include <stddef.h>
+#include <stdint.h>
+
+#ifdef __cplusplus
+extern "C" {
+#endif
+
+/* A desk's handle: {0} has no desk. */
+typedef struct histdesk {
+    void *at;
+} histdesk;
+
+/* Codes of calls. 1 to 17 are the numbers behind `refused` in the output of scripts. */
+enum {
+    HISTDESK_OK = 0,
+    HISTDESK_MEMORY = 1,             /* memory ran out */
+    HISTDESK_NO_FILE = 2,            /* of scripts alone: no such trace file */
+    HISTDESK_BAD_LINE = 3,           /* a trace line has a fault: line, fault */
+    HISTDESK_LANE_HELD = 4,          /* events of the CPU are held already: cpu */
+    HISTDESK_NO_LANE = 5,            /* no lane of the CPU is held: cpu */
+    HISTDESK_NO_EVENT = 6,           /* no event is there, or the line to insert is one that is skipped */
+    HISTDESK_FULL = 7,               /* over 1,048,576 events would be held, or a line number would pass 4,294,967,295 */
+    HISTDESK_BAD_TRIGGER = 8,        /* the trigger's text has a fault: fault; place or filter_fault, where it has one */
+    HISTDESK_BAD_FILTER = 9,         /* the filter's text has a fault: filter_fault; place, where it has one */
+    HISTDESK_NO_TRIGGER = 10,        /* no attached trigger has the id */
+    HISTDESK_IN_USE = 11,            /* a trigger reads what this one saves: trigger, the least such id */
+    HISTDESK_NAME_TAKEN = 12,        /* a trigger saves a variable of that name already: trigger */
+    HISTDESK_NO_VARIABLE = 13,       /* no attached trigger saves the variable that is read, or not on the event named */
+    HISTDESK_KEY_MISMATCH = 14,      /* the keys don't match those of the trigger that saves what is read */
+    HISTDESK_TOO_MANY_TRIGGERS = 15, /* 64 triggers are attached, or the ids are used up */
+    HISTDESK_BAD_COMMAND = 16,       /* no such event, or of scripts: no such command */
+    HISTDESK_NOT_READING = 17,       /* the trigger reads no variable, so it has no latencies */
+    HISTDESK_CLOSED = 255            /* the handle has no desk */
+};
+
+/* Names of events. Triggers are attached to the first five; of any other event the task, PID, CPU and stamp are held. */
+enum {
+    HISTDESK_WAKING = 0,         /* sched_waking */
+    HISTDESK_WAKEUP = 1,         /* sched_wakeup */
+    HISTDESK_WAKEUP_NEW = 2,     /* sched_wakeup_new */
+    HISTDESK_SWITCH = 3,         /* sched_switch */
+    HISTDESK_WAKEUP_LATENCY = 4, /* wakeup_latency, which triggers make; none is ever held */
+    HISTDESK_OTHER = 5,          /* any other event */
+    HISTDESK_NONE = 255          /* of histdesk_event: no event is held at the place any more */
+};
+
+/* Kinds of a key's parts. */
+enum {
+    HISTDESK_NUMBER = 0, /* number is the field's value, also where it is printed as .hex */
+    HISTDESK_LOG2 = 1,   /* number is the power n of .log2, from 0 to 64 */
+    HISTDESK_BUCKET = 2, /* bucket is the least value of the bucket of .buckets=N */
+    HISTDESK_TEXT = 3    /* text is the field's text */
+};
+
+/* The name of a task, or a state: `length` bytes; those behind them are zero, of which there may be none. */
+typedef struct histdesk_name {
+    uint8_t bytes[31];
+    uint8_t length;
+} histdesk_name;
+
+/* Where an event stands: its CPU, and its line number in the CPU's lane. */
+typedef struct histdesk_line {
+    uint32_t cpu;
+    uint32_t line;
+} histdesk_line;
+
+/* A place in the merged order, which is by stamp, then CPU, then line. */
+typedef struct histdesk_place {
+    uint64_t stamp;
+    uint32_t cpu;
+    uint32_t line;
+} histdesk_place;
+
+/* Of one trigger: the hits that were counted, the keys in its table, the hits for which the table had no room. */
+typedef struct histdesk_totals {
+    uint64_t hits;
+    uint64_t entries;
+    uint64_t dropped;
+} histdesk_totals;
+
+/* One part of a key; what its kind doesn't have is zero. */
+typedef struct histdesk_part {
+    int64_t number;
+    uint64_t bucket;
+    histdesk_name text;
+    uint64_t kind;
+} histdesk_part;
+
+/* A key of 1 to 3 parts, in the trigger's order; the others are zero. Equal keys have equal bytes. */
+typedef struct histdesk_key {
+    uint64_t parts;
+    histdesk_part part[3];
+} histdesk_key;
+
+/* A row of a table: the key, its hits, and the sum modulo 2^64 of each value besides hitcount in the trigger's order; the
+ * other sums are zero. Equal rows have equal bytes. */
+typedef struct histdesk_row {
+    histdesk_key key;
+    uint64_t hitcount;
+    uint64_t sums[3];
+} histdesk_row;
+
+/* A latency: where the event stood whose stamp was saved and the one that read it, and the difference of their stamps. */
+typedef struct histdesk_latency {
+    histdesk_place saved;
+    histdesk_place read;
+    uint64_t micros;
+} histdesk_latency;
+
+/* An event. What its name doesn't have is zero; where the name is HISTDESK_NONE, all but the place. */
+typedef struct histdesk_event {
+    histdesk_place place;
+    uint32_t name;             /* HISTDESK_WAKING .. */
+    int32_t common_pid;        /* the task that ran */
+    int32_t pid;               /* the task woken, or switched to */
+    int32_t prio;
+    int32_t target_cpu;        /* of a waking or wakeup */
+    int32_t prev_pid;          /* of a switch: the task switched from */
+    int32_t prev_prio;
+    histdesk_name task;        /* of the task that ran */
+    histdesk_name comm;        /* of the task woken, or switched to */
+    histdesk_name prev_comm;   /* of the task switched from */
+    histdesk_name prev_state;  /* its state, as R+ */
+} histdesk_event;
+
+/* An attached trigger: its id, and the name of the event that it is attached to. */
+typedef struct histdesk_trigger {
+    uint32_t id;
+    uint32_t event;
+} histdesk_trigger;
+
+/* A row that an edit may have changed: the trigger's id, and the row's key. */
+typedef struct histdesk_changed {
+    uint64_t id;
+    histdesk_key key;
+} histdesk_changed;
+
+/* How many rows the last accepted insert or strike may have changed. `rows`: of the triggers that count held events, each
+ * row that changed, came or went is among them; `made`: likewise of those on wakeup_latency. Where has_rows or has_made
+ * is false there is no such list, its number is 0, and any row may have changed. */
+typedef struct histdesk_report {
+    bool has_rows;
+    bool has_made;
+    uint64_t rows;
+    uint64_t made;
+} histdesk_report;
+
+/* Why a call was refused. number is its code, 0 where it was accepted. What the number doesn't have is 0. */
+typedef struct histdesk_refusal {
+    uint32_t number;
+    uint32_t fault;        /* of 3: the line's, as in FORMAT.md, 1.4; of 8: the trigger's, 3.2 */
+    uint32_t filter_fault; /* of 8 with fault 11, and of 9: the filter's, 2.3 */
+    uint32_t cpu;          /* of 4 and 5 */
+    uint32_t trigger;      /* of 11 and 12 */
+    bool has_place;        /* of 8 and 9: whether the fault has a place */
+    uint64_t line;         /* of 3: the text's line, from 1 */
+    uint64_t place;        /* of 8 and 9: the byte, from 0; in the filter's own text where the fault is the filter's */
+} histdesk_refusal;
+
+/* ---- A desk. */
+
+/* Puts a new desk, which holds nothing, into the handle, and frees the desk that was there. HISTDESK_OK, or
+ * HISTDESK_MEMORY: the handle is as it was. */
+uint32_t histdesk_new(histdesk *desk);
+
+/* Frees the desk with all that it keeps, and leaves the handle zero. Without a desk it does nothing. */
+void histdesk_free(histdesk *desk);
+
+/* ---- Edits. */
+
+/* Loads the text of a trace: a lane for each CPU that has events in it. `events` is how many were loaded.
+ * HISTDESK_BAD_LINE (the first line with a fault), HISTDESK_LANE_HELD, HISTDESK_FULL. */
+uint32_t histdesk_load(histdesk *desk, const uint8_t *trace, size_t length, uint64_t *events);
+
+/* Takes a CPU's lane away. `events` is how many it had. HISTDESK_NO_LANE; never HISTDESK_MEMORY. */
+uint32_t histdesk_unload(histdesk *desk, uint32_t cpu, uint64_t *events);
+
+/* Inserts the event of one trace line without a line break at the next line number of its CPU's lane, which is made where
+ * there is none. `at` is where it stands. HISTDESK_BAD_LINE, HISTDESK_NO_EVENT, HISTDESK_FULL. */
+uint32_t histdesk_insert(histdesk *desk, const uint8_t *line, size_t length, histdesk_line *at);
+
+/* Takes one event away; its line number is not given again. HISTDESK_NO_LANE, HISTDESK_NO_EVENT; never HISTDESK_MEMORY. */
+uint32_t histdesk_strike(histdesk *desk, uint32_t cpu, uint32_t line);
+
+/* Attaches the trigger of the text to the event of that name, HISTDESK_WAKING to HISTDESK_WAKEUP_LATENCY. `id` is its id.
+ * HISTDESK_BAD_COMMAND (no such name), HISTDESK_BAD_TRIGGER, HISTDESK_TOO_MANY_TRIGGERS, HISTDESK_NAME_TAKEN,
+ * HISTDESK_NO_VARIABLE, HISTDESK_KEY_MISMATCH. */
+uint32_t histdesk_attach(histdesk *desk, uint32_t event, const uint8_t *trigger, size_t length, uint32_t *id);
+
+/* Gives an attached trigger the filter of the text, which stands without `if`, or none.
+ * HISTDESK_NO_TRIGGER, HISTDESK_BAD_FILTER (histdesk_refilter alone; an empty text is no filter). */
+uint32_t histdesk_refilter(histdesk *desk, uint32_t id, const uint8_t *filter, size_t length);
+uint32_t histdesk_unfilter(histdesk *desk, uint32_t id);
+
+/* Removes an attached trigger. HISTDESK_NO_TRIGGER, HISTDESK_IN_USE; never HISTDESK_MEMORY. */
+uint32_t histdesk_remove(histdesk *desk, uint32_t id);
+
+/* How many rows the last accepted insert or strike may have changed; before the first one there is no list. They stay
+ * until the next one that is accepted, or histdesk_forget. HISTDESK_OK. */
+uint32_t histdesk_report_of(histdesk *desk, histdesk_report *report);
+
+/* Copies the rows that the report counts as `rows`, and as `made`; none twice. */
+size_t histdesk_rows_changed_copy(histdesk *desk, uint64_t from, histdesk_changed *to, size_t room);
+size_t histdesk_made_changed_copy(histdesk *desk, uint64_t from, histdesk_changed *to, size_t room);
+
+/* Whether the last edits found no memory for the tables: the edits stand, and the next question about a trigger builds the
+ * tables anew. False without a desk. */
+bool histdesk_is_deferred(histdesk *desk);
+
+/* ---- Questions about triggers. */
+
+/* The totals of a trigger. HISTDESK_NO_TRIGGER. */
+uint32_t histdesk_totals_of(histdesk *desk, uint32_t id, histdesk_totals *totals);
+
+/* Asks for the text of a trigger's table, as the kernel's `hist` file has it. `length` is its length in bytes.
+ * HISTDESK_NO_TRIGGER. */
+uint32_t histdesk_hist(histdesk *desk, uint32_t id, uint64_t *length);
+
+/* Asks for the text of a trigger with all that was left out, as the third line of its table shows it.
+ * HISTDESK_NO_TRIGGER. */
+uint32_t histdesk_trigger_text(histdesk *desk, uint32_t id, uint64_t *length);
+
+/* Asks for the text of a CPU's lane: each event's line, by line number. HISTDESK_NO_LANE. */
+uint32_t histdesk_list(histdesk *desk, uint32_t cpu, uint64_t *length);
+
+/* Copies from the text that was asked for last, by any of these three calls. */
+size_t histdesk_text_copy(histdesk *desk, uint64_t from, uint8_t *to, size_t room);
+
+/* Asks for the rows of a trigger's table, in the order of its text. `count` is how many. HISTDESK_NO_TRIGGER. */
+uint32_t histdesk_rows(histdesk *desk, uint32_t id, uint64_t *count);
+size_t histdesk_rows_copy(histdesk *desk, uint64_t from, histdesk_row *to, size_t room);
+
+/* Asks for the latencies of a trigger that reads a variable, in merged order of the reading events.
+ * HISTDESK_NO_TRIGGER, HISTDESK_NOT_READING. */
+uint32_t histdesk_latencies(histdesk *desk, uint32_t id, uint64_t *count);
+size_t histdesk_latencies_copy(histdesk *desk, uint64_t from, histdesk_latency *to, size_t room);
+
+/* Asks for the attached triggers, by id. No refusal but HISTDESK_MEMORY. */
+uint32_t histdesk_triggers(histdesk *desk, uint64_t *count);
+size_t histdesk_triggers_copy(histdesk *desk, uint64_t from, histdesk_trigger *to, size_t room);
+
+/* ---- Questions about events. */
+
+/* Asks for the places of all held events, in merged order. No refusal but HISTDESK_MEMORY. */
+uint32_t histdesk_events(histdesk *desk, uint64_t *count);
+
+/* Asks for the places of a CPU's events from a line on, by line number. HISTDESK_NO_LANE. */
+uint32_t histdesk_lane(histdesk *desk, uint32_t cpu, uint32_t line, uint64_t *count);
+
+/* Asks for the places of the events of that name on which the filter holds, in merged order; one that always holds is
+ * common_cpu >= 0. HISTDESK_BAD_COMMAND (no name that triggers are attached to), HISTDESK_BAD_FILTER. */
+uint32_t histdesk_matching(histdesk *desk, uint32_t event, const uint8_t *filter, size_t length, uint64_t *count);
+
+/* Copies the places that were asked for last, by any of these three calls. */
+size_t histdesk_places_copy(histdesk *desk, uint64_t from, histdesk_place *to, size_t room);
+
+/* Copies the events that are held now at these places; HISTDESK_NONE where none is any more. */
+size_t histdesk_events_copy(histdesk *desk, uint64_t from, histdesk_event *to, size_t room);
+
+/* Gives back the memory of all that was asked for, and of the report. What is held and attached stays. */
+void histdesk_forget(histdesk *desk);
+
+/* ---- Refusals. */
+
+/* Why the last call with a code was refused; this call itself is none of them. HISTDESK_OK, or HISTDESK_CLOSED. */
+uint32_t histdesk_refused(histdesk *desk, histdesk_refusal *refusal);
+
+/* Writes the refusal as scripts print it, `refused 8: fault 3`, without a line break, or as words; as much as `room` allows,
+ * and answers how much that was: at most 64 bytes, and 160. They need no desk. 0 where the numbers are of no refusal, or
+ * memory ran out. */
+size_t histdesk_refusal_text(const histdesk_refusal *refusal, uint8_t *to, size_t room);
+size_t histdesk_refusal_words(const histdesk_refusal *refusal, uint8_t *to, size_t room);
+
+/* ---- Sizes and offsets in bytes, which the library was built with. */
+#if defined(__cplusplus) ? __cplusplus >= 201103L : defined(__STDC_VERSION__) && __STDC_VERSION__ >= 201112L
+#ifdef __cplusplus
+#define HISTDESK_ASSERT_(holds) static_assert(holds, #holds)
+#else
+#define HISTDESK_ASSERT_(holds) _Static_assert(holds, #holds)
+#endif
+#define HISTDESK_AT_(type, field, offset) HISTDESK_ASSERT_(offsetof(type, field) == (offset))
+
+HISTDESK_ASSERT_(sizeof(bool) == 1);
+HISTDESK_ASSERT_(sizeof(histdesk) == sizeof(void *));
+HISTDESK_ASSERT_(sizeof(histdesk_name) == 32);
+HISTDESK_AT_(histdesk_name, length, 31);
+HISTDESK_ASSERT_(sizeof(histdesk_line) == 8);
+HISTDESK_AT_(histdesk_line, line, 4);
+HISTDESK_ASSERT_(sizeof(histdesk_place) == 16);
+HISTDESK_AT_(histdesk_place, cpu, 8);
+HISTDESK_AT_(histdesk_place, line, 12);
+HISTDESK_ASSERT_(sizeof(histdesk_totals) == 24);
+HISTDESK_AT_(histdesk_totals, entries, 8);
+HISTDESK_AT_(histdesk_totals, dropped, 16);
+HISTDESK_ASSERT_(sizeof(histdesk_part) == 56);
+HISTDESK_AT_(histdesk_part, bucket, 8);
+HISTDESK_AT_(histdesk_part, text, 16);
+HISTDESK_AT_(histdesk_part, kind, 48);
+HISTDESK_ASSERT_(sizeof(histdesk_key) == 176);
+HISTDESK_AT_(histdesk_key, part, 8);
+HISTDESK_ASSERT_(sizeof(histdesk_row) == 208);
+HISTDESK_AT_(histdesk_row, hitcount, 176);
+HISTDESK_AT_(histdesk_row, sums, 184);
+HISTDESK_ASSERT_(sizeof(histdesk_latency) == 40);
+HISTDESK_AT_(histdesk_latency, read, 16);
+HISTDESK_AT_(histdesk_latency, micros, 32);
+HISTDESK_ASSERT_(sizeof(histdesk_event) == 176);
+HISTDESK_AT_(histdesk_event, name, 16);
+HISTDESK_AT_(histdesk_event, common_pid, 20);
+HISTDESK_AT_(histdesk_event, pid, 24);
+HISTDESK_AT_(histdesk_event, prio, 28);
+HISTDESK_AT_(histdesk_event, target_cpu, 32);
+HISTDESK_AT_(histdesk_event, prev_pid, 36);
+HISTDESK_AT_(histdesk_event, prev_prio, 40);
+HISTDESK_AT_(histdesk_event, task, 44);
+HISTDESK_AT_(histdesk_event, comm, 76);
+HISTDESK_AT_(histdesk_event, prev_comm, 108);
+HISTDESK_AT_(histdesk_event, prev_state, 140);
+HISTDESK_ASSERT_(sizeof(histdesk_trigger) == 8);
+HISTDESK_AT_(histdesk_trigger, event, 4);
+HISTDESK_ASSERT_(sizeof(histdesk_changed) == 184);
+HISTDESK_AT_(histdesk_changed, key, 8);
+HISTDESK_ASSERT_(sizeof(histdesk_report) == 24);
+HISTDESK_AT_(histdesk_report, has_made, 1);
+HISTDESK_AT_(histdesk_report, rows, 8);
+HISTDESK_AT_(histdesk_report, made, 16);
+HISTDESK_ASSERT_(sizeof(histdesk_refusal) == 40);
+HISTDESK_AT_(histdesk_refusal, fault, 4);
+HISTDESK_AT_(histdesk_refusal, filter_fault, 8);
+HISTDESK_AT_(histdesk_refusal, cpu, 12);
+HISTDESK_AT_(histdesk_refusal, trigger, 16);
+HISTDESK_AT_(histdesk_refusal, has_place, 20);
+HISTDESK_AT_(histdesk_refusal, line, 24);
+HISTDESK_AT_(histdesk_refusal, place, 32);
+
+#undef HISTDESK_AT_
+#undef HISTDESK_ASSERT_
+#endif
+
+#ifdef __cplusplus
+}
+#endif
+
+#endif
