@@ -268,7 +268,7 @@ uint32_t histdesk_trigger_text(histdesk *desk, uint32_t id, uint64_t *length);
 /* Asks for the text of a CPU's lane: each event's line, by line number. HISTDESK_NO_LANE. */
 uint32_t histdesk_list(histdesk *desk, uint32_t cpu, uint64_t *length);
 
-/* Copies from the text that was asked for last, by any of these three calls. */
+/* Copies from the text that was asked for last, by one of these three calls. */
 size_t histdesk_text_copy(histdesk *desk, uint64_t from, uint8_t *to, size_t room);
 
 /* Asks for the rows of a trigger's table, in the order of its text. `count` is how many. HISTDESK_NO_TRIGGER. */
@@ -286,6 +286,9 @@ size_t histdesk_triggers_copy(histdesk *desk, uint64_t from, histdesk_trigger *t
 
 /* ---- Questions about events. */
 
+/* The event that is held at a CPU's line. HISTDESK_NO_LANE, HISTDESK_NO_EVENT; never HISTDESK_MEMORY. */
+uint32_t histdesk_event_at(histdesk *desk, uint32_t cpu, uint32_t line, histdesk_event *event);
+
 /* Asks for the places of all held events, in merged order. No refusal but HISTDESK_MEMORY. */
 uint32_t histdesk_events(histdesk *desk, uint64_t *count);
 
@@ -296,7 +299,7 @@ uint32_t histdesk_lane(histdesk *desk, uint32_t cpu, uint32_t line, uint64_t *co
  * common_cpu >= 0. HISTDESK_BAD_COMMAND (no name that triggers are attached to), HISTDESK_BAD_FILTER. */
 uint32_t histdesk_matching(histdesk *desk, uint32_t event, const uint8_t *filter, size_t length, uint64_t *count);
 
-/* Copies the places that were asked for last, by any of these three calls. */
+/* Copies the places that were asked for last, by one of these three calls. */
 size_t histdesk_places_copy(histdesk *desk, uint64_t from, histdesk_place *to, size_t room);
 
 /* Copies the events that are held now at these places; HISTDESK_NONE where none is any more. */
