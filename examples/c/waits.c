@@ -7,7 +7,7 @@
 #include <stdlib.h>
 
 #define TEXT(literal) (const uint8_t *)(literal), sizeof(literal) - 1
-enum { MOST_WAITS = 20, MOST_BYTES = 1 << 30 };
+enum { MOST_WAITS = 20 };
 
 /* Ends the program where a call was refused, with the library's words. */
 static void must(uint32_t code, histdesk *desk, const char *what) {
@@ -23,13 +23,20 @@ static void must(uint32_t code, histdesk *desk, const char *what) {
 
 static void load(histdesk *desk, const char *path) {
     FILE *file = fopen(path, "rb");
-    uint8_t *trace = malloc(MOST_BYTES);
+    uint8_t *trace = NULL, *larger = NULL;
+    size_t length = 0, room = 0;
     uint64_t events;
-    if (!file || !trace) {
+    do {
+        room = 2 * room + 65536;
+        if (!file || !(larger = realloc(trace, room)))
+            break;
+        trace = larger;
+        length += fread(trace + length, 1, room - length, file);
+    } while (length == room);
+    if (!file || !larger || ferror(file)) {
         perror(path);
         exit(1);
     }
-    size_t length = fread(trace, 1, MOST_BYTES, file);
     must(histdesk_load(desk, trace, length, &events), desk, path);
     free(trace);
     fclose(file);

@@ -240,7 +240,10 @@ static void ask_triggers(void) {
 static void ask_events(void) {
     static const histdesk_place all[] = {{1000100, 0, 1}, {1000120, 1, 1}, {1000150, 0, 2}};
     static const uint32_t names[] = {HISTDESK_WAKING, HISTDESK_OTHER, HISTDESK_SWITCH};
+    histdesk_event event;
     uint64_t count;
+    ALWAYS(HISTDESK_OK, histdesk_event_at(&desk, 0, 2, &event));
+    HOLDS(event.name == HISTDESK_SWITCH && event.pid == 42 && event.place.stamp == 1000150);
     GIVES(HISTDESK_OK, histdesk_events(&desk, &count));
     HOLDS(are_places(count, 3, all, names));
     KEEPS(HISTDESK_OK, histdesk_lane(&desk, 0, 2, &count), are_places(3, 3, all, names));

@@ -65,13 +65,19 @@ static void put_event(bytes *to, const histdesk_event *event, histdesk_event *ow
     put_form(to, "\n");
 }
 
-static void check_event(bytes *to, const histdesk_place *place, const histdesk_event *event) {
-    histdesk_event own;
+/* Whether they are the same in all but the four bytes behind their last field. */
+static bool is_same_event(const histdesk_event *one, const histdesk_event *other) {
+    return memcmp(one, other, offsetof(histdesk_event, prev_state) + sizeof one->prev_state) == 0;
+}
+
+static void check_event(histdesk *desk, bytes *to, const histdesk_place *place, const histdesk_event *event) {
+    histdesk_event own, at;
     memset(&own, 0, sizeof own);
     own.place = *place;
     put_event(to, event, &own);
-    /* Without the four bytes behind its last field. */
-    if (memcmp(&own, event, offsetof(histdesk_event, prev_state) + sizeof own.prev_state) != 0)
+    if (histdesk_event_at(desk, place->cpu, place->line, &at) != HISTDESK_OK || !is_same_event(event, &at))
+        fault("another event at %" PRIu32 ":%" PRIu32, place->cpu, place->line);
+    if (!is_same_event(&own, event))
         fault("the event at %" PRIu32 ":%" PRIu32 " stands elsewhere, or has more than its name has", place->cpu, place->line);
 }
 
@@ -85,7 +91,7 @@ static uint64_t put_lane(histdesk *desk, uint32_t cpu, uint32_t line, bytes *to)
     for (uint64_t at = 0; at < count; at++) {
         if (places[at].cpu != cpu || places[at].line < line || (at > 0 && places[at - 1].line >= places[at].line))
             fault("CPU %" PRIu32 ": places that are not by line", cpu);
-        check_event(to, &places[at], &events[at]);
+        check_event(desk, to, &places[at], &events[at]);
     }
     free(places);
     free(events);
@@ -117,7 +123,7 @@ void check_events(histdesk *desk) {
     for (uint64_t at = 0; at < count; at++) {
         if (at > 0 && by_place(&places[at - 1], &places[at]) >= 0)
             fault("events that are not in merged order");
-        check_event(&lines, &places[at], &events[at]);
+        check_event(desk, &lines, &places[at], &events[at]);
         is_held[places[at].cpu] = true;
     }
     free(lines.at);
