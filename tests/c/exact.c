@@ -366,6 +366,9 @@ static void write_refusals(void) {
         {{.number = 8, .fault = 11, .filter_fault = 8}, "", ""},
         {{.number = 9}, "", ""},
         {{.number = 9, .filter_fault = UINT32_MAX}, "", ""},
+        {{.number = 9, .filter_fault = 5}, "", ""},
+        {{.number = 9, .filter_fault = 7, .has_place = true}, "", ""},
+        {{.number = 10, .line = 1}, "", ""},
     };
     for (size_t at = 0; at < sizeof all / sizeof *all; at++) {
         histdesk_refusal *own = exact(&all[at].refusal, sizeof *own);
