@@ -78,7 +78,7 @@ random_row() {
 
 # full_row: a row with a trace of one event more than a desk holds, and with edits of a desk that holds the most.
 full_row() {
-    local row=$folder/rows/full
+    local row=$folder/full
     mkdir -p -- "$row"
     yes 'a-1 [000] 1.000000:' | head -n 1048577 >"$row/trace1"
     head -n 1048576 -- "$row/trace1" >"$row/trace2"
@@ -137,11 +137,12 @@ if [[ -n $histdesk ]]; then
         random_row "mixed_$seed" 300 200 "$seed" "$histdesk"
     done
 fi
-full_row
 for one in "$here"/rows/* "$folder"/rows/*; do
     row "$one" "$folder/script"
     row "$one" "$folder/script" --numbers
 done
+full_row
+row "$folder/full" "$folder/script"
 
 # ---- Growths that are refused, and buffers of just their size.
 
