@@ -1,9 +1,9 @@
 #!/usr/bin/env bash
 # c_library.sh [LIBRARY [HISTDESK]]: tests the C library, libhistdesk.so.0, by programs in C: the header, what the object
 # exports and asks for, the rows and random scripts, line by line, with numbers held against texts, a desk that is full,
-# growths of memory that are refused, buffers of just their size (under valgrind where it is installed), and the example.
-# Where HISTDESK is given, more random scripts are held against that program. Without a word, LIBRARY is the one that the
-# variable LIBHISTDESK names, or the one built here. It prints what went wrong, and a last line with the counts.
+# growths of memory that are refused, buffers of just their size and threads (under valgrind where it is installed), and the
+# example. Where HISTDESK is given, more random scripts are held against that program. Without a word, LIBRARY is the one
+# that the variable LIBHISTDESK names, or the one built here. It prints what went wrong, and a last line with the counts.
 set -uo pipefail
 
 here=$(dirname -- "$(realpath -- "${BASH_SOURCE[0]}")")
@@ -150,9 +150,12 @@ program fail "$here/c/fail.c"
 holds "$folder/fail"
 program exact "$here/c/exact.c"
 holds "$folder/exact"
+program threads -pthread "$here/c/threads.c"
+holds "$folder/threads"
 if command -v valgrind >/dev/null; then
     checked=(valgrind -q --error-exitcode=9 --leak-check=full --show-leak-kinds=all --errors-for-leak-kinds=all)
     gives "exact, under valgrind" 0 "" "${checked[@]}" "$folder/exact"
+    gives "threads, under helgrind" 0 "" valgrind -q --tool=helgrind --error-exitcode=9 "$folder/threads"
     for one in one_latency each_edit_with_answers; do
         row "$here/rows/$one" "${checked[@]}" "$folder/script" --numbers
     done

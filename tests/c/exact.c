@@ -207,6 +207,25 @@ static void ask_and_edit(void) {
     HOLDS(histdesk_rows_copy(desk, 1, &row, 1) == 1 && row.key.part[0].text.bytes[0] == 'w');
 }
 
+/* What one desk holds and tells is no other's. */
+static void keep_apart(void) {
+    histdesk *first = desk, *second = exact(&(histdesk){0}, sizeof *second);
+    histdesk_refusal refusal;
+    uint64_t count;
+    fill();
+    desk = second;
+    HOLDS(histdesk_new(second) == HISTDESK_OK && load("a-1 [000] 1.000000:", &count) == HISTDESK_OK && count == 1);
+    HOLDS(histdesk_hist(second, 1, &count) == HISTDESK_NO_TRIGGER);
+    HOLDS(histdesk_refused(first, &refusal) == HISTDESK_OK && refusal.number == HISTDESK_OK);
+    HOLDS(histdesk_events(first, &count) == HISTDESK_OK && count == 5);
+    HOLDS(histdesk_events(second, &count) == HISTDESK_OK && count == 1);
+    histdesk_free(first);
+    HOLDS(histdesk_events(second, &count) == HISTDESK_OK && count == 1);
+    histdesk_free(second);
+    free(second);
+    desk = first;
+}
+
 /* ---- Handles without a desk. */
 
 static void are_closed(void) {
@@ -383,6 +402,7 @@ int main(void) {
     are_closed(); /* never made */
     ask_and_copy();
     ask_and_edit();
+    keep_apart();
     refuse_edits();
     refuse_questions();
     write_refusals();
