@@ -1,0 +1,69 @@
+"""The scheduler trace desk: reads the text of the kernel's tracefs `trace` file, attaches hist triggers to its events, and
+answers with tables, totals and latencies.
+
+A `Desk` holds events and triggers, and each answer is that of replaying the events now held past the triggers now attached.
+How long tasks wait from their waking to the switch that runs them:
+
+>>> import histdesk
+>>> desk = histdesk.Desk()
+>>> desk.load(b'''\
+... sim-1 [000] d.h.. 1.000100: sched_waking: comm=w pid=42 prio=120 target_cpu=000
+... sim-1 [000] d.... 1.000150: sched_switch: prev_comm=sim prev_pid=1 prev_prio=120 prev_state=S ==> next_comm=w next_pid=42 next_prio=120
+... ''')
+2
+>>> wakings = desk.attach("sched_waking", "hist:keys=pid:ts0=common_timestamp.usecs")
+>>> waits = desk.attach("sched_switch", "hist:keys=next_pid:vals=$lat:lat=common_timestamp.usecs-$ts0")
+>>> waits.rows()
+[Row(next_pid=42, hitcount=1, lat=50)]
+>>> waits
+histdesk.Trigger 2 on sched_switch: hist:keys=next_pid:vals=hitcount,$lat:lat=common_timestamp.usecs-$ts0:sort=hitcount:size=2048
+next_pid  hitcount  lat
+      42         1   50
+hits 1, entries 1, dropped 0
+>>> [int(micros) for micros in (wait.micros for wait in waits.latencies())]
+[50]
+
+Without the waking there is no wait, and the edit names the rows that may have changed:
+
+>>> desk.strike(0, 1).changed
+[Changed(trigger=1, key=(42,)), Changed(trigger=2, key=(42,))]
+>>> len(waits.latencies())
+0
+
+What is refused raises `Refused` with the number that scripts print, and changes nothing:
+
+>>> desk.strike(0, 1)
+Traceback (most recent call last):
+    ...
+histdesk.Refused: no event is there
+
+Stamps and latencies are in microseconds. Texts are `str`; bytes in them that aren't UTF-8 are kept, as `surrogateescape`
+keeps them. numpy and pandas are used where they are there. The library `libhistdesk.so.0` is looked for where the
+environment variable `HISTDESK_LIBRARY` says, then in the folders around the package, then where the loader looks.
+"""
+
+from ._desk import Desk
+from ._events import Events
+from ._refused import Refused
+from ._trigger import Trigger
+from ._values import Bucket, Changed, Edit, Event, Latency, Log2, Place, Totals
+
+__all__ = [
+    "Bucket",
+    "Changed",
+    "Desk",
+    "Edit",
+    "Event",
+    "Events",
+    "Latency",
+    "Log2",
+    "Place",
+    "Refused",
+    "Totals",
+    "Trigger",
+]
+
+# They are known by the package's name, wherever in it they stand.
+for _thing in (Bucket, Changed, Desk, Edit, Event, Events, Latency, Log2, Place, Refused, Totals, Trigger):
+    _thing.__module__ = __name__
+del _thing

@@ -1,0 +1,135 @@
+"""What the library's structs look like in memory: those that go by themselves for ctypes, those that come in great numbers
+for `struct` and numpy. Sizes and order are those of `histdesk.h`."""
+
+from __future__ import annotations
+
+import ctypes
+import functools
+import struct
+from typing import Any
+
+EVENT_NAMES = ("sched_waking", "sched_wakeup", "sched_wakeup_new", "sched_switch", "wakeup_latency", "other")
+SWITCH, OTHER, NO_EVENT = 3, 5, 255
+# Codes: accepted, out of memory, and no desk.
+OK, MEMORY, CLOSED = 0, 1, 255
+# Kinds of a key's part.
+PLAIN, LOG2, BUCKET, TEXT = 0, 1, 2, 3
+
+
+class Handle(ctypes.Structure):
+    """A desk, as the library has it."""
+
+    _fields_ = [("at", ctypes.c_void_p)]
+
+
+class Line(ctypes.Structure):
+    """Where an event stands: its CPU, and its line there, from 1."""
+
+    _fields_ = [("cpu", ctypes.c_uint32), ("line", ctypes.c_uint32)]
+
+
+class Totals(ctypes.Structure):
+    """A table's totals."""
+
+    _fields_ = [("hits", ctypes.c_uint64), ("entries", ctypes.c_uint64), ("dropped", ctypes.c_uint64)]
+
+
+class Report(ctypes.Structure):
+    """How many rows the report of the last edit names, of both kinds, and whether there is one of each."""
+
+    _fields_ = [
+        ("has_rows", ctypes.c_bool),
+        ("has_made", ctypes.c_bool),
+        ("rows", ctypes.c_uint64),
+        ("made", ctypes.c_uint64),
+    ]
+
+
+class Refusal(ctypes.Structure):
+    """Why a call was refused; what doesn't belong to the number is 0."""
+
+    _fields_ = [
+        ("number", ctypes.c_uint32),
+        ("fault", ctypes.c_uint32),
+        ("filter_fault", ctypes.c_uint32),
+        ("cpu", ctypes.c_uint32),
+        ("trigger", ctypes.c_uint32),
+        ("has_place", ctypes.c_bool),
+        ("line", ctypes.c_uint64),
+        ("place", ctypes.c_uint64),
+    ]
+
+
+# A name is 31 bytes and its length; a key is the number of its parts, and room for three of them: number, bucket, name, kind.
+NAME_CODE = "31sB"
+PART_CODE = "qQ" + NAME_CODE + "Q"
+KEY_CODE = "Q" + 3 * PART_CODE
+PLACE_CODE = "QII"
+
+PLACE = struct.Struct("=" + PLACE_CODE)
+LATENCY = struct.Struct("=" + 2 * PLACE_CODE + "Q")
+ROW = struct.Struct("=" + KEY_CODE + "4Q")
+CHANGED = struct.Struct("=Q" + KEY_CODE)
+TRIGGER = struct.Struct("=II")
+EVENT = struct.Struct("=" + PLACE_CODE + "I6i" + 4 * NAME_CODE + "4x")
+
+# Where the parts of a key stand among the fields of a row, and how many fields each part has.
+FIRST_PART, PART_FIELDS, SUMS = 1, 5, 1 + 3 * 5
+
+# Stamps and latencies are below 2^52, so a signed number holds them too, and differences of them are right.
+PLACE_FIELDS = [("stamp", "=i8"), ("cpu", "=u4"), ("line", "=u4")]
+LATENCY_FIELDS = [
+    *((f"saved_{name}", kind) for name, kind in PLACE_FIELDS),
+    *((f"read_{name}", kind) for name, kind in PLACE_FIELDS),
+    ("micros", "=i8"),
+]
+EVENT_FIELDS = [
+    *PLACE_FIELDS,
+    ("name", "=u4"),
+    *((name, "=i4") for name in ["common_pid", "pid", "prio", "target_cpu", "prev_pid", "prev_prio"]),
+    *(field for name in ["task", "comm", "prev_comm", "prev_state"] for field in [(name, "S31"), (f"{name}_length", "u1")]),
+]
+
+
+@functools.lru_cache(maxsize=None)
+def numpy() -> Any:
+    """numpy, or None where there is none."""
+    try:
+        import numpy as module
+    except ImportError:
+        return None
+    return module
+
+
+@functools.lru_cache(maxsize=None)
+def place_type() -> Any:
+    """A place, for numpy."""
+    return numpy().dtype(PLACE_FIELDS)
+
+
+@functools.lru_cache(maxsize=None)
+def latency_type() -> Any:
+    """A latency, for numpy."""
+    return numpy().dtype(LATENCY_FIELDS)
+
+
+@functools.lru_cache(maxsize=None)
+def event_type() -> Any:
+    """An event, for numpy: the names as 31 bytes with their lengths behind them, and the end filled up as in C."""
+    return numpy().dtype(EVENT_FIELDS, align=True)
+
+
+@functools.lru_cache(maxsize=16384)
+def text_of(name: bytes, length: int) -> str:
+    """A name of the library as a text. Bytes that aren't UTF-8 are kept, as `surrogateescape` keeps them."""
+    return decoded(name[:length])
+
+
+def decoded(text: bytes) -> str:
+    """A text of the library as a `str`, which `encoded` turns back."""
+    return text.decode("utf-8", "surrogateescape")
+
+
+def encoded(text: str) -> bytes:
+    """A `str` as bytes for the library."""
+    return text.encode("utf-8", "surrogateescape")

@@ -1,0 +1,113 @@
+"""Finds `libhistdesk.so.0` and tells ctypes what each of its calls takes and answers."""
+
+from __future__ import annotations
+
+import ctypes
+import os
+from typing import Any, List
+
+from . import _layout
+
+NAME = "libhistdesk.so.0"
+VARIABLE = "HISTDESK_LIBRARY"
+
+Code, Number, Wide, Size = ctypes.c_uint32, ctypes.c_uint32, ctypes.c_uint64, ctypes.c_size_t
+Desk = ctypes.POINTER(_layout.Handle)
+Count = ctypes.POINTER(Wide)
+# A text, and room for one: where it is, and how long it is. A text may hold zero bytes.
+TEXT = [ctypes.c_char_p, Size]
+ROOM = [Wide, ctypes.c_void_p, Size]
+
+# What each call answers, and what it takes behind the desk.
+CALLS = {
+    "histdesk_new": (Code, []),
+    "histdesk_free": (None, []),
+    "histdesk_load": (Code, [ctypes.c_void_p, Size, Count]),
+    "histdesk_unload": (Code, [Number, Count]),
+    "histdesk_insert": (Code, [*TEXT, ctypes.POINTER(_layout.Line)]),
+    "histdesk_strike": (Code, [Number, Number]),
+    "histdesk_attach": (Code, [Number, *TEXT, ctypes.POINTER(Number)]),
+    "histdesk_refilter": (Code, [Number, *TEXT]),
+    "histdesk_unfilter": (Code, [Number]),
+    "histdesk_remove": (Code, [Number]),
+    "histdesk_totals_of": (Code, [Number, ctypes.POINTER(_layout.Totals)]),
+    "histdesk_hist": (Code, [Number, Count]),
+    "histdesk_list": (Code, [Number, Count]),
+    "histdesk_trigger_text": (Code, [Number, Count]),
+    "histdesk_text_copy": (Size, ROOM),
+    "histdesk_rows": (Code, [Number, Count]),
+    "histdesk_rows_copy": (Size, ROOM),
+    "histdesk_latencies": (Code, [Number, Count]),
+    "histdesk_latencies_copy": (Size, ROOM),
+    "histdesk_events": (Code, [Count]),
+    "histdesk_lane": (Code, [Number, Number, Count]),
+    "histdesk_matching": (Code, [Number, *TEXT, Count]),
+    "histdesk_event_at": (Code, [Number, Number, ctypes.c_void_p]),
+    "histdesk_places_copy": (Size, ROOM),
+    "histdesk_events_copy": (Size, ROOM),
+    "histdesk_triggers": (Code, [Count]),
+    "histdesk_triggers_copy": (Size, ROOM),
+    "histdesk_report_of": (Code, [ctypes.POINTER(_layout.Report)]),
+    "histdesk_rows_changed_copy": (Size, ROOM),
+    "histdesk_made_changed_copy": (Size, ROOM),
+    "histdesk_is_deferred": (ctypes.c_bool, []),
+    "histdesk_forget": (None, []),
+    "histdesk_refused": (Code, [ctypes.POINTER(_layout.Refusal)]),
+}
+# These take a refusal, and no desk.
+REFUSAL_CALLS = ["histdesk_refusal_text", "histdesk_refusal_words"]
+
+
+def candidates(package: str) -> List[str]:
+    """Where the library may stand, seen from the package's folder: in it; in `lib` of the prefix that the package is
+    installed in, as `PREFIX/lib/python3/dist-packages/histdesk` or as `PREFIX/python/histdesk`; and where a checkout builds
+    it."""
+    places = [
+        [NAME],
+        ["..", "..", "..", NAME],
+        ["..", "..", "lib", NAME],
+        ["..", "..", "crates", "ft_c", "out", NAME],
+    ]
+    return [os.path.normpath(os.path.join(package, *place)) for place in places]
+
+
+def found() -> str:
+    """The library's path, or its bare name where the loader has to find it."""
+    named = os.environ.get(VARIABLE)
+    if named:
+        return named
+    package = os.path.dirname(os.path.realpath(__file__))
+    return next((path for path in candidates(package) if os.path.exists(path)), NAME)
+
+
+def opened(path: str) -> ctypes.PyDLL:
+    """The library at that path. No other thread runs Python code during a call.
+
+    Raises `ImportError` where it can't be loaded, which says what to do."""
+    try:
+        return ctypes.PyDLL(path)
+    except OSError as error:
+        package = os.path.dirname(os.path.realpath(__file__))
+        looked = ", ".join([*candidates(package), "the loader's folders"])
+        told = f"{VARIABLE} names it" if os.environ.get(VARIABLE) else f"looked for in {looked}"
+        raise ImportError(
+            f"histdesk needs the library {NAME}, which can't be loaded: {error} ({told}). Build and install it with "
+            f"tools/install in a checkout of histdesk, or name the file in the environment variable {VARIABLE}."
+        ) from None
+
+
+def bound(library: ctypes.PyDLL) -> Any:
+    """The library, with the types of its calls. Raises `ImportError` where it lacks one."""
+    calls = {name: (answer, [Desk, *takes]) for name, (answer, takes) in CALLS.items()}
+    for name in REFUSAL_CALLS:
+        calls[name] = (Size, [ctypes.POINTER(_layout.Refusal), ctypes.c_void_p, Size])
+    for name, (answer, takes) in calls.items():
+        try:
+            call = getattr(library, name)
+        except AttributeError:
+            raise ImportError(f"{library._name} has no call {name}: it is of another version than this package") from None
+        call.restype, call.argtypes = answer, takes
+    return library
+
+
+library: Any = bound(opened(found()))

@@ -1,0 +1,92 @@
+"""What the desk refuses, as exceptions."""
+
+from __future__ import annotations
+
+import ctypes
+from typing import Any, Optional
+
+from . import _layout, _shown
+from ._library import library
+
+TEXT_ROOM, WORDS_ROOM = 64, 160
+BAD_LINE, LANE_HELD, NO_LANE, BAD_TRIGGER, BAD_FILTER, IN_USE, NAME_TAKEN = 3, 4, 5, 8, 9, 11, 12
+FILTER_OF_TRIGGER = 11
+
+
+class Refused(Exception):
+    """The desk refused a call, and nothing held has changed. `str()` of it says why.
+
+    | Attribute | What it is | With which numbers |
+    |---|---|---|
+    | `number` | why, as a script's line `refused N` | all |
+    | `line`, `fault` | the first line that can't be read, from 1, and what is wrong with it | 3 |
+    | `cpu` | the CPU that is held already, or isn't held | 4, 5 |
+    | `fault` | what is wrong with the trigger's text | 8 |
+    | `filter_fault` | what is wrong with a filter's text | 9, and 8 where the fault is 11 |
+    | `place` | the byte of that text, from 0, at which it is wrong | 8, 9, some faults |
+    | `trigger` | the id of the trigger that reads, or that saves under the name already | 11, 12 |
+    | `text` | what a script prints, as `refused 8: fault 3` | all |
+
+    What doesn't belong to the number is None. The numbers are those of docs/FORMAT.md, 7.3, 1.4, 3.2 and 2.3.
+
+    >>> desk = Desk()
+    >>> try:
+    ...     desk.attach("sched_waking", "hist:keys=pid:pause")
+    ... except Refused as refused:
+    ...     print(refused.text)
+    refused 8: fault 10 at 14
+    """
+
+    number: int = 0
+    fault: Optional[int] = None
+    filter_fault: Optional[int] = None
+    place: Optional[int] = None
+    line: Optional[int] = None
+    cpu: Optional[int] = None
+    trigger: Optional[int] = None
+    text: str = ""
+
+
+def exception_of(refusal: _layout.Refusal, given: Optional[bytes] = None) -> Exception:
+    """The exception for a refusal: `MemoryError` where memory ran out. `given` is the text that was handed in; where Python
+    prints notes, it stands under the exception with a mark at the place."""
+    words = told(library.histdesk_refusal_words, refusal, WORDS_ROOM)
+    if refusal.number == _layout.MEMORY:
+        return MemoryError(words or "out of memory")
+    refused = Refused(words)
+    refused.number = refusal.number
+    refused.text = told(library.histdesk_refusal_text, refusal, TEXT_ROOM)
+    detail(refused, refusal)
+    if given is not None and refused.place is not None and hasattr(refused, "add_note"):
+        refused.add_note(marked(given, refused.place))
+    return refused
+
+
+def detail(refused: Refused, refusal: _layout.Refusal) -> None:
+    """Sets what belongs to the refusal's number."""
+    number = refusal.number
+    if number in (BAD_LINE, BAD_TRIGGER):
+        refused.fault = refusal.fault
+    if number == BAD_LINE:
+        refused.line = refusal.line
+    elif number in (LANE_HELD, NO_LANE):
+        refused.cpu = refusal.cpu
+    elif number in (IN_USE, NAME_TAKEN):
+        refused.trigger = refusal.trigger
+    elif number == BAD_FILTER or refused.fault == FILTER_OF_TRIGGER:
+        refused.filter_fault = refusal.filter_fault
+    if refusal.has_place:
+        refused.place = refusal.place
+
+
+def told(call: Any, refusal: _layout.Refusal, room: int) -> str:
+    """What one of the two calls on a refusal writes."""
+    buffer = ctypes.create_string_buffer(room)
+    length = call(refusal, buffer, room)
+    return _layout.decoded(buffer.raw[:length])
+
+
+def marked(given: bytes, place: int) -> str:
+    """A text on one line, and under it a mark at the place."""
+    front = _shown.shown(_layout.decoded(given[:place]))
+    return _shown.shown(_layout.decoded(given)) + "\n" + " " * len(front) + "^"

@@ -1,0 +1,189 @@
+"""A desk as the library has it: calls on it, refusals as exceptions, and answers copied out of it."""
+
+from __future__ import annotations
+
+import ctypes
+import struct
+import threading
+from typing import Any, Callable, Dict, List, NamedTuple, Optional
+
+from . import _layout
+from ._events import Events
+from ._library import library
+from ._refused import exception_of
+from ._shape import Shape
+from ._values import Changed, Edit, Latency, Place
+
+# Each thread has an object of its own here, by which a desk knows the thread that made it.
+here = threading.local()
+
+
+class Record(NamedTuple):
+    """A struct that comes in great numbers: for `struct`, for numpy, and as a named tuple of its fields."""
+
+    layout: struct.Struct
+    kind: Callable[[], Any]
+    make: Callable[[Any], Any]
+
+
+PLACES = Record(_layout.PLACE, _layout.place_type, Place._make)
+LATENCIES = Record(_layout.LATENCY, _layout.latency_type, Latency._make)
+
+
+class Session:
+    """The library's desk, and the thread that made it."""
+
+    # Kept here for the collector, which may come when the modules are gone.
+    _free = staticmethod(library.histdesk_free)
+
+    def __init__(self) -> None:
+        """Raises `MemoryError` where memory ran out."""
+        self.handle = _layout.Handle()
+        self._thread = this_thread()
+        self._shapes: Dict[int, Shape] = {}
+        if library.histdesk_new(self.handle) != _layout.OK:
+            raise MemoryError("out of memory")
+
+    def __del__(self) -> None:
+        # Nobody else has it any more, so it may be freed in whichever thread the collector runs.
+        if hasattr(self, "handle"):
+            self._free(self.handle)
+
+    def close(self) -> None:
+        """Gives back its memory."""
+        self.check_thread()
+        self._free(self.handle)
+
+    @property
+    def closed(self) -> bool:
+        """Whether it was closed."""
+        return not self.handle.at
+
+    def check_thread(self) -> None:
+        """Raises `RuntimeError` in a thread that didn't make it."""
+        if self._thread is not this_thread():
+            raise RuntimeError("a desk can be used only in the thread that made it")
+
+    def check(self) -> None:
+        """Raises `RuntimeError` in a thread that didn't make it, and `ValueError` where it is closed."""
+        self.check_thread()
+        if self.closed:
+            raise ValueError("the desk is closed")
+
+    # ---- calls
+
+    def code(self, call: Any, *arguments: Any) -> int:
+        """What a call answers: 0, or why it is refused. Structs are passed by their address."""
+        self.check()
+        answer: int = call(self.handle, *arguments)
+        return answer
+
+    def call(self, call: Any, *arguments: Any, given: Optional[bytes] = None) -> None:
+        """Makes a call, and raises `Refused` or `MemoryError` where it is refused. `given` is the text that may be at fault."""
+        if self.code(call, *arguments) != _layout.OK:
+            refusal = _layout.Refusal()
+            library.histdesk_refused(self.handle, refusal)
+            raise exception_of(refusal, given)
+
+    def count(self, ask: Any, *arguments: Any, given: Optional[bytes] = None) -> int:
+        """Makes a call that answers a number in its last argument."""
+        count = ctypes.c_uint64()
+        self.call(ask, *arguments, count, given=given)
+        return count.value
+
+    # ---- answers
+
+    def text(self, ask: Any, *arguments: Any) -> str:
+        """A text that the library answers."""
+        return _layout.decoded(self.content(library.histdesk_text_copy, 1, ask, *arguments))
+
+    def content(self, copy: Any, size: int, ask: Any, *arguments: Any, given: Optional[bytes] = None) -> bytearray:
+        """What `ask` answers, as a buffer of structs of so many bytes."""
+        count = self.count(ask, *arguments, given=given)
+        room = bytearray(count * size)
+        self.copied(copy, count, (ctypes.c_char * len(room)).from_buffer(room))
+        return room
+
+    def structs(self, copy: Any, size: int, ask: Any, *arguments: Any, given: Optional[bytes] = None) -> Any:
+        """What `ask` answers, as a buffer of very many structs: numpy's where it is there, which isn't filled before."""
+        numpy = _layout.numpy()
+        if numpy is None:
+            return self.content(copy, size, ask, *arguments, given=given)
+        count = self.count(ask, *arguments, given=given)
+        room = numpy.empty(count * size, "u1")
+        self.copied(copy, count, room.ctypes.data)
+        return room
+
+    def copied(self, copy: Any, count: int, room: Any) -> None:
+        """Copies as many structs as were asked for, and lets the library forget them."""
+        try:
+            complete(copy(self.handle, 0, room, count), count)
+        finally:
+            library.histdesk_forget(self.handle)
+
+    def records(self, copy: Any, record: Record, ask: Any, *arguments: Any, given: Optional[bytes] = None) -> Any:
+        """What `ask` answers, as a numpy record array, or as a list of named tuples where there is no numpy."""
+        content = self.structs(copy, record.layout.size, ask, *arguments, given=given)
+        numpy = _layout.numpy()
+        if numpy is None:
+            return list(map(record.make, record.layout.iter_unpack(content)))
+        return content.view(record.kind()).view(numpy.recarray)
+
+    def events(self, ask: Any, *arguments: Any, given: Optional[bytes] = None) -> Events:
+        """The events at the places that `ask` answers."""
+        return Events(self.structs(library.histdesk_events_copy, _layout.EVENT.size, ask, *arguments, given=given))
+
+    # ---- of triggers
+
+    def trigger_text(self, trigger: int) -> str:
+        """The canonical text of a trigger."""
+        return self.text(library.histdesk_trigger_text, trigger)
+
+    def shape(self, trigger: int) -> Shape:
+        """What a trigger counts by and sums. An id is never given twice, so it is read once."""
+        if trigger not in self._shapes:
+            self._shapes[trigger] = Shape(self.trigger_text(trigger))
+        return self._shapes[trigger]
+
+    # ---- of edits
+
+    def edit(self, cpu: int, line: int) -> Edit:
+        """What the last edit did, which was an accepted one at that place."""
+        deferred = bool(library.histdesk_is_deferred(self.handle))
+        try:
+            return Edit(cpu, line, self._changed(), deferred)
+        except MemoryError:
+            # The edit stands, and its report is lost.
+            return Edit(cpu, line, None, deferred)
+
+    def _changed(self) -> Optional[List[Changed]]:
+        """The rows that the report of the last edit names; None where it lacks those of some triggers."""
+        report = _layout.Report()
+        self.call(library.histdesk_report_of, report)
+        if not (report.has_rows and report.has_made):
+            return None
+        # Both kinds are copied before their triggers are asked for.
+        copies = (library.histdesk_rows_changed_copy, report.rows), (library.histdesk_made_changed_copy, report.made)
+        structs = b"".join([self._report(copy, count) for copy, count in copies])
+        return [self._named(fields) for fields in _layout.CHANGED.iter_unpack(structs)]
+
+    def _report(self, copy: Any, count: int) -> bytes:
+        room = ctypes.create_string_buffer(count * _layout.CHANGED.size)
+        complete(copy(self.handle, 0, room, count), count)
+        return room.raw
+
+    def _named(self, fields: Any) -> Changed:
+        return Changed(fields[0], self.shape(fields[0]).key_of(fields[1:]))
+
+
+def this_thread() -> object:
+    """The object of the thread that runs."""
+    if not hasattr(here, "thread"):
+        here.thread = object()
+    return here.thread
+
+
+def complete(copied: int, count: int) -> None:
+    """Raises `RuntimeError` where less was copied than was answered: a signal's handler has used the desk meanwhile."""
+    if copied != count:
+        raise RuntimeError("the desk was used while an answer was copied")
