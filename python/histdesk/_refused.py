@@ -3,6 +3,7 @@
 from __future__ import annotations
 
 import ctypes
+import re
 from typing import Any, Optional
 
 from . import _layout, _shown
@@ -11,6 +12,8 @@ from ._library import library
 TEXT_ROOM, WORDS_ROOM = 64, 160
 BAD_LINE, LANE_HELD, NO_LANE, BAD_TRIGGER, BAD_FILTER, IN_USE, NAME_TAKEN = 3, 4, 5, 8, 9, 11, 12
 FILTER_OF_TRIGGER = 11
+# What stands before a trigger's filter.
+FRONT = re.compile(rb"[^ \t]*[ \t]+if[ \t]+")
 
 
 class Refused(Exception):
@@ -58,7 +61,9 @@ def exception_of(refusal: _layout.Refusal, given: Optional[bytes] = None) -> Exc
     refused.text = told(library.histdesk_refusal_text, refusal, TEXT_ROOM)
     detail(refused, refusal)
     if given is not None and refused.place is not None and hasattr(refused, "add_note"):
-        refused.add_note(marked(given, refused.place))
+        # A place of a trigger's filter counts from the filter's first byte.
+        front = FRONT.match(given) if refused.fault == FILTER_OF_TRIGGER else None
+        refused.add_note(marked(given, refused.place + (front.end() if front else 0)))
     return refused
 
 

@@ -76,15 +76,10 @@ def is_buffer(trace: Any) -> bool:
 
 def unpacked(content: Any) -> Any:
     """The content of a buffer that begins as gzip's do, and else the buffer."""
-    if beginning(content) != PACKED:
-        return content
+    with bytes_of(content) as (address, length):
+        if ctypes.string_at(address, min(length, len(PACKED))) != PACKED:
+            return content
     try:
         return gzip.decompress(content)
     except (EOFError, zlib.error) as error:
         raise gzip.BadGzipFile(str(error)) from None
-
-
-def beginning(content: Any) -> bytes:
-    """The first bytes of a buffer. Raises `TypeError` where it is none."""
-    with memoryview(content) as view:
-        return bytes(view.cast("B")[: len(PACKED)]) if view.nbytes else b""
