@@ -4,7 +4,7 @@ from __future__ import annotations
 
 import ctypes
 import os
-from typing import IO, Any, Dict, List, NoReturn, Optional, Union
+from typing import IO, Any, Dict, List, NoReturn, Optional, Tuple, Union
 
 from . import _layout, _shown
 from ._events import Events
@@ -173,17 +173,21 @@ class Desk:
     # ---- how it is shown
 
     def _tables(self) -> List[_shown.Table]:
-        triggers = [(trigger.id, trigger.event, trigger.canonical) for trigger in self.triggers()]
         lanes = [*self.cpus().items()]
-        return [_shown.table_of(("CPU", "events"), lanes), _shown.table_of(("id", "event", "trigger"), triggers)]
+        triggers = [(trigger.id, trigger.event, trigger.canonical) for trigger in self.triggers()]
+        tables = [
+            _shown.table_of(("CPU", "events"), len(lanes), lanes.__getitem__),
+            _shown.table_of(("id", "event", "trigger"), len(triggers), triggers.__getitem__),
+        ]
+        return [table for table in tables if table.front]
 
-    def _told(self) -> Any:
-        """What is shown: a title, and the tables, which are none where the desk can't be asked."""
+    def _told(self) -> Tuple[str, List[_shown.Table]]:
+        """What is shown: a title, and the tables; or why there are none, as the title."""
         try:
             tables = self._tables()
         except Exception as error:
             return f"<histdesk.Desk: {error}>", []
-        return f"histdesk.Desk: {sum(self.cpus().values())} events", [table for table in tables if table.front]
+        return f"histdesk.Desk: {sum(self.cpus().values())} events", tables
 
     def __repr__(self) -> str:
         title, tables = self._told()

@@ -3,12 +3,13 @@
 from __future__ import annotations
 
 from collections.abc import Sequence
-from typing import Any, List, Tuple, Union, overload
+from typing import Any, Tuple, Union, overload
 
 from . import _layout, _shown
 from ._values import Event
 
 NUMBERS = ("stamp", "cpu", "line", "common_pid", "pid", "prio", "target_cpu", "prev_pid", "prev_prio")
+COMMON_NUMBERS = ("stamp", "cpu", "line", "common_pid")
 NAMES = ("task", "comm", "prev_comm", "prev_state")
 # What a table of events shows of each.
 SHOWN = ("stamp", "cpu", "line", "name", "task", "common_pid", "comm", "pid", "prio")
@@ -16,7 +17,7 @@ SHOWN = ("stamp", "cpu", "line", "name", "task", "common_pid", "comm", "pid", "p
 COMMON = Event._fields.index("common_pid")
 
 
-class Events(Sequence):
+class Events(Sequence[Event]):
     """Events as they were held when they were asked for. Nothing is decoded before it is looked at.
 
     | Form | What it gives |
@@ -76,13 +77,13 @@ names as bytes, behind each its length |
         return numpy.frombuffer(self._content, _layout.event_type()).view(numpy.recarray)
 
     def to_pandas(self) -> Any:
-        """The events as a DataFrame: names as texts, and nothing (NaN, None) where an event has no such field.
+        """The events as a DataFrame, with the fields of `Event` as columns: texts as `str`, numbers of the common part as `int64`, and
+        others as `Int64`. Where an event has no such field they are None and NA.
 
         Raises `ImportError` where pandas or numpy isn't there."""
-        import pandas
+        import pandas  # type: ignore[import]
 
-        array = self.array
-        columns = {field: frame_column(array, field) for field in Event._fields}
+        columns = {field: frame_column(self.array, field) for field in Event._fields}
         return pandas.DataFrame(columns, copy=False)
 
     def _part(self, places: range) -> Events:
@@ -97,14 +98,15 @@ names as bytes, behind each its length |
             raise KeyError(field)
         if field in NUMBERS and _layout.numpy():
             return self.array[field]
+        if field in NAMES:
+            found = _layout.name_struct(field).iter_unpack(self._content)
+            return [_layout.text_of(text, length) if has(name, field) else None for name, text, length in found]
         at = Event._fields.index(field)
         return [event[at] for event in self]
 
     def _table(self) -> _shown.Table:
         fields = [Event._fields.index(field) for field in SHOWN]
-        ends = range(min(self._count, _shown.ENDS)), range(max(self._count - _shown.ENDS, _shown.ENDS), self._count)
-        front, back = ([[self[at][field] for field in fields] for at in end] for end in ends)
-        return _shown.Table(SHOWN, front, back, self._count - len(front) - len(back))
+        return _shown.table_of(SHOWN, self._count, lambda at: [self[at][field] for field in fields])
 
     def __repr__(self) -> str:
         return f"<histdesk.Events: {self._count}>\n{_shown.in_text(self._table())}"
@@ -125,30 +127,30 @@ def event_of(fields: Tuple[Any, ...]) -> Event:
     return Event(*common, comm, pid, prio, target_cpu)
 
 
+def has(name: int, field: str) -> bool:
+    """Whether events of the name, by its number, have the field."""
+    if Event._fields.index(field) <= COMMON:
+        return True
+    if field.startswith("prev_"):
+        return name == _layout.SWITCH
+    return name != _layout.OTHER and (field != "target_cpu" or name != _layout.SWITCH)
+
+
 # ---- columns of a DataFrame
 
 
 def frame_column(array: Any, field: str) -> Any:
     """A field of all events, with nothing where an event doesn't have it."""
+    import pandas
+
     numpy = _layout.numpy()
     if field == "name":
         return numpy.array(_layout.EVENT_NAMES, dtype=object)[array.name]
-    has = having(array, field)
-    if field in NUMBERS:
-        numbers = numpy.asarray(array[field], dtype=numpy.int64)
-        return numbers if has.all() else numpy.where(has, numbers, numpy.nan)
-    return numpy.where(has, texts(array, field), None)
-
-
-def having(array: Any, field: str) -> Any:
-    """Of each event whether its name has the field."""
-    numpy = _layout.numpy()
-    if Event._fields.index(field) <= COMMON:
-        return numpy.ones(len(array), dtype=bool)
-    if field.startswith("prev_"):
-        return array.name == _layout.SWITCH
-    without = {_layout.OTHER, _layout.SWITCH} if field == "target_cpu" else {_layout.OTHER}
-    return ~numpy.isin(array.name, list(without))
+    having = numpy.array([has(name, field) for name in range(len(_layout.EVENT_NAMES))])[array.name]
+    if field in NAMES:
+        return numpy.where(having, texts(array, field), None)
+    numbers = array[field].astype("int64")
+    return numbers if field in COMMON_NUMBERS else pandas.arrays.IntegerArray(numbers, ~having)
 
 
 def texts(array: Any, field: str) -> Any:
@@ -156,11 +158,14 @@ def texts(array: Any, field: str) -> Any:
     import pandas
 
     numpy = _layout.numpy()
-    lengths = array[f"{field}_length"]
-    codes, names = pandas.factorize(array[field].astype(object))
-    decoded: List[str] = [_layout.decoded(name) for name in names]
-    columns = numpy.array(decoded, dtype=object)[codes] if len(array) else numpy.empty(0, dtype=object)
-    # numpy takes zero bytes at a name's end for none.
-    for at in numpy.flatnonzero(numpy.char.str_len(array[field]) != lengths):
-        columns[at] += "\0" * int(lengths[at] - numpy.char.str_len(array[field][at]))
-    return columns
+    count, at = len(array), array.dtype.fields[field][1]
+    # The 31 bytes and the length behind them, as four numbers; names are the same where all four are.
+    structs = numpy.ascontiguousarray(array).view("u1").reshape(count, _layout.EVENT.size)
+    numbers = numpy.ascontiguousarray(structs[:, at : at + 32]).view("u8")
+    codes = numpy.zeros(count, "int64")
+    for number in numbers.T:
+        codes = pandas.factorize(codes * count + pandas.factorize(number)[0])[0]
+    one_of_each = numpy.zeros(codes.max(initial=-1) + 1, "int64")
+    one_of_each[codes] = numpy.arange(count)
+    found = [structs[event, at : at + 32].tobytes() for event in one_of_each]
+    return numpy.array([_layout.text_of(name[:31], name[31]) for name in found], dtype=object)[codes]

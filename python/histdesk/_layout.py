@@ -76,6 +76,10 @@ EVENT = struct.Struct("=" + PLACE_CODE + "I6i" + 4 * NAME_CODE + "4x")
 # Where the parts of a key stand among the fields of a row, and how many fields each part has.
 FIRST_PART, PART_FIELDS, SUMS = 1, 5, 1 + 3 * 5
 
+# Where an event's name and its texts begin, in bytes.
+NAME_AT = 16
+TEXTS_AT = {"task": 44, "comm": 76, "prev_comm": 108, "prev_state": 140}
+
 # Stamps and latencies are below 2^52, so a signed number holds them too, and differences of them are right.
 PLACE_FIELDS = [("stamp", "=i8"), ("cpu", "=u4"), ("line", "=u4")]
 LATENCY_FIELDS = [
@@ -117,6 +121,13 @@ def latency_type() -> Any:
 def event_type() -> Any:
     """An event, for numpy: the names as 31 bytes with their lengths behind them, and the end filled up as in C."""
     return numpy().dtype(EVENT_FIELDS, align=True)
+
+
+@functools.lru_cache(maxsize=None)
+def name_struct(field: str) -> struct.Struct:
+    """An event's name and one of its texts, with the length behind it."""
+    at = TEXTS_AT[field]
+    return struct.Struct(f"={NAME_AT}xI{at - NAME_AT - 4}x{NAME_CODE}{EVENT.size - at - 32}x")
 
 
 @functools.lru_cache(maxsize=16384)

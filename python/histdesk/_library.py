@@ -4,7 +4,7 @@ from __future__ import annotations
 
 import ctypes
 import os
-from typing import Any, List
+from typing import Any, Dict, List, Tuple
 
 from . import _layout
 
@@ -19,7 +19,7 @@ TEXT = [ctypes.c_char_p, Size]
 ROOM = [Wide, ctypes.c_void_p, Size]
 
 # What each call answers, and what it takes behind the desk.
-CALLS = {
+CALLS: Dict[str, Tuple[Any, List[Any]]] = {
     "histdesk_new": (Code, []),
     "histdesk_free": (None, []),
     "histdesk_load": (Code, [ctypes.c_void_p, Size, Count]),

@@ -51,7 +51,7 @@ class Shape:
         self.reads: Optional[str] = variable.partition(f"={STAMP}-$")[2] or None
         self.names = distinct([key.field for key in self.keys], [HITCOUNT, *self.values])
         self.kinds = [*(key.kind() for key in self.keys), "int64", *("uint64" for _ in self.values)]
-        self.row: Any = namedtuple("Row", attributes(self.names), rename=True)
+        self.row = row_type(self.names)
         self.readers = [key.reader(_layout.FIRST_PART + _layout.PART_FIELDS * at) for at, key in enumerate(self.keys)]
 
     def key_of(self, fields: Sequence[Any]) -> Tuple[Any, ...]:
@@ -78,6 +78,8 @@ def distinct(keys: List[str], values: List[str]) -> Tuple[str, ...]:
     return tuple(names)
 
 
-def attributes(names: Sequence[str]) -> List[str]:
-    """The names as Python takes them for attributes, where it does."""
-    return [f"{name}_" if keyword.iskeyword(name) else name for name in names]
+def row_type(names: Sequence[str]) -> Any:
+    """Named tuples of these names, as Python takes them for attributes: a keyword gets a `_` behind it, and what begins with one
+    is called by its place."""
+    attributes = [f"{name}_" if keyword.iskeyword(name) else name for name in names]
+    return namedtuple("Row", attributes, rename=True)

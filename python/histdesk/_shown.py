@@ -3,7 +3,7 @@
 from __future__ import annotations
 
 import html
-from typing import Any, List, NamedTuple, Optional, Sequence
+from typing import Any, Callable, List, NamedTuple, Optional, Sequence
 
 # Of a long table, so many rows are shown from each end.
 ENDS = 10
@@ -24,11 +24,11 @@ class Table(NamedTuple):
         return [*self.front, *([None] if self.left_out else []), *self.back]
 
 
-def table_of(names: Sequence[str], rows: Sequence[Sequence[Any]]) -> Table:
-    """A table of whole rows, shortened."""
-    if len(rows) <= 2 * ENDS:
-        return Table(names, list(rows), [], 0)
-    return Table(names, list(rows[:ENDS]), list(rows[-ENDS:]), len(rows) - 2 * ENDS)
+def table_of(names: Sequence[str], count: int, row: Callable[[int], Sequence[Any]]) -> Table:
+    """A table of so many rows, of which `row` makes those that are shown."""
+    front = min(count, ENDS)
+    back = max(count - ENDS, front)
+    return Table(names, list(map(row, range(front))), list(map(row, range(back, count))), back - front)
 
 
 def shown(value: Any) -> str:

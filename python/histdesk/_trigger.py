@@ -2,7 +2,7 @@
 
 from __future__ import annotations
 
-from typing import Any, List, Optional
+from typing import Any, List, Optional, Sequence, Tuple
 
 from . import _layout, _shape, _shown
 from ._given import Text, as_bytes
@@ -48,7 +48,7 @@ class Trigger:
         return self._session.trigger_text(self._id)
 
     @property
-    def names(self) -> tuple:
+    def names(self) -> Tuple[str, ...]:
         """The names of a row's parts: the fields of its keys, `hitcount`, and the fields or variables that it sums. A value that
         is a key too has `_sum` behind its name."""
         return self._session.shape(self._id).names
@@ -78,8 +78,7 @@ class Trigger:
         are modulo 2^64, of stamps and latencies in microseconds. A variable that Python doesn't take for a name has another
         one in the tuple (`_2` by its place, or a `_` behind a keyword); `names` has them as they are."""
         shape = self._session.shape(self._id)
-        content = self._session.content(library.histdesk_rows_copy, _layout.ROW.size, library.histdesk_rows, self._id)
-        return [shape.row_of(fields) for fields in _layout.ROW.iter_unpack(content)]
+        return [shape.row_of(fields) for fields in _layout.ROW.iter_unpack(self._rows())]
 
     def totals(self) -> Totals:
         """How many hits were counted, how many keys are in the table, and how many hits found no room in it."""
@@ -100,7 +99,7 @@ class Trigger:
 
         `.log2` gives the power, `.buckets` the least value of each bucket. Sums are unsigned numbers of 64 bits, all others
         signed ones. Raises `ImportError` where pandas isn't there, and `ValueError` of another word."""
-        import pandas
+        import pandas  # type: ignore[import]
 
         shape = self._session.shape(self._id)
         if what is None:
@@ -118,28 +117,36 @@ class Trigger:
         """Takes the trigger off its desk. It is refused with number 11 where another one reads what it saves."""
         self._session.call(library.histdesk_remove, self._id)
 
+    def _rows(self) -> bytearray:
+        return self._session.content(library.histdesk_rows_copy, _layout.ROW.size, library.histdesk_rows, self._id)
+
     def _table(self) -> _shown.Table:
         """The ends of the table."""
-        shape = self._session.shape(self._id)
-        return _shown.table_of(shape.names, self.rows())
+        shape, content = self._session.shape(self._id), self._rows()
+        size = _layout.ROW.size
 
-    def _told(self) -> Any:
-        """What is shown: a title, the ends of the table, and the totals; or the title alone, where there are none to be had."""
+        def row(at: int) -> Sequence[Any]:
+            fields: Sequence[Any] = shape.row_of(_layout.ROW.unpack_from(content, at * size))
+            return fields
+
+        return _shown.table_of(shape.names, len(content) // size, row)
+
+    def _told(self) -> Tuple[str, List[_shown.Table], str]:
+        """What is shown: a title, the table, and the totals; or why there are none, as the title."""
         title = f"histdesk.Trigger {self._id} on {self._event}"
         try:
             totals = self.totals()
             told = f"hits {totals.hits}, entries {totals.entries}, dropped {totals.dropped}"
-            return f"{title}: {self.canonical}", self._table(), told
-        except (Exception, MemoryError) as error:
-            return f"<{title}: {error}>", None, ""
+            return f"{title}: {self.canonical}", [self._table()], told
+        except Exception as error:
+            return f"<{title}: {error}>", [], ""
 
     def __repr__(self) -> str:
-        title, table, told = self._told()
-        return title if table is None else f"{_shown.shown(title)}\n{_shown.in_text(table)}\n{told}"
+        title, tables, told = self._told()
+        return "\n".join([_shown.shown(title), *map(_shown.in_text, tables), *filter(None, [told])])
 
     def _repr_html_(self) -> str:
-        title, table, told = self._told()
-        return _shown.in_html(title, [] if table is None else [table], told)
+        return _shown.in_html(*self._told())
 
     def __eq__(self, other: object) -> bool:
         if not isinstance(other, Trigger):

@@ -18,12 +18,12 @@ class Log2(int):
     @property
     def low(self) -> int:
         """The least value."""
-        return 2 ** (int(self) - 1) + 1 if self else 0
+        return (1 << (int(self) - 1)) + 1 if self else 0
 
     @property
     def high(self) -> int:
         """The greatest value. Values are taken modulo 2^64, so that it is never above 2^64-1."""
-        return min(2 ** int(self), MOST)
+        return min(1 << int(self), MOST)
 
     def __repr__(self) -> str:
         return f"Log2({int(self)})"
