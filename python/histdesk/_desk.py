@@ -3,6 +3,7 @@
 from __future__ import annotations
 
 import ctypes
+import mmap
 import os
 from typing import IO, Any, Dict, List, NoReturn, Optional, Tuple, Union
 
@@ -15,7 +16,7 @@ from ._source import bytes_of, content_of
 from ._trigger import Trigger
 from ._values import Edit, Event
 
-Trace = Union[str, "os.PathLike[str]", bytes, bytearray, memoryview, IO[bytes], IO[str], Any]
+Trace = Union[str, "os.PathLike[str]", bytes, bytearray, memoryview, mmap.mmap, IO[bytes], IO[str]]
 CPUS = 8192
 
 
@@ -70,6 +71,7 @@ class Desk:
 
         Refused: 3 where a line can't be read, 4 where events of one of its CPUs are held, 7 where there is no room. Raises
         `OSError` where the file can't be read."""
+        self._session.check()
         with bytes_of(content_of(trace)) as (address, length):
             return self._session.count(library.histdesk_load, address, length)
 
@@ -123,7 +125,7 @@ class Desk:
 
     def _is_held(self, cpu: int) -> bool:
         # From the last line on there is next to nothing to gather.
-        return self._session.code(library.histdesk_lane, cpu, MOST, ctypes.c_uint64()) == _layout.OK
+        return self._session.holds(library.histdesk_lane, cpu, MOST, ctypes.c_uint64())
 
     def list(self, cpu: int) -> str:
         """The events of a CPU by line, as text. Refused: 5."""
@@ -142,10 +144,8 @@ class Desk:
     def event(self, cpu: int, line: int) -> Optional[Event]:
         """The event of a CPU at a line, or None where none is held there."""
         room = ctypes.create_string_buffer(_layout.EVENT.size)
-        code = self._session.code(library.histdesk_event_at, number(cpu, "cpu"), number(line, "line"), room)
-        if code == _layout.MEMORY:
-            raise MemoryError("out of memory")
-        return Events(room.raw)[0] if code == _layout.OK else None
+        held = self._session.holds(library.histdesk_event_at, number(cpu, "cpu"), number(line, "line"), room)
+        return Events(room.raw)[0] if held else None
 
     def matching(self, event: str, filter: Text) -> Any:
         """Where the events of that name are on which a filter holds, in the order in which they go past the triggers.
@@ -172,22 +172,18 @@ class Desk:
 
     # ---- how it is shown
 
-    def _tables(self) -> List[_shown.Table]:
-        lanes = [*self.cpus().items()]
-        triggers = [(trigger.id, trigger.event, trigger.canonical) for trigger in self.triggers()]
+    def _told(self) -> Tuple[str, List[_shown.Table]]:
+        """What is shown: a title, and the tables; or why there are none, as the title."""
+        try:
+            lanes = [*self.cpus().items()]
+            triggers = [(trigger.id, trigger.event, trigger.canonical) for trigger in self.triggers()]
+        except Exception as error:
+            return f"<histdesk.Desk: {error}>", []
         tables = [
             _shown.table_of(("CPU", "events"), len(lanes), lanes.__getitem__),
             _shown.table_of(("id", "event", "trigger"), len(triggers), triggers.__getitem__),
         ]
-        return [table for table in tables if table.front]
-
-    def _told(self) -> Tuple[str, List[_shown.Table]]:
-        """What is shown: a title, and the tables; or why there are none, as the title."""
-        try:
-            tables = self._tables()
-        except Exception as error:
-            return f"<histdesk.Desk: {error}>", []
-        return f"histdesk.Desk: {sum(self.cpus().values())} events", tables
+        return f"histdesk.Desk: {sum(count for _, count in lanes)} events", [table for table in tables if table.front]
 
     def __repr__(self) -> str:
         title, tables = self._told()

@@ -78,6 +78,13 @@ class Session:
         answer: int = call(self.handle, *arguments)
         return answer
 
+    def holds(self, call: Any, *arguments: Any) -> bool:
+        """Whether a call is accepted. Raises `MemoryError` where memory ran out."""
+        code = self.code(call, *arguments)
+        if code == _layout.MEMORY:
+            raise MemoryError("out of memory")
+        return code == _layout.OK
+
     def call(self, call: Any, *arguments: Any, given: Optional[bytes] = None) -> None:
         """Makes a call, and raises `Refused` or `MemoryError` where it is refused. `given` is the text that may be at fault."""
         if self.code(call, *arguments) != _layout.OK:
@@ -97,41 +104,32 @@ class Session:
         """A text that the library answers."""
         return _layout.decoded(self.content(library.histdesk_text_copy, 1, ask, *arguments))
 
-    def content(self, copy: Any, size: int, ask: Any, *arguments: Any, given: Optional[bytes] = None) -> bytearray:
-        """What `ask` answers, as a buffer of structs of so many bytes."""
+    def content(
+        self, copy: Any, size: int, ask: Any, *arguments: Any, given: Optional[bytes] = None, numpy: Any = None
+    ) -> Any:
+        """What `ask` answers, copied into a buffer of structs of so many bytes; the library forgets it. With numpy it is an array
+        of bytes, which isn't filled before."""
         count = self.count(ask, *arguments, given=given)
-        room = bytearray(count * size)
-        self.copied(copy, count, (ctypes.c_char * len(room)).from_buffer(room))
-        return room
-
-    def structs(self, copy: Any, size: int, ask: Any, *arguments: Any, given: Optional[bytes] = None) -> Any:
-        """What `ask` answers, as a buffer of very many structs: numpy's where it is there, which isn't filled before."""
-        numpy = _layout.numpy()
-        if numpy is None:
-            return self.content(copy, size, ask, *arguments, given=given)
-        count = self.count(ask, *arguments, given=given)
-        room = numpy.empty(count * size, "u1")
-        self.copied(copy, count, room.ctypes.data)
-        return room
-
-    def copied(self, copy: Any, count: int, room: Any) -> None:
-        """Copies as many structs as were asked for, and lets the library forget them."""
         try:
-            complete(copy(self.handle, 0, room, count), count)
+            room = bytearray(count * size) if numpy is None else numpy.empty(count * size, "u1")
+            address = (ctypes.c_char * len(room)).from_buffer(room) if numpy is None else room.ctypes.data
+            complete(copy(self.handle, 0, address, count), count)
+            return room
         finally:
             library.histdesk_forget(self.handle)
 
     def records(self, copy: Any, record: Record, ask: Any, *arguments: Any, given: Optional[bytes] = None) -> Any:
         """What `ask` answers, as a numpy record array, or as a list of named tuples where there is no numpy."""
-        content = self.structs(copy, record.layout.size, ask, *arguments, given=given)
         numpy = _layout.numpy()
+        content = self.content(copy, record.layout.size, ask, *arguments, given=given, numpy=numpy)
         if numpy is None:
             return list(map(record.make, record.layout.iter_unpack(content)))
         return content.view(record.kind()).view(numpy.recarray)
 
     def events(self, ask: Any, *arguments: Any, given: Optional[bytes] = None) -> Events:
         """The events at the places that `ask` answers."""
-        return Events(self.structs(library.histdesk_events_copy, _layout.EVENT.size, ask, *arguments, given=given))
+        copy, size = library.histdesk_events_copy, _layout.EVENT.size
+        return Events(self.content(copy, size, ask, *arguments, given=given, numpy=_layout.numpy()))
 
     # ---- of triggers
 
