@@ -654,6 +654,9 @@ class Refusals(unittest.TestCase):
         )
         self.assertEqual(refused.__notes__, ["hist:keys=pid  if pid = 5\n                      ^"])
 
+        refused = self.refused(lambda: desk.attach("sched_wakin", "hist:keys=pid"), "refused 16")
+        self.assertIn("sched_waking, sched_wakeup,", refused.__notes__[0])
+
     def test_pickled(self):
         refused = self.refused(lambda: desk_of().list(2), "refused 5: cpu 2", cpu=2)
         again = pickle.loads(pickle.dumps(refused))

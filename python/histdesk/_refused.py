@@ -10,7 +10,7 @@ from . import _layout, _shown
 from ._library import library
 
 TEXT_ROOM, WORDS_ROOM = 64, 160
-BAD_LINE, LANE_HELD, NO_LANE, BAD_TRIGGER, BAD_FILTER, IN_USE, NAME_TAKEN = 3, 4, 5, 8, 9, 11, 12
+BAD_LINE, LANE_HELD, NO_LANE, BAD_TRIGGER, BAD_FILTER, IN_USE, NAME_TAKEN, BAD_COMMAND = 3, 4, 5, 8, 9, 11, 12, 16
 FILTER_OF_TRIGGER = 11
 # What stands before a trigger's filter.
 FRONT = re.compile(rb"[^ \t]*[ \t]+if[ \t]+")
@@ -52,7 +52,7 @@ class Refused(Exception):
 
 def exception_of(refusal: _layout.Refusal, given: Optional[bytes] = None) -> Exception:
     """The exception for a refusal: `MemoryError` where memory ran out. `given` is the text that was handed in; where Python
-    prints notes, it stands under the exception with a mark at the place."""
+    prints notes under exceptions, it stands there with a mark at the place."""
     words = told(library.histdesk_refusal_words, refusal, WORDS_ROOM)
     if refusal.number == _layout.MEMORY:
         return MemoryError(words or "out of memory")
@@ -60,11 +60,21 @@ def exception_of(refusal: _layout.Refusal, given: Optional[bytes] = None) -> Exc
     refused.number = refusal.number
     refused.text = told(library.histdesk_refusal_text, refusal, TEXT_ROOM)
     detail(refused, refusal)
-    if given is not None and refused.place is not None and hasattr(refused, "add_note"):
-        # A place of a trigger's filter counts from the filter's first byte.
-        front = FRONT.match(given) if refused.fault == FILTER_OF_TRIGGER else None
-        refused.add_note(marked(given, refused.place + (front.end() if front else 0)))
+    told_more = note(refused, given or b"")
+    if told_more and hasattr(refused, "add_note"):
+        refused.add_note(told_more)
     return refused
+
+
+def note(refused: Refused, given: bytes) -> str:
+    """What helps to see what is wrong with what was handed in; empty where there is nothing more to say."""
+    if refused.number == BAD_COMMAND:
+        return f"triggers are attached to {', '.join(_layout.EVENT_NAMES[:_layout.OTHER])}"
+    if refused.place is None:
+        return ""
+    # A place of a trigger's filter counts from the filter's first byte.
+    front = FRONT.match(given) if refused.fault == FILTER_OF_TRIGGER else None
+    return marked(given, refused.place + (front.end() if front else 0))
 
 
 def detail(refused: Refused, refusal: _layout.Refusal) -> None:

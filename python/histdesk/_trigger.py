@@ -118,7 +118,10 @@ class Trigger:
         self._session.call(library.histdesk_remove, self._id)
 
     def _rows(self) -> bytearray:
-        return self._session.content(library.histdesk_rows_copy, _layout.ROW.size, library.histdesk_rows, self._id)
+        content: bytearray = self._session.content(
+            library.histdesk_rows_copy, _layout.ROW.size, library.histdesk_rows, self._id
+        )
+        return content
 
     def _table(self) -> _shown.Table:
         """The ends of the table."""
