@@ -4,9 +4,11 @@ ends, threads, texts that aren't UTF-8, want of memory, how things are shown, an
 
     python_package.py [TEST]...
 
-The library is found as the package finds it. What needs numpy or pandas is skipped where they are missing, and says so.
+The library is found as the package finds it. What needs numpy or pandas is skipped where they are missing; lines at the end say
+how many tests of what were skipped, and the last one how many hold.
 """
 
+import collections
 import copy
 import ctypes.util
 import doctest
@@ -14,6 +16,7 @@ import gc
 import inspect
 import os
 import pickle
+import re
 import shutil
 import subprocess
 import sys
@@ -29,9 +32,11 @@ PYTHON = os.path.realpath(os.path.join(HERE, "..", "python"))
 sys.path.insert(0, PYTHON)
 
 import histdesk
-from histdesk import _library
+from histdesk import _layout, _library
 from python_answers import *
-from python_answers import LINE, MAKER, MERGED, TRACE, WAITS, desk_of, tuples, with_pandas, with_waits
+from python_answers import LINE, MAKER, MERGED, TRACE, WAITS, desk_of, with_numpy, with_pandas, with_waits
+
+HEADER = os.path.realpath(os.path.join(HERE, "..", "include", "histdesk.h"))
 
 
 def python(program, **environment):
@@ -367,6 +372,60 @@ class Library(unittest.TestCase):
         self.assertIn("has no call histdesk_new: it is of another version than this package", told)
 
 
+@unittest.skipUnless(os.path.exists(HEADER), "include/histdesk.h is missing")
+class Header(unittest.TestCase):
+    """The package knows the library as histdesk.h has it."""
+
+    # What the package calls each struct, and how it reads it.
+    STRUCTS = {
+        "line": _layout.Line,
+        "totals": _layout.Totals,
+        "report": _layout.Report,
+        "refusal": _layout.Refusal,
+        "place": _layout.PLACE,
+        "row": _layout.ROW,
+        "latency": _layout.LATENCY,
+        "event": _layout.EVENT,
+        "trigger": _layout.TRIGGER,
+        "changed": _layout.CHANGED,
+    }
+
+    def setUp(self):
+        with open(HEADER, encoding="utf-8") as file:
+            self.text = file.read()
+
+    def test_calls(self):
+        declared = set(re.findall(r"^\w+ (histdesk_\w+)\(", self.text, re.MULTILINE))
+        self.assertEqual(declared, {*_library.CALLS, *_library.REFUSAL_CALLS})
+
+    def test_numbers_of_arguments(self):
+        for name, arguments in re.findall(r"^\w+ (histdesk_\w+)\((.*?)\);", self.text, re.MULTILINE):
+            self.assertEqual(len(getattr(_library.library, name).argtypes), len(arguments.split(",")), name)
+
+    def test_sizes(self):
+        sizes = dict(re.findall(r"sizeof\(histdesk_(\w+)\) == ([0-9]+)", self.text))
+        for name, struct in self.STRUCTS.items():
+            size = ctypes.sizeof(struct) if isinstance(struct, type) else struct.size
+            self.assertEqual(size, int(sizes[name]), name)
+
+    def test_offsets(self):
+        for name, field, offset in re.findall(r"AT_\(histdesk_(\w+), (\w+), ([0-9]+)\)", self.text):
+            struct = self.STRUCTS.get(name)
+            if isinstance(struct, type):
+                self.assertEqual(getattr(struct, field).offset, int(offset), (name, field))
+            elif name == "event" and field in _layout.TEXTS_AT:
+                self.assertEqual(_layout.TEXTS_AT[field], int(offset), field)
+
+    @with_numpy
+    def test_offsets_in_numpy(self):
+        fields = _layout.event_type().fields
+        found = re.findall(r"AT_\(histdesk_event, (\w+), ([0-9]+)\)", self.text)
+        self.assertEqual([fields[field][1] for field, _ in found], [int(offset) for _, offset in found])
+        self.assertEqual(_layout.event_type().itemsize, _layout.EVENT.size)
+        self.assertEqual(_layout.latency_type().itemsize, _layout.LATENCY.size)
+        self.assertEqual(_layout.place_type().itemsize, _layout.PLACE.size)
+
+
 class Documents(unittest.TestCase):
     def test_examples(self):
         tried = doctest.testmod(histdesk)
@@ -386,5 +445,15 @@ class Documents(unittest.TestCase):
         self.assertTrue(os.path.exists(os.path.join(PYTHON, "histdesk", "py.typed")))
 
 
+def main():
+    ran = unittest.main(exit=False).result
+    wrong = len(ran.failures) + len(ran.errors)
+    for reason, count in sorted(collections.Counter(reason for _, reason in ran.skipped).items()):
+        print(f"{count} skipped: {reason}")
+    tried = ran.testsRun - len(ran.skipped)
+    print(f"{tried - wrong} of {tried} tests hold")
+    return 1 if wrong else 0
+
+
 if __name__ == "__main__":
-    unittest.main()
+    sys.exit(main())

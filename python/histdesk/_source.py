@@ -13,6 +13,8 @@ from . import _layout
 
 # What a member of a .gz file begins with: its magic bytes, and the one method that there is.
 PACKED = b"\x1f\x8b\x08"
+# Where no bytes are: the library takes no null pointer.
+NOWHERE = ctypes.create_string_buffer(1)
 
 
 class Buffer(ctypes.Structure):
@@ -47,7 +49,7 @@ def bytes_of(content: Any) -> Iterator[Tuple[int, int]]:
     buffer = Buffer()
     get_buffer(content, ctypes.byref(buffer), 0)
     try:
-        yield buffer.buf or 0, buffer.len
+        yield buffer.buf or ctypes.addressof(NOWHERE), buffer.len
     finally:
         release_buffer(ctypes.byref(buffer))
 
