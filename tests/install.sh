@@ -172,6 +172,13 @@ BUILT_HISTDESK=$folder/none gives "no program" 1 "install: cannot read $folder/n
 gives "no folder" 1 "install: cannot make $folder/wakings.c/in" "$tools/install" "$folder/wakings.c/in"
 same "nothing is put there" "$(find "$folder/never" 2>&1)" "find: ‘$folder/never’: No such file or directory"
 gives "package --help" 0 "" "$tools/package" --help
+gives "build --help" 0 "" "$tools/build" --help
+gives "build's words" 2 "build: takes no words; --help says more" "$tools/build" all
+gives "link --help" 0 "" "$tools/link" --help
+gives "needs --help" 0 "" "$tools/needs" --help
+gives "needs' words" 2 "needs: takes --missing or nothing; --help says more" "$tools/needs" all
+gives needs 0 "" "$tools/needs"
+same needs "$(wc -l <"$folder/out") $(cut -d ' ' -f 1-4 "$folder/out")" "1 apt-get install bash git"
 
 echo "$passed passed, $failed failed"
 ((failed == 0))
