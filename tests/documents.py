@@ -112,7 +112,8 @@ def in_map():
 def stands_on():
     """What crates.txt says of each crate, and where the map's table of crates says otherwise."""
     lines = (line.partition(":") for line in text_of("crates.txt").split("\n") if ":" in line and line[0] != "#")
-    crates = {name: set(others.split()) for name, _, others in lines}
+    # Behind the name of a static library stands that it is one.
+    crates = {name.split()[0]: set(others.split()) for name, _, others in lines}
     rows = re.findall(r"^\| `(\w+)` \|[^|]*\|([^|]*)\|[^|]*\|$", text_of("docs/MAP.md"), re.MULTILINE)
     # A cell of names alone; that of the tests says it in words.
     told = {name: set(re.findall(r"\w+", cell)) for name, cell in rows if not re.sub(r"`\w+`|[, ]", "", cell)}
