@@ -1,7 +1,7 @@
 #!/usr/bin/env bash
-# install.sh HISTDESK HISTWATCH LIBRARY: puts these programs, and this libhistdesk.so.0 with the libhistdesk.a beside it, below
-# empty prefixes by tools/install and tools/package, and uses what stands there as one does who has neither the repository
-# nor the Rattle kit. It prints what went wrong, and a last line with the counts.
+# install.sh HISTDESK HISTWATCH LIBRARY: puts these programs, and this libhistdesk.so.0 with the libhistdesk.a beside it,
+# below empty prefixes by tools/install and tools/package, and uses what stands there as one does who has neither the
+# repository nor the Rattle kit. It prints what went wrong, and a last line with the counts.
 set -uo pipefail
 
 here=$(dirname -- "$(realpath -- "${BASH_SOURCE[0]}")")
@@ -153,7 +153,8 @@ same "DESTDIR --uninstall" "$(find "$folder/root/usr")" "$folder/root/usr"
 DESTDIR=$folder/root installed "below /usr/local" /usr/local
 package=$(find "$folder/root/usr/local" -name __init__.py -path '*/histdesk/*')
 package=${package#"$folder/root"}
-gives "Python below /usr/local" 0 "" /usr/bin/python3 -c 'import sys; print(sys.argv[1] in sys.path)' "${package%/histdesk/*}"
+gives "Python below /usr/local" 0 "" /usr/bin/python3 -c 'import sys; print(sys.argv[1] in sys.path)' \
+    "${package%/histdesk/*}"
 prints "Python below /usr/local" True
 
 gives package 0 "" "$tools/package" "$folder/packages"
