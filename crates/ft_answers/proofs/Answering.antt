@@ -14,7 +14,7 @@ use Rattle.ft_base.specs.declared.refused.Refused.TheVariants.{NoTrigger, NotRea
 use Rattle.ft_base.specs.Base.{Triggers}
 use Rattle.ft_replay.specs.Merged.{Events}
 use Rattle.ft_made.specs.Laws.{HeldAreCounted}
-use Rattle.ft_answers.specs.Answers.{tally_at, tally_made, tally_shown, of_attached, latency_of, latencies_as}
+use Rattle.ft_answers.specs.Answers.{tally_at, tally_made, tally_shown, of_attached, latency_of, latencies_as, pairs_as}
 use Rattle.ft_answers.specs.Counting.{counts_made}
 use Rattle.ft_replay.specs.Replay.{State, replay}
 use Rattle.ft_replay.specs.Counters.{Counting, Counters, tally_in, HasCounter, HaveCounters}
@@ -73,3 +73,14 @@ pub latencies-other : (variable : Option Var) (tally : Tally) → is_reader vari
 latencies-other None tally is = refl
 latencies-other (Some (vars.Saves label)) tally is = refl
 latencies-other (Some (vars.Reads own source)) tally is = let both : ◌≡◌ {A = Bool} true false = is in absurd cc
+
+-- a reader has read, and no one else
+pub pairs-reader : (variable : Option Var) (tally : Tally) → is_reader variable ≡ true → pairs_as variable tally ≡ Ok tally.pairs
+pairs-reader None tally is = let both : ◌≡◌ {A = Bool} false true = is in absurd cc
+pairs-reader (Some (vars.Saves label)) tally is = let both : ◌≡◌ {A = Bool} false true = is in absurd cc
+pairs-reader (Some (vars.Reads own source)) tally is = refl
+
+pub pairs-other : (variable : Option Var) (tally : Tally) → is_reader variable ≡ false → pairs_as variable tally ≡ Err NotReading
+pairs-other None tally is = refl
+pairs-other (Some (vars.Saves label)) tally is = refl
+pairs-other (Some (vars.Reads own source)) tally is = let both : ◌≡◌ {A = Bool} true false = is in absurd cc

@@ -8,6 +8,7 @@ use Rattle.ft_keys.specs.declared.key.Part.{Part}
 use Rattle.ft_hist.specs.declared.label.Var.{Var}
 use Rattle.ft_hist.specs.declared.label.Var.TheVariants as vars
 use Rattle.ft_rows.specs.declared.row.Totals.{Totals}
+use Rattle.ft_rows.specs.Counted.{Counted}
 use Rattle.ft_rows.specs.Keyed.{KeyedText}
 use Rattle.ft_table.specs.Text.{heading, rows_text, row_text, keyed_text}
 use Rattle.ft_answers.specs.declared.latency.Latency.{Latency}
@@ -50,6 +51,10 @@ hist_from triggers events id = of_attached triggers id (λ hist. Ok (tally_text 
 unfoldable pub tally_rows : Hist → Tally → List KeyedText
 tally_rows hist tally = list_map (keyed_text hist) (rows_in hist.sort tally)
 
+-- the rows of a trigger with a tally in numbers, in the order of its text (kernel: histogram.rst, the `hist` file)
+unfoldable pub tally_counts : Hist → Tally → List Counted
+tally_counts hist tally = rows_in hist.sort tally
+
 -- the text of a key's row of a trigger with a tally, without the line break; none where the key isn't in the table (kernel: histogram.rst, the `hist` file)
 unfoldable pub tally_row : Hist → Tally → List Part → Option (List ℕ)
 tally_row hist tally key = option_map (row_text hist) (map.get tally.table key)
@@ -57,6 +62,10 @@ tally_row hist tally key = option_map (row_text hist) (map.get tally.table key)
 -- the rows of the table of the trigger with an id, from replaying events (kernel: histogram.rst, the `hist` file)
 abbrev pub rows_from : Triggers → Events → ℕ → Result (List KeyedText) Refused
 rows_from triggers events id = of_attached triggers id (λ hist. Ok (tally_rows hist (tally_shown triggers events id hist)))
+
+-- the rows of the table of the trigger with an id in numbers, from replaying events (kernel: histogram.rst, the `hist` file)
+abbrev pub counts_from : Triggers → Events → ℕ → Result (List Counted) Refused
+counts_from triggers events id = of_attached triggers id (λ hist. Ok (tally_counts hist (tally_shown triggers events id hist)))
 
 -- the text of a key's row of the table of the trigger with an id, from replaying events (kernel: histogram.rst, the `hist` file)
 abbrev pub row_from : Triggers → Events → ℕ → List Part → Result (Option (List ℕ)) Refused
@@ -83,6 +92,15 @@ latencies_as variable tally = Err NotReading
 abbrev pub latencies_from : Triggers → Events → ℕ → Result (List Latency) Refused
 latencies_from triggers events id = of_attached triggers id (λ hist. latencies_as hist.variable (tally_at triggers events id))
 
+-- what the readings of a trigger with a variable found: one that saves, or has none, reads nothing (kernel: histogram.rst, inter-event hist triggers)
+abbrev pub pairs_as : Option Var → Tally → Result (List Pair) Refused
+pairs_as (Some (vars.Reads own source)) tally = Ok tally.pairs
+pairs_as variable tally = Err NotReading
+
+-- what the readings of the trigger with an id found, in merged order of the reading, from replaying events (kernel: histogram.rst, inter-event hist triggers)
+abbrev pub pairs_from : Triggers → Events → ℕ → Result (List Pair) Refused
+pairs_from triggers events id = of_attached triggers id (λ hist. pairs_as hist.variable (tally_at triggers events id))
+
 -- ---- of a base
 
 -- the text of a trigger's table (kernel: histogram.rst, the `hist` file)
@@ -92,6 +110,10 @@ hist_text base = hist_from base.triggers (merged base.lanes)
 -- the rows of a trigger's table (kernel: histogram.rst, the `hist` file)
 unfoldable pub rows_shown : Base → ℕ → Result (List KeyedText) Refused
 rows_shown base = rows_from base.triggers (merged base.lanes)
+
+-- the rows of a trigger's table in numbers (kernel: histogram.rst, the `hist` file)
+unfoldable pub counts_shown : Base → ℕ → Result (List Counted) Refused
+counts_shown base = counts_from base.triggers (merged base.lanes)
 
 -- the text of a key's row of a trigger's table (kernel: histogram.rst, the `hist` file)
 unfoldable pub row_shown : Base → ℕ → List Part → Result (Option (List ℕ)) Refused
@@ -104,3 +126,7 @@ totals base = totals_from base.triggers (merged base.lanes)
 -- a trigger's latencies (kernel: histogram.rst, wakeup latencies)
 unfoldable pub latencies : Base → ℕ → Result (List Latency) Refused
 latencies base = latencies_from base.triggers (merged base.lanes)
+
+-- what a trigger's readings found (kernel: histogram.rst, inter-event hist triggers)
+unfoldable pub pairs_shown : Base → ℕ → Result (List Pair) Refused
+pairs_shown base = pairs_from base.triggers (merged base.lanes)

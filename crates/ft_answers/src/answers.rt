@@ -10,7 +10,7 @@ ghost use Rattle.ft_hist.specs.Steps.{StepsGrow};
 ghost use Rattle.ft_answers.specs.Edited.{AnswerIs};
 ghost use Rattle.ft_answers.specs.Counting.{counts_made};
 ghost use Rattle.ft_answers.specs.Answers.{tally_at, tally_made, tally_text, latency_of};
-ghost use Rattle.ft_answers.specs.Answers.{hist_from, totals_from, latencies_from};
+ghost use Rattle.ft_answers.specs.Answers.{hist_from, totals_from, latencies_from, pairs_from};
 ghost use Rattle.ft_replay.specs.Merged.{merged};
 ghost use Rattle.ft_replay.specs.Counters.{tally_in};
 ghost use Rattle.ft_replay.specs.Tally.{tally_of};
@@ -90,6 +90,27 @@ pub(crate) fn latencies_from(
     }
     let counter = counter_at(alloc, lanes, triggers, id, work)?;
     Ok(latencies_of(alloc, counter.pairs())?)
+}
+
+/// What the readings of the trigger with an id found. Refused where no trigger has the id, where it
+/// reads no variable, or for memory.
+pub(crate) fn pairs_from(
+    alloc: Global,
+    lanes: &Lanes,
+    triggers: &BTreeMap<u32, Trigger>,
+    id: u32,
+    work: &mut Work,
+) -> Result<Vec<Pair>, Refused>
+    ensures gives { AnswerIs (λ pairs. pairs.items)
+        (pairs_from (seen nat_cmp triggers.now) (merged lanes.now) id) result }
+    ensures grow { StepsGrow work.old work.new }
+{
+    let trigger = attached(triggers, id)?;
+    if !is_reader(trigger) {
+        return Err(Refused::NotReading);
+    }
+    let counter = counter_at(alloc, lanes, triggers, id, work)?;
+    Ok(Vec::from_slice(alloc, counter.pairs())?)
 }
 
 /// Whether a trigger counts the events that readings make.

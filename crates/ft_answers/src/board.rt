@@ -3,11 +3,12 @@
 use crate::done::Done;
 use crate::edited::Edited;
 use crate::latency::Latency;
-use ft_base::Refused;
+use ft_base::{Content, Refused};
 use ft_fields::{Event, Name};
 use ft_filter::Filter;
 use ft_hist::{Key, Trigger};
-use ft_rows::TableRow;
+use ft_replay::Pair;
+use ft_rows::{Row, TableRow};
 use ft_store::Store;
 use ft_table::Totals;
 
@@ -31,6 +32,7 @@ pub trait Board: Drop {
     ghost use Rattle.ft_base.specs.After.{after_attach, after_refilter, after_remove};
     ghost use Rattle.ft_answers.specs.Answers.{hist_text, rows_shown, row_shown};
     ghost use Rattle.ft_answers.specs.Answers.{totals, latencies, list_text};
+    ghost use Rattle.ft_answers.specs.Answers.{counts_shown, pairs_shown};
     ghost use Rattle.ft_answers.specs.Costs.{EditCounts, RepairCosts, LoadCosts, UnloadCosts};
     ghost use Rattle.ft_answers.specs.Costs.{FilterCosts, AnswerCosts};
     ghost use Rattle.ft_answers.specs.Deferral.{IsNoHit, IsPlainHit, IsPlainLane, ReadsNothing};
@@ -134,6 +136,10 @@ pub trait Board: Drop {
         ensures now { ReadsNothing (shown self.old).base.triggers id
             → PutsNothingOff (shown self.old) (shown self.new) };
 
+    /// What is held and attached. It needs no tables, and takes no memory.
+    fn content(&self) -> &Content
+        ensures { result.now ≡ (shown self.now).base };
+
     /// The event that the trigger with an id is on. Takes no memory.
     fn name_of(&self, id: u32) -> Option<Name>
         ensures { result
@@ -150,6 +156,13 @@ pub trait Board: Drop {
     /// memory.
     fn rows(&mut self, id: u32) -> Result<Vec<TableRow>, Refused>
         ensures gives { AnswersFrom (λ rows. rows.items) (rows_shown (shown self.old).base id)
+            (shown self.old) (shown self.new) result }
+        ensures steps { AnswerCosts (shown self.old) (shown self.new) };
+
+    /// The rows of a trigger's table in numbers, in the order of its text. Refused where no trigger
+    /// has the id, or for memory.
+    fn counts(&mut self, id: u32) -> Result<Vec<Row>, Refused>
+        ensures gives { AnswersFrom (λ rows. rows.items) (counts_shown (shown self.old).base id)
             (shown self.old) (shown self.new) result }
         ensures steps { AnswerCosts (shown self.old) (shown self.new) };
 
@@ -173,6 +186,14 @@ pub trait Board: Drop {
     fn latencies(&mut self, id: u32) -> Result<Vec<Latency>, Refused>
         ensures gives { AnswersFrom (λ latencies. latencies.items)
             (latencies (shown self.old).base id) (shown self.old) (shown self.new) result }
+        ensures steps { AnswerCosts (shown self.old) (shown self.new) };
+
+    /// What a reading trigger's readings found, in merged order of the reading, those of dropped
+    /// hits too: of each the place of the event that saved and of the one that read. Refused where
+    /// no trigger has the id, where it reads no variable, or for memory.
+    fn pairs(&mut self, id: u32) -> Result<Vec<Pair>, Refused>
+        ensures gives { AnswersFrom (λ pairs. pairs.items)
+            (pairs_shown (shown self.old).base id) (shown self.old) (shown self.new) result }
         ensures steps { AnswerCosts (shown self.old) (shown self.new) };
 
     /// The text of a CPU's lane. It needs no tables. Refused where the lane is not held, or for

@@ -29,9 +29,12 @@ pub use answers::{counts_made, table_text};
 pub use board::Board;
 pub use done::{Done, Kept};
 pub use edited::Edited;
-pub use ft_base::{Content, Place, Refused, is_reader, one_saver, reachable_bases, role_of};
+pub use ft_base::{
+    AttachedTrigger, Content, Place, Refused, is_reader, one_saver, reachable_bases, role_of,
+};
+pub use ft_replay::Pair;
 pub use ft_rivals::Changed;
-pub use ft_rows::TableRow;
+pub use ft_rows::{Row, TableRow};
 pub use latency::{Latency, latency_of};
 pub use plain::{PlainBoard, plain_board_keeps_none};
-pub use rows::{rows_make_the_text, table_row, table_rows};
+pub use rows::{rows_make_the_text, table_counts, table_row, table_rows};

@@ -2,17 +2,18 @@
 
 ghost use Rattle.std.specs.Prelude.{◌≡◌, false, None};
 
-use crate::answers::{hist_from, latencies_from, totals_from};
+use crate::answers::{hist_from, latencies_from, pairs_from, totals_from};
 use crate::board::Board;
 use crate::done::{Done, Kept};
 use crate::edited::Edited;
 use crate::latency::Latency;
-use crate::rows::{row_from, rows_from};
+use crate::rows::{counts_from, row_from, rows_from};
 use ft_base::{Content, Place, Refused};
 use ft_fields::{Event, Name};
 use ft_filter::Filter;
 use ft_hist::{Key, Trigger, Work};
-use ft_rows::TableRow;
+use ft_replay::Pair;
+use ft_rows::{Row, TableRow};
 use ft_store::Store;
 use ft_table::Totals;
 use std::alloc::Global;
@@ -123,6 +124,10 @@ impl Board for PlainBoard {
         })
     }
 
+    fn content(&self) -> &Content {
+        &self.content
+    }
+
     fn name_of(&self, id: u32) -> Option<Name> {
         self.content.name_of(id)
     }
@@ -137,6 +142,12 @@ impl Board for PlainBoard {
         let lanes = self.content.lanes();
         let triggers = self.content.triggers();
         rows_from(self.alloc, lanes, triggers, id, &mut self.work)
+    }
+
+    fn counts(&mut self, id: u32) -> Result<Vec<Row>, Refused> {
+        let lanes = self.content.lanes();
+        let triggers = self.content.triggers();
+        counts_from(self.alloc, lanes, triggers, id, &mut self.work)
     }
 
     fn row(&mut self, id: u32, key: &Key) -> Result<Option<Vec<u8>>, Refused> {
@@ -155,6 +166,12 @@ impl Board for PlainBoard {
         let lanes = self.content.lanes();
         let triggers = self.content.triggers();
         latencies_from(self.alloc, lanes, triggers, id, &mut self.work)
+    }
+
+    fn pairs(&mut self, id: u32) -> Result<Vec<Pair>, Refused> {
+        let lanes = self.content.lanes();
+        let triggers = self.content.triggers();
+        pairs_from(self.alloc, lanes, triggers, id, &mut self.work)
     }
 
     fn list(&self, cpu: u32) -> Result<Vec<u8>, Refused> {

@@ -5,7 +5,8 @@ ghost use Rattle.std.specs.Ordering.{nat_cmp};
 ghost use Rattle.ft_hist.specs.Steps.{StepsGrow};
 ghost use Rattle.ft_maps.specs.Seen.{seen};
 ghost use Rattle.ft_table.specs.Rows.{AllFit};
-ghost use Rattle.ft_answers.specs.Answers.{tally_rows, tally_row, rows_from, row_from};
+ghost use Rattle.ft_answers.specs.Answers.{tally_rows, tally_row, tally_counts};
+ghost use Rattle.ft_answers.specs.Answers.{rows_from, row_from, counts_from};
 ghost use Rattle.ft_answers.specs.Edited.{AnswerIs};
 ghost use Rattle.ft_answers.specs.Rows.{RowsMakeText, RowIsAmong};
 ghost use Rattle.ft_replay.specs.Merged.{merged};
@@ -16,7 +17,7 @@ use crate::answers::{counter_at, counts_made, made_at};
 use ft_base::{Refused, attached};
 use ft_hist::{Key, Trigger, Work};
 use ft_lanes::Lanes;
-use ft_rows::TableRow;
+use ft_rows::{Row, TableRow};
 use ft_table::Table;
 use std::alloc::{AllocError, Global};
 use std::collections::BTreeMap;
@@ -66,6 +67,28 @@ pub(crate) fn row_from(
     Ok(table_row(alloc, trigger, counter.table(), key)?)
 }
 
+/// The rows of the table of the trigger with an id, in numbers. Refused where no trigger has the
+/// id, or for memory.
+pub(crate) fn counts_from(
+    alloc: Global,
+    lanes: &Lanes,
+    triggers: &BTreeMap<u32, Trigger>,
+    id: u32,
+    work: &mut Work,
+) -> Result<Vec<Row>, Refused>
+    ensures gives { AnswerIs (λ rows. rows.items)
+        (counts_from (seen nat_cmp triggers.now) (merged lanes.now) id) result }
+    ensures grow { StepsGrow work.old work.new }
+{
+    let trigger = attached(triggers, id)?;
+    if counts_made(trigger) {
+        let made = made_at(alloc, lanes, triggers, id, trigger, work)?;
+        return Ok(table_counts(trigger, &made)?);
+    }
+    let counter = counter_at(alloc, lanes, triggers, id, work)?;
+    Ok(table_counts(trigger, counter.table())?)
+}
+
 /// The rows of a trigger with this table. Refused for memory.
 pub fn table_rows(
     alloc: Global,
@@ -78,6 +101,15 @@ pub fn table_rows(
 {
     ft_rows::laws::one_row_order();
     table.keyed_rows(alloc, trigger)
+}
+
+/// The rows of a trigger with this table, in numbers. Refused for memory.
+pub fn table_counts(trigger: &Trigger, table: &Table) -> Result<Vec<Row>, AllocError>
+    ensures { IfOk result (λ rows. (pairs : List Pair)
+        → rows.items ≡ tally_counts trigger.now (tally_of table.now pairs)) }
+{
+    ft_rows::laws::one_row_order();
+    table.rows(trigger.sort())
 }
 
 /// The text of a key's row of a trigger with this table; none where the key isn't in it. Refused for

@@ -10,12 +10,13 @@ use Rattle.ft_rows.specs.declared.row.Totals.{Totals}
 use Rattle.ft_answers.specs.declared.latency.Latency.{Latency}
 use Rattle.ft_base.specs.declared.refused.Refused.{Refused}
 use Rattle.ft_base.specs.declared.refused.Refused.TheVariants.{Memory, NoTrigger, NotReading}
-use Rattle.ft_answers.specs.Answers.{hist_text, totals, latencies, tally_at, tally_made, tally_shown, tally_text, latency_of, latencies_as}
+use Rattle.ft_answers.specs.Answers.{hist_text, totals, latencies, pairs_shown, tally_at, tally_made, tally_shown, tally_text, latency_of, latencies_as, pairs_as}
 use Rattle.ft_answers.specs.Counting.{counts_made}
 use Rattle.ft_answers.specs.Deferral.{WantsForTables}
 use Rattle.ft_base.specs.Base.{Base, Triggers}
 use Rattle.ft_answers.specs.Edited.{AnswersFrom}
 use Rattle.ft_replay.specs.Found.{saving_found}
+use Rattle.ft_replay.specs.declared.pair.Pair.{Pair}
 use Rattle.ft_replay.specs.Merged.{Events, merged}
 use Rattle.ft_replay.specs.Replay.{State, replay}
 use Rattle.ft_made.specs.Laws.{HeldAreCounted, TablesAreTallied}
@@ -24,7 +25,7 @@ use Rattle.ft_answers.specs.Shown.{Shown}
 use Rattle.ft_replay.specs.Tally.{Tally, empty_tally, tally_of, totals_in}
 use Rattle.ft_board.specs.MadeShelves.{MadeTables, made_on, AreMadeBy}
 use Rattle.ft_board.specs.inner.Told.{IsTold}
-use Rattle.ft_answers.proofs.Answering.{latencies-reader, latencies-other}
+use Rattle.ft_answers.proofs.Answering.{latencies-reader, latencies-other, pairs-reader, pairs-other}
 
 -- a board that keeps tables, with its steps
 abbrev pub kept_shown : Base → Option Shelves → Steps → Shown
@@ -81,6 +82,20 @@ latencies-unread base id hist there other =
     ap (λ (o : Option Hist). let answer : Result (List Latency) Refused = option_map_or (λ h. latencies_as h.variable (tally_at base.triggers (merged base.lanes) id)) o (Err NoTrigger) in answer) there
     ∙ latencies-other hist.variable (tally_at base.triggers (merged base.lanes) id) other
 
+-- what the readings of a trigger found, if one is attached
+abbrev pairs_if : Base → ℕ → Option Hist → Result (List Pair) Refused
+pairs_if base id attached = option_map_or (λ hist. pairs_as hist.variable (tally_at base.triggers (merged base.lanes) id)) attached (Err NoTrigger)
+
+pub pairs-missing : (base : Base) (id : ℕ) → map.get base.triggers id ≡ None → pairs_shown base id ≡ Err NoTrigger
+unfolding pairs_shown
+pairs-missing base id none = ap (λ (o : Option Hist). pairs_if base id o) none
+
+pub pairs-unread : (base : Base) (id : ℕ) (hist : Hist) → map.get base.triggers id ≡ Some hist → is_reader hist.variable ≡ false → pairs_shown base id ≡ Err NotReading
+unfolding pairs_shown
+pairs-unread base id hist there other =
+    ap (λ (o : Option Hist). pairs_if base id o) there
+    ∙ pairs-other hist.variable (tally_at base.triggers (merged base.lanes) id) other
+
 -- ---- which tally is told
 
 module _ (triggers : Triggers) (events : Events) (id : ℕ) where
@@ -126,3 +141,11 @@ latencies-told base id hist tally there is reads =
     ap (λ (o : Option Hist). let answer : Result (List Latency) Refused = option_map_or (λ h. latencies_as h.variable (tally_at base.triggers (merged base.lanes) id)) o (Err NoTrigger) in answer) there
     ∙ latencies-reader hist.variable (tally_at base.triggers (merged base.lanes) id) reads
     ∙ ap (λ (t : Tally). let answer : Result (List Latency) Refused = Ok (list_map latency_of t.pairs) in answer) is
+
+pub pairs-told : (base : Base) (id : ℕ) (hist : Hist) (tally : Tally) → map.get base.triggers id ≡ Some hist → tally_at base.triggers (merged base.lanes) id ≡ tally
+    → is_reader hist.variable ≡ true → pairs_shown base id ≡ Ok tally.pairs
+unfolding pairs_shown
+pairs-told base id hist tally there is reads =
+    ap (λ (o : Option Hist). pairs_if base id o) there
+    ∙ pairs-reader hist.variable (tally_at base.triggers (merged base.lanes) id) reads
+    ∙ ap (λ (t : Tally). let answer : Result (List Pair) Refused = Ok t.pairs in answer) is

@@ -4,10 +4,13 @@ ghost use Rattle.std.specs.Prelude.{◌≡◌, true, false};
 
 use crate::made::{drop_made, remake};
 use crate::mend::{mend, take_notes};
+use crate::readings::pairs_of;
 use crate::report::{report, reported_edits};
-use crate::told::{catch_up, latencies_in, row_in, rows_in, shelf_in, text_in, totals_in};
+use crate::told::{
+    catch_up, counts_in, latencies_in, row_in, rows_in, shelf_in, text_in, totals_in,
+};
 use crate::turned::{turned, where_kept};
-use ft_answers::{Board, Done, Edited, Kept, Latency, TableRow};
+use ft_answers::{Board, Done, Edited, Kept, Latency, Pair, Row, TableRow};
 use ft_base::{Content, Refused, attached, is_reader};
 use ft_fields::{Event, Name};
 use ft_filter::Filter;
@@ -306,6 +309,10 @@ impl Board for KeptBoard {
         Ok(Done { value: id, kept })
     }
 
+    fn content(&self) -> &Content {
+        &self.content
+    }
+
     fn name_of(&self, id: u32) -> Option<Name> {
         self.content.name_of(id)
     }
@@ -339,6 +346,25 @@ impl Board for KeptBoard {
             &mut self.work,
         );
         rows_in(
+            &self.kept,
+            &self.made,
+            self.alloc,
+            &self.content,
+            id,
+            trigger,
+        )
+    }
+
+    fn counts(&mut self, id: u32) -> Result<Vec<Row>, Refused> {
+        let trigger = attached(self.content.triggers(), id)?;
+        catch_up(
+            &mut self.kept,
+            &mut self.made,
+            self.alloc,
+            &self.content,
+            &mut self.work,
+        );
+        counts_in(
             &self.kept,
             &self.made,
             self.alloc,
@@ -401,6 +427,22 @@ impl Board for KeptBoard {
         );
         let shelf = shelf_in(&self.kept, id)?;
         Ok(latencies_in(self.alloc, shelf.readings())?)
+    }
+
+    fn pairs(&mut self, id: u32) -> Result<Vec<Pair>, Refused> {
+        let trigger = attached(self.content.triggers(), id)?;
+        if !is_reader(trigger) {
+            return Err(Refused::NotReading);
+        }
+        catch_up(
+            &mut self.kept,
+            &mut self.made,
+            self.alloc,
+            &self.content,
+            &mut self.work,
+        );
+        let shelf = shelf_in(&self.kept, id)?;
+        Ok(pairs_of(self.alloc, shelf.readings())?)
     }
 
     fn list(&self, cpu: u32) -> Result<Vec<u8>, Refused> {

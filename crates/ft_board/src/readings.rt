@@ -34,7 +34,10 @@ impl KeptReadings for ShelfReadings<'_> {
 }
 
 /// What readings found, as pairs in merged order of the reading. Refused for memory.
-fn pairs_of(alloc: Global, readings: &BTreeMap<Pos, Pos>) -> Result<Vec<Pair>, AllocError>
+pub(crate) fn pairs_of(
+    alloc: Global,
+    readings: &BTreeMap<Pos, Pos>,
+) -> Result<Vec<Pair>, AllocError>
     ensures { IfOk result (λ pairs. pairs.items ≡ pairs_in (seen pos_cmp readings.now)) }
 {
     let mut pairs = Vec::with_capacity(alloc, len(readings))?;

@@ -12,6 +12,7 @@ ghost use Rattle.ft_hist.specs.Steps.{StepsGrow};
 ghost use Rattle.ft_table.specs.Rows.{AllFit, totals_of};
 ghost use Rattle.ft_answers.specs.Answers.{hist_text, rows_shown, row_shown, totals};
 ghost use Rattle.ft_answers.specs.Answers.{tally_text, tally_rows, tally_row, latency_of};
+ghost use Rattle.ft_answers.specs.Answers.{counts_shown, tally_counts};
 ghost use Rattle.ft_base.specs.declared.refused.Refused.TheVariants.{Memory};
 ghost use Rattle.ft_base.specs.Base.{Base};
 ghost use Rattle.ft_replay.specs.Found.{pairs_in};
@@ -21,7 +22,10 @@ ghost use Rattle.ft_board.specs.MadeShelves.{AreMade, made_on};
 ghost use Rattle.ft_board.specs.inner.Told.{IsTold, Tells};
 
 use crate::made::remake;
-use ft_answers::{Latency, TableRow, counts_made, latency_of, table_row, table_rows, table_text};
+use ft_answers::{
+    Latency, Row, TableRow, counts_made, latency_of, table_counts, table_row, table_rows,
+    table_text,
+};
 use ft_base::{Content, Refused};
 use ft_fields::Pos;
 use ft_hist::{Key, Trigger, Work};
@@ -97,6 +101,28 @@ pub(crate) fn rows_in(
         return Ok(made_rows(made, alloc, id, trigger)?);
     }
     Ok(table_rows(alloc, trigger, shelf.table())?)
+}
+
+/// The rows of the table of an attached trigger in numbers. Refused for memory.
+pub(crate) fn counts_in(
+    kept: &Option<Tables>,
+    made: &BTreeMap<u32, Table>,
+    alloc: Global,
+    content: &Content,
+    id: u32,
+    trigger: &Trigger,
+) -> Result<Vec<Row>, Refused>
+    requires attached { map.get content.now.triggers id ≡ Some trigger.now }
+    requires kept { IfSome kept.now (AreKeptOf content.now) }
+    requires made { IfSome kept.now (λ _. AreMade content.now (seen nat_cmp made.now)) }
+    ensures { IsTold (λ rows. rows.items) (counts_shown content.now id) kept.now result }
+{
+    ft_made::made_tables();
+    let shelf = shelf_in(kept, id)?;
+    if counts_made(trigger) {
+        return Ok(made_counts(made, alloc, id, trigger)?);
+    }
+    Ok(table_counts(trigger, shelf.table())?)
 }
 
 /// The text of a key's row of the table of an attached trigger. Refused for memory.
@@ -177,6 +203,22 @@ fn made_rows(
     match get(made, &id) {
         Some(table) => table_rows(alloc, trigger, table),
         None => table_rows(alloc, trigger, &Table::new(alloc, trigger.size())),
+    }
+}
+
+/// The rows of a trigger's table of made events in numbers. Refused for memory.
+fn made_counts(
+    made: &BTreeMap<u32, Table>,
+    alloc: Global,
+    id: u32,
+    trigger: &Trigger,
+) -> Result<Vec<Row>, AllocError>
+    ensures { IfOk result (λ rows. rows.items ≡ tally_counts trigger.now
+        (tally_of (made_on (seen nat_cmp made.now) id trigger.now) [])) }
+{
+    match get(made, &id) {
+        Some(table) => table_counts(trigger, table),
+        None => table_counts(trigger, &Table::new(alloc, trigger.size())),
     }
 }
 

@@ -2,6 +2,7 @@ pub mod Reading
 pub mod Unmade
 pub mod Edits
 pub mod Empty
+mod Found
 pub mod LineLemmas
 pub mod OutputLemmas
 pub mod Progress

@@ -1,4 +1,5 @@
 pub mod Edits
+pub mod Found
 pub mod Output
 pub mod Counts
 pub mod Run

@@ -6,11 +6,16 @@ ghost use Rattle.ft_answers.specs.Edited.{AnswerIs};
 ghost use Rattle.ft_trigger.specs.TriggerIs.{trigger_of};
 ghost use Rattle.ft_desk.specs.Edits.{trigger_for, trigger_or_refused, refused_for};
 ghost use Rattle.ft_desk.specs.Edits.{filter_for, filter_refused};
+ghost use Rattle.ft_desk.specs.Found.{tree_for};
 
 use crate::events::{event_in, events_in};
-use ft_answers::{Board, Done, Edited, Latency, Refused, TableRow};
-use ft_event::Name;
+use ft_answers::{
+    AttachedTrigger, Board, Done, Edited, Latency, Pair, Place, Refused, Row, TableRow,
+};
+use ft_event::{Event, Name};
+use ft_fields::Pos;
 use ft_filter::{Filter, FilterFault};
+use ft_held::{lane_places, matching_places, places};
 use ft_table::Totals;
 use ft_trigger::{Key, Trigger, TriggerFault, parse};
 use std::alloc::Global;
@@ -50,10 +55,13 @@ impl<B: Board> Desk<B> {
     ghost use Rattle.ft_answers.specs.Edited.{EditGives, AnswersFrom, AnswerIs};
     ghost use Rattle.ft_answers.specs.Answers.{hist_text, rows_shown, row_shown};
     ghost use Rattle.ft_answers.specs.Answers.{totals, latencies, list_text};
+    ghost use Rattle.ft_answers.specs.Answers.{counts_shown, pairs_shown, trigger_text, attached_in};
     ghost use Rattle.ft_answers.specs.Reporting.{Reports};
     ghost use Rattle.ft_desk.specs.Edits.{after_load_text, after_insert_text};
     ghost use Rattle.ft_desk.specs.Edits.{after_attach_text, after_refilter_text};
     ghost use Rattle.ft_desk.specs.Edits.{event_or_refused, events_of};
+    ghost use Rattle.ft_desk.specs.Found.{event_found, lane_found, matching_found};
+    ghost use Rattle.ft_held.specs.Places.{places};
 
     /// A desk over a board, as the board is.
     pub fn new(alloc: Global, board: B) -> Desk<B>
@@ -194,6 +202,16 @@ impl<B: Board> Desk<B> {
         self.board.rows(id)
     }
 
+    /// The rows of a trigger's table in numbers, in the order of its text. Refused where no trigger
+    /// has the id, or for memory.
+    pub fn counts(&mut self, id: u32) -> Result<Vec<Row>, Refused>
+        ensures gives { AnswersFrom (λ rows. rows.items) (counts_shown self.old.base id)
+            self.old self.new result }
+        ensures steps { AnswerCosts self.old self.new }
+    {
+        self.board.counts(id)
+    }
+
     /// The text of a key's row of a trigger's table as `hist` gives it, without the line break; none
     /// where the key isn't in the table. Refused where no trigger has the id, or for memory.
     pub fn row(&mut self, id: u32, key: &Key) -> Result<Option<Vec<u8>>, Refused>
@@ -223,6 +241,76 @@ impl<B: Board> Desk<B> {
         ensures steps { AnswerCosts self.old self.new }
     {
         self.board.latencies(id)
+    }
+
+    /// What a reading trigger's readings found, in merged order of the reading, those of dropped
+    /// hits too: of each the place of the event that saved and of the one that read, with their
+    /// stamps in microseconds. Refused where no trigger has the id, where it reads no variable, or
+    /// for memory.
+    pub fn pairs(&mut self, id: u32) -> Result<Vec<Pair>, Refused>
+        ensures gives { AnswersFrom (λ pairs. pairs.items) (pairs_shown self.old.base id)
+            self.old self.new result }
+        ensures steps { AnswerCosts self.old self.new }
+    {
+        self.board.pairs(id)
+    }
+
+    /// The event of a CPU's line. Refused where the lane is not held, or has no such line. Takes no
+    /// memory.
+    pub fn event(&self, cpu: u32, line: u32) -> Result<Event, Refused>
+        ensures { result ≡ event_found self.now.base cpu line }
+    {
+        let content = self.board.content();
+        let place = content.place_of(cpu, line)?;
+        content
+            .lanes()
+            .get(place.cpu, place.line)
+            .ok_or(Refused::NoEvent)
+    }
+
+    /// The places of all held events, in merged order: by stamp, then CPU, then line. Refused for
+    /// memory.
+    pub fn events(&self) -> Result<Vec<Pos>, Refused>
+        ensures { AnswerIs (λ places. places.items) (Ok (places self.now.base.lanes)) result }
+    {
+        Ok(places(self.alloc, self.board.content().lanes())?)
+    }
+
+    /// The places of a CPU's events from a line on, by line. Refused where the lane is not held, or
+    /// for memory.
+    pub fn lane(&self, cpu: u32, line: u32) -> Result<Vec<Pos>, Refused>
+        ensures { AnswerIs (λ places. places.items) (lane_found self.now.base cpu line) result }
+    {
+        let content = self.board.content();
+        let lane = content.lane_of(cpu)?;
+        Ok(lane_places(self.alloc, content.lanes(), lane, line)?)
+    }
+
+    /// The places of the held events of a name on which the filter of a text holds, in merged order.
+    /// Refused for an event that has no name, where the text cannot be read as a filter on such
+    /// events, or for memory.
+    pub fn matching(&self, event: Name, text: &[u8]) -> Result<Vec<Pos>, Refused>
+        ensures { AnswerIs (λ places. places.items)
+            (matching_found self.now.base event text.now) result }
+    {
+        let filter = given_filter(self.alloc, event, text)?;
+        Ok(matching_places(self.alloc, self.board.content().lanes(), &filter)?)
+    }
+
+    /// The attached triggers, by id. Refused for memory.
+    pub fn attached(&self) -> Result<Vec<AttachedTrigger>, Refused>
+        ensures { AnswerIs (λ attached. attached.items)
+            (Ok (attached_in self.now.base.triggers)) result }
+    {
+        Ok(self.board.content().attached_triggers(self.alloc)?)
+    }
+
+    /// The canonical text of an attached trigger. Refused where no trigger has the id, or for
+    /// memory.
+    pub fn trigger_text(&self, id: u32) -> Result<Vec<u8>, Refused>
+        ensures { AnswerIs (λ text. text.items) (trigger_text self.now.base id) result }
+    {
+        self.board.content().trigger_text(self.alloc, id)
     }
 
     /// The text of a CPU's lane. Refused where the lane is not held, or for memory.
@@ -287,6 +375,20 @@ fn read_filter(alloc: Global, event: Name, text: Option<&[u8]>) -> Result<Option
             Err(fault) => Err(filter_refused(fault)),
         },
         None => Ok(None),
+    }
+}
+
+/// Reads the text of a filter on events of a name, which is one of the named ones.
+fn given_filter(alloc: Global, event: Name, text: &[u8]) -> Result<Filter, Refused>
+    ensures reads { AnswerIs (λ filter. filter.tree) (tree_for event text.now) result }
+    ensures event { IfOk result (λ filter. filter.event ≡ event) }
+{
+    if event == Name::Other {
+        return Err(Refused::BadCommand);
+    }
+    match ft_filter::parse(alloc, text, event) {
+        Ok(filter) => Ok(filter),
+        Err(fault) => Err(filter_refused(fault)),
     }
 }
 

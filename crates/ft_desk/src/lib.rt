@@ -30,9 +30,11 @@ mod session;
 pub use calls::{Calls, RunCalls};
 pub use desk::Desk;
 pub use ft_answers::{
-    Board, Changed, Done, Edited, Kept, Latency, Place, PlainBoard, Refused, TableRow,
+    AttachedTrigger, Board, Changed, Done, Edited, Kept, Latency, Pair, Place, PlainBoard, Refused,
+    Row, TableRow,
 };
-pub use ft_event::{LineFault, Name};
+pub use ft_event::{Event, LineFault, Name};
+pub use ft_fields::Pos;
 pub use ft_filter::FilterFault;
 pub use ft_table::Totals;
 pub use ft_trigger::{Key, Part, TriggerFault};

@@ -34,7 +34,7 @@ fn printed_of(bytes: usize) -> &'static [u8] {
 
 /// Runs a script over a board without room and no files.
 fn ran(alloc: Global, script: &mut Source<'_>, out: &mut Sink) -> Result<Status, RunFault> {
-    run(alloc, NoRoom, &[], script, out)
+    run(alloc, NoRoom::new(alloc), &[], script, out)
 }
 
 /// Whether a run over a script and a writer of parts of that length prints and ends as it does over
@@ -236,12 +236,20 @@ fn ends_where_a_command_finds_no_memory(rt: HostRuntime) {
 
 #[test]
 fn in_memory_a_command_finds_no_memory(rt: HostRuntime) {
-    assert!(rt; run_text(rt.alloc(), NoRoom, &[], b"lists\nhist 1\nlists\n").is_err());
+    assert!(rt;
+        run_text(
+            rt.alloc(),
+            NoRoom::new(rt.alloc()),
+            &[],
+            b"lists\nhist 1\nlists\n"
+        )
+        .is_err()
+    );
 }
 
 #[test]
 fn in_memory_comments_need_no_memory(rt: HostRuntime) -> Result<(), Fail> {
-    let ran = run_text(rt.alloc(), NoRoom, &[], b"# hist 1\n\n  ")?;
+    let ran = run_text(rt.alloc(), NoRoom::new(rt.alloc()), &[], b"# hist 1\n\n  ")?;
     assert!(rt; ran.status == Status::AllAccepted && ran.output.is_empty());
     Ok(())
 }

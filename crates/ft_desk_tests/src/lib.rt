@@ -11,6 +11,8 @@ mod examples;
 #[cfg(test)]
 mod faults;
 #[cfg(test)]
+mod found;
+#[cfg(test)]
 mod kept_now;
 #[cfg(test)]
 mod merge;

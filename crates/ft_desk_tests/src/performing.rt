@@ -46,7 +46,7 @@ fn prints_what_a_line_does(rt: HostRuntime) {
 
 #[test]
 fn want_of_memory_has_no_line(rt: HostRuntime) {
-    let mut desk = Desk::new(rt.alloc(), NoRoom);
+    let mut desk = Desk::new(rt.alloc(), NoRoom::new(rt.alloc()));
     let lines: [&[u8]; 6] = [
         b"hist 1",
         b"totals 1",
