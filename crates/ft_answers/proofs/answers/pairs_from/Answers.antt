@@ -23,4 +23,4 @@ returns-clause-gives c =
     of_attached-some triggers c.args.id (λ (h : Hist). pairs_as h.variable (tally_at triggers events c.args.id)) hist c.in_ok-trigger.ensures.there
     ∙ ap (pairs_as hist.variable) (sym c.in_ok-counter.ensures.tally)
     ∙ pairs-reader hist.variable (tally_in counter) reads
-    ∙ ap (λ (pairs : List Pair). let answer : Result (List Pair) Refused = Ok pairs in answer) (pairs-tally counter.table counter.pairs ∙ sym c.pairs.ensures ∙ sym c.in_ok-from_slice.ensures)
+    ∙ ap (λ (pairs : List Pair). let answer : Result (List Pair) Refused = Ok pairs in answer) (pairs-tally counter.table counter.pairs ∙ sym c.pairs.ensures ∙ sym c.in_ok-from_slice.ensures.items)
