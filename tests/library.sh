@@ -1,0 +1,58 @@
+#!/usr/bin/env bash
+# library.sh LIBRARY HISTDESK HISTWATCH: tests the library, libhistdesk.so.0 with the libhistdesk.a beside it, as its users
+# have it: from C (c_library.sh); from Python, by the python3 on the PATH and by the system's, which may have numpy and
+# pandas; and installed with the programs (install.sh). It prints what went wrong, what was not tried and why, and a last
+# line with the counts.
+set -uo pipefail
+
+here=$(dirname -- "$(realpath -- "${BASH_SOURCE[0]}")")
+library=$(realpath -- "$1")
+histdesk=$(realpath -- "$2")
+histwatch=$(realpath -- "$3")
+export HISTDESK_LIBRARY=$library
+. "$here/counts.sh"
+: >"$folder/untried"
+
+# part NAME COMMAND..: a test whose last line has counts, as `7 passed, 0 failed` or `7 of 7 rows hold`.
+part() {
+    local name=$1 told good=0 bad=1
+    shift
+    told=$("$@" 2>&1 </dev/null)
+    if [[ ${told##*$'\n'} =~ ^([0-9]+)' passed, '([0-9]+)' failed'$ ]]; then
+        good=${BASH_REMATCH[1]}
+        bad=${BASH_REMATCH[2]}
+    elif [[ ${told##*$'\n'} =~ ^([0-9]+)' of '([0-9]+)' '[a-z]+' hold'$ ]]; then
+        good=${BASH_REMATCH[1]}
+        bad=$((BASH_REMATCH[2] - good))
+    fi
+    passed=$((passed + good))
+    failed=$((failed + bad))
+    if ((bad > 0)); then
+        printf '%s: %s\n' "$name" "$told"
+    fi
+    grep -E '^not tried: |^[0-9]+ skipped: ' <<<"$told" | sed "s|^|$name: |" >>"$folder/untried"
+}
+
+# Random scripts, each with what the program prints of it.
+for ((seed = 41; seed <= 50; seed++)); do
+    row=$folder/rows/mixed_$seed
+    mkdir -p -- "$row"
+    python3 "$here/random_script.py" 60 60 "$seed" "$row"
+    "$histdesk" "$row/script" "$row"/trace? >"$row/expected" </dev/null
+    echo $? >"$row/status"
+done
+
+part "from C" "$here/c_library.sh" "$library" "$histdesk"
+pythons=(python3)
+if [[ -x /usr/bin/python3 && ! /usr/bin/python3 -ef $(command -v python3) ]]; then
+    pythons+=(/usr/bin/python3)
+fi
+for python in "${pythons[@]}"; do
+    part "from $python" "$python" "$here/python_package.py"
+    part "rows from $python" "$python" "$here/python_rows.py" "$here"/rows/* "$folder"/rows/*
+done
+part installed "$here/install.sh" "$histdesk" "$histwatch" "$library"
+
+cat -- "$folder/untried"
+echo "$passed passed, $failed failed"
+((failed == 0))
