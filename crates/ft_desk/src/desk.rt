@@ -55,7 +55,8 @@ impl<B: Board> Desk<B> {
     ghost use Rattle.ft_answers.specs.Edited.{EditGives, AnswersFrom, AnswerIs};
     ghost use Rattle.ft_answers.specs.Answers.{hist_text, rows_shown, row_shown};
     ghost use Rattle.ft_answers.specs.Answers.{totals, latencies, list_text};
-    ghost use Rattle.ft_answers.specs.Answers.{counts_shown, pairs_shown, trigger_text, attached_in};
+    ghost use Rattle.ft_answers.specs.Answers.{counts_shown, pairs_shown};
+    ghost use Rattle.ft_base.specs.Answers.{trigger_text, attached_in};
     ghost use Rattle.ft_answers.specs.Reporting.{Reports};
     ghost use Rattle.ft_desk.specs.Edits.{after_load_text, after_insert_text};
     ghost use Rattle.ft_desk.specs.Edits.{after_attach_text, after_refilter_text};
