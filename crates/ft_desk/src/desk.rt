@@ -16,6 +16,7 @@ use ft_event::{Event, Name};
 use ft_fields::Pos;
 use ft_filter::{Filter, FilterFault};
 use ft_held::{lane_places, matching_places, places};
+use ft_lanes::Lanes;
 use ft_table::Totals;
 use ft_trigger::{Key, Trigger, TriggerFault, parse};
 use std::alloc::Global;
@@ -267,6 +268,13 @@ impl<B: Board> Desk<B> {
             .lanes()
             .get(place.cpu, place.line)
             .ok_or(Refused::NoEvent)
+    }
+
+    /// The lanes that are held, with their events. Takes no memory.
+    pub fn lanes(&self) -> &Lanes
+        ensures { result.now ≡ self.now.base.lanes }
+    {
+        self.board.content().lanes()
     }
 
     /// The places of all held events, in merged order: by stamp, then CPU, then line. Refused for
