@@ -1,3 +1,4 @@
 mod Filled
 mod NextCopied
 mod RefusedBack
+mod WithoutBreak

@@ -4,3 +4,4 @@ pub mod Names
 pub mod Places
 pub mod Refusals
 pub mod Rows
+pub mod Words

@@ -12,17 +12,21 @@
 
 mod copying;
 mod events;
+pub mod laws;
 mod names;
 mod places;
 mod refusals;
 mod rows;
+mod words;
 
 pub use copying::{
     ByItself, Shows, copy_bytes, copy_changed, copy_events, copy_latencies, copy_part, copy_places,
     copy_rows, copy_triggers,
 };
 pub use events::{EventLayout, TriggerLayout};
+pub use laws::{numbers_of_names, numbers_of_refusals};
 pub use names::{NameLayout, name_number, name_numbered};
 pub use places::{LatencyLayout, LineLayout, PlaceLayout};
 pub use refusals::{RefusalLayout, refused_of};
 pub use rows::{ChangedLayout, KeyLayout, PartLayout, ReportLayout, RowLayout, TotalsLayout};
+pub use words::{refusal_text, refusal_words};
