@@ -84,7 +84,7 @@ static bool wants_memory(int line, uint32_t code) {
     if (code != HISTDESK_MEMORY)
         return false;
     wants++;
-    if (desk.at && (histdesk_refused(&desk, &refusal) != HISTDESK_OK || refusal.number != HISTDESK_MEMORY))
+    if (histdesk_refused(&desk, &refusal) != HISTDESK_OK || refusal.number != HISTDESK_MEMORY)
         wrong(line, "memory ran out, the refusal is of %" PRIu32, refusal.number);
     is_given = true;
     return true;
@@ -200,10 +200,21 @@ static bool is_named(bool has, uint64_t count, size_t (*copy)(histdesk *, uint64
     return !has && count == 0;
 }
 
-static void make_and_load(void) {
+static void make(void) {
+    void *old = desk.at;
+    uint32_t code = histdesk_new(&desk);
+    if (code == HISTDESK_MEMORY) {
+        HOLDS(desk.at == old);
+        wants++;
+        is_given = true;
+        code = histdesk_new(&desk);
+    }
+    done(__LINE__, HISTDESK_OK, code);
+}
+
+static void load_and_attach(void) {
     uint64_t events = 77;
     uint32_t id = 77;
-    KEEPS(HISTDESK_OK, histdesk_new(&desk), desk.at == NULL);
     KEEPS(HISTDESK_OK, histdesk_load(&desk, BYTES(trace), &events), events == 77);
     HOLDS(events == 3);
     KEEPS(HISTDESK_OK, histdesk_attach(&desk, HISTDESK_WAKING, BYTES(saver), &id), id == 77);
@@ -231,7 +242,7 @@ static void ask_triggers(void) {
     HOLDS(is_row(count, HISTDESK_NUMBER, 42, 1, 50));
     GIVES(HISTDESK_OK, histdesk_latencies(&desk, 2, &count));
     HOLDS(is_latency(count, 1, 1000100));
-    KEEPS(HISTDESK_OK, histdesk_totals_of(&desk, 1, &totals), are_totals(&totals, 77, 77) || totals.dropped == 77);
+    KEEPS(HISTDESK_OK, histdesk_totals_of(&desk, 1, &totals), totals.hits == 77 && totals.dropped == 77);
     HOLDS(are_totals(&totals, 1, 1));
     GIVES(HISTDESK_OK, histdesk_triggers(&desk, &count));
     HOLDS(are_triggers(count, 3));
@@ -350,8 +361,7 @@ static void end_all(void) {
     ALWAYS(HISTDESK_OK, histdesk_remove(&desk, 1));
     ALWAYS(HISTDESK_OK, histdesk_unload(&desk, 0, &events));
     HOLDS(events == 2);
-    void *old = desk.at;
-    KEEPS(HISTDESK_OK, histdesk_new(&desk), desk.at == old);
+    make();
     ALWAYS(HISTDESK_NO_LANE, histdesk_unload(&desk, 0, &events));
     histdesk_free(&desk);
     HOLDS(desk.at == NULL);
@@ -366,7 +376,8 @@ static uint64_t session(uint64_t at, bool for_good) {
     is_for_good = for_good;
     live = 0;
     is_counting = true;
-    make_and_load();
+    make();
+    load_and_attach();
     ask_triggers();
     ask_events();
     edit_events();
