@@ -310,8 +310,8 @@ void histdesk_forget(histdesk *desk);
 
 /* ---- Refusals. */
 
-/* Why the last call with a code was refused, but for histdesk_new, which has no desk to tell it, and for this one.
- * HISTDESK_OK. */
+/* Why the last edit or question was refused: the last call with a code, but for histdesk_new, histdesk_report_of and this
+ * one. HISTDESK_OK. */
 uint32_t histdesk_refused(histdesk *desk, histdesk_refusal *refusal);
 
 /* Writes the refusal as scripts print it, `refused 8: fault 3`, without a line break, or as words; as much as `room` allows,
