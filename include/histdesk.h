@@ -302,7 +302,8 @@ uint32_t histdesk_matching(histdesk *desk, uint32_t event, const uint8_t *filter
 /* Copies the places that were asked for last, by one of these three calls. */
 size_t histdesk_places_copy(histdesk *desk, uint64_t from, histdesk_place *to, size_t room);
 
-/* Copies the events that are held now at the CPUs and lines of these places; HISTDESK_NONE where none is any more. */
+/* Copies the events that are held now at the CPUs and lines of these places, HISTDESK_NONE where none is any more. The
+ * place of each, with its stamp, is the one that was asked for. */
 size_t histdesk_events_copy(histdesk *desk, uint64_t from, histdesk_event *to, size_t room);
 
 /* Gives back the memory of all that was asked for, and of the report. What is held and attached stays. */
