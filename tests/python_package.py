@@ -445,13 +445,28 @@ class Documents(unittest.TestCase):
         self.assertTrue(os.path.exists(os.path.join(PYTHON, "histdesk", "py.typed")))
 
 
+class Result(unittest.TextTestResult):
+    """Counts what holds."""
+
+    good = 0
+
+    def addSuccess(self, test):
+        super().addSuccess(test)
+        self.good += 1
+
+
+class Runner(unittest.TextTestRunner):
+    """Runs with that count."""
+
+    resultclass = Result
+
+
 def main():
-    ran = unittest.main(exit=False).result
-    wrong = len(ran.failures) + len(ran.errors)
+    ran = unittest.main(exit=False, testRunner=Runner).result
     for reason, count in sorted(collections.Counter(reason for _, reason in ran.skipped).items()):
         print(f"{count} skipped: {reason}")
-    tried = ran.testsRun - len(ran.skipped)
-    print(f"{tried - wrong} of {tried} tests hold")
+    wrong = len(ran.failures) + len(ran.errors)
+    print(f"{ran.good} of {ran.good + wrong} tests hold")
     return 1 if wrong else 0
 
 
