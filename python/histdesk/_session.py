@@ -166,6 +166,8 @@ class Session:
         return [self._named(fields) for fields in _layout.CHANGED.iter_unpack(structs)]
 
     def _report(self, copy: Any, count: int) -> bytes:
+        if not count:
+            return b""
         room = ctypes.create_string_buffer(count * _layout.CHANGED.size)
         complete(copy(self.handle, 0, room, count), count)
         return room.raw
