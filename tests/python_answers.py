@@ -565,6 +565,7 @@ class Refusals(unittest.TestCase):
         self.assertEqual(refused.number, int(text.split(" ")[1].rstrip(":")))
         self.assertEqual({name: getattr(refused, name) for name in names}, {**dict.fromkeys(names), **details})
         self.assertTrue(str(refused))
+        self.assertEqual(histdesk.refusal_words(text), str(refused))
         return refused
 
     def test_lines_and_lanes(self):
@@ -637,6 +638,29 @@ class Refusals(unittest.TestCase):
         desk = desk_of()
         self.assertEqual(str(self.refused(lambda: desk.strike(0, 9), "refused 6")), "no event is there")
         self.assertIn("CPU 2", str(self.refused(lambda: desk.list(2), "refused 5: cpu 2", cpu=2)))
+
+    def test_words_of_texts(self):
+        words = {
+            "refused 1": "out of memory",
+            "refused 3: line 18446744073709551615 fault 6": "line 18446744073709551615: a name has more than 31 bytes",
+            "refused 4: cpu 4294967295": "events of CPU 4294967295 are held already",
+            "refused 8: fault 10 at 14": "the trigger can't be read: the kernel has this form, and the desk has not",
+            "refused 8: fault 11 filter 7": "the trigger can't be read: its filter: more than 32 of ( and ! are open",
+            "refused 9: filter 3 at 0": "the filter can't be read: the event has no such field",
+            "refused 11: trigger 64": "trigger 64 reads what it saves",
+            "refused 17": "the trigger reads no variable, so it measures no latencies",
+        }
+        for text, meaning in words.items():
+            self.assertEqual(histdesk.refusal_words(text), meaning)
+
+    def test_texts_of_no_refusal(self):
+        numbers = ["", "refused", "refused 0", "refused 18", "refused 06", "refused 4294967302"]
+        parts = ["refused 5", "refused 6: cpu 0", "refused 5: cpu 4294967296", "refused 3: line 1 fault 8", "refused 9: filter 2"]
+        places = ["refused 8: fault 3 at 0", "refused 8: fault 11", "refused 9: filter 7 at 0", "refused 9: at 0 filter 2"]
+        others = ["refused 6 ", "refused 6\n", "Refused 6", "loaded 6", "no event is there", "refused 6: \udcff"]
+        for text in [*numbers, *parts, *places, *others]:
+            with self.assertRaisesRegex(ValueError, "no refusal has the text '"):
+                histdesk.refusal_words(text)
 
     @unittest.skipIf(sys.version_info < (3, 11), "exceptions have no notes before Python 3.11")
     def test_notes(self):

@@ -44,7 +44,7 @@ environment variable `HISTDESK_LIBRARY` says, then in the folders around the pac
 
 from ._desk import Desk
 from ._events import Events
-from ._refused import Refused
+from ._refused import Refused, refusal_words
 from ._trigger import Trigger
 from ._values import Bucket, Changed, Edit, Event, Latency, Log2, Place, Totals
 
@@ -61,9 +61,10 @@ __all__ = [
     "Refused",
     "Totals",
     "Trigger",
+    "refusal_words",
 ]
 
 # They are known by the package's name, wherever in it they stand.
-for _thing in (Bucket, Changed, Desk, Edit, Event, Events, Latency, Log2, Place, Refused, Totals, Trigger):
+for _thing in (Bucket, Changed, Desk, Edit, Event, Events, Latency, Log2, Place, Refused, Totals, Trigger, refusal_words):
     _thing.__module__ = __name__
 del _thing

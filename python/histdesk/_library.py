@@ -91,8 +91,9 @@ def opened(path: str) -> ctypes.PyDLL:
         looked = ", ".join([*candidates(package), "the loader's folders"])
         told = f"{VARIABLE} names it" if os.environ.get(VARIABLE) else f"looked for in {looked}"
         raise ImportError(
-            f"histdesk needs the library {NAME}, which can't be loaded: {error} ({told}). Build and install it with "
-            f"tools/install in a checkout of histdesk, or name the file in the environment variable {VARIABLE}."
+            f"histdesk needs the library {NAME}, which can't be loaded: tools/build makes it in a checkout of histdesk, "
+            f"tools/install puts it where it is found, and the environment variable {VARIABLE} may name the file "
+            f"({error}; {told})"
         ) from None
 
 

@@ -14,6 +14,16 @@ BAD_LINE, LANE_HELD, NO_LANE, BAD_TRIGGER, BAD_FILTER, IN_USE, NAME_TAKEN, BAD_C
 FILTER_OF_TRIGGER = 11
 # What stands before a trigger's filter.
 FRONT = re.compile(rb"[^ \t]*[ \t]+if[ \t]+")
+# The parts of a refusal's text, each before its number, and where the library has them.
+PARTS = {
+    "refused": "number",
+    "line": "line",
+    "fault": "fault",
+    "filter": "filter_fault",
+    "cpu": "cpu",
+    "trigger": "trigger",
+    "at": "place",
+}
 
 
 class Refused(Exception):
@@ -50,12 +60,40 @@ class Refused(Exception):
     text: str = ""
 
 
+def refusal_words(text: str) -> str:
+    """What a refusal means, in words, as `str()` of a `Refused` has them. `text` is what a script prints of it, and what
+    `Refused.text` is. No desk is needed.
+
+    Raises `ValueError` where no refusal has that text.
+
+    >>> refusal_words("refused 8: fault 11 filter 2 at 5")
+    "the trigger can't be read: its filter: this can't be read"
+    """
+    refusal = refusal_of(text)
+    words = told(library.histdesk_refusal_words, refusal, WORDS_ROOM)
+    # The library's own text of it tells whether the given one was read as a whole.
+    if not words or told(library.histdesk_refusal_text, refusal, TEXT_ROOM) != text:
+        raise ValueError(f"no refusal has the text {text!r}")
+    return words
+
+
+def refusal_of(text: str) -> _layout.Refusal:
+    """The refusal whose text has these numbers, if there is one."""
+    refusal = _layout.Refusal()
+    for name, digits in re.findall("([a-z]+) ([0-9]{1,20})", text):
+        if name in PARTS:
+            setattr(refusal, PARTS[name], int(digits))
+        refusal.has_place |= name == "at"
+    return refusal
+
+
 def exception_of(refusal: _layout.Refusal, given: Optional[bytes] = None) -> Exception:
     """The exception for a refusal: `MemoryError` where memory ran out. `given` is the text that was handed in; where Python
     prints notes under exceptions, it stands there with a mark at the place."""
     words = told(library.histdesk_refusal_words, refusal, WORDS_ROOM)
     if refusal.number == _layout.MEMORY:
-        return MemoryError(words or "out of memory")
+        # Where there is no room for words either, it has none, as Python's own.
+        return MemoryError(words)
     refused = Refused(words)
     refused.number = refusal.number
     refused.text = told(library.histdesk_refusal_text, refusal, TEXT_ROOM)

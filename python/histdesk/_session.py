@@ -42,7 +42,7 @@ class Session:
         self._thread = this_thread()
         self._shapes: Dict[int, Shape] = {}
         if library.histdesk_new(self.handle) != _layout.OK:
-            raise MemoryError("out of memory")
+            raise exception_of(_layout.Refusal(_layout.MEMORY))
 
     def __del__(self) -> None:
         # Nobody else has it any more, so it may be freed in whichever thread the collector runs.
@@ -82,7 +82,7 @@ class Session:
         """Whether a call is accepted. Raises `MemoryError` where memory ran out."""
         code = self.code(call, *arguments)
         if code == _layout.MEMORY:
-            raise MemoryError("out of memory")
+            raise exception_of(_layout.Refusal(_layout.MEMORY))
         return code == _layout.OK
 
     def call(self, call: Any, *arguments: Any, given: Optional[bytes] = None) -> None:
