@@ -23,7 +23,7 @@ holds "$here/explain_rows.py" "$tools/explain" "$here"/rows/*
 gives nothing_refused 0 "" "$tools/explain" "$examples/wakeups.script" "$examples/wakeups.trace"
 prints nothing_refused "$(<"$examples/wakeups.expected")"
 printf 'hist 7\n' >"$folder/asked"
-told=$'refused 10\n  line 1: hist 7: no trigger has that id; none is attached'
+told=$'refused 10\n  line 1: hist 7: no such trigger is attached; none is'
 gives without_words 1 "" "$tools/explain" <"$folder/asked"
 prints without_words "$told"
 gives standard_input 1 "" "$tools/explain" - <"$folder/asked"
@@ -37,12 +37,12 @@ gives empty_lists 1 "" "$tools/explain" "$folder/lists"
 prints empty_lists 'inserted 1:1
 struck 1:1
 refused 5: cpu 2
-  line 6: list 2: CPU 2 has no lane: no event of it was loaded or inserted, or it was unloaded
+  line 6: list 2: no events of CPU 2 are held: none was loaded or inserted, or they were unloaded
 inserted 1:2
 1:2 a-1 [001] 1.000000:
 1:2 a-1 [001] 1.000000:
 refused 10
-  line 10: totals 5: no trigger has that id; none is attached'
+  line 10: totals 5: no such trigger is attached; none is'
 
 if [[ -n $histwatch ]]; then
     HISTDESK=$histwatch holds "$here/explained.py" "$tools/explain" "$folder/table"
@@ -52,15 +52,17 @@ if [[ -n $histwatch ]]; then
 fi
 
 # Programs that stand for the desk, where it would take long or never print it.
-script full 'echo "refused 7"; echo "refused 15"; echo "refused 1"' 'echo told >&2' 'exit 3'
-printf '%s\n' '# full' 'insert x' 'attach sched_switch hist:keys=next_pid' 'load @1' >"$folder/asked"
+script full 'echo "refused 7"; echo "refused 15"; echo "refused 1"; echo "refused 99"' 'echo told >&2' 'exit 3'
+printf '%s\n' '# full' 'insert x' 'attach sched_switch hist:keys=next_pid' 'load @1' 'load @2' >"$folder/asked"
 HISTDESK=$folder/bin/full gives full 3 told "$tools/explain" "$folder/asked"
 prints full 'refused 7
-  line 2: insert x: no room: over 1,048,576 events would be held, or a line number would pass 4,294,967,295
+  line 2: insert x: more than 1048576 events would be held, or a line number would pass 4294967295
 refused 15
-  line 3: attach sched_switch hist:keys=next_pid: no more triggers: 64 are attached, or the next id would pass 4,294,967,295
+  line 3: attach sched_switch hist:keys=next_pid: 64 triggers are attached, or the ids are used up
 refused 1
-  line 4: load @1: memory ran out'
+  line 4: load @1: out of memory
+refused 99
+  line 5: load @2: no refusal that the library knows'
 script other 'echo "removed 2"; echo "refused 10"'
 lost='explain: line 1 of the output is no answer to the command on line 2; nothing behind it is explained'
 HISTDESK=$folder/bin/other gives other_output 0 "$lost" "$tools/explain" "$folder/asked"
@@ -82,7 +84,7 @@ HISTDESK=$folder/bin/watch gives changed_rows 1 "" "$tools/explain" "$folder/ask
 prints changed_rows "$(<"$folder/changed")
   line 4: insert x: no TASK-PID [CPU] and a space begin the line
 refused 10
-  line 5: hist 9: no trigger has that id; none is attached"
+  line 5: hist 9: no such trigger is attached; none is"
 script watch_twice 'echo "inserted 0:1"' 'echo "changed 0"' 'echo "changed 0"' 'echo "refused 10"'
 lost='explain: line 3 of the output is no answer to the command on line 2; nothing behind it is explained'
 HISTDESK=$folder/bin/watch_twice gives changed_twice 0 "$lost" "$tools/explain" "$folder/asked"
@@ -92,6 +94,11 @@ HISTDESK=$folder/bin/watch_refused gives changed_by_nothing 0 "$lost" "$tools/ex
 script killed 'kill -KILL $$'
 HISTDESK=$folder/bin/killed gives killed 137 "" "$tools/explain" "$folder/asked"
 HISTDESK=$folder/bin/none gives no_program 2 "explain: cannot run *" "$tools/explain" "$folder/asked"
+# Without the library nothing runs, but --help.
+lost="explain: * needs the library libhistdesk.so.0, * tools/build makes it *$folder/none*"
+HISTDESK_LIBRARY=$folder/none gives no_library 2 "$lost" "$tools/explain" "$folder/asked"
+prints no_library ""
+HISTDESK_LIBRARY=$folder/none gives usage_alone 0 "" "$tools/explain" --help
 script desk 'while read -r line; do echo "refused 10"; done' 'exit 1'
 mkfifo "$folder/typed"
 : >"$folder/seen"
@@ -99,7 +106,7 @@ HISTDESK=$folder/bin/desk timeout "$limit" "$tools/explain" <"$folder/typed" >"$
 exec 3<>"$folder/typed"
 echo 'lat 3' >&3
 for ((try = 0; try < 500; try++)); do
-    [[ $(<"$folder/seen") != *'line 1: lat 3: no trigger'* ]] || break
+    [[ $(<"$folder/seen") != *'line 1: lat 3: no such trigger'* ]] || break
     sleep 0.02
 done
 exec 3>&-

@@ -69,43 +69,43 @@ def matched_event(trigger):
 
 
 def bad_command(asked, traces):
-    """Why the line is no command, and the place of the part that is wrong, if it is known."""
+    """Why the line is no command, behind a sign, and the place of the part that is wrong, if it is known."""
     if len(asked) > 8192:
-        return "a line of more than 8,192 bytes", None
+        return ": the line has more than 8,192 bytes", None
     text = asked.strip(" ")
     word, rest = split_command(text)
     at_rest = start_of_rest(text, 1)
     if text.startswith("#"):
-        return "a comment begins at the line's first byte, without a space in front", None
+        return ": a comment begins at the line's first byte, without a space in front", None
     if text.endswith("\r"):
-        return "a carriage return ends the line, and belongs to its last word", len(text) - 1
+        return ": a carriage return ends the line, and belongs to its last word", len(text) - 1
     if "\t" in re.match("[^ ]*( +[^ ]*)?", text)[0]:
-        return "a tab is no gap: words stand apart by spaces", text.index("\t")
+        return ": a tab is no gap; words stand apart by spaces", text.index("\t")
     if word == "insert":
-        return "insert stands at the line's first byte", None
+        return ": insert stands at the line's first byte", None
     if word == "attach":
         return bad_event(rest, at_rest)
     if word == "load":
         return bad_load(rest, at_rest, traces)
     if word in FORMS:
         return bad_form(word, rest, at_rest)
-    return f"no such command{near(word, FORMS)}", 0
+    return near(word, FORMS), 0
 
 
 def bad_event(rest, at):
     event, _ = split_command(rest)
     if not event:
-        return f"no event is named; the form is {FORMS['attach']}", at
+        return f": no event is named; the form is {FORMS['attach']}", at
     # The kernel names an event with its system in front, in some way or other.
     last = re.split("[:/.]", event)[-1]
     if last in ATTACHED:
-        return f"no such event; did you mean {last}?", at
+        return f"; did you mean {last}?", at
     found = near(last, ATTACHED) or near("sched_" + last, EVENTS)
-    return f"no such event: triggers are attached to {', '.join(ATTACHED)}{found}", at
+    return f": triggers are attached to {', '.join(ATTACHED)}{found}", at
 
 
 def bad_load(rest, at, traces):
-    form = "the form is load @N, with N the number of a TRACE behind the script"
+    form = ": the form is load @N, with N the number of a TRACE behind the script"
     if re.fullmatch("@?[0-9]+", rest):
         if numbers_of(rest.lstrip("@")):
             return f"{form}; did you mean load @{rest}?", at
@@ -117,7 +117,7 @@ def bad_load(rest, at, traces):
 
 
 def bad_form(word, rest, at):
-    form = f"the form is {FORMS[word]}"
+    form = f": the form is {FORMS[word]}"
     long = [digits for digits in re.findall("[0-9]+", rest.split(" ")[0]) if not numbers_of(digits)]
     if long and not re.search("[^0-9:]", rest.split(" ")[0]):
         return f"{form}, with numbers of at most ten digits and 4,294,967,295 at most", at

@@ -7,10 +7,13 @@ from collections import deque
 
 from explain_command import bad_command, filter_start, matched_event, numbers_of, split_command, trigger_start
 from explain_command import variable_of
-from explain_faults import filter_fault, line_fault, trigger_fault
+from explain_faults import filter_hint, line_hint, trigger_hint
 from explain_texts import near, shown, with_caret
+from histdesk import refusal_words
 
 LONGEST = 8192
+# The refusals of a line, a trigger and a filter that can't be read.
+UNREADABLE = (3, 8, 9)
 LATENCY = re.compile(r"[0-9]+:[0-9]+ -> [0-9]+:[0-9]+: [0-9]+ us")
 LISTED = re.compile(r"([0-9]+):([0-9]+) .*", re.DOTALL)
 # What histwatch prints of a row behind an accepted insert or strike, and last of how many rows.
@@ -142,79 +145,70 @@ class Walk:
         return True
 
     def explained(self, number, asked, text):
-        """What a refusal means: the command with its meaning, and more lines that show the place."""
+        """What a refusal means: the command with the library's words and a hint, and more lines that show the place."""
+        front, command = f"  line {number}: ", asked.strip(" ")
+        try:
+            words = refusal_words(text)
+        except ValueError:
+            return with_caret(front, command, None, "no refusal that the library knows")
         word, rest = split_command(asked)
-        refused = [int(digits) for digits in re.findall("[0-9]+", text)]
-        place, behind = None, []
-        if refused[0] == 3:
-            meaning, behind = self.bad_line(word, rest, asked, refused)
-        elif refused[0] == 8:
+        refused, *more = [int(digits) for digits in re.findall("[0-9]+", text)]
+        if refused in UNREADABLE and word != "load":
+            # Of a text that can't be read, what is wrong with it stands behind what it is.
+            words = words.partition(": ")[2]
+        place, hint, behind = None, "", []
+        if refused == 3 and word == "load":
+            path = self.traces[int(rest[1:]) - 1]
+            line = line_of(path, more[0])
+            words, hint = f"{path}, {words}", line_hint(more[1], line or "")
+            behind = [] if line is None else [f"    {shown(line)[0]}"]
+        elif refused == 3:
+            hint = line_hint(more[1], asked[7:])
+        elif refused == 8:
             event, trigger = split_command(rest)
-            meaning, place = trigger_fault(event, trigger, refused[1:], " at " in text)
+            hint, place = trigger_hint(event, trigger, more, " at " in text)
             place = None if place is None else trigger_start(asked) + place
-        elif refused[0] == 9:
+        elif refused == 9:
             trigger = self.triggers.get(numbers_of(split_command(rest)[0])[0])
-            start = filter_start(asked)
-            at = refused[2] if " at " in text else None
-            meaning, place = filter_fault(trigger[1] if trigger else None, asked.strip(" ")[start:], refused[1], at)
-            place = None if place is None else start + place
-        elif refused[0] == 16:
-            meaning, place = bad_command(asked, self.traces)
+            start, at = filter_start(asked), more[1] if " at " in text else None
+            hint = filter_hint(trigger[1] if trigger else None, command[start:], more[0], at)
+            place = None if at is None else start + at
+        elif refused == 16:
+            hint, place = bad_command(asked, self.traces)
         else:
-            meaning = self.meaning(refused, word, rest)
-        return with_caret(f"  line {number}: ", asked.strip(" "), place, meaning) + behind
+            hint = self.hint(refused, more, word, rest)
+        return with_caret(front, command, place, words + hint) + behind
 
-    def bad_line(self, word, rest, asked, refused):
-        _, line, fault = refused
-        if word == "insert":
-            return line_fault(fault, asked[7:]), []
-        path = self.traces[int(rest[1:]) - 1]
-        found = line_of(path, line)
-        if found is None:
-            return f"{path}, line {line}: {line_fault(fault, '')}", []
-        return f"{path}, line {line}: {line_fault(fault, found)}", [f"    {shown(found)[0]}"]
-
-    def meaning(self, refused, word, rest):
-        """What is meant by the refusals that hang on what is held and attached."""
-        number, *more = refused
-        if number == 2:
-            return f"no TRACE has that number: {self.traces_named()}"
-        if number == 4:
-            return f"CPU {more[0]} has a lane already; unload {more[0]} takes it away"
-        if number == 5:
-            return f"CPU {more[0]} has no lane: no event of it was loaded or inserted, or it was unloaded"
-        if number == 6 and word == "insert":
-            return "that line holds no event: an empty line, a comment or a lost-events line is skipped in a trace"
-        if number == 6:
-            return f"the lane of that CPU has no line {rest.partition(':')[2].lstrip('0') or '0'}, or it was struck"
-        if number == 7:
-            return "no room: over 1,048,576 events would be held, or a line number would pass 4,294,967,295"
-        if number == 10:
-            return f"no trigger has that id; {self.attached()}"
-        if number == 11:
-            return f"trigger {more[0]}{self.line_of_trigger(more[0])} reads the variable that it saves"
-        if number == 12:
-            return f"trigger {more[0]}{self.line_of_trigger(more[0])} saves a variable of that name already"
-        if number in (13, 14):
-            return self.unmatched(number, split_command(rest)[1])
-        if number == 15:
-            return "no more triggers: 64 are attached, or the next id would pass 4,294,967,295"
-        if number == 17:
-            return f"that trigger reads no variable, so it measures no latencies{self.readers()}"
-        if number == 1:
-            return "memory ran out"
-        return "a refusal that docs/FORMAT.md doesn't name"
+    def hint(self, refused, more, word, rest):
+        """What is known of the refusals that hang on what is held and attached."""
+        if refused == 2:
+            return f": {self.traces_named()}"
+        if refused == 4:
+            return f"; unload {more[0]} takes them away"
+        if refused == 5:
+            return ": none was loaded or inserted, or they were unloaded"
+        if refused == 6 and word == "insert":
+            return ": an empty line, a comment and a lost-events line are skipped in a trace"
+        if refused == 6:
+            return f": that CPU has no line {rest.partition(':')[2].lstrip('0') or '0'}, or it was struck"
+        if refused == 10:
+            return f"; {self.attached()}"
+        if refused in (11, 12):
+            return f"; line {self.triggers[more[0]][0]} attached trigger {more[0]}" if more[0] in self.triggers else ""
+        if refused in (13, 14):
+            return self.unmatched(refused, split_command(rest)[1])
+        return self.readers() if refused == 17 else ""
 
     def traces_named(self):
         if not self.traces:
-            return "none is named behind the script"
+            return "no trace is named behind the script"
         count = len(self.traces)
-        return "the only one is @1" if count == 1 else f"they are @1 to @{count}"
+        return "the only trace is @1" if count == 1 else f"the traces are @1 to @{count}"
 
     def attached(self):
         if not self.triggers:
-            return "none is attached"
-        return f"attached: {', '.join(str(id) for id in sorted(self.triggers))}"
+            return "none is"
+        return f"those that are: {', '.join(str(id) for id in sorted(self.triggers))}"
 
     def line_of_trigger(self, id):
         return f" (line {self.triggers[id][0]})" if id in self.triggers else ""
@@ -223,24 +217,24 @@ class Walk:
         found = [str(id) for id, (_, _, text) in sorted(self.triggers.items()) if variable_of(text)[1]]
         return f"; those that do: {', '.join(found)}" if found else ""
 
-    def unmatched(self, number, trigger):
+    def unmatched(self, refused, trigger):
         savers, read = {}, variable_of(trigger)[1]
         for id, (_, _, text) in sorted(self.triggers.items()):
             own, other = variable_of(text)
             if own and not other:
                 savers[own] = id
         event = matched_event(trigger)
-        if number == 13 and event and read in savers:
-            return self.elsewhere(savers[read], read, event)
-        if number == 13:
-            return f"no attached trigger saves the variable {shown(read or '')[0]}{near(read, savers)}"
+        if refused == 13 and event and read in savers:
+            return f": {self.elsewhere(savers[read], read, event)}"
+        if refused == 13:
+            return f": {shown(read or '')[0]}{near(read, savers)}"
         id = savers.get(read)
         if id is None:
-            return "its keys don't match those of the trigger that saves the variable"
+            return ""
         keys = re.search(r":keys?=([^: \t]*)", self.triggers[id][2])
         return (
-            f"its keys don't match those of trigger {id}{self.line_of_trigger(id)}, which saves {read}: "
-            f"{keys[1] if keys else ''}; as many are wanted, in turn text or number and with the same modifier"
+            f": trigger {id}{self.line_of_trigger(id)} saves {read} by {keys[1] if keys else ''}; "
+            "as many are wanted, in turn text or number and with the same modifier"
         )
 
     def elsewhere(self, id, read, event):

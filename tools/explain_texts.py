@@ -64,15 +64,10 @@ def near(word, choices):
 
 
 def field_meant(word, event):
-    """What is said behind an unknown field of an event."""
+    """What is said behind an unknown field of an event: who has it, and which was meant or which there are."""
     if event is None:
         return ""
-    found = near(word, fields_of(event))
-    if not found:
-        found = f"; it has {', '.join(fields_of(event))}"
     # All wake events have the same fields.
     told = [("sched_switch", "sched_switch has"), ("sched_waking", "the wake events have"), (MADE, f"{MADE} has")]
-    for other, who in told:
-        if word in fields_of(other):
-            return f" ({who} it){found}"
-    return found
+    elsewhere = [f"; {who} it" for other, who in told if word in fields_of(other)]
+    return "".join(elsewhere[:1]) + (near(word, fields_of(event)) or f"; {event} has {', '.join(fields_of(event))}")

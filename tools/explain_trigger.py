@@ -128,5 +128,5 @@ def behind_parts(head, fault):
     if fault == 8:
         for place, name in sorts:
             if name not in names:
-                return place, f": it is neither hitcount nor a key nor a value{near(name, names)}"
+                return place, f": neither hitcount nor a key nor a value has this name{near(name, names)}"
     return None
