@@ -51,8 +51,9 @@ used_programs() {
     gives "$1, histwatch" 0 "" "${alone[@]}" histwatch changes.script wakeups.trace
     prints "$1, histwatch" "$(<"$examples/changes.expected")"
     gives "$1, words" 2 "histdesk: bad words" "${alone[@]}" histdesk --help
-    gives "$1, explain" 1 "" "${alone[@]}" histdesk-explain bad.script
-    prints "$1, explain" $'refused 16\n  line 1: hits 1: no such command; did you mean hist?\n          ^'
+    # It finds the package and the library by itself.
+    gives "$1, explain" 1 "" env -i "PATH=$prefix/bin:/usr/bin:/bin" histdesk-explain bad.script
+    prints "$1, explain" $'refused 16\n  line 1: hits 1: there is no such command or event; did you mean hist?\n          ^'
     gives "$1, bars" 0 "" "${alone[@]}" bash -c 'histdesk latencies.script wakeups.trace | histdesk-bars | grep -c @@@'
     prints "$1, bars" 7
     for tool in explain record from-perf from-trace-cmd; do
