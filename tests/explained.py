@@ -129,7 +129,7 @@ TRIGGERS = [
     (WAKE + "keys=pid.execname", "10 at 10", "", "pid.execname"),
     (WAKE + "keys=pid:pause", "10 at 14", "", "pause"),
     (WAKE + "kyes=pid", "10 at 5", "did you mean keys=?", "kyes=pid"),
-    (MAKER + "waking).wakeup_latency($l,pid,next_prio)", "3", "the wake events have it; sched_switch has prev_comm", "pid,next_prio)"),
+    (MAKER + "waking).wakeup_latency($l,pid,next_prio)", "3", "the wake events have it; sched_switch", "pid,next_prio)"),
     (MAKER + "waking).wakeup_latency($l,next_pid,next_comm)", "4", "", "next_comm)"),
     (MAKER + "waking).wakeup_latency($t,next_pid,next_pid)", "3", "of a trigger that reads", "$t,next_pid,next_pid)"),
     (MAKER + f"waking).wakeup_latency($l,next_pid,next_prio):{SECOND}", "6", "second part of its form", SECOND),

@@ -96,16 +96,17 @@ def filter_of(text):
     return re.match("[^ \t]*[ \t]*if[ \t]*", text).end()
 
 
-def trigger_hint(event, text, numbers, is_placed):
-    """What is known of a trigger that has a fault, and its place. Where the desk names no place, it is looked for here."""
-    fault, *more = numbers
+def trigger_hint(event, text, told):
+    """What is known of a trigger that has a fault, and its place. `told` has the refusal's numbers by their names; where it
+    has no place, that is looked for here."""
+    fault, place = told["fault"], told.get("at")
     if fault == 11:
-        start, place = filter_of(text), more[1] if is_placed else None
-        return filter_hint(event, text[start:], more[0], place), None if place is None else start + place
+        start = filter_of(text)
+        return filter_hint(event, text[start:], told["filter"], place), None if place is None else start + place
     if fault == 2:
-        return ": " + bad_form(text, more[0]), more[0]
+        return f": {bad_form(text, place)}", place
     if fault == 10:
-        return left_out(event, text[more[0] :]), more[0]
+        return left_out(event, text[place:]), place
     place, said = offender(event, text, fault) or (None, "")
     return said, place
 

@@ -151,40 +151,48 @@ class Walk:
             words = refusal_words(text)
         except ValueError:
             return with_caret(front, command, None, "no refusal that the library knows")
-        word, rest = split_command(asked)
-        refused, *more = [int(digits) for digits in re.findall("[0-9]+", text)]
-        if refused in UNREADABLE and word != "load":
-            # Of a text that can't be read, what is wrong with it stands behind what it is.
+        # The refusal's numbers by their names.
+        told = {name: int(digits) for name, digits in re.findall("([a-z]+) ([0-9]+)", text)}
+        if told["refused"] == 3 and asked.lstrip(" ").startswith("load"):
+            return self.bad_trace(front, command, words, told)
+        if told["refused"] in UNREADABLE:
+            # What is wrong with the command's text stands behind what it is.
             words = words.partition(": ")[2]
-        place, hint, behind = None, "", []
-        if refused == 3 and word == "load":
-            path = self.traces[int(rest[1:]) - 1]
-            line = line_of(path, more[0])
-            words, hint = f"{path}, {words}", line_hint(more[1], line or "")
-            behind = [] if line is None else [f"    {shown(line)[0]}"]
-        elif refused == 3:
-            hint = line_hint(more[1], asked[7:])
-        elif refused == 8:
-            event, trigger = split_command(rest)
-            hint, place = trigger_hint(event, trigger, more, " at " in text)
-            place = None if place is None else trigger_start(asked) + place
-        elif refused == 9:
-            trigger = self.triggers.get(numbers_of(split_command(rest)[0])[0])
-            start, at = filter_start(asked), more[1] if " at " in text else None
-            hint = filter_hint(trigger[1] if trigger else None, command[start:], more[0], at)
-            place = None if at is None else start + at
-        elif refused == 16:
-            hint, place = bad_command(asked, self.traces)
-        else:
-            hint = self.hint(refused, more, word, rest)
-        return with_caret(front, command, place, words + hint) + behind
+        hint, place = self.hint(asked, told)
+        return with_caret(front, command, place, words + hint)
 
-    def hint(self, refused, more, word, rest):
-        """What is known of the refusals that hang on what is held and attached."""
+    def bad_trace(self, front, command, words, told):
+        path = self.traces[int(command.partition("@")[2]) - 1]
+        line = line_of(path, told["line"])
+        lines = with_caret(front, command, None, f"{path}, {words}{line_hint(told['fault'], line or '')}")
+        return lines if line is None else [*lines, f"    {shown(line)[0]}"]
+
+    def hint(self, asked, told):
+        """What follows from the command for the refusal, and the place that is meant in it, or None."""
+        _, rest = split_command(asked)
+        if told["refused"] == 3:
+            return line_hint(told["fault"], asked[7:]), None
+        if told["refused"] == 8:
+            event, trigger = split_command(rest)
+            hint, place = trigger_hint(event, trigger, told)
+            return hint, None if place is None else trigger_start(asked) + place
+        if told["refused"] == 9:
+            trigger = self.triggers.get(numbers_of(split_command(rest)[0])[0])
+            start, place = filter_start(asked), told.get("at")
+            hint = filter_hint(trigger[1] if trigger else None, asked.strip(" ")[start:], told["filter"], place)
+            return hint, None if place is None else start + place
+        if told["refused"] == 16:
+            return bad_command(asked, self.traces)
+        return self.held_hint(asked, told), None
+
+    def held_hint(self, asked, told):
+        """What follows from what is held and attached."""
+        word, rest = split_command(asked)
+        refused, trigger = told["refused"], told.get("trigger")
         if refused == 2:
             return f": {self.traces_named()}"
         if refused == 4:
-            return f"; unload {more[0]} takes them away"
+            return f"; unload {told['cpu']} takes them away"
         if refused == 5:
             return ": none was loaded or inserted, or they were unloaded"
         if refused == 6 and word == "insert":
@@ -193,8 +201,8 @@ class Walk:
             return f": that CPU has no line {rest.partition(':')[2].lstrip('0') or '0'}, or it was struck"
         if refused == 10:
             return f"; {self.attached()}"
-        if refused in (11, 12):
-            return f"; line {self.triggers[more[0]][0]} attached trigger {more[0]}" if more[0] in self.triggers else ""
+        if trigger in self.triggers:
+            return f"; line {self.triggers[trigger][0]} attached trigger {trigger}"
         if refused in (13, 14):
             return self.unmatched(refused, split_command(rest)[1])
         return self.readers() if refused == 17 else ""
