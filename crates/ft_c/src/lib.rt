@@ -1,0 +1,28 @@
+//! The desk for C: `histdesk_new`, `histdesk_load` and the other calls of `include/histdesk.h`.
+//!
+//! Each call takes the session out of the caller's handle, calls it, and puts it back. What it does is
+//! told by the relation that the session's method has. Where the handle holds nothing, a call with a
+//! code answers `CLOSED`, a copy answers 0, and nothing is written.
+//!
+//! A caller in C passes a `Global` by no argument, and a slice by a pointer and a length: what it must
+//! keep, nothing checks. It passes a handle that is all zero or that these calls left so, no copy of
+//! one, from one thread at a time; and no null pointer, not even for a text of no bytes.
+//!
+//! ```ignore
+//! let mut desk = Handle::empty();
+//! assert_eq!(rt; histdesk_new(alloc, &mut desk), 0);
+//! let mut events = 0;
+//! assert_eq!(rt; histdesk_load(alloc, &mut desk, trace, &mut events), 0);
+//! histdesk_free(alloc, &mut desk);
+//! // No desk is there.
+//! assert_eq!(rt; histdesk_load(alloc, &mut desk, trace, &mut events), 255);
+//! ```
+#![tactic(auto)]
+
+mod codes;
+mod copies;
+mod desks;
+mod edits;
+mod held;
+mod refusals;
+mod tables;
