@@ -1,5 +1,5 @@
 -- Events, and the triggers that are attached to them, as C has them. All of it is our own choice.
-use Rattle.std.specs.Prelude.{pos, [], Option}
+use Rattle.std.specs.Prelude.{ℕ, pos, [], Option}
 use Rattle.std.specs.Option.{option_map_or}
 use Rattle.ft_base.specs.declared.listed.AttachedTrigger.{AttachedTrigger}
 use Rattle.ft_fields.specs.Traced.{Traced, name_of}
@@ -14,11 +14,15 @@ use Rattle.ft_layout.specs.Places.{place_layout}
 use Rattle.ft_layout.specs.declared.events.EventLayout.{EventLayout}
 use Rattle.ft_layout.specs.declared.events.TriggerLayout.{TriggerLayout}
 
--- no event at a place: 255 in place of a name, and zeros
+-- the number in place of a name where no event is held
+abbrev pub no_event : ℕ
+no_event = 255
+
+-- no event at a place, and zeros
 abbrev pub none_at : Pos → EventLayout
 none_at at = record {
   place = place_layout at;
-  name = 255;
+  name = no_event;
   common_pid = pos 0;
   pid = pos 0;
   prio = pos 0;

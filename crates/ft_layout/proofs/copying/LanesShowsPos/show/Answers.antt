@@ -1,0 +1,5 @@
+use Rattle.std.proofs.Common.{rules}
+use Rattle.ft_layout.proofs.copying.LanesShowsPos.show.Goals as goal
+
+pub returns : goal.returns
+returns c = search rules
