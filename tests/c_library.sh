@@ -1,9 +1,10 @@
 #!/usr/bin/env bash
 # c_library.sh [LIBRARY [HISTDESK]]: tests the C library, libhistdesk.so.0, by programs in C: the header, what the object
-# exports and asks for, the rows and random scripts, line by line, with numbers held against texts, a desk that is full,
-# growths of memory that are refused, buffers of just their size and threads (under valgrind where it is installed), and the
-# example. Where HISTDESK is given, more random scripts are held against that program. Without a word, LIBRARY is the one
-# that the variable LIBHISTDESK names, or the one built here. It prints what went wrong, and a last line with the counts.
+# exports and asks for, the rows and random scripts, line by line, with numbers held against texts and with growths of memory
+# refused, a desk that is full, each growth of a session refused in turn, buffers of just their size and threads (under
+# valgrind where it is installed), and the example. Where HISTDESK is given, more random scripts are held against that
+# program. Without a word, LIBRARY is the one that the variable LIBHISTDESK names, or the one built here. It prints what went
+# wrong, and a last line with the counts.
 set -uo pipefail
 
 here=$(dirname -- "$(realpath -- "${BASH_SOURCE[0]}")")
@@ -127,7 +128,7 @@ is_told "name of the object" libhistdesk.so.0 "$(readelf -d "$library" | sed -n 
 
 # ---- Scripts.
 
-program script "$here"/c/{script,commands,bytes,whole,numbers,numbers_events,numbers_edits}.c
+program script "$here"/c/{script,commands,bytes,whole,heap,numbers,numbers_events,numbers_edits}.c
 for ((seed = 1; seed <= 10; seed++)); do
     random_row "mixed_$seed" 60 60 "$seed" python3 "$here/model.py"
 done
@@ -140,13 +141,14 @@ fi
 for one in "$here"/rows/* "$folder"/rows/*; do
     row "$one" "$folder/script"
     row "$one" "$folder/script" --numbers
+    row "$one" "$folder/script" --refusing
 done
 full_row
 row "$folder/full" "$folder/script"
 
 # ---- Growths that are refused, and buffers of just their size.
 
-program fail "$here/c/fail.c"
+program fail "$here"/c/{fail,heap}.c
 holds "$folder/fail"
 program exact "$here/c/exact.c"
 holds "$folder/exact"

@@ -1,63 +1,19 @@
 /* fail: a session that makes each call, with each growth of the library's memory refused in turn: alone, or with all behind
  * it. Where a call answers that memory ran out, it is given memory and asked again, and answers what it should. In the end
- * nothing is held of the heap. What is wrong is printed, by the line of this file; last stands how many sessions held.
- *
- * The library's growths come here, since a program's own malloc, realloc and free go before those of the C library. */
+ * nothing is held of the heap. What is wrong is printed, by the line of this file; last stands how many sessions held. */
+#include "heap.h"
 #include "histdesk.h"
 
-#include <errno.h>
 #include <inttypes.h>
-#include <malloc.h>
 #include <stdarg.h>
 #include <stdio.h>
-#include <stdlib.h>
 #include <string.h>
 
-/* glibc's own. */
-extern void *__libc_malloc(size_t);
-extern void *__libc_calloc(size_t, size_t);
-extern void *__libc_realloc(void *, size_t);
-extern void __libc_free(void *);
+static uint64_t refuse_at;
+static bool is_for_good, is_given; /* is_given: no growth is refused for now */
 
-static bool is_counting, is_given;
-static uint64_t growths, refuse_at, refused_growths;
-static bool is_for_good;
-static int64_t live;
-
-static bool is_refused(void) {
-    if (!is_counting)
-        return false;
-    growths++;
-    bool refuses = !is_given && (growths == refuse_at || (is_for_good && growths > refuse_at));
-    refused_growths += refuses;
-    if (refuses)
-        errno = ENOMEM;
-    return refuses;
-}
-
-static void *count(void *block) {
-    live += is_counting && block;
-    return block;
-}
-
-void *malloc(size_t size) {
-    return is_refused() ? NULL : count(__libc_malloc(size));
-}
-
-void *calloc(size_t number, size_t size) {
-    return is_refused() ? NULL : count(__libc_calloc(number, size));
-}
-
-void *realloc(void *block, size_t size) {
-    if (!block)
-        return malloc(size);
-    bool grows = size > malloc_usable_size(block);
-    return grows && is_refused() ? NULL : __libc_realloc(block, size);
-}
-
-void free(void *block) {
-    live -= is_counting && block;
-    __libc_free(block);
+static bool refuses(void) {
+    return !is_given && (heap.growths == refuse_at || (is_for_good && heap.growths > refuse_at));
 }
 
 /* ---- One session. */
@@ -137,26 +93,26 @@ static const char reader_hist[] =
 /* Whether the text that was asked for last is this one. Copies take no memory, here and below. */
 static bool is_text(uint64_t length, const char *want) {
     uint8_t own[1024];
-    uint64_t before = growths;
+    uint64_t before = heap.growths;
     size_t copied = histdesk_text_copy(&desk, 0, own, sizeof own);
-    return length == strlen(want) && copied == length && memcmp(own, want, copied) == 0 && before == growths;
+    return length == strlen(want) && copied == length && memcmp(own, want, copied) == 0 && before == heap.growths;
 }
 
 static bool is_row(uint64_t count, uint64_t kind, int64_t number, uint64_t hitcount, uint64_t sum) {
     histdesk_row rows[2];
-    uint64_t before = growths;
+    uint64_t before = heap.growths;
     size_t copied = histdesk_rows_copy(&desk, 0, rows, 2);
     const histdesk_row want = {{1, {{.number = number, .kind = kind}}}, hitcount, {sum}};
-    return count == 1 && copied == 1 && memcmp(&rows[0], &want, sizeof want) == 0 && before == growths;
+    return count == 1 && copied == 1 && memcmp(&rows[0], &want, sizeof want) == 0 && before == heap.growths;
 }
 
 /* The one latency, from this line of CPU 0 and stamp to its line 2. */
 static bool is_latency(uint64_t count, uint32_t line, uint64_t stamp) {
     histdesk_latency own[2];
-    uint64_t before = growths;
+    uint64_t before = heap.growths;
     size_t copied = histdesk_latencies_copy(&desk, 0, own, 2);
     const histdesk_latency want = {{stamp, 0, line}, {1000150, 0, 2}, 1000150 - stamp};
-    return count == 1 && copied == 1 && memcmp(own, &want, sizeof want) == 0 && before == growths;
+    return count == 1 && copied == 1 && memcmp(own, &want, sizeof want) == 0 && before == heap.growths;
 }
 
 static bool are_totals(const histdesk_totals *own, uint64_t hits, uint64_t entries) {
@@ -167,9 +123,9 @@ static bool are_totals(const histdesk_totals *own, uint64_t hits, uint64_t entri
 static bool are_places(uint64_t count, uint64_t want, const histdesk_place *places, const uint32_t *names) {
     histdesk_place own[4];
     histdesk_event events[4];
-    uint64_t before = growths;
+    uint64_t before = heap.growths;
     size_t copied = histdesk_places_copy(&desk, 0, own, 4), events_copied = histdesk_events_copy(&desk, 0, events, 4);
-    if (count != want || copied != want || events_copied != want || before != growths)
+    if (count != want || copied != want || events_copied != want || before != heap.growths)
         return false;
     for (size_t at = 0; at < want; at++)
         if (memcmp(&own[at], &places[at], sizeof *own) != 0 || events[at].name != names[at])
@@ -180,9 +136,9 @@ static bool are_places(uint64_t count, uint64_t want, const histdesk_place *plac
 static bool are_triggers(uint64_t count, uint64_t want) {
     static const histdesk_trigger all[] = {{1, HISTDESK_WAKING}, {2, HISTDESK_SWITCH}, {3, HISTDESK_WAKEUP_LATENCY}};
     histdesk_trigger own[4];
-    uint64_t before = growths;
+    uint64_t before = heap.growths;
     size_t copied = histdesk_triggers_copy(&desk, 0, own, 4);
-    return count == want && copied == want && memcmp(own, all, want * sizeof *own) == 0 && before == growths;
+    return count == want && copied == want && memcmp(own, all, want * sizeof *own) == 0 && before == heap.growths;
 }
 
 /* A row of one number among those that an edit named, if it named them. */
@@ -190,9 +146,9 @@ static bool is_named(bool has, uint64_t count, size_t (*copy)(histdesk *, uint64
                      uint64_t kind, int64_t number) {
     histdesk_changed own[16];
     const histdesk_key key = {1, {{.number = number, .kind = kind}}};
-    uint64_t before = growths;
+    uint64_t before = heap.growths;
     size_t copied = copy(&desk, 0, own, 16);
-    if (copied != count || before != growths)
+    if (copied != count || before != heap.growths)
         return false;
     for (size_t at = 0; at < copied; at++)
         if (own[at].id == id && memcmp(&own[at].key, &key, sizeof key) == 0)
@@ -292,16 +248,16 @@ static void ask_report(bool had_memory) {
 
 static void edit_events(void) {
     histdesk_line at = {77, 77};
-    uint64_t refused_before = refused_growths;
+    uint64_t refused_before = heap.refused;
     KEEPS(HISTDESK_OK,
           histdesk_insert(&desk, BYTES("a-1 [000] 1.000130: sched_waking: comm=w pid=42 prio=120 target_cpu=000"), &at),
           at.cpu == 77 && at.line == 77);
     HOLDS(at.cpu == 0 && at.line == 3);
-    ask_report(refused_growths == refused_before);
+    ask_report(heap.refused == refused_before);
     ask_all(2, 3, 1000130, 5);
-    refused_before = refused_growths;
+    refused_before = heap.refused;
     ALWAYS(HISTDESK_OK, histdesk_strike(&desk, 0, 3));
-    ask_report(refused_growths == refused_before);
+    ask_report(heap.refused == refused_before);
     ask_all(1, 1, 1000100, 6);
 }
 
@@ -322,9 +278,9 @@ static void edit_triggers(void) {
 static bool is_written(size_t (*write)(const histdesk_refusal *, uint8_t *, size_t), const histdesk_refusal *refusal,
                        const char *want) {
     uint8_t own[160];
-    uint64_t before = refused_growths;
+    uint64_t before = heap.refused;
     size_t length = write(refusal, own, sizeof own);
-    if (length == 0 && refused_growths > before) {
+    if (length == 0 && heap.refused > before) {
         wants++;
         is_given = true;
         length = write(refusal, own, sizeof own);
@@ -365,17 +321,15 @@ static void end_all(void) {
     ALWAYS(HISTDESK_NO_LANE, histdesk_unload(&desk, 0, &events));
     histdesk_free(&desk);
     HOLDS(desk.at == NULL);
-    HOLDS(live == 0);
+    HOLDS(heap.blocks == 0);
     histdesk_free(&desk);
 }
 
 /* How many growths a session makes, of which one, or each from one on, is refused. */
 static uint64_t session(uint64_t at, bool for_good) {
-    growths = refused_growths = 0;
+    heap = (heap_state){.is_counting = true, .refuses = refuses};
     refuse_at = at;
     is_for_good = for_good;
-    live = 0;
-    is_counting = true;
     make();
     load_and_attach();
     ask_triggers();
@@ -384,8 +338,8 @@ static uint64_t session(uint64_t at, bool for_good) {
     edit_triggers();
     ask_refusals();
     end_all();
-    is_counting = false;
-    return growths;
+    heap.is_counting = false;
+    return heap.growths;
 }
 
 int main(void) {

@@ -1,6 +1,9 @@
-/* script [--numbers] SCRIPT [TRACE]...: runs a script through the library and prints what the program `histdesk` prints,
- * with its status. With --numbers the rows, latencies, events, triggers and reports that the library answers as numbers are
- * held against its texts and against each other; where they don't fit, it says so and ends with status 3. */
+/* script [--numbers|--refusing] SCRIPT [TRACE]...: runs a script through the library and prints what the program `histdesk`
+ * prints, with its status. With --numbers the rows, latencies, events, triggers and reports that the library answers as
+ * numbers are held against its texts and against each other; where they don't fit, it says so and ends with status 3. With
+ * --refusing a part of the library's growths of memory is refused, by chance from a fixed start: a call in want of memory is
+ * made again, with memory, and the output is the same. */
+#include "heap.h"
 #include "script.h"
 
 #include <inttypes.h>
@@ -15,6 +18,36 @@ typedef struct {
     bool has_numbers, was_refused;
     bytes out; /* of one command */
 } session;
+
+/* ---- Growths that are refused. */
+
+static bool is_refusing; /* --refusing */
+static uint32_t code_told;
+
+/* Every fourth growth or so. */
+static bool refuses(void) {
+    static uint64_t state = 1;
+    state = state * 6364136223846793005u + 1442695040888963407u;
+    return state >> 62 == 0;
+}
+
+static void refuse_growths(void) {
+    heap.refuses = refuses;
+    heap.is_counting = is_refusing;
+}
+
+/* Whether memory ran out in a call with that code. From here on there is memory. */
+static bool ran_out(uint32_t code) {
+    heap.is_counting = false;
+    code_told = code;
+    return is_refusing && code == HISTDESK_MEMORY;
+}
+
+/* The code of a call, which is made again where memory ran out; and of one that never wants memory. */
+#define TRIED(call) (refuse_growths(), ran_out(call) ? (call) : code_told)
+#define SURE(call) (refuse_growths(), (void)ran_out(call), code_told)
+
+/* ---- The script. */
 
 static _Noreturn void end(const char *why) {
     fflush(stdout);
@@ -89,13 +122,13 @@ static void answer(session *run, const command *asked) {
     histdesk *desk = &run->desk;
     uint64_t count = 0;
     histdesk_totals totals;
-    if (asked->kind == HIST && accepts(run, histdesk_hist(desk, asked->number, &count)))
+    if (asked->kind == HIST && accepts(run, TRIED(histdesk_hist(desk, asked->number, &count))))
         put_text(run, asked, count);
-    else if (asked->kind == LIST && accepts(run, histdesk_list(desk, asked->number, &count)))
+    else if (asked->kind == LIST && accepts(run, TRIED(histdesk_list(desk, asked->number, &count))))
         put_text(run, asked, count);
-    else if (asked->kind == LATENCIES && accepts(run, histdesk_latencies(desk, asked->number, &count)))
+    else if (asked->kind == LATENCIES && accepts(run, TRIED(histdesk_latencies(desk, asked->number, &count))))
         put_latencies(run, asked->number, count);
-    else if (asked->kind == TOTALS && accepts(run, histdesk_totals_of(desk, asked->number, &totals)))
+    else if (asked->kind == TOTALS && accepts(run, TRIED(histdesk_totals_of(desk, asked->number, &totals))))
         put_form(&run->out, "hits %" PRIu64 " entries %" PRIu64 " dropped %" PRIu64 "\n", totals.hits, totals.entries,
                  totals.dropped);
 }
@@ -108,7 +141,7 @@ static void load(session *run, uint32_t number) {
         return;
     }
     const bytes *trace = &run->traces[number - 1];
-    if (accepts(run, histdesk_load(&run->desk, trace->at, trace->length, &events)))
+    if (accepts(run, TRIED(histdesk_load(&run->desk, trace->at, trace->length, &events))))
         put_form(&run->out, "loaded %" PRIu64 "\n", events);
 }
 
@@ -120,14 +153,14 @@ static void edit_triggers(session *run, const command *asked) {
     uint32_t code;
     if (asked->kind == ATTACH) {
         done = "attached";
-        code = histdesk_attach(desk, asked->number, asked->rest.at, asked->rest.length, &id);
+        code = TRIED(histdesk_attach(desk, asked->number, asked->rest.at, asked->rest.length, &id));
     } else if (asked->kind == REFILTER) {
-        code = histdesk_refilter(desk, id, asked->rest.at, asked->rest.length);
+        code = TRIED(histdesk_refilter(desk, id, asked->rest.at, asked->rest.length));
     } else if (asked->kind == UNFILTER) {
-        code = histdesk_unfilter(desk, id);
+        code = TRIED(histdesk_unfilter(desk, id));
     } else {
         done = "removed";
-        code = histdesk_remove(desk, id);
+        code = SURE(histdesk_remove(desk, id));
     }
     if (accepts(run, code))
         put_form(&run->out, "%s %" PRIu32 "\n", done, id);
@@ -139,8 +172,8 @@ static void edit_one_event(session *run, const command *asked) {
     histdesk_line at = {asked->number, asked->line};
     if (run->has_numbers)
         before_edit(&run->desk);
-    uint32_t code = is_insert ? histdesk_insert(&run->desk, asked->rest.at, asked->rest.length, &at)
-                              : histdesk_strike(&run->desk, at.cpu, at.line);
+    uint32_t code = is_insert ? TRIED(histdesk_insert(&run->desk, asked->rest.at, asked->rest.length, &at))
+                              : SURE(histdesk_strike(&run->desk, at.cpu, at.line));
     bool is_accepted = accepts(run, code);
     if (is_accepted)
         put_form(&run->out, "%s %" PRIu32 ":%" PRIu32 "\n", is_insert ? "inserted" : "struck", at.cpu, at.line);
@@ -161,7 +194,7 @@ static void perform(session *run, const command *asked) {
         load(run, asked->number);
         break;
     case UNLOAD:
-        if (accepts(run, histdesk_unload(&run->desk, asked->number, &events)))
+        if (accepts(run, SURE(histdesk_unload(&run->desk, asked->number, &events))))
             put_form(&run->out, "unloaded %" PRIu64 "\n", events);
         break;
     case INSERT:
@@ -206,9 +239,9 @@ static void run_script(session *run, const bytes *script) {
 int main(int count, char **words) {
     session run = {0};
     int first = 1;
-    if (count > first && strcmp(words[first], "--numbers") == 0) {
-        run.has_numbers = true;
-        first++;
+    if (count > first && strncmp(words[first], "--", 2) == 0) {
+        run.has_numbers = strcmp(words[first], "--numbers") == 0;
+        is_refusing = strcmp(words[first++], "--refusing") == 0;
     }
     if (count <= first)
         end("bad words");

@@ -1,0 +1,18 @@
+/* The heap, some of whose growths are refused: a program's own malloc, realloc and free go before those of the C library,
+ * for the library under test too. A growth is a malloc or calloc, or a realloc to more bytes than the block has room for. */
+#ifndef HEAP_H
+#define HEAP_H
+
+#include <stdbool.h>
+#include <stdint.h>
+
+typedef struct {
+    bool is_counting;          /* only then growths and blocks are counted, and growths refused */
+    uint64_t growths, refused; /* how many there were */
+    int64_t blocks;            /* how many are held */
+    bool (*refuses)(void);     /* whether the growth that was counted last is refused; NULL: none is */
+} heap_state;
+
+extern heap_state heap;
+
+#endif
