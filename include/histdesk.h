@@ -2,7 +2,7 @@
  *
  * A desk holds the events of texts of the kernel's tracefs `trace` file, by CPU and line number, and the hist triggers
  * that are attached to them. It answers what replaying the events that it holds now gives for the triggers that are
- * attached now. The forms of texts are those of docs/FORMAT.md, what they mean is in docs/MEANING.md.
+ * attached now. The forms of texts are those of FORMAT.md, what they mean is in MEANING.md, both of histdesk's documents.
  *
  *     histdesk desk = {0};
  *     uint64_t events;
@@ -14,8 +14,8 @@
  * handle has no desk. Only where the code is HISTDESK_OK has anything changed, and only then is what the call hands out
  * written: an edit that is refused changes nothing that is held or attached, and a question that is refused leaves what
  * was asked for before. Each call says which codes it has, in the order in which they are tested. HISTDESK_MEMORY may
- * come in place of any answer, where nothing else is said; the same call may be made again. HISTDESK_CLOSED comes from each
- * call with a code but histdesk_new.
+ * come in place of any answer, but where a call never has it; the same call may be made again. HISTDESK_CLOSED comes from
+ * each call with a code but histdesk_new.
  *
  * Answers. What is larger than a number is asked for by one call, which says how much it is, and copied by another one.
  * The desk keeps one answer of each kind (a text, rows, latencies, places, triggers) as it was when it was asked for, also
@@ -233,7 +233,7 @@ uint32_t histdesk_strike(histdesk *desk, uint32_t cpu, uint32_t line);
 uint32_t histdesk_attach(histdesk *desk, uint32_t event, const uint8_t *trigger, size_t length, uint32_t *id);
 
 /* Gives an attached trigger the filter of the text, which stands without `if`, or none.
- * HISTDESK_NO_TRIGGER, HISTDESK_BAD_FILTER (histdesk_refilter alone; an empty text is no filter). */
+ * HISTDESK_NO_TRIGGER, HISTDESK_BAD_FILTER (histdesk_refilter alone, of an empty text too). */
 uint32_t histdesk_refilter(histdesk *desk, uint32_t id, const uint8_t *filter, size_t length);
 uint32_t histdesk_unfilter(histdesk *desk, uint32_t id);
 
@@ -241,15 +241,15 @@ uint32_t histdesk_unfilter(histdesk *desk, uint32_t id);
 uint32_t histdesk_remove(histdesk *desk, uint32_t id);
 
 /* How many rows the last accepted insert or strike may have changed; before the first one there is no list. They stay
- * until the next one that is accepted, or histdesk_forget. HISTDESK_OK. */
+ * until the next one that is accepted, or histdesk_forget. Never HISTDESK_MEMORY. */
 uint32_t histdesk_report_of(histdesk *desk, histdesk_report *report);
 
 /* Copies the rows that the report counts as `rows`, and as `made`; none twice. */
 size_t histdesk_rows_changed_copy(histdesk *desk, uint64_t from, histdesk_changed *to, size_t room);
 size_t histdesk_made_changed_copy(histdesk *desk, uint64_t from, histdesk_changed *to, size_t room);
 
-/* Whether the last edits found no memory for the tables: the edits stand, and the next question about a trigger builds the
- * tables anew. False without a desk. */
+/* Whether the last edits found no memory for the tables: the edits stand, and the next histdesk_totals_of, histdesk_hist,
+ * histdesk_rows or histdesk_latencies builds the tables anew. False without a desk. */
 bool histdesk_is_deferred(histdesk *desk);
 
 /* ---- Questions about triggers. */
@@ -292,7 +292,7 @@ uint32_t histdesk_event_at(histdesk *desk, uint32_t cpu, uint32_t line, histdesk
 /* Asks for the places of all held events, in merged order. No refusal but HISTDESK_MEMORY. */
 uint32_t histdesk_events(histdesk *desk, uint64_t *count);
 
-/* Asks for the places of a CPU's events from a line on, by line number. HISTDESK_NO_LANE. */
+/* Asks for the places of a CPU's events from a line on, by line number; from line 1 on they are all. HISTDESK_NO_LANE. */
 uint32_t histdesk_lane(histdesk *desk, uint32_t cpu, uint32_t line, uint64_t *count);
 
 /* Asks for the places of the events of that name on which the filter holds, in merged order; one that always holds is
@@ -312,12 +312,12 @@ void histdesk_forget(histdesk *desk);
 /* ---- Refusals. */
 
 /* Why the last edit or question was refused: the last call with a code, but for histdesk_new, histdesk_report_of and this
- * one. HISTDESK_OK. */
+ * one. Never HISTDESK_MEMORY. */
 uint32_t histdesk_refused(histdesk *desk, histdesk_refusal *refusal);
 
-/* Writes the refusal as scripts print it, `refused 8: fault 3`, without a line break, or as words; as much as `room` allows,
- * and answers how much that was: at most 64 bytes, and 160. They need no desk. 0 where the numbers are of no refusal, or
- * memory ran out. */
+/* Write a refusal as scripts print it, `refused 8: fault 3`, without a line break, and as words: as much as `room` allows, of
+ * 64 bytes at most, and of 160. They answer how much that was, or 0 where the numbers are of no refusal, or memory ran out.
+ * They need no desk. */
 size_t histdesk_refusal_text(const histdesk_refusal *refusal, uint8_t *to, size_t room);
 size_t histdesk_refusal_words(const histdesk_refusal *refusal, uint8_t *to, size_t room);
 
