@@ -304,8 +304,12 @@ def waits(count):
 
 @unittest.skipUnless(sys.platform == "linux", "the limit is one of Linux")
 class Memory(unittest.TestCase):
+    def told(self, program):
+        # What is freed is given back at once, so that a limit leaves the room that it says.
+        return python(LIMITED + program, MALLOC_MMAP_THRESHOLD_="65536", MALLOC_TRIM_THRESHOLD_="65536")
+
     def test_load(self):
-        told = python(LIMITED + """
+        told = self.told("""
 trace = "".join(waits(200000)).replace("[000]", "[002]").encode()
 desk, saver, reader = with_waits()
 limited(1 << 20, lambda: desk.load(trace))
@@ -315,16 +319,33 @@ print(desk.load(trace), reader.totals().hits)
         self.assertEqual(told, "MemoryError\n{0: 3, 1: 2} Totals(hits=2, entries=2, dropped=0) False\n400000 200002\n")
 
     def test_answers(self):
-        told = python(LIMITED + """
+        told = self.told("""
 desk = desk_of("".join(waits(200000)).encode())
 saver, reader = desk.attach("sched_waking", SAVER), desk.attach("sched_switch", READER)
-reader.totals(), reader.latencies()
+print(reader.totals().hits)
 limited(1 << 20, lambda: reader.latencies())
 limited(1 << 20, lambda: desk.events())
 limited(1 << 20, lambda: desk.list(0))
 print(len(reader.latencies()), len(desk.events()), reader.totals())
 """)
-        self.assertEqual(told, "MemoryError\n" * 3 + "200000 400000 Totals(hits=200000, entries=1, dropped=0)\n")
+        self.assertEqual(told, "200000\n" + "MemoryError\n" * 3 + "200000 400000 Totals(hits=200000, entries=1, dropped=0)\n")
+
+    def test_deferred(self):
+        told = self.told("""
+desk = desk_of("".join(waits(40000)).encode())
+saver = desk.attach("sched_waking", SAVER)
+reader = limited(1 << 20, lambda: desk.attach("sched_switch", READER).id)
+print(desk.is_deferred)
+limited(1 << 20, lambda: desk.trigger(2).totals())
+limited(1 << 20, lambda: desk.strike(0, 1))
+print(desk.is_deferred, desk.trigger(2).totals().hits, desk.is_deferred)
+print(desk.strike(0, 3))
+""")
+        edit = "Edit(cpu=0, line={}, changed={}, deferred={})\n"
+        changed = "[Changed(trigger=1, key=(42,)), Changed(trigger=2, key=(42,))]"
+        self.assertEqual(
+            told, "2\nTrue\nMemoryError\n" + edit.format(1, None, True) + "True 39999 False\n" + edit.format(3, changed, False)
+        )
 
 
 class Library(unittest.TestCase):
