@@ -1,18 +1,19 @@
 #!/usr/bin/env python3
-"""Holds that two documents name the files that there are.
+"""Holds that documents name the files and packages that there are.
 
     documents.py > WHAT WENT WRONG
 
 docs/READING.md lists the definitions that the headline stands on: from the contracts that carry it, the imports of
 definitions are followed from file to file; each file met is in the list once, and no other is. None of them is in a
 folder specs/inner, where words of private functions stand. docs/MAP.md names each file of sources and definitions, and
-none that isn't there, and says of each crate what it stands on, as crates.txt does. The last line says how many files
-and crates hold.
+none that isn't there, and says of each crate what it stands on, as crates.txt does. README.md has the line that tools/needs
+prints. The last line says how many files, crates and lines hold.
 """
 
 import glob
 import os
 import re
+import subprocess
 import sys
 from collections import Counter
 
@@ -122,8 +123,15 @@ def stands_on():
     return crates, wrong + [f"MAP.md has no row for {name}" for name in missing]
 
 
+def needed():
+    """The line that installs what is needed of Debian, which README has in some lines."""
+    ran = subprocess.run([os.path.join(ROOT, "tools", "needs")], stdout=subprocess.PIPE, check=True, universal_newlines=True)
+    line, readme = ran.stdout.split(), re.sub(r"\\\n", " ", text_of("README.md"))
+    return {ran.stdout}, [] if line in [text.split()[1:] for text in readme.split("\n")] else ["README.md lacks what tools/needs prints"]
+
+
 def main():
-    told = [reading_list(), in_map(), stands_on()]
+    told = [reading_list(), in_map(), stands_on(), needed()]
     count, wrong = sum(len(things) for things, _ in told), [line for _, lines in told for line in lines]
     print("\n".join([*wrong, f"{count - len(wrong)} of {count} things hold"]))
     return 1 if wrong or not all(things for things, _ in told) else 0
