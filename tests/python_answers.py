@@ -678,6 +678,12 @@ class Refusals(unittest.TestCase):
         )
         self.assertEqual(refused.__notes__, ["hist:keys=pid  if pid = 5\n                      ^"])
 
+        torn = TRACE + b"sim-1 [000] d.... 1.00\xff\nhello"
+        for trace in [torn, memoryview(torn), bytearray(torn), gzip.compress(torn)]:
+            refused = self.refused(lambda: desk.load(trace), "refused 3: line 8 fault 3", line=8, fault=3)
+            self.assertEqual(refused.__notes__, ["sim-1 [000] d.... 1.00\\xff"])
+        refused = self.refused(lambda: desk.insert("hello\nx"), "refused 3: line 1 fault 1", line=1, fault=1)
+        self.assertEqual(refused.__notes__, ["hello"])
         refused = self.refused(lambda: desk.attach("sched_wakin", "hist:keys=pid"), "refused 16")
         self.assertIn("sched_waking, sched_wakeup,", refused.__notes__[0])
 

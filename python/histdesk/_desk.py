@@ -72,8 +72,9 @@ class Desk:
         Refused: 3 where a line can't be read, 4 where events of one of its CPUs are held, 7 where there is no room. Raises
         `OSError` where the file can't be read."""
         self._session.check()
-        with bytes_of(content_of(trace)) as (address, length):
-            return self._session.count(library.histdesk_load, address, length)
+        content = content_of(trace)
+        with bytes_of(content) as (address, length):
+            return self._session.count(library.histdesk_load, address, length, given=content)
 
     def unload(self, cpu: int) -> int:
         """Takes all events of a CPU away, and answers how many they were. Its line numbers begin at 1 again. Refused: 5."""
@@ -83,7 +84,7 @@ class Desk:
         """Puts in one line of a trace, without its line break. Refused: 3 where it can't be read, 6 where it holds no event, 7
         where there is no room."""
         at, text = _layout.Line(), as_bytes(line)
-        self._session.call(library.histdesk_insert, text, len(text), at)
+        self._session.call(library.histdesk_insert, text, len(text), at, given=text)
         return self._session.edit(at.cpu, at.line)
 
     def strike(self, cpu: int, line: int) -> Edit:

@@ -3,6 +3,7 @@
 from __future__ import annotations
 
 import ctypes
+import itertools
 import re
 from typing import Any, Optional
 
@@ -10,6 +11,8 @@ from . import _layout, _shown
 from ._library import library
 
 TEXT_ROOM, WORDS_ROOM = 64, 160
+# So many bytes are shown of a line of a trace.
+MOST_SHOWN = 200
 BAD_LINE, LANE_HELD, NO_LANE, BAD_TRIGGER, BAD_FILTER, IN_USE, NAME_TAKEN, BAD_COMMAND = 3, 4, 5, 8, 9, 11, 12, 16
 FILTER_OF_TRIGGER = 11
 # What stands before a trigger's filter.
@@ -87,9 +90,9 @@ def refusal_of(text: str) -> _layout.Refusal:
     return refusal
 
 
-def exception_of(refusal: _layout.Refusal, given: Optional[bytes] = None) -> Exception:
+def exception_of(refusal: _layout.Refusal, given: Any = None) -> Exception:
     """The exception for a refusal: `MemoryError` where memory ran out. `given` is the text that was handed in; where Python
-    prints notes under exceptions, it stands there with a mark at the place."""
+    prints notes under exceptions, it stands there with a mark at the place, or the line of it that can't be read."""
     words = told(library.histdesk_refusal_words, refusal, WORDS_ROOM)
     if refusal.number == _layout.MEMORY:
         # Where there is no room for words either, it has none, as Python's own.
@@ -98,14 +101,17 @@ def exception_of(refusal: _layout.Refusal, given: Optional[bytes] = None) -> Exc
     refused.number = refusal.number
     refused.text = told(library.histdesk_refusal_text, refusal, TEXT_ROOM)
     detail(refused, refusal)
-    told_more = note(refused, given or b"")
-    if told_more and hasattr(refused, "add_note"):
-        refused.add_note(told_more)
+    if hasattr(refused, "add_note"):
+        told_more = note(refused, b"" if given is None else given)
+        if told_more:
+            refused.add_note(told_more)
     return refused
 
 
-def note(refused: Refused, given: bytes) -> str:
+def note(refused: Refused, given: Any) -> str:
     """What helps to see what is wrong with what was handed in; empty where there is nothing more to say."""
+    if refused.line:
+        return _shown.shown(_layout.decoded(line_of(given, refused.line)))
     if refused.number == BAD_COMMAND:
         return f"triggers are attached to {', '.join(_layout.EVENT_NAMES[:_layout.OTHER])}"
     if refused.place is None:
@@ -137,6 +143,13 @@ def told(call: Any, refusal: _layout.Refusal, room: int) -> str:
     buffer = ctypes.create_string_buffer(room)
     length = call(refusal, buffer, room)
     return _layout.decoded(buffer.raw[:length])
+
+
+def line_of(content: Any, line: int) -> bytes:
+    """The beginning of a line of a buffer, by its number."""
+    ends = itertools.islice(re.finditer(rb"\n", content), line - 2, line - 1) if line > 1 else iter(())
+    start = max((end.end() for end in ends), default=0)
+    return bytes(memoryview(content)[start : start + MOST_SHOWN]).partition(b"\n")[0]
 
 
 def marked(given: bytes, place: int) -> str:

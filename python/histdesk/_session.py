@@ -85,14 +85,14 @@ class Session:
             raise exception_of(_layout.Refusal(_layout.MEMORY))
         return code == _layout.OK
 
-    def call(self, call: Any, *arguments: Any, given: Optional[bytes] = None) -> None:
+    def call(self, call: Any, *arguments: Any, given: Any = None) -> None:
         """Makes a call, and raises `Refused` or `MemoryError` where it is refused. `given` is the text that may be at fault."""
         if self.code(call, *arguments) != _layout.OK:
             refusal = _layout.Refusal()
             library.histdesk_refused(self.handle, refusal)
             raise exception_of(refusal, given)
 
-    def count(self, ask: Any, *arguments: Any, given: Optional[bytes] = None) -> int:
+    def count(self, ask: Any, *arguments: Any, given: Any = None) -> int:
         """Makes a call that answers a number in its last argument."""
         count = ctypes.c_uint64()
         self.call(ask, *arguments, count, given=given)
@@ -105,7 +105,7 @@ class Session:
         return _layout.decoded(self.content(library.histdesk_text_copy, 1, ask, *arguments))
 
     def content(
-        self, copy: Any, size: int, ask: Any, *arguments: Any, given: Optional[bytes] = None, numpy: Any = None
+        self, copy: Any, size: int, ask: Any, *arguments: Any, given: Any = None, numpy: Any = None
     ) -> Any:
         """What `ask` answers, copied into a buffer of structs of so many bytes; the library forgets it. With numpy it is an array
         of bytes, which isn't filled before."""
@@ -118,7 +118,7 @@ class Session:
         finally:
             library.histdesk_forget(self.handle)
 
-    def records(self, copy: Any, record: Record, ask: Any, *arguments: Any, given: Optional[bytes] = None) -> Any:
+    def records(self, copy: Any, record: Record, ask: Any, *arguments: Any, given: Any = None) -> Any:
         """What `ask` answers, as a numpy record array, or as a list of named tuples where there is no numpy."""
         numpy = _layout.numpy()
         content = self.content(copy, record.layout.size, ask, *arguments, given=given, numpy=numpy)
@@ -126,7 +126,7 @@ class Session:
             return list(map(record.make, record.layout.iter_unpack(content)))
         return content.view(record.kind()).view(numpy.recarray)
 
-    def events(self, ask: Any, *arguments: Any, given: Optional[bytes] = None) -> Events:
+    def events(self, ask: Any, *arguments: Any, given: Any = None) -> Events:
         """The events at the places that `ask` answers."""
         copy, size = library.histdesk_events_copy, _layout.EVENT.size
         return Events(self.content(copy, size, ask, *arguments, given=given, numpy=_layout.numpy()))
