@@ -62,9 +62,10 @@ def candidates(package: str) -> List[str]:
     """Where the library may stand, seen from the package's folder: in it; in `lib` of the prefix that the package is
     installed in, as `PREFIX/lib/python3/dist-packages/histdesk` or as `PREFIX/python/histdesk`; and where a checkout builds
     it."""
+    installed = os.path.basename(os.path.dirname(os.path.dirname(package))).startswith("python")
     places = [
         [NAME],
-        ["..", "..", "..", NAME],
+        *([["..", "..", "..", NAME]] if installed else []),
         ["..", "..", "lib", NAME],
         ["..", "..", "crates", "ft_c", "out", NAME],
     ]

@@ -143,6 +143,11 @@ class Session:
             self._shapes[trigger] = Shape(self.trigger_text(trigger))
         return self._shapes[trigger]
 
+    def remove(self, trigger: int) -> None:
+        """Removes a trigger."""
+        self.call(library.histdesk_remove, trigger)
+        self._shapes.pop(trigger, None)
+
     # ---- of edits
 
     def edit(self, cpu: int, line: int) -> Edit:

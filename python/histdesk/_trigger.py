@@ -115,7 +115,7 @@ class Trigger:
 
     def remove(self) -> None:
         """Takes the trigger off its desk. It is refused with number 11 where another one reads what it saves."""
-        self._session.call(library.histdesk_remove, self._id)
+        self._session.remove(self._id)
 
     def _rows(self) -> bytearray:
         content: bytearray = self._session.content(
