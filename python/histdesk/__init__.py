@@ -6,7 +6,7 @@ How long tasks wait from their waking to the switch that runs them:
 
 >>> import histdesk
 >>> desk = histdesk.Desk()
->>> desk.load(b'''\
+>>> desk.load(b'''
 ... sim-1 [000] d.h.. 1.000100: sched_waking: comm=w pid=42 prio=120 target_cpu=000
 ... sim-1 [000] d.... 1.000150: sched_switch: prev_comm=sim prev_pid=1 prev_prio=120 prev_state=S ==> next_comm=w next_pid=42 next_prio=120
 ... ''')
@@ -20,7 +20,7 @@ histdesk.Trigger 2 on sched_switch: hist:keys=next_pid:vals=hitcount,$lat:lat=co
 next_pid  hitcount  lat
       42         1   50
 hits 1, entries 1, dropped 0
->>> [int(micros) for micros in (wait.micros for wait in waits.latencies())]
+>>> [int(wait.micros) for wait in waits.latencies()]
 [50]
 
 Without the waking there is no wait, and the edit names the rows that may have changed:
