@@ -62,7 +62,7 @@ def candidates(package: str) -> List[str]:
     """Where the library may stand, seen from the package's folder: in it; in `lib` of the prefix that the package is
     installed in, as `PREFIX/lib/python3/dist-packages/histdesk` or as `PREFIX/python/histdesk`; and where a checkout builds
     it."""
-    installed = os.path.basename(os.path.dirname(os.path.dirname(package))).startswith("python")
+    installed = os.path.basename(os.path.dirname(os.path.dirname(package))).startswith("python3")
     places = [
         [NAME],
         *([["..", "..", "..", NAME]] if installed else []),
