@@ -18,8 +18,13 @@ pub(crate) struct NoRoom {
 }
 
 impl NoRoom {
+    ghost use Rattle.std.specs.Prelude.{◌≡◌};
+    ghost use Rattle.ft_answers.specs.Base.{empty_base};
+
     /// A board that holds nothing, and has no memory for anything.
-    pub(crate) fn new(alloc: Global) -> NoRoom {
+    pub(crate) fn new(alloc: Global) -> NoRoom
+        ensures { result.empty.base ≡ empty_base }
+    {
         NoRoom {
             empty: PlainBoard::new(alloc),
         }
