@@ -10,7 +10,8 @@ words=(build --crate-name ft_c --extern "std=$kit/rlibs/std.rlib" -L "dependency
 for folder in "$root"/crates/*/out/rlib; do
     words+=(-L "dependency=$folder")
 done
-for dep in $(sed -n 's/^ft_c staticlib: //p' "$root/crates.txt"); do
+read -ra below < <(sed -n 's/^ft_c staticlib: //p' "$root/crates.txt")
+for dep in "${below[@]}"; do
     words+=(--extern "$dep=$root/crates/$dep/out/rlib/$dep.rlib")
 done
 words+=(--links ft_c= --jobs "$(nproc)")
