@@ -5,6 +5,7 @@
 # valgrind where it is installed), and the example. Where HISTDESK is given, more random scripts are held against that
 # program. Without a word, LIBRARY is the one that the variable LIBHISTDESK names, or the one built here. It prints what went
 # wrong, and a last line with the counts.
+# shellcheck disable=SC2154 # what counts.sh assigns
 set -uo pipefail
 
 here=$(dirname -- "$(realpath -- "${BASH_SOURCE[0]}")")

@@ -2,6 +2,7 @@
 # install.sh HISTDESK HISTWATCH LIBRARY: puts these programs, and this libhistdesk.so.0 with the libhistdesk.a beside it,
 # below empty prefixes by tools/install and tools/package, and uses what stands there as one does who has neither the
 # repository nor the Rattle kit. It prints what went wrong, and a last line with the counts.
+# shellcheck disable=SC2154 # what counts.sh assigns
 set -uo pipefail
 
 here=$(dirname -- "$(realpath -- "${BASH_SOURCE[0]}")")

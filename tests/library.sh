@@ -3,6 +3,7 @@
 # have it: from C (c_library.sh); from Python, by the python3 on the PATH and by the system's, which may have numpy and
 # pandas; and installed with the programs (install.sh). It prints what went wrong, what was not tried and why, and a last
 # line with the counts.
+# shellcheck disable=SC2154 # what counts.sh assigns
 set -uo pipefail
 
 here=$(dirname -- "$(realpath -- "${BASH_SOURCE[0]}")")
