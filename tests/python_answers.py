@@ -636,7 +636,8 @@ class Refusals(unittest.TestCase):
 
     def test_words(self):
         desk = desk_of()
-        self.assertEqual(str(self.refused(lambda: desk.strike(0, 9), "refused 6")), "no event is there")
+        refused = self.refused(lambda: desk.strike(0, 9), "refused 6")
+        self.assertEqual(str(refused), "that line holds no event, or none is there")
         self.assertIn("CPU 2", str(self.refused(lambda: desk.list(2), "refused 5: cpu 2", cpu=2)))
 
     def test_words_of_texts(self):
@@ -647,7 +648,7 @@ class Refusals(unittest.TestCase):
             "refused 8: fault 10 at 14": "the trigger can't be read: the kernel has this form, and the desk has not",
             "refused 8: fault 11 filter 7": "the trigger can't be read: its filter: more than 32 of ( and ! are open",
             "refused 9: filter 3 at 0": "the filter can't be read: the event has no such field",
-            "refused 11: trigger 64": "trigger 64 reads what it saves",
+            "refused 11: trigger 64": "trigger 64 reads the variable that this one saves",
             "refused 17": "the trigger reads no variable, so it measures no latencies",
         }
         for text, meaning in words.items():
@@ -657,7 +658,7 @@ class Refusals(unittest.TestCase):
         numbers = ["", "refused", "refused 0", "refused 18", "refused 06", "refused 4294967302"]
         parts = ["refused 5", "refused 6: cpu 0", "refused 5: cpu 4294967296", "refused 3: line 1 fault 8", "refused 9: filter 2"]
         places = ["refused 8: fault 3 at 0", "refused 8: fault 11", "refused 9: filter 7 at 0", "refused 9: at 0 filter 2"]
-        others = ["refused 6 ", "refused 6\n", "Refused 6", "loaded 6", "no event is there", "refused 6: \udcff"]
+        others = ["refused 6 ", "refused 6\n", "Refused 6", "loaded 6", "that line holds no event", "refused 6: \udcff"]
         for text in [*numbers, *parts, *places, *others]:
             with self.assertRaisesRegex(ValueError, "no refusal has the text '"):
                 histdesk.refusal_words(text)

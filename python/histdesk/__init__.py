@@ -35,7 +35,7 @@ What is refused raises `Refused` with the number that scripts print, and changes
 >>> desk.strike(0, 1)
 Traceback (most recent call last):
     ...
-histdesk.Refused: no event is there
+histdesk.Refused: that line holds no event, or none is there
 
 Stamps and latencies are in microseconds. Texts are `str`; bytes in them that aren't UTF-8 are kept, as `surrogateescape`
 keeps them. numpy and pandas are used where they are there. The library `libhistdesk.so.0` is looked for where the

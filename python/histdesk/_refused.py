@@ -70,7 +70,7 @@ def refusal_words(text: str) -> str:
     Raises `ValueError` where no refusal has that text.
 
     >>> refusal_words("refused 8: fault 11 filter 2 at 5")
-    "the trigger can't be read: its filter: this can't be read"
+    "the trigger can't be read: its filter: no such thing may stand here"
     """
     refusal = refusal_of(text)
     words = told(library.histdesk_refusal_words, refusal, WORDS_ROOM)

@@ -9,6 +9,8 @@
 #include <stdlib.h>
 #include <string.h>
 
+#define NO_EVENT "that line holds no event, or none is there"
+
 static histdesk *desk;
 static unsigned tests, good;
 
@@ -304,9 +306,10 @@ static void refuse_edits(void) {
     REFUSED(histdesk_unload(desk, UINT32_MAX, &count), "refused 5: cpu 4294967295", "no events of CPU 4294967295 are held",
             .number = HISTDESK_NO_LANE, .cpu = UINT32_MAX);
     REFUSED(histdesk_strike(desk, 7, 1), "refused 5: cpu 7", "no events of CPU 7 are held", .number = HISTDESK_NO_LANE, .cpu = 7);
-    REFUSED(histdesk_strike(desk, 0, 5), "refused 6", "no event is there", .number = HISTDESK_NO_EVENT);
-    REFUSED(insert("", &at), "refused 6", "no event is there", .number = HISTDESK_NO_EVENT);
-    REFUSED(attach(HISTDESK_WAKING, "", &id), "refused 8: fault 2 at 0", "the trigger can't be read: this can't be read",
+    REFUSED(histdesk_strike(desk, 0, 5), "refused 6", NO_EVENT, .number = HISTDESK_NO_EVENT);
+    REFUSED(insert("", &at), "refused 6", NO_EVENT, .number = HISTDESK_NO_EVENT);
+    REFUSED(attach(HISTDESK_WAKING, "", &id), "refused 8: fault 2 at 0",
+            "the trigger can't be read: no such thing may stand here",
             .number = HISTDESK_BAD_TRIGGER, .fault = 2, .has_place = true);
     REFUSED(attach(HISTDESK_WAKING, "hist:keys=pids", &id), "refused 8: fault 3",
             "the trigger can't be read: the event has no such field, or the trigger no such variable",
@@ -317,12 +320,12 @@ static void refuse_edits(void) {
     REFUSED(attach(HISTDESK_WAKING, "hist:keys=pid if comm ~ \"[a\"", &id), "refused 8: fault 11 filter 5 at 7",
             "the trigger can't be read: its filter: this is no pattern",
             .number = HISTDESK_BAD_TRIGGER, .fault = 11, .filter_fault = 5, .has_place = true, .place = 7);
-    REFUSED(refilter(1, "pid = 1"), "refused 9: filter 2 at 4", "the filter can't be read: this can't be read",
+    REFUSED(refilter(1, "pid = 1"), "refused 9: filter 2 at 4", "the filter can't be read: no such thing may stand here",
             .number = HISTDESK_BAD_FILTER, .filter_fault = 2, .has_place = true, .place = 4);
     REFUSED(refilter(1, "!!!!!!!!!!!!!!!!!!!!!!!!!!!!!!!!!pid==1"), "refused 9: filter 7",
             "the filter can't be read: more than 32 of ( and ! are open", .number = HISTDESK_BAD_FILTER, .filter_fault = 7);
     REFUSED(refilter(9, "pid == 1"), "refused 10", "no such trigger is attached", .number = HISTDESK_NO_TRIGGER);
-    REFUSED(histdesk_remove(desk, 1), "refused 11: trigger 2", "trigger 2 reads what it saves",
+    REFUSED(histdesk_remove(desk, 1), "refused 11: trigger 2", "trigger 2 reads the variable that this one saves",
             .number = HISTDESK_IN_USE, .trigger = 2);
     HOLDS(count == 77 && id == 77 && at.cpu == 77 && at.line == 77);
 }
@@ -352,7 +355,7 @@ static void refuse_questions(void) {
     REFUSED(histdesk_hist(desk, 0, &count), "refused 10", "no such trigger is attached", .number = HISTDESK_NO_TRIGGER);
     REFUSED(histdesk_list(desk, 2, &count), "refused 5: cpu 2", "no events of CPU 2 are held",
             .number = HISTDESK_NO_LANE, .cpu = 2);
-    REFUSED(histdesk_event_at(desk, 0, 5, &event), "refused 6", "no event is there", .number = HISTDESK_NO_EVENT);
+    REFUSED(histdesk_event_at(desk, 0, 5, &event), "refused 6", NO_EVENT, .number = HISTDESK_NO_EVENT);
     HOLDS(count == 77 && id == 77 && event.name == 77);
     for (int number = 5; number <= 64; number++)
         attach(HISTDESK_WAKING, "hist:keys=pid", &id);
@@ -368,7 +371,7 @@ static void write_refusals(void) {
         histdesk_refusal refusal;
         const char *text, *words;
     } all[] = {
-        {{.number = 2}, "refused 2", "there is no such file"},
+        {{.number = 2}, "refused 2", "no trace has that number"},
         {{.number = 7}, "refused 7", "more than 1048576 events would be held, or a line number would pass 4294967295"},
         {{.number = 16}, "refused 16", "there is no such command or event"},
         {{.number = 3, .line = UINT64_MAX, .fault = 3}, "refused 3: line 18446744073709551615 fault 3",

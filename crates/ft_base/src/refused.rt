@@ -25,7 +25,7 @@ pub enum Refused {
     #[error("out of memory")]
     Memory,
     /// The script has no trace file with that number.
-    #[error("there is no such file")]
+    #[error("no trace has that number")]
     NoFile,
     /// A line cannot be read: the first such line, counted from 1, and what is wrong with it.
     #[error("line {0}: {1}")]
@@ -37,7 +37,7 @@ pub enum Refused {
     #[error("no events of CPU {0} are held")]
     NoLane(u32),
     /// The lane has no such line, or the line to insert is one that is skipped.
-    #[error("no event is there")]
+    #[error("that line holds no event, or none is there")]
     NoEvent,
     /// More than 1,048,576 events would be held, or a line number would pass 4,294,967,295.
     #[error("more than 1048576 events would be held, or a line number would pass 4294967295")]
@@ -52,7 +52,7 @@ pub enum Refused {
     #[error("no such trigger is attached")]
     NoTrigger,
     /// The trigger saves a variable that the trigger with this id reads, the first by id.
-    #[error("trigger {0} reads what it saves")]
+    #[error("trigger {0} reads the variable that this one saves")]
     InUse(u32),
     /// The trigger saves a variable of a name that the trigger with this id saves already.
     #[error("trigger {0} saves a variable of that name already")]

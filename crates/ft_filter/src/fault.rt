@@ -12,7 +12,7 @@ pub enum FilterFault {
     #[error("out of memory")]
     Memory,
     /// A token that may not stand here; at the end of the text, its length.
-    #[error("this can't be read")]
+    #[error("no such thing may stand here")]
     Syntax(usize),
     /// The event has no such field.
     #[error("the event has no such field")]

@@ -13,7 +13,7 @@ pub enum TriggerFault {
     #[error("out of memory")]
     Memory,
     /// No such thing may stand here.
-    #[error("this can't be read")]
+    #[error("no such thing may stand here")]
     Syntax(usize),
     /// The event has no such field, or the trigger no such variable.
     #[error("the event has no such field, or the trigger no such variable")]

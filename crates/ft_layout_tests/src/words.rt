@@ -25,7 +25,7 @@ fn is_said(alloc: Global, refused: Refused, text: &str, words: &str) -> Result<b
 fn each_refusal_is_said(rt: HostRuntime) -> Result<(), Fail> {
     let all = [
         (Refused::Memory, "refused 1", "out of memory"),
-        (Refused::NoFile, "refused 2", "there is no such file"),
+        (Refused::NoFile, "refused 2", "no trace has that number"),
         (
             Refused::LaneHeld(3),
             "refused 4: cpu 3",
@@ -36,7 +36,7 @@ fn each_refusal_is_said(rt: HostRuntime) -> Result<(), Fail> {
             "refused 5: cpu 8192",
             "no events of CPU 8192 are held",
         ),
-        (Refused::NoEvent, "refused 6", "no event is there"),
+        (Refused::NoEvent, "refused 6", "that line holds no event, or none is there"),
         (
             Refused::Full,
             "refused 7",
@@ -50,7 +50,7 @@ fn each_refusal_is_said(rt: HostRuntime) -> Result<(), Fail> {
         (
             Refused::InUse(64),
             "refused 11: trigger 64",
-            "trigger 64 reads what it saves",
+            "trigger 64 reads the variable that this one saves",
         ),
         (
             Refused::NameTaken(1),
@@ -152,7 +152,7 @@ fn each_fault_of_a_line_is_said(rt: HostRuntime) -> Result<(), Fail> {
 fn each_fault_of_a_filter_is_said(rt: HostRuntime) -> Result<(), Fail> {
     let all = [
         (FilterFault::Memory, "1", "out of memory"),
-        (FilterFault::Syntax(0), "2 at 0", "this can't be read"),
+        (FilterFault::Syntax(0), "2 at 0", "no such thing may stand here"),
         (
             FilterFault::NoField(4),
             "3 at 4",
@@ -194,7 +194,7 @@ fn each_fault_of_a_filter_is_said(rt: HostRuntime) -> Result<(), Fail> {
 fn each_fault_of_a_trigger_is_said(rt: HostRuntime) -> Result<(), Fail> {
     let all = [
         (TriggerFault::Memory, "1", "out of memory"),
-        (TriggerFault::Syntax(14), "2 at 14", "this can't be read"),
+        (TriggerFault::Syntax(14), "2 at 14", "no such thing may stand here"),
         (
             TriggerFault::NoField,
             "3",

@@ -1,5 +1,5 @@
 -- What each call of a session does, by what its desk does. All of it is our own choice.
-use Rattle.std.specs.Prelude.{◌≡◌, ◌≢◌, ℕ, List, [], Vec, Option, Some, None, MatchOption, IsSomeAnd, Result, Ok, Err}
+use Rattle.std.specs.Prelude.{◌≡◌, ◌≢◌, ℕ, List, [], Vec, Option, Some, None, MatchOption, IsSomeAnd, Result, Err}
 use Rattle.std.specs.declared.alloc.Global.{Global}
 use Rattle.ft_fields.specs.Traced.{Traced}
 use Rattle.ft_fields.specs.declared.pos.Pos.{Pos}
