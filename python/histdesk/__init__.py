@@ -44,6 +44,9 @@ environment variable `HISTDESK_LIBRARY` says, then in the folders around the pac
 
 from ._desk import Desk
 from ._events import Events
+from ._loaded import Lane, Loaded
+from ._losses import Hole, Losses, LossWarning
+from ._recording import Part, Recording, read
 from ._refused import Refused, refusal_words
 from ._trigger import Trigger
 from ._values import Bucket, Changed, Edit, Event, Latency, Log2, Place, Totals
@@ -55,16 +58,24 @@ __all__ = [
     "Edit",
     "Event",
     "Events",
+    "Hole",
+    "Lane",
     "Latency",
+    "Loaded",
     "Log2",
+    "LossWarning",
+    "Losses",
+    "Part",
     "Place",
+    "Recording",
     "Refused",
     "Totals",
     "Trigger",
+    "read",
     "refusal_words",
 ]
 
 # They are known by the package's name, wherever in it they stand.
-for _thing in (Bucket, Changed, Desk, Edit, Event, Events, Latency, Log2, Place, Refused, Totals, Trigger, refusal_words):
-    _thing.__module__ = __name__
-del _thing
+for _name in __all__:
+    globals()[_name].__module__ = __name__
+del _name

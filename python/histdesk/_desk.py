@@ -5,14 +5,18 @@ from __future__ import annotations
 import ctypes
 import mmap
 import os
-from typing import IO, Any, Dict, List, NoReturn, Optional, Tuple, Union
+import warnings
+from typing import IO, Any, Dict, Iterable, List, NoReturn, Optional, Set, Tuple, Union
 
 from . import _layout, _shown
 from ._events import Events
-from ._given import MOST, Text, as_bytes, event_number, number
+from ._given import Text, as_bytes, event_number, number
 from ._library import library
+from ._loaded import Lane, Loaded
+from ._losses import Hole, LossWarning, losses_of
+from ._recording import Recording
 from ._session import PLACES, Session
-from ._source import bytes_of, content_of
+from ._source import bytes_of, content_of, lines_of, searched
 from ._trigger import Trigger
 from ._values import Edit, Event
 
@@ -40,6 +44,9 @@ class Desk:
 
     def __init__(self) -> None:
         self._session = Session()
+        # The CPUs whose events are held, or None where there was no memory to find them; and where events of theirs were lost.
+        self._held: Optional[Set[int]] = set()
+        self._holes: Dict[int, List[Hole]] = {}
 
     def close(self) -> None:
         """Gives back its memory. Closing it again does nothing."""
@@ -62,29 +69,78 @@ class Desk:
 
     # ---- edits
 
-    def load(self, trace: Trace) -> int:
-        """Takes a trace in, and answers how many events it has.
+    def load(self, trace: Union[Trace, Recording]) -> Loaded:
+        """Takes a trace in, and answers how many events it has: a number that also knows the lines without events, of each CPU
+        the first and the last stamp, and where events were lost. Where some were, it warns with `LossWarning`, in one line.
 
-        `trace` is a path (`str` or `os.PathLike`), the text itself as bytes or another buffer, or an open file, which is read
-        to its end. What gzip has packed is unpacked, whatever its name. A buffer isn't copied; nothing may change it until the
-        call is done.
+        `trace` is a path (`str` or `os.PathLike`), the text itself as bytes or another buffer, an open file, which is read to
+        its end, or what `read` has read, which has warned already. What gzip has packed is unpacked, whatever its name. A buffer
+        isn't copied; nothing may change it until the call is done.
 
         Refused: 3 where a line can't be read, 4 where events of one of its CPUs are held, 7 where there is no room. Raises
         `OSError` where the file can't be read."""
         self._session.check()
-        content = content_of(trace)
+        content = trace.text if isinstance(trace, Recording) else content_of(trace)
         with bytes_of(content) as (address, length):
-            return self._session.count(library.histdesk_load, address, length, given=content)
+            text = searched(content)
+            losses = trace.losses if isinstance(trace, Recording) else losses_of(text)
+            lines = lines_of(text)
+            count = self._session.count(library.histdesk_load, address, length, given=content)
+        loaded = Loaded(count, lines - count, self._lanes_of(count), losses)
+        for hole in losses.holes:
+            self._holes.setdefault(hole.cpu, []).append(hole)
+        if losses.warning and not isinstance(trace, Recording):
+            warnings.warn(losses.warning, LossWarning, stacklevel=2)
+        return loaded
+
+    def _lanes_of(self, count: int) -> Tuple[Lane, ...]:
+        """What is known of each CPU of a trace of so many events, which has just been loaded; nothing where there is no memory to
+        ask."""
+        lanes: List[Lane] = []
+        try:
+            for cpu in range(CPUS) if self._held is not None else ():
+                events = 0 if cpu in self._held else self._count(cpu)
+                if events:
+                    lanes.append(Lane(cpu, events, *self._session.ends(library.histdesk_lane, cpu, 1)))
+                count -= events
+                if count == 0:
+                    break
+        except MemoryError:
+            # From here on it isn't known any more, and has to be asked.
+            self._held = None
+            return ()
+        self._note(lane.cpu for lane in lanes)
+        return tuple(lanes)
+
+    def _note(self, cpus: Iterable[int]) -> None:
+        """Takes note of CPUs that are held now."""
+        if self._held is not None:
+            self._held.update(cpus)
+
+    def _count(self, cpu: int) -> int:
+        """How many events of a CPU are held; 0 too where it isn't held."""
+        count = ctypes.c_uint64()
+        return count.value if self._session.holds(library.histdesk_lane, cpu, 1, count) else 0
+
+    @property
+    def holes(self) -> Tuple[Hole, ...]:
+        """Where events of the traces that were loaded were lost, by CPU. Unloading a CPU takes its own away."""
+        return tuple(hole for _, holes in sorted(self._holes.items()) for hole in holes)
 
     def unload(self, cpu: int) -> int:
         """Takes all events of a CPU away, and answers how many they were. Its line numbers begin at 1 again. Refused: 5."""
-        return self._session.count(library.histdesk_unload, number(cpu, "cpu"))
+        count = self._session.count(library.histdesk_unload, number(cpu, "cpu"))
+        if self._held is not None:
+            self._held.discard(cpu)
+        self._holes.pop(cpu, None)
+        return count
 
     def insert(self, line: Text) -> Edit:
         """Puts in one line of a trace, without its line break. Refused: 3 where it can't be read, 6 where it holds no event, 7
         where there is no room."""
         at, text = _layout.Line(), as_bytes(line)
         self._session.call(library.histdesk_insert, text, len(text), at, given=text)
+        self._note([at.cpu])
         return self._session.edit(at.cpu, at.line)
 
     def strike(self, cpu: int, line: int) -> Edit:
@@ -121,12 +177,10 @@ class Desk:
 
     def cpus(self) -> Dict[int, int]:
         """The CPUs whose events are held, and how many they are. A CPU whose events were all struck is among them."""
-        held = [cpu for cpu in range(CPUS) if self._is_held(cpu)]
-        return {cpu: self._session.count(library.histdesk_lane, cpu, 1) for cpu in held}
-
-    def _is_held(self, cpu: int) -> bool:
-        # From the last line on there is next to nothing to gather.
-        return self._session.holds(library.histdesk_lane, cpu, MOST, ctypes.c_uint64())
+        self._session.check()
+        if self._held is None:
+            self._held = {cpu for cpu in range(CPUS) if self._session.holds(library.histdesk_lane, cpu, 1, ctypes.c_uint64())}
+        return {cpu: self._count(cpu) for cpu in sorted(self._held)}
 
     def list(self, cpu: int) -> str:
         """The events of a CPU by line, as text. Refused: 5."""

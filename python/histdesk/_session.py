@@ -5,7 +5,7 @@ from __future__ import annotations
 import ctypes
 import struct
 import threading
-from typing import Any, Callable, Dict, List, NamedTuple, Optional
+from typing import Any, Callable, Dict, List, NamedTuple, Optional, Tuple
 
 from . import _layout
 from ._events import Events
@@ -130,6 +130,18 @@ class Session:
         """The events at the places that `ask` answers."""
         copy, size = library.histdesk_events_copy, _layout.EVENT.size
         return Events(self.content(copy, size, ask, *arguments, given=given, numpy=_layout.numpy()))
+
+    def ends(self, ask: Any, *arguments: Any) -> Tuple[int, int]:
+        """The stamps of the first and the last of the events at the places that `ask` answers, of which there is one."""
+        count, room = self.count(ask, *arguments), ctypes.create_string_buffer(_layout.EVENT.size)
+        try:
+            stamps = []
+            for at in (0, count - 1):
+                complete(library.histdesk_events_copy(self.handle, at, room, 1), 1)
+                stamps.append(_layout.EVENT.unpack(room.raw)[0])
+            return stamps[0], stamps[1]
+        finally:
+            library.histdesk_forget(self.handle)
 
     # ---- of triggers
 

@@ -5,11 +5,13 @@ from __future__ import annotations
 import contextlib
 import ctypes
 import gzip
+import mmap
 import os
 import zlib
 from typing import Any, Iterator, Tuple
 
 from . import _layout
+from ._losses import newlines
 
 # What a member of a .gz file begins with: its magic bytes, and the one method that there is.
 PACKED = b"\x1f\x8b\x08"
@@ -65,6 +67,16 @@ def content_of(trace: Any) -> Any:
         return unpacked(trace)
     content = trace.read()
     return unpacked(_layout.encoded(content) if isinstance(content, str) else content)
+
+
+def searched(content: Any) -> Any:
+    """A buffer that has the searches of `bytes`: the buffer itself, or a copy of one that hasn't."""
+    return content if isinstance(content, (bytes, bytearray, mmap.mmap)) else bytes(memoryview(content))
+
+
+def lines_of(text: Any) -> int:
+    """How many lines a text has: pieces that a line break ends, and a last one that isn't empty."""
+    return newlines(text, 0, len(text)) + (len(text) > 0 and text[-1] not in (10, b"\n"))
 
 
 def is_buffer(trace: Any) -> bool:

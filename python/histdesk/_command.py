@@ -1,0 +1,170 @@
+"""What the command-line tools over this package have in common: words, traces with their warnings, and how they end."""
+
+from __future__ import annotations
+
+import argparse
+import os
+import re
+import signal
+import sys
+import warnings
+from typing import Any, Callable, List, NoReturn, Optional
+
+from ._losses import LossWarning
+from ._recording import Choice, Recording, read, seconds
+from ._refused import Refused, refusal_words
+
+EVENTS = ("sched_waking", "sched_wakeup", "sched_wakeup_new", "sched_switch", "other")
+STAMP = re.compile(r"([0-9]{1,10})(?:\.([0-9]{1,6}))?")
+MAGIC = {
+    b"PERFILE2": "is a recording of perf, which from-perf turns",
+    b"\x17\x08\x44tracing": "is a recording of trace-cmd, which from-trace-cmd turns",
+}
+# So many numbers of lines are told.
+SHOWN = 5
+
+
+class Stop(Exception):
+    """The tool ends with a line on standard error, and status 2."""
+
+
+class Parser(argparse.ArgumentParser):
+    """Says in one line what is wrong with the words, and where to read more."""
+
+    def error(self, message: str) -> NoReturn:
+        self.exit(2, f"{self.prog}: {message}; --help says more\n")
+
+
+def parser(name: str, description: str) -> argparse.ArgumentParser:
+    """The words of a tool, of which the description's first line is short."""
+    return Parser(
+        prog=name,
+        description=description,
+        formatter_class=argparse.RawDescriptionHelpFormatter,
+        allow_abbrev=False,
+    )
+
+
+def add_part(words: argparse.ArgumentParser, cpu: str = "only events of these CPUs, as 0,2,4-7") -> None:
+    """The options that choose events of a trace."""
+    group = words.add_argument_group("which events of a trace are taken")
+    group.add_argument("--from", dest="start", metavar="STAMP", type=stamp, help="from this stamp on, in seconds as in the trace")
+    group.add_argument("--until", metavar="STAMP", type=stamp, help="before this stamp")
+    group.add_argument("--cpu", dest="cpus", metavar="CPUS", type=numbers, help=cpu)
+    group.add_argument("--events", metavar="NAMES", type=names, help=f"only these events, as {EVENTS[0]},{EVENTS[3]}")
+    group.add_argument("--lenient", action="store_true", help="leave out lines that can't be read, and say which they are")
+
+
+def stamp(text: str) -> int:
+    """A stamp in microseconds."""
+    found = STAMP.fullmatch(text)
+    if not found:
+        raise argparse.ArgumentTypeError(f"{text} is no stamp, such as 6012.000100")
+    return int(found[1]) * 1_000_000 + int((found[2] or "").ljust(6, "0"))
+
+
+def numbers(text: str) -> List[int]:
+    """Numbers and ranges of them, with commas between."""
+    found = [re.fullmatch("([0-9]{1,4})(?:-([0-9]{1,4}))?", part) for part in text.split(",")]
+    if not all(found):
+        raise argparse.ArgumentTypeError(f"{text} names no CPUs, such as 0,2,4-7")
+    return [cpu for part in found if part for cpu in range(int(part[1]), int(part[2] or part[1]) + 1)]
+
+
+def names(text: str) -> List[str]:
+    """Names of events, with commas between; those of the scheduler without their prefix too."""
+    found = [name if name in EVENTS else f"sched_{name}" for name in text.split(",")]
+    for name in found:
+        if name not in EVENTS:
+            raise argparse.ArgumentTypeError(f"there is no event {text}; the events are {', '.join(EVENTS)}")
+    return found
+
+
+def recording(words: argparse.Namespace, path: str, tool: str, **choice: Any) -> Recording:
+    """Reads the trace of that path, or standard input where it is `-`, as the options say; `choice` says otherwise. What is lost
+    or left out is told on standard error."""
+    wanted = {"start": words.start, "until": words.until, "cpus": words.cpus, "events": words.events, **choice}
+    # Its own line says which lines these are.
+    with warnings.catch_warnings():
+        warnings.simplefilter("ignore", LossWarning)
+        found = read(opened(path), **wanted, lenient=words.lenient)
+    found.path = path
+    check_kind(found, path)
+    for told in remarks(found, Choice(**wanted)):
+        print(f"{tool}: {path}: {told}", file=sys.stderr)
+    return found
+
+
+def opened(path: str) -> Any:
+    """What is read for that word."""
+    return sys.stdin.buffer if path == "-" else path
+
+
+def check_kind(found: Recording, path: str) -> None:
+    """Ends the tool where the file is another tool's recording."""
+    for magic, what in MAGIC.items():
+        if bytes(found.text[: len(magic)]) == magic:
+            raise Stop(f"{path} {what}")
+
+
+def remarks(found: Recording, choice: Choice) -> List[str]:
+    """What is to be known before an answer is believed, a line each."""
+    told = [found.warning] if found.warning else []
+    if found.bad_lines:
+        shown = ", ".join(map(str, found.bad_lines[:SHOWN])) + (", .." if len(found.bad_lines) > SHOWN else "")
+        told.append(f"{len(found.bad_lines)} lines can't be read and are left out: {shown}")
+    part = found.taken
+    if part and part.rest is not None and part.first is not None and part.last is not None:
+        length = seconds(part.last - part.first)
+        told.append(
+            f"a desk holds no more than {part.events} events of it, {length} s from {seconds(part.first)} on; "
+            f"--from {seconds(part.rest)} gives the next part"
+        )
+    elif part and part.events == 0 and not choice.is_all():
+        told.append("no event of it is taken")
+    return told
+
+
+def refused(error: Refused, path: Optional[str]) -> str:
+    """A refusal in one line, and under it the line of the trace or the text that is meant."""
+    told = f"{path}: {error}" if error.line and path else str(error)
+    hint = "; --lenient leaves such lines out" if error.line else ""
+    return "\n".join([told + hint, *getattr(error, "__notes__", [])])
+
+
+def run(tool: str, function: Callable[[], int]) -> NoReturn:
+    """Runs a tool and ends the process with its status: what goes wrong outside of it is one line on standard error, and status 2;
+    a reader of its output that has gone ends it quietly, and a signal from the terminal by that signal."""
+    status = 2
+    try:
+        status = function()
+        sys.stdout.flush()
+    except BrokenPipeError:
+        ended_by(signal.SIGPIPE)
+    except KeyboardInterrupt:
+        ended_by(signal.SIGINT)
+    except MemoryError:
+        print(f"{tool}: {refusal_words('refused 1')}", file=sys.stderr)
+    except OSError as error:
+        print(f"{tool}: {error.filename or 'standard output'}: {error.strerror or error}", file=sys.stderr)
+    except Refused as error:
+        print(f"{tool}: {refused(error, None)}", file=sys.stderr)
+    except (Stop, ImportError, ValueError) as error:
+        print(f"{tool}: {error}", file=sys.stderr)
+    finish(status)
+
+
+def ended_by(number: int) -> None:
+    """Ends the process as the signal does, so that a shell knows."""
+    signal.signal(number, signal.SIG_DFL)
+    os.kill(os.getpid(), number)
+
+
+def finish(status: int) -> NoReturn:
+    """Ends the process. What was not written has nowhere to go."""
+    try:
+        sys.stdout.flush()
+    except OSError:
+        pass
+    sys.stderr.flush()
+    os._exit(status)

@@ -1,0 +1,66 @@
+"""What loading a trace tells."""
+
+from __future__ import annotations
+
+from typing import NamedTuple, Optional, Tuple
+
+from ._losses import Hole, Losses
+
+
+class Lane(NamedTuple):
+    """The events of one CPU of a trace: how many they are, and the stamps of the first and the last one by line, in
+    microseconds."""
+
+    cpu: int
+    events: int
+    first: int
+    last: int
+
+
+class Loaded(int):
+    """How many events a trace has, as a number, and what else loading it tells.
+
+    >>> loaded = Desk().load(b'''sim-1 [000] d.h.. 1.000100: sched_waking: comm=w pid=42 prio=120 target_cpu=000
+    ... CPU:0 [LOST 7 EVENTS]
+    ... sim-1 [000] d.h.. 1.000300: sched_waking: comm=w pid=42 prio=120 target_cpu=000''')  # doctest: +SKIP
+    >>> loaded, loaded.skipped, loaded.lanes, loaded.holes  # doctest: +SKIP
+    (2, 1, (Lane(cpu=0, events=2, first=1000100, last=1000300),), (Hole(cpu=0, after=1000100, before=1000300, lost=7, line=2),))
+    """
+
+    skipped: int
+    lanes: Tuple[Lane, ...]
+    losses: Losses
+
+    def __new__(cls, events: int, skipped: int = 0, lanes: Tuple[Lane, ...] = (), losses: Losses = Losses()) -> Loaded:
+        """`skipped` counts the lines that hold no event: comments, empty lines and lost-events lines."""
+        loaded = super().__new__(cls, events)
+        loaded.skipped, loaded.lanes, loaded.losses = skipped, lanes, losses
+        return loaded
+
+    def __getnewargs__(self) -> Tuple[int, int, Tuple[Lane, ...], Losses]:  # type: ignore[override]
+        return int(self), self.skipped, self.lanes, self.losses
+
+    @property
+    def events(self) -> int:
+        """How many events it has."""
+        return int(self)
+
+    @property
+    def holes(self) -> Tuple[Hole, ...]:
+        """Where events were lost."""
+        return self.losses.holes
+
+    @property
+    def in_buffer(self) -> Optional[int]:
+        """How many events the kernel's buffers held, where the text has the kernel's header."""
+        return self.losses.in_buffer
+
+    @property
+    def written(self) -> Optional[int]:
+        """How many events the kernel wrote, where the text has the kernel's header."""
+        return self.losses.written
+
+    @property
+    def warning(self) -> Optional[str]:
+        """In one line what was lost; None where nothing was."""
+        return self.losses.warning

@@ -1,0 +1,250 @@
+"""Where events of a recording were lost, as its text tells."""
+
+from __future__ import annotations
+
+import mmap
+import re
+from typing import Any, Dict, Iterator, List, NamedTuple, Optional, Tuple, Union
+
+# What has the searches of `bytes`.
+Text = Union[bytes, bytearray, mmap.mmap]
+
+# The kernel's header, which stands at the top.
+HEADER = re.compile(rb"^# entries-in-buffer/entries-written: *([0-9]+)/([0-9]+)", re.MULTILINE)
+HEADER_ROOM = 65536
+# What tools/record writes behind the kernel's text of each CPU, where some have lost events by it.
+OVERWRITTEN = re.compile(rb"^# CPU ([0-9]+): ([0-9]+) events overwritten$", re.MULTILINE)
+# The two lines that tell of a loss, and what each begins with or holds.
+STARTED = re.compile(rb"##### CPU ([0-9]+) buffer started ####")
+LOST = re.compile(rb"CPU:([0-9]+) \[LOST (?:([0-9]+) )?EVENTS\]")
+SIGNS = (b"##### CPU ", b" [LOST ")
+# An event's CPU and its stamp. What stands in brackets and has a stamp behind it is the CPU: no name has room for both.
+EVENT = rb"\[0*(%s)\] +(?:[^ :\n]+ +)?([0-9]{1,10})\.([0-9]{6}):"
+
+
+class LossWarning(UserWarning):
+    """Events of a recording were lost, so that some of its waits may be false."""
+
+
+class Hole(NamedTuple):
+    """A stretch of time in which events of a CPU were lost. Stamps are in microseconds.
+
+    `after` is the stamp of the CPU's last event before it, or None where it begins with the recording; `before` that of the first
+    event behind it, or None where it lasts to the end. `lost` says how many events they were, where the text tells it, and
+    `line` which line of the text, from 1, tells of it."""
+
+    cpu: int
+    after: Optional[int]
+    before: Optional[int]
+    lost: Optional[int] = None
+    line: Optional[int] = None
+
+
+class Losses(NamedTuple):
+    """What a text tells of lost events: the holes in the order of its lines, and how many events were in the kernel's buffer of
+    those that were written, where it has the kernel's header."""
+
+    holes: Tuple[Hole, ...] = ()
+    in_buffer: Optional[int] = None
+    written: Optional[int] = None
+
+    @property
+    def overwritten(self) -> int:
+        """How many events the kernel's buffers held no more."""
+        return max((self.written or 0) - (self.in_buffer or 0), 0)
+
+    @property
+    def warning(self) -> Optional[str]:
+        """What was lost, in one line; None where nothing was."""
+        told = [f"{self.overwritten} of {self.written} events were overwritten before it begins"] if self.overwritten else []
+        late: Dict[int, int] = {}
+        torn: Dict[int, List[Hole]] = {}
+        for hole in self.holes:
+            if hole.after is None and hole.before is not None:
+                late[hole.cpu] = hole.before
+            else:
+                torn.setdefault(hole.cpu, []).append(hole)
+        if late:
+            told.append("the events begin late on " + few([f"CPU {cpu} (at {seconds(stamp)})" for cpu, stamp in late.items()]))
+        told += few_lost(torn)
+        return f"events were lost: {'; '.join(told)}; a wait across such a time may be false" if told else None
+
+
+def seconds(stamp: int) -> str:
+    """A stamp as traces print it."""
+    return f"{stamp // 1_000_000}.{stamp % 1_000_000:06}"
+
+
+def few(told: List[str]) -> str:
+    """The first of some texts, and how many more there are."""
+    shown = told if len(told) <= 4 else [*told[:3], f"{len(told) - 3} more"]
+    return ", ".join(shown)
+
+
+def few_lost(torn: Dict[int, List[Hole]]) -> List[str]:
+    """What each CPU has lost in the middle."""
+    told = []
+    for cpu, holes in torn.items():
+        known = sum(hole.lost or 0 for hole in holes)
+        count = f"{known}{'' if all(hole.lost for hole in holes) else ' and more'}" if known else "some"
+        first = holes[0]
+        since = "the beginning" if first.after is None else seconds(first.after)
+        until = "the end" if first.before is None else seconds(first.before)
+        where = f"between {since} and {until}" + ("" if len(holes) == 1 else f" and in {len(holes) - 1} more places")
+        told.append(f"CPU {cpu} lost {count} {where}")
+    return [few(told)] if told else []
+
+
+class Mark(NamedTuple):
+    """A line that tells of a loss: its first byte, its number, the CPU, and how many events they are. One that says where a
+    buffer begins has events behind it alone."""
+
+    start: int
+    end: int
+    line: int
+    cpu: int
+    lost: Optional[int]
+    begins: bool
+
+
+def marks_of(text: Text) -> List[Mark]:
+    """The lines that tell of losses, in order."""
+    starts = sorted(start for sign in SIGNS for start in lines_with(text, sign))
+    marks, line, counted = [], 1, 0
+    for start in starts:
+        line, counted = line + newlines(text, counted, start), start
+        end = text.find(b"\n", start)
+        content = bytes(text[start : end if end >= 0 else len(text)])
+        started, lost = STARTED.fullmatch(content), LOST.fullmatch(content)
+        if started:
+            marks.append(Mark(start, start + len(content), line, int(started[1]), None, True))
+        elif lost:
+            marks.append(Mark(start, start + len(content), line, int(lost[1]), int(lost[2]) if lost[2] else None, False))
+    return marks
+
+
+def lines_with(text: Text, sign: bytes) -> Iterator[int]:
+    """The first byte of each line that has a sign, once."""
+    at = text.find(sign)
+    while at >= 0:
+        yield text.rfind(b"\n", 0, at) + 1
+        end = text.find(b"\n", at)
+        at = text.find(sign, end) if end >= 0 else -1
+
+
+def newlines(text: Text, start: int, end: int) -> int:
+    """How many line breaks are in a part of a text."""
+    if isinstance(text, (bytes, bytearray)):
+        return text.count(b"\n", start, end)
+    size = 1 << 20
+    return sum(text[at : min(at + size, end)].count(b"\n") for at in range(start, end, size))
+
+
+def losses_of(text: Text) -> Losses:
+    """What a text tells of lost events.
+
+    A line `CPU:3 [LOST 9 EVENTS]` stands between the events of its CPU that were kept; `##### CPU 3 buffer started ####` stands
+    before the first event of a CPU whose earlier ones may be overwritten. Where the header says that some were overwritten, and
+    no such line is there, each CPU may have lost those before its first event."""
+    header = HEADER.search(bytes(text[:HEADER_ROOM]))
+    in_buffer, written = (int(header[1]), int(header[2])) if header else (None, None)
+    marks = marks_of(text)
+    holes = holes_at(text, marks)
+    if not any(mark.begins for mark in marks) and header and int(header[1]) < int(header[2]):
+        # Nothing tells which CPUs were full.
+        late = firsts(text)
+        begun = min(late.values(), default=0)
+        holes = [*(Hole(cpu, None, stamp) for cpu, stamp in sorted(late.items()) if stamp > begun), *holes]
+    return Losses(tuple(counted(text, holes)), in_buffer, written)
+
+
+def counted(text: Text, holes: List[Hole]) -> Iterator[Hole]:
+    """The holes, but for those before the first event of a CPU of which the text says that it has overwritten none."""
+    end = bytes(text[max(len(text) - HEADER_ROOM, 0) :])
+    known = {int(cpu): int(count) for cpu, count in OVERWRITTEN.findall(end)}
+    for hole in holes:
+        if hole.after is not None or hole.lost is not None or hole.cpu not in known:
+            yield hole
+        elif known[hole.cpu]:
+            yield hole._replace(lost=known[hole.cpu])
+
+
+def events_of(text: Text, cpus: bytes, start: int = 0) -> Iterator[Any]:
+    """The events of CPUs that a pattern names, from a byte on, as matches."""
+    return re.compile(EVENT % cpus).finditer(text, start)
+
+
+def stamp_of(event: Any) -> int:
+    """The stamp of an event, in microseconds."""
+    return int(event[2]) * 1_000_000 + int(event[3])
+
+
+def firsts(text: Text) -> Dict[int, int]:
+    """The first stamp of each CPU."""
+    found: Dict[int, int] = {}
+    for event in events_of(text, b"[0-9]+"):
+        found.setdefault(int(event[1]), stamp_of(event))
+    return found
+
+
+def holes_at(text: Text, marks: List[Mark]) -> List[Hole]:
+    """The holes that lines tell of. Lines of one CPU without an event between them are one hole."""
+    # The kernel prints where a buffer begins right before that event.
+    at_once = [begun_at(text, mark) for mark in marks]
+    left = [mark for mark, hole in zip(marks, at_once) if hole is None]
+    searched = iter(searched_holes(text, left))
+    holes = [next(searched) if hole is None else hole for hole in at_once]
+    return joined(holes)
+
+
+def begun_at(text: Text, mark: Mark) -> Optional[Hole]:
+    """The hole before the first event of a CPU, where that is on the next line."""
+    end = text.find(b"\n", mark.end + 1) if mark.begins else -1
+    if end < 0:
+        return None
+    event = re.search(EVENT % b"%d" % mark.cpu, bytes(text[mark.end + 1 : end]))
+    return Hole(mark.cpu, None, stamp_of(event), None, mark.line) if event else None
+
+
+def searched_holes(text: Text, marks: List[Mark]) -> List[Hole]:
+    """The holes at some lines, found in one pass over the events of their CPUs."""
+    holes = [Hole(mark.cpu, None, None, mark.lost, mark.line) for mark in marks]
+    last: Dict[int, int] = {}
+    open_at: Dict[int, List[int]] = {}
+    at = 0
+    named = b"|".join(b"%d" % cpu for cpu in sorted({mark.cpu for mark in marks}))
+    for event in events_of(text, named) if marks else ():
+        while at < len(marks) and marks[at].start < event.start():
+            at = opened(holes, marks, at, last, open_at)
+        cpu, stamp = int(event[1]), stamp_of(event)
+        for closed in open_at.pop(cpu, ()):
+            holes[closed] = holes[closed]._replace(before=stamp)
+        last[cpu] = stamp
+    while at < len(marks):
+        at = opened(holes, marks, at, last, open_at)
+    return holes
+
+
+def opened(holes: List[Hole], marks: List[Mark], at: int, last: Dict[int, int], open_at: Dict[int, List[int]]) -> int:
+    """Begins the hole of a line behind the last event of its CPU; the next line's index."""
+    cpu = marks[at].cpu
+    if not marks[at].begins:
+        holes[at] = holes[at]._replace(after=last.get(cpu))
+    open_at.setdefault(cpu, []).append(at)
+    return at + 1
+
+
+def joined(holes: List[Hole]) -> List[Hole]:
+    """The holes, with those of one CPU between the same two events as one."""
+    found: Dict[Tuple[int, Optional[int], Optional[int]], Hole] = {}
+    for hole in holes:
+        key = hole.cpu, hole.after, hole.before
+        other = found.get(key)
+        lost = hole.lost if other is None else total(other.lost, hole.lost)
+        found[key] = (other or hole)._replace(lost=lost)
+    return list(found.values())
+
+
+def total(one: Optional[int], other: Optional[int]) -> Optional[int]:
+    """The sum of what is known."""
+    return other if one is None else one if other is None else one + other

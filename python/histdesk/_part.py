@@ -1,0 +1,156 @@
+"""Chooses events of a trace's text, line by line; needs numpy."""
+
+from __future__ import annotations
+
+import re
+from typing import Any, List, NamedTuple, Optional
+
+from . import _layout
+from ._recording import LIMIT, Choice, Part, Recording
+
+# A line, with the CPU, the stamp and the label of its event, if it has one. Whether the desk can read it is the desk's to say.
+LINE = re.compile(
+    rb"^(?:[^\n]*?-[0-9]+ +(?:\( *[0-9-]+\) +)?\[0*([0-9]{1,5})\] +(?:[^ :\n]+ +)?([0-9]{1,10})\.([0-9]{6}): *"
+    rb"(sched_(?:waking|wakeup|wakeup_new|switch)(?=:))?)?[^\n]*\n?",
+    re.MULTILINE,
+)
+# So many bytes are taken at once.
+ROOM = 1 << 25
+NONE = -1
+
+
+class Lines(NamedTuple):
+    """Of each line of a text where it ends, behind its line break, and its event's CPU (-1 where there is none), stamp in
+    microseconds and name (by its number)."""
+
+    ends: Any
+    cpus: Any
+    stamps: Any
+    names: Any
+
+
+def take(recording: Recording, choice: Choice) -> None:
+    """Leaves the events that are wanted and fit into a desk, and notes what was taken."""
+    numpy = needed()
+    lines = scanned(recording.text)
+    is_event = lines.cpus != NONE
+    wanted = is_event & chosen(lines, choice)
+    rest, until = None, choice.until
+    if numpy.count_nonzero(wanted) > LIMIT:
+        rest = until = first_left(lines.stamps[wanted])
+        wanted &= lines.stamps < until
+    kept = wanted | (~is_event & near(lines, choice._replace(until=until)))
+    recording.text = only(recording.text, lines.ends, kept)
+    stamps = lines.stamps[wanted]
+    ends = (int(stamps.min()), int(stamps.max())) if len(stamps) else (None, None)
+    recording.taken = Part(len(stamps), *ends, rest)
+    if len(stamps) < numpy.count_nonzero(is_event):
+        recording._lines = {int(cpu): places(lines.cpus, wanted, cpu) for cpu in numpy.unique(lines.cpus[wanted])}
+
+
+def needed() -> Any:
+    """numpy. Raises `ImportError`, which says how to get it."""
+    numpy = _layout.numpy()
+    if numpy is None:
+        raise ImportError("numpy is needed here: apt-get install python3-numpy, or pip install numpy", name="numpy")
+    return numpy
+
+
+def scanned(text: Any) -> Lines:
+    """What is known of each line of a text."""
+    numpy = needed()
+    parts: List[Lines] = []
+    start = 0
+    while start < len(text):
+        end = min(start + ROOM, len(text))
+        end = text.rfind(b"\n", start, end) + 1 or text.find(b"\n", end) + 1 or len(text)
+        parts.append(scanned_part(bytes(text[start:end]), start))
+        start = end
+    return Lines(*map(numpy.concatenate, zip(*parts))) if parts else Lines(*numpy.zeros((4, 0), "i8"))
+
+
+def scanned_part(text: bytes, start: int) -> Lines:
+    """What is known of each line of a part, which begins at some byte of the whole."""
+    numpy = needed()
+    breaks = numpy.flatnonzero(numpy.frombuffer(text, "u1") == 10) + 1
+    ends = breaks if text.endswith(b"\n") else numpy.append(breaks, len(text))
+    # At its end a text has an empty match.
+    cpus, seconds, micros, names = zip(*LINE.findall(text)[: len(ends)])
+    stamps = numbers(seconds) * 1_000_000 + numbers(micros)
+    codes = numpy.full(len(ends), _layout.OTHER, "u1")
+    labels = numpy.array(names)
+    for code, name in enumerate(_layout.EVENT_NAMES[: _layout.SWITCH + 1]):
+        codes[labels == name.encode()] = code
+    return Lines(ends + start, numbers(cpus, NONE), stamps, codes)
+
+
+def numbers(digits: Any, missing: int = 0) -> Any:
+    """Texts of digits as numbers, and another number for empty ones."""
+    numpy = needed()
+    texts = numpy.array(digits)
+    is_missing = texts == b""
+    texts[is_missing] = b"0"
+    found = texts.astype("i8")
+    found[is_missing] = missing
+    return found
+
+
+def chosen(lines: Lines, choice: Choice) -> Any:
+    """Which events are wanted, as a mask; what it says of lines without one doesn't matter."""
+    numpy = needed()
+    mask = in_time(lines.stamps, choice)
+    if choice.cpus is not None:
+        mask &= numpy.isin(lines.cpus, list(choice.cpus))
+    if choice.events is not None:
+        unknown = set(choice.events) - set(_layout.EVENT_NAMES) | {"wakeup_latency"} & set(choice.events)
+        if unknown:
+            raise ValueError(f"a trace has no event {', '.join(sorted(unknown))}")
+        mask &= numpy.isin(lines.names, [_layout.EVENT_NAMES.index(name) for name in choice.events])
+    return mask
+
+
+def in_time(stamps: Any, choice: Choice) -> Any:
+    """Which stamps are wanted."""
+    mask = needed().ones(len(stamps), bool)
+    if choice.start is not None:
+        mask &= stamps >= choice.start
+    if choice.until is not None:
+        mask &= stamps < choice.until
+    return mask
+
+
+def near(lines: Lines, choice: Choice) -> Any:
+    """Which lines stand in the stretch of time that is wanted, one without an event by the event before it: a line that can't be
+    read is refused there, and nowhere else."""
+    numpy = needed()
+    at = numpy.where(lines.cpus != NONE, numpy.arange(len(lines.cpus)), -1)
+    before = numpy.maximum.accumulate(at) if len(at) else at
+    return (before < 0) | in_time(lines.stamps[before], choice)
+
+
+def first_left(stamps: Any) -> int:
+    """The least stamp of which not all events fit into a desk any more."""
+    cut = int(needed().partition(stamps, LIMIT)[LIMIT])
+    if cut == stamps.min():
+        raise ValueError(f"more than {LIMIT} events have one stamp, which no desk holds")
+    return cut
+
+
+def only(text: Any, ends: Any, kept: Any) -> bytes:
+    """The text with empty lines in place of those that aren't kept."""
+    numpy = needed()
+    if not len(ends):
+        return b""
+    # Where lines that are kept begin to follow on others, and the other way round.
+    turns = [0, *(numpy.flatnonzero(kept[1:] != kept[:-1]) + 1).tolist(), len(ends)]
+    starts = numpy.concatenate([[0], ends])[turns].tolist()
+    is_kept, pieces, view = bool(kept[0]), [], memoryview(text)
+    for turn, start, next_turn, next_start in zip(turns, starts, turns[1:], starts[1:]):
+        pieces.append(view[start:next_start] if is_kept else b"\n" * (next_turn - turn))
+        is_kept = not is_kept
+    return b"".join(pieces)
+
+
+def places(cpus: Any, wanted: Any, cpu: Optional[int]) -> Any:
+    """The lines of a CPU in the whole text that are wanted, from 1."""
+    return needed().flatnonzero(wanted[cpus == cpu]) + 1
