@@ -10,8 +10,8 @@ import sys
 import warnings
 from typing import Any, Callable, List, NoReturn, Optional
 
-from ._losses import LossWarning
-from ._recording import Choice, Recording, read, seconds
+from ._losses import LossWarning, seconds
+from ._recording import Choice, Recording, read
 from ._refused import Refused, refusal_words
 
 EVENTS = ("sched_waking", "sched_wakeup", "sched_wakeup_new", "sched_switch", "other")
@@ -48,7 +48,7 @@ def parser(name: str, description: str) -> argparse.ArgumentParser:
 def add_part(words: argparse.ArgumentParser, cpu: str = "only events of these CPUs, as 0,2,4-7") -> None:
     """The options that choose events of a trace."""
     group = words.add_argument_group("which events of a trace are taken")
-    group.add_argument("--from", dest="start", metavar="STAMP", type=stamp, help="from this stamp on, in seconds as in the trace")
+    group.add_argument("--from", dest="start", metavar="STAMP", type=stamp, help="from this stamp on, in the trace's seconds")
     group.add_argument("--until", metavar="STAMP", type=stamp, help="before this stamp")
     group.add_argument("--cpu", dest="cpus", metavar="CPUS", type=numbers, help=cpu)
     group.add_argument("--events", metavar="NAMES", type=names, help=f"only these events, as {EVENTS[0]},{EVENTS[3]}")
@@ -68,7 +68,8 @@ def numbers(text: str) -> List[int]:
     found = [re.fullmatch("([0-9]{1,4})(?:-([0-9]{1,4}))?", part) for part in text.split(",")]
     if not all(found):
         raise argparse.ArgumentTypeError(f"{text} names no CPUs, such as 0,2,4-7")
-    return [cpu for part in found if part for cpu in range(int(part[1]), int(part[2] or part[1]) + 1)]
+    bounds = [(int(part[1]), int(part[2] or part[1])) for part in found if part]
+    return [cpu for first, last in bounds for cpu in range(first, last + 1)]
 
 
 def names(text: str) -> List[str]:
@@ -81,8 +82,8 @@ def names(text: str) -> List[str]:
 
 
 def recording(words: argparse.Namespace, path: str, tool: str, **choice: Any) -> Recording:
-    """Reads the trace of that path, or standard input where it is `-`, as the options say; `choice` says otherwise. What is lost
-    or left out is told on standard error."""
+    """Reads the trace of that path, or standard input where it is `-`, as the options say; `choice` says otherwise. What is
+    lost or left out is told on standard error."""
     wanted = {"start": words.start, "until": words.until, "cpus": words.cpus, "events": words.events, **choice}
     # Its own line says which lines these are.
     with warnings.catch_warnings():
@@ -133,8 +134,8 @@ def refused(error: Refused, path: Optional[str]) -> str:
 
 
 def run(tool: str, function: Callable[[], int]) -> NoReturn:
-    """Runs a tool and ends the process with its status: what goes wrong outside of it is one line on standard error, and status 2;
-    a reader of its output that has gone ends it quietly, and a signal from the terminal by that signal."""
+    """Runs a tool and ends the process with its status. What goes wrong outside of it is one line on standard error, and status
+    2; a reader of its output that has gone ends it quietly, and Ctrl-C by that signal."""
     status = 2
     try:
         status = function()

@@ -96,15 +96,15 @@ class Desk:
     def _lanes_of(self, count: int) -> Tuple[Lane, ...]:
         """What is known of each CPU of a trace of so many events, which has just been loaded; nothing where there is no memory to
         ask."""
+        if self._held is None:
+            return ()
         lanes: List[Lane] = []
         try:
-            for cpu in range(CPUS) if self._held is not None else ():
-                events = 0 if cpu in self._held else self._count(cpu)
+            for cpu in (cpu for cpu in range(CPUS) if cpu not in self._held):
+                events = self._count(cpu) if count else 0
                 if events:
                     lanes.append(Lane(cpu, events, *self._session.ends(library.histdesk_lane, cpu, 1)))
-                count -= events
-                if count == 0:
-                    break
+                    count -= events
         except MemoryError:
             # From here on it isn't known any more, and has to be asked.
             self._held = None

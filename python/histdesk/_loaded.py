@@ -22,8 +22,8 @@ class Loaded(int):
 
     >>> loaded = Desk().load(b'''sim-1 [000] d.h.. 1.000100: sched_waking: comm=w pid=42 prio=120 target_cpu=000
     ... CPU:0 [LOST 7 EVENTS]
-    ... sim-1 [000] d.h.. 1.000300: sched_waking: comm=w pid=42 prio=120 target_cpu=000''')  # doctest: +SKIP
-    >>> loaded, loaded.skipped, loaded.lanes, loaded.holes  # doctest: +SKIP
+    ... sim-1 [000] d.h.. 1.000300: sched_waking: comm=w pid=42 prio=120 target_cpu=000''')
+    >>> loaded, loaded.skipped, loaded.lanes, loaded.holes
     (2, 1, (Lane(cpu=0, events=2, first=1000100, last=1000300),), (Hole(cpu=0, after=1000100, before=1000300, lost=7, line=2),))
     """
 
