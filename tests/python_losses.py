@@ -114,6 +114,13 @@ class Losses(unittest.TestCase):
         self.assertEqual(len(answer.holes), 8)
         self.assertIn("CPU 3 lost 16 between 1.000000 and 1.500000 and in 7 more places", told[0])
 
+    def test_far_events(self):
+        # Looked for from each line on, these events would cost a pass over the text for each CPU.
+        cpus = range(1, 101)
+        text = "".join(f"CPU:{cpu} [LOST {cpu} EVENTS]\n" for cpu in cpus) + waking(0, "1.000000") * 20000
+        answer, _ = loaded(text + "".join(waking(cpu, f"2.{cpu:06}") for cpu in cpus))
+        self.assertEqual(answer.holes, tuple(Hole(cpu, None, 2000000 + cpu, cpu, cpu) for cpu in cpus))
+
     def test_no_such_lines(self):
         # A task's name, a comment and a payload tell of no loss.
         text = "x [LOST 3 EVENTS]-1 [000] 1.000000: y\n# CPU:0 [LOST 3 EVENTS]\na-1 [000] 2.000000: CPU:0 [LOST 3 EVENTS]\n"

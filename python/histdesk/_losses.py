@@ -18,6 +18,8 @@ OVERWRITTEN = re.compile(rb"^# CPU ([0-9]+): ([0-9]+) events overwritten$", re.M
 STARTED = re.compile(rb"##### CPU ([0-9]+) buffer started ####")
 LOST = re.compile(rb"CPU:([0-9]+) \[LOST (?:([0-9]+) )?EVENTS\]")
 SIGNS = (b"##### CPU ", b" [LOST ")
+# So many bytes around such a line are looked at first.
+ROOM = 4096
 # An event's CPU and its stamp. What stands in brackets and has a stamp behind it is the CPU: no name has room for both.
 EVENT = rb"\[0*(%s)\] +(?:[^ :\n]+ +)?([0-9]{1,10})\.([0-9]{6}):"
 
@@ -96,8 +98,8 @@ def few_lost(torn: Dict[int, List[Hole]]) -> List[str]:
 
 
 class Mark(NamedTuple):
-    """A line that tells of a loss: its first byte, its number, the CPU, and how many events they are. One that says where a
-    buffer begins has events behind it alone."""
+    """A line that tells of a loss: its first byte and the one behind it, its number, the CPU, how many events they are, and whether
+    it says that a buffer begins."""
 
     start: int
     end: int
@@ -169,9 +171,9 @@ def counted(text: Text, holes: List[Hole]) -> Iterator[Hole]:
             yield hole._replace(lost=known[hole.cpu])
 
 
-def events_of(text: Text, cpus: bytes, start: int = 0) -> Iterator[Any]:
-    """The events of CPUs that a pattern names, from a byte on, as matches."""
-    return re.compile(EVENT % cpus).finditer(text, start)
+def event_of(cpus: bytes) -> Any:
+    """The pattern of an event of CPUs that another pattern names."""
+    return re.compile(EVENT % cpus)
 
 
 def stamp_of(event: Any) -> int:
@@ -182,28 +184,75 @@ def stamp_of(event: Any) -> int:
 def firsts(text: Text) -> Dict[int, int]:
     """The first stamp of each CPU."""
     found: Dict[int, int] = {}
-    for event in events_of(text, b"[0-9]+"):
+    for event in event_of(b"[0-9]+").finditer(text):
         found.setdefault(int(event[1]), stamp_of(event))
     return found
 
 
 def holes_at(text: Text, marks: List[Mark]) -> List[Hole]:
     """The holes that lines tell of. Lines of one CPU without an event between them are one hole."""
-    # The kernel prints where a buffer begins right before that event.
-    at_once = [begun_at(text, mark) for mark in marks]
-    left = [mark for mark, hole in zip(marks, at_once) if hole is None]
-    searched = iter(searched_holes(text, left))
-    holes = [next(searched) if hole is None else hole for hole in at_once]
-    return joined(holes)
+    try:
+        return joined(Near(text).holes(marks))
+    except Far:
+        return joined(searched_holes(text, marks))
 
 
-def begun_at(text: Text, mark: Mark) -> Optional[Hole]:
-    """The hole before the first event of a CPU, where that is on the next line."""
-    end = text.find(b"\n", mark.end + 1) if mark.begins else -1
-    if end < 0:
-        return None
-    event = re.search(EVENT % b"%d" % mark.cpu, bytes(text[mark.end + 1 : end]))
-    return Hole(mark.cpu, None, stamp_of(event), None, mark.line) if event else None
+class Far(Exception):
+    """The events around the lines are so far away that one pass over all events is quicker."""
+
+
+class Near:
+    """Looks for the events around lines, from each line on in both directions."""
+
+    def __init__(self, text: Text) -> None:
+        self.text = text
+        # So many bytes may be looked at.
+        self.left = 2 * len(text) + 64 * ROOM
+        # Of each CPU the last hole, and where the event behind it begins; the text's end where there is none.
+        self.known: Dict[int, Tuple[Hole, int]] = {}
+
+    def holes(self, marks: List[Mark]) -> List[Hole]:
+        """The hole of each line."""
+        return [self.hole(mark) for mark in marks]
+
+    def hole(self, mark: Mark) -> Hole:
+        """The hole of a line, which stands behind those that were asked for before."""
+        last, at = self.known.get(mark.cpu, (None, 0))
+        if last and mark.start < at:
+            return last._replace(lost=mark.lost, line=mark.line)
+        pattern = event_of(b"%d" % mark.cpu)
+        before = self.last(pattern, at, mark.start)
+        behind = self.first(pattern, mark.end)
+        hole = Hole(mark.cpu, stamp_of(before) if before else None, stamp_of(behind) if behind else None, mark.lost, mark.line)
+        self.known[mark.cpu] = hole, behind.start() if behind else len(self.text)
+        return hole
+
+    def spend(self, count: int) -> None:
+        """Takes note that so many bytes are looked at."""
+        self.left -= count
+        if self.left < 0:
+            raise Far
+
+    def last(self, pattern: Any, low: int, high: int) -> Any:
+        """The last event in a part of the text."""
+        room, found = ROOM, None
+        while not found and room < 2 * (high - low + ROOM):
+            start = max(high - room, low)
+            self.spend(high - start)
+            for found in pattern.finditer(self.text, start, high):
+                pass
+            room *= 4
+        return found
+
+    def first(self, pattern: Any, low: int) -> Any:
+        """The first event from a byte on."""
+        room, found = ROOM, None
+        while not found and room < 2 * (len(self.text) - low + ROOM):
+            end = min(low + room, len(self.text))
+            self.spend(end - low)
+            found = pattern.search(self.text, low, end)
+            room *= 4
+        return found
 
 
 def searched_holes(text: Text, marks: List[Mark]) -> List[Hole]:
@@ -213,7 +262,7 @@ def searched_holes(text: Text, marks: List[Mark]) -> List[Hole]:
     open_at: Dict[int, List[int]] = {}
     at = 0
     named = b"|".join(b"%d" % cpu for cpu in sorted({mark.cpu for mark in marks}))
-    for event in events_of(text, named) if marks else ():
+    for event in event_of(named).finditer(text) if marks else ():
         while at < len(marks) and marks[at].start < event.start():
             at = opened(holes, marks, at, last, open_at)
         cpu, stamp = int(event[1]), stamp_of(event)
@@ -228,8 +277,7 @@ def searched_holes(text: Text, marks: List[Mark]) -> List[Hole]:
 def opened(holes: List[Hole], marks: List[Mark], at: int, last: Dict[int, int], open_at: Dict[int, List[int]]) -> int:
     """Begins the hole of a line behind the last event of its CPU; the next line's index."""
     cpu = marks[at].cpu
-    if not marks[at].begins:
-        holes[at] = holes[at]._replace(after=last.get(cpu))
+    holes[at] = holes[at]._replace(after=last.get(cpu))
     open_at.setdefault(cpu, []).append(at)
     return at + 1
 
