@@ -10,6 +10,7 @@ import sys
 import tempfile
 import unittest
 import warnings
+from unittest import mock
 
 # Nothing is written beside the sources.
 sys.dont_write_bytecode = True
@@ -19,9 +20,12 @@ PYTHON = os.path.realpath(os.path.join(HERE, "..", "python"))
 sys.path.insert(0, PYTHON)
 
 import histdesk
-from histdesk import Hole, Lane, LossWarning, Part
-from python_answers import with_numpy
+from histdesk import Hole, Lane, LossWarning, Part, _recording
+from python_answers import numpy, with_numpy
 from python_package import main
+
+if numpy:
+    from histdesk import _part
 
 WAKING = "sim-1 [{cpu:03}] d.h.. {stamp}: sched_waking: comm=w pid={pid} prio=120 target_cpu=000\n"
 SWITCH = (
@@ -224,15 +228,18 @@ class Parts(unittest.TestCase):
 
     @with_numpy
     def test_more_than_a_desk_holds(self):
-        count = 1048576 + 5
-        text = "".join([waking(0, f"{at // 2 // 1000000}.{at // 2 % 1000000:06}") for at in range(count)])
-        recording = self.part(text)
-        # The stamp of the first event that doesn't fit is that of 524,288 us; the two events of one stamp stay together.
-        self.assertEqual(recording.taken, Part(1048576, 0, 524287, 524288))
-        self.assertEqual(histdesk.Desk().load(recording), 1048576)
-        self.assertEqual(self.part(text, start=524288).taken, Part(5, 524288, 524290, None))
-        with self.assertRaisesRegex(ValueError, "have one stamp"):
-            self.part(waking(0, "1.000000") * (1048576 + 1))
+        # The desk's limit is tried elsewhere; here one holds ten events. Two events have each stamp.
+        text = "".join(waking(0, f"1.{at // 2:06}") for at in range(15))
+        with mock.patch.object(_part, "LIMIT", 10), mock.patch.object(_recording, "LIMIT", 10):
+            recording = self.part(text)
+            self.assertEqual(recording.taken, Part(10, 1000000, 1000004, 1000005))
+            self.assertEqual(self.part(text, start=1000005).taken, Part(5, 1000005, 1000007, None))
+            # Of eleven events the last two have one stamp, and stay together.
+            self.assertEqual(self.part(text, start=1000001, until=1000007).taken, Part(10, 1000001, 1000005, 1000006))
+            with self.assertRaisesRegex(ValueError, "have one stamp"):
+                self.part(waking(0, "1.000000") * 11)
+        self.assertEqual(histdesk.Desk().load(recording), 10)
+        self.assertEqual(_recording.LIMIT, 1048576)
 
     def test_lenient(self):
         text = (

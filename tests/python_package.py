@@ -45,7 +45,7 @@ def python(program, **environment):
         [sys.executable, "-B", "-c", program],
         stdout=subprocess.PIPE,
         stderr=subprocess.STDOUT,
-        env={**os.environ, "PYTHONPATH": f"{PYTHON}:{HERE}", **environment},
+        env={**os.environ, "PYTHONPATH": f"{PYTHON}:{HERE}", "PYTHONWARNINGS": "ignore", **environment},
         check=False,
     )
     return ran.stdout.decode()
@@ -483,7 +483,8 @@ class Runner(unittest.TextTestRunner):
 
 
 def main():
-    ran = unittest.main(exit=False, testRunner=Runner).result
+    # The traces tell of lost events on purpose; tests of that warning ask for it.
+    ran = unittest.main(exit=False, testRunner=Runner, warnings="ignore").result
     for reason, count in sorted(collections.Counter(reason for _, reason in ran.skipped).items()):
         print(f"{count} skipped: {reason}")
     wrong = len(ran.failures) + len(ran.errors)
