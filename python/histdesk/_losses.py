@@ -14,10 +14,10 @@ HEADER = re.compile(rb"^# entries-in-buffer/entries-written: *([0-9]+)/([0-9]+)"
 HEADER_ROOM = 65536
 # What tools/record writes behind the kernel's text of each CPU, where some have lost events by it.
 OVERWRITTEN = re.compile(rb"^# CPU ([0-9]+): ([0-9]+) events overwritten$", re.MULTILINE)
-# The two lines that tell of a loss, and what each begins with or holds.
+# The two lines that tell of a loss; what each begins with or holds, and a byte of it that other lines seldom have.
 STARTED = re.compile(rb"##### CPU ([0-9]+) buffer started ####")
 LOST = re.compile(rb"CPU:([0-9]+) \[LOST (?:([0-9]+) )?EVENTS\]")
-SIGNS = (b"##### CPU ", b" [LOST ")
+SIGNS = ((b"##### CPU ", b"#"), (b" [LOST ", b"O"))
 # So many bytes around such a line are looked at first.
 ROOM = 4096
 # An event's CPU and its stamp. What stands in brackets and has a stamp behind it is the CPU: no name has room for both.
@@ -111,7 +111,7 @@ class Mark(NamedTuple):
 
 def marks_of(text: Text) -> List[Mark]:
     """The lines that tell of losses, in order."""
-    starts = sorted(start for sign in SIGNS for start in lines_with(text, sign))
+    starts = sorted(start for sign, rare in SIGNS for start in lines_with(text, sign, rare))
     marks, line, counted = [], 1, 0
     for start in starts:
         line, counted = line + newlines(text, counted, start), start
@@ -125,13 +125,14 @@ def marks_of(text: Text) -> List[Mark]:
     return marks
 
 
-def lines_with(text: Text, sign: bytes) -> Iterator[int]:
-    """The first byte of each line that has a sign, once."""
-    at = text.find(sign)
+def lines_with(text: Text, sign: bytes, rare: bytes) -> Iterator[int]:
+    """The first byte of each line that has a sign. One byte of it, which few lines have, is looked for, since that is quickest."""
+    at = text.find(rare)
     while at >= 0:
-        yield text.rfind(b"\n", 0, at) + 1
-        end = text.find(b"\n", at)
-        at = text.find(sign, end) if end >= 0 else -1
+        start, end = text.rfind(b"\n", 0, at) + 1, text.find(b"\n", at)
+        if text.find(sign, start, end if end >= 0 else len(text)) >= 0:
+            yield start
+        at = text.find(rare, end) if end >= 0 else -1
 
 
 def newlines(text: Text, start: int, end: int) -> int:
