@@ -236,8 +236,8 @@ class Near:
 
     def last(self, pattern: Any, low: int, high: int) -> Any:
         """The last event in a part of the text."""
-        room, found = ROOM, None
-        while not found and room < 2 * (high - low + ROOM):
+        room, start, found = ROOM, high, None
+        while not found and start > low:
             start = max(high - room, low)
             self.spend(high - start)
             for found in pattern.finditer(self.text, start, high):
@@ -247,8 +247,8 @@ class Near:
 
     def first(self, pattern: Any, low: int) -> Any:
         """The first event from a byte on."""
-        room, found = ROOM, None
-        while not found and room < 2 * (len(self.text) - low + ROOM):
+        room, end, found = ROOM, low, None
+        while not found and end < len(self.text):
             end = min(low + room, len(self.text))
             self.spend(end - low)
             found = pattern.search(self.text, low, end)
