@@ -23,8 +23,8 @@ LOW_BITS = 26
 
 
 class Greatest(NamedTuple):
-    """A key's greatest wait: how long it was, the stamp at which it ended (both in microseconds), where the switch that ended it
-    stands, the task's name there, and of which recording it is, where that was told.
+    """A key's greatest wait: how long it was, the stamp at which it ended (both in microseconds), where the switch that ended
+    it stands, the task's name there, and of which recording it is, where that was told.
 
     Of waits that are equally long it is the one that ended first."""
 
@@ -54,8 +54,8 @@ class CountsRow(NamedTuple):
 
 
 class Columns(NamedTuple):
-    """How many waits of a key, by its number, were so many microseconds long: arrays, ordered by key and microseconds, in which no
-    pair stands twice and no count is 0."""
+    """How many waits of a key, by its number, were so many microseconds long: arrays, ordered by key and microseconds, in which
+    no pair stands twice and no count is 0."""
 
     key: Any
     micros: Any
@@ -65,8 +65,8 @@ class Columns(NamedTuple):
 class Counts:
     """Waits counted by key and by microsecond, with the greatest of each key, and how many were doubtful.
 
-    A key is a tuple of numbers and texts, which `fields` names. `Waits.counts` makes it. What several recordings give is added up
-    exactly, so percentiles of all together are exact too. It can be pickled, and two are equal where they hold the same.
+    A key is a tuple of numbers and texts, which `fields` names. `Waits.counts` makes it. What several recordings give is added
+    up exactly, so percentiles of all together are exact too. It can be pickled, and two are equal where they hold the same.
 
     | Form | What it gives |
     |---|---|
@@ -78,10 +78,15 @@ class Counts:
     """
 
     def __init__(
-        self, fields: Sequence[str], keys: Sequence[Key], columns: Columns, greatest: Sequence[Optional[Greatest]], doubtful: Any
+        self,
+        fields: Sequence[str],
+        keys: Sequence[Key],
+        columns: Columns,
+        greatest: Sequence[Optional[Greatest]],
+        doubtful: Any,
     ) -> None:
-        """Of sorted keys, and columns in which they go by their number; for each key the greatest wait, and how many of all were
-        doubtful."""
+        """Of sorted keys, and columns in which they go by their number; for each key the greatest wait, and how many of all
+        were doubtful."""
         self.fields = tuple(fields)
         self.keys = tuple(keys)
         self._number = {key: at for at, key in enumerate(self.keys)}
@@ -109,8 +114,8 @@ class Counts:
         return Counts.merged([self, *others])
 
     def by(self, *fields: str) -> Counts:
-        """The same waits, counted by these of the fields; without a word, all under one key, `()`. Raises `ValueError` of a field
-        by which they aren't counted."""
+        """The same waits, counted by these of the fields; without a word, all under one key, `()`. Raises `ValueError` of a
+        field by which they aren't counted."""
         places = [self.fields.index(field) for field in fields]
         return combined(fields, [(self, [tuple(key[at] for at in places) for key in self.keys])])
 
@@ -135,8 +140,8 @@ class Counts:
         return int(self._doubtful.sum())
 
     def rows(self) -> List[CountsRow]:
-        """What is counted under each key, the greatest wait first; of equal ones, the first key. Keys of which all waits were left
-        out stand at the end."""
+        """What is counted under each key, the greatest wait first; of equal ones, the first key. Keys of which all waits were
+        left out stand at the end."""
         return sorted(self._rows(), key=lambda row: -1 if row.max is None else row.max, reverse=True)
 
     def row(self, key: Key) -> Optional[CountsRow]:
@@ -150,8 +155,8 @@ class Counts:
         return next(self.by()._rows(), nothing)
 
     def percentile(self, percent: Percent, key: Optional[Key] = None) -> Optional[int]:
-        """The least number of microseconds such that at least so many per cent of the waits are not longer; None where there are no
-        waits. A number with a point is taken as it is written: 99.9 is 999/10.
+        """The least number of microseconds such that at least so many per cent of the waits are not longer; None where there
+        are no waits. A number with a point is taken as it is written: 99.9 is 999/10.
 
         Raises `ValueError` where it isn't above 0 and at most 100."""
         part = self.by() if key is None else self._part(key)
@@ -159,8 +164,8 @@ class Counts:
         return found[0] if found else None
 
     def histogram(self, key: Optional[Key] = None) -> List[Tuple[int, int]]:
-        """The waits by power of two, from the least to the greatest that there is: pairs of n and how many waits are at most 2^n
-        microseconds long and longer than 2^(n-1); n is 0 for those of 0 and 1."""
+        """The waits by power of two, from the least to the greatest that there is: pairs of n and how many waits are at most
+        2^n microseconds long and longer than 2^(n-1); n is 0 for those of 0 and 1."""
         columns = (self if key is None else self._part(key))._columns
         if not len(columns.micros):
             return []
