@@ -84,11 +84,14 @@ def waking(cpu: int, micros: int, pid: int, *, name: str = "w", target: int = 0,
     return line("<idle>-0", cpu, micros, f"{event}: comm={name} pid={pid} prio=120 target_cpu={target:03}")
 
 
-def switch(cpu: int, micros: int, before: str, after: str, *, state: str = "S", prio: int = 120) -> str:
-    """A switch from a task to another one, each told by its name, `-` and its number."""
+def switch(
+    cpu: int, micros: int, before: str, after: str, *, state: str = "S", prio: int = 120, task: Optional[str] = None
+) -> str:
+    """A switch from a task to another one, each told by its name, `-` and its number; `task` is what stands at the line's
+    beginning, if not the first one."""
     (old, old_pid), (new, new_pid) = (task.rsplit("-", 1) for task in (before, after))
     left = f"prev_comm={old} prev_pid={old_pid} prev_prio=120 prev_state={state}"
-    return line(before, cpu, micros, f"sched_switch: {left} ==> next_comm={new} next_pid={new_pid} next_prio={prio}")
+    return line(task or before, cpu, micros, f"sched_switch: {left} ==> next_comm={new} next_pid={new_pid} next_prio={prio}")
 
 
 def text_of(lines: List[str], *, in_buffer: Optional[int] = None, lost: int = 0) -> bytes:
@@ -156,17 +159,30 @@ def lost_in_middle() -> Known:
     return Known(text_of(lines, lost=5948), tuple(waits), (Gap(3, 5000100, 5600000, 5948),))
 
 
-ODD_NAMES = ("a b", " lead", "a-12 [003] x", "[kworker/0:1]", "comm=x pid=9", "nul\udcff\udcfe", "ümlaut", "", "x\ty", '"q",', "\x1b[31mred")
+ODD_NAMES = (
+    "a b",
+    " lead",
+    "a-12 [003] x",
+    "[kworker/0:1]",
+    "comm=x pid=9",
+    "bad\udcff\udcfe",
+    "\u00fcmlaut",
+    "",
+    "x\ty",
+    '"q",',
+    "\x1b[31mred",
+    "back\\x41slash",
+)
 
 
 def odd_names() -> Known:
     """Names with spaces, brackets, what looks like fields, bytes that aren't UTF-8, quotes, and what a terminal takes for a
-    command. Each task waits 10 us and as many more as its number."""
+    command. The n-th task waits 110 us and ten for each that was before it. At a line's beginning `[003]` would spoil it."""
     lines, waits = [], []
     for at, name in enumerate(ODD_NAMES):
         pid, begin, end = 100 + at, 1000000 + 1000 * at, 1000000 + 1010 * at + 110
         lines += [waking(0, begin, pid, name=name, target=1), switch(1, end, "<idle>-0", f"{name}-{pid}", state="R", prio=at)]
-        lines.append(switch(1, end + 5, f"{name}-{pid}", "<idle>-0"))
+        lines.append(switch(1, end + 5, f"{name}-{pid}", "<idle>-0", task=f"<...>-{pid}" if " [" in name else None))
         waits.append(Wait("woken", pid, name, at, Place(begin, 0, at + 1), Place(end, 1, 2 * at + 1)))
     return Known(text_of(lines), tuple(waits))
 

@@ -6,12 +6,12 @@ import itertools
 from fractions import Fraction
 from typing import Any, Dict, Iterable, Iterator, List, NamedTuple, Optional, Sequence, Tuple, Union
 
-try:
-    import numpy
-except ImportError as missing:
-    raise ImportError("reports over waits need numpy: apt-get install python3-numpy, or pip install numpy") from missing
+from . import _layout, _shown
+from ._part import needed
+from ._values import Log2
 
-from . import _shown
+# None where there is none; nothing is counted then, since waits are arrays.
+numpy: Any = _layout.numpy()
 
 Key = Tuple[Union[int, str], ...]
 Percent = Union[int, float, str, Fraction]
@@ -24,7 +24,7 @@ LOW_BITS = 26
 
 class Greatest(NamedTuple):
     """A key's greatest wait: how long it was, the stamp at which it ended (both in microseconds), where the switch that ended
-    it stands, the task's name there, and of which recording it is, where that was told.
+    it stands, the task's name there, of which recording it is, where that was told, and the task's number.
 
     Of waits that are equally long it is the one that ended first."""
 
@@ -34,6 +34,7 @@ class Greatest(NamedTuple):
     line: int
     name: str = ""
     source: str = ""
+    pid: int = 0
 
 
 class CountsRow(NamedTuple):
@@ -97,7 +98,7 @@ class Counts:
     @classmethod
     def empty(cls, fields: Sequence[str]) -> Counts:
         """Nothing, counted by these fields."""
-        nothing = numpy.zeros(0, "int64")
+        nothing = needed().zeros(0, "int64")
         return cls(fields, (), Columns(nothing, nothing, nothing), (), nothing)
 
     @classmethod
@@ -163,9 +164,9 @@ class Counts:
         found = part._percentiles(percent)
         return found[0] if found else None
 
-    def histogram(self, key: Optional[Key] = None) -> List[Tuple[int, int]]:
+    def histogram(self, key: Optional[Key] = None) -> List[Tuple[Log2, int]]:
         """The waits by power of two, from the least to the greatest that there is: pairs of n and how many waits are at most
-        2^n microseconds long and longer than 2^(n-1); n is 0 for those of 0 and 1."""
+        2^n microseconds long and longer than 2^(n-1); n is 0 for those of 0 and 1. `low` and `high` of n are the bounds."""
         columns = (self if key is None else self._part(key))._columns
         if not len(columns.micros):
             return []
@@ -174,7 +175,7 @@ class Counts:
         counts = numpy.zeros(int(powers.max()) + 1, "int64")
         numpy.add.at(counts, powers, columns.count)
         first = int(powers.min())
-        return list(enumerate(counts[first:].tolist(), first))
+        return [(Log2(power), count) for power, count in enumerate(counts[first:].tolist(), first)]
 
     # ---- how
 
