@@ -3,7 +3,7 @@
 from __future__ import annotations
 
 import re
-from typing import Any, List, NamedTuple, Optional
+from typing import Any, Collection, List, NamedTuple, Optional
 
 from . import _layout
 from ._recording import LIMIT, Choice, Part, Recording
@@ -36,6 +36,8 @@ def take(recording: Recording, choice: Choice) -> None:
     is_event = lines.cpus != NONE
     wanted = is_event & chosen(lines, choice)
     rest, until = None, choice.until
+    if choice.spare and numpy.count_nonzero(wanted) > LIMIT:
+        wanted &= ~named(lines, choice.spare)
     if numpy.count_nonzero(wanted) > LIMIT:
         rest = until = first_left(lines.stamps[wanted])
         wanted &= lines.stamps < until
@@ -102,11 +104,16 @@ def chosen(lines: Lines, choice: Choice) -> Any:
     if choice.cpus is not None:
         mask &= numpy.isin(lines.cpus, list(choice.cpus))
     if choice.events is not None:
-        unknown = set(choice.events) - set(_layout.EVENT_NAMES) | {"wakeup_latency"} & set(choice.events)
-        if unknown:
-            raise ValueError(f"a trace has no event {', '.join(sorted(unknown))}")
-        mask &= numpy.isin(lines.names, [_layout.EVENT_NAMES.index(name) for name in choice.events])
+        mask &= named(lines, choice.events)
     return mask
+
+
+def named(lines: Lines, events: Collection[str]) -> Any:
+    """Which events have one of these names, as a mask."""
+    unknown = set(events) - set(_layout.EVENT_NAMES) | {"wakeup_latency"} & set(events)
+    if unknown:
+        raise ValueError(f"a trace has no event {', '.join(sorted(unknown))}")
+    return needed().isin(lines.names, [_layout.EVENT_NAMES.index(name) for name in events])
 
 
 def in_time(stamps: Any, choice: Choice) -> Any:

@@ -28,16 +28,17 @@ class Part(NamedTuple):
 
 class Choice(NamedTuple):
     """Which events of a trace are wanted: from one stamp on and below another one, of some CPUs, of some names; None where all
-    are."""
+    are. Events of the names that can be spared are left out first, where all together are more than a desk holds."""
 
     start: Optional[int] = None
     until: Optional[int] = None
     cpus: Optional[Collection[int]] = None
     events: Optional[Collection[str]] = None
+    spare: Collection[str] = ()
 
     def is_all(self) -> bool:
         """Whether every event is wanted."""
-        return all(limit is None for limit in self)
+        return self._replace(spare=()) == Choice()
 
 
 class Recording:
@@ -50,6 +51,7 @@ class Recording:
     | `losses`, `holes`, `warning` | what the whole text tells of lost events |
     | `bad_lines` | the numbers, from 1, of lines that were left out since they can't be read |
     | `taken` | a `Part`, where less than the whole was taken, or may have been |
+    | `choice` | which events were asked for: `start`, `until`, `cpus`, `events`, each None where all were |
     """
 
     def __init__(self, path: Optional[str], text: Any, losses: Losses, bad_lines: Tuple[int, ...] = ()) -> None:
@@ -58,6 +60,7 @@ class Recording:
         self.losses = losses
         self.bad_lines = bad_lines
         self.taken: Optional[Part] = None
+        self.choice = Choice()
         # Of each CPU the lines of the whole text that a desk's lines are, where some were left out.
         self._lines: Optional[Dict[int, Any]] = None
 
@@ -133,13 +136,14 @@ def read(
     cpus: Optional[Collection[int]] = None,
     events: Optional[Collection[str]] = None,
     lenient: bool = False,
+    spare: Collection[str] = (),
 ) -> Recording:
     """Reads a trace's text, or a part of it, for a desk; where events of it were lost, it warns with `LossWarning`.
 
     Taken are the events with a stamp from `start` on and below `until`, in microseconds, of the CPUs and of the names that are
     given (`sched_waking`, `sched_wakeup`, `sched_wakeup_new`, `sched_switch`, or `other` for all others); all where nothing is
-    given. Where they are more than a desk holds, the first stretch that fits is taken, and `taken.rest` is the `start` of the
-    next one. With `lenient`, lines that can't be read are left out, and `bad_lines` has their numbers.
+    given. Where they are more than a desk holds, those of the names in `spare` are left out; where that doesn't suffice, the
+    first stretch that fits is taken, and `taken.rest` is the `start` of the next one. With `lenient`, lines that can't be read are left out, and `bad_lines` has their numbers.
 
     `trace` is what `Desk.load` takes; a `Recording` is passed on. Raises `OSError` where it can't be read, `ImportError` where a
     part is to be taken and there is no numpy, and `ValueError` where more events than a desk holds have one stamp."""
@@ -150,7 +154,7 @@ def read(
     recording = Recording(path, text, losses_of(text))
     if lenient:
         leave_out_bad_lines(recording)
-    choice = Choice(start, until, cpus, events)
+    choice = recording.choice = Choice(start, until, cpus, events, spare)
     if not choice.is_all() or lines_of(text) > LIMIT:
         from . import _part
 
