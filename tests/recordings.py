@@ -156,7 +156,7 @@ def lost_in_middle() -> Known:
         Wait("woken", 51, "within", 120, Place(5000050, 0, 2), Place(5644639, 3, 4), True),
         Wait("woken", 50, "before", 120, Place(5700000, 0, 4), Place(5835938, 3, 5)),
     ]
-    return Known(text_of(lines, lost=5948), tuple(waits), (Gap(3, 5000100, 5600000, 5948),))
+    return Known(text_of(lines), tuple(waits), (Gap(3, 5000100, 5600000, 5948),))
 
 
 ODD_NAMES = (

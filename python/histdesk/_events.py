@@ -15,6 +15,8 @@ NAMES = ("task", "comm", "prev_comm", "prev_state")
 SHOWN = ("stamp", "cpu", "line", "name", "task", "common_pid", "comm", "pid", "prio")
 # The last field of the common part; the fields behind it are of some names alone.
 COMMON = Event._fields.index("common_pid")
+# Odd numbers, by which the parts of a name are mixed.
+MIX = (0x9E3779B97F4A7C15, 0xC2B2AE3D27D4EB4F, 0x165667B19E3779F9, 0x27D4EB2F165667C5)
 
 
 class Events(Sequence[Event]):
@@ -154,18 +156,23 @@ def frame_column(array: Any, field: str) -> Any:
 
 
 def texts(array: Any, field: str) -> Any:
-    """A name of all events as texts. Each different name is decoded once."""
-    import pandas
+    """A name of all events as texts."""
+    names, codes = coded(array, field)
+    return names[codes]
 
+
+def coded(array: Any, field: str) -> Tuple[Any, Any]:
+    """The different texts of a name of all events, as an array, and which one each event has. Each is decoded once."""
     numpy = _layout.numpy()
     count, at = len(array), array.dtype.fields[field][1]
     # The 31 bytes and the length behind them, as four numbers; names are the same where all four are.
     structs = numpy.ascontiguousarray(array).view("u1").reshape(count, _layout.EVENT.size)
-    numbers = numpy.ascontiguousarray(structs[:, at : at + 32]).view("u8")
-    codes = numpy.zeros(count, "int64")
-    for number in numbers.T:
-        codes = pandas.factorize(codes * count + pandas.factorize(number)[0])[0]
-    one_of_each = numpy.zeros(codes.max(initial=-1) + 1, "int64")
-    one_of_each[codes] = numpy.arange(count)
-    found = [structs[event, at : at + 32].tobytes() for event in one_of_each]
-    return numpy.array([_layout.text_of(name[:31], name[31]) for name in found], dtype=object)[codes]
+    names = numpy.ascontiguousarray(structs[:, at : at + 32])
+    numbers = names.view("u8")
+    # One number of four, modulo 2^64. Should two names have the same one, all four are compared.
+    mixed = (numbers * numpy.array(MIX, "u8")).sum(axis=1, dtype="u8")
+    _, first, codes = numpy.unique(mixed, return_index=True, return_inverse=True)
+    if not numpy.array_equal(numbers[first][codes], numbers):
+        _, first, codes = numpy.unique(numbers, axis=0, return_index=True, return_inverse=True)
+    found = [names[event].tobytes() for event in first]
+    return numpy.array([_layout.text_of(name[:31], name[31]) for name in found], dtype=object), codes.reshape(count)

@@ -64,7 +64,7 @@ def padded(cells: Sequence[str], widths: Sequence[int], right: Sequence[bool]) -
 def is_right(table: Table, at: int) -> bool:
     """Whether a column is of numbers."""
     values = [row[at] for row in [*table.front, *table.back]]
-    return all(value is None or isinstance(value, int) for value in values)
+    return all(value is None or isinstance(value, (int, float)) for value in values)
 
 
 def in_html(title: str, tables: Sequence[Table], foot: str = "") -> str:

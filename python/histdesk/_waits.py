@@ -1,0 +1,525 @@
+"""Waits: how long each task that could run waited for a processor, from what made it runnable to the switch that ran it."""
+
+from __future__ import annotations
+
+import contextlib
+import itertools
+import warnings
+from collections import namedtuple
+from typing import Any, Collection, Dict, Iterator, List, NamedTuple, Optional, Sequence, Tuple, Union
+
+from . import _layout, _shown
+from ._counts import Columns, Counts, CountsRow, Greatest, Key, numpy, summed
+from ._desk import Desk, Trace
+from ._events import coded
+from ._library import library
+from ._losses import Hole, Losses, LossWarning, seconds
+from ._part import needed
+from ._recording import Recording, read
+from ._trigger import Trigger
+from ._values import Totals
+
+KINDS = ("woken", "new", "preempted")
+WOKEN, NEW, PREEMPTED = range(3)
+# What no wait needs, and is left out first where a trace has more events than a desk holds.
+SPARE = ("sched_wakeup", "other")
+
+# A table's greatest size: so many tasks are told apart.
+SIZE = 131_072
+STAMP = "common_timestamp.usecs"
+RUNNABLE = 'prev_state == "R" || prev_state == "R+"'
+# Of each kind the event, the field with the task, and the filter of what begins a wait. Task 0 is what a CPU runs where nothing
+# waits; it is always runnable, and waits for nothing.
+BEGINS = {
+    "woken": ("sched_waking", "pid", "pid != 0"),
+    "new": ("sched_wakeup_new", "pid", "pid != 0"),
+    "preempted": ("sched_switch", "prev_pid", f"prev_pid != 0 && ({RUNNABLE})"),
+}
+# A task that leaves the processor otherwise has run since it was preempted, though nothing tells of that.
+CLEARS = f"prev_pid != 0 && !({RUNNABLE})"
+ENDS = "next_pid != 0"
+
+# In the order of a row of `array`.
+FIELDS = [
+    ("kind", f"=U{max(map(len, KINDS))}"),
+    ("pid", "=i4"),
+    ("prio", "=i4"),
+    *((f"{end}_{name}", kind) for end in ("begin", "end") for name, kind in _layout.PLACE_FIELDS),
+    ("micros", "=i8"),
+    ("doubtful", "?"),
+]
+# The fields of a place that begins or ends a wait.
+PLACE = [name for name, _ in _layout.PLACE_FIELDS]
+
+# By what waits can be counted: the names of the first columns, and what is told of the greatest wait behind its place.
+BY = {
+    "task": (("task", "pid"), ()),
+    "name": (("name",), ("pid",)),
+    "cpu": (("cpu",), ("task", "pid")),
+    "prio": (("prio",), ("task", "pid")),
+    "kind": ((), ("task", "pid")),
+}
+FIGURES = ("count", "total", "mean", "p50", "p90", "p99", "max")
+ENDED = ("end_stamp", "end_cpu", "end_line")
+# So many rows are shown in a notebook or at a prompt.
+SHOWN = 20
+
+NAMES = {by: (*keys, "kind", *FIGURES, *ENDED, *behind, "doubtful") for by, (keys, behind) in BY.items()}
+TaskRow, NameRow, CpuRow, PrioRow, KindRow = (namedtuple(f"{by.title()}Row", names) for by, names in NAMES.items())  # type: ignore
+ROWS = dict(zip(BY, (TaskRow, NameRow, CpuRow, PrioRow, KindRow)))
+
+
+class Held(NamedTuple):
+    """Of what waits are told: how many events, the first and the last stamp among them in microseconds (None where there are
+    none), and their CPUs."""
+
+    events: int
+    first: Optional[int]
+    last: Optional[int]
+    cpus: Tuple[int, ...]
+
+
+class About(NamedTuple):
+    """What else is known of some waits: of which file they are, of what they are told, what was lost, where the next part of the
+    recording begins, and of each kind how many events began waits and how many of these found no room."""
+
+    path: Optional[str]
+    held: Held
+    losses: Losses
+    rest: Optional[int]
+    begun: Dict[str, Totals]
+
+
+class Waits:
+    """Waits of tasks for a processor, in the order in which they ended; `waits` makes it.
+
+    A wait ends with the `sched_switch` that runs a task. It is `woken` where a `sched_waking` of the task began it, `new` where
+    its `sched_wakeup_new` did, and `preempted` where a `sched_switch` did that took the processor from it while it was runnable.
+    A waking of a task that still ran, or that was preempted and not yet run again, begins none. A wait is *doubtful* where events
+    were lost in its time, on whichever CPU: it may be false, and is counted only where that is asked for.
+
+    | Form | What it gives |
+    |---|---|
+    | `waits.array` | a numpy record array: `kind`, `pid`, `prio`, `begin_stamp`, `begin_cpu`, `begin_line`, the same of `end_`, \
+`micros`, `doubtful`. Stamps are in microseconds; a CPU and a line name an event of the whole recording |
+    | `waits.names`, `waits.name(3)` | the names of the tasks, as the switches have them that run them |
+    | `waits.table("task")` | a row for each task and kind, the greatest wait first; or by `"name"`, `"cpu"`, `"prio"`, `"kind"` |
+    | `waits.counts("task")` | `Counts`, which adds up exactly over many recordings, and has other percentiles and histograms |
+    | `waits.only(kinds=["woken"], cpus=[2])` | those of a kind, or that ended on a CPU; `waits[mask]` those of a numpy mask |
+    | `waits.to_pandas()` | a DataFrame of the waits one by one; with a word, of that table |
+    """
+
+    def __init__(self, array: Any, names: Any, codes: Any, about: About) -> None:
+        """Of an array, the different names of tasks, which of them each wait's has, and what else is known."""
+        self.array = array
+        self._names = names
+        self._codes = codes
+        self._about = about
+
+    # ---- what is known
+
+    @property
+    def path(self) -> Optional[str]:
+        """The file of which they are, or None."""
+        return self._about.path
+
+    @property
+    def held(self) -> Held:
+        """Of how many events they are told, from when to when and of which CPUs these are."""
+        return self._about.held
+
+    @property
+    def holes(self) -> Tuple[Hole, ...]:
+        """Where events were lost."""
+        return self._about.losses.holes
+
+    @property
+    def warning(self) -> Optional[str]:
+        """What was lost, in one line; None where nothing was."""
+        return self._about.losses.warning
+
+    @property
+    def dropped(self) -> int:
+        """How many events that would begin a wait found no room, since more than 131,072 tasks are there: these waits are missing."""
+        return sum(totals.dropped for totals in self._about.begun.values())
+
+    @property
+    def doubtful(self) -> int:
+        """How many of the waits are doubtful."""
+        return int(self.array.doubtful.sum())
+
+    def remarks(self) -> List[str]:
+        """What else is to be known before the numbers are believed, a line each."""
+        about, told = self._about, []
+        if self.dropped:
+            told.append(f"{self.dropped} waits are missing: of more than {SIZE} tasks, only the first ones are told apart")
+        if about.held.events and not about.begun["woken"].hits:
+            told.append("there is no sched_waking, so nothing is known of waits that a waking begins")
+        if about.rest is not None:
+            told.append(f"this is a part of the recording; the next one begins at {seconds(about.rest)}")
+        return told
+
+    def __len__(self) -> int:
+        return len(self.array)
+
+    # ---- the waits
+
+    @property
+    def names(self) -> Any:
+        """The name of each wait's task, as a numpy array of texts."""
+        return self._names[self._codes]
+
+    def name(self, at: int) -> str:
+        """The name of a wait's task, by the wait's index. Raises `IndexError` where there is none."""
+        return str(self._names[self._codes[at]])
+
+    def __getitem__(self, chosen: Any) -> Waits:
+        """Those that a numpy mask, a list of indices or a slice chooses."""
+        if isinstance(chosen, int):
+            raise TypeError("a wait alone is waits.array[at]; a mask or a slice chooses some of them")
+        return Waits(self.array[chosen], self._names, self._codes[chosen], self._about)
+
+    def only(self, *, kinds: Optional[Collection[str]] = None, cpus: Optional[Collection[int]] = None) -> Waits:
+        """Those of these kinds, and of those the ones that ended on these CPUs; None is all. Raises `ValueError` of another kind."""
+        unknown = set(kinds or ()) - set(KINDS)
+        if unknown:
+            raise ValueError(f"{sorted(unknown)[0]!r} is no kind of wait; the kinds are {', '.join(KINDS)}")
+        mask = numpy.ones(len(self), bool)
+        if kinds is not None:
+            mask &= numpy.isin(kind_codes(self.array), [KINDS.index(kind) for kind in kinds])
+        if cpus is not None:
+            mask &= numpy.isin(self.array.end_cpu, list(cpus))
+        return self[mask]
+
+    # ---- counted
+
+    def counts(self, by: str = "task", doubtful: bool = False) -> Counts:
+        """The waits counted by kind and by `"task"` (the key is its number), by `"name"`, by the `"cpu"` on which they ended, by
+        the `"prio"` with which the task ran then, or by `"kind"` alone; doubtful ones only where that is asked for.
+
+        Raises `ValueError` of another word."""
+        parts, codes = self._keys(by)
+        taken = numpy.ones(len(self), bool) if doubtful else ~self.array.doubtful
+        key, micros = codes[taken], self.array.micros[taken]
+        columns = summed(key, micros, numpy.ones(len(key), "int64"))
+        doubts = numpy.bincount(codes[self.array.doubtful], minlength=len(parts))
+        fields = ("pid" if by == "task" else by, "kind")[by == "kind" :]
+        return Counts(fields, parts, columns, self._greatest(codes, taken, len(parts)), doubts)
+
+    def _keys(self, by: str) -> Tuple[List[Key], Any]:
+        """The different keys in order, and the number of each wait's."""
+        kinds = kind_codes(self.array)
+        if by == "name":
+            numbers, values = self._codes, self._names
+        elif by in BY and by != "kind":
+            values, numbers = numpy.unique(self.array[{"task": "pid", "cpu": "end_cpu"}.get(by, by)], return_inverse=True)
+        elif by == "kind":
+            numbers, values = numpy.zeros(len(self), "int64"), None
+        else:
+            raise ValueError(f"waits aren't counted by {by!r}; they are by {', '.join(BY)}")
+        found, codes = numpy.unique(numbers * len(KINDS) + kinds, return_inverse=True)
+        known = [divmod(number, len(KINDS)) for number in found.tolist()]
+        texts = None if values is None else values.tolist()
+        keys: List[Key] = [(KINDS[kind],) if texts is None else (texts[at], KINDS[kind]) for at, kind in known]
+        order = sorted(range(len(keys)), key=keys.__getitem__)
+        places = numpy.empty(len(keys), "int64")
+        places[order] = numpy.arange(len(keys))
+        return [keys[at] for at in order], places[codes]
+
+    def _greatest(self, codes: Any, taken: Any, count: int) -> List[Optional[Greatest]]:
+        """The greatest wait of each key among those that are taken; of equal ones, the first that ended."""
+        chosen = numpy.flatnonzero(taken)
+        order = chosen[numpy.lexsort((-self.array.micros[chosen], codes[chosen]))]
+        keys, first = numpy.unique(codes[order], return_index=True)
+        waits = order[first]
+        found: List[Optional[Greatest]] = [None] * count
+        columns = [self.array[field][waits].tolist() for field in ("micros", *ENDED)]
+        rows = zip(*columns, self.names_of(waits), itertools.repeat(""), self.array.pid[waits].tolist())
+        for key, row in zip(keys.tolist(), rows):
+            found[key] = Greatest(*row)
+        return found
+
+    def names_of(self, waits: Any) -> List[str]:
+        """The names of the tasks of some waits, by an array of indices."""
+        names: List[str] = self._names[self._codes[waits]].tolist()
+        return names
+
+    def table(self, by: str = "task", doubtful: bool = False) -> List[Any]:
+        """What is counted, the greatest wait first: named tuples of the key's parts and the kind, `count`, `total`, `mean`, `p50`,
+        `p90`, `p99` and `max` in microseconds, where the greatest wait ended (`end_stamp`, `end_cpu`, `end_line`) and whose it
+        was, and how many more were `doubtful` (or were among them, where they are counted too).
+
+        By `"task"`, the name is that at the greatest wait, since a task may change it. Figures are None where all waits of a row
+        are doubtful. Raises `ValueError` of another word for `by`."""
+        counts = self.counts(by, doubtful)
+        rows = counts.rows()
+        names = self._last_names() if by == "task" and any(row.greatest is None for row in rows) else {}
+        return [self._row(by, row, names) for row in rows]
+
+    def _last_names(self) -> Dict[int, str]:
+        """The last name of each task."""
+        pids, last = numpy.unique(self.array.pid[::-1], return_index=True)
+        return dict(zip(pids.tolist(), self.names_of(len(self) - 1 - last)))
+
+    def _row(self, by: str, row: CountsRow, names: Dict[int, str]) -> Any:
+        """A row of the table."""
+        wait = row.greatest
+        ended = (wait.stamp, wait.cpu, wait.line) if wait else (None, None, None)
+        whose = {"task": wait.name, "pid": wait.pid} if wait else {}
+        key: Sequence[Any] = row.key
+        if by == "task":
+            key = (wait.name if wait else names[key[0]], *key)
+        behind = [whose.get(field) for field in BY[by][1]]
+        return ROWS[by](*key, *row[1 : 1 + len(FIGURES)], *ended, *behind, row.doubtful)
+
+    def to_pandas(self, by: Optional[str] = None, doubtful: bool = False) -> Any:
+        """A DataFrame of the waits one by one, with the names of the tasks in a column `task`; with a word for `by`, of that
+        `table`. Raises `ImportError` where pandas isn't there."""
+        import pandas  # type: ignore[import]
+
+        if by is not None:
+            frame = pandas.DataFrame(self.table(by, doubtful), columns=NAMES[by])
+            whole = [name for name in ("total", "p50", "p90", "p99", "max", *ENDED) if len(frame)]
+            return frame.astype({name: "Int64" for name in whole})
+        columns = {name: self.array[name] for name, _ in FIELDS}
+        return pandas.DataFrame({"task": self.names, **columns})
+
+    # ---- how they are shown
+
+    def lines(self, doubtful: bool = False) -> List[str]:
+        """What they are of, and how many they are of each kind, in lines of text; doubtful ones counted where that is asked for."""
+        counted = self.array[numpy.ones(len(self), bool) if doubtful else ~self.array.doubtful]
+        counts = numpy.bincount(kind_codes(counted), minlength=len(KINDS)).tolist()
+        told = f"{len(counted)} waits: " + ", ".join(f"{count} {kind}" for count, kind in zip(counts, KINDS))
+        told += "; times in microseconds"
+        lines = [_shown.shown(f"{self.path or 'a desk'}: {of(self.held)}"), told]
+        if self.doubtful:
+            how = "are counted, though they" if doubtful else "are left out: they"
+            lines.append(f"{self.doubtful} doubtful waits {how} may be false, since events were lost in their time")
+        return [*lines, *self.remarks()]
+
+    def _told(self) -> Tuple[List[str], List[_shown.Table], List[str]]:
+        """What is shown: lines, the table, and what was lost."""
+        return self.lines(), [table_of("task", self.table(), SHOWN)], [self.warning] if self.warning else []
+
+    def __repr__(self) -> str:
+        lines, tables, foot = self._told()
+        return "\n".join(["histdesk.Waits of " + lines[0], *lines[1:], *map(_shown.in_text, tables), *foot])
+
+    def _repr_html_(self) -> str:
+        lines, tables, foot = self._told()
+        return _shown.in_html("; ".join(lines), tables, "".join(foot))
+
+
+class Stamp(int):
+    """A stamp in microseconds that is shown as traces have it."""
+
+    def __str__(self) -> str:
+        return seconds(self)
+
+
+def kind_codes(array: Any) -> Any:
+    """The numbers of the kinds of some waits."""
+    return (array.kind == KINDS[NEW]) * NEW + (array.kind == KINDS[PREEMPTED]) * PREEMPTED
+
+
+def of(held: Held) -> str:
+    """Of what waits are told, in words."""
+    if held.first is None or held.last is None:
+        return "no events"
+    stretch = f"from {seconds(held.first)} to {seconds(held.last)} ({seconds(held.last - held.first)} s)"
+    return f"{held.events} events {stretch} on CPU{'s' * (len(held.cpus) > 1)} {ranges(held.cpus)}"
+
+
+def ranges(numbers: Sequence[int]) -> str:
+    """Ascending numbers as ranges: 0-3,6."""
+    told = []
+    for _, run in itertools.groupby(enumerate(numbers), lambda pair: pair[1] - pair[0]):
+        found = [number for _, number in run]
+        told.append(str(found[0]) if len(found) == 1 else f"{found[0]}-{found[-1]}")
+    return ",".join(told)
+
+
+def table_of(by: str, rows: Sequence[Any], most: Optional[int]) -> _shown.Table:
+    """The first rows of a table as people read them; the column of doubtful waits is there where some are."""
+    keys, behind = BY[by]
+    is_doubtful = any(row.doubtful for row in rows)
+    names = [*keys, "kind", "count", "mean", "p50", "p90", "p99", "max", "at", "where", *behind, *["doubtful"] * is_doubtful]
+    front = [shown_row(row, behind, is_doubtful) for row in rows[:most]]
+    return _shown.Table(names, front, [], len(rows) - len(front))
+
+
+def shown_row(row: Any, behind: Sequence[str], is_doubtful: bool) -> List[Any]:
+    """A row, as it is shown."""
+    at = None if row.end_stamp is None else Stamp(row.end_stamp)
+    where = None if row.end_stamp is None else f"{row.end_cpu}:{row.end_line}"
+    mean = None if row.mean is None else round(row.mean, 1)
+    key = row[: row._fields.index("count")]
+    last = [row.doubtful] if is_doubtful else []
+    return [*key, row.count, mean, row.p50, row.p90, row.p99, row.max, at, where, *(getattr(row, name) for name in behind), *last]
+
+
+# ---- how they are found
+
+
+def waits(trace: Union[Trace, Recording, Desk]) -> Waits:
+    """The waits of a recording: of a trace (what `Desk.load` takes), of what `read` has read, or of what a desk holds.
+
+    Of a trace with more events than a desk holds, those that no wait needs are left out, and if that doesn't suffice, the first
+    stretch that fits is taken, which `remarks` of the answer says. A desk of yours is asked by triggers that are attached to it
+    and taken away again; it is left as it was, but that their ids aren't given again. Events that you have struck are no longer
+    there, so a wait that they began or ended is another one or none.
+
+    Where events were lost, it warns with `LossWarning`. Raises what `read` and `Desk.load` raise, `ValueError` of a recording that
+    holds some CPUs alone, since tasks are woken from any, and `ImportError` where there is no numpy.
+
+    >>> waits(b'''
+    ... sim-1 [000] d.h.. 1.000100: sched_waking: comm=w pid=42 prio=120 target_cpu=000
+    ... sim-1 [000] d.... 1.000150: sched_switch: prev_comm=sim prev_pid=1 prev_prio=120 prev_state=R ==> next_comm=w next_pid=42 next_prio=120
+    ... sim-1 [000] d.... 1.000170: sched_switch: prev_comm=w prev_pid=42 prev_prio=120 prev_state=S ==> next_comm=sim next_pid=1 next_prio=120
+    ... ''')  # doctest: +SKIP
+    """
+    needed()
+    if isinstance(trace, Desk):
+        return waits_of(trace, None)
+    with warnings.catch_warnings():
+        warnings.simplefilter("ignore", LossWarning)
+        recording = read(trace, spare=SPARE)
+    if recording.choice.cpus is not None:
+        raise ValueError("waits need the events of all CPUs, since tasks are woken from any; waits(..).only(cpus=[..]) chooses")
+    if recording.warning and not isinstance(trace, Recording):
+        warnings.warn(recording.warning, LossWarning, stacklevel=2)
+    with recording.desk() as desk:
+        return waits_of(desk, recording)
+
+
+def waits_of(desk: Desk, recording: Optional[Recording]) -> Waits:
+    """The waits that a desk holds, with lines of the whole recording if it holds one."""
+    begun = {kind: begins(desk, kind) for kind in KINDS}
+    ends = desk.events_matching("sched_switch", ENDS).array
+    losses = Losses(desk.holes) if recording is None else recording.losses
+    index = Index(ends)
+    kinds, places = chosen({kind: index.begins(latencies) for kind, (latencies, _) in begun.items()}, ends, losses.holes)
+    is_wait = places.stamp >= 0
+    ends, kinds, places = ends[is_wait], kinds[is_wait], places[is_wait]
+    array = numpy.zeros(len(ends), FIELDS).view(numpy.recarray)
+    array.kind, array.pid, array.prio = numpy.array(KINDS)[kinds], ends.pid, ends.prio
+    for end, found in (("begin", places), ("end", ends)):
+        array[f"{end}_stamp"], array[f"{end}_cpu"] = found.stamp, found.cpu
+        array[f"{end}_line"] = found.line if recording is None else recording.lines(found.cpu, found.line)
+    array.micros = ends.stamp - places.stamp
+    array.doubtful = doubts(places.stamp, ends.stamp, losses.holes)
+    rest = recording.taken.rest if recording and recording.taken else None
+    path = recording.path if recording else None
+    totals = {kind: counted for kind, (_, counted) in begun.items()}
+    return Waits(array, *coded(ends, "comm"), About(path, held_by(desk), losses, rest, totals))
+
+
+def held_by(desk: Desk) -> Held:
+    """What a desk holds."""
+    cpus = desk.cpus()
+    events = sum(cpus.values())
+    first, last = desk._session.ends(library.histdesk_events) if events else (None, None)
+    return Held(events, first, last, tuple(cpu for cpu, count in sorted(cpus.items()) if count))
+
+
+def begins(desk: Desk, kind: str) -> Tuple[Any, Totals]:
+    """The latencies from what begins waits of a kind to the switches that end them, and what the saver of their stamps has counted."""
+    event, key, condition = BEGINS[kind]
+    with borrowed(desk) as attached:
+        name = free_name(desk)
+        saver = attached(event, f"hist:keys={key}:size={SIZE}:{name}={STAMP} if {condition}")
+        if kind == "preempted":
+            # What it reads is no longer there for the reader.
+            attached("sched_switch", f"hist:keys=prev_pid:cleared={STAMP}-${name} if {CLEARS}")
+        reader = attached("sched_switch", f"hist:keys=next_pid:waited={STAMP}-${name} if {ENDS}")
+        return reader.latencies(), saver.totals()
+
+
+def free_name(desk: Desk) -> str:
+    """A name for a variable that no trigger of the desk has."""
+    texts = " ".join(trigger.canonical for trigger in desk.triggers())
+    return next(name for name in (f"begin{number}" for number in itertools.count()) if name not in texts)
+
+
+@contextlib.contextmanager
+def borrowed(desk: Desk) -> Iterator[Any]:
+    """What attaches triggers to a desk that are taken away again at the end, however it comes."""
+    kept = {trigger.id for trigger in desk.triggers()}
+    known: List[Trigger] = []
+
+    def attached(event: str, text: str) -> Trigger:
+        known.append(desk.attach(event, text))
+        return known[-1]
+
+    try:
+        yield attached
+    finally:
+        # An interrupt may come before `known` has the last one.
+        with contextlib.suppress(MemoryError):
+            known = [trigger for trigger in desk.triggers() if trigger.id not in kept]
+        for trigger in reversed(known):
+            trigger.remove()
+
+
+class Index:
+    """Switches that run a task, by where they stand."""
+
+    def __init__(self, ends: Any) -> None:
+        self._numbers = numbered(ends.cpu, ends.line)
+        self._order = numpy.argsort(self._numbers)
+
+    def begins(self, latencies: Any) -> Any:
+        """For each switch the place at which a wait begins, of the latencies of a kind; its stamp is -1 where none does."""
+        places = numpy.zeros(len(self._numbers), _layout.place_type()).view(numpy.recarray)
+        places.stamp = -1
+        # A switch from a task to itself begins none.
+        is_one = (latencies.saved_cpu != latencies.read_cpu) | (latencies.saved_line != latencies.read_line)
+        latencies = latencies[is_one]
+        read = numbered(latencies.read_cpu, latencies.read_line)
+        at = self._order[numpy.searchsorted(self._numbers, read, sorter=self._order)]
+        for field in PLACE:
+            places[field][at] = latencies[f"saved_{field}"]
+        return places
+
+
+def numbered(cpus: Any, lines: Any) -> Any:
+    """One number for each CPU and line."""
+    return cpus.astype("u8") << numpy.uint64(32) | lines
+
+
+def later(one: Any, other: Any) -> Any:
+    """Where one place is behind another in the order in which events go past triggers."""
+    is_later = one.line > other.line
+    for field in ("cpu", "stamp"):
+        is_later = (one[field] > other[field]) | (one[field] == other[field]) & is_later
+    return is_later
+
+
+def chosen(places: Dict[str, Any], ends: Any, holes: Collection[Hole]) -> Tuple[Any, Any]:
+    """Which wait each switch ends: its kind's number, and where it began.
+
+    A task that was preempted waits since then: a waking that came before, while it ran, or behind, while it was queued, began
+    nothing. But where its number was given to a new task the later one of both counts, and so of a waking and a new task. And
+    where events were lost since it was preempted, and none since it was woken, it waits at least since it was woken."""
+    woken, new, preempted = (places[kind] for kind in KINDS)
+    is_new = later(new, woken)
+    found = woken.copy()
+    found[is_new] = new[is_new]
+    is_sure = (found.stamp >= 0) & ~doubts(found.stamp, ends.stamp, holes) & doubts(preempted.stamp, ends.stamp, holes)
+    is_preempted = (preempted.stamp >= 0) & ~later(new, preempted) & ~is_sure
+    found[is_preempted] = preempted[is_preempted]
+    return numpy.where(is_preempted, PREEMPTED, numpy.where(is_new, NEW, WOKEN)), found
+
+
+def doubts(begins: Any, ends: Any, holes: Collection[Hole]) -> Any:
+    """Which waits, by the stamps at which they begin and end, span a hole or a part of one."""
+    if not holes:
+        return numpy.zeros(len(begins), bool)
+    first, last = -1, numpy.iinfo("int64").max
+    bounds = sorted((first if hole.after is None else hole.after, last if hole.before is None else hole.before) for hole in holes)
+    afters, befores = numpy.array(bounds, "int64").T
+    # How many holes begin before each end, and how far these reach.
+    reach = numpy.concatenate([[first], numpy.maximum.accumulate(befores)])
+    return reach[numpy.searchsorted(afters, ends)] > begins
+
