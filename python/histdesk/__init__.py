@@ -42,6 +42,7 @@ keeps them. numpy and pandas are used where they are there. The library `libhist
 environment variable `HISTDESK_LIBRARY` says, then in the folders around the package, then where the loader looks.
 """
 
+from ._counts import Counts, CountsRow, Greatest
 from ._desk import Desk
 from ._events import Events
 from ._loaded import Lane, Loaded
@@ -50,14 +51,19 @@ from ._recording import Part, Recording, read
 from ._refused import Refused, refusal_words
 from ._trigger import Trigger
 from ._values import Bucket, Changed, Edit, Event, Latency, Log2, Place, Totals
+from ._waits import Waits, waits
+from ._written import unescaped
 
 __all__ = [
     "Bucket",
     "Changed",
+    "Counts",
+    "CountsRow",
     "Desk",
     "Edit",
     "Event",
     "Events",
+    "Greatest",
     "Hole",
     "Lane",
     "Latency",
@@ -71,8 +77,11 @@ __all__ = [
     "Refused",
     "Totals",
     "Trigger",
+    "Waits",
     "read",
     "refusal_words",
+    "unescaped",
+    "waits",
 ]
 
 # They are known by the package's name, wherever in it they stand.

@@ -137,6 +137,8 @@ def run(tool: str, function: Callable[[], int]) -> NoReturn:
     """Runs a tool and ends the process with its status. What goes wrong outside of it is one line on standard error, and status
     2; a reader of its output that has gone ends it quietly, and Ctrl-C by that signal."""
     status = 2
+    # What the terminal's encoding hasn't is escaped.
+    sys.stdout.reconfigure(errors="backslashreplace")  # type: ignore[union-attr]
     try:
         status = function()
         sys.stdout.flush()

@@ -6,12 +6,9 @@ import itertools
 from fractions import Fraction
 from typing import Any, Dict, Iterable, Iterator, List, NamedTuple, Optional, Sequence, Tuple, Union
 
-from . import _layout, _shown
+from . import _shown
 from ._part import needed
 from ._values import Log2
-
-# None where there is none; nothing is counted then, since waits are arrays.
-numpy: Any = _layout.numpy()
 
 Key = Tuple[Union[int, str], ...]
 Percent = Union[int, float, str, Fraction]
@@ -167,7 +164,7 @@ class Counts:
     def histogram(self, key: Optional[Key] = None) -> List[Tuple[Log2, int]]:
         """The waits by power of two, from the least to the greatest that there is: pairs of n and how many waits are at most
         2^n microseconds long and longer than 2^(n-1); n is 0 for those of 0 and 1. `low` and `high` of n are the bounds."""
-        columns = (self if key is None else self._part(key))._columns
+        numpy, columns = needed(), (self if key is None else self._part(key))._columns
         if not len(columns.micros):
             return []
         # The number of bits of the microseconds less one; whole numbers below 2^53 are exact as floats.
@@ -185,18 +182,16 @@ class Counts:
         if at is None:
             return Counts.empty(self.fields)
         column = self._columns
-        part = slice(*numpy.searchsorted(column.key, [at, at + 1]))
+        part = slice(*column.key.searchsorted([at, at + 1]))
         columns = Columns(column.key[part] - at, column.micros[part], column.count[part])
         return Counts(self.fields, [key], columns, [self._greatest[at]], self._doubtful[at : at + 1])
 
-    def _bounds(self) -> Any:
-        """Where the columns of each key begin, and behind them their length."""
-        return numpy.searchsorted(self._columns.key, numpy.arange(len(self.keys) + 1))
-
     def _sums(self, numbers: Any) -> Any:
         """The sums of some numbers, one for each pair of the columns, by key."""
-        running = numpy.concatenate([[0], numpy.cumsum(numbers)])
-        return numpy.diff(running[self._bounds()])
+        numpy = needed()
+        # Where the columns of each key begin, and behind them their length.
+        bounds = self._columns.key.searchsorted(numpy.arange(len(self.keys) + 1))
+        return numpy.diff(numpy.concatenate([[0], numbers.cumsum()])[bounds])
 
     def _totals(self) -> List[int]:
         """How many microseconds all waits of each key are together."""
@@ -209,12 +204,11 @@ class Counts:
         share = Fraction(str(percent)) / 100
         if not 0 < share <= 1:
             raise ValueError(f"a percentile is above 0 and at most 100, and this is {percent}")
-        counts = self._sums(self._columns.count).tolist()
+        numpy, counts = needed(), self._sums(self._columns.count).tolist()
         ranks = numpy.array([-(-count * share.numerator // share.denominator) for count in counts], "int64")
         # How many waits stand up to each pair; that of the rank is the first which reaches it.
-        running = numpy.cumsum(self._columns.count)
         before = numpy.cumsum([0, *counts])[:-1]
-        places = numpy.searchsorted(running, before + ranks)
+        places = self._columns.count.cumsum().searchsorted(before + ranks)
         return [int(self._columns.micros[at]) if count else None for at, count in zip(places.tolist(), counts)]
 
     def _rows(self) -> Iterator[CountsRow]:
@@ -231,7 +225,7 @@ class Counts:
             return NotImplemented
         alike = (self.fields, self.keys, self._greatest) == (other.fields, other.keys, other._greatest)
         pairs = zip([*self._columns, self._doubtful], [*other._columns, other._doubtful])
-        return alike and all(numpy.array_equal(one, another) for one, another in pairs)
+        return alike and all(needed().array_equal(one, another) for one, another in pairs)
 
     __hash__ = None  # type: ignore[assignment]
 
@@ -253,6 +247,7 @@ def cells(row: CountsRow) -> List[Any]:
 
 def summed(key: Any, micros: Any, count: Any) -> Columns:
     """Columns of pairs in any order, which may stand there more than once."""
+    numpy = needed()
     order = numpy.lexsort((micros, key))
     key, micros, count = key[order], micros[order], count[order]
     is_first = numpy.ones(len(key), bool)
@@ -264,7 +259,7 @@ def summed(key: Any, micros: Any, count: Any) -> Columns:
 
 def combined(fields: Sequence[str], parts: Sequence[Tuple[Counts, Sequence[Key]]]) -> Counts:
     """Some counts added up; of each, the keys under which its own keys are counted there."""
-    keys = sorted({key for _, named in parts for key in named})
+    numpy, keys = needed(), sorted({key for _, named in parts for key in named})
     number = {key: at for at, key in enumerate(keys)}
     places = [numpy.array([number[key] for key in named], "int64") for _, named in parts]
     key = [place[part._columns.key] for place, (part, _) in zip(places, parts)]

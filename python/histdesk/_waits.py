@@ -9,7 +9,7 @@ from collections import namedtuple
 from typing import Any, Collection, Dict, Iterator, List, NamedTuple, Optional, Sequence, Tuple, Union
 
 from . import _layout, _shown
-from ._counts import Columns, Counts, CountsRow, Greatest, Key, numpy, summed
+from ._counts import Counts, CountsRow, Greatest, Key, summed
 from ._desk import Desk, Trace
 from ._events import coded
 from ._library import library
@@ -61,6 +61,8 @@ BY = {
 }
 FIGURES = ("count", "total", "mean", "p50", "p90", "p99", "max")
 ENDED = ("end_stamp", "end_cpu", "end_line")
+# What pandas takes columns of a table for, if not for whole numbers.
+FRAMED = {"task": "object", "name": "object", "kind": "object", "mean": "float64"}
 # So many rows are shown in a notebook or at a prompt.
 SHOWN = 20
 
@@ -184,6 +186,7 @@ class Waits:
         unknown = set(kinds or ()) - set(KINDS)
         if unknown:
             raise ValueError(f"{sorted(unknown)[0]!r} is no kind of wait; the kinds are {', '.join(KINDS)}")
+        numpy = needed()
         mask = numpy.ones(len(self), bool)
         if kinds is not None:
             mask &= numpy.isin(kind_codes(self.array), [KINDS.index(kind) for kind in kinds])
@@ -198,17 +201,17 @@ class Waits:
         the `"prio"` with which the task ran then, or by `"kind"` alone; doubtful ones only where that is asked for.
 
         Raises `ValueError` of another word."""
-        parts, codes = self._keys(by)
+        numpy, (keys, codes) = needed(), self._keys(by)
         taken = numpy.ones(len(self), bool) if doubtful else ~self.array.doubtful
         key, micros = codes[taken], self.array.micros[taken]
         columns = summed(key, micros, numpy.ones(len(key), "int64"))
-        doubts = numpy.bincount(codes[self.array.doubtful], minlength=len(parts))
+        doubts = numpy.bincount(codes[self.array.doubtful], minlength=len(keys))
         fields = ("pid" if by == "task" else by, "kind")[by == "kind" :]
-        return Counts(fields, parts, columns, self._greatest(codes, taken, len(parts)), doubts)
+        return Counts(fields, keys, columns, self._greatest(codes, taken, len(keys)), doubts)
 
     def _keys(self, by: str) -> Tuple[List[Key], Any]:
         """The different keys in order, and the number of each wait's."""
-        kinds = kind_codes(self.array)
+        numpy, kinds = needed(), kind_codes(self.array)
         if by == "name":
             numbers, values = self._codes, self._names
         elif by in BY and by != "kind":
@@ -228,6 +231,7 @@ class Waits:
 
     def _greatest(self, codes: Any, taken: Any, count: int) -> List[Optional[Greatest]]:
         """The greatest wait of each key among those that are taken; of equal ones, the first that ended."""
+        numpy = needed()
         chosen = numpy.flatnonzero(taken)
         order = chosen[numpy.lexsort((-self.array.micros[chosen], codes[chosen]))]
         keys, first = numpy.unique(codes[order], return_index=True)
@@ -258,7 +262,7 @@ class Waits:
 
     def _last_names(self) -> Dict[int, str]:
         """The last name of each task."""
-        pids, last = numpy.unique(self.array.pid[::-1], return_index=True)
+        pids, last = needed().unique(self.array.pid[::-1], return_index=True)
         return dict(zip(pids.tolist(), self.names_of(len(self) - 1 - last)))
 
     def _row(self, by: str, row: CountsRow, names: Dict[int, str]) -> Any:
@@ -278,9 +282,8 @@ class Waits:
         import pandas  # type: ignore[import]
 
         if by is not None:
-            frame = pandas.DataFrame(self.table(by, doubtful), columns=NAMES[by])
-            whole = [name for name in ("total", "p50", "p90", "p99", "max", *ENDED) if len(frame)]
-            return frame.astype({name: "Int64" for name in whole})
+            rows = self.table(by, doubtful)
+            return pandas.DataFrame(rows, columns=NAMES[by]).astype({name: FRAMED.get(name, "Int64") for name in NAMES[by]})
         columns = {name: self.array[name] for name, _ in FIELDS}
         return pandas.DataFrame({"task": self.names, **columns})
 
@@ -288,11 +291,11 @@ class Waits:
 
     def lines(self, doubtful: bool = False) -> List[str]:
         """What they are of, and how many they are of each kind, in lines of text; doubtful ones counted where that is asked for."""
-        counted = self.array[numpy.ones(len(self), bool) if doubtful else ~self.array.doubtful]
-        counts = numpy.bincount(kind_codes(counted), minlength=len(KINDS)).tolist()
+        counted = self.array if doubtful else self.array[~self.array.doubtful]
+        counts = needed().bincount(kind_codes(counted), minlength=len(KINDS)).tolist()
         told = f"{len(counted)} waits: " + ", ".join(f"{count} {kind}" for count, kind in zip(counts, KINDS))
         told += "; times in microseconds"
-        lines = [_shown.shown(f"{self.path or 'a desk'}: {of(self.held)}"), told]
+        lines = [_shown.shown(f"{self.path}: {of(self.held)}" if self.path else of(self.held)), told]
         if self.doubtful:
             how = "are counted, though they" if doubtful else "are left out: they"
             lines.append(f"{self.doubtful} doubtful waits {how} may be false, since events were lost in their time")
@@ -379,6 +382,7 @@ def waits(trace: Union[Trace, Recording, Desk]) -> Waits:
     ... sim-1 [000] d.... 1.000170: sched_switch: prev_comm=w prev_pid=42 prev_prio=120 prev_state=S ==> next_comm=sim next_pid=1 next_prio=120
     ... ''')  # doctest: +SKIP
     """
+    # Asked first, before anything takes long.
     needed()
     if isinstance(trace, Desk):
         return waits_of(trace, None)
@@ -395,7 +399,7 @@ def waits(trace: Union[Trace, Recording, Desk]) -> Waits:
 
 def waits_of(desk: Desk, recording: Optional[Recording]) -> Waits:
     """The waits that a desk holds, with lines of the whole recording if it holds one."""
-    begun = {kind: begins(desk, kind) for kind in KINDS}
+    numpy, begun = needed(), {kind: begins(desk, kind) for kind in KINDS}
     ends = desk.events_matching("sched_switch", ENDS).array
     losses = Losses(desk.holes) if recording is None else recording.losses
     index = Index(ends)
@@ -467,17 +471,18 @@ class Index:
 
     def __init__(self, ends: Any) -> None:
         self._numbers = numbered(ends.cpu, ends.line)
-        self._order = numpy.argsort(self._numbers)
+        self._order = self._numbers.argsort()
 
     def begins(self, latencies: Any) -> Any:
         """For each switch the place at which a wait begins, of the latencies of a kind; its stamp is -1 where none does."""
+        numpy = needed()
         places = numpy.zeros(len(self._numbers), _layout.place_type()).view(numpy.recarray)
         places.stamp = -1
         # A switch from a task to itself begins none.
         is_one = (latencies.saved_cpu != latencies.read_cpu) | (latencies.saved_line != latencies.read_line)
         latencies = latencies[is_one]
         read = numbered(latencies.read_cpu, latencies.read_line)
-        at = self._order[numpy.searchsorted(self._numbers, read, sorter=self._order)]
+        at = self._order[self._numbers.searchsorted(read, sorter=self._order)]
         for field in PLACE:
             places[field][at] = latencies[f"saved_{field}"]
         return places
@@ -485,7 +490,7 @@ class Index:
 
 def numbered(cpus: Any, lines: Any) -> Any:
     """One number for each CPU and line."""
-    return cpus.astype("u8") << numpy.uint64(32) | lines
+    return cpus.astype("i8") << 32 | lines
 
 
 def later(one: Any, other: Any) -> Any:
@@ -502,7 +507,7 @@ def chosen(places: Dict[str, Any], ends: Any, holes: Collection[Hole]) -> Tuple[
     A task that was preempted waits since then: a waking that came before, while it ran, or behind, while it was queued, began
     nothing. But where its number was given to a new task the later one of both counts, and so of a waking and a new task. And
     where events were lost since it was preempted, and none since it was woken, it waits at least since it was woken."""
-    woken, new, preempted = (places[kind] for kind in KINDS)
+    numpy, (woken, new, preempted) = needed(), (places[kind] for kind in KINDS)
     is_new = later(new, woken)
     found = woken.copy()
     found[is_new] = new[is_new]
@@ -514,6 +519,7 @@ def chosen(places: Dict[str, Any], ends: Any, holes: Collection[Hole]) -> Tuple[
 
 def doubts(begins: Any, ends: Any, holes: Collection[Hole]) -> Any:
     """Which waits, by the stamps at which they begin and end, span a hole or a part of one."""
+    numpy = needed()
     if not holes:
         return numpy.zeros(len(begins), bool)
     first, last = -1, numpy.iinfo("int64").max
