@@ -362,8 +362,8 @@ class Machine:
 
 
 def simulated(seed: int, steps: int = 400, *, holes: int = 0) -> Known:
-    """What a machine writes down that runs tasks by chance, and the waits that its tasks had, though the trace has lost events of
-    some CPUs. `doubtful` is set for the waits that span a gap; a wait whose events are lost is among them, and has the lines
+    """What a machine writes down that runs tasks by chance, and the waits that its tasks had, though the trace has lost events
+    of some CPUs. `doubtful` is set for the waits that span a gap; a wait whose events are lost is among them, and has the lines
     that it had before."""
     machine = Machine(seed)
     for _ in range(steps):

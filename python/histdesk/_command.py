@@ -138,7 +138,7 @@ def run(tool: str, function: Callable[[], int]) -> NoReturn:
     2; a reader of its output that has gone ends it quietly, and Ctrl-C by that signal."""
     status = 2
     # What the terminal's encoding hasn't is escaped.
-    sys.stdout.reconfigure(errors="backslashreplace")  # type: ignore[union-attr]
+    sys.stdout.reconfigure(errors="backslashreplace")  # type: ignore[attr-defined]
     try:
         status = function()
         sys.stdout.flush()

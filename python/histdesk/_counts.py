@@ -40,7 +40,7 @@ class CountsRow(NamedTuple):
     Percentiles are by nearest rank: `p90` is the least value such that at least 90 % of the values are not above it."""
 
     key: Key
-    count: int
+    count: int  # type: ignore[assignment]
     total: int
     mean: Optional[float]
     p50: Optional[int]

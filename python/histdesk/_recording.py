@@ -143,7 +143,8 @@ def read(
     Taken are the events with a stamp from `start` on and below `until`, in microseconds, of the CPUs and of the names that are
     given (`sched_waking`, `sched_wakeup`, `sched_wakeup_new`, `sched_switch`, or `other` for all others); all where nothing is
     given. Where they are more than a desk holds, those of the names in `spare` are left out; where that doesn't suffice, the
-    first stretch that fits is taken, and `taken.rest` is the `start` of the next one. With `lenient`, lines that can't be read are left out, and `bad_lines` has their numbers.
+    first stretch that fits is taken, and `taken.rest` is the `start` of the next one. With `lenient`, lines that can't be read
+    are left out, and `bad_lines` has their numbers.
 
     `trace` is what `Desk.load` takes; a `Recording` is passed on. Raises `OSError` where it can't be read, `ImportError` where a
     part is to be taken and there is no numpy, and `ValueError` where more events than a desk holds have one stamp."""

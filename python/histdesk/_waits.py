@@ -67,8 +67,8 @@ FRAMED = {"task": "object", "name": "object", "kind": "object", "mean": "float64
 SHOWN = 20
 
 NAMES = {by: (*keys, "kind", *FIGURES, *ENDED, *behind, "doubtful") for by, (keys, behind) in BY.items()}
-TaskRow, NameRow, CpuRow, PrioRow, KindRow = (namedtuple(f"{by.title()}Row", names) for by, names in NAMES.items())  # type: ignore
-ROWS = dict(zip(BY, (TaskRow, NameRow, CpuRow, PrioRow, KindRow)))
+TaskRow, NameRow, CpuRow, PrioRow, KindRow = (namedtuple(f"{by.title()}Row", names) for by, names in NAMES.items())
+ROWS: Dict[str, Any] = dict(zip(BY, (TaskRow, NameRow, CpuRow, PrioRow, KindRow)))
 
 
 class Held(NamedTuple):
@@ -82,8 +82,8 @@ class Held(NamedTuple):
 
 
 class About(NamedTuple):
-    """What else is known of some waits: of which file they are, of what they are told, what was lost, where the next part of the
-    recording begins, and of each kind how many events began waits and how many of these found no room."""
+    """What else is known of some waits: of which file they are, of what they are told, what was lost, where the next part of
+    the recording begins, and of each kind how many events began waits and how many of these found no room."""
 
     path: Optional[str]
     held: Held
@@ -96,19 +96,22 @@ class Waits:
     """Waits of tasks for a processor, in the order in which they ended; `waits` makes it.
 
     A wait ends with the `sched_switch` that runs a task. It is `woken` where a `sched_waking` of the task began it, `new` where
-    its `sched_wakeup_new` did, and `preempted` where a `sched_switch` did that took the processor from it while it was runnable.
-    A waking of a task that still ran, or that was preempted and not yet run again, begins none. A wait is *doubtful* where events
-    were lost in its time, on whichever CPU: it may be false, and is counted only where that is asked for.
+    its `sched_wakeup_new` did, and `preempted` where a `sched_switch` did that took the processor from it while it could run. A
+    waking of a task that still ran, or that was preempted and not yet run again, begins none; a wait that hasn't ended is none.
+    A wait is *doubtful* where events were lost in its time, on whichever CPU: it may be false, and is counted only where that
+    is asked for.
 
     | Form | What it gives |
     |---|---|
-    | `waits.array` | a numpy record array: `kind`, `pid`, `prio`, `begin_stamp`, `begin_cpu`, `begin_line`, the same of `end_`, \
-`micros`, `doubtful`. Stamps are in microseconds; a CPU and a line name an event of the whole recording |
+    | `waits.array` | a numpy record array |
     | `waits.names`, `waits.name(3)` | the names of the tasks, as the switches have them that run them |
-    | `waits.table("task")` | a row for each task and kind, the greatest wait first; or by `"name"`, `"cpu"`, `"prio"`, `"kind"` |
-    | `waits.counts("task")` | `Counts`, which adds up exactly over many recordings, and has other percentiles and histograms |
+    | `waits.table("task")` | a row for each task and kind, the greatest wait first; also `"name"`, `"cpu"`, `"prio"`, `"kind"` |
+    | `waits.counts("task")` | `Counts`, which add up exactly over many recordings, and have other percentiles and histograms |
     | `waits.only(kinds=["woken"], cpus=[2])` | those of a kind, or that ended on a CPU; `waits[mask]` those of a numpy mask |
     | `waits.to_pandas()` | a DataFrame of the waits one by one; with a word, of that table |
+
+    The fields of the array are `kind`, `pid`, `prio`, `begin_stamp`, `begin_cpu`, `begin_line`, the same of `end_`, `micros` and
+    `doubtful`. Stamps are in microseconds; a CPU and a line name an event of the whole recording.
     """
 
     def __init__(self, array: Any, names: Any, codes: Any, about: About) -> None:
@@ -142,7 +145,8 @@ class Waits:
 
     @property
     def dropped(self) -> int:
-        """How many events that would begin a wait found no room, since more than 131,072 tasks are there: these waits are missing."""
+        """How many events that would begin a wait found no room, since more than 131,072 tasks are there: these waits are
+        missing."""
         return sum(totals.dropped for totals in self._about.begun.values())
 
     @property
@@ -182,7 +186,8 @@ class Waits:
         return Waits(self.array[chosen], self._names, self._codes[chosen], self._about)
 
     def only(self, *, kinds: Optional[Collection[str]] = None, cpus: Optional[Collection[int]] = None) -> Waits:
-        """Those of these kinds, and of those the ones that ended on these CPUs; None is all. Raises `ValueError` of another kind."""
+        """Those of these kinds, and of those the ones that ended on these CPUs; None is all. Raises `ValueError` of another
+        kind."""
         unknown = set(kinds or ()) - set(KINDS)
         if unknown:
             raise ValueError(f"{sorted(unknown)[0]!r} is no kind of wait; the kinds are {', '.join(KINDS)}")
@@ -197,8 +202,8 @@ class Waits:
     # ---- counted
 
     def counts(self, by: str = "task", doubtful: bool = False) -> Counts:
-        """The waits counted by kind and by `"task"` (the key is its number), by `"name"`, by the `"cpu"` on which they ended, by
-        the `"prio"` with which the task ran then, or by `"kind"` alone; doubtful ones only where that is asked for.
+        """The waits counted by kind and by `"task"` (the key is its number), by `"name"`, by the `"cpu"` on which they ended,
+        by the `"prio"` with which the task ran then, or by `"kind"` alone; doubtful ones only where that is asked for.
 
         Raises `ValueError` of another word."""
         numpy, (keys, codes) = needed(), self._keys(by)
@@ -249,12 +254,12 @@ class Waits:
         return names
 
     def table(self, by: str = "task", doubtful: bool = False) -> List[Any]:
-        """What is counted, the greatest wait first: named tuples of the key's parts and the kind, `count`, `total`, `mean`, `p50`,
-        `p90`, `p99` and `max` in microseconds, where the greatest wait ended (`end_stamp`, `end_cpu`, `end_line`) and whose it
-        was, and how many more were `doubtful` (or were among them, where they are counted too).
+        """What is counted, the greatest wait first: named tuples of the key's parts and the kind, `count`, `total`, `mean`,
+        `p50`, `p90`, `p99` and `max` in microseconds, where the greatest wait ended (`end_stamp`, `end_cpu`, `end_line`) and
+        whose it was, and how many more were `doubtful` (or were among them, where they are counted too).
 
-        By `"task"`, the name is that at the greatest wait, since a task may change it. Figures are None where all waits of a row
-        are doubtful. Raises `ValueError` of another word for `by`."""
+        By `"task"`, the name is that at the greatest wait, since a task may change it. Figures are None where all waits of a
+        row are doubtful. Raises `ValueError` of another word for `by`."""
         counts = self.counts(by, doubtful)
         rows = counts.rows()
         names = self._last_names() if by == "task" and any(row.greatest is None for row in rows) else {}
@@ -274,7 +279,8 @@ class Waits:
         if by == "task":
             key = (wait.name if wait else names[key[0]], *key)
         behind = [whose.get(field) for field in BY[by][1]]
-        return ROWS[by](*key, *row[1 : 1 + len(FIGURES)], *ended, *behind, row.doubtful)
+        figures = (getattr(row, name) for name in FIGURES)
+        return ROWS[by](*key, *figures, *ended, *behind, row.doubtful)
 
     def to_pandas(self, by: Optional[str] = None, doubtful: bool = False) -> Any:
         """A DataFrame of the waits one by one, with the names of the tasks in a column `task`; with a word for `by`, of that
@@ -290,7 +296,8 @@ class Waits:
     # ---- how they are shown
 
     def lines(self, doubtful: bool = False) -> List[str]:
-        """What they are of, and how many they are of each kind, in lines of text; doubtful ones counted where that is asked for."""
+        """What they are of, and how many they are of each kind, in lines of text; doubtful ones counted where that is asked
+        for."""
         counted = self.array if doubtful else self.array[~self.array.doubtful]
         counts = needed().bincount(kind_codes(counted), minlength=len(KINDS)).tolist()
         told = f"{len(counted)} waits: " + ", ".join(f"{count} {kind}" for count, kind in zip(counts, KINDS))
@@ -348,7 +355,7 @@ def table_of(by: str, rows: Sequence[Any], most: Optional[int]) -> _shown.Table:
     keys, behind = BY[by]
     is_doubtful = any(row.doubtful for row in rows)
     names = [*keys, "kind", "count", "mean", "p50", "p90", "p99", "max", "at", "where", *behind, *["doubtful"] * is_doubtful]
-    front = [shown_row(row, behind, is_doubtful) for row in rows[:most]]
+    front: List[Sequence[Any]] = [shown_row(row, behind, is_doubtful) for row in rows[:most]]
     return _shown.Table(names, front, [], len(rows) - len(front))
 
 
@@ -358,8 +365,8 @@ def shown_row(row: Any, behind: Sequence[str], is_doubtful: bool) -> List[Any]:
     where = None if row.end_stamp is None else f"{row.end_cpu}:{row.end_line}"
     mean = None if row.mean is None else round(row.mean, 1)
     key = row[: row._fields.index("count")]
-    last = [row.doubtful] if is_doubtful else []
-    return [*key, row.count, mean, row.p50, row.p90, row.p99, row.max, at, where, *(getattr(row, name) for name in behind), *last]
+    last = [getattr(row, name) for name in behind] + [row.doubtful] * is_doubtful
+    return [*key, row.count, mean, row.p50, row.p90, row.p99, row.max, at, where, *last]
 
 
 # ---- how they are found
@@ -373,14 +380,20 @@ def waits(trace: Union[Trace, Recording, Desk]) -> Waits:
     and taken away again; it is left as it was, but that their ids aren't given again. Events that you have struck are no longer
     there, so a wait that they began or ended is another one or none.
 
-    Where events were lost, it warns with `LossWarning`. Raises what `read` and `Desk.load` raise, `ValueError` of a recording that
-    holds some CPUs alone, since tasks are woken from any, and `ImportError` where there is no numpy.
+    Where events were lost, it warns with `LossWarning`. Raises what `read` and `Desk.load` raise, `ValueError` of a recording
+    that holds some CPUs alone, since tasks are woken from any, and `ImportError` where there is no numpy.
 
-    >>> waits(b'''
-    ... sim-1 [000] d.h.. 1.000100: sched_waking: comm=w pid=42 prio=120 target_cpu=000
-    ... sim-1 [000] d.... 1.000150: sched_switch: prev_comm=sim prev_pid=1 prev_prio=120 prev_state=R ==> next_comm=w next_pid=42 next_prio=120
-    ... sim-1 [000] d.... 1.000170: sched_switch: prev_comm=w prev_pid=42 prev_prio=120 prev_state=S ==> next_comm=sim next_pid=1 next_prio=120
+    >>> found = waits(b'''
+    ... a-1 [0] 1.000100: sched_waking: comm=w pid=42 prio=120 target_cpu=000
+    ... a-1 [0] 1.000150: sched_switch: prev_comm=a prev_pid=1 prev_prio=9 prev_state=R ==> next_comm=w next_pid=42 next_prio=8
+    ... w-42 [0] 1.000170: sched_switch: prev_comm=w prev_pid=42 prev_prio=8 prev_state=S ==> next_comm=a next_pid=1 next_prio=9
     ... ''')  # doctest: +SKIP
+    >>> found  # doctest: +SKIP
+    histdesk.Waits of 3 events from 1.000100 to 1.000170 (0.000070 s) on CPU 0
+    2 waits: 1 woken, 0 new, 1 preempted; times in microseconds
+    task  pid  kind       count  mean  p50  p90  p99  max        at  where
+    w      42  woken          1  50.0   50   50   50   50  1.000150  0:2
+    a       1  preempted      1  20.0   20   20   20   20  1.000170  0:3
     """
     # Asked first, before anything takes long.
     needed()
@@ -428,7 +441,8 @@ def held_by(desk: Desk) -> Held:
 
 
 def begins(desk: Desk, kind: str) -> Tuple[Any, Totals]:
-    """The latencies from what begins waits of a kind to the switches that end them, and what the saver of their stamps has counted."""
+    """The latencies from what begins waits of a kind to the switches that end them, and what the saver of their stamps has
+    counted."""
     event, key, condition = BEGINS[kind]
     with borrowed(desk) as attached:
         name = free_name(desk)
@@ -523,9 +537,10 @@ def doubts(begins: Any, ends: Any, holes: Collection[Hole]) -> Any:
     if not holes:
         return numpy.zeros(len(begins), bool)
     first, last = -1, numpy.iinfo("int64").max
-    bounds = sorted((first if hole.after is None else hole.after, last if hole.before is None else hole.before) for hole in holes)
+    bounds = sorted(
+        (first if hole.after is None else hole.after, last if hole.before is None else hole.before) for hole in holes
+    )
     afters, befores = numpy.array(bounds, "int64").T
     # How many holes begin before each end, and how far these reach.
     reach = numpy.concatenate([[first], numpy.maximum.accumulate(befores)])
     return reach[numpy.searchsorted(afters, ends)] > begins
-

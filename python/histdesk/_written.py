@@ -37,8 +37,8 @@ def escaped_character(character: str) -> str:
 
 
 def unescaped(text: str) -> str:
-    r"""The name that `escaped` has written, with bytes that aren't UTF-8 as `surrogateescape` keeps them. Any other text, in which
-    a backslash stands for itself, may give something else.
+    r"""The name that tools write into CSV in this form, with bytes that aren't UTF-8 as `surrogateescape` keeps them. Any other
+    text, in which a backslash stands for itself, may give something else.
 
     >>> unescaped(r"a\x09b\xff\\") == "a\tb\udcff\\"
     True
@@ -53,8 +53,8 @@ def unescaped_byte(found: Any) -> bytes:
 
 
 def write_csv(file: IO[bytes], names: Sequence[str], rows: Iterable[Sequence[Any]]) -> None:
-    """Writes rows below their names, in UTF-8: texts escaped, None as nothing. Fields are quoted as RFC 4180 says; lines end as all
-    lines here."""
+    """Writes rows below their names, in UTF-8: texts escaped, None as nothing. Fields are quoted as RFC 4180 says, and lines
+    end with a line feed alone."""
     for part in parts([names], rows):
         text = io.StringIO()
         csv.writer(text, lineterminator="\n").writerows([[cell(value) for value in row] for row in part])
