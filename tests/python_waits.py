@@ -411,12 +411,12 @@ class OnADesk(unittest.TestCase):
                 raise KeyboardInterrupt
             return trigger
 
-        for calls in range(7):
+        for calls in range(6):
             left = calls
             with mock.patch.object(histdesk.Desk, "attach", interrupted), self.assertRaises(KeyboardInterrupt):
                 histdesk.waits(self.desk)
             self.unchanged()
-        self.assertEqual(calls, 6)
+        self.assertEqual(calls, 5)
 
     def test_out_of_memory(self):
         ask, left = histdesk.Desk.triggers, 0
@@ -428,11 +428,12 @@ class OnADesk(unittest.TestCase):
                 raise MemoryError
             return ask(desk)
 
-        with mock.patch.object(histdesk.Trigger, "latencies", side_effect=MemoryError):
-            for left in (0, 1, 2, 3):
-                with mock.patch.object(histdesk.Desk, "triggers", wanting), self.assertRaises(MemoryError):
+        for count in (0, 1, 2, 3):
+            left = count
+            with mock.patch.object(histdesk.Trigger, "latencies", side_effect=MemoryError), self.assertRaises(MemoryError):
+                with mock.patch.object(histdesk.Desk, "triggers", wanting):
                     histdesk.waits(self.desk)
-                self.unchanged()
+            self.unchanged()
 
     def test_more_tasks_than_a_table_holds(self):
         count = _waits.SIZE + 3

@@ -6,7 +6,7 @@ import contextlib
 import itertools
 import warnings
 from collections import namedtuple
-from typing import Any, Collection, Dict, Iterator, List, NamedTuple, Optional, Sequence, Tuple, Union
+from typing import Any, Callable, Collection, Dict, Iterator, List, NamedTuple, Optional, Sequence, Tuple, Union
 
 from . import _layout, _shown
 from ._counts import Counts, CountsRow, Greatest, Key, summed
@@ -27,16 +27,15 @@ SPARE = ("sched_wakeup", "other")
 # A table's greatest size: so many tasks are told apart.
 SIZE = 131_072
 STAMP = "common_timestamp.usecs"
-RUNNABLE = 'prev_state == "R" || prev_state == "R+"'
 # Of each kind the event, the field with the task, and the filter of what begins a wait. Task 0 is what a CPU runs where nothing
-# waits; it is always runnable, and waits for nothing.
+# waits; it is always runnable, and waits for nothing. Of the switches that a task leaves by, the last one counts, and begins a
+# wait only where the task could still run: one that left otherwise has run since it was preempted, though nothing tells of that.
 BEGINS = {
     "woken": ("sched_waking", "pid", "pid != 0"),
     "new": ("sched_wakeup_new", "pid", "pid != 0"),
-    "preempted": ("sched_switch", "prev_pid", f"prev_pid != 0 && ({RUNNABLE})"),
+    "preempted": ("sched_switch", "prev_pid", "prev_pid != 0"),
 }
-# A task that leaves the processor otherwise has run since it was preempted, though nothing tells of that.
-CLEARS = f"prev_pid != 0 && !({RUNNABLE})"
+RUNNABLE = 'prev_state == "R" || prev_state == "R+"'
 ENDS = "next_pid != 0"
 
 # In the order of a row of `array`.
@@ -411,8 +410,12 @@ def waits(trace: Union[Trace, Recording, Desk]) -> Waits:
 
 
 def waits_of(desk: Desk, recording: Optional[Recording]) -> Waits:
-    """The waits that a desk holds, with lines of the whole recording if it holds one."""
-    numpy, begun = needed(), {kind: begins(desk, kind) for kind in KINDS}
+    """The waits that a desk holds. Where it was made for a recording, lines are those of the whole recording, and the triggers
+    stay on the desk, since taking them away takes longer than attaching them."""
+    numpy, begun = needed(), {}
+    for kind in KINDS:
+        with borrowed(desk) if recording is None else contextlib.nullcontext(desk.attach) as attach:
+            begun[kind] = begins(desk, kind, attach)
     ends = desk.events_matching("sched_switch", ENDS).array
     losses = Losses(desk.holes) if recording is None else recording.losses
     index = Index(ends)
@@ -426,10 +429,15 @@ def waits_of(desk: Desk, recording: Optional[Recording]) -> Waits:
         array[f"{end}_line"] = found.line if recording is None else recording.lines(found.cpu, found.line)
     array.micros = ends.stamp - places.stamp
     array.doubtful = doubts(places.stamp, ends.stamp, losses.holes)
-    rest = recording.taken.rest if recording and recording.taken else None
-    path = recording.path if recording else None
     totals = {kind: counted for kind, (_, counted) in begun.items()}
-    return Waits(array, *coded(ends, "comm"), About(path, held_by(desk), losses, rest, totals))
+    return Waits(array, *coded(ends, "comm"), about(desk, recording, losses, totals))
+
+
+def about(desk: Desk, recording: Optional[Recording], losses: Losses, begun: Dict[str, Totals]) -> About:
+    """What else is known of the waits that a desk holds."""
+    if recording is None:
+        return About(None, held_by(desk), losses, None, begun)
+    return About(recording.path, held_by(desk), losses, recording.taken.rest if recording.taken else None, begun)
 
 
 def held_by(desk: Desk) -> Held:
@@ -440,18 +448,18 @@ def held_by(desk: Desk) -> Held:
     return Held(events, first, last, tuple(cpu for cpu, count in sorted(cpus.items()) if count))
 
 
-def begins(desk: Desk, kind: str) -> Tuple[Any, Totals]:
-    """The latencies from what begins waits of a kind to the switches that end them, and what the saver of their stamps has
-    counted."""
+def begins(desk: Desk, kind: str, attach: Callable[[str, str], Trigger]) -> Tuple[Any, Totals]:
+    """The latencies from what begins waits of a kind to the switches that end them, by triggers that `attach` attaches; and what
+    the saver of their stamps has counted."""
     event, key, condition = BEGINS[kind]
-    with borrowed(desk) as attached:
-        name = free_name(desk)
-        saver = attached(event, f"hist:keys={key}:size={SIZE}:{name}={STAMP} if {condition}")
-        if kind == "preempted":
-            # What it reads is no longer there for the reader.
-            attached("sched_switch", f"hist:keys=prev_pid:cleared={STAMP}-${name} if {CLEARS}")
-        reader = attached("sched_switch", f"hist:keys=next_pid:waited={STAMP}-${name} if {ENDS}")
-        return reader.latencies(), saver.totals()
+    name = free_name(desk)
+    saver = attach(event, f"hist:keys={key}:size={SIZE}:{name}={STAMP} if {condition}")
+    latencies = attach("sched_switch", f"hist:keys=next_pid:waited={STAMP}-${name} if {ENDS}").latencies()
+    if kind == "preempted":
+        begun = desk.matching("sched_switch", f"prev_pid != 0 && ({RUNNABLE})")
+        saved = numbered(latencies.saved_cpu, latencies.saved_line)
+        latencies = latencies[needed().isin(saved, numbered(begun.cpu, begun.line))]
+    return latencies, saver.totals()
 
 
 def free_name(desk: Desk) -> str:
