@@ -191,9 +191,10 @@ class Parts(unittest.TestCase):
     def test_no_wakings(self):
         lines = [line for line in recordings.kinds().text.decode().split("\n") if "sched_waking" not in line]
         found = waits_of("\n".join(lines).encode())
-        self.assertEqual(len(found.remarks()), 1)
-        self.assertIn("no sched_waking", found.remarks()[0])
+        self.assertEqual(found.remarks(), ["there is no sched_waking of a task, so nothing is known of woken ones"])
         self.assertEqual({wait.kind for wait in told(found)}, {"new", "preempted"})
+        found = waits_of(text_of([waking(0, 5, 7)]))
+        self.assertEqual(found.remarks(), ["there is no sched_switch of a task, so nothing is known of preempted ones"])
 
 
 @with_numpy
@@ -628,6 +629,52 @@ class Tool(unittest.TestCase):
         shown, _ = self.run_tool(self.path("odd_names"), env={**os.environ, "PYTHONIOENCODING": "ascii"})
         self.assertIn("\\xfcmlaut", shown)
         self.assertNotIn("\x1b", shown)
+
+
+def tracing():
+    """Whether this machine's own scheduler can be recorded here."""
+    return os.geteuid() == 0 and os.path.isdir("/sys/kernel/tracing/instances")
+
+
+@with_numpy
+@unittest.skipUnless(tracing(), "not root, or no tracefs at /sys/kernel/tracing")
+class ThisMachine(unittest.TestCase):
+    """A recording of the machine that runs the test, whose buffer is too small on purpose."""
+
+    # Two processes that wake each other by turns, until an alarm ends each.
+    BUSY = """import os, signal
+a, b = os.pipe(), os.pipe()
+mine, other = (a, b) if os.fork() else (b, a)
+signal.setitimer(signal.ITIMER_REAL, 0.8)
+while True:
+    os.write(mine[1], b"x")
+    os.read(other[0], 1)
+"""
+
+    def test_losses_are_told(self):
+        with tempfile.TemporaryDirectory() as folder:
+            path = os.path.join(folder, "my.trace")
+            with subprocess.Popen([sys.executable, "-c", self.BUSY]), open(path, "wb") as file:
+                words = [os.path.join(os.path.dirname(TOOL), "record"), "--buffer", "8", "0.3"]
+                subprocess.run(words, stdout=file, stderr=subprocess.PIPE, check=True)
+            ran = subprocess.run(
+                [sys.executable, "-B", TOOL, path, "--json"], stdout=subprocess.PIPE, stderr=subprocess.PIPE, check=True
+            )
+            with open(path, "rb") as file:
+                text = file.read()
+        answer = json.loads(ran.stdout)
+        self.assertIn("events were overwritten before it begins", answer["warning"])
+        self.assertIn(answer["warning"], ran.stderr.decode())
+        waits = plain_waits.waits_of(text)
+        self.assertGreater(len(waits), 5)
+        if plain_waits.gaps_of(text):
+            # No row counts a wait that spans a hole, and each says how many it leaves out.
+            groups = plain_waits.keys_of(waits, "task")
+            self.assertEqual(len(answer["rows"]), len(groups))
+            for row in answer["rows"]:
+                sure = [wait.micros for wait in groups[row["pid"], row["kind"]] if not wait.doubtful]
+                doubtful = len(groups[row["pid"], row["kind"]]) - len(sure)
+                self.assertEqual((row["max"], row["count"], row["doubtful"]), (max(sure, default=None), len(sure), doubtful))
 
 
 class WithoutNumpy(unittest.TestCase):

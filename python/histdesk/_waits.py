@@ -158,8 +158,8 @@ class Waits:
         about, told = self._about, []
         if self.dropped:
             told.append(f"{self.dropped} waits are missing: of more than {SIZE} tasks, only the first ones are told apart")
-        if about.held.events and not about.begun["woken"].hits:
-            told.append("there is no sched_waking, so nothing is known of waits that a waking begins")
+        for kind in (kind for kind in ("woken", "preempted") if about.held.events and not about.begun[kind].hits):
+            told.append(f"there is no {BEGINS[kind][0]} of a task, so nothing is known of {kind} ones")
         if about.rest is not None:
             told.append(f"this is a part of the recording; the next one begins at {seconds(about.rest)}")
         return told
