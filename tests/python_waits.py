@@ -554,6 +554,8 @@ class Tool(unittest.TestCase):
         self.assertEqual([(int(low), int(high or low), int(count)) for low, high, count, _ in bars], want)
         for *_, count, bar in bars:
             self.assertTrue(int(count) * 40 <= len(bar) * most < int(count) * 40 + most)
+        text, _ = self.run_tool(self.path("kinds"), "--histogram", "--by", "task", "--csv")
+        self.assertEqual(text.split("\n")[:3], ["task,pid,kind,low,high,count", "b,11,preempted,33,64,1", "d,13,new,5,8,1"])
         text, _ = self.run_tool(self.path("kinds"), "--histogram", "--by", "kind", "--json")
         rows = json.loads(text)["rows"]
         self.assertEqual([(row["low"], row["high"], row["count"]) for row in rows if row["kind"] == "new"], [
@@ -583,6 +585,29 @@ class Tool(unittest.TestCase):
         self.assertEqual(self.run_tool(self.path("simulated_1"), "--top", "all"), (everything, ""))
         text, _ = self.run_tool(self.path("simulated_1"), "--top", "2", "--csv")
         self.assertEqual(text.count("\n"), 3)
+
+    def test_terminal(self):
+        """There it is the first 30 rows, and what to ask next."""
+        here, there = os.openpty()
+        with open(here, "rb") as screen:
+            subprocess.run([sys.executable, "-B", TOOL, self.path("simulated_1")], stdout=there, check=True)
+            os.close(there)
+            lines = b"".join(iter(lambda: self.piece_of(screen), b"")).decode().split("\r\n")
+        rows = waits_of(self.known["simulated_1"].text).table()
+        self.assertEqual([line.split()[2] for line in lines[4:34]], [str(row.pid) for row in rows[:30]])
+        told_of = [
+            f"{len(rows) - 30} more are not shown; --top all shows them",
+            f"tools/why {self.path('simulated_1')} {rows[0].end_cpu}:{rows[0].end_line} tells of the greatest",
+        ]
+        self.assertEqual(lines[34:], [*told_of, ""])
+
+    @staticmethod
+    def piece_of(screen):
+        """What a terminal shows next; nothing at its end."""
+        try:
+            return os.read(screen.fileno(), 65536)
+        except OSError:
+            return b""
 
     def test_chosen(self):
         text, _ = self.run_tool(self.path("kinds"), "--kind", "new,woken", "--cpu", "2-3", "--csv")
