@@ -468,7 +468,7 @@ class Shown(unittest.TestCase):
         self.assertIn("&quot;q&quot;,", found._repr_html_())
 
     def test_long_table(self):
-        lines = [line for pid in range(1, 31) for line in (waking(0, pid * 100, pid), switch(0, pid * 101, "a-0", f"w-{pid}"))]
+        lines = [line for pid in range(1, 31) for line in (waking(0, pid * 100, pid), switch(0, pid * 101, "a-1", f"w-{pid}"))]
         text = repr(waits_of(text_of(lines))).split("\n")
         self.assertEqual((len(text), text[-2].split()[1], text[-1].split()[0]), (2 + 1 + 20 + 1, "11", ".."))
 
