@@ -8,7 +8,7 @@ writes them all into a folder, as NAME.trace. What tests import from here uses n
 import os
 import random
 import sys
-from typing import Dict, List, NamedTuple, Optional, Tuple
+from typing import Callable, Dict, List, NamedTuple, Optional, Tuple
 
 HEADER = """# tracer: nop
 #
@@ -289,7 +289,7 @@ class Machine:
         self.events: List[Tuple[Place, str]] = []
         self.waits: List[Wait] = []
 
-    def write(self, cpu: int, make) -> Place:
+    def write(self, cpu: int, make: Callable[[int, int], str]) -> Place:
         """Writes an event of a CPU, of what makes its line."""
         self.now += self.chance.randrange(1, 40)
         self.counts[cpu] += 1
