@@ -125,6 +125,11 @@ class Losses(unittest.TestCase):
         answer, _ = loaded(text + "".join(waking(cpu, f"2.{cpu:06}") for cpu in cpus))
         self.assertEqual(answer.holes, tuple(Hole(cpu, None, 2000000 + cpu, cpu, cpu) for cpu in cpus))
 
+    def test_distant_events(self):
+        text = waking(3, "1.000000") + waking(0, "1.000000") * 500 + "CPU:3 [LOST 9 EVENTS]\n"
+        answer, _ = loaded(text + waking(0, "1.000000") * 500 + waking(3, "2.000000"))
+        self.assertEqual(answer.holes, (Hole(3, 1000000, 2000000, 9, 502),))
+
     def test_no_such_lines(self):
         # A task's name, a comment and a payload tell of no loss.
         text = "x [LOST 3 EVENTS]-1 [000] 1.000000: y\n# CPU:0 [LOST 3 EVENTS]\na-1 [000] 2.000000: CPU:0 [LOST 3 EVENTS]\n"
@@ -308,10 +313,12 @@ class Tools(unittest.TestCase):
         )
 
     def test_refused(self):
-        status, out, told = self.run_tool(self.file("my.trace", b"torn\n"))
+        path = self.file("my.trace", b"torn\n")
+        status, out, told = self.run_tool(path)
         self.assertEqual((status, out), (2, ""))
         self.assertEqual(
-            told.split("\n")[0], "tool: line 1: no TASK-PID [CPU] and a space begin the line; --lenient leaves such lines out"
+            told.split("\n")[0],
+            f"tool: {path}: line 1: no TASK-PID [CPU] and a space begin the line; --lenient leaves such lines out",
         )
 
     def test_other_files(self):

@@ -126,9 +126,9 @@ def remarks(found: Recording, choice: Choice) -> List[str]:
     return told
 
 
-def refused(error: Refused, path: Optional[str]) -> str:
+def refused(error: Refused) -> str:
     """A refusal in one line, and under it the line of the trace or the text that is meant."""
-    told = f"{path}: {error}" if error.line and path else str(error)
+    told = f"{error.path}: {error}" if error.path else str(error)
     hint = "; --lenient leaves such lines out" if error.line else ""
     return "\n".join([told + hint, *getattr(error, "__notes__", [])])
 
@@ -151,7 +151,7 @@ def run(tool: str, function: Callable[[], int]) -> NoReturn:
     except OSError as error:
         print(f"{tool}: {error.filename or 'standard output'}: {error.strerror or error}", file=sys.stderr)
     except Refused as error:
-        print(f"{tool}: {refused(error, None)}", file=sys.stderr)
+        print(f"{tool}: {refused(error)}", file=sys.stderr)
     except (Stop, ImportError, ValueError) as error:
         print(f"{tool}: {error}", file=sys.stderr)
     finish(status)

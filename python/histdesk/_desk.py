@@ -14,7 +14,8 @@ from ._given import Text, as_bytes, event_number, number
 from ._library import library
 from ._loaded import Lane, Loaded
 from ._losses import Hole, LossWarning, losses_of
-from ._recording import Recording
+from ._recording import Recording, path_of
+from ._refused import Refused
 from ._session import PLACES, Session
 from ._source import bytes_of, content_of, lines_of, searched
 from ._trigger import Trigger
@@ -85,7 +86,11 @@ class Desk:
             text = searched(content)
             losses = trace.losses if isinstance(trace, Recording) else losses_of(text)
             lines = lines_of(text)
-            count = self._session.count(library.histdesk_load, address, length, given=content)
+            try:
+                count = self._session.count(library.histdesk_load, address, length, given=content)
+            except Refused as refused:
+                refused.path = path_of(trace) if refused.line else None
+                raise
         loaded = Loaded(count, lines - count, self._lanes_of(count), losses)
         for hole in losses.holes:
             self._holes.setdefault(hole.cpu, []).append(hole)
@@ -101,7 +106,9 @@ class Desk:
         lanes: List[Lane] = []
         try:
             for cpu in (cpu for cpu in range(CPUS) if cpu not in self._held):
-                events = self._count(cpu) if count else 0
+                if not count:
+                    break
+                events = self._count(cpu)
                 if events:
                     lanes.append(Lane(cpu, events, *self._session.ends(library.histdesk_lane, cpu, 1)))
                     count -= events

@@ -120,6 +120,13 @@ class Recording:
         return "<" + "; ".join([*told, *filter(None, [self.warning])]) + ">"
 
 
+def path_of(trace: Any) -> Optional[str]:
+    """The file that a trace is read from, or None where it is no file's name."""
+    if isinstance(trace, Recording):
+        return trace.path
+    return os.fsdecode(trace) if isinstance(trace, (str, os.PathLike)) else None
+
+
 def stretch(part: Part) -> str:
     """From when to when a part goes, and where the next one begins."""
     if part.first is None or part.last is None:
@@ -151,7 +158,7 @@ def read(
     if isinstance(trace, Recording):
         return trace
     text = searched(content_of(trace))
-    path = os.fsdecode(trace) if isinstance(trace, (str, os.PathLike)) else None
+    path = path_of(trace)
     recording = Recording(path, text, losses_of(text))
     if lenient:
         leave_out_bad_lines(recording)

@@ -42,6 +42,7 @@ class Refused(Exception):
     | `place` | the byte of that text, from 0, at which it is wrong | 8, 9, some faults |
     | `trigger` | the id of the trigger that reads, or that saves under the name already | 11, 12 |
     | `text` | what a script prints, as `refused 8: fault 3` | all |
+    | `path` | the file that holds the line, where a file was loaded | 3 |
 
     What doesn't belong to the number is None. The numbers are those of docs/FORMAT.md, 7.3, 1.4, 3.2 and 2.3.
 
@@ -61,6 +62,7 @@ class Refused(Exception):
     cpu: Optional[int] = None
     trigger: Optional[int] = None
     text: str = ""
+    path: Optional[str] = None
 
 
 def refusal_words(text: str) -> str:
