@@ -2,11 +2,10 @@
 
 from __future__ import annotations
 
-import csv
-import io
+import itertools
 import json
 import re
-from typing import IO, Any, Iterable, Iterator, List, Sequence
+from typing import IO, Any, Callable, Dict, Iterable, Iterator, List, Sequence
 
 # What stands for a byte in an escaped name.
 ESCAPE = re.compile(rb"\\(?:x([0-9a-f]{2})|\\)")
@@ -52,33 +51,60 @@ def unescaped_byte(found: Any) -> bytes:
     return bytes([int(found[1], 16)]) if found[1] else b"\\"
 
 
+class Cells(Dict[Any, str]):
+    """Texts of values, each made once."""
+
+    def __init__(self, make: Callable[[Any], str]) -> None:
+        super().__init__()
+        self._make = make
+
+    def __missing__(self, value: Any) -> str:
+        text = self[value] = self._make(value)
+        return text
+
+
 def write_csv(file: IO[bytes], names: Sequence[str], rows: Iterable[Sequence[Any]]) -> None:
-    """Writes rows below their names, in UTF-8: texts escaped, None as nothing. Fields are quoted as RFC 4180 says, and lines
-    end with a line feed alone."""
-    for part in parts([names], rows):
-        text = io.StringIO()
-        csv.writer(text, lineterminator="\n").writerows([[cell(value) for value in row] for row in part])
-        file.write(text.getvalue().encode())
-
-
-def cell(value: Any) -> Any:
-    """A value, as CSV has it."""
-    return escaped(value) if isinstance(value, str) else value
+    """Writes rows below their names, in UTF-8: texts escaped, None as nothing, truth as `true` and `false`. Fields are quoted
+    as RFC 4180 says, and lines end with a line feed alone."""
+    file.write(",".join(map(quoted, names)).encode() + b"\n")
+    for part in parts(rows):
+        columns = [cells(column, csv_cell) for column in zip(*part)]
+        file.write("".join(f"{line}\n" for line in map(",".join, zip(*columns))).encode())
 
 
 def write_json_lines(file: IO[bytes], names: Sequence[str], rows: Iterable[Sequence[Any]]) -> None:
     """Writes each row as an object on a line of its own. What isn't ASCII is escaped, and bytes that aren't UTF-8 are the lone
     surrogates that `surrogateescape` keeps them as."""
-    for part in parts([], rows):
-        file.write("".join(json.dumps(dict(zip(names, row))) + "\n" for row in part).encode())
+    fields = (json.dumps(name).replace("%", "%%") for name in names)
+    line = "{" + ", ".join(f"{field}: %s" for field in fields) + "}\n"
+    for part in parts(rows):
+        columns = [cells(column, json.dumps) for column in zip(*part)]
+        file.write("".join(map(line.__mod__, zip(*columns))).encode())
 
 
-def parts(first: List[Sequence[Any]], rows: Iterable[Sequence[Any]]) -> Iterator[List[Sequence[Any]]]:
-    """The rows in lists that aren't too long, behind some first ones."""
-    part = first
-    for row in rows:
-        part.append(row)
-        if len(part) >= ROWS:
-            yield part
-            part = []
-    yield part
+def parts(rows: Iterable[Sequence[Any]]) -> Iterator[List[Sequence[Any]]]:
+    """The rows in lists that aren't too long."""
+    left = iter(rows)
+    while part := list(itertools.islice(left, ROWS)):
+        yield part
+
+
+def cells(column: Sequence[Any], make: Callable[[Any], str]) -> Iterator[str]:
+    """The texts of a column's values. Names come often, and each is written once; numbers seldom do."""
+    kinds = set(map(type, column))
+    if kinds == {int}:
+        return map(str, column)
+    # What is equal to another value and is written otherwise, as True and 1, is made anew.
+    return map(make, column) if kinds & {bool, float} else map(Cells(make).__getitem__, column)
+
+
+def csv_cell(value: Any) -> str:
+    """A value, as CSV has it."""
+    if isinstance(value, str):
+        return quoted(escaped(value))
+    return "" if value is None else json.dumps(value)
+
+
+def quoted(text: str) -> str:
+    """A text without control characters, in quotes where it needs them."""
+    return '"' + text.replace('"', '""') + '"' if '"' in text or "," in text else text
