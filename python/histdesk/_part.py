@@ -6,7 +6,8 @@ import re
 from typing import Any, Collection, List, NamedTuple, Optional
 
 from . import _layout
-from ._recording import LIMIT, Choice, Part, Recording
+from ._recording import LIMIT, Choice, Part, Recording, leave_out
+from ._source import content_of, searched
 
 # A line, with the CPU, the stamp and the label of its event, if it has one. Whether the desk can read it is the desk's to say.
 LINE = re.compile(
@@ -29,14 +30,16 @@ class Lines(NamedTuple):
     names: Any
 
 
-def take(recording: Recording, choice: Choice) -> None:
-    """Leaves the events that are wanted and fit into a desk, and notes what was taken."""
+def take(recording: Recording, choice: Choice, lines: Optional[Lines] = None) -> None:
+    """Leaves the events that are wanted and fit into a desk, and notes what was taken. What is known of the lines of its
+    text, if it is known already, needn't be found again."""
     numpy = needed()
-    lines = scanned(recording.text)
+    lines = lines or scanned(recording.text)
     is_event = lines.cpus != NONE
     wanted = is_event & chosen(lines, choice)
     rest, until = None, choice.until
-    if choice.spare and numpy.count_nonzero(wanted) > LIMIT:
+    recording._known = lines if numpy.count_nonzero(wanted) > LIMIT else None
+    if choice.spare and recording._known:
         wanted &= ~named(lines, choice.spare)
     if numpy.count_nonzero(wanted) > LIMIT:
         rest = until = first_left(lines.stamps[wanted])
@@ -48,6 +51,28 @@ def take(recording: Recording, choice: Choice) -> None:
     recording.taken = Part(len(stamps), *ends, rest)
     if len(stamps) < numpy.count_nonzero(is_event):
         recording._lines = {int(cpu): places(lines.cpus, wanted, cpu) for cpu in numpy.unique(lines.cpus[wanted])}
+
+
+def part_with(recording: Recording, cpu: int, line: int) -> Optional[Recording]:
+    """Where a recording is a part of a file, of which the event of a CPU at a line isn't, or of which events that can be spared
+    aren't: a part with all events of the choice, in which that event is, and of those before it as many as fill nine tenths
+    of a desk. None where there is no such event, or the file can't be read again."""
+    lines, choice = recording._known, recording.choice._replace(spare=())
+    is_whole = not recording.choice.spare and recording.desk_line(cpu, line) is not None
+    if lines is None or recording.path in (None, "-") or is_whole:
+        return None
+    numpy = needed()
+    wanted = (lines.cpus != NONE) & chosen(lines, choice)
+    at = numpy.flatnonzero(lines.cpus == cpu)[line - 1 : line] if line > 0 else numpy.zeros(0, "i8")
+    if not wanted[at].any():
+        return None
+    stamps = numpy.sort(lines.stamps[wanted])
+    start = int(stamps[max(int(numpy.searchsorted(stamps, lines.stamps[at[0]])) - LIMIT * 9 // 10, 0)])
+    other = Recording(recording.path, searched(content_of(recording.path)), recording.losses)
+    leave_out(other, recording.bad_lines)
+    other.choice = choice._replace(start=start)
+    take(other, other.choice, lines)
+    return other
 
 
 def needed() -> Any:
@@ -127,8 +152,8 @@ def in_time(stamps: Any, choice: Choice) -> Any:
 
 
 def near(lines: Lines, choice: Choice) -> Any:
-    """Which lines stand in the stretch of time that is wanted, one without an event by the event before it: a line that can't be
-    read is refused there, and nowhere else."""
+    """Which lines stand in the stretch of time that is wanted, one without an event by the event before it: a line that can't
+    be read is refused there, and nowhere else."""
     numpy = needed()
     at = numpy.where(lines.cpus != NONE, numpy.arange(len(lines.cpus)), -1)
     before = numpy.maximum.accumulate(at) if len(at) else at

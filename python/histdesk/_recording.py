@@ -4,7 +4,7 @@ from __future__ import annotations
 
 import os
 import warnings
-from typing import TYPE_CHECKING, Any, Collection, Dict, List, NamedTuple, Optional, Tuple, Union
+from typing import TYPE_CHECKING, Any, Collection, Dict, List, NamedTuple, Optional, Sequence, Tuple, Union
 
 from ._losses import Hole, Losses, LossWarning, losses_of, seconds
 from ._source import content_of, lines_of, searched
@@ -63,6 +63,8 @@ class Recording:
         self.choice = Choice()
         # Of each CPU the lines of the whole text that a desk's lines are, where some were left out.
         self._lines: Optional[Dict[int, Any]] = None
+        # What is known of the lines of the whole text, where they have more events than a desk holds.
+        self._known: Any = None
 
     @property
     def holes(self) -> Tuple[Hole, ...]:
@@ -73,6 +75,11 @@ class Recording:
     def warning(self) -> Optional[str]:
         """What was lost in the whole text, in one line; None where nothing was."""
         return self.losses.warning
+
+    @property
+    def is_part(self) -> bool:
+        """Whether the trace has more events of those that were asked for than a desk holds, so that some were left out."""
+        return self._known is not None
 
     def desk(self) -> Desk:
         """A new desk that holds it. Raises `Refused` where a line can't be read, with its number in the whole text."""
@@ -176,10 +183,13 @@ def leave_out_bad_lines(recording: Recording) -> None:
     """Makes empty lines of those that can't be read."""
     from ._lines import unreadable
 
-    text = bytes(recording.text)
-    bad = unreadable(text)
+    leave_out(recording, unreadable(bytes(recording.text)))
+
+
+def leave_out(recording: Recording, bad: Sequence[int]) -> None:
+    """Makes empty lines of those with these numbers."""
     if bad:
-        lines: List[bytes] = text.split(b"\n")
+        lines: List[bytes] = bytes(recording.text).split(b"\n")
         for number in bad:
             lines[number - 1] = b""
         recording.text = b"\n".join(lines)
