@@ -52,7 +52,8 @@ from ._refused import Refused, refusal_words
 from ._trigger import Trigger
 from ._values import Bucket, Changed, Edit, Event, Latency, Log2, Place, Totals
 from ._waits import Waits, waits
-from ._written import unescaped
+from ._why import Runner, Share, Stretch, Why, why
+from ._written import escaped, unescaped
 
 __all__ = [
     "Bucket",
@@ -75,13 +76,19 @@ __all__ = [
     "Place",
     "Recording",
     "Refused",
+    "Runner",
+    "Share",
+    "Stretch",
     "Totals",
     "Trigger",
     "Waits",
+    "Why",
+    "escaped",
     "read",
     "refusal_words",
     "unescaped",
     "waits",
+    "why",
 ]
 
 # They are known by the package's name, wherever in it they stand.
