@@ -49,10 +49,11 @@ from ._loaded import Lane, Loaded
 from ._losses import Hole, Losses, LossWarning
 from ._recording import Part, Recording, read
 from ._refused import Refused, refusal_words
+from ._scene import Runner, Share, Stretch
 from ._trigger import Trigger
 from ._values import Bucket, Changed, Edit, Event, Latency, Log2, Place, Totals
 from ._waits import Waits, waits
-from ._why import Runner, Share, Stretch, Why, why
+from ._why import Why, why
 from ._written import escaped, unescaped
 
 __all__ = [
