@@ -288,8 +288,8 @@ class Walk:
         """Ends a stretch; one of no length only where a switch ends it."""
         end = min(max(stamp, self.since), self.stop)
         if end > self.since or line is not None:
-            runner = self.runner or (None, None, None)
-            self.found.append(Stretch(self.cpu, self.since, end, *runner, state, line))
+            task, pid, prio = self.runner or (None, None, None)
+            self.found.append(Stretch(self.cpu, self.since, end, task, pid, prio, state, line))
         self.since = end
 
 
