@@ -72,7 +72,7 @@ class Counts:
     | `counts.row(key)`, `counts.whole()` | that of one key, or None; that of all keys together |
     | `counts.by("kind")` | the same waits counted by some of the fields alone |
     | `counts.merge(other)`, `Counts.merged(many)` | all of them together |
-    | `counts.percentile(99.9)`, `counts.histogram()` | of all keys together; with a key, of one |
+    | `counts.percentile(99.9)`, `counts.longer(1000)`, `counts.histogram()` | of all keys together; with a key, of one |
     """
 
     def __init__(
@@ -161,6 +161,11 @@ class Counts:
         found = part._percentiles(percent)
         return found[0] if found else None
 
+    def longer(self, micros: int, key: Optional[Key] = None) -> int:
+        """How many waits were longer than so many microseconds, of all keys together; with a key, of one."""
+        columns = (self if key is None else self._part(key))._columns
+        return int(columns.count[columns.micros > micros].sum())
+
     def histogram(self, key: Optional[Key] = None) -> List[Tuple[Log2, int]]:
         """The waits by power of two, from the least to the greatest that there is: pairs of n and how many waits are at most
         2^n microseconds long and longer than 2^(n-1); n is 0 for those of 0 and 1. `low` and `high` of n are the bounds."""
@@ -229,17 +234,29 @@ class Counts:
 
     __hash__ = None  # type: ignore[assignment]
 
-    def __repr__(self) -> str:
-        rows = self.rows()
+    def _told(self) -> Tuple[str, _shown.Table]:
+        """What is shown: a title, and the table; with the recordings of the greatest waits where these are told."""
+        rows, has_sources = self.rows(), any(wait and wait.source for wait in self._greatest)
         names = [*self.fields, "count", "mean", *(f"p{percent}" for percent in PERCENTS), "max", "doubtful"]
-        table = _shown.table_of(names, len(rows), lambda at: cells(rows[at]))
-        return f"histdesk.Counts: {self.count} waits, {self.doubtful} doubtful, {len(self)} keys\n{_shown.in_text(table)}"
+        names += ["where"] * has_sources
+        table = _shown.table_of(names, len(rows), lambda at: cells(rows[at], has_sources))
+        return f"histdesk.Counts: {self.count} waits, {self.doubtful} doubtful, {len(self)} keys", table
+
+    def __repr__(self) -> str:
+        title, table = self._told()
+        return f"{title}\n{_shown.in_text(table)}"
+
+    def _repr_html_(self) -> str:
+        title, table = self._told()
+        return _shown.in_html(title, [table])
 
 
-def cells(row: CountsRow) -> List[Any]:
-    """A row, as it is shown."""
+def cells(row: CountsRow, has_source: bool) -> List[Any]:
+    """A row, as it is shown; with the recording of the greatest wait and the switch that ended it there."""
     mean = None if row.mean is None else round(row.mean)
-    return [*row.key, row.count, mean, row.p50, row.p90, row.p99, row.max, row.doubtful]
+    wait = row.greatest
+    where = [f"{wait.source} {wait.cpu}:{wait.line}" if wait else None] if has_source else []
+    return [*row.key, row.count, mean, row.p50, row.p90, row.p99, row.max, row.doubtful, *where]
 
 
 # ---- how they are made
