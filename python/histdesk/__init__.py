@@ -47,8 +47,11 @@ from ._desk import Desk
 from ._events import Events
 from ._loaded import Lane, Loaded
 from ._losses import Hole, Losses, LossWarning
+from ._many import LeftOutWarning, Many, many
+from ._questions import Asked, AskRows, AskWaits, Failed
 from ._recording import Part, Recording, read
 from ._refused import Refused, refusal_words
+from ._rows import Rows
 from ._scene import Runner, Share, Stretch
 from ._trigger import Trigger
 from ._values import Bucket, Changed, Edit, Event, Latency, Log2, Place, Totals
@@ -57,6 +60,9 @@ from ._why import Why, why
 from ._written import escaped, unescaped
 
 __all__ = [
+    "AskRows",
+    "AskWaits",
+    "Asked",
     "Bucket",
     "Changed",
     "Counts",
@@ -65,18 +71,22 @@ __all__ = [
     "Edit",
     "Event",
     "Events",
+    "Failed",
     "Greatest",
     "Hole",
     "Lane",
     "Latency",
+    "LeftOutWarning",
     "Loaded",
     "Log2",
     "LossWarning",
     "Losses",
+    "Many",
     "Part",
     "Place",
     "Recording",
     "Refused",
+    "Rows",
     "Runner",
     "Share",
     "Stretch",
@@ -85,6 +95,7 @@ __all__ = [
     "Waits",
     "Why",
     "escaped",
+    "many",
     "read",
     "refusal_words",
     "unescaped",
