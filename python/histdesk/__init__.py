@@ -44,6 +44,7 @@ environment variable `HISTDESK_LIBRARY` says, then in the folders around the pac
 
 from ._counts import Counts, CountsRow, Greatest
 from ._desk import Desk
+from ._diff import Difference, DifferenceRow, Fate, Figures, Struck, diff
 from ._events import Events
 from ._loaded import Lane, Loaded
 from ._losses import Hole, Losses, LossWarning
@@ -68,10 +69,14 @@ __all__ = [
     "Counts",
     "CountsRow",
     "Desk",
+    "Difference",
+    "DifferenceRow",
     "Edit",
     "Event",
     "Events",
     "Failed",
+    "Fate",
+    "Figures",
     "Greatest",
     "Hole",
     "Lane",
@@ -90,10 +95,12 @@ __all__ = [
     "Runner",
     "Share",
     "Stretch",
+    "Struck",
     "Totals",
     "Trigger",
     "Waits",
     "Why",
+    "diff",
     "escaped",
     "many",
     "read",

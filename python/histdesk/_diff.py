@@ -1,0 +1,384 @@
+"""How waits changed: from one recording to another, or in one recording without some of its events."""
+
+from __future__ import annotations
+
+import re
+import warnings
+from typing import Any, Callable, Collection, Dict, Iterable, List, NamedTuple, Optional, Sequence, Tuple, Union
+
+from . import _shown
+from ._counts import Counts, CountsRow, Key
+from ._desk import Desk, Trace
+from ._library import library
+from ._losses import LossWarning
+from ._part import needed
+from ._recording import Recording, read
+from ._waits import BY, SPARE, Waits, numbered, of, waits, waits_of
+
+Side = Union[Trace, Recording, Desk, Waits]
+
+# An event, and perhaps which ones of its name.
+WITHOUT = re.compile(r"\s*(\S+)(?:\s+if\s+(.*\S))?\s*", re.DOTALL)
+STRIKABLE = ("sched_waking", "sched_wakeup_new", "sched_switch")
+# A filter that holds of every event.
+ALWAYS = "common_cpu >= 0"
+# What rows may be sorted by, and the title of its changes.
+TITLES = {"waited": "change of waited/s", "max": "change of max"}
+SORTS = tuple(TITLES)
+SIDES = ("before", "behind")
+# So many rows are shown in a notebook or at a prompt.
+SHOWN = 20
+MICROS = 1_000_000
+
+
+class Figures(NamedTuple):
+    """What is counted of one side's waits. Times are in microseconds, and None where nothing is counted.
+
+    `per_second` is how many waits there were in each second of the recording, and `waited` how long all of them were together
+    in each second; `above` is the share, from 0 to 1, of those that were longer than was asked for; `doubtful` is how many were
+    left out."""
+
+    count: int  # type: ignore[assignment]
+    per_second: Optional[float]
+    waited: Optional[float]
+    mean: Optional[float]
+    p50: Optional[int]
+    p90: Optional[int]
+    p99: Optional[int]
+    max: Optional[int]
+    above: Optional[float]
+    doubtful: int
+
+
+class DifferenceRow(NamedTuple):
+    """What is counted under a key, before and behind."""
+
+    key: Key
+    before: Figures
+    behind: Figures
+
+    def change(self, figure: str) -> float:
+        """By how much a figure grew; one that is None counts as 0."""
+        before, behind = (getattr(side, figure) or 0 for side in (self.before, self.behind))
+        grown: float = behind - before
+        return grown
+
+
+class Struck(NamedTuple):
+    """Events that were taken away: their name, the filter that chose them (None is all), how many they were, and of how many of
+    that name."""
+
+    event: str
+    filter: Optional[str]
+    count: int  # type: ignore[assignment]
+    of: int
+
+    def __str__(self) -> str:
+        return f"{self.count} of {self.of} {self.event}" + ("" if self.filter is None else f" if {self.filter}")
+
+
+class Fate(NamedTuple):
+    """What became of a recording's waits without some events: how many are gone, how many still end at the same switch and
+    begin with another event, and how many are new."""
+
+    gone: int
+    moved: int
+    new: int
+
+    def __str__(self) -> str:
+        return f"{self.gone} waits are gone, {self.moved} begin with another event, and {self.new} are new"
+
+
+class Difference:
+    """How waits changed; `diff` makes it. Doubtful waits are left out on both sides.
+
+    | Form | What it gives |
+    |---|---|
+    | `difference.before`, `difference.behind` | the `Waits` of both sides |
+    | `difference.struck` | what was taken away, a `Struck` for each of `without`; None for two recordings |
+    | `difference.fate` | what became of the waits then, as a `Fate`; None for two recordings |
+    | `difference.whole()` | a `DifferenceRow` of all waits together |
+    | `difference.table("name")` | a `DifferenceRow` for each name and kind that changed, or by another word of `Waits.table` |
+    | `difference.only(kinds=["woken"], cpus=[2])` | that of some of the waits; see `Waits.only` |
+    | `difference.to_pandas("name")` | a DataFrame of that table |
+    """
+
+    def __init__(self, before: Waits, behind: Waits, struck: Optional[Sequence[Struck]] = None) -> None:
+        self.before, self.behind = before, behind
+        self.struck = None if struck is None else tuple(struck)
+
+    @property
+    def by(self) -> str:
+        """By what waits are counted where nothing else is said: by name for two recordings, in which the same tasks have other
+        numbers, and else by task."""
+        return "name" if self.struck is None else "task"
+
+    @property
+    def seconds(self) -> Tuple[float, float]:
+        """How long both recordings are, from the first event that was taken to the last one. Without some events, a recording
+        is as long as with them."""
+        before, behind = (((side.held.last or 0) - (side.held.first or 0)) / MICROS for side in (self.before, self.behind))
+        return before, before if self.struck is not None else behind
+
+    def only(self, *, kinds: Optional[Collection[str]] = None, cpus: Optional[Collection[int]] = None) -> Difference:
+        """That of the waits of these kinds, and of those that ended on these CPUs; None is all. Raises `ValueError` of another
+        kind."""
+        before, behind = (side.only(kinds=kinds, cpus=cpus) for side in (self.before, self.behind))
+        return Difference(before, behind, self.struck)
+
+    # ---- the answers
+
+    @property
+    def fate(self) -> Optional[Fate]:
+        """What became of the waits, where some events were taken away."""
+        if self.struck is None:
+            return None
+        before, behind = self.before.array, self.behind.array
+        ends = [numbered(side.end_cpu, side.end_line) for side in (before, behind)]
+        _, old, new = needed().intersect1d(*ends, assume_unique=True, return_indices=True)
+        begins = [numbered(side.begin_cpu, side.begin_line) for side in (before[old], behind[new])]
+        return Fate(len(before) - len(old), int((begins[0] != begins[1]).sum()), len(behind) - len(new))
+
+    def whole(self, *, above: Optional[int] = None) -> DifferenceRow:
+        """What is counted of all waits together. `above` is that of `table`."""
+        before, behind = self._sides("kind", above, together=True)
+        return DifferenceRow((), before.figures(()), behind.figures(()))
+
+    def table(self, by: Optional[str] = None, *, sort: str = "waited", above: Optional[int] = None) -> List[DifferenceRow]:
+        """What is counted under each key for which something changed; `names` says what a key's parts are.
+
+        First stand the rows that changed most: by `"waited"`, how long all waits of the row were together in each second, or by
+        `"max"`, the greatest. With `above` the figures have the share of waits that were longer than so many microseconds.
+
+        Raises `ValueError` of another word for `by` or `sort`."""
+        if sort not in SORTS:
+            raise ValueError(f"rows aren't sorted by {sort!r}; they are by {' or '.join(SORTS)}")
+        by = by or self.by
+        before, behind = self._sides(by, above)
+        rows = [DifferenceRow(key, before.figures(key), behind.figures(key)) for key in {**before.rows, **behind.rows}]
+        changed = [row for row in rows if row.before[:-1] != row.behind[:-1]]
+        changed.sort(key=lambda row: (-abs(row.change(sort)), row.key))
+        if by != "task":
+            return changed
+        names = {**self.behind._last_names(), **self.before._last_names()}
+        return [row._replace(key=(names[int(row.key[0])], *row.key)) for row in changed]
+
+    def names(self, by: Optional[str] = None) -> Tuple[str, ...]:
+        """The names of a key's parts."""
+        return (*BY[by or self.by][0], "kind")
+
+    def _sides(self, by: str, above: Optional[int], together: bool = False) -> List[Counted]:
+        """What is counted on both sides."""
+        counts = [side.counts(by) for side in (self.before, self.behind)]
+        return [Counted(one.by() if together else one, length, above) for one, length in zip(counts, self.seconds)]
+
+    def to_pandas(self, by: Optional[str] = None, *, sort: str = "waited", above: Optional[int] = None) -> Any:
+        """A DataFrame of `table`: the key's parts, and each figure of both sides, as `count_before` and `count_behind`. Raises
+        `ImportError` where pandas isn't there."""
+        import pandas  # type: ignore[import]
+
+        rows = [flat(row) for row in self.table(by, sort=sort, above=above)]
+        frame = pandas.DataFrame(rows, columns=[*self.names(by), *COLUMNS])
+        kinds = {f"{name}_{side}": "Int64" for name in ("p50", "p90", "p99", "max") for side in SIDES}
+        kinds.update({f"{name}_{side}": "float64" for name in ("per_second", "waited", "mean", "above") for side in SIDES})
+        return frame.astype(kinds)
+
+    # ---- how it is shown
+
+    def lines(self) -> List[str]:
+        """What is compared, and what is to be known before the numbers are believed, a line each."""
+        before, behind = (
+            [f"{side.path}: {of(side.held)}" if side.path else of(side.held), *side.remarks()]
+            for side in (self.before, self.behind)
+        )
+        if self.struck is None:
+            told = [*(f"before: {line}" for line in before), *(f"behind: {line}" for line in behind)]
+        else:
+            told = [*before, *(f"without {one}" for one in self.struck), str(self.fate)]
+        doubts = [side.doubtful for side in (self.before, self.behind)]
+        if any(doubts):
+            told.append(
+                f"doubtful waits are left out, {doubts[0]} before and {doubts[1]} behind: events were lost in their time"
+            )
+        return list(map(_shown.shown, told))
+
+    def _told(self) -> Tuple[List[str], _shown.Table, List[str]]:
+        """What is shown: lines, the table, and what was lost."""
+        table = table_of(self, self.table(), most=SHOWN)
+        sides = [("before: ", self.before), ("behind: ", self.behind)] if self.struck is None else [("", self.before)]
+        return self.lines(), table, [f"{name}{side.warning}" for name, side in sides if side.warning]
+
+    def __repr__(self) -> str:
+        lines, table, foot = self._told()
+        return "\n".join(["histdesk.Difference", *lines, _shown.in_text(table), *foot])
+
+    def _repr_html_(self) -> str:
+        lines, table, foot = self._told()
+        return _shown.in_html("; ".join(lines), [table], "; ".join(foot))
+
+
+class Counted:
+    """What is counted of one side's waits, in a recording of so many seconds."""
+
+    def __init__(self, counts: Counts, length: float, above: Optional[int]) -> None:
+        self.counts, self.length, self.above = counts, length, above
+        self.rows: Dict[Key, CountsRow] = {row.key: row for row in counts.rows()}
+
+    def figures(self, key: Key) -> Figures:
+        """Those of a key."""
+        row = self.rows.get(key) or CountsRow(key, 0, 0, None, None, None, None, None, None, 0)
+        above = None if self.above is None or not row.count else self.counts.longer(self.above, key) / row.count
+        per_second, waited = (number / self.length if self.length else None for number in (row.count, row.total))
+        return Figures(row.count, per_second, waited, row.mean, row.p50, row.p90, row.p99, row.max, above, row.doubtful)
+
+
+COLUMNS = [f"{name}_{side}" for name in Figures._fields for side in SIDES]
+
+
+def flat(row: DifferenceRow) -> List[Any]:
+    """A row's key, and its figures in the order of `COLUMNS`."""
+    return [*row.key, *(figure for pair in zip(row.before, row.behind) for figure in pair)]
+
+
+# ---- as people read it
+
+
+class Column(NamedTuple):
+    """A column of a table that has both sides: its title, which figure it shows, and how."""
+
+    title: str
+    figure: str
+    form: Callable[[Any], str] = str
+
+
+def rate(number: float) -> str:
+    """A number of which some digits matter."""
+    return f"{number:.1f}" if number < 1000 else f"{number:.0f}"
+
+
+def percent(share: float) -> str:
+    """By what share something grew."""
+    return f"{share:+.1%}" if abs(share) < 0.1 else f"{share:+.0%}"
+
+
+def columns_of(difference: Difference, above: Optional[int]) -> List[Column]:
+    """The columns behind the key."""
+    is_one = difference.struck is not None
+    counted = Column("waits", "count") if is_one else Column("waits/s", "per_second", rate)
+    share = [] if above is None else [Column(f"above {above}", "above", "{:.3%}".format)]
+    return [counted, Column("mean", "mean", rate), *(Column(name, name) for name in ("p50", "p90", "p99", "max")), *share]
+
+
+def table_of(
+    difference: Difference,
+    rows: Sequence[DifferenceRow],
+    *,
+    by: Optional[str] = None,
+    sort: str = "waited",
+    above: Optional[int] = None,
+    most: Optional[int] = None,
+) -> _shown.Table:
+    """The first rows of a table, below one of all waits together: where a figure changed, both sides of it stand there."""
+    names = difference.names(by)
+    shown = [difference.whole(above=above), *rows[:most]]
+    keys = [["all", *[None] * (len(names) - 1)], *(row.key for row in rows[:most])]
+    columns = columns_of(difference, above)
+    pairs = [paired([figures_of(row, column) for row in shown]) for column in columns]
+    lines: List[Sequence[Any]] = [[*key, *cells] for key, *cells in zip(keys, *pairs, changes_of(shown, sort))]
+    return _shown.Table([*names, *(column.title for column in columns), TITLES[sort]], lines, [], len(rows) - len(rows[:most]))
+
+
+def changes_of(rows: Sequence[DifferenceRow], sort: str) -> List[str]:
+    """By how much the figure grew by which rows are sorted, and by what share of what it was."""
+    grown = [f"{row.change(sort):+.0f}" for row in rows]
+    had = [getattr(row.before, sort) for row in rows]
+    shares = [f"({percent(row.change(sort) / before)})" if before else "" for row, before in zip(rows, had)]
+    wide, most = (max(map(len, texts)) for texts in (grown, shares))
+    return [f"{one:>{wide}} {share:>{most}}" for one, share in zip(grown, shares)]
+
+
+def figures_of(row: DifferenceRow, column: Column) -> Tuple[str, str]:
+    """A figure before and behind, as it is shown."""
+    figures = [getattr(side, column.figure) for side in (row.before, row.behind)]
+    before, behind = ("-" if figure is None else column.form(figure) for figure in figures)
+    return before, behind
+
+
+def paired(pairs: Sequence[Tuple[str, str]]) -> List[str]:
+    """The cells of a column: both sides below each other, and one number where they are the same."""
+    left, right = (max(map(len, side)) for side in zip(*pairs))
+    return [
+        f"{behind:>{left + 4 + right}}" if before == behind else f"{before:>{left}} -> {behind:>{right}}"
+        for before, behind in pairs
+    ]
+
+
+# ---- how it is found
+
+
+def diff(before: Side, behind: Optional[Side] = None, *, without: Union[str, Iterable[str]] = ()) -> Difference:
+    """How waits changed from one recording to another: `diff("old.trace", "new.trace")`; or in one recording without some of
+    its events: `diff("my.trace", without="sched_waking if common_pid == 0")`.
+
+    A side is what `waits` takes, or `Waits`. What `without` names is an event, and perhaps ` if ` and a filter as
+    `Desk.matching` takes it; there may be several, in a list. These events are struck from the desk that holds the recording,
+    and the waits are those of the events that are left: where a waking is struck, the task waits from an earlier one on, or its
+    wait isn't there.
+
+    Raises what `waits` raises; `ValueError` where there is neither another side nor `without`, or both, and where `without`
+    names an event with which no wait begins or ends; and `Refused` with number 9 where a filter can't be read."""
+    filters = [without] if isinstance(without, str) else list(without)
+    if (behind is None) == (not filters):
+        raise ValueError("a difference is one between two recordings, or of one without some events")
+    if behind is not None:
+        return Difference(waits_on(before), waits_on(behind))
+    if isinstance(before, (Desk, Waits)):
+        raise TypeError("events are taken away from a recording: a trace, or what read() has read")
+    return diff_without(before, [parsed(text) for text in filters])
+
+
+def waits_on(side: Side) -> Waits:
+    """The waits of a side."""
+    return side if isinstance(side, Waits) else waits(side)
+
+
+def parsed(text: str) -> Tuple[str, Optional[str]]:
+    """The event and the filter of a text. Raises `ValueError` where it names no event with which waits begin or end."""
+    found = WITHOUT.fullmatch(text)
+    event = found[1] if found else ""
+    if event not in STRIKABLE:
+        raise ValueError(
+            f"{text!r}: waits begin and end with {', '.join(STRIKABLE)}, so one of these, and perhaps ` if ` and a filter"
+        )
+    return event, found[2]  # type: ignore[index]
+
+
+def diff_without(trace: Union[Trace, Recording], chosen: Sequence[Tuple[str, Optional[str]]]) -> Difference:
+    """How waits change in a recording without some events."""
+    needed()
+    with Desk() as empty:
+        # What can't be read is refused before anything takes long.
+        for event, condition in chosen:
+            empty.matching(event, condition or ALWAYS)
+    with warnings.catch_warnings():
+        warnings.simplefilter("ignore", LossWarning)
+        recording = read(trace, spare=SPARE)
+    if recording.warning and not isinstance(trace, Recording):
+        warnings.warn(recording.warning, LossWarning, stacklevel=3)
+    before = waits(recording)
+    # Triggers would have to be kept up to date with each strike, so these are made on a desk without any.
+    with recording.desk() as desk:
+        places = [desk.matching(event, condition or ALWAYS) for event, condition in chosen]
+        counts = [len(desk.matching(event, ALWAYS)) for event, _ in chosen]
+        strike(desk, places)
+        behind = waits_of(desk, recording)
+    return Difference(before, behind, [Struck(*one, len(found), count) for one, found, count in zip(chosen, places, counts)])
+
+
+def strike(desk: Desk, places: Sequence[Any]) -> None:
+    """Strikes the events at some places, each once. Nobody wants to know what a strike changes, so it isn't asked for."""
+    numpy = needed()
+    cpus, lines = (numpy.concatenate([found[field] for found in places]) for field in ("cpu", "line"))
+    session, call = desk._session, library.histdesk_strike
+    for number in numpy.unique(numbered(cpus, lines)).tolist():
+        session.call(call, *divmod(number, 1 << 32))
