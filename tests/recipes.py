@@ -1,19 +1,19 @@
 #!/usr/bin/env python3
-"""Holds that each recipe of docs/RECIPES.md prints what stands under it.
+"""Holds that each recipe of docs/RECIPES.md, and each example of tools/README.md, prints what stands under it.
 
     recipes.py PROGRAM
 
 A block that begins with `load @1` is a script, which PROGRAM runs over examples/recipes.trace, or over both traces of the
 recipes where it loads two. A block of sh or python is run beside links to the program, the tools and the examples; those
 that need the library or numpy are not tried where these are missing. The block behind is what it prints, where `...` stands
-for lines that are left out. The tables of scripts are held, with all their rows, against a reckoning over the lines of the
+for lines that are left out. The tables of recipes are held, with all their rows, against a reckoning over the lines of the
 trace, which knows nothing of triggers: of each task what happened to it, one thing behind the other. The last line says how
 many blocks and tables hold.
 """
 
+import functools
 import os
 import re
-import shutil
 import subprocess
 import sys
 import tempfile
@@ -27,18 +27,22 @@ BEFORE, AFTER = "recipes-before.trace", "recipes.trace"
 # ---- the document
 
 
-def sections(text):
-    """Of each recipe its number, and its blocks: what each is of, and its text."""
-    for part in re.split(r"^## ", text, flags=re.MULTILINE)[1:]:
-        number = part.partition(".")[0]
-        yield number, [(kind or "text", block) for kind, block in re.findall(r"^```(\w*)\n(.*?)^```$", part, re.MULTILINE | re.DOTALL)]
+BLOCK = re.compile(r"^```(\w*)\n(.*?)^```$", re.MULTILINE | re.DOTALL)
+
+
+def sections(path):
+    """Of each section of a document its number, or else its title, and its examples."""
+    with open(os.path.join(ROOT, path), encoding="utf-8") as file:
+        parts = re.split(r"^## ", file.read(), flags=re.MULTILINE)[1:]
+    return [(re.match("[0-9]+|.*", part)[0], list(examples(BLOCK.findall(part)))) for part in parts]
 
 
 def examples(blocks):
-    """What is run, and what it prints: each block that isn't an output, with the one behind it."""
-    for at in range(0, len(blocks), 2):
-        (kind, run), (_, output) = blocks[at : at + 2]
-        yield ("script" if run.startswith("load @1\n") else kind), run, output
+    """What is run, of which kind it is, and what it prints: blocks with the one behind each."""
+    kinds = ["script" if text.startswith("load @1\n") else kind for kind, text in blocks]
+    for at in range(len(blocks) - 1):
+        if kinds[at] and not kinds[at + 1]:
+            yield kinds[at], blocks[at][1], blocks[at + 1][1]
 
 
 def shows(wanted, output):
@@ -76,9 +80,12 @@ class Place:
         else:
             words = ["bash", "-c", "set -o pipefail\n" + text]
         done = subprocess.run(words, cwd=self.folder, env=self.environment, stdout=subprocess.PIPE, stderr=subprocess.STDOUT)
-        return done.stdout.decode("latin-1") + (f"status {done.returncode}\n" if done.returncode else "")
+        # That of other things than scripts is what the last of several commands says.
+        status = f"status {done.returncode}\n" if done.returncode and kind == "script" else ""
+        return done.stdout.decode() + status
 
 
+@functools.lru_cache(maxsize=None)
 def lacking():
     """Why blocks that need the library or numpy can't be tried, by what they need."""
     told = {}
@@ -90,9 +97,9 @@ def lacking():
 
 
 def needs(kind, text):
-    if re.search(r"\btools/(waits|why|diff)\b", text):
+    if re.search(r"\btools/(waits|why|diff|export)\b", text):
         return "numpy"
-    return "histdesk" if kind == "python" or "tools/export" in text else None
+    return "histdesk" if kind == "python" or "tools/explain" in text else None
 
 
 def tables(output):
@@ -252,31 +259,44 @@ def reckoned():
     }
 
 
+class Count:
+    """How many things hold, and what is told of the others."""
+
+    def __init__(self):
+        self.things, self.wrong = 0, []
+
+    def hold(self, good, told):
+        self.things += 1
+        if not good:
+            self.wrong.append(told)
+
+
+def try_section(place, title, found, wanted, count):
+    """Runs the examples of a section; their tables are those that are wanted, in order, where some are."""
+    missing, left = lacking(), list(wanted or ())
+    for kind, text, output in found:
+        if needs(kind, text) in missing:
+            print(f"not tried: {title}: {missing[needs(kind, text)]}")
+            continue
+        told = place.printed(kind, text)
+        count.hold(shows(output, told), f"{title} prints\n{told}")
+        if wanted and tables(told):
+            count.hold(left and tables(told) == left.pop(0), f"{title}: other rows than reckoned in\n{told}")
+    if wanted:
+        count.hold(not left, f"{title}: {len(left)} tables are missing")
+
+
 def main(program):
-    with open(os.path.join(ROOT, "docs", "RECIPES.md"), encoding="utf-8") as file:
-        found = dict(sections(file.read()))
-    wanted, missing, count, wrong = reckoned(), lacking(), 0, []
-    folder = tempfile.mkdtemp()
-    place = Place(folder, os.path.realpath(program))
-    for number, blocks in found.items():
-        left = list(wanted.pop(number))
-        for kind, text, output in examples(blocks):
-            if needs(kind, text) in missing:
-                print(f"not tried: recipe {number}: {missing[needs(kind, text)]}")
-                continue
-            told = place.printed(kind, text)
-            count += 1
-            if not shows(output, told):
-                wrong.append(f"recipe {number} prints\n{told}")
-            if tables(told):
-                count += 1
-                if tables(told) != (left.pop(0) if left else None):
-                    wrong.append(f"recipe {number}: other rows than reckoned in\n{told}")
-        wrong += [f"recipe {number}: {len(left)} examples print no table"] * bool(left)
-    shutil.rmtree(folder)
-    wrong += [f"RECIPES.md lacks recipe {number}" for number in wanted]
-    print("\n".join([*wrong, f"{count - len(wrong)} of {count} recipes hold"]))
-    return 1 if wrong or not count else 0
+    wanted, count = reckoned(), Count()
+    with tempfile.TemporaryDirectory() as folder:
+        place = Place(folder, os.path.realpath(program))
+        for title, found in sections("docs/RECIPES.md"):
+            try_section(place, f"recipe {title}", found, wanted.pop(title, None), count)
+        for title, found in sections("tools/README.md"):
+            try_section(place, f"tools/README.md, {title}", found, None, count)
+    count.hold(not wanted, f"RECIPES.md lacks recipe {', '.join(wanted)}")
+    print("\n".join([*count.wrong, f"{count.things - len(count.wrong)} of {count.things} recipes hold"]))
+    return 1 if count.wrong else 0
 
 
 sys.exit(main(*sys.argv[1:]))
