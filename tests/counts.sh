@@ -21,7 +21,8 @@ fail() {
 holds() {
     local told good all
     told=$("$@" 2>&1 </dev/null)
-    if ! [[ ${told##*$'\n'} =~ ^([0-9]+)' of '([0-9]+)' '[a-z]+' hold' ]]; then
+    # Where nothing is counted, nothing was tried.
+    if ! [[ ${told##*$'\n'} =~ ^([0-9]+)' of '([1-9][0-9]*)' '[a-z]+' hold' ]]; then
         fail "${1##*/}: $told"
         return
     fi

@@ -26,6 +26,8 @@ part() {
         good=${BASH_REMATCH[1]}
         bad=$((BASH_REMATCH[2] - good))
     fi
+    # Where nothing is counted, nothing was tried, which then has to be said.
+    ((good + bad > 0)) || grep -q '^not tried: ' <<<"$told" || bad=1
     passed=$((passed + good))
     failed=$((failed + bad))
     if ((bad > 0)); then

@@ -3,8 +3,9 @@
 
     man_examples.py FOLDER PAGE..
 
-An example shows a script by `$ cat NAME`, and then what `$ PROGRAM NAME TRACE` prints, with a trace of FOLDER. PROGRAM is
-found on the PATH. The last line says how many of them print just what the page shows.
+An example shows a script by `$ cat NAME`, and then what `$ PROGRAM NAME TRACE` prints, with a trace of FOLDER; or it is a
+session of commands of the tools beside the traces of FOLDER, and what each of them prints. Programs are found on the PATH.
+A session isn't tried where the tools have no numpy. The last line says how many of them print just what the page shows.
 """
 
 import os
@@ -13,15 +14,28 @@ import subprocess
 import sys
 import tempfile
 
-LITERAL = re.compile(r"^\.Bd -literal.*\n(.*?)^\.Ed$", re.MULTILINE | re.DOTALL)
+LITERAL = re.compile(r"^\.Bd -literal[^\n]*\n(.*?)^\.Ed$", re.MULTILINE | re.DOTALL)
 EXAMPLE = re.compile(r"^\$ cat (\S+)\n(.*?)^\$ (\w+) \1 (\S+)\n(.*?)(?=^\$ |\Z)", re.MULTILINE | re.DOTALL)
+# A command of a session, and what it prints; those of other blocks need a machine's own recordings.
+COMMAND = re.compile(r"^\$ ((?:histdesk-|printf ).*)\n((?:(?!\$ ).*\n)*)", re.MULTILINE)
+
+
+def literals(page):
+    with open(page, encoding="utf-8") as file:
+        return [text.replace(r"\en", r"\n") for text in LITERAL.findall(file.read())]
 
 
 def examples(page):
     """The name, the script, the program, the trace and the output of each."""
-    with open(page, encoding="utf-8") as file:
-        shown = [text.replace(r"\en", r"\n") for text in LITERAL.findall(file.read())]
-    return [example for text in shown for example in EXAMPLE.findall(text)]
+    return [example for text in literals(page) for example in EXAMPLE.findall(text)]
+
+
+def sessions(page):
+    """The commands of each block that has no others, with their outputs."""
+    for text in literals(page):
+        commands = COMMAND.findall(text)
+        if commands and text == "".join(f"$ {command}\n{output}" for command, output in commands):
+            yield commands
 
 
 def printed(folder, name, script, program, trace):
@@ -33,8 +47,26 @@ def printed(folder, name, script, program, trace):
         return subprocess.run(words, stdout=subprocess.PIPE, stderr=subprocess.STDOUT, text=True).stdout
 
 
+def session_prints(folder, commands):
+    """What the commands print, one behind the other."""
+    with tempfile.TemporaryDirectory() as work:
+        for name in os.listdir(folder):
+            os.symlink(os.path.join(os.path.abspath(folder), name), os.path.join(work, name))
+        for command, _ in commands:
+            words = ["bash", "-c", command]
+            yield subprocess.run(words, cwd=work, stdout=subprocess.PIPE, stderr=subprocess.STDOUT, text=True).stdout
+
+
 def main(folder, *pages):
     count, good = 0, 0
+    has_numpy = subprocess.run(["python3", "-c", "import numpy"], stderr=subprocess.DEVNULL).returncode == 0
+    for page in pages if has_numpy else ():
+        for commands in sessions(page):
+            for (command, wanted), told in zip(commands, session_prints(folder, commands)):
+                count += 1
+                good += told == wanted
+                if told != wanted:
+                    print(f"{os.path.basename(page)}: {command}: {told}")
     for page in pages:
         for name, script, program, trace, wanted in examples(page):
             count += 1
