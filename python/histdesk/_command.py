@@ -31,18 +31,24 @@ class Stop(Exception):
 class Parser(argparse.ArgumentParser):
     """Says in one line what is wrong with the words, and where to read more."""
 
+    tool = ""
+
     def error(self, message: str) -> NoReturn:
-        self.exit(2, f"{self.prog}: {message}; --help says more\n")
+        self.exit(2, f"{self.tool}: {message}; --help says more\n")
 
 
 def parser(name: str, description: str) -> argparse.ArgumentParser:
-    """The words of a tool, of which the description's first line is short."""
-    return Parser(
-        prog=name,
+    """The words of a tool, of which the description's first line is short. Its usage has the name by which it was called: where it
+    is installed, that is histdesk-NAME."""
+    called = os.path.basename(sys.argv[0])
+    words = Parser(
+        prog=called if called.endswith(name) else name,
         description=description,
         formatter_class=argparse.RawDescriptionHelpFormatter,
         allow_abbrev=False,
     )
+    words.tool = name
+    return words
 
 
 def add_part(words: argparse.ArgumentParser, cpu: str = "only events of these CPUs, as 0,2,4-7") -> None:
