@@ -57,10 +57,34 @@ used_programs() {
     prints "$1, explain" $'refused 16\n  line 1: hits 1: there is no such command or event; did you mean hist?\n          ^'
     gives "$1, bars" 0 "" "${alone[@]}" bash -c 'histdesk latencies.script wakeups.trace | histdesk-bars | grep -c @@@'
     prints "$1, bars" 7
-    for tool in explain record from-perf from-trace-cmd; do
+    gives "$1, desk" 0 "" "${alone[@]}" histdesk-desk wakeups.trace <wakeups.script
+    prints "$1, desk" "$(<"$examples/wakeups.expected")"
+    for tool in waits why diff export desk explain record from-perf from-trace-cmd; do
         gives "$1, $tool --help" 0 "" "${alone[@]}" "histdesk-$tool" --help
         same "$1, $tool --help" "$(grep -o "^usage: [^ ]*" "$folder/out")" "usage: histdesk-$tool"
+        same "$1, $tool of the repository" "$(grep -c 'tools/' "$folder/out")" 0
     done
+}
+
+# The tools whose reports need numpy, or what they say where there is none.
+used_reports() {
+    local tool
+    if ! "${alone[@]}" python3 -c 'import numpy' 2>"$folder/err"; then
+        for tool in waits why; do
+            gives "$1, $tool" 2 "$tool: *numpy*apt-get install python3-numpy*" "${alone[@]}" "histdesk-$tool" wakeups.trace
+        done
+        return
+    fi
+    gives "$1, waits" 0 "" "${alone[@]}" histdesk-waits wakeups.trace --kind woken --by kind --csv
+    prints "$1, waits" "kind,count,total,mean,p50,p90,p99,max,end_stamp,end_cpu,end_line,task,pid,doubtful
+woken,10,263,26.3,7,12,204,204,6012001581,0,11,kworker/0:2,7105,0"
+    gives "$1, why" 0 "" "${alone[@]}" histdesk-why wakeups.trace 0:11
+    same "$1, why" "$(head -n 1 "$folder/out")" \
+        "kworker/0:2-7105 (prio 120) waited 204 us for CPU 0, from 6012.001377 to 6012.001581, after it was woken."
+    gives "$1, diff" 0 "" "${alone[@]}" histdesk-diff wakeups.trace --without 'sched_waking if pid == 7105'
+    same "$1, diff" "$(sed -n 2p "$folder/out")" "without 2 of 11 sched_waking if pid == 7105"
+    gives "$1, export" 0 "" "${alone[@]}" histdesk-export wakeups.trace rows sched_waking hist:keys=prio
+    prints "$1, export" $'prio,hitcount\n19,3\n120,8'
 }
 
 # The library: compiled by pkg-config's words, with the shared library and with the static one.
@@ -99,6 +123,7 @@ used() {
     work=$(mktemp -d -- "$folder/work.XXXXXX")
     cd -- "$work" || exit
     used_programs "$1"
+    used_reports "$1"
     used_library "$1"
     used_pages "$1"
     cd -- "$folder" || exit
