@@ -86,20 +86,18 @@ class Place:
 
 
 @functools.lru_cache(maxsize=None)
-def lacking():
-    """Why blocks that need the library or numpy can't be tried, by what they need."""
-    told = {}
-    for need, code in (("histdesk", "import histdesk"), ("numpy", "import histdesk, numpy")):
-        done = subprocess.run([sys.executable, "-c", code], cwd=ROOT, env={**os.environ, "PYTHONPATH": "python"}, stderr=subprocess.PIPE)
-        if done.returncode:
-            told[need] = done.stderr.decode().strip().split("\n")[-1]
-    return told
+def is_here(code):
+    """Whether these lines of Python run."""
+    words = [sys.executable, "-c", code]
+    return not subprocess.run(words, cwd=ROOT, env={**os.environ, "PYTHONPATH": "python"}, stderr=subprocess.DEVNULL).returncode
 
 
-def needs(kind, text):
-    if re.search(r"\btools/(waits|why|diff|export)\b", text):
-        return "numpy"
-    return "histdesk" if kind == "python" or "tools/explain" in text else None
+def lacking(kind, text):
+    """What a block needs that isn't here; None where it can be tried."""
+    reports = re.search(r"\btools/(waits|why|diff|export)\b", text)
+    if (reports or kind == "python" or "tools/explain" in text) and not is_here("import histdesk"):
+        return "the library"
+    return "numpy" if reports and not is_here("import numpy") else None
 
 
 def tables(output):
@@ -120,7 +118,7 @@ def tables(output):
 Happened = namedtuple("Happened", "stamp cpu what name pid state by flag")
 LINE = re.compile(r" *(.+)-(\d+) +\[(\d+)\] ..(.).. +(\d+)\.(\d{6}): (\w+): (.*)")
 WAKE = re.compile(r"comm=(.*) pid=(\d+) prio=")
-SWITCH = re.compile(r"prev_comm=(.*) prev_pid=(\d+) prev_prio=\d+ prev_state=(\S+) ==> next_comm=(.*) next_pid=(\d+) next_prio=")
+SWITCH = re.compile(r"prev_comm=(.*) prev_pid=(\d+) prev_prio=\d+ prev_state=(\S+) ==> next_comm=(.*) next_pid=(\d+) next")
 
 
 def happened(line):
@@ -263,7 +261,7 @@ class Count:
     """How many things hold, and what is told of the others."""
 
     def __init__(self):
-        self.things, self.wrong = 0, []
+        self.things, self.wrong, self.missing = 0, [], Counter()
 
     def hold(self, good, told):
         self.things += 1
@@ -273,10 +271,11 @@ class Count:
 
 def try_section(place, title, found, wanted, count):
     """Runs the examples of a section; their tables are those that are wanted, in order, where some are."""
-    missing, left = lacking(), list(wanted or ())
+    left = list(wanted or ())
     for kind, text, output in found:
-        if needs(kind, text) in missing:
-            print(f"not tried: {title}: {missing[needs(kind, text)]}")
+        missing = lacking(kind, text)
+        if missing:
+            count.missing[missing] += 1
             continue
         told = place.printed(kind, text)
         count.hold(shows(output, told), f"{title} prints\n{told}")
@@ -295,7 +294,8 @@ def main(program):
         for title, found in sections("tools/README.md"):
             try_section(place, f"tools/README.md, {title}", found, None, count)
     count.hold(not wanted, f"RECIPES.md lacks recipe {', '.join(wanted)}")
-    print("\n".join([*count.wrong, f"{count.things - len(count.wrong)} of {count.things} recipes hold"]))
+    skipped = [f"{number} skipped: {what} is missing" for what, number in count.missing.items()]
+    print("\n".join([*count.wrong, *skipped, f"{count.things - len(count.wrong)} of {count.things} recipes hold"]))
     return 1 if count.wrong else 0
 
 
