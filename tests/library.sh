@@ -58,6 +58,7 @@ for python in "${pythons[@]}"; do
     done
     part "recipes from $python" "$python" "$here/recipes.py" "$histdesk"
 done
+part recorded "$here/recorded.sh" "$here/../tools"
 part installed "$here/install.sh" "$histdesk" "$histwatch" "$library"
 
 cat -- "$folder/untried"
