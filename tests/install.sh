@@ -51,7 +51,7 @@ used_programs() {
     prints "$1, histdesk" "$(<"$examples/wakeups.expected")"
     gives "$1, histwatch" 0 "" "${alone[@]}" histwatch changes.script wakeups.trace
     prints "$1, histwatch" "$(<"$examples/changes.expected")"
-    gives "$1, words" 2 "histdesk: bad words" "${alone[@]}" histdesk --help
+    gives "$1, words" 2 "histdesk: bad words*Examples and documents: $prefix/share/doc/histdesk.*" "${alone[@]}" histdesk --help
     # It finds the package and the library by itself.
     gives "$1, explain" 1 "" env -i "PATH=$prefix/bin:/usr/bin:/bin" histdesk-explain bad.script
     prints "$1, explain" $'refused 16\n  line 1: hits 1: there is no such command or event; did you mean hist?\n          ^'
