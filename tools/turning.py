@@ -1,105 +1,295 @@
-"""What from-perf and from-trace-cmd have in common: a recording or its text is read, and each line is turned."""
+"""What from-perf, from-trace-cmd and record have in common: a text is read in pieces of whole lines; the plain lines of a piece
+are turned at once, odd ones one by one. What is printed, the desk loads; what can't be turned is left out and told."""
 
+import fcntl
 import os
+import shutil
+import signal
 import subprocess
 import sys
 import tempfile
 
-WAKES = (b"sched_waking", b"sched_wakeup", b"sched_wakeup_new")
+from turning_lines import NotTurned, completed
+from turning_told import Stop, Told, shown
+
+# So many bytes are read at once, and so many has the pipe from a tool.
+SIZE, PIPE = 1 << 18, 1 << 20
+# Linux's number of the call that asks for a pipe's room: Python has it since 3.10.
+SET_PIPE_ROOM = 1031
+# The names of a line have no more line breaks than for so many pieces, and with them it is no longer than that.
+PIECES, JOINED_ROOM = 46, 512
+PACKED = {b"\x1f\x8b": "gzip", b"\x28\xb5\x2f\xfd": "zstd", b"\xfd7zXZ": "xz", b"BZh": "bzip2"}
+RECORDINGS = {b"PERFILE2": "perf", b"2ELIFREP": "perf", b"\x17\x08\x44tracing": "trace-cmd"}
 
 
-class NotTurned(Exception):
-    """A line can't be turned: why."""
+class Form:
+    """The text of a tool, and how its lines are turned."""
+
+    # For `findall`: it matches each line with its line break, and the last group is an odd line without it.
+    pattern = None
+    # What prints the text, and what to do where it has another layout.
+    name = advice = ""
+    # The tool that reads a recording, and the words that make it print the text of one, but for its path.
+    tool, command = "", ()
+    # Whether nothing may be printed before the end is known.
+    holds_back = False
+
+    def prepared(self, text):
+        """Whole lines, before they are turned."""
+        return text
+
+    def plain(self, found):
+        """What the pattern has found, as turned lines with line breaks. Odd lines give what empty groups give."""
+        raise NotImplementedError
+
+    def aside(self, line, told):
+        """What stands for a line that holds no event, with its line break or empty; None where the line is to be turned."""
+        raise NotImplementedError
+
+    def parts(self, line, earlier):
+        """The parts of an odd line, or of one that was torn by the line breaks of names. `earlier()` goes through the turned
+        lines before it, backwards, as far as they are at hand. Raises `NotTurned`."""
+        raise NotImplementedError
+
+    def may_follow(self, text, piece):
+        """Whether a piece may stand behind a line break in a name of `text`, which begins a line; with None whether `text` may
+        begin such a line."""
+        raise NotImplementedError
+
+    def heard(self, line, path):
+        """What is said where the tool says that line on standard error; None for nothing. Raises `Stop`."""
+        return f"{self.tool} says: {shown(line)}" if line else None
+
+    def check_end(self, name):
+        """Raises `Stop` where what was read of the file of that name doesn't go together."""
 
 
-def rounded(seconds, fraction):
-    """A stamp of six digits. One of nanoseconds is rounded as the kernel's own text rounds it, up from the half."""
-    if len(fraction) == 6:
-        return b"%s.%s" % (seconds, fraction)
-    whole = (int(seconds) * 10**9 + int(fraction) + 500) // 1000
-    return b"%d.%06d" % divmod(whole, 10**6)
+class Waiting(Exception):
+    """More lines are needed."""
 
 
-def check_payload(name, payload, advice):
-    """The payload of the four events is in the kernel's layout. Plugins of libtraceevent print another one."""
-    if name in WAKES:
-        good = payload.startswith(b"comm=") and b" target_cpu=" in payload
-    elif name == b"sched_switch":
-        good = payload.startswith(b"prev_comm=") and b" ==> next_comm=" in payload
-    else:
-        good = True
-    if not good:
-        raise NotTurned(f"the fields of {name.decode()} are not in the kernel's layout; {advice}")
+class Turner:
+    """Turns a text of a form, piece by piece."""
 
+    def __init__(self, form, told):
+        self.form = form
+        self.told = told
+        self.number = 1
+        self.odd = form.plain([(b"",) * form.pattern.groups])[0]
+        # The lines that were turned last, and so many of those that are turned now.
+        self.before, self.turned, self.at = [], [], 0
 
-def turn_lines(own, lines, turn):
-    """Writes each line turned, and says which ones can't be. The answer is the number of those."""
-    bad = 0
-    for number, line in enumerate(lines, 1):
-        line = line.removesuffix(b"\n")
+    def earlier(self):
+        """The turned lines before the one that is turned now, backwards, as far as they are at hand."""
+        yield from reversed(self.turned[: self.at])
+        yield from reversed(self.before)
+
+    def turn(self, text, is_last):
+        """Turns whole lines; and what of them has to be seen again with those that follow."""
+        found = self.form.pattern.findall(text)
+        turned = self.form.plain(found)
+        self.before, self.turned = self.turned, turned
+        odd = [at for at, line in enumerate(turned) if line == self.odd] if self.odd in turned else []
+        if len(odd) < len(turned):
+            self.told.has_turned = True
+        end, behind = len(turned), 0
+        for at in odd:
+            try:
+                if at >= behind:
+                    behind = at + self.turn_odd(found, turned, at, is_last)
+            except Waiting:
+                end = at
+                break
+        self.number += end
+        return b"".join(turned[:end]), b"".join(parts[-1] + b"\n" for parts in found[end:])
+
+    def turn_odd(self, found, turned, at, is_last):
+        """Turns the odd line there; how many lines it took."""
+        line, number, self.at = found[at][-1], self.number + at, at
+        turned[at] = self.form.aside(line, self.told)
+        if turned[at] is not None:
+            return 1
         try:
-            if line.strip() and not line.startswith(b"#"):
-                line = turn(line)
-            sys.stdout.buffer.write(line + b"\n")
+            text, is_masked, count = *self.completed(line), 1
         except NotTurned as fault:
-            bad += 1
-            shown = line[:200].decode("ascii", "backslashreplace")
-            print(f"{own}: line {number}: {fault}: {shown}", file=sys.stderr)
-    return bad
+            joined = self.joined(found, at, is_last)
+            if joined is None:
+                turned[at] = b"" if line.strip() else b"\n"
+                if line.strip():
+                    self.told.leave_out(number, fault, line)
+                return 1
+            text, is_masked, count = joined
+        self.told.has_turned = True
+        if is_masked:
+            self.told.mask(number, text)
+        turned[at : at + count] = [text + b"\n", *[b""] * (count - 1)]
+        return count
+
+    def completed(self, line):
+        """The line turned, and whether a name in it was masked. Raises `NotTurned`."""
+        return completed(self.form.parts(line, self.earlier), self.form.advice)
+
+    def joined(self, found, at, is_last):
+        """The line whose first piece stands there, turned, whether a name was masked, and how many pieces it had; None where no
+        such line is there. Raises `Waiting` where that isn't known yet."""
+        text = found[at][-1]
+        if not self.form.may_follow(text, None):
+            return None
+        for count in range(2, PIECES + 1):
+            if at + count > len(found):
+                if is_last:
+                    return None
+                raise Waiting
+            *groups, piece = found[at + count - 1]
+            if any(groups) or not self.form.may_follow(text, piece) or len(text) + len(piece) > JOINED_ROOM:
+                return None
+            text += b"\n" + piece
+            try:
+                return (*self.completed(text), count)
+            except NotTurned:
+                pass
+        return None
 
 
-def turn_recording(own, command, path, turn, noise):
-    """Turns what the tool prints of a recording, and passes on what else it says, but for the noise."""
-    with tempfile.TemporaryFile() as told:
+def pieces(first, source):
+    """Whole lines of an open file of which the first bytes are read already, and whether they are the last ones."""
+    held, chunk = [], first
+    while chunk:
+        end = chunk.rfind(b"\n") + 1
+        if end:
+            yield b"".join([*held, chunk[:end]]), False
+            held = []
+        held.append(chunk[end:])
+        chunk = source.read(SIZE)
+    rest = b"".join(held)
+    yield rest + b"\n" if rest else b"", True
+
+
+def turn_text(form, told, first, source):
+    """Turns a text onto standard output."""
+    turner, rest, spool = Turner(form, told), b"", None
+    sink = sys.stdout.buffer
+    for text, is_last in pieces(first, source):
+        turned, rest = turner.turn(rest + form.prepared(text), is_last)
+        if form.holds_back and spool is None:
+            spool = tempfile.TemporaryFile()
+        (spool or sink).write(turned)
+        if spool is None:
+            sink.flush()
+            told.say_first()
+    form.check_end(told.path)
+    told.finish()
+    if spool:
+        spool.seek(0)
+        shutil.copyfileobj(spool, sink, SIZE)
+
+
+def turn_recording(form, told, path):
+    """Turns what the tool prints of a recording, and passes on what it says. Whether the tool succeeded."""
+    with tempfile.TemporaryFile() as said:
         try:
-            tool = subprocess.Popen([*command, path], stdin=subprocess.DEVNULL, stdout=subprocess.PIPE, stderr=told)
+            tool = subprocess.Popen(
+                [*form.command, path], stdin=subprocess.DEVNULL, stdout=subprocess.PIPE, stderr=said, bufsize=0
+            )
         except FileNotFoundError:
-            raise SystemExit(f"{own}: {path} is a recording, and {command[0]} is not installed, which reads it")
-        # Of a recording that ends too early trace-cmd prints nothing, and calls that good.
-        is_empty = not tool.stdout.peek(1)
-        bad = turn_lines(own, tool.stdout, turn)
-        status = tool.wait()
-        told.seek(0)
-        for line in told:
-            if noise is None or noise not in line:
-                sys.stderr.write(line.decode("ascii", "backslashreplace"))
-    if status != 0 or is_empty:
-        how = "failed on" if status else "printed nothing of"
-        print(f"{own}: {command[0]} {how} {path}", file=sys.stderr)
-        bad += 1
-    return bad
+            raise Stop(f"{path} is a recording, and {form.tool} is not installed, which reads it") from None
+        try:
+            widen(tool.stdout)
+            # Of a recording that ends too early trace-cmd prints nothing, and calls that good.
+            first = tool.stdout.read(SIZE)
+            if first:
+                turn_text(form, told, first, tool.stdout)
+            status = tool.wait()
+        finally:
+            tool.kill()
+        said.seek(0)
+        for line in said:
+            text = form.heard(line.strip(), path)
+            if text:
+                told.say(text)
+    if status != 0 or not first:
+        told.say(f"{form.tool} {'failed on' if status else 'printed nothing of'} {path}")
+    return status == 0 and bool(first)
 
 
-def path_of(own, words):
-    """The file that the words name."""
-    if words[:1] == ["--"]:
-        words = words[1:]
-    elif words and words[0].startswith("-") and words[0] != "-":
-        raise SystemExit(f"{own}: no such option: {words[0]}; --help says more")
-    if len(words) > 1:
-        raise SystemExit(f"{own}: wants one FILE at most; --help says more")
-    return words[0] if words and words[0] != "-" else "/dev/stdin"
-
-
-def main(own, usage, magic, command, turn, noise):
-    """The whole script; the exit status. `magic` begins a recording, `command` and its path print the text of one, and
-    of what that says on standard error lines with `noise` are left out."""
-    if sys.argv[1:] == ["--help"]:
-        print(usage)
-        return 0
-    path = path_of(own, sys.argv[1:])
+def widen(pipe):
+    """Gives a pipe more room, where the system lets it have some."""
     try:
-        with open(path, "rb") as source:
-            if source.peek(len(magic))[: len(magic)] != magic:
-                bad = turn_lines(own, source, turn)
-            elif path == "/dev/stdin":
-                raise SystemExit(f"{own}: standard input is a recording; name its file instead")
-            else:
-                bad = turn_recording(own, command, path, turn, noise)
-        sys.stdout.flush()
-        return 1 if bad else 0
+        fcntl.fcntl(pipe, SET_PIPE_ROOM, PIPE)
+    except OSError:
+        pass
+
+
+def check_first(form, path, first):
+    """Raises `Stop` where a file that begins so is none that the tool turns. Whether it is a recording."""
+    name = "standard input" if path == "/dev/stdin" else path
+    if not first:
+        raise Stop(f"{name} is empty")
+    for magic, tool in PACKED.items():
+        if first.startswith(magic):
+            raise Stop(f"{name} is packed by {tool}: unpack it first, by {tool} -d")
+    for magic, tool in RECORDINGS.items():
+        if first.startswith(magic):
+            if tool != form.tool:
+                raise Stop(f"{name} is a recording of {tool}, which tools/from-{tool} turns")
+            if path == "/dev/stdin":
+                raise Stop("standard input is a recording; name its file instead")
+            return True
+    if b"\0" in first:
+        raise Stop(f"{name} is neither a recording of {form.tool} nor a text")
+    return False
+
+
+def turn_file(form, told, path):
+    """Turns the file of that path; the exit status."""
+    with open(path, "rb", buffering=0) as source:
+        first = source.read(SIZE)
+        if check_first(form, path, first):
+            is_good = turn_recording(form, told, path)
+        else:
+            is_good = True
+            turn_text(form, told, first, source)
+    sys.stdout.flush()
+    return 0 if is_good and not told.left_out else 1
+
+
+def run(own, form, path):
+    """Turns a file, and says in one line what is wrong with the whole of it; the exit status."""
+    try:
+        return turn_file(form, Told(own, form.name, path), path)
     except BrokenPipeError:
         # Nobody reads on, and what is left in the buffer has nowhere to go.
         os._exit(1)
+    except KeyboardInterrupt:
+        signal.signal(signal.SIGINT, signal.SIG_DFL)
+        os.kill(os.getpid(), signal.SIGINT)
+    except Stop as fault:
+        raise SystemExit(f"{own}: {fault}") from None
     except OSError as fault:
-        raise SystemExit(f"{own}: {fault.filename or 'standard output'}: {fault.strerror}")
+        raise SystemExit(f"{own}: {fault.filename or 'standard output'}: {fault.strerror}{hint(fault)}") from None
+
+
+def hint(fault):
+    """What helps where a recording is of another owner."""
+    return "; if root recorded it, sudo chown it" if isinstance(fault, PermissionError) else ""
+
+
+def main(own, usage, form, options=()):
+    """The whole script; the exit status. `form` is made of the values of these options, in their order."""
+    words, values = sys.argv[1:], dict.fromkeys(options)
+    if words == ["--help"]:
+        print(usage)
+        return 0
+    while words and words[0].startswith("-") and words[0] != "-":
+        word = words.pop(0)
+        if word == "--":
+            break
+        if word not in values:
+            raise SystemExit(f"{own}: no such option: {word}; --help says more")
+        if not words:
+            raise SystemExit(f"{own}: {word} needs a word behind it; --help says more")
+        values[word] = words.pop(0)
+    if len(words) > 1:
+        raise SystemExit(f"{own}: wants one FILE at most; --help says more")
+    path = words[0] if words and words[0] != "-" else "/dev/stdin"
+    return run(own, form(*values.values()), path)

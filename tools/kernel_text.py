@@ -1,0 +1,32 @@
+"""kernel_text.py NAME FILE: prints the kernel's text of a trace, with the names masked that would mislead the desk. NAME says so on
+standard error. It is for `record`."""
+
+import re
+import sys
+
+# Nothing is written beside the sources.
+sys.dont_write_bytecode = True
+
+from turning import run
+from turning_columns import COLUMNS, Columns
+from turning_lines import ODD, desk
+
+
+class Kernel(Columns):
+    """The text of the kernel's trace file: a line that the desk reads, with its name in the kernel's columns, stays as it is."""
+
+    pattern = re.compile(rb"^((?=[^\[\n]{16}-)%b\n)" % desk.SURE.pattern + ODD, re.MULTILINE | re.VERBOSE)
+    name = "the kernel's trace file"
+
+    def plain(self, found):
+        return [line for line, _ in found]
+
+    def aside(self, line, told):
+        return line + b"\n" if desk.SKIPPED.fullmatch(line) and not line.startswith(b" ") else None
+
+    def parts(self, line, earlier):
+        found = super().parts(line, earlier)
+        return found._replace(lead=b" " * (COLUMNS - len(found.task)))
+
+
+sys.exit(run(sys.argv[1], Kernel(), sys.argv[2]))

@@ -1,0 +1,50 @@
+"""The texts whose lines begin as the kernel's do, COMM-PID [CPU] FLAGS STAMP: EVENT: those of trace-cmd, and the kernel's own."""
+
+import re
+
+from turning import Form
+from turning_lines import OWN, Line, NotTurned, rounded
+
+# The name stands to the right in 16 columns.
+COLUMNS = 16
+TAIL = rb"(-[0-9]+ +(?:\( *[0-9-]+\) +)?\[[0-9]+\] +(?:[^ :\n]+ +)?)([0-9]{1,10})\.([0-9]{6}|[0-9]{9}): *(.*)"
+STRICT = re.compile(rb"(.{16})" + TAIL, re.DOTALL)
+# Only of a longer name, or where blanks were taken away, the line is cut as the desk does it.
+LOOSE = re.compile(rb"( *[^\n]*?)" + TAIL, re.DOTALL)
+LOST = re.compile(rb"CPU:([0-9]+) \[(?:LOST )?([0-9]+ )?EVENTS(?: DROPPED)?\]")
+# What has a CPU and a stamp is no piece of a name.
+FRONTED = re.compile(rb"-[0-9]+ +(?:\( *[0-9-]+\) +)?\[[0-9]+\] +(?:[^ :\n]+ +)?[0-9]+\.[0-9]{6}")
+
+
+class Columns(Form):
+    """A text with the name, the dash and the number of the task in columns."""
+
+    # Whether lines are turned in which the name has other columns.
+    is_loose = True
+
+    def aside(self, line, told):
+        lost = LOST.fullmatch(line)
+        if lost:
+            told.lose(int(lost[1]), int(lost[2]) if lost[2] else None)
+            return b"CPU:%d [LOST %sEVENTS]\n" % (int(lost[1]), lost[2] or b"")
+        return line + b"\n" if not line or line.startswith(b"#") else None
+
+    def split(self, line):
+        """The parts of a line as its pattern cuts it, or None."""
+        return STRICT.fullmatch(line) or (LOOSE.fullmatch(line) if self.is_loose else None)
+
+    def parts(self, line, earlier):
+        found = self.split(line)
+        if not found:
+            raise NotTurned("not of the form COMM-PID [CPU] SECONDS.FRACTION: EVENT: FIELDS")
+        task, middle, seconds, fraction, rest = found.groups()
+        label, colon, fields = rest.partition(b":")
+        if not colon or b" " in label:
+            label, fields = b"", rest
+        return Line(task.lstrip(b" "), middle, rounded(seconds, fraction), label, fields.strip(b" "))
+
+    def may_follow(self, text, piece):
+        found = self.split(text)
+        if found:
+            return bool(OWN.fullmatch(found[5].partition(b":")[0])) and not (piece and FRONTED.search(piece))
+        return text.startswith(b" ") and len(text) < COLUMNS

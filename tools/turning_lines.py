@@ -1,0 +1,133 @@
+"""A line of a trace for from-perf, from-trace-cmd and record: patterns of plain ones, and odd ones put together so that the desk
+reads of them what the tool has printed."""
+
+import importlib.util
+import os
+import re
+from typing import List, NamedTuple, Tuple
+
+# The package's patterns of lines are read without the package, which needs the library.
+_PATH = os.path.join(os.path.dirname(os.path.dirname(os.path.realpath(__file__))), "python", "histdesk", "_lines.py")
+_SPEC = importlib.util.spec_from_file_location("histdesk_lines", _PATH)
+desk = importlib.util.module_from_spec(_SPEC)
+_SPEC.loader.exec_module(desk)
+
+# The label of one of the four events, or another one, and its fields, as three groups of which the first has the number %d.
+# What is torn of the four matches nothing.
+REST = (
+    rb"(?:(sched_switch(?=:[ ]*prev_comm=)|sched_wak(?:ing|eup(?:_new)?)(?=:[ ]*comm=))|(?!sched:|%b:)([^ \n]{1,64}(?=:)))"
+    rb":[ ]*((?(%%d)(?:%b|%b)|[^\n]{0,2048}))\n"
+) % (desk.LABELS, desk.SWITCH, desk.WAKE)
+# A stamp of six or nine digits, as two groups: all digits but the sixth behind the point, then that one, and the next one too
+# where there are nine.
+STAMP = rb"([0-9]{1,9}\.[0-9]{5})([0-9](?=:)|[0-9]{2}(?=[0-9]{2}:))[0-9]*:"
+# An odd line, as one group: one that isn't plain.
+ODD = rb"|^([^\n]*)\n"
+# What stands for the second group of a stamp, rounded as the kernel rounds; from 95 on `carried` is asked.
+ROUNDED = {b"%d%d" % (digit, behind): b"%d" % (digit + (behind >= 5)) for digit in range(10) for behind in range(10)}
+ROUNDED.update({b"": b"", **{b"%d" % digit: b"%d" % digit for digit in range(10)}})
+CARRIED = b"95"
+
+OWN = re.compile(desk.LABELS)
+# As the desk cuts a line: the task ends at the first dash behind which the rest has its form.
+TASK = re.compile(rb"(.*?)-[0-9]+ +(?:\( *[0-9-]+\) +)?\[[0-9]+\] ", re.DOTALL)
+WAKE = re.compile(rb"(comm=)(.*)( pid=-?[0-9]+ prio=-?[0-9]+(?: success=-?[0-9]+)? target_cpu=[0-9]+ *)", re.DOTALL)
+SWITCH = re.compile(
+    rb"(prev_comm=)(.*)( prev_pid=-?[0-9]+ prev_prio=-?[0-9]+ prev_state=[^ \n]+ ==> next_comm=)(.*)"
+    rb"( next_pid=-?[0-9]+ next_prio=-?[0-9]+ *)",
+    re.DOTALL,
+)
+ARROW = b" ==> next_comm="
+# The most bytes of a name for the desk, and in the kernel.
+LONGEST, KERNEL_LONGEST = 31, 15
+
+
+class NotTurned(Exception):
+    """A line can't be turned: why."""
+
+
+class Line(NamedTuple):
+    """A line's parts. `middle` is what stands between the task's name and the stamp, with the dash; a label has no colon, and is
+    empty where there is none; `lead` stands before the name."""
+
+    task: bytes
+    middle: bytes
+    stamp: bytes
+    label: bytes
+    fields: bytes
+    lead: bytes = b""
+
+    def text(self, task: bytes, fields: bytes) -> bytes:
+        """The line with this name and these fields."""
+        # A name that begins with # would make it a comment.
+        lead = self.lead or (b" " if task.startswith(b"#") else b"")
+        label = self.label + b": " if self.label else b""
+        return b"%s%s%s%s: %s%s" % (lead, task, self.middle, self.stamp, label, fields)
+
+
+def carried(stem: bytes) -> bytes:
+    """A stamp of six digits, of which five are given, rounded up."""
+    seconds, _, digits = stem.partition(b".")
+    return b"%d.%05d0" % divmod(int(seconds + digits) + 1, 10**5)
+
+
+def rounded(seconds: bytes, fraction: bytes) -> bytes:
+    """A stamp of six digits. One of nanoseconds is rounded as the kernel's own text rounds it, up from the half."""
+    if len(fraction) == 6:
+        return b"%s.%s" % (seconds, fraction)
+    whole = (int(seconds) * 10**9 + int(fraction) + 500) // 1000
+    return b"%d.%06d" % divmod(whole, 10**6)
+
+
+def completed(line: Line, advice: str) -> Tuple[bytes, bool]:
+    """The line as the desk reads it, and whether a name in it was masked. Raises `NotTurned` where the desk can't read it;
+    `advice` is for fields of another layout."""
+    pieces = pieces_of(line, advice)
+    names = [line.task, *pieces[1::2]]
+    if any(b"\n" in name and len(name) > KERNEL_LONGEST for name in names):
+        raise NotTurned("the line is torn")
+    task = masked_task(line)
+    pieces[1::2] = map(masked, pieces[1::2])
+    check(line, task, pieces)
+    text = line.text(task, b"".join(pieces)).rstrip(b" ")
+    return text, [task, *pieces[1::2]] != names
+
+
+def pieces_of(line: Line, advice: str) -> List[bytes]:
+    """The fields in pieces, of which every second one is a name. Other events have one piece alone."""
+    if not OWN.fullmatch(line.label):
+        return [line.fields]
+    pattern, start = (SWITCH, b"prev_comm=") if line.label == b"sched_switch" else (WAKE, b"comm=")
+    found = pattern.fullmatch(line.fields)
+    if found:
+        return list(found.groups())
+    if line.fields.startswith(start):
+        raise NotTurned(f"the fields of {line.label.decode()} are not whole")
+    raise NotTurned(f"the fields of {line.label.decode()} are not in the kernel's layout; {advice}")
+
+
+def masked(name: bytes) -> bytes:
+    """A name of the fields without what misleads the desk."""
+    name = name.replace(b"\n", b"?")
+    return name.replace(b">", b"?") if ARROW in name else name
+
+
+def masked_task(line: Line) -> bytes:
+    """The task's name without what misleads the desk, and not longer than it takes one."""
+    task = line.task.replace(b"\n", b"?")[:LONGEST]
+    found = TASK.match(line.text(task, b""))
+    if found and found[1].lstrip(b" ") == task:
+        return task
+    return task.replace(b"[", b"?")
+
+
+def check(line: Line, task: bytes, pieces: List[bytes]) -> None:
+    """Raises `NotTurned` where the desk can't read the line, whatever its names are."""
+    names = pieces[1::2]
+    plain = pieces[:]
+    plain[1::2] = [b"x" * len(name) for name in names]
+    if desk.SURE.fullmatch(line.text(b"x" * len(task), b"".join(plain))):
+        return
+    if any(len(name) > LONGEST for name in names):
+        raise NotTurned(f"a name has more than {LONGEST} bytes")
+    raise NotTurned("a number is out of range, or the line is too long")
