@@ -23,6 +23,18 @@ prints() {
     fi
 }
 
+# has WHAT FILE PATTERN..: among the lines of the file is one of each.
+has() {
+    local pattern
+    for pattern in "${@:3}"; do
+        if grep -qx -- "$pattern" "$2"; then
+            pass
+        else
+            fail "$1: no line $pattern"
+        fi
+    done
+}
+
 # script NAME LINE..: a program of that name in bash.
 script() {
     printf '%s\n' '#!/usr/bin/env bash' "${@:2}" >"$folder/bin/$1"

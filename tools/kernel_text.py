@@ -8,7 +8,7 @@ import sys
 sys.dont_write_bytecode = True
 
 from turning import run
-from turning_columns import COLUMNS, Columns
+from turning_columns import Columns
 from turning_lines import ODD, desk
 
 
@@ -25,8 +25,8 @@ class Kernel(Columns):
         return line + b"\n" if desk.SKIPPED.fullmatch(line) and not line.startswith(b" ") else None
 
     def parts(self, line, earlier):
-        found = super().parts(line, earlier)
-        return found._replace(lead=b" " * (COLUMNS - len(found.task)))
+        # The blanks before the name stay too.
+        return super().parts(line, earlier)._replace(lead=line[: len(line) - len(line.lstrip(b" "))])
 
 
 sys.exit(run(sys.argv[1], Kernel(), sys.argv[2]))

@@ -88,7 +88,7 @@ class Turner:
         """Turns whole lines; and what of them has to be seen again with those that follow."""
         found = self.form.pattern.findall(text)
         turned = self.form.plain(found)
-        self.before, self.turned = self.turned, turned
+        self.turned = turned
         odd = [at for at, line in enumerate(turned) if line == self.odd] if self.odd in turned else []
         if len(odd) < len(turned):
             self.told.has_turned = True
@@ -101,6 +101,7 @@ class Turner:
                 end = at
                 break
         self.number += end
+        self.before = turned[:end] or self.before
         return b"".join(turned[:end]), b"".join(parts[-1] + b"\n" for parts in found[end:])
 
     def turn_odd(self, found, turned, at, is_last):

@@ -87,7 +87,10 @@ def completed(line: Line, advice: str) -> Tuple[bytes, bool]:
     if any(b"\n" in name and len(name) > KERNEL_LONGEST for name in names):
         raise NotTurned("the line is torn")
     task = masked_task(line)
-    pieces[1::2] = map(masked, pieces[1::2])
+    pieces[1::2] = [name.replace(b"\n", b"?") for name in names[1:]]
+    if ARROW in pieces[-2:-1]:
+        # The desk takes the last arrow.
+        pieces[-2] = ARROW.replace(b">", b"?")
     check(line, task, pieces)
     text = line.text(task, b"".join(pieces)).rstrip(b" ")
     return text, [task, *pieces[1::2]] != names
@@ -104,12 +107,6 @@ def pieces_of(line: Line, advice: str) -> List[bytes]:
     if line.fields.startswith(start):
         raise NotTurned(f"the fields of {line.label.decode()} are not whole")
     raise NotTurned(f"the fields of {line.label.decode()} are not in the kernel's layout; {advice}")
-
-
-def masked(name: bytes) -> bytes:
-    """A name of the fields without what misleads the desk."""
-    name = name.replace(b"\n", b"?")
-    return name.replace(b">", b"?") if ARROW in name else name
 
 
 def masked_task(line: Line) -> bytes:

@@ -41,6 +41,7 @@ class Told:
         self.masked = 0
         self.places = 0
         self.lost = {}
+        self.is_more_lost = False
         self._first_masked = ""
         self._first = []
         self._sample = []
@@ -63,7 +64,7 @@ class Told:
         if self.has_turned or self.left_out < most:
             return
         for pattern, what, tool in KINDS:
-            if what != self.form and 2 * sum(map(bool, map(pattern.fullmatch, self._sample))) > len(self._sample):
+            if what != self.form and 4 * sum(map(bool, map(pattern.fullmatch, self._sample))) > len(self._sample):
                 raise Stop(f"{self.path} is no text of {self.form}, but of {what} or like it; tools/{tool} turns that")
         raise Stop(f"{self.path} is no text of {self.form}; {self._first[0]}")
 
@@ -82,6 +83,7 @@ class Told:
         """So many events of a CPU were lost at a place; None where it isn't known."""
         self.places += 1
         self.lost[cpu] = self.lost.get(cpu, 0) + (count or 0)
+        self.is_more_lost |= count is None
 
     def finish(self):
         """Says what came together. Raises `Stop` where there were lines and none was turned."""
@@ -93,6 +95,7 @@ class Told:
             lines = f"{self.masked} lines" if self.masked > 1 else "a line"
             self.say(f"names in {lines} would mislead the desk and are masked with ?; the first, {self._first_masked}")
         if self.places:
-            cpus = ", ".join(f"CPU {cpu}" for cpu in sorted(self.lost))
+            count = f"{sum(self.lost.values()) or 'some'} events{' and more' * (self.is_more_lost and any(self.lost.values()))}"
             places = f"{self.places} places" if self.places > 1 else "one place"
-            self.say(f"{sum(self.lost.values()) or 'some'} events were lost at {places} ({cpus}); the trace has lines that say where")
+            cpus = ", ".join(f"CPU {cpu}" for cpu in sorted(self.lost))
+            self.say(f"{count} were lost at {places} ({cpus}); lines of the trace say where")
