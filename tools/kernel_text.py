@@ -29,4 +29,5 @@ class Kernel(Columns):
         return super().parts(line, earlier)._replace(lead=line[: len(line) - len(line.lstrip(b" "))])
 
 
-sys.exit(run(sys.argv[1], Kernel(), sys.argv[2]))
+if __name__ == "__main__":
+    sys.exit(run(sys.argv[1], Kernel(), sys.argv[2]))

@@ -88,9 +88,9 @@ def completed(line: Line, advice: str) -> Tuple[bytes, bool]:
         raise NotTurned("the line is torn")
     task = masked_task(line)
     pieces[1::2] = [name.replace(b"\n", b"?") for name in names[1:]]
-    if ARROW in pieces[-2:-1]:
+    if len(names) == 3 and ARROW in names[2]:
         # The desk takes the last arrow.
-        pieces[-2] = ARROW.replace(b">", b"?")
+        pieces[3] = pieces[3].replace(b">", b"?")
     check(line, task, pieces)
     text = line.text(task, b"".join(pieces)).rstrip(b" ")
     return text, [task, *pieces[1::2]] != names
