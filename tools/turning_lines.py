@@ -12,12 +12,12 @@ _SPEC = importlib.util.spec_from_file_location("histdesk_lines", _PATH)
 desk = importlib.util.module_from_spec(_SPEC)
 _SPEC.loader.exec_module(desk)
 
-# The label of one of the four events, or another one, and its fields, as three groups of which the first has the number %d.
-# What is torn of the four matches nothing.
-REST = (
-    rb"(?:(sched_switch(?=:[ ]*prev_comm=)|sched_wak(?:ing|eup(?:_new)?)(?=:[ ]*comm=))|(?!sched:|%b:)([^ \n]{1,64}(?=:)))"
-    rb":[ ]*((?(%%d)(?:%b|%b)|[^\n]{0,2048}))\n"
-) % (desk.LABELS, desk.SWITCH, desk.WAKE)
+# What stands behind a stamp and its blanks, with the line break, as one group. What is torn of the four events doesn't match.
+REST = rb"((?:sched_(?:switch:[ ]{1,64}%b|wak(?:ing|eup(?:_new)?):[ ]{1,64}%b)|(?!sched:|%b:)[^ \n]{1,64}:[^\n]{0,2048})\n)" % (
+    desk.SWITCH,
+    desk.WAKE,
+    desk.LABELS,
+)
 # A stamp of six or nine digits, as two groups: all digits but the sixth behind the point, then that one, and the next one too
 # where there are nine.
 STAMP = rb"([0-9]{1,9}\.[0-9]{5})([0-9](?=:)|[0-9]{2}(?=[0-9]{2}:))[0-9]*:"
