@@ -412,6 +412,8 @@ script perf "cat '$folder/perf'" "printf '%s\n' \"'trace' not valid for hardware
 PATH=$folder/bin:$PATH gives warned 0 'from-perf: perf says: Processed 9 events and lost 2 chunks!' \
     "$tools/from-perf" "$folder/perf.data"
 
+holds "$here/turned.py" "$tools"
+
 # ---- record: a folder stands for tracefs, and its instance is made and taken away by programs of these names.
 
 tracefs=$folder/tracefs
