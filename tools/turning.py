@@ -3,17 +3,21 @@ are turned at once, odd ones one by one. What is printed, the desk loads; what c
 
 import fcntl
 import os
+import select
 import shutil
 import signal
 import subprocess
 import sys
 import tempfile
+import time
 
 from turning_lines import NotTurned, completed
 from turning_told import Stop, Told, shown
 
-# So many bytes are read at once, and so many has the pipe from a tool.
+# So many bytes are turned at once, and so many has the pipe from a tool.
 SIZE, PIPE = 1 << 18, 1 << 20
+# So many seconds a pipe is left alone that had less, for as long as more comes.
+PAUSE = 0.002
 # Linux's number of the call that asks for a pipe's room: Python has it since 3.10.
 SET_PIPE_ROOM = 1031
 # The names of a line have no more line breaks than for so many pieces, and with them it is no longer than that.
@@ -152,6 +156,25 @@ class Turner:
         return None
 
 
+class Source:
+    """A file that gives many bytes at once, though a tool may write few at a time."""
+
+    def __init__(self, file):
+        self.file = file
+
+    def read(self, size):
+        """So many bytes, or fewer where for a moment none are there; none at the end."""
+        content = self.file.read(size)
+        more = content
+        while more and len(content) < size:
+            time.sleep(PAUSE)
+            if not select.select([self.file], [], [], 0)[0]:
+                break
+            more = self.file.read(size - len(content))
+            content += more
+        return content
+
+
 def pieces(first, source):
     """Whole lines of an open file of which the first bytes are read already, and whether they are the last ones."""
     held, chunk = [], first
@@ -197,9 +220,10 @@ def turn_recording(form, told, path):
         try:
             widen(tool.stdout)
             # Of a recording that ends too early trace-cmd prints nothing, and calls that good.
-            first = tool.stdout.read(SIZE)
+            source = Source(tool.stdout)
+            first = source.read(SIZE)
             if first:
-                turn_text(form, told, first, tool.stdout)
+                turn_text(form, told, first, source)
             status = tool.wait()
         finally:
             tool.kill()
@@ -243,7 +267,8 @@ def check_first(form, path, first):
 
 def turn_file(form, told, path):
     """Turns the file of that path; the exit status."""
-    with open(path, "rb", buffering=0) as source:
+    with open(path, "rb", buffering=0) as file:
+        source = Source(file)
         first = source.read(SIZE)
         if check_first(form, path, first):
             is_good = turn_recording(form, told, path)
