@@ -3,10 +3,10 @@
 
     turned.py TOOLS [SEED]
 
-TOOLS is the folder of the scripts; the program is the one that HISTDESK names. Another SEED gives other texts. What they print has to be loaded, line for line,
-and what isn't printed has to be counted. The texts hold over 10,000 torn lines, names made to mislead, several buffers, and
-foreign bytes. The truth is the events that the texts were written from, and tests/model_line.py, which reads lines by the
-documents. The last line says how many of how many things hold."""
+TOOLS is the folder of the scripts; the program is the one that HISTDESK names. Another SEED gives other texts. What they
+print has to be loaded, line for line, and what isn't printed has to be counted. The texts hold over 10,000 torn lines,
+names made to mislead, several buffers, and foreign bytes. The truth is the events that the texts were written from, and
+tests/model_line.py, which reads lines by the documents. The last line says how many of how many things hold."""
 
 import importlib.machinery
 import importlib.util
@@ -29,8 +29,10 @@ sys.path.insert(0, TOOLS)
 PROGRAM = os.environ["HISTDESK"]
 TORN, ODD = 4000, 1500
 # What misleads where it stands in a name, a line or between two.
-BITS = ["-12 [003] ", "-1 [000] 1.0: ", "\n", "\n\n", " ", "#", " ==> next_comm=", "[", "] ", ":", " pid=7", " prio=1", "\x1b[m", "\xe9\xff"]
-BITS += [" next_pid=5", " prev_state=R", "=", "-", "7", " 12 [0", "CPU:1 [LOST ", "one: ", "a", "xyz", "(  -9) ", "\t", "\r", "5 "]
+BITS = ["-12 [003] ", "-1 [000] 1.0: ", "\n", "\n\n", " ", "#", " ==> next_comm=", "[", "] ", ":", " pid=7", " prio=1"]
+BITS += [" next_pid=5", " prev_state=R", "=", "-", "7", " 12 [0", "CPU:1 [LOST ", "one: ", "a", "xyz", "(  -9) ", "\t", "\r"]
+BITS += ["5 ", "\x1b[m", "\xe9\xff"]
+PLAIN = ["bash", "my app 2", "kworker/u8:1", "a-b", "<idle>", "x: y", "swapper"]
 EVENTS = ["sched_waking", "sched_wakeup", "sched_wakeup_new", "sched_switch", "irq_handler_entry"]
 passed, failed = 0, 0
 
@@ -192,7 +194,7 @@ def torn(draw: random.Random, line: str, other: str) -> str:
 def check_torn(name: str, seed: int) -> int:
     """Torn lines, a whole one behind each, so that none is a piece of another one. How many weren't printed."""
     draw, (text_of, words) = random.Random(seed), FORMS[name]
-    events = some_events(draw, TORN + 1, lambda: draw.choice(["bash", "my app 2", "kworker/u8:1", "a-b", "<idle>", "x: y", "swapper"]))
+    events = some_events(draw, TORN + 1, lambda: draw.choice(PLAIN))
     whole = [text_of(event) for event in events]
     lines = [line for at in range(TORN) for line in (torn(draw, whole[at], whole[at + 1]), whole[at])]
     status, trace, said = converted(words, "\n".join(lines).encode("latin-1") + b"\n")
@@ -202,7 +204,8 @@ def check_torn(name: str, seed: int) -> int:
         print(repr(trace.decode("latin-1").split("\n")[int(answer.split()[3]) - 1]))
     check(answer == f"loaded {len(printed)}", f"{name}: {len(printed)} lines are printed, and the program says {answer}")
     gone = left_out(said)
-    check(len(lines) == len(printed) + gone + blank, f"{name}: of {len(lines)} lines {gone} are left out, {blank} blank: {said[-1:]}")
+    told = f"{gone} are left out, {blank} blank: {said[-1:]}"
+    check(len(lines) == len(printed) + gone + blank, f"{name}: of {len(lines)} lines {told}")
     check(status == 1 and len(said) < 10, f"{name}: status {status}, {len(said)} lines on standard error")
     read = iter([meaning(line) for line in printed])
     kept = sum(any(is_true(one, event) for one in read) for event in events[:TORN])

@@ -1,5 +1,5 @@
-"""kernel_text.py NAME FILE: prints the kernel's text of a trace, with the names masked that would mislead the desk. NAME says so on
-standard error. It is for `record`."""
+"""kernel_text.py NAME FILE: prints the kernel's text of a trace, with the names masked that would mislead the desk, and says
+so by NAME on standard error. It is for `record`."""
 
 import re
 import sys
@@ -13,7 +13,7 @@ from turning_lines import ODD, desk
 
 
 class Kernel(Columns):
-    """The text of the kernel's trace file: a line that the desk reads, with its name in the kernel's columns, stays as it is."""
+    """The text of the kernel's trace file: a line that the desk reads, with its name in columns, stays as it is."""
 
     pattern = re.compile(rb"^((?=[^\[\n]{16}-)%b\n)" % desk.SURE.pattern + ODD, re.MULTILINE | re.VERBOSE)
     name = "the kernel's trace file"

@@ -1,4 +1,4 @@
-"""The texts whose lines begin as the kernel's do, COMM-PID [CPU] FLAGS STAMP: EVENT: those of trace-cmd, and the kernel's own."""
+"""The texts whose lines begin COMM-PID [CPU] FLAGS STAMP: EVENT: that of trace-cmd, and the kernel's own."""
 
 import re
 

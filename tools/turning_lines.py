@@ -1,5 +1,5 @@
-"""A line of a trace for from-perf, from-trace-cmd and record: patterns of plain ones, and odd ones put together so that the desk
-reads of them what the tool has printed."""
+"""A line of a trace for from-perf, from-trace-cmd and record: patterns of plain ones, and odd ones put together so that
+the desk reads of them what the tool has printed."""
 
 import importlib.util
 import os
@@ -47,8 +47,8 @@ class NotTurned(Exception):
 
 
 class Line(NamedTuple):
-    """A line's parts. `middle` is what stands between the task's name and the stamp, with the dash; a label has no colon, and is
-    empty where there is none; `lead` stands before the name."""
+    """A line's parts. `middle` is what stands between the task's name and the stamp, with the dash; a label has no colon,
+    and is empty where there is none; `lead` stands before the name."""
 
     task: bytes
     middle: bytes

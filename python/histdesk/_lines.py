@@ -6,8 +6,8 @@ import re
 import threading
 from typing import List
 
-# Pieces of patterns, in which blanks and comments mean nothing (`re.VERBOSE`). All repeats have bounds, whose sum over a line is
-# below the 4,096 bytes that it may have.
+# Pieces of patterns, in which blanks and comments mean nothing (`re.VERBOSE`). All repeats have bounds, whose sum over a
+# line is below the 4,096 bytes that it may have.
 _NUMBER = rb"-?[0-9]{1,9}"
 _NAME = rb"[^\n]{0,31}"
 LABELS = rb"sched_(?:switch|wak(?:ing|eup(?:_new)?))"
@@ -33,8 +33,8 @@ _OTHER = rb"(?![ ]*" + LABELS + rb":)(?:[ ][^\n]{0,2048})?"
 
 SURE = re.compile(rb"^" + _FRONT + rb"(?:" + _OWN + rb"|" + _OTHER + rb")$", re.VERBOSE | re.MULTILINE)
 """Matches lines that hold an event which the desk reads, and no others. A few that it reads don't match: those with odd names,
-very long ones, numbers near their limits. It matches a line alone (`SURE.fullmatch(line)`, without its line break) and the lines
-of a whole text: `SURE.sub(b"", text)` leaves those that are not sure, each at its number."""
+very long ones, numbers near their limits. It matches a line alone (`SURE.fullmatch(line)`, without its line break) and
+the lines of a whole text: `SURE.sub(b"", text)` leaves those that are not sure, each at its number."""
 
 SKIPPED = re.compile(
     rb"^(?:[ \t]{0,4096}|\#[^\n]{0,4095}|CPU:[0-9]{1,64}[ ]\[LOST[ ](?:[0-9]{1,64}[ ])?EVENTS\])$", re.VERBOSE | re.MULTILINE
