@@ -23,7 +23,12 @@ SET_PIPE_ROOM = 1031
 # The names of a line have no more line breaks than for so many pieces, and with them it is no longer than that.
 PIECES, JOINED_ROOM = 46, 512
 PACKED = {b"\x1f\x8b": "gzip", b"\x28\xb5\x2f\xfd": "zstd", b"\xfd7zXZ": "xz", b"BZh": "bzip2"}
-RECORDINGS = {b"PERFILE2": "perf", b"2ELIFREP": "perf", b"\x17\x08\x44tracing": "trace-cmd"}
+# The tool whose recordings begin so, and what turns them.
+RECORDINGS = {
+    b"PERFILE2": ("perf", "tools/from-perf"),
+    b"2ELIFREP": ("perf", "tools/from-perf"),
+    b"\x17\x08\x44tracing": ("trace-cmd", "tools/from-trace-cmd"),
+}
 
 
 class Form:
@@ -253,10 +258,10 @@ def check_first(form, path, first):
     for magic, tool in PACKED.items():
         if first.startswith(magic):
             raise Stop(f"{name} is packed by {tool}: unpack it first, by {tool} -d")
-    for magic, tool in RECORDINGS.items():
+    for magic, (tool, turned_by) in RECORDINGS.items():
         if first.startswith(magic):
             if tool != form.tool:
-                raise Stop(f"{name} is a recording of {tool}, which tools/from-{tool} turns")
+                raise Stop(f"{name} is a recording of {tool}, which {turned_by} turns")
             if path == "/dev/stdin":
                 raise Stop("standard input is a recording; name its file instead")
             return True

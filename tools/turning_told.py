@@ -10,11 +10,11 @@ FOREIGN = 200
 STAMP = rb"[0-9]+\.[0-9]{6,9}: +"
 # What prints a text, by a pattern of its lines, and which tool turns it.
 KINDS = [
-    (re.compile(rb".*[^ ] +(?:[0-9]+/)?[0-9]+ +\[[0-9]+\] +%b[^ ]+:.*" % STAMP), "perf script", "from-perf"),
+    (re.compile(rb".*[^ ] +(?:[0-9]+/)?[0-9]+ +\[[0-9]+\] +%b[^ ]+:.*" % STAMP), "perf script", "tools/from-perf"),
     (
         re.compile(rb".*-[0-9]+ +(?:\( *[0-9-]+\) +)?\[[0-9]+\] +(?:[^ :]+ +)?%b.*" % STAMP),
         "trace-cmd report",
-        "from-trace-cmd",
+        "tools/from-trace-cmd",
     ),
 ]
 
@@ -65,7 +65,7 @@ class Told:
             return
         for pattern, what, tool in KINDS:
             if what != self.form and 4 * sum(map(bool, map(pattern.fullmatch, self._sample))) > len(self._sample):
-                raise Stop(f"{self.path} is no text of {self.form}, but of {what} or like it; tools/{tool} turns that")
+                raise Stop(f"{self.path} is no text of {self.form}, but of {what} or like it; {tool} turns that")
         raise Stop(f"{self.path} is no text of {self.form}; {self._first[0]}")
 
     def say_first(self):
