@@ -209,8 +209,19 @@ def check_torn(name: str, seed: int) -> int:
     check(status == 1 and len(said) < 10, f"{name}: status {status}, {len(said)} lines on standard error")
     read = iter([meaning(line) for line in printed])
     kept = sum(any(is_true(one, event) for one in read) for event in events[:TORN])
+    check_sure(lines)
     check(kept == TORN, f"{name}: {kept} of {TORN} whole lines are turned as they should be")
     return gone
+
+
+def check_sure(lines: List[str]) -> None:
+    """Lines that the package takes for sure are read by the documents, too, and those that it skips are skipped."""
+    from turning_lines import desk
+
+    sure = [line for line in lines if desk.SURE.fullmatch(line.encode("latin-1"))]
+    wrong = [line for line in sure if not isinstance(meaning(line), dict)]
+    wrong += [line for line in lines if desk.SKIPPED.fullmatch(line.encode("latin-1")) and meaning(line) is not None]
+    check(not wrong, f"{len(wrong)} lines are no sure ones, such as {wrong[:1]}")
 
 
 # ---- names
