@@ -24,13 +24,17 @@ FIRST += [TURN + "keys=next_pid:lat=common_timestamp.usecs-$ts0", "   ", WAKE + 
 # Behind these histwatch prints rows.
 FIRST += ["insert a-1 [003] 1.000000: sched_waking: comm=x pid=7 prio=1 target_cpu=000", "strike 3:1"]
 TRACES = {"good.trace": "a-1 [001] 1.000000:\n", "bad.trace": "# tracer: nop\na-1 [001] 1.000000:\nb-2 [001] 1.00\n"}
+# How the recordings of perf and of trace-cmd begin, and what gzip packs.
+TRACES.update({"perf.data": "PERFILE2\0", "trace.dat": "\x17\x08Dtracing6\0", "my own.gz": "\x1f\x8b\x08\0"})
 LINE = "insert a-1 [000] 1.000000: "
 MAKER = TURN + "keys=next_pid:l=common_timestamp.usecs-$ts0:onmatch(sched.sched_"
 SECOND = "onmatch(sched.sched_waking).wakeup_latency($l,pid,prio)"
+STAMP, EATEN = "common_timestamp.usecs", ":lat=common_timestamp.usecs-$ts0"
+NSECS = "but .nsecs is not the kernel's, which has .usecs alone"
 BAD_SWITCH = LINE + "sched_switch: bash:1 [120] S ==> idle:0 [120]"
 
 REFUSALS = [
-    ("load @3", "2", "the traces are @1 to @2", None),
+    ("load @6", "2", "the traces are @1 to @5", None),
     ("load @1", "4: cpu 1", "unload 1 takes them away", None),
     ("list 2", "5: cpu 2", "none was loaded or inserted", None),
     ("strike 1:09", "6", "no line 9", None),
@@ -66,6 +70,9 @@ COMMANDS = [
 ]
 LINES = [
     ("load @2", "3: line 3 fault 3", "bad.trace, line 3: no stamp", None),
+    ("load @3", "3: line 1 fault 1", "recording of perf; tools/from-perf perf.data >my.trace makes a trace", None),
+    ("load @4", "3: line 1 fault 1", "recording of trace-cmd; tools/from-trace-cmd trace.dat >my.trace", None),
+    ("load @5", "3: line 1 fault 1", "it is packed by gzip; write <(zcat 'my own.gz') in its place", None),
     ("insert hello", "3: line 1 fault 1", "", None),
     ("insert a 1 [000] 1.000000: sched:x: y", "3: line 1 fault 1", "tools/from-perf", None),
     ("insert cpus=4", "3: line 1 fault 1", "tools/from-trace-cmd", None),
@@ -106,14 +113,18 @@ FILTERS = [
 TRIGGERS = [
     ("attach sched_waking", "2 at 0", "a trigger begins with hist:", ""),
     ("attach sched_waking keys=prio", "2 at 0", "a trigger begins with hist:", "keys=prio"),
+    ("attach sched_waking 'hist:keys=pid'", "2 at 0", "quotes are for the shell", "'hist:keys=pid'"),
     (WAKE + "keys=pid:", "2 at 14", "an empty part", ""),
     (WAKE + "keys=pid:szie", "2 at 14", "did you mean size=?", "szie"),
     (WAKE + "keys=pid,", "2 at 14", "an item is a field", ""),
     (WAKE + "vals=prio", "2 at 14", "it has no keys", ""),
+    (TURN + "keys=next_pid:vals=:lat=common_timestamp.usecs-$ts0", "2 at 24", "a shell takes", EATEN),
+    (TURN + "keys=next_pid:sort=.descending", "2 at 24", "a $NAME is wanting", ".descending"),
     (WAKE + "keys=pid  if", "2 at 15", "behind the head stands if and a filter", "if"),
     (WAKE + "keys=comm,pids", "3", "did you mean pid?", "pids"),
     (WAKE + "keys=next_pid", "3", "sched_switch has it", "next_pid"),
     (WAKE + "keys=pid:vals=$lat", "3", "the trigger's own variable", "$lat"),
+    (TURN + "keys=next_pid:vals=la:la=common_timestamp.usecs-$ts0", "3", "did you mean $la?", f"la:la={STAMP}-$ts0"),
     (WAKE + "keys=pid:vals=comm", "4", "", "comm"),
     (WAKE + "keys=pid,prio,target_cpu,comm", "5", "", "comm"),
     (WAKE + "keys=pid:sort=pid,hitcount,prio", "5", "", "prio"),
@@ -129,6 +140,12 @@ TRIGGERS = [
     (WAKE + "keys=pid.execname", "10 at 10", "", "pid.execname"),
     (WAKE + "keys=pid:pause", "10 at 14", "", "pause"),
     (WAKE + "kyes=pid", "10 at 5", "did you mean keys=?", "kyes=pid"),
+    (TURN + "keys=next_pid:l=common_timestamp.usecs-ts0", "10 at 19", f"mean l={STAMP}-$ts0?", f"l={STAMP}-ts0"),
+    (TURN + "keys=next_pid:l=$ts0-common_timestamp.usecs", "10 at 19", f"mean l={STAMP}-$ts0?", f"l=$ts0-{STAMP}"),
+    (TURN + "keys=next_pid:l=common_timestamp.usecs-", "10 at 19", "a shell takes", f"l={STAMP}-"),
+    (WAKE + "keys=pid:t=common_timestamp.nsecs", "10 at 14", NSECS + f"; did you mean t={STAMP}?", "t=common_timestamp.nsecs"),
+    (WAKE + "keys=pid:vals=common_timestamp.nsecs", "10 at 19", NSECS, "common_timestamp.nsecs"),
+    (WAKE + f"keys=pid:t={STAMP}:u={STAMP}", "10 at 39", "and this is its second", f"u={STAMP}"),
     (MAKER + "waking).wakeup_latency($l,pid,next_prio)", "3", "the wake events have it; sched_switch", "pid,next_prio)"),
     (MAKER + "waking).wakeup_latency($l,next_pid,next_comm)", "4", "", "next_comm)"),
     (MAKER + "waking).wakeup_latency($t,next_pid,next_pid)", "3", "of a trigger that reads", "$t,next_pid,next_pid)"),
@@ -204,7 +221,7 @@ def main():
     rows = all_rows()
     os.chdir(folder)
     for name, text in TRACES.items():
-        with open(name, "w") as file:
+        with open(name, "w", encoding="latin-1") as file:
             file.write(text)
     with open("script", "w", newline="") as file:
         file.write("\n".join(FIRST + [row[0] for row in rows]))

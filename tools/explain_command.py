@@ -68,8 +68,9 @@ def matched_event(trigger):
     return None
 
 
-def bad_command(asked, traces):
-    """Why the line is no command, behind a sign, and the place of the part that is wrong, if it is known."""
+def bad_command(asked, traces, more=()):
+    """Why the line is no command, behind a sign, and the place of the part that is wrong, if it is known. `more` are words of
+    commands that a script doesn't have."""
     if len(asked) > 8192:
         return ": the line has more than 8,192 bytes", None
     text = asked.strip(" ")
@@ -89,7 +90,7 @@ def bad_command(asked, traces):
         return bad_load(rest, at_rest, traces)
     if word in FORMS:
         return bad_form(word, rest, at_rest)
-    return near(word, FORMS), 0
+    return near(word, [*FORMS, *more]), 0
 
 
 def bad_event(rest, at):

@@ -3,9 +3,14 @@ stand there, and which tool turns the text. Each hint begins with a sign. Texts 
 
 import re
 
-from explain_command import ONMATCH_FORM
-from explain_trigger import offender
+from explain_command import NAME, ONMATCH_FORM, VARIABLE
+from explain_trigger import KINDS, offender
 from explain_texts import EVENTS, MADE, TEXT_FIELDS, field_meant, nearest
+
+VARIABLE_FORM = "NAME=common_timestamp.usecs or NAME=common_timestamp.usecs-$OTHER"
+# The stamp of an event as somebody may write it, with its unit.
+STAMP = re.compile(r"(?:common_?)?(?:timestamps?|\btime|\bts)\b(\.[A-Za-z]*)?")
+EATEN = "a $NAME is wanting: a shell takes one in double quotes for its own, and leaves it in single quotes"
 
 
 def line_hint(fault, line):
@@ -114,14 +119,14 @@ def trigger_hint(event, text, told):
 def bad_form(text, place):
     head = re.match("[^ \t]*", text)[0]
     if not head.startswith("hist:"):
-        return "a trigger begins with hist:" + ("; the head of a trigger holds no spaces" if head == "hist" else "")
+        return "a trigger begins with hist:" + wrong_begin(text, head)
     if place > len(head):
         return "behind the head stands if and a filter, or nothing; the head itself holds no spaces"
     if place == len(head) and not re.search(":keys?=", head):
         return "it has no keys"
     before = head[:place]
     if before.endswith((",", "=")):
-        return "an item is a field or a variable, perhaps with a modifier"
+        return "an item is a field or a variable, perhaps with a modifier" + eaten(before, head[place:])
     part = head[place:].split(":")[0]
     if not part:
         return "an empty part"
@@ -129,17 +134,57 @@ def bad_form(text, place):
     return "no such part" + (f"; did you mean {found}=?" if found and found != "pause" else "")
 
 
+def wrong_begin(text, head):
+    """What is known of a trigger that doesn't begin with hist:."""
+    if text.startswith(("'", '"')):
+        return "; quotes are for the shell, and a script has none around a trigger"
+    return "; the head of a trigger holds no spaces" if head == "hist" else ""
+
+
+def eaten(before, rest):
+    """What is said of an item of values or of sorting that lacks a name: perhaps a shell has taken one that began with $."""
+    word = before.rpartition(":")[2].partition("=")[0]
+    is_nameless = re.match(r"(\.ascending|\.descending)?([,:]|$)", rest)
+    return f"; {EATEN}" if is_nameless and KINDS.get(word) in ("vals", "sort") else ""
+
+
 def left_out(event, rest):
-    word, sign, _ = re.split("[:, \t]", rest)[0].partition("=")
+    word, sign, value = re.split("[:, \t]", rest)[0].partition("=")
     if rest.startswith("onmatch(") and event == MADE:
         return f"; a trigger on {MADE} makes no events"
     if rest.startswith("onmatch("):
-        return f"; of its forms the desk has {ONMATCH_FORM}, with EVENT one of {', '.join(EVENTS)}"
-    if not sign or word in ("name", "clock"):
+        taken = f"; {EATEN}" if re.search(r"\( *,", rest) else ""
+        return f"; of its forms the desk has {ONMATCH_FORM}, with EVENT one of {', '.join(EVENTS)}{taken}"
+    if not sign:
+        return other_unit(STAMP.match(word))
+    if word in ("name", "clock"):
         return ""
     found = nearest(word, ["keys", "vals", "values", "sort", "size"])
-    if found:
+    if found and not STAMP.search(value):
         return f"; did you mean {found}=?"
     if event == MADE:
         return f"; a trigger on {MADE} has no variable"
-    return "; a variable is NAME=common_timestamp.usecs or NAME=common_timestamp.usecs-$OTHER, and a trigger has one"
+    return bad_variable(word, value)
+
+
+def other_unit(stamp):
+    """What is said of a stamp whose unit the kernel doesn't have: the library calls all that is unknown the kernel's."""
+    unit = stamp and stamp[1]
+    return f"; but {unit} is not the kernel's, which has .usecs alone" if unit and unit != ".usecs" else ""
+
+
+def bad_variable(name, value):
+    """What is said of a variable part NAME=VALUE that is of no form, or one too many."""
+    stamp = STAMP.search(value)
+    if VARIABLE.fullmatch(f"{name}={value}"):
+        return "; a trigger has one variable, and this is its second"
+    if not stamp or not re.fullmatch(NAME, name):
+        return f"; a variable is {VARIABLE_FORM}, and a trigger has one"
+    said = other_unit(stamp)
+    rest = value[: stamp.start()] + value[stamp.end() :]
+    other = re.fullmatch(rf"(-?)[$]?(?:[{{](?={NAME}[}}]))?({NAME})?[}}]?(-?)", rest)
+    if not other or rest and not (other[1] or other[3]):
+        return f"{said}; a variable is {VARIABLE_FORM}"
+    if rest and not other[2]:
+        return f"{said}; {EATEN}"
+    return f"{said}; did you mean {name}=common_timestamp.usecs{f'-${other[2]}' if rest else ''}?"
