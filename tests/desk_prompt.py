@@ -282,6 +282,18 @@ def completes(folder):
     same("the status", desk.ends(), 0)
 
 
+def opened_by_both(fifo):
+    """The end of a pipe to which is written, once somebody reads it."""
+    end = time.monotonic() + LIMIT
+    while True:
+        try:
+            return os.open(fifo, os.O_WRONLY | os.O_NONBLOCK)
+        except OSError:
+            if time.monotonic() > end:
+                raise Wrong("the pipe isn't read")
+            time.sleep(0.01)
+
+
 def goes_on(folder):
     """Ctrl-C drops the line that is typed, and ends a load that waits for its file, not the desk."""
     fifo = os.path.join(folder, "fifo")
@@ -295,10 +307,10 @@ def goes_on(folder):
     same("dropped", desk.asks("totals 1"), b"hits 0 entries 0 dropped 0\n")
     desk.beside()
     desk.types("load fifo\n")
-    desk.shown(b"load fifo\r\n")
-    time.sleep(0.3)
+    writer = opened_by_both(fifo)
     desk.types(b"\x03")
     desk.shown()
+    os.close(writer)
     same("interrupted", desk.beside(), "  interrupted\n")
     same("goes on", desk.asks("totals 1"), b"hits 0 entries 0 dropped 0\n")
     same("the status", desk.ends(), 0)

@@ -1,10 +1,11 @@
 #!/usr/bin/env bash
 # program.sh [HISTDESK [PLAINDESK [ASKAGAIN [HISTWATCH]]]]: runs a program as a user would: the rows, the examples,
 # words, folders, full disks, limits of files, full desks, a script that is typed, hostile bytes, growths of
-# memory that are refused, random scripts, and the tools around it (tools.sh). Where PLAINDESK is given, it runs
-# the rows, the full desks and the hostile bytes too; ASKAGAIN runs the rows in memory, and asks a second time for
-# what found no memory, in some of them; HISTWATCH prints which rows edits change. Without words, it runs the
-# launcher and those of the other three that are built. It prints what went wrong, and a last line with the counts.
+# memory that are refused, random scripts, the launchers (launchers.sh) and the tools around it (tools.sh). Where
+# PLAINDESK is given, it runs the rows, the full desks and the hostile bytes too; ASKAGAIN runs the rows in memory,
+# and asks a second time for what found no memory, in some of them; HISTWATCH prints which rows edits change. Without
+# words, it runs the launcher and those of the other three that are built. It prints what went wrong, and a last line
+# with the counts.
 #
 # A row is a folder in tests/rows: a script, its traces, its whole output and its exit status.
 set -uo pipefail
@@ -26,6 +27,8 @@ gives() {
     timeout "$limit" "$@" >"$folder/out" 2>"$folder/err" </dev/null
     status=$?
     told=$(<"$folder/err")
+    # The launcher says more behind the program's line.
+    [[ $histdesk != "$launcher" ]] || told=${told%%$'\n'*}
     if [[ $status == "$want" && $told == "$error" ]]; then
         pass
     else
@@ -149,12 +152,12 @@ asks_again() {
     refused asked_again.py "$1" "${names[@]/#/$here/rows/}"
 }
 
-# The tools around the program: each of their tests is a test here.
-tools() {
+# counted COMMAND..: a script of tests, each of which is a test here.
+counted() {
     local told
-    told=$("$here/tools.sh" "$histdesk" ${histwatch:+"$histwatch"} 2>&1)
+    told=$("$@" 2>&1)
     if ! [[ ${told##*$'\n'} =~ ^([0-9]+)' passed, '([0-9]+)' failed'$ ]]; then
-        fail "tools: $told"
+        fail "${1##*/}: $told"
         return
     fi
     passed=$((passed + BASH_REMATCH[1]))
@@ -237,20 +240,6 @@ built() {
     fi
 }
 
-# on_terminal WHAT STATUS LINE FRONT COMMAND: the command's status on a terminal, the first line that it says there, and
-# what a later line begins with.
-on_terminal() {
-    local status told
-    script -qec "$5" /dev/null </dev/null | tr -d '\r' >"$folder/told"
-    status=${PIPESTATUS[0]}
-    told=$(<"$folder/told")
-    if [[ $status == "$2" && ${told%%$'\n'*} == "$3" && $told == *$'\n'"$4"* ]]; then
-        pass
-    else
-        fail "$1 on a terminal: status $status, $told"
-    fi
-}
-
 if (($# == 0)); then
     plaindesk=$(built plaindesk)
     askagain=$(built askagain)
@@ -319,13 +308,6 @@ gives full_disk 2 "histdesk: write failed" bash -c 'exec "$@" >/dev/full' - "$hi
 full_desk "$histdesk" ${plaindesk:+"$plaindesk"}
 types
 
-# The launcher refuses these words by itself, before it builds anything; on a terminal the usage stands behind the line.
-for word in --help -h --version; do
-    gives "launcher $word" 2 "histdesk: bad words" "$launcher" "$word"
-    prints "launcher $word" "$folder/empty"
-    on_terminal "launcher $word" 2 "histdesk: bad words" "histdesk [SCRIPT [TRACE]...]: " "'$launcher' $word"
-done
-
 # The launcher itself is a script that bash runs, whose growths are none of the program's.
 if [[ $histdesk == "$launcher" ]]; then
     histdesk=$here/../crates/histdesk/out/histdesk
@@ -341,7 +323,8 @@ fi
 if [[ -n $histwatch ]]; then
     watches "$histwatch"
 fi
-tools
+counted "$here/launchers.sh" "$histdesk" ${histwatch:+"$histwatch"}
+counted "$here/tools.sh" "$histdesk" ${histwatch:+"$histwatch"}
 holds "$here/documents.py"
 
 echo "$passed passed, $failed failed"

@@ -1,7 +1,8 @@
 #!/usr/bin/env bash
 # tools.sh [HISTDESK [HISTWATCH]]: runs the scripts of tools/ as a user would: explain over the rows and over a table of
-# refusals and faults, by HISTWATCH too where it is given, the others on short texts and on a folder that stands for
-# tracefs. Without a word, it runs the launcher. It prints what went wrong, and a last line with the counts.
+# refusals and faults, by HISTWATCH too where it is given, desk over the rows and on a terminal, the others on short texts
+# and on a folder that stands for tracefs. Without a word, it runs the launcher. It prints what went wrong, and a last line
+# with the counts.
 set -uo pipefail
 
 here=$(dirname -- "$(realpath -- "${BASH_SOURCE[0]}")")
@@ -43,6 +44,32 @@ inserted 1:2
 1:2 a-1 [001] 1.000000:
 refused 10
   line 10: totals 5: no such trigger is attached; none is'
+
+# With --strict nothing is printed behind the first refused line, so no table of a trace that was not loaded.
+printf '%s\n' 'load @1' 'attach sched_waking hist:keys=pid' 'hist 1' >"$folder/strict"
+told="refused 3: line 15 fault 3
+  line 1: load @1: $examples/torn.trace, line 15: no stamp SECONDS.MICROSECONDS: stands where one is due, or the flags \
+before it have over 16 bytes
+              <idle>-0       [003] d.h4.  6012.00"
+lost='explain: --strict ends at line 1, which was refused'
+gives strict 1 "$lost" "$tools/explain" --strict "$folder/strict" "$examples/torn.trace"
+prints strict "$told"
+gives strict_typed 1 "$lost" "$tools/explain" - --strict -- "$examples/torn.trace" <"$folder/strict"
+prints strict_typed "$told"
+gives strict_accepted 0 "" "$tools/explain" "$examples/wakeups.script" --strict "$examples/wakeups.trace"
+prints strict_accepted "$(<"$examples/wakeups.expected")"
+# A trace in the script's place is told, and not each of its lines; so is a recording.
+lost='it looks like a trace, and the script stands before it: tools/explain SCRIPT'
+gives no_script 2 "explain: $examples/wakeups.trace is no script: $lost $examples/wakeups.trace" "$tools/explain" "$examples/wakeups.trace"
+prints no_script ""
+gives no_typed_script 2 "explain: standard input is no script: $lost /dev/stdin" "$tools/explain" <"$examples/wakeups.trace"
+printf 'PERFILE2' >"$folder/recorded"
+gives recorded 2 "explain: $folder/recorded is no script: it is a recording of perf; *" "$tools/explain" "$folder/recorded"
+# A pipe that nobody reads any more ends it by the signal, as others.
+{ echo 'load @1' && yes 'list 0' | head -n 20000; } >"$folder/many"
+"$tools/explain" "$folder/many" "$examples/wakeups.trace" 2>"$folder/err" | head -n 1 >"$folder/out"
+echo "${PIPESTATUS[0]} $(<"$folder/err")" >>"$folder/out"
+prints closed_pipe $'loaded 27\n141 '
 
 if [[ -n $histwatch ]]; then
     HISTDESK=$histwatch holds "$here/explained.py" "$tools/explain" "$folder/table"
@@ -116,6 +143,11 @@ if [[ $? == 1 && $try -lt 500 ]]; then
 else
     fail "explained as it is typed: $(<"$folder/seen")"
 fi
+
+# ---- desk
+
+holds "$here/desk_prompt.py" "$tools/desk" "$here"/rows/*
+gives desk_usage 0 "" "$tools/desk" --help
 
 # ---- bars
 

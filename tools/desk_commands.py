@@ -2,6 +2,7 @@
 commands are Latin-1, a character for each byte."""
 
 import contextlib
+import errno
 import os
 import signal
 import warnings
@@ -97,7 +98,11 @@ class Commands:
     def load(self, rest: str) -> Answer:
         """A trace by its number, or by its path where there is such a file."""
         path = self.path_of(rest)
-        content = self.read(path)
+        try:
+            content = self.read(path)
+        except OSError as error:
+            # What is packed and torn says neither a number nor the path.
+            raise OSError(error.errno or errno.EIO, error.strerror or str(error), path) from None
         try:
             with self.whole(), warnings.catch_warnings():
                 # The prompt says it in a line of its own.
