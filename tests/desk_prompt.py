@@ -106,12 +106,15 @@ class Typed:
         os.close(slave)
         self.shown()
 
-    def shown(self, until=PROMPT):
-        """What the terminal shows up to the next prompt."""
+    def shown(self, until=PROMPT, again=b""):
+        """What the terminal shows up to the next prompt; while it shows nothing, keys are typed again."""
         text, end = b"", time.monotonic() + LIMIT
         while not text.endswith(until):
-            if not select.select([self.master], [], [], max(end - time.monotonic(), 0))[0]:
-                raise Wrong(f"no prompt, but {text[-500:]!r}")
+            if not select.select([self.master], [], [], 1)[0]:
+                if time.monotonic() > end:
+                    raise Wrong(f"no prompt, but {text[-500:]!r}")
+                self.types(again)
+                continue
             try:
                 text += os.read(self.master, 65536)
             except OSError:
@@ -127,6 +130,11 @@ class Typed:
         self.types(line + ("\n" if isinstance(line, str) else b"\n"))
         # The line is shown as it is typed.
         return self.shown().partition(b"\n")[2].removesuffix(PROMPT)
+
+    def interrupted(self):
+        """Ctrl-C, and what the terminal shows behind it. Of one that comes just before it waits, Python learns with the next."""
+        self.types(b"\x03")
+        return self.shown(again=b"\x03")
 
     def beside(self):
         """What was said beside that, since the last look."""
@@ -194,10 +202,10 @@ def tells_refusals(folder):
     same("refused", desk.asks("attach sched_waking hist:keys=comm,pids"), b"refused 8: fault 3\n")
     words = "the event has no such field, or the trigger no such variable; did you mean pid?"
     command = "  attach sched_waking hist:keys=comm,pids"
-    same("words", desk.beside(), f"{command}: {words}\n{' ' * (len(command) - 4)}^\n")
+    same("words", desk.beside(), f"{command}\n{' ' * (len(command) - 4)}^\n  {words}\n")
     same("attached", desk.asks(SAVER), b"attached 1\n")
     same("no saver", desk.asks("attach sched_switch hist:keys=next_comm:l=common_timestamp.usecs-$ts0"), b"refused 14\n")
-    has("no saver", desk.beside(), ": trigger 1 saves ts0 by pid; ")
+    has("no saver", desk.beside(), "  its keys don't match those of the trigger that saves what it reads: trigger 1 saves ts0 by pid; ")
     same("taken", desk.asks(SAVER), b"refused 12: trigger 1\n")
     has("taken", desk.beside(), "; trigger 1 is sched_waking hist:keys=pid:ts0=common_timestamp.usecs\n")
     same("like help", desk.asks("helo"), b"refused 16\n")
@@ -302,14 +310,12 @@ def goes_on(folder):
     same("attached", desk.asks(SAVER), b"attached 1\n")
     desk.types("remove 1")
     desk.shown(b"remove 1")
-    desk.types(b"\x03")
-    desk.shown()
+    desk.interrupted()
     same("dropped", desk.asks("totals 1"), b"hits 0 entries 0 dropped 0\n")
     desk.beside()
     desk.types("load fifo\n")
     writer = opened_by_both(fifo)
-    desk.types(b"\x03")
-    desk.shown()
+    desk.interrupted()
     os.close(writer)
     same("interrupted", desk.beside(), "  interrupted\n")
     same("goes on", desk.asks("totals 1"), b"hits 0 entries 0 dropped 0\n")

@@ -1,6 +1,7 @@
 """The prompt of desk: takes lines that are typed or come from a pipe, shows what they print, and says what a refusal means."""
 
 import os
+import shutil
 import stat
 import sys
 from typing import Any, Callable, Dict, List, Optional, Tuple
@@ -17,6 +18,8 @@ from histdesk import _shown
 from histdesk._losses import seconds
 
 PROMPT = "desk> "
+# What stands before that which is said of a line that was typed.
+TYPED = "  "
 LESS = "desk --from STAMP --until STAMP, or --events sched_waking,sched_switch, takes less of it"
 BY = ("task", "name", "cpu", "prio", "kind")
 
@@ -27,6 +30,15 @@ class DeskRefusals(Refusals):
     def __init__(self, traces: List[str]) -> None:
         super().__init__(traces, LESS, unpacks=True)
         self.own: Dict[str, str] = {}
+
+    def told(self, front: str, command: str, place: Optional[int], meaning: str) -> List[str]:
+        """Under a line that was typed its meaning alone, or, where there is a place, as much as fits of the line once more."""
+        if front != TYPED:
+            return super().told(front, command, place, meaning)
+        if place is None:
+            return [front + meaning]
+        line, column = shown(command, place, max(shutil.get_terminal_size().columns - len(front) - 5, 20))
+        return [front + line, " " * (len(front) + column) + "^", front + meaning]
 
     def hint(self, asked: str, told: Dict[str, int]) -> Tuple[str, Optional[int]]:
         if told["refused"] != 16:
@@ -177,7 +189,7 @@ class Prompt:
     def say_refused(self, asked: str, refusal: Refusal) -> None:
         """The refusal's line, and what it means."""
         write(refusal.text.encode() + b"\n")
-        front = "  " if self.is_typed else f"  line {self.number}: "
+        front = TYPED if self.is_typed else f"  line {self.number}: "
         note("\n".join(self.refusals.explained(front, asked, refusal.text, refusal.path)))
 
     def say_of(self, word: str, answer: Answer) -> None:

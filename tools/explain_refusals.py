@@ -52,28 +52,34 @@ class Refusals:
         try:
             words = refusal_words(text)
         except ValueError:
-            return with_caret(front, command, None, "no refusal that the library knows")
+            return self.told(front, command, None, "no refusal that the library knows")
         # The refusal's numbers by their names.
         told = {name: int(digits) for name, digits in re.findall("([a-z]+) ([0-9]+)", text)}
         loads = asked.lstrip(" ").startswith("load")
         if loads and path is None and told["refused"] in (3, 7) and "@" in command:
             path = self.traces[int(command.partition("@")[2]) - 1]
         if told["refused"] == 3 and path is not None:
-            return self.bad_trace(with_caret(front, command, None, "")[0], path, words, told)
+            meaning, *line = self.bad_trace(path, words, told)
+            return [*self.told(front, command, None, meaning), *line]
         if told["refused"] in UNREADABLE:
             # What is wrong with the command's text stands behind what it is.
             words = words.partition(": ")[2]
         hint, place = self.hint(asked, told)
-        return with_caret(front, command, place, words + hint)
+        return self.told(front, command, place, words + hint)
 
-    def bad_trace(self, front: str, path: str, words: str, told: Dict[str, int]) -> List[str]:
+    def told(self, front: str, command: str, place: Optional[int], meaning: str) -> List[str]:
+        """The lines that show a command with its meaning, and a caret under the place, if there is one."""
+        lines: List[str] = with_caret(front, command, place, meaning)
+        return lines
+
+    def bad_trace(self, path: str, words: str, told: Dict[str, int]) -> List[str]:
         """What is wrong with a trace, and its line."""
         kind = kind_of(path, first_bytes(path), self.unpacks) if told["line"] == 1 else None
         if kind:
-            return [f"{front}{path}, {words}; {kind}"]
+            return [f"{path}, {words}; {kind}"]
         line = line_of(path, told["line"], self.unpacks)
-        first = f"{front}{path}, {words}{line_hint(told['fault'], line or '')}"
-        return [first] if line is None else [first, f"    {shown(line)[0]}"]
+        meaning = f"{path}, {words}{line_hint(told['fault'], line or '')}"
+        return [meaning] if line is None else [meaning, f"    {shown(line)[0]}"]
 
     def hint(self, asked: str, told: Dict[str, int]) -> Tuple[str, Optional[int]]:
         """What follows from the command for the refusal, and the place that is meant in it, or None."""

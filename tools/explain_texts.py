@@ -21,12 +21,12 @@ def fields_of(event):
     return {"sched_switch": SWITCH_FIELDS, MADE: MADE_FIELDS}.get(event, WAKE_FIELDS)
 
 
-def shown(text, place=None):
-    """The text on one line of printable ASCII, and the column of a place in it. A long text is cut around the place."""
+def shown(text, place=None, most=MOST_SHOWN):
+    """The text on one line of printable ASCII, and the column of a place in it. A text that is longer is cut around the place."""
     start, end, dots = 0, len(text), ("", "")
-    if len(text) > MOST_SHOWN:
-        start = max(0, min((place or 0) - MOST_SHOWN // 2, len(text) - MOST_SHOWN))
-        end = start + MOST_SHOWN
+    if len(text) > most:
+        start = max(0, min((place or 0) - most // 2, len(text) - most))
+        end = start + most
         dots = (".." if start else "", ".." if end < len(text) else "")
     column = None if place is None else len(dots[0] + escaped(text[start:place]))
     return dots[0] + escaped(text[start:end]) + dots[1], column

@@ -14,13 +14,15 @@ MODIFIERS = ["hex", "log2", "buckets=N"]
 def offender(event, text, fault):
     """The place and what is said of it, or None."""
     head = re.match("[^ \t]*", text)[0]
-    own, seen, at = variable_of(head)[0], {}, 5
+    seen, at = {}, 5
     for part in head[5:].split(":"):
         found = in_part(event, part, fault, seen)
         if found:
             place = at + found[0]
-            is_own = own and fault == 3 and re.match("[A-Za-z0-9_]*", head[place:])[0] == own
-            return place, f"; did you mean ${own}?" if is_own else found[1]
+            name = re.match("[A-Za-z0-9_]*", head[place:])[0]
+            # The name of a variable wants a $, also where its own part is still wrong.
+            is_own = fault == 3 and name not in KINDS and f":{name}=" in head
+            return place, f"; did you mean ${name}?" if is_own else found[1]
         at += len(part) + 1
     return behind_parts(head, fault)
 
