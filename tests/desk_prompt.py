@@ -132,7 +132,7 @@ class Typed:
         return self.shown().partition(b"\n")[2].removesuffix(PROMPT)
 
     def interrupted(self):
-        """Ctrl-C, and what the terminal shows behind it. Of one that comes just before it waits, Python learns with the next."""
+        """Ctrl-C, and what the terminal shows behind it. Of one that comes just before it waits, Python learns by the next."""
         self.types(b"\x03")
         return self.shown(again=b"\x03")
 
@@ -205,7 +205,7 @@ def tells_refusals(folder):
     same("words", desk.beside(), f"{command}\n{' ' * (len(command) - 4)}^\n  {words}\n")
     same("attached", desk.asks(SAVER), b"attached 1\n")
     same("no saver", desk.asks("attach sched_switch hist:keys=next_comm:l=common_timestamp.usecs-$ts0"), b"refused 14\n")
-    has("no saver", desk.beside(), "  its keys don't match those of the trigger that saves what it reads: trigger 1 saves ts0 by pid; ")
+    has("no saver", desk.beside(), "  its keys don't match those of the trigger that saves what it reads: trigger 1 saves ts0")
     same("taken", desk.asks(SAVER), b"refused 12: trigger 1\n")
     has("taken", desk.beside(), "; trigger 1 is sched_waking hist:keys=pid:ts0=common_timestamp.usecs\n")
     same("like help", desk.asks("helo"), b"refused 16\n")
@@ -215,6 +215,21 @@ def tells_refusals(folder):
     same("other traces", desk.asks("load @2"), b"refused 2\n")
     has("other traces", desk.beside(), ": the only trace is @1\n")
     same("the status", desk.ends(), 0)
+
+
+def goes_on_behind_failures(folder):
+    """A file that can't be read is told. Who types goes on; a script ends there."""
+    with open(os.path.join(folder, "torn.gz"), "wb") as file:
+        file.write(gzip.compress(content(WAKEUPS))[:100])
+    desk = Typed("torn.gz", folder=folder)
+    desk.beside()
+    same("torn", desk.asks("load @1"), b"")
+    has("torn", desk.beside(), "  torn.gz: Compressed file ended before the end-of-stream marker was reached\n")
+    same("goes on", desk.asks("totals 1"), b"refused 10\n")
+    same("the status", desk.ends(), 0)
+    output, said, status = fed(["totals 1", "load @1", "totals 1"], "torn.gz", folder=folder)
+    same("a script", (output, status), (b"refused 10\n", 2))
+    has("a script", said, "desk: line 2: torn.gz: Compressed file ended")
 
 
 def knows_recordings(folder):
@@ -261,6 +276,23 @@ def takes_a_part(folder):
     output, said, _ = fed(["load @1"], "--lenient", torn, folder=folder)
     same("lenient", output, b"loaded 2\n")
     has("lenient", said, "1 lines can't be read and are left out: 15")
+
+
+def tells_waits(folder):
+    """`waits` and `why` answer of what is held now: a task waited two seconds, and without its waking none did."""
+    with open(os.path.join(folder, "held.trace"), "w") as file:
+        file.write(LOST.replace("CPU:0 [LOST 7 EVENTS]\n", ""))
+    script = ["load @1", "waits", "why 0:2", "strike 0:1", "waits", "why 0:99", "cpus"]
+    output, said, status = fed(script, "held.trace", folder=folder)
+    if b"refused 16" in output or "numpy" in said:
+        print("not tried: waits and why, which the package or numpy lacks")
+        return
+    first, second = output.decode().split("struck 0:1\n")
+    has("waits", re.sub(" +", " ", first), "b 2 woken 1 2000000.0 2000000 2000000 2000000 2000000 3.000000 0:2\n")
+    has("why", first, "b-2 (prio 120) waited 2000000 us for CPU 0")
+    same("no waits", "woken 1 " in re.sub(" +", " ", second), False)
+    same("the status", (status, said[:22]), (1, "  line 6: no event of "))
+    has("goes on", second, "CPU  events")
 
 
 def remembers(folder):
@@ -339,7 +371,8 @@ def pages(folder):
             same("paged", shown, wanted)
         else:
             told = shown.decode().split("\n")[:-1]
-            same("cut", (len(told), told[5], told[10], told[-1]), (22, "{ pid:          0 } hitcount:          1", ".. 89 lines ..", "    Dropped: 0"))
+            row = "{ pid:          0 } hitcount:          1"
+            same("cut", (len(told), told[5], told[10], told[-1]), (22, row, ".. 89 lines ..", "    Dropped: 0"))
         same("the status", desk.ends(), 0)
 
 
@@ -349,7 +382,8 @@ def hides_what_steers(folder):
         file.write(b"a\x1b[2J\xff-1 [000] 1.000000: sched_waking: comm=x\x07 pid=2 prio=1 target_cpu=000\n")
     desk = Typed(folder=folder)
     desk.asks("load steers.trace")
-    same("listed", desk.asks("list 0"), b"0:1 a\\x1b[2J\\xff-1 [000] 1.000000: sched_waking: comm=x\\x07 pid=2 prio=1 target_cpu=000\n")
+    line = b"0:1 a\\x1b[2J\\xff-1 [000] 1.000000: sched_waking: comm=x\\x07 pid=2 prio=1 target_cpu=000\n"
+    same("listed", desk.asks("list 0"), line)
     same("the status", desk.ends(), 0)
 
 
@@ -372,8 +406,8 @@ def ends_as_others(folder):
 
 
 OTHERS = [
-    loads_by_path, tells_losses, tells_refusals, knows_recordings, lists_triggers, takes_a_part, remembers, completes, goes_on,
-    pages, hides_what_steers, ends_as_others,
+    loads_by_path, tells_losses, tells_refusals, goes_on_behind_failures, knows_recordings, lists_triggers, takes_a_part,
+    tells_waits, remembers, completes, goes_on, pages, hides_what_steers, ends_as_others,
 ]  # fmt: skip
 
 
@@ -390,7 +424,8 @@ def holds(name, test, *words):
 
 def main():
     tests = [(f"{os.path.basename(row)} from a pipe", row_from_a_pipe, row) for row in ROWS]
-    tests += [(f"{os.path.basename(row)} on a terminal", row_on_a_terminal, row) for row in ROWS if lines_to_type(row) is not None]
+    typed = [row for row in ROWS if lines_to_type(row) is not None]
+    tests += [(f"{os.path.basename(row)} on a terminal", row_on_a_terminal, row) for row in typed]
     tests += [(test.__name__, test) for test in OTHERS]
     good = sum(holds(*test) for test in tests)
     print(f"{good} of {len(tests)} things hold")

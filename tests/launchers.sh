@@ -44,7 +44,7 @@ for word in --help -h; do
     prints "$word" ""
 done
 gives "histwatch --help" 2 $'histwatch: bad words\n\nhistdesk *' "$root/histwatch" --help
-tells option 2 $'histdesk: bad words\nhistdesk: --strict is no option, as there are none; a file of that name stands behind --; *' \
+tells option 2 $'histdesk: bad words\nhistdesk: --strict is no option, as there are none; a file *' \
     "" load --strict wakeups.trace
 on_terminal "$launcher --version; echo \$?" 
 sed -i -n '1p; /^histdesk \[SCRIPT/p; $p' "$folder/out"
@@ -59,24 +59,25 @@ tells "behind --" 2 $'histdesk: cannot read -x\nhistdesk: -x: there is no such f
 
 tells nothing 0 "" "$(<"$examples/wakeups.expected")" wakeups.script wakeups.trace
 gives histwatch 0 "" "$root/histwatch" "$examples/changes.script" wakeups.trace
-tells "- as a TRACE" 2 $'histdesk: cannot read -\nhistdesk: - in the place of a TRACE is a file *; /dev/stdin is standard input there' \
+tells "- as a TRACE" 2 $'histdesk: cannot read -\nhistdesk: - in the place of a TRACE is a file *; /dev/stdin is *' \
     "" load -
 gives /dev/stdin 0 "" "$launcher" load /dev/stdin <wakeups.trace
 cp -- wakeups.trace ./-
 tells "a file called -" 0 "" "loaded 27" load -
 rm -- ./-
 tells "no file" 2 $'histdesk: cannot read none\nhistdesk: none: there is no such file' "" load none
-tells "no script" 2 $'histdesk: cannot read no script\nhistdesk: no\\\\ script: there is no such file' "" "no script" wakeups.trace
+tells "no script" 2 $'histdesk: cannot read no script\nhistdesk: no\\\\ script: there is no such file' \
+    "" "no script" wakeups.trace
 tells "a folder" 2 $'histdesk: cannot read .\nhistdesk: . is a folder' "" load .
 tells "a folder as the script" 2 $'histdesk: read failed\nhistdesk: . is a folder' "" .
 cp -- wakeups.trace $'caf\351.trace'
 cp -- wakeups.trace café.trace
-tells "not UTF-8" 2 $'histdesk: read failed\nhistdesk: $\'caf\\\\351.trace\' is not UTF-8, *; write <(cat $\'caf\\\\351.trace\') *' \
+tells "not UTF-8" 2 $'histdesk: read failed\nhistdesk: $\'caf\\\\351.trace\' is not UTF-8, *; write <(cat $\'caf*' \
     "" load $'caf\351.trace'
 gives "not UTF-8, by a pipe" 0 "" "$launcher" load <(cat $'caf\351.trace')
 tells UTF-8 0 "" "loaded 27" load café.trace
 truncate -s 1073741825 large
-tells "a large file" 2 $'histdesk: cannot read large\nhistdesk: large has 1,073,741,825 bytes, *1,073,741,824 (1 GiB); write *' \
+tells "a large file" 2 $'histdesk: cannot read large\nhistdesk: large has 1,073,741,825 bytes, *1,073,741,824 (1 GiB);*' \
     "" load large
 rm -- large
 

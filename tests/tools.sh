@@ -60,9 +60,10 @@ gives strict_accepted 0 "" "$tools/explain" "$examples/wakeups.script" --strict 
 prints strict_accepted "$(<"$examples/wakeups.expected")"
 # A trace in the script's place is told, and not each of its lines; so is a recording.
 lost='it looks like a trace, and the script stands before it: tools/explain SCRIPT'
-gives no_script 2 "explain: $examples/wakeups.trace is no script: $lost $examples/wakeups.trace" "$tools/explain" "$examples/wakeups.trace"
+trace=$examples/wakeups.trace
+gives no_script 2 "explain: $trace is no script: $lost $trace" "$tools/explain" "$trace"
 prints no_script ""
-gives no_typed_script 2 "explain: standard input is no script: $lost /dev/stdin" "$tools/explain" <"$examples/wakeups.trace"
+gives no_typed_script 2 "explain: standard input is no script: $lost /dev/stdin" "$tools/explain" <"$trace"
 printf 'PERFILE2' >"$folder/recorded"
 gives recorded 2 "explain: $folder/recorded is no script: it is a recording of perf; *" "$tools/explain" "$folder/recorded"
 # A pipe that nobody reads any more ends it by the signal, as others.
@@ -148,6 +149,7 @@ fi
 
 holds "$here/desk_prompt.py" "$tools/desk" "$here"/rows/*
 gives desk_usage 0 "" "$tools/desk" --help
+HISTDESK_LIBRARY=$folder/none gives desk_without_library 2 "desk: histdesk needs the library *" "$tools/desk"
 
 # ---- bars
 

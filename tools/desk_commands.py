@@ -157,7 +157,8 @@ class Commands:
         id = number_of(number)
         if how != "if" and (how != "none" or text):
             raise Refusal("refused 16")
-        self.desk.trigger(id).filter = text.encode("latin-1") if how == "if" else None
+        # A text may be bytes, as of all calls of the package.
+        self.desk.trigger(id).filter = text.encode("latin-1") if how == "if" else None  # type: ignore[assignment]
         return b"refiltered %d\n" % id
 
     def remove(self, rest: str) -> bytes:

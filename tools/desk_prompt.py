@@ -14,7 +14,8 @@ from desk_typed import History, Known, complete_by
 from explain_command import FORMS, bad_command, numbers_of, split_command, start_of_rest
 from explain_refusals import Refusals
 from explain_texts import shown
-from histdesk import _shown
+from histdesk import _command, _shown
+from histdesk._library import library
 from histdesk._losses import seconds
 
 PROMPT = "desk> "
@@ -38,7 +39,7 @@ class DeskRefusals(Refusals):
         if place is None:
             return [front + meaning]
         line, column = shown(command, place, max(shutil.get_terminal_size().columns - len(front) - 5, 20))
-        return [front + line, " " * (len(front) + column) + "^", front + meaning]
+        return [front + line, front + " " * (column or 0) + "^", front + meaning]
 
     def hint(self, asked: str, told: Dict[str, int]) -> Tuple[str, Optional[int]]:
         if told["refused"] != 16:
@@ -72,8 +73,8 @@ class Prompt:
     """A desk to which one types."""
 
     def __init__(self, traces: List[str], read: Callable[[str], Any]) -> None:
-        self.commands, self.refusals = Commands(list(traces), read), DeskRefusals([])
-        self.refusals.traces = self.commands.traces
+        self.commands = Commands(list(traces), read)
+        self.refusals = DeskRefusals(self.commands.traces)
         # Both ends are a terminal, and somebody sits there.
         self.is_typed = sys.stdin.isatty() and sys.stdout.isatty()
         self.number, self.status = 0, 0
@@ -94,7 +95,7 @@ class Prompt:
         """Takes lines until their end; the exit status."""
         history = None
         if self.is_typed:
-            sys.stdin.reconfigure(errors="surrogateescape")  # type: ignore[union-attr]
+            sys.stdin.reconfigure(errors="surrogateescape")  # type: ignore[attr-defined]
             history = History()
             complete_by(self.known)
             self.greet()
@@ -115,7 +116,7 @@ class Prompt:
         """The next line, without its end; None behind the last one. Ctrl-C drops what was typed of it."""
         if not self.is_typed:
             line = sys.stdin.buffer.readline()
-            return line[: -line.endswith(b"\n") or None] if line else None
+            return line.removesuffix(b"\n") if line else None
         while True:
             try:
                 return os.fsencode(input(PROMPT))
@@ -148,12 +149,15 @@ class Prompt:
         except KeyboardInterrupt:
             if not self.is_typed:
                 raise
-            note("  interrupted")
+            note(f"{TYPED}interrupted")
         except (OSError, ImportError, MemoryError, ValueError) as error:
-            # Whoever typed it may try something else; behind a script's line that failed no answer is to be believed.
-            if not self.is_typed or isinstance(error, BrokenPipeError):
+            # What can't be written ends all. Whoever typed it may try something else; of a script no answer is to be believed
+            # behind a line that failed.
+            if isinstance(error, OSError) and not error.filename:
                 raise
-            note(f"  {told_of(error)}")
+            if not self.is_typed:
+                raise _command.Stop(f"line {self.number}: {told_of(error)}") from None
+            note(f"{TYPED}{told_of(error)}")
         # Of a script that was fed, Ctrl-C ends all.
         if self.commands.was_interrupted and not self.is_typed:
             raise KeyboardInterrupt
@@ -184,25 +188,33 @@ class Prompt:
             text = self.own[word](rest)
         except histdesk.Refused as refused:
             raise Refusal(refused.text) from None
+        except LookupError as error:
+            # What is asked for isn't there, for which scripts have no number.
+            self.status = 1
+            note(f"{self.front()}{error}")
+            return b""
         return os.fsencode(text if text.endswith("\n") or not text else text + "\n")
+
+    def front(self) -> str:
+        """What stands before that which is said of a line."""
+        return TYPED if self.is_typed else f"{TYPED}line {self.number}: "
 
     def say_refused(self, asked: str, refusal: Refusal) -> None:
         """The refusal's line, and what it means."""
         write(refusal.text.encode() + b"\n")
-        front = TYPED if self.is_typed else f"  line {self.number}: "
-        note("\n".join(self.refusals.explained(front, asked, refusal.text, refusal.path)))
+        note("\n".join(self.refusals.explained(self.front(), asked, refusal.text, refusal.path)))
 
     def say_of(self, word: str, answer: Answer) -> None:
         """What is to be known beside an answer: of a trace what it holds and what it lost, and that there is nothing to ask."""
         loaded = answer.loaded
         if loaded is not None and answer.path is not None:
             if self.is_typed:
-                note(f"  {held(loaded)}")
+                note(f"{TYPED}{held(loaded)}")
             if loaded.warning:
-                note(f"  {answer.path}: {loaded.warning}")
+                note(f"{TYPED}{answer.path}: {loaded.warning}")
         elif self.is_typed and word in ("hist", "totals", "lat") and not self.commands.desk.cpus():
             some = "load @1" if self.commands.traces else "load PATH"
-            note(f"  no events are held; {some} takes a trace in")
+            note(f"{TYPED}no events are held; {some} takes a trace in")
 
     # ---- answers that scripts don't have
 
@@ -217,7 +229,7 @@ class Prompt:
         bare(rest)
         desk = self.commands.desk
         holes = [hole.cpu for hole in desk.holes]
-        rows = [(cpu, count, *ends(desk, cpu), holes.count(cpu)) for cpu, count in desk.cpus().items()]
+        rows = [(cpu, count, *(ends(desk, cpu) if count else ("", "")), holes.count(cpu)) for cpu, count in desk.cpus().items()]
         return in_columns(("CPU", "events", "first", "last", "losses"), rows) if rows else "no events are held"
 
     def waits(self, rest: str) -> str:
@@ -252,9 +264,9 @@ def in_columns(names: Tuple[str, ...], rows: List[Any]) -> str:
 
 
 def ends(desk: histdesk.Desk, cpu: int) -> Tuple[str, str]:
-    """The first and the last stamp of a CPU by line, or nothing."""
-    events = desk.events(cpu)
-    return (seconds(events[0].stamp), seconds(events[-1].stamp)) if len(events) else ("", "")
+    """The first and the last stamp of a CPU by line, of which events are held."""
+    first, last = desk._session.ends(library.histdesk_lane, cpu, 1)
+    return seconds(first), seconds(last)
 
 
 def held(loaded: histdesk.Loaded) -> str:
@@ -271,7 +283,7 @@ def told_of(error: BaseException) -> str:
     if isinstance(error, MemoryError):
         return histdesk.refusal_words("refused 1")
     if isinstance(error, OSError):
-        return f"{error.filename or 'standard output'}: {error.strerror or error}"
+        return f"{error.filename}: {error.strerror}"
     return str(error)
 
 

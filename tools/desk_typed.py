@@ -23,8 +23,8 @@ STAMP = "common_timestamp.usecs"
 
 
 class Known(NamedTuple):
-    """What words may name: the first words of commands, what `help` and `waits` take, the numbers of traces, the attached triggers
-    by id with event and text, and the CPUs."""
+    """What words may name: the first words of commands, what `help` and `waits` take, how many traces are named, the attached
+    triggers by id with event and text, and the CPUs."""
 
     commands: Sequence[str]
     choices: Any

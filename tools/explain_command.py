@@ -2,9 +2,12 @@
 
 import os
 import re
+from typing import Iterable, List, Optional, Sequence, Tuple
 
-from explain_texts import ATTACHED, EVENTS, near, nearest, shown
+from explain_texts import ATTACHED, EVENTS, beginning, near, nearest, shown
 
+# What is said, and the place that is meant, or None.
+Hint = Tuple[str, Optional[int]]
 FORMS = {
     "load": "load @N",
     "attach": "attach EVENT TRIGGER",
@@ -25,50 +28,49 @@ ONMATCH = re.compile(rf"onmatch\(sched\.({'|'.join(EVENTS)})\)\.wakeup_latency\(
 ONMATCH_FORM = "onmatch(sched.EVENT).wakeup_latency($OWN,F,G)"
 
 
-def split_command(text):
+def split_command(text: str) -> Tuple[str, str]:
     """The first word, and the rest behind the gap."""
     word, _, rest = text.strip(" ").partition(" ")
     return word, rest.lstrip(" ")
 
 
-def numbers_of(text):
+def numbers_of(text: str) -> List[int]:
     """The number that a text is, in a list, which is empty where it is none."""
     return [int(text)] if NUMBER.fullmatch(text) and int(text) < 2**32 else []
 
 
-def start_of_rest(text, words):
+def start_of_rest(text: str, words: int) -> int:
     """Where the rest behind so many words begins, in a command without the spaces at its ends."""
-    found = re.match("[^ ]* *" * words, text.strip(" "))
-    return found.end()
+    return len(beginning("[^ ]* *" * words, text.strip(" ")))
 
 
-def trigger_start(asked):
+def trigger_start(asked: str) -> int:
     return start_of_rest(asked, 2)
 
 
-def filter_start(asked):
+def filter_start(asked: str) -> int:
     return start_of_rest(asked, 3)
 
 
-def variable_of(trigger):
+def variable_of(trigger: str) -> Tuple[Optional[str], Optional[str]]:
     """The own variable of a trigger's text and the one that it reads, each None where there is none."""
-    for part in re.match("[^ \t]*", trigger)[0].split(":"):
+    for part in beginning("[^ \t]*", trigger).split(":"):
         found = VARIABLE.fullmatch(part)
         if found:
-            return found.groups()
+            return found[1], found[2]
     return None, None
 
 
-def matched_event(trigger):
+def matched_event(trigger: str) -> Optional[str]:
     """The event that a trigger's onmatch part names, or None where there is no such part."""
-    for part in re.match("[^ \t]*", trigger)[0].split(":"):
+    for part in beginning("[^ \t]*", trigger).split(":"):
         found = ONMATCH.fullmatch(part)
         if found:
             return found[1]
     return None
 
 
-def bad_command(asked, traces, more=()):
+def bad_command(asked: str, traces: Sequence[str], more: Iterable[str] = ()) -> Hint:
     """Why the line is no command, behind a sign, and the place of the part that is wrong, if it is known. `more` are words of
     commands that a script doesn't have."""
     if len(asked) > 8192:
@@ -80,7 +82,7 @@ def bad_command(asked, traces, more=()):
         return ": a comment begins at the line's first byte, without a space in front", None
     if text.endswith("\r"):
         return ": a carriage return ends the line, and belongs to its last word", len(text) - 1
-    if "\t" in re.match("[^ ]*( +[^ ]*)?", text)[0]:
+    if "\t" in beginning("[^ ]*( +[^ ]*)?", text):
         return ": a tab is no gap; words stand apart by spaces", text.index("\t")
     if word == "insert":
         return ": insert stands at the line's first byte", None
@@ -93,7 +95,7 @@ def bad_command(asked, traces, more=()):
     return near(word, [*FORMS, *more]), 0
 
 
-def bad_event(rest, at):
+def bad_event(rest: str, at: int) -> Hint:
     event, _ = split_command(rest)
     if not event:
         return f": no event is named; the form is {FORMS['attach']}", at
@@ -105,7 +107,7 @@ def bad_event(rest, at):
     return f": triggers are attached to {', '.join(ATTACHED)}{found}", at
 
 
-def bad_load(rest, at, traces):
+def bad_load(rest: str, at: int, traces: Sequence[str]) -> Hint:
     form = ": the form is load @N, with N the number of a TRACE behind the script"
     if re.fullmatch("@?[0-9]+", rest):
         if numbers_of(rest.lstrip("@")):
@@ -117,7 +119,7 @@ def bad_load(rest, at, traces):
     return form + ("; did you mean load @1?" if len(traces) <= 1 and rest else ""), at
 
 
-def bad_form(word, rest, at):
+def bad_form(word: str, rest: str, at: int) -> Hint:
     form = f": the form is {FORMS[word]}"
     long = [digits for digits in re.findall("[0-9]+", rest.split(" ")[0]) if not numbers_of(digits)]
     if long and not re.search("[^0-9:]", rest.split(" ")[0]):
@@ -132,7 +134,7 @@ def bad_form(word, rest, at):
     return form, at
 
 
-def bad_filter(form, rest, at):
+def bad_filter(form: str, rest: str, at: int) -> Hint:
     number, how = split_command(rest)
     if not numbers_of(number):
         return form, at

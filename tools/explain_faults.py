@@ -2,10 +2,11 @@
 stand there, and which tool turns the text. Each hint begins with a sign. Texts are Latin-1, a character a byte."""
 
 import re
+from typing import Any, Dict, Optional, Tuple
 
 from explain_command import NAME, ONMATCH_FORM, VARIABLE
 from explain_trigger import KINDS, offender
-from explain_texts import EVENTS, MADE, TEXT_FIELDS, field_meant, nearest
+from explain_texts import EVENTS, MADE, TEXT_FIELDS, beginning, field_meant, nearest
 
 VARIABLE_FORM = "NAME=common_timestamp.usecs or NAME=common_timestamp.usecs-$OTHER"
 # The stamp of an event as somebody may write it, with its unit.
@@ -13,7 +14,7 @@ STAMP = re.compile(r"(?:common_?)?(?:timestamps?|\btime|\bts)\b(\.[A-Za-z]*)?")
 EATEN = "a $NAME is wanting: a shell takes one in double quotes for its own, and leaves it in single quotes"
 
 
-def line_hint(fault, line):
+def line_hint(fault: int, line: str) -> str:
     """What is known of a trace line that has a fault: where it comes from, or what its event has."""
     if line.endswith("\r"):
         return "; the line ends with a carriage return"
@@ -34,12 +35,14 @@ def line_hint(fault, line):
     return ""
 
 
-def name_at(text, place):
-    return re.match("[A-Za-z0-9_]*", text[place:])[0]
+def name_at(text: str, place: int) -> str:
+    return beginning("[A-Za-z0-9_]*", text[place:])
 
 
-def filter_hint(event, text, fault, place):
-    """What is known of a filter that has a fault at a place, which may be None."""
+def filter_hint(event: Optional[str], text: str, fault: int, place: Optional[int]) -> str:
+    """What is known of a filter that has a fault at a place, if it has one."""
+    if place is None:
+        return ""
     if fault == 2:
         return bad_syntax(text, place)
     if fault == 3:
@@ -49,7 +52,7 @@ def filter_hint(event, text, fault, place):
     return bad_glob(text, place) if fault == 5 else ""
 
 
-def bad_syntax(text, place):
+def bad_syntax(text: str, place: int) -> str:
     """What may not stand there in a filter, by what stands there."""
     rest, before = text[place:], text[:place].rstrip(" \t")
     is_value = re.search("[=<>&~]$", before) is not None
@@ -58,7 +61,7 @@ def bad_syntax(text, place):
         return f": {what}" + ("; a ) is wanting" if text.count("(") > text.count(")") else "")
     if rest[0] in "'\"" and is_value:
         return ": this quote is open"
-    run = re.match("-?[A-Za-z0-9_]*", rest)[0]
+    run = beginning("-?[A-Za-z0-9_]*", rest)
     if is_value and re.match("[A-Za-z_]", run):
         return f': a text stands in quotes; did you mean "{run}"?'
     if is_value and run:
@@ -76,18 +79,18 @@ def bad_syntax(text, place):
     return ""
 
 
-def wrong_kind(text, place):
+def wrong_kind(text: str, place: int) -> str:
     sign = re.match("[=!<>&~]+", text[place:])
     if not sign:
         due = "a number" if text[place] in "'\"" else "a text in quotes"
         return f": {due} is due"
-    field = re.search("([A-Za-z0-9_]+)[ \t]*$", text[:place])[1]
+    field = re.split("[^A-Za-z0-9_]", text[:place].rstrip(" \t"))[-1]
     if field in TEXT_FIELDS:
         return f": {field} is a text, which takes == != ~"
     return f": {field} is a number, which takes == != < <= > >= &"
 
 
-def bad_glob(text, place):
+def bad_glob(text: str, place: int) -> str:
     pattern = text[place + 1 :].partition(text[place])[0]
     if "\\" in pattern:
         return ": it holds a backslash"
@@ -96,28 +99,28 @@ def bad_glob(text, place):
     return ": a class [..] in it is open or empty, or has a range that goes down"
 
 
-def filter_of(text):
+def filter_of(text: str) -> int:
     """Where the filter of a trigger's text begins."""
-    return re.match("[^ \t]*[ \t]*if[ \t]*", text).end()
+    return len(beginning("[^ \t]*[ \t]*if[ \t]*", text))
 
 
-def trigger_hint(event, text, told):
+def trigger_hint(event: str, text: str, told: Dict[str, int]) -> Tuple[str, Optional[int]]:
     """What is known of a trigger that has a fault, and its place. `told` has the refusal's numbers by their names; where it
     has no place, that is looked for here."""
     fault, place = told["fault"], told.get("at")
     if fault == 11:
         start = filter_of(text)
         return filter_hint(event, text[start:], told["filter"], place), None if place is None else start + place
-    if fault == 2:
+    if fault == 2 and place is not None:
         return f": {bad_form(text, place)}", place
-    if fault == 10:
+    if fault == 10 and place is not None:
         return left_out(event, text[place:]), place
     place, said = offender(event, text, fault) or (None, "")
     return said, place
 
 
-def bad_form(text, place):
-    head = re.match("[^ \t]*", text)[0]
+def bad_form(text: str, place: int) -> str:
+    head = beginning("[^ \t]*", text)
     if not head.startswith("hist:"):
         return "a trigger begins with hist:" + wrong_begin(text, head)
     if place > len(head):
@@ -134,21 +137,21 @@ def bad_form(text, place):
     return "no such part" + (f"; did you mean {found}=?" if found and found != "pause" else "")
 
 
-def wrong_begin(text, head):
+def wrong_begin(text: str, head: str) -> str:
     """What is known of a trigger that doesn't begin with hist:."""
     if text.startswith(("'", '"')):
         return "; quotes are for the shell, and a script has none around a trigger"
     return "; the head of a trigger holds no spaces" if head == "hist" else ""
 
 
-def eaten(before, rest):
+def eaten(before: str, rest: str) -> str:
     """What is said of an item of values or of sorting that lacks a name: perhaps a shell has taken one that began with $."""
     word = before.rpartition(":")[2].partition("=")[0]
     is_nameless = re.match(r"(\.ascending|\.descending)?([,:]|$)", rest)
     return f"; {EATEN}" if is_nameless and KINDS.get(word) in ("vals", "sort") else ""
 
 
-def left_out(event, rest):
+def left_out(event: str, rest: str) -> str:
     word, sign, value = re.split("[:, \t]", rest)[0].partition("=")
     if rest.startswith("onmatch(") and event == MADE:
         return f"; a trigger on {MADE} makes no events"
@@ -167,13 +170,13 @@ def left_out(event, rest):
     return bad_variable(word, value)
 
 
-def other_unit(stamp):
+def other_unit(stamp: Any) -> str:
     """What is said of a stamp whose unit the kernel doesn't have: the library calls all that is unknown the kernel's."""
     unit = stamp and stamp[1]
     return f"; but {unit} is not the kernel's, which has .usecs alone" if unit and unit != ".usecs" else ""
 
 
-def bad_variable(name, value):
+def bad_variable(name: str, value: str) -> str:
     """What is said of a variable part NAME=VALUE that is of no form, or one too many."""
     stamp = STAMP.search(value)
     if VARIABLE.fullmatch(f"{name}={value}"):

@@ -1,5 +1,5 @@
-"""What refusals mean, for explain and desk: the library's words, what follows from the command and from what is attached, and the
-place that is meant. Texts are Latin-1, a character for each byte."""
+"""What refusals mean, for explain and desk: the library's words, what follows from the command and from what is attached, and
+the place that is meant. Texts are Latin-1, a character for each byte."""
 
 import gzip
 import itertools
@@ -46,8 +46,8 @@ class Refusals:
             self.triggers.pop(int(text.split()[1]), None)
 
     def explained(self, front: str, asked: str, text: str, path: Optional[str] = None) -> List[str]:
-        """The lines that say what a refusal means: behind `front` the command with the library's words and a hint, and more lines
-        that show the place. `path` is the trace that the command loads, where it isn't named by its number."""
+        """The lines that say what a refusal means: behind `front` the command with the library's words and a hint, and more
+        lines that show the place. `path` is the trace that the command loads, where it isn't named by its number."""
         command = asked.strip(" ")
         try:
             words = refusal_words(text)
@@ -156,12 +156,12 @@ class Refusals:
 
     def unmatched(self, refused: int, trigger: str) -> str:
         """Why a reading trigger finds nobody who saves what it reads, or other keys."""
-        savers, read = self.savers(), variable_of(trigger)[1]
+        savers, read = self.savers(), variable_of(trigger)[1] or ""
         event = matched_event(trigger)
         if refused == 13 and event and read in savers:
             return f": {self.elsewhere(savers[read], read, event)}"
         if refused == 13:
-            return f": {shown(read or '')[0]}{near(read, savers)}"
+            return f": {shown(read)[0]}{near(read, savers)}"
         id = savers.get(read)
         if id is None:
             return ""

@@ -3,6 +3,7 @@ each byte."""
 
 import re
 from collections import deque
+from typing import Deque, List, Optional, Tuple
 
 from explain_command import numbers_of, split_command
 from explain_refusals import Refusals
@@ -30,14 +31,15 @@ BEGINS = {
 class Script:
     """The script's lines, which may come while the program runs."""
 
-    def __init__(self):
-        self.lines, self.rest, self.number = deque(), b"", 0
+    def __init__(self) -> None:
+        self.lines: Deque[bytes] = deque()
+        self.rest, self.number = b"", 0
 
-    def add(self, data):
+    def add(self, data: bytes) -> None:
         *lines, self.rest = (self.rest + data).split(b"\n")
         self.lines.extend(lines)
 
-    def next_command(self):
+    def next_command(self) -> Optional[Tuple[int, str]]:
         """The next line that prints something, its number first, or None where there is none."""
         while self.lines or self.rest:
             if self.lines:
@@ -55,19 +57,20 @@ class Script:
 class Walk:
     """Goes through the output line by line, and takes commands from the script as they are answered."""
 
-    def __init__(self, script, traces):
+    def __init__(self, script: Script, traces: List[str]) -> None:
         self.script, self.refusals = script, Refusals(traces)
         # What the answer that is being printed ends with, or the lane and line that were listed last.
-        self.end = self.listed = None
+        self.end: Optional[str] = None
+        self.listed: Optional[Tuple[int, int]] = None
         # Whether rows that changed may come, and how many they are.
         self.rows = False
         # The line of the script that was refused last.
-        self.refused = None
+        self.refused: Optional[int] = None
         # Why lines can't be told apart any more.
-        self.lost = None
+        self.lost: Optional[str] = None
         self.count = 0
 
-    def take(self, line):
+    def take(self, line: bytes) -> List[str]:
         """The texts to be printed behind a line of the output."""
         self.count += 1
         text = line.removesuffix(b"\n").decode("latin-1")
@@ -87,7 +90,7 @@ class Walk:
         self.lost = f"line {self.count} of the output is no answer to {where}"
         return []
 
-    def goes_on(self, text):
+    def goes_on(self, text: str) -> bool:
         """Whether the line belongs to the answer that is being printed."""
         if self.end:
             if text.startswith(self.end):
@@ -105,7 +108,7 @@ class Walk:
             return self.rows or CHANGED.fullmatch(text) is not None
         return False
 
-    def is_silent_list(self, asked, text):
+    def is_silent_list(self, asked: str, text: str) -> bool:
         """Whether the command lists a lane without events, so that it prints nothing. If not, it may list one."""
         word, rest = split_command(asked)
         numbers = numbers_of(rest)
@@ -118,7 +121,7 @@ class Walk:
             return False
         return True
 
-    def answers(self, asked, text):
+    def answers(self, asked: str, text: str) -> bool:
         """Whether the line answers the command, as an accepted one; what goes on behind it is then expected."""
         word, _ = split_command(asked)
         if word == "list":

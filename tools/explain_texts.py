@@ -2,6 +2,7 @@
 
 import difflib
 import re
+from typing import Iterable, List, Optional, Sequence, Tuple
 
 EVENTS = ["sched_waking", "sched_wakeup", "sched_wakeup_new", "sched_switch"]
 # The event that triggers make, and what triggers are attached to.
@@ -17,12 +18,18 @@ MADE_FIELDS = ["lat", "pid", "prio", *COMMON]
 MOST_SHOWN = 300
 
 
-def fields_of(event):
+def fields_of(event: str) -> List[str]:
     return {"sched_switch": SWITCH_FIELDS, MADE: MADE_FIELDS}.get(event, WAKE_FIELDS)
 
 
-def shown(text, place=None, most=MOST_SHOWN):
-    """The text on one line of printable ASCII, and the column of a place in it. A text that is longer is cut around the place."""
+def beginning(pattern: str, text: str) -> str:
+    """As much of a text as the pattern matches from its beginning on."""
+    found = re.match(pattern, text)
+    return found[0] if found else ""
+
+
+def shown(text: str, place: Optional[int] = None, most: int = MOST_SHOWN) -> Tuple[str, Optional[int]]:
+    """The text on one line of printable ASCII, and the column of a place in it. A longer one is cut around the place."""
     start, end, dots = 0, len(text), ("", "")
     if len(text) > most:
         start = max(0, min((place or 0) - most // 2, len(text) - most))
@@ -32,11 +39,11 @@ def shown(text, place=None, most=MOST_SHOWN):
     return dots[0] + escaped(text[start:end]) + dots[1], column
 
 
-def escaped(text):
+def escaped(text: str) -> str:
     return re.sub(r"[^ -~]", lambda byte: {"\t": "\\t", "\r": "\\r"}.get(byte[0], f"\\x{ord(byte[0]):02x}"), text)
 
 
-def with_caret(front, text, place, meaning):
+def with_caret(front: str, text: str, place: Optional[int], meaning: str) -> List[str]:
     """The lines that show a text with its meaning, and a caret under the place, if there is one."""
     line, column = shown(text, place)
     lines = [f"{front}{line}: {meaning}"]
@@ -45,7 +52,7 @@ def with_caret(front, text, place, meaning):
     return lines
 
 
-def nearest(word, choices):
+def nearest(word: str, choices: Sequence[str]) -> Optional[str]:
     """The choice that is close to a word, or None: a few letters off, or one begins the other."""
     found = difflib.get_close_matches(word.lower(), choices, 1, 0.6)
     if found:
@@ -57,13 +64,13 @@ def nearest(word, choices):
     return None
 
 
-def near(word, choices):
+def near(word: str, choices: Iterable[str]) -> str:
     """The question behind a meaning, whether that choice was meant; nothing where none is close."""
     found = nearest(word, list(choices))
     return f"; did you mean {found}?" if found and found != word else ""
 
 
-def field_meant(word, event):
+def field_meant(word: str, event: Optional[str]) -> str:
     """What is said behind an unknown field of an event: who has it, and which was meant or which there are."""
     if event is None:
         return ""

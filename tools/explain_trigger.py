@@ -2,24 +2,27 @@
 the order of docs/FORMAT.md, 3.2. Each test asks for its own fault alone: what comes before is known to be good."""
 
 import re
+from typing import Any, Dict, List, Optional, Tuple
 
 from explain_command import ONMATCH, VARIABLE, variable_of
-from explain_texts import TEXT_FIELDS, field_meant, fields_of, near
+from explain_texts import TEXT_FIELDS, beginning, field_meant, fields_of, near
 
+# A place in a trigger's text, and what is said of it.
+Found = Tuple[int, str]
 KINDS = {"keys": "keys", "key": "keys", "values": "vals", "vals": "vals", "val": "vals", "sort": "sort", "size": "size"}
 LEFT_OUT = ["execname", "sym", "sym-offset", "syscall", "percent", "graph", "stacktrace"]
 MODIFIERS = ["hex", "log2", "buckets=N"]
 
 
-def offender(event, text, fault):
+def offender(event: str, text: str, fault: int) -> Optional[Found]:
     """The place and what is said of it, or None."""
-    head = re.match("[^ \t]*", text)[0]
-    seen, at = {}, 5
+    head, at = beginning("[^ \t]*", text), 5
+    seen: Dict[str, List[str]] = {}
     for part in head[5:].split(":"):
         found = in_part(event, part, fault, seen)
         if found:
             place = at + found[0]
-            name = re.match("[A-Za-z0-9_]*", head[place:])[0]
+            name = beginning("[A-Za-z0-9_]*", head[place:])
             # The name of a variable wants a $, also where its own part is still wrong.
             is_own = fault == 3 and name not in KINDS and f":{name}=" in head
             return place, f"; did you mean ${name}?" if is_own else found[1]
@@ -27,7 +30,7 @@ def offender(event, text, fault):
     return behind_parts(head, fault)
 
 
-def in_part(event, part, fault, seen):
+def in_part(event: str, part: str, fault: int, seen: Dict[str, List[str]]) -> Optional[Found]:
     word, sign, rest = part.partition("=")
     kind = KINDS.get(word) if sign else None
     if ONMATCH.fullmatch(part):
@@ -39,7 +42,8 @@ def in_part(event, part, fault, seen):
         return None
     if kind in seen and fault == 6:
         return 0, f": this is the second part with {kind}"
-    seen[kind] = items = []
+    items: List[str] = []
+    seen[kind] = items
     if kind == "size":
         return (len(word) + 1, "") if fault == 7 else None
     at = len(word) + 1
@@ -52,7 +56,7 @@ def in_part(event, part, fault, seen):
     return None
 
 
-def in_onmatch(event, words, fault, seen):
+def in_onmatch(event: str, words: Any, fault: int, seen: Dict[str, List[str]]) -> Optional[Found]:
     """The place in an onmatch part, and what is said of it, or None; its variable is tested behind all parts."""
     if fault == 6 and "onmatch" in seen:
         return 0, ": this is the second part of its form"
@@ -65,7 +69,7 @@ def in_onmatch(event, words, fault, seen):
     return None
 
 
-def in_item(event, kind, item, fault, before):
+def in_item(event: str, kind: str, item: str, fault: int, before: List[str]) -> Optional[str]:
     """What is said of an item that has the fault, or None."""
     name, _, modifier = item.partition(".")
     names = [other.partition(".")[0] for other in before]
@@ -89,7 +93,7 @@ def in_item(event, kind, item, fault, before):
     return None
 
 
-def bad_modifier(kind, name, modifier):
+def bad_modifier(kind: str, name: str, modifier: str) -> Optional[str]:
     """What is said of a modifier that may not stand there, or None."""
     if kind == "vals":
         return ": a value has none"
@@ -105,32 +109,33 @@ def bad_modifier(kind, name, modifier):
     return found or f": a key has .{', .'.join(MODIFIERS)} or none"
 
 
-def behind_parts(head, fault):
+def behind_parts(head: str, fault: int) -> Optional[Found]:
     """The faults that are found where all parts have been read."""
     own, read = variable_of(head)
-    names, sorts, values, handed, at = ["hitcount"], [], [], None, 5
+    handed, at = None, 5
+    # The items of each kind by name, with their places.
+    items: Dict[str, List[Tuple[int, str]]] = {"keys": [], "vals": [], "sort": []}
     for part in head[5:].split(":"):
         making = ONMATCH.fullmatch(part)
         handed = (at + making.start(2) - 1, making[2]) if making else handed
         word, sign, rest = part.partition("=")
         kind = KINDS.get(word) if sign else None
         place = at + len(word) + 1
-        for item in rest.split(",") if kind in ("keys", "vals", "sort") else []:
-            name = item.partition(".")[0]
-            {"keys": names, "vals": values, "sort": sorts}[kind].append(name if kind == "keys" else (place, name))
+        for item in rest.split(",") if kind in items else []:
+            items[kind or ""].append((place, item.partition(".")[0]))
             place += len(item) + 1
         at += len(part) + 1
     if fault == 3:
-        for place, name in values:
+        for place, name in items["vals"]:
             if name.startswith("$") and name[1:] != own:
                 meant = near(name, [f"${own}"] if own else [])
                 return place, f": a value with a $ is the trigger's own variable{meant}"
         if handed:
             meant = near(handed[1], [own] if own and read else [])
             return handed[0], f": what onmatch hands on first is the own variable of a trigger that reads one{meant}"
-    names += [name for _, name in values]
+    names = ["hitcount", *(name for _, name in items["keys"] + items["vals"])]
     if fault == 8:
-        for place, name in sorts:
+        for place, name in items["sort"]:
             if name not in names:
                 return place, f": neither hitcount nor a key nor a value has this name{near(name, names)}"
     return None
