@@ -94,6 +94,12 @@ tells perf.data 1 "histdesk: by-perf is a recording of perf; $root/tools/from-pe
 printf '\x17\x08\x44tracing6\0' >by-trace-cmd
 tells trace.dat 1 "histdesk: by-trace-cmd is a recording of trace-cmd; $root/tools/from-trace-cmd by-trace-cmd *" \
     'refused 3: line 1 fault 1' load by-trace-cmd
+printf '%s\n' '    perf 25692 [000]  3752.816376132: sched:sched_waking: comm=a pid=18 prio=0 target_cpu=0' >printed-by-perf
+tells "perf script" 1 "histdesk: printed-by-perf is what perf script printed; $root/tools/from-perf *" \
+    'refused 3: line 1 fault 1' load printed-by-perf
+printf '%s\n' 'cpus=4' '  a-1  [000]  1.000000000: sched_waking: comm=a pid=18 prio=0 target_cpu=000' >reported
+tells "trace-cmd report" 1 "histdesk: reported is what trace-cmd report printed; $root/tools/from-trace-cmd *" \
+    'refused 3: line 1 fault 1' load reported
 gives "perf.data as the script" 1 "histdesk: by-perf is a recording of perf; *" "$launcher" by-perf
 looks='histdesk: wakeups.trace looks like a trace, and the script stands before it'
 gives "a trace as the script" 1 "$looks: $launcher SCRIPT wakeups.trace" "$launcher" wakeups.trace

@@ -21,7 +21,7 @@ from histdesk._losses import seconds
 PROMPT = "desk> "
 # What stands before that which is said of a line that was typed.
 TYPED = "  "
-LESS = "desk --from STAMP --until STAMP, or --events sched_waking,sched_switch, takes less of it"
+LESS = "tools/desk --from STAMP --until STAMP, or --events sched_waking,sched_switch, takes less of it"
 BY = ("task", "name", "cpu", "prio", "kind")
 
 

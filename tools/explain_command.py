@@ -116,7 +116,9 @@ def bad_load(rest: str, at: int, traces: Sequence[str]) -> Hint:
     for number, path in enumerate(traces, 1):
         if rest in (os.fsencode(name).decode("latin-1") for name in (path, os.path.basename(path))):
             return f"{form}; did you mean load @{number}?", at
-    return form + ("; did you mean load @1?" if len(traces) <= 1 and rest else ""), at
+    if not traces:
+        return f"{form}; none is named there", at
+    return form + ("; did you mean load @1?" if len(traces) == 1 and rest else ""), at
 
 
 def bad_form(word: str, rest: str, at: int) -> Hint:
