@@ -44,6 +44,40 @@ a-1 [000] 3.000000: sched_switch: prev_comm=a prev_pid=1 prev_prio=120 prev_stat
 """
 
 
+# A line up to the word that has begun, that word, and what it may become: with two traces, CPUs 0 and 3, and trigger 1 that
+# saves ts0.
+COMPLETED = [
+    ("", "hi", ["hist "]),
+    ("  ", "to", ["totals "]),
+    ("attach ", "sched_wak", ["sched_waking ", "sched_wakeup ", "sched_wakeup_new "]),
+    ("attach sched_switch ", "", ["hist:keys="]),
+    ("attach sched_switch hist:", "s", ["sort=", "size="]),
+    ("attach sched_switch hist:keys=", "next_", ["next_comm", "next_pid", "next_prio"]),
+    ("attach wakeup_latency hist:keys=", "", ["lat", "pid", "prio", "common_pid", "common_cpu"]),
+    ("attach sched_switch hist:keys=next_pid.", "", ["hex", "log2", "buckets="]),
+    ("attach sched_switch hist:keys=next_pid:l=", "com", ["common_timestamp.usecs"]),
+    ("attach sched_switch hist:keys=next_pid:l=common_timestamp.usecs-$", "", ["ts0"]),
+    ("attach sched_switch hist:l=common_timestamp.usecs-$ts0:vals=$", "", ["l"]),
+    ("attach sched_switch hist:keys=next_comm:vals=", "next_", ["next_pid", "next_prio"]),
+    ("attach sched_switch hist:keys=next_pid:sort=hitcount.", "d", ["descending"]),
+    ("attach sched_switch hist:onmatch(sched.", "sched_waking", ["sched_waking).wakeup_latency($lat,"]),
+    ("attach sched_waking hist:keys=pid ", "", ["if "]),
+    ("attach sched_waking hist:keys=pid if (", "pr", ["prio"]),
+    ("filter ", "", ["1"]),
+    ("filter 1 ", "", ["if ", "none"]),
+    ("filter 1 if prio < 9 &&", "comm", ["common_pid", "common_cpu"]),
+    ("hist ", "", ["1"]),
+    ("hist 1 ", "", []),
+    ("strike ", "", ["0", "3"]),
+    ("strike 3:", "", []),
+    ("load ", "", ["@1", "@2"]),
+    ("load @", "", ["1", "2"]),
+    ("help ", "st", ["strike"]),
+    ("waits ", "na", ["name"]),
+    ("insert ", "a", []),
+]
+
+
 class Wrong(Exception):
     """Something doesn't hold: what."""
 
@@ -334,6 +368,18 @@ def opened_by_both(fifo):
             time.sleep(0.01)
 
 
+def knows_completions(_):
+    """What Tab may put behind the beginnings of words."""
+    sys.path.insert(0, os.path.dirname(DESK[1]))
+    from desk_typed import Known, completions
+
+    trigger = ("sched_waking", "hist:keys=pid:ts0=common_timestamp.usecs")
+    words = ["hist", "totals", "strike"]
+    known = Known(words, {"help": words, "waits": ["task", "name"]}, 2, {1: trigger}, [0, 3])
+    wrong = [(row, completions(row[0], row[1], known)) for row in COMPLETED if completions(row[0], row[1], known) != row[2]]
+    same("completions", wrong, [])
+
+
 def goes_on(folder):
     """Ctrl-C drops the line that is typed, and ends a load that waits for its file, not the desk."""
     fifo = os.path.join(folder, "fifo")
@@ -407,7 +453,7 @@ def ends_as_others(folder):
 
 OTHERS = [
     loads_by_path, tells_losses, tells_refusals, goes_on_behind_failures, knows_recordings, lists_triggers, takes_a_part,
-    tells_waits, remembers, completes, goes_on, pages, hides_what_steers, ends_as_others,
+    tells_waits, remembers, completes, knows_completions, goes_on, pages, hides_what_steers, ends_as_others,
 ]  # fmt: skip
 
 

@@ -101,12 +101,14 @@ def completions(before: str, begun: str, known: Known) -> List[str]:
         choices = of_attach(behind, known)
     elif word == "filter" and len(words) > 1:
         choices = of_filter(words, behind, known)
+    elif behind:
+        return []
     elif word in ("hist", "lat", "totals", "remove", "filter"):
         choices = [str(id) for id in known.triggers]
     elif word in ("list", "unload", "strike"):
-        choices = [str(cpu) for cpu in known.cpus] if ":" not in behind else []
+        choices = [str(cpu) for cpu in known.cpus]
     else:
-        choices = known.choices.get(word, []) if not behind else []
+        choices = known.choices.get(word, [])
     return [choice for choice in choices if choice.startswith(begun) and choice != begun]
 
 
