@@ -147,7 +147,10 @@ fi
 
 # ---- desk
 
-holds "$here/desk_prompt.py" "$tools/desk" "$here"/rows/*
+# By the system's Python, which may have numpy.
+python=/usr/bin/python3
+[[ -x $python ]] || python=python3
+holds "$python" "$here/desk_prompt.py" "$tools/desk" "$here"/rows/*
 gives desk_usage 0 "" "$tools/desk" --help
 HISTDESK_LIBRARY=$folder/none gives desk_without_library 2 "desk: histdesk needs the library *" "$tools/desk"
 
