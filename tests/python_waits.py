@@ -6,7 +6,6 @@
 The expected values are known by hand or from a simulated scheduler (recordings.py), or come from a plain reckoning that reads
 the text by itself (plain_waits.py). The last line says how many of the tests hold."""
 
-import contextlib
 import csv
 import doctest
 import io
@@ -34,7 +33,7 @@ import histdesk
 import plain_waits
 import recordings
 from histdesk import Counts, LossWarning, Refused, _part, _recording, _waits
-from python_answers import numpy, with_numpy, with_pandas, without_numpy
+from python_answers import with_numpy, with_pandas, without_numpy
 from python_package import main
 from recordings import Known, Place, Wait, switch, text_of, waking
 

@@ -7,7 +7,7 @@ import sys
 from typing import Any, Callable, Dict, List, Optional, Tuple
 
 import histdesk
-from desk_commands import EVENTS, Answer, Commands, Refusal
+from desk_commands import Answer, Commands, Refusal
 from desk_help import OWN, help_of
 from desk_screen import note, write
 from desk_typed import History, Known, complete_by

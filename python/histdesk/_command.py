@@ -8,7 +8,7 @@ import re
 import signal
 import sys
 import warnings
-from typing import Any, Callable, List, NoReturn, Optional
+from typing import Any, Callable, List, NoReturn
 
 from ._losses import LossWarning, seconds
 from ._recording import Choice, Recording, read

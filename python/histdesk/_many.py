@@ -9,7 +9,7 @@ import os
 import sys
 import time
 import warnings
-from typing import Any, Dict, Generator, Iterable, List, NamedTuple, Optional, Sequence, Tuple, Union
+from typing import Any, Dict, Generator, Iterable, List, Optional, Sequence, Tuple, Union
 
 from . import _shown
 from ._losses import LossWarning
