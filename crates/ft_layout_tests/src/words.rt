@@ -36,7 +36,11 @@ fn each_refusal_is_said(rt: HostRuntime) -> Result<(), Fail> {
             "refused 5: cpu 8192",
             "no events of CPU 8192 are held",
         ),
-        (Refused::NoEvent, "refused 6", "that line holds no event, or none is there"),
+        (
+            Refused::NoEvent,
+            "refused 6",
+            "that line holds no event, or none is there",
+        ),
         (
             Refused::Full,
             "refused 7",
@@ -152,7 +156,11 @@ fn each_fault_of_a_line_is_said(rt: HostRuntime) -> Result<(), Fail> {
 fn each_fault_of_a_filter_is_said(rt: HostRuntime) -> Result<(), Fail> {
     let all = [
         (FilterFault::Memory, "1", "out of memory"),
-        (FilterFault::Syntax(0), "2 at 0", "no such thing may stand here"),
+        (
+            FilterFault::Syntax(0),
+            "2 at 0",
+            "no such thing may stand here",
+        ),
         (
             FilterFault::NoField(4),
             "3 at 4",
@@ -194,7 +202,11 @@ fn each_fault_of_a_filter_is_said(rt: HostRuntime) -> Result<(), Fail> {
 fn each_fault_of_a_trigger_is_said(rt: HostRuntime) -> Result<(), Fail> {
     let all = [
         (TriggerFault::Memory, "1", "out of memory"),
-        (TriggerFault::Syntax(14), "2 at 14", "no such thing may stand here"),
+        (
+            TriggerFault::Syntax(14),
+            "2 at 14",
+            "no such thing may stand here",
+        ),
         (
             TriggerFault::NoField,
             "3",
