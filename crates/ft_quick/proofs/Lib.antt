@@ -1,0 +1,5 @@
+mod ColumnCuts
+mod Fronts
+mod Labels
+mod Runs
+mod Signs

@@ -1,0 +1,76 @@
+-- Runs of spaces and digits that a text begins with.
+use Rattle.std.proofs.Common.{◌≡◌, ◌<◌, ◌≤◌, ℕ, ◌+◌, ◌-◌, ◌*◌, true, false, List, [], ◌∷◌, ◌++◌, take, drop, length, get_or, refl, sym, ap, ◌∙◌, arith, subst, eqb, leb}
+use Rattle.std.proofs.lemmas.Bool.{and_from, and_parts, ne_eqb, eq-eqb, leb-true, le-ltb, lt-ltb}
+use Rattle.std.proofs.lemmas.Int.Digits.{digits_value_more}
+use Rattle.std.proofs.lemmas.List.{take-append-drop, take_all, drop_more, length-take, append-nil, take_rest}
+use Rattle.std.proofs.lemmas.List.Folds.{list_all_more}
+use Rattle.std.specs.Char.{digit_value}
+use Rattle.std.specs.List.{list_all}
+use Rattle.std.specs.Str.Parse.{digits_value}
+use Rattle.ft_event.specs.Bytes.{is_space, is_digit}
+use Rattle.ft_event.specs.LineIs.{Stops}
+use Rattle.ft_quick.specs.inner.Cuts.{IsSkip, IsNumbered}
+
+-- ---- spaces
+
+-- one more space
+pub next_space : (text : List ℕ) (i : ℕ) → i < length text → get_or text i 0 ≡ 32 → list_all is_space (take i text) ≡ true → list_all is_space (take (i + 1) text) ≡ true
+next_space text i within here passes = list_all_more is_space text i 0 within ∙ and_from _ _ passes (eq-eqb _ _ here)
+
+-- the rest behind spaces, which begins with none
+pub skip_found : (text : List ℕ) (i : ℕ) → i < length text → (get_or text i 0 ≡ 32 → ⊥) → list_all is_space (take i text) ≡ true → IsSkip text (drop i text)
+skip_found text i within other passes =
+    let stops : Stops is_space (get_or text i 0 ∷ drop (i + 1) text) = ne_eqb (get_or text i 0) 32 other in
+    record {
+      gap = take i text;
+      joined = sym (take-append-drop i text);
+      spaces = passes;
+      stops = subst (Stops is_space) (sym (drop_more text i 0 within)) stops;
+    }
+
+-- spaces alone
+pub skip_ends : (text : List ℕ) (i : ℕ) → length text ≤ i → list_all is_space (take i text) ≡ true → IsSkip text []
+skip_ends text i past passes = record {
+  gap = take i text;
+  joined = sym (append-nil (take i text) ∙ take_all i text past);
+  spaces = passes;
+  stops = tt;
+}
+
+-- ---- digits
+
+-- a digit's value
+digit_value_is : (b : ℕ) → is_digit b ≡ true → digit_value b ≡ b - 48
+digit_value_is b h =
+    let p = and_parts (leb 48 b) (leb b 57) h in
+    let low : 48 ≤ b = leb-true 48 b p.0 in
+    let high : b ≤ 57 = leb-true b 57 p.1 in
+    rw (le-ltb b 48 low, lt-ltb b 58 (omega arith)) refl
+
+pub record IsRead (text : List ℕ) (i n : ℕ) : Type 0 where
+  pub digits : list_all is_digit (take i text) ≡ true
+  pub value : n ≡ digits_value 10 (take i text)
+  pub below : n < 1000000000
+
+-- one more digit
+pub next_digit : (text : List ℕ) (i n : ℕ) → i < length text → is_digit (get_or text i 0) ≡ true → n ≤ 99999999 → IsRead text i n → IsRead text (i + 1) (n * 10 + (get_or text i 0 - 48))
+next_digit text i n within digit small read =
+    let p = and_parts (leb 48 (get_or text i 0)) (leb (get_or text i 0) 57) digit in
+    let high : get_or text i 0 ≤ 57 = leb-true (get_or text i 0) 57 p.1 in
+    let more = digits_value_more 10 text i within in
+    let own = digit_value_is (get_or text i 0) digit in
+    record {
+      digits = list_all_more is_digit text i 0 within ∙ and_from _ _ read.digits digit;
+      value = omega (arith, read.value);
+      below = omega arith;
+    }
+
+-- the number that a text begins with
+pub numbered : (text : List ℕ) (i n : ℕ) → 0 < i → i ≤ length text → IsRead text i n → IsNumbered text n (drop i text)
+numbered text i n some within read = record {
+  digits = take i text;
+  joined = sym (take-append-drop i text);
+  are = (omega (arith, length-take i text), read.digits);
+  value = read.value;
+  below = read.below;
+}

@@ -1,0 +1,5 @@
+-- Words of private functions.
+pub mod Columns
+pub mod Cuts
+pub mod Lines
+pub mod Payloads

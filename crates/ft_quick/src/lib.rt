@@ -1,0 +1,8 @@
+//! Lines of the kernel's `trace` file as events, fast where a line is of the usual form.
+#![tactic(auto)]
+
+mod columns;
+mod cuts;
+mod front;
+mod line;
+mod payload;
