@@ -74,8 +74,8 @@ bare_task text (b ∷ task) rest cut stops = subst (Stops is_space) cut stops
 -- a line with a `-` is not blank
 not_blank : (line front rest : List ℕ) → line ≡ front ++ 45 ∷ rest → list_all is_blank line ≡ true → ⊥
 not_blank line front rest cut blank =
-    let both = and_parts _ _ (sym (list_all-append is_blank front (45 ∷ rest)) ∙ ap (list_all is_blank) (sym cut) ∙ blank) in
-    let dash : list_all is_blank (45 ∷ rest) ≡ true = both.1 in
+    let both = and_parts (list_all is_blank front) (list_all is_blank (45 ∷ rest)) (sym (list_all-append is_blank front (45 ∷ rest)) ∙ ap (list_all is_blank) (sym cut) ∙ blank) in
+    let dash : false ≡ true = both.1 in
     cc
 
 unbroken : (line : List ℕ) → list_any (λ b. eqb b 10) line ≡ false → Contains line 10 → ⊥

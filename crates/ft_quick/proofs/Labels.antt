@@ -1,6 +1,6 @@
 -- Texts that are the same byte by byte.
-use Rattle.std.proofs.Common.{◌≡◌, ℕ, true, List, [], ◌∷◌, ◌++◌, refl, sym, ap, ◌∙◌, eqb, take, drop}
-use Rattle.std.proofs.lemmas.Bool.{and_parts, eqb-true}
+use Rattle.std.proofs.Common.{◌≡◌, ◌<◌, ℕ, suc, true, false, arith, length, List, [], ◌∷◌, ◌++◌, refl, sym, ap, ◌∙◌, eqb, take, drop}
+use Rattle.std.proofs.lemmas.Bool.{and_parts, eqb-true, eqb-false}
 use Rattle.std.proofs.lemmas.List.{take-append-drop}
 use lib.Pointwise.{pointwise}
 
@@ -24,3 +24,11 @@ label_cut text label front rest n f r same =
 pub last_cut : (text label front rest : List ℕ) (n : ℕ) → front ≡ take n text → rest ≡ drop n text → pointwise eqb rest label ≡ true → text ≡ front ++ label
 last_cut text label front rest n f r same =
     sym (take-append-drop n text) ∙ ap (λ (x : List ℕ). x ++ drop n text) (sym f) ∙ ap (λ (x : List ℕ). front ++ x) (sym r ∙ pointwise_same rest label same)
+
+-- a text whose length is 0, and one whose length is another
+pub empty : (xs : List ℕ) → eqb (length xs) 0 ≡ true → xs ≡ []
+empty [] none = refl
+empty (x ∷ xs) none = let h : suc (length xs) ≡ 0 = eqb-true (suc (length xs)) 0 none in absurd (omega arith)
+
+pub some : (xs : List ℕ) → eqb (length xs) 0 ≡ false → 0 < length xs
+some xs other = let h = eqb-false (length xs) 0 other in omega arith

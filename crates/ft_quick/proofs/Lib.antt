@@ -1,5 +1,7 @@
+mod BodyCuts
 mod ColumnCuts
 mod Fronts
 mod Labels
+mod PayloadCuts
 mod Runs
 mod Signs

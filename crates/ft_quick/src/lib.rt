@@ -6,3 +6,5 @@ mod cuts;
 mod front;
 mod line;
 mod payload;
+
+pub use line::read_cut_line;

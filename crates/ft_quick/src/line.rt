@@ -1,12 +1,18 @@
 //! One line of a trace, fast where it is of the usual form.
 
-ghost use Rattle.std.specs.Prelude.{◌≡◌, ◌==◌, false, IfSome};
+ghost use Rattle.std.specs.Prelude.{◌≡◌, ◌==◌, true, false, Ok, IfSome};
 ghost use Rattle.std.specs.List.{list_any};
+ghost use Rattle.ft_event.specs.declared.fault.Line.TheVariants as lines;
+ghost use Rattle.ft_event.specs.Line.{line_of, line_given};
+ghost use Rattle.ft_event.specs.LineIs.{LineIs};
 ghost use Rattle.ft_quick.specs.inner.Lines.{IsFront};
 
 use crate::columns::{is_plain, stamp_of, tail_of, task_of};
 use crate::cuts::without_spaces;
 use crate::front::Front;
+use crate::payload::body_of;
+use ft_event::{LineFault, one_answer};
+use ft_fields::{Comm, Event};
 
 /// The columns of a line, where they are of the usual form.
 #[inline(always)]
@@ -30,4 +36,43 @@ fn front_of(line: &[u8]) -> Option<Front<'_>>
         stamp,
         rest,
     })
+}
+
+/// Puts the event of a line of the usual form: whether the line is one. `event` may be any where it
+/// isn't.
+fn put_usual(line: &[u8], event: &mut Event) -> bool
+    requires { list_any (λ b. b == 10) line.now ≡ false }
+    ensures { result ≡ true → LineIs line.now (Ok (lines.Event event.new)) }
+{
+    let Some(front) = front_of(line) else {
+        return false;
+    };
+    let Some(body) = body_of(front.rest) else {
+        return false;
+    };
+    *event = Event {
+        task: Comm::filled(front.task),
+        pid: front.pid,
+        cpu: front.cpu,
+        stamp: front.stamp,
+        body,
+    };
+    true
+}
+
+/// Reads one line that was cut at its line break, in place, as `ft_event::read_cut_line` does: whether
+/// it holds an event, which `event` then is. Where it holds none, `event` may be any.
+pub fn read_cut_line(line: &[u8], event: &mut Event) -> Result<bool, LineFault>
+    requires { list_any (λ b. b == 10) line.now ≡ false }
+    // The line's answer, as the function that the definitions compute.
+    ensures exact { line_given result event.new ≡ line_of line.now }
+    // What the answer says of the whole line's bytes.
+    ensures meaning { LineIs line.now (line_given result event.new) }
+{
+    if put_usual(line, event) {
+        // Its one answer, so the general reader's too.
+        one_answer();
+        return Ok(true);
+    }
+    ft_event::read_cut_line(line, event)
 }

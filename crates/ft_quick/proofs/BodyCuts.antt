@@ -1,0 +1,69 @@
+-- What stands behind STAMP, cut from the left: the body of an event.
+use Rattle.std.proofs.Common.{◌≡◌, ◌<◌, ℕ, inl, inr, List, [], ◌∷◌, ◌++◌, length, reverse, refl, sym, ap, ◌∙◌, arith, Ok, Option, Some, None, true}
+use Rattle.std.proofs.lemmas.List.{append-nil}
+use Rattle.std.specs.Prelude.{codes}
+use Rattle.std.specs.Option.{is_some}
+use Rattle.ft_fields.specs.declared.event.Body.{Body}
+use Rattle.ft_fields.specs.declared.event.Body.TheVariants as bodies
+use Rattle.ft_fields.specs.declared.event.Turn.{Turn}
+use Rattle.ft_fields.specs.declared.event.Wake.{Wake}
+use Rattle.ft_event.specs.Bytes.{is_space}
+use Rattle.ft_event.specs.Labels.{text_of, label_of}
+use Rattle.ft_event.specs.Spans.{behind}
+use Rattle.ft_event.specs.LineIs.{IsNamed, BodyIs, WakeGives, TurnGives, Stops}
+use Rattle.ft_quick.specs.inner.Payloads.{IsFairWake, IsFairTurn}
+
+-- what was found
+abbrev the : {A : Type 0} → (o : Option A) → is_some o ≡ true → A
+the None found = absurd cc
+the (Some x) found = x
+
+is_named : (rest : List ℕ) (label : _) (payload : List ℕ) → rest ≡ codes " " ++ text_of label ++ codes " " ++ payload → Stops is_space payload → Stops is_space (reverse payload) → IsNamed rest label payload
+is_named rest label payload cut first last = record {
+  before = codes " ";
+  left = codes " ";
+  right = [];
+  joined = cut ∙ sym (append-nil (codes " " ++ text_of label ++ codes " " ++ payload));
+  before_spaces = refl;
+  left_spaces = refl;
+  right_spaces = refl;
+  first = first;
+  last = last;
+}
+
+-- a payload of which nothing is too long or out of range gives its event
+wake_gives : (body : Wake → Body) (payload : List ℕ) (wake : Wake) → IsFairWake payload wake → WakeGives body payload (Ok (body wake))
+wake_gives body payload wake fair = inl (
+  (wake, None),
+  fair.is,
+  inr (λ long. omega (arith, fair.short), inr (λ out. out fair.pid_fits, inr (λ out. out fair.prio_fits, inr (λ out. out fair.cpu_fits, refl)))),
+)
+
+turn_gives : (payload : List ℕ) (turn : Turn) → IsFairTurn payload turn → TurnGives payload (Ok (bodies.Switch turn))
+turn_gives payload turn fair = inl (
+  turn,
+  fair.is,
+  inr (λ long. omega (arith, fair.prev_short), inr (λ out. out fair.prev_pid_fits, inr (λ out. out fair.prev_prio_fits, inr (λ long. omega (arith, fair.state_short),
+  inr (λ long. omega (arith, fair.next_short), inr (λ out. out fair.next_pid_fits, inr (λ out. out fair.next_prio_fits, refl))))))),
+)
+
+-- the events, by what stands behind ` sched_`
+pub switch_found : (rest text payload : List ℕ) (turn : Turn) → rest ≡ codes " sched_" ++ text → text ≡ codes "switch: prev_comm=" ++ payload → IsFairTurn (codes "prev_comm=" ++ payload) turn → BodyIs rest (Ok (bodies.Switch turn))
+unfolding label_of behind
+switch_found rest text payload turn cut label fair =
+    inl (((the (label_of (codes "sched_switch:")) refl).0, codes "prev_comm=" ++ payload), is_named rest (the (label_of (codes "sched_switch:")) refl).0 (codes "prev_comm=" ++ payload) (cut ∙ ap (λ (x : List ℕ). codes " sched_" ++ x) label) refl fair.last, turn_gives (codes "prev_comm=" ++ payload) turn fair)
+
+pub waking_found : (rest text payload : List ℕ) (wake : Wake) → rest ≡ codes " sched_" ++ text → text ≡ codes "waking: comm=" ++ payload → IsFairWake (codes "comm=" ++ payload) wake → BodyIs rest (Ok (bodies.Waking wake))
+unfolding label_of behind
+waking_found rest text payload wake cut label fair =
+    inl (((the (label_of (codes "sched_waking:")) refl).0, codes "comm=" ++ payload), is_named rest (the (label_of (codes "sched_waking:")) refl).0 (codes "comm=" ++ payload) (cut ∙ ap (λ (x : List ℕ). codes " sched_" ++ x) label) refl fair.last, wake_gives bodies.Waking (codes "comm=" ++ payload) wake fair)
+
+pub wakeup_found : (rest text payload : List ℕ) (wake : Wake) → rest ≡ codes " sched_" ++ text → text ≡ codes "wakeup: comm=" ++ payload → IsFairWake (codes "comm=" ++ payload) wake → BodyIs rest (Ok (bodies.Wakeup wake))
+unfolding label_of behind
+wakeup_found rest text payload wake cut label fair =
+    inl (((the (label_of (codes "sched_wakeup:")) refl).0, codes "comm=" ++ payload), is_named rest (the (label_of (codes "sched_wakeup:")) refl).0 (codes "comm=" ++ payload) (cut ∙ ap (λ (x : List ℕ). codes " sched_" ++ x) label) refl fair.last, wake_gives bodies.Wakeup (codes "comm=" ++ payload) wake fair)
+
+pub wakeup_new_found : (rest text payload : List ℕ) (wake : Wake) → rest ≡ codes " sched_" ++ text → text ≡ codes "wakeup_new: comm=" ++ payload → IsFairWake (codes "comm=" ++ payload) wake → BodyIs rest (Ok (bodies.WakeupNew wake))
+unfolding label_of behind
+wakeup_new_found rest text payload wake cut label fair =
+    inl (((the (label_of (codes "sched_wakeup_new:")) refl).0, codes "comm=" ++ payload), is_named rest (the (label_of (codes "sched_wakeup_new:")) refl).0 (codes "comm=" ++ payload) (cut ∙ ap (λ (x : List ℕ). codes " sched_" ++ x) label) refl fair.last, wake_gives bodies.WakeupNew (codes "comm=" ++ payload) wake fair)
