@@ -3,5 +3,6 @@ mod ColumnCuts
 mod Fronts
 mod Labels
 mod PayloadCuts
+mod Places
 mod Runs
 mod Signs

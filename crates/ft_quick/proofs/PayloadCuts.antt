@@ -1,8 +1,8 @@
 -- Payloads that are cut from the left: each is of its event's form.
-use Rattle.std.proofs.Common.{◌≡◌, ◌<◌, ◌≤◌, ℕ, suc, ◌+◌, ◌-◌, Bool, true, inl, inr, List, [], ◌∷◌, ◌++◌, length, get_or, reverse, refl, sym, ap, ◌∙◌, append_assoc, arith, subst, ℤ, pos, None}
+use Rattle.std.proofs.Common.{◌≡◌, ◌<◌, ◌≤◌, ℕ, suc, ◌+◌, ◌-◌, Bool, true, inl, inr, List, [], ◌∷◌, ◌++◌, drop, length, get_or, reverse, refl, sym, ap, ◌∙◌, append_assoc, arith, subst, ℤ, pos, None}
 use Rattle.std.proofs.lemmas.Bool.{and_from, and_parts, cases_lt, leb-true, ne_eqb}
 use Rattle.std.proofs.lemmas.Int.{ints}
-use Rattle.std.proofs.lemmas.List.{append-nil, reverse-append, length-reverse, length-append, get_or_append_left, get_or-append-add, get_or-append_right, get_or_past, get_or_default}
+use Rattle.std.proofs.lemmas.List.{append-nil, drop_all, reverse-append, length-reverse, length-append, get_or_append_left, get_or-append-add, get_or-append_right, get_or_past, get_or_default}
 use Rattle.std.proofs.lemmas.List.Folds.{list_all-append}
 use Rattle.std.specs.Int.{w32}
 use Rattle.std.specs.List.{list_all}
@@ -11,8 +11,8 @@ use Rattle.ft_fields.specs.declared.event.Turn.{Turn}
 use Rattle.ft_fields.specs.declared.event.Wake.{Wake}
 use Rattle.ft_event.specs.Bytes.{is_space, is_in_word, is_digit}
 use Rattle.ft_event.specs.LineIs.{IsDigits, NumberIs, IsWake, IsTurn, IsLastArrow, Stops}
-use Rattle.ft_quick.specs.inner.Cuts.{IsNumbered, IsUntil}
-use Rattle.ft_quick.specs.inner.Payloads.{IsTask, IsFairWake, IsFairTurn}
+use Rattle.ft_quick.specs.inner.Cuts.{IsNumbered, IsSigned, IsUntil}
+use Rattle.ft_quick.specs.inner.Payloads.{IsName, IsTask, IsFairWake, IsFairTurn}
 
 -- ---- the last byte
 
@@ -43,6 +43,27 @@ last_number front number z h =
       | inl plain ↦ subst (λ (x : List ℕ). Stops is_space (reverse (front ++ x))) (sym plain.0) (last_digit front h.0 h.1)
       | inr minus ↦ subst (λ (x : List ℕ). Stops is_space (reverse x)) (append_assoc front (codes "-") h.0 ∙ ap (λ (x : List ℕ). front ++ x) (sym minus.0)) (last_digit (front ++ codes "-") h.0 h.1)
     ]
+
+-- ---- a task's part
+
+-- a name, and behind its labels a PID and a priority
+pub task_cut : (pid_label prio_label text comm from_pid from_label from_prio rest : List ℕ) (pid prio p q : ℤ) → IsName pid_label text comm from_pid → IsSigned from_pid pid from_label → from_label ≡ prio_label ++ from_prio → IsSigned from_prio prio rest
+    → p ≡ pid → q ≡ prio → IsTask pid_label prio_label text comm p q rest
+task_cut pid_label prio_label text comm from_pid from_label from_prio rest pid prio p q name a label b same_pid same_prio = record {
+  pid_text = a.number;
+  prio_text = b.number;
+  joined = name.joined ∙ ap (λ (x : List ℕ). comm ++ (pid_label ++ 61 ∷ x)) (a.joined ∙ ap (λ (x : List ℕ). a.number ++ x) (label ∙ ap (λ (x : List ℕ). prio_label ++ x) b.joined));
+  short = name.short;
+  bare = name.bare;
+  pid_is = subst (NumberIs a.number) (sym same_pid) a.is;
+  pid_fits = subst (FitsSigned w32) (sym same_pid) a.fits;
+  prio_is = subst (NumberIs b.number) (sym same_prio) b.is;
+  prio_fits = subst (FitsSigned w32) (sym same_prio) b.fits;
+}
+
+-- nothing stands behind the line's end
+pub nothing_left : (line : List ℕ) (at : ℕ) → at ≡ length line → drop at line ≡ []
+nothing_left line at ends = drop_all at line (omega arith)
 
 -- ---- wake events
 

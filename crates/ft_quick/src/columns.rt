@@ -1,15 +1,16 @@
 //! The columns of a line, before the event's own text.
 
-ghost use Rattle.std.specs.Prelude.{◌≡◌, ◌≤◌, ◌<◌, length, true, IfSome};
+ghost use Rattle.std.specs.Prelude.{◌≡◌, ◌≤◌, ◌<◌, ◌+◌, ◌-◌, length, take, drop, true, IfSome};
 ghost use Rattle.ft_fields.specs.Traced.{last_stamp};
-ghost use Rattle.ft_event.specs.LineIs.{IsStamped, Stops};
 ghost use Rattle.ft_event.specs.Bytes.{is_in_word};
+ghost use Rattle.ft_event.specs.LineIs.{IsStamped, Stops};
 ghost use Rattle.ft_quick.specs.inner.Columns.{ends_task, IsPlain, IsTask, IsTail, IsLettered};
 
-use crate::cuts::{behind, number, without_spaces};
+use crate::cuts::{behind, behind_spaces, micros, number};
 
 /// Whether the line is short enough, and surely neither a comment nor one that says that events were
 /// lost.
+#[inline(always)]
 pub(crate) fn is_plain(line: &[u8]) -> bool
     ensures { result ≡ true → IsPlain line.now }
 {
@@ -22,103 +23,111 @@ pub(crate) fn is_plain(line: &[u8]) -> bool
 
 /// Whether a `-` stands here that a digit follows.
 #[inline(always)]
-fn ends_task(text: &[u8], at: usize) -> bool
-    requires { at < length text.now }
-    ensures { result ≡ ends_task text.now at }
+fn ends_task(line: &[u8], at: usize) -> bool
+    requires { at < length line.now }
+    ensures { result ≡ ends_task line.now at }
 {
-    if text[at] != b'-' {
+    if line[at] != b'-' {
         return false;
     }
-    match text.get(at + 1) {
+    match line.get(at + 1) {
         Some(byte) => byte.is_ascii_digit(),
         None => false,
     }
 }
 
-/// TASK, and what stands behind its `-`: the first `-` that a digit follows.
+/// The place of the `-` behind TASK: the first that a digit follows.
 #[inline(always)]
-pub(crate) fn task_of(text: &[u8]) -> Option<(&[u8], &[u8])>
-    ensures { IfSome result (λ x. IsTask text.now x.0.now x.1.now) }
+pub(crate) fn task_end(line: &[u8], from: usize) -> Option<usize>
+    requires { from ≤ length line.now }
+    ensures task { IfSome result (λ end.
+        IsTask (drop from line.now) (take (end - from) (drop from line.now)) (drop (end + 1) line.now)) }
+    ensures behind { IfSome result (λ end. from ≤ end) }
+    ensures within { IfSome result (λ end. end < length line.now) }
 {
-    for at in 0..text.len() {
-        if ends_task(text, at) {
-            return Some((&text[..at], &text[at + 1..]));
+    for at in from..line.len() {
+        if ends_task(line, at) {
+            return Some(at);
         }
     }
     None
 }
 
-/// PID, CPU, and what stands behind `] `.
+/// PID, CPU, and the place behind `] `.
 #[inline(always)]
-pub(crate) fn tail_of(text: &[u8]) -> Option<(u32, u32, &[u8])>
-    ensures { IfSome result (λ x. IsTail text.now x.0 x.1 x.2.now) }
+pub(crate) fn tail_of(line: &[u8], at: usize) -> Option<(u32, u32, usize)>
+    requires { at ≤ length line.now }
+    ensures tail { IfSome result (λ x. IsTail (drop at line.now) x.0 x.1 (drop x.2 line.now)) }
+    ensures within { IfSome result (λ x. x.2 ≤ length line.now) }
 {
-    let (pid, rest) = number(text)?;
-    let rest = without_spaces(behind(b" ", rest)?);
-    let (cpu, rest) = number(behind(b"[", rest)?)?;
+    let (pid, at) = number(line, at)?;
+    let at = behind_spaces(line, behind(b" ", line, at)?);
+    let (cpu, at) = number(line, behind(b"[", line, at)?)?;
     if cpu > 8191 {
         return None;
     }
-    let rest = behind(b"] ", rest)?;
-    Some((pid, cpu, rest))
+    let at = behind(b"] ", line, at)?;
+    Some((pid, cpu, at))
 }
 
-/// What stands behind spaces and LETTERS, where these stand.
+/// The place behind spaces and LETTERS, where these stand here.
 #[inline(always)]
-fn behind_letters(text: &[u8]) -> Option<&[u8]>
-    ensures { IfSome result (λ rest. IsLettered text.now rest.now) }
+fn behind_letters(line: &[u8], at: usize) -> Option<usize>
+    requires { at ≤ length line.now }
+    ensures lettered { IfSome result (λ next. IsLettered (drop at line.now) (drop next line.now)) }
+    ensures within { IfSome result (λ next. next ≤ length line.now) }
 {
-    let word = without_spaces(text);
-    for (at, byte) in word.iter().enumerate() {
-        if *byte == b':' {
+    let word = behind_spaces(line, at);
+    for end in word..line.len() {
+        if line[end] == b':' {
             return Some(word);
         }
-        if *byte == b' ' {
-            if at == 0 {
+        if line[end] == b' ' {
+            if end == word {
                 return None;
             }
-            if at > 16 {
+            if end - word > 16 {
                 return None;
             }
-            return Some(without_spaces(&word[at + 1..]));
+            return Some(behind_spaces(line, end + 1));
         }
     }
     None
 }
 
-/// Whether the text is empty or begins with a space.
+/// Whether nothing or a space stands here.
 #[inline(always)]
-fn begins_no_word(text: &[u8]) -> bool
-    ensures { result ≡ true → Stops is_in_word text.now }
+fn ends_word(line: &[u8], at: usize) -> bool
+    requires { at ≤ length line.now }
+    ensures { result ≡ true → Stops is_in_word (drop at line.now) }
 {
-    match text.first() {
+    match line.get(at) {
         Some(byte) => *byte == b' ',
         None => true,
     }
 }
 
-/// The event's stamp in microseconds, and what stands behind STAMP.
+/// The event's stamp in microseconds, and the place behind STAMP.
 #[inline(always)]
-pub(crate) fn stamp_of(text: &[u8]) -> Option<(u64, &[u8])>
-    ensures stamped { IfSome result (λ x. IsStamped text.now x.0 x.1.now) }
-    ensures within { IfSome result (λ x. x.0 ≤ last_stamp) }
+pub(crate) fn stamp_of(line: &[u8], at: usize) -> Option<(u64, usize)>
+    requires { at ≤ length line.now }
+    ensures stamped { IfSome result (λ x. IsStamped (drop at line.now) x.0 (drop x.1 line.now)) }
+    ensures short { IfSome result (λ x. x.0 ≤ last_stamp) }
+    ensures within { IfSome result (λ x. x.1 ≤ length line.now) }
 {
-    let word = behind_letters(text)?;
-    let (seconds, rest) = number(word)?;
-    if word.len() - rest.len() > 10 {
+    let word = behind_letters(line, at)?;
+    let (seconds, dot) = number(line, word)?;
+    if dot - word > 10 {
         return None;
     }
-    let digits = behind(b".", rest)?;
-    let (micros, rest) = number(digits)?;
-    if micros > 999_999 {
+    let digits = behind(b".", line, dot)?;
+    let part = micros(line, digits)?;
+    if part > 999_999 {
         return None;
     }
-    if digits.len() - rest.len() != 6 {
+    let rest = behind(b":", line, digits + 6)?;
+    if !ends_word(line, rest) {
         return None;
     }
-    let rest = behind(b":", rest)?;
-    if !begins_no_word(rest) {
-        return None;
-    }
-    Some((u64::from(seconds) * 1_000_000 + u64::from(micros), rest))
+    Some((u64::from(seconds) * 1_000_000 + u64::from(part), rest))
 }

@@ -3,8 +3,9 @@
 ghost use Rattle.std.specs.Prelude.{◌≤◌, length};
 ghost use Rattle.ft_fields.specs.Traced.{last_cpu, last_stamp};
 
-/// What the columns of a line say, and what stands behind STAMP. TASK is a text yet: it is copied
-/// once, into the event.
+use ft_fields::{Body, Comm, Event};
+
+/// What the columns of a line say. TASK is a text yet: it is copied once, into the event.
 #[derive(Clone, Copy)]
 pub(crate) struct Front<'a> {
     /// TASK, of at most 31 bytes.
@@ -15,9 +16,28 @@ pub(crate) struct Front<'a> {
     pub(crate) cpu: u16,
     /// STAMP, in microseconds.
     pub(crate) stamp: u64,
-    /// What stands behind STAMP.
-    pub(crate) rest: &'a [u8],
+    /// The place behind STAMP.
+    pub(crate) rest: usize,
     ghost task_short: { length task.now ≤ 31 },
     ghost cpu_within: { cpu ≤ last_cpu },
     ghost stamp_within: { stamp ≤ last_stamp },
+}
+
+impl Front<'_> {
+    ghost use Rattle.std.specs.Prelude.{◌≡◌};
+    ghost use Rattle.ft_quick.specs.inner.Lines.{traced_with};
+
+    /// Makes it the line's event, where this was traced.
+    #[inline(always)]
+    pub(crate) fn put(&self, event: &mut Event, body: Body)
+        ensures { event.new ≡ traced_with self.now body }
+    {
+        *event = Event {
+            task: Comm::filled(self.task),
+            pid: self.pid,
+            cpu: self.cpu,
+            stamp: self.stamp,
+            body,
+        };
+    }
 }

@@ -1,34 +1,37 @@
 //! One line of a trace, fast where it is of the usual form.
 
-ghost use Rattle.std.specs.Prelude.{◌≡◌, ◌==◌, true, false, Ok, IfSome};
+ghost use Rattle.std.specs.Prelude.{◌≡◌, ◌==◌, ◌≤◌, true, false, length, Ok, IfSome};
 ghost use Rattle.std.specs.List.{list_any};
 ghost use Rattle.ft_event.specs.declared.fault.Line.TheVariants as lines;
 ghost use Rattle.ft_event.specs.Line.{line_of, line_given};
 ghost use Rattle.ft_event.specs.LineIs.{LineIs};
 ghost use Rattle.ft_quick.specs.inner.Lines.{IsFront};
 
-use crate::columns::{is_plain, stamp_of, tail_of, task_of};
-use crate::cuts::without_spaces;
+use crate::columns::{is_plain, stamp_of, tail_of, task_end};
+use crate::cuts::behind_margin;
 use crate::front::Front;
-use crate::payload::body_of;
+use crate::payload::put_body;
 use ft_event::{LineFault, one_answer};
-use ft_fields::{Comm, Event};
+use ft_fields::Event;
 
 /// The columns of a line, where they are of the usual form.
-#[inline(always)]
+#[inline(never)]
 fn front_of(line: &[u8]) -> Option<Front<'_>>
     requires { list_any (λ b. b == 10) line.now ≡ false }
-    ensures { IfSome result (IsFront line.now) }
+    ensures front { IfSome result (IsFront line.now) }
+    ensures within { IfSome result (λ front. front.rest ≤ length line.now) }
 {
     if !is_plain(line) {
         return None;
     }
-    let (task, rest) = task_of(without_spaces(line))?;
+    let begin = behind_margin(line);
+    let end = task_end(line, begin)?;
+    let task = &line[begin..end];
     if task.len() > 31 {
         return None;
     }
-    let (pid, cpu, rest) = tail_of(rest)?;
-    let (stamp, rest) = stamp_of(rest)?;
+    let (pid, cpu, at) = tail_of(line, end + 1)?;
+    let (stamp, rest) = stamp_of(line, at)?;
     Some(Front {
         task,
         pid: pid as i32,
@@ -40,24 +43,15 @@ fn front_of(line: &[u8]) -> Option<Front<'_>>
 
 /// Puts the event of a line of the usual form: whether the line is one. `event` may be any where it
 /// isn't.
+#[inline(always)]
 fn put_usual(line: &[u8], event: &mut Event) -> bool
     requires { list_any (λ b. b == 10) line.now ≡ false }
     ensures { result ≡ true → LineIs line.now (Ok (lines.Event event.new)) }
 {
-    let Some(front) = front_of(line) else {
-        return false;
-    };
-    let Some(body) = body_of(front.rest) else {
-        return false;
-    };
-    *event = Event {
-        task: Comm::filled(front.task),
-        pid: front.pid,
-        cpu: front.cpu,
-        stamp: front.stamp,
-        body,
-    };
-    true
+    match front_of(line) {
+        Some(front) => put_body(&front, line, event),
+        None => false,
+    }
 }
 
 /// Reads one line that was cut at its line break, in place, as `ft_event::read_cut_line` does: whether

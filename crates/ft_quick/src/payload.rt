@@ -1,52 +1,87 @@
 //! The payloads of named events.
 
-ghost use Rattle.std.specs.Prelude.{◌≡◌, ◌++◌, codes, Ok, IfSome};
-ghost use Rattle.ft_event.specs.LineIs.{BodyIs};
+ghost use Rattle.std.specs.Prelude.{◌≡◌, ◌≤◌, ◌++◌, true, codes, length, drop, IfSome};
 ghost use Rattle.ft_quick.specs.inner.Payloads.{IsName, IsTask, IsFairWake, IsFairTurn};
+ghost use Rattle.ft_quick.specs.inner.Lines.{body_named, IsPutWake, IsPutTurn, IsPut};
 
 use crate::cuts::{before, behind, number, signed, until};
-use ft_fields::{Body, Comm, Turn, Wake};
+use crate::front::Front;
+use ft_fields::{Body, Comm, Event, Turn, Wake};
 
-/// A name of at most 31 bytes, and what stands behind the label that follows it and `=`, which is the
-/// text's first.
+/// Which wake event it is.
+#[derive(Clone, Copy)]
+enum WakeName {
+    /// `sched_waking`
+    Waking,
+    /// `sched_wakeup`
+    Wakeup,
+    /// `sched_wakeup_new`
+    WakeupNew,
+}
+
+impl WakeName {
+    /// What was traced, where the event says this.
+    #[inline(always)]
+    fn body(self, wake: Wake) -> Body
+        ensures { result ≡ body_named self wake }
+    {
+        match self {
+            WakeName::Waking => Body::Waking(wake),
+            WakeName::Wakeup => Body::Wakeup(wake),
+            WakeName::WakeupNew => Body::WakeupNew(wake),
+        }
+    }
+}
+
+/// A name of at most 31 bytes that stands here, and the place behind the label that follows it and
+/// `=`, the first from here on.
 #[inline(always)]
 fn name_of<'a, const N: usize>(
     label: &[u8; N],
-    text: &'a [u8],
-) -> Option<(&'a [u8], &'a [u8])>
-    ensures { IfSome result (λ x. IsName label.now text.now x.0.now x.1.now) }
+    line: &'a [u8],
+    at: usize,
+) -> Option<(&'a [u8], usize)>
+    requires { at ≤ length line.now }
+    ensures name { IfSome result (λ x.
+        IsName label.now (drop at line.now) x.0.now (drop x.1 line.now)) }
+    ensures within { IfSome result (λ x. x.1 ≤ length line.now) }
 {
-    let (front, rest) = until(b'=', text)?;
-    let name = before(label, front)?;
+    let end = until(b'=', line, at)?;
+    let name = before(label, &line[at..end])?;
     if name.len() > 31 {
         return None;
     }
-    Some((name, rest))
+    Some((name, end + 1))
 }
 
-/// A task's name, its PID and its priority, and the rest.
+/// A task's name that stands here, its PID and its priority, and the place behind it.
 #[inline(always)]
 fn task_of<'a, const N: usize, const M: usize>(
     pid_label: &[u8; N],
     prio_label: &[u8; M],
-    text: &'a [u8],
-) -> Option<(&'a [u8], i32, i32, &'a [u8])>
-    ensures { IfSome result (λ x.
-        IsTask pid_label.now prio_label.now text.now x.0.now x.1 x.2 x.3.now) }
+    line: &'a [u8],
+    at: usize,
+) -> Option<(&'a [u8], i32, i32, usize)>
+    requires { at ≤ length line.now }
+    ensures task { IfSome result (λ x. IsTask pid_label.now prio_label.now
+        (drop at line.now) x.0.now x.1 x.2 (drop x.3 line.now)) }
+    ensures within { IfSome result (λ x. x.3 ≤ length line.now) }
 {
-    let (comm, rest) = name_of(pid_label, text)?;
-    let (pid, rest) = signed(rest)?;
-    let (prio, rest) = signed(behind(prio_label, rest)?)?;
-    Some((comm, pid, prio, rest))
+    let (comm, at) = name_of(pid_label, line, at)?;
+    let (pid, at) = signed(line, at)?;
+    let (prio, at) = signed(line, behind(prio_label, line, at)?)?;
+    Some((comm, pid, prio, at))
 }
 
-/// What the payload of a wake event says, from what stands behind `comm=`.
-fn wake_of(text: &[u8]) -> Option<Wake>
-    ensures { IfSome result (IsFairWake (codes "comm=" ++ text.now)) }
+/// What the payload of a wake event says, from what stands behind `comm=`, where it ends the line.
+#[inline(always)]
+fn wake_of(line: &[u8], at: usize) -> Option<Wake>
+    requires { at ≤ length line.now }
+    ensures { IfSome result (IsFairWake (codes "comm=" ++ drop at line.now)) }
 {
-    let (comm, pid, prio, rest) = task_of(b" pid", b" prio=", text)?;
-    let (target_cpu, rest) = number(behind(b" target_cpu=", rest)?)?;
-    if !rest.is_empty() {
+    let (comm, pid, prio, at) = task_of(b" pid", b" prio=", line, at)?;
+    let (target_cpu, at) = number(line, behind(b" target_cpu=", line, at)?)?;
+    if at != line.len() {
         return None;
     }
     Some(Wake {
@@ -57,21 +92,25 @@ fn wake_of(text: &[u8]) -> Option<Wake>
     })
 }
 
-/// What the payload of a switch says, from what stands behind `prev_comm=`.
-fn turn_of(text: &[u8]) -> Option<Turn>
-    ensures { IfSome result (IsFairTurn (codes "prev_comm=" ++ text.now)) }
+/// What the payload of a switch says, from what stands behind `prev_comm=`, where it ends the line.
+#[inline(always)]
+fn turn_of(line: &[u8], at: usize) -> Option<Turn>
+    requires { at ≤ length line.now }
+    ensures { IfSome result (IsFairTurn (codes "prev_comm=" ++ drop at line.now)) }
 {
-    let (prev_comm, prev_pid, prev_prio, rest) = task_of(b" prev_pid", b" prev_prio=", text)?;
-    let (prev_state, rest) = until(b' ', behind(b" prev_state=", rest)?)?;
+    let (prev_comm, prev_pid, prev_prio, at) = task_of(b" prev_pid", b" prev_prio=", line, at)?;
+    let state = behind(b" prev_state=", line, at)?;
+    let end = until(b' ', line, state)?;
+    let prev_state = &line[state..end];
     if prev_state.is_empty() {
         return None;
     }
     if prev_state.len() > 31 {
         return None;
     }
-    let rest = behind(b"==> next_comm=", rest)?;
-    let (next_comm, next_pid, next_prio, rest) = task_of(b" next_pid", b" next_prio=", rest)?;
-    if !rest.is_empty() {
+    let at = behind(b"==> next_comm=", line, end + 1)?;
+    let (next_comm, next_pid, next_prio, at) = task_of(b" next_pid", b" next_prio=", line, at)?;
+    if at != line.len() {
         return None;
     }
     Some(Turn {
@@ -85,21 +124,65 @@ fn turn_of(text: &[u8]) -> Option<Turn>
     })
 }
 
-/// What was traced, from what stands behind STAMP, where it is a named event of the usual form.
-#[inline(always)]
-pub(crate) fn body_of(rest: &[u8]) -> Option<Body>
-    ensures { IfSome result (λ body. BodyIs rest.now (Ok body)) }
+/// Puts the wake event of this name: whether its payload is of the usual form.
+// Apart from the columns, each keeps its registers.
+#[inline(never)]
+fn put_wake(
+    front: &Front<'_>,
+    name: WakeName,
+    line: &[u8],
+    at: usize,
+    event: &mut Event,
+) -> bool
+    requires { at ≤ length line.now }
+    ensures { result ≡ true
+        → IsPutWake name (codes "comm=" ++ drop at line.now) front.now event.new }
 {
-    let text = behind(b" sched_", rest)?;
-    if let Some(turn) = behind(b"switch: prev_comm=", text) {
-        return Some(Body::Switch(turn_of(turn)?));
+    match wake_of(line, at) {
+        Some(wake) => {
+            front.put(event, name.body(wake));
+            true
+        }
+        None => false,
     }
-    if let Some(wake) = behind(b"waking: comm=", text) {
-        return Some(Body::Waking(wake_of(wake)?));
+}
+
+/// Puts the switch: whether its payload is of the usual form.
+#[inline(never)]
+fn put_turn(front: &Front<'_>, line: &[u8], at: usize, event: &mut Event) -> bool
+    requires { at ≤ length line.now }
+    ensures { result ≡ true
+        → IsPutTurn (codes "prev_comm=" ++ drop at line.now) front.now event.new }
+{
+    match turn_of(line, at) {
+        Some(turn) => {
+            front.put(event, Body::Switch(turn));
+            true
+        }
+        None => false,
     }
-    if let Some(wake) = behind(b"wakeup: comm=", text) {
-        return Some(Body::Wakeup(wake_of(wake)?));
+}
+
+/// Puts the event of a line with these columns: whether it is a named one of the usual form.
+#[inline(always)]
+pub(crate) fn put_body(front: &Front<'_>, line: &[u8], event: &mut Event) -> bool
+    requires { front.now.rest ≤ length line.now }
+    ensures { result ≡ true → IsPut (drop front.now.rest line.now) front.now event.new }
+{
+    let Some(label) = behind(b" sched_", line, front.rest) else {
+        return false;
+    };
+    if let Some(at) = behind(b"switch: prev_comm=", line, label) {
+        return put_turn(front, line, at, event);
     }
-    let wake = behind(b"wakeup_new: comm=", text)?;
-    Some(Body::WakeupNew(wake_of(wake)?))
+    if let Some(at) = behind(b"waking: comm=", line, label) {
+        return put_wake(front, WakeName::Waking, line, at, event);
+    }
+    if let Some(at) = behind(b"wakeup: comm=", line, label) {
+        return put_wake(front, WakeName::Wakeup, line, at, event);
+    }
+    if let Some(at) = behind(b"wakeup_new: comm=", line, label) {
+        return put_wake(front, WakeName::WakeupNew, line, at, event);
+    }
+    false
 }

@@ -1,10 +1,16 @@
 -- What a line gives, once its columns are known.
-use Rattle.std.specs.Prelude.{List, ℕ, Ok}
+use Rattle.std.specs.Prelude.{◌≡◌, List, ℕ, drop, Ok}
 use Rattle.ft_event.specs.LineIs.{BodyIs, LineIs}
 use Rattle.ft_event.specs.declared.fault.Line.TheVariants as lines
 use Rattle.ft_fields.specs.declared.event.Body.{Body}
+use Rattle.ft_fields.specs.declared.event.Body.TheVariants as bodies
+use Rattle.ft_fields.specs.declared.event.Turn.{Turn}
+use Rattle.ft_fields.specs.declared.event.Wake.{Wake}
 use Rattle.ft_fields.specs.Traced.{Traced}
 use Rattle.ft_quick.specs.declared.front.Front.{Front}
+use Rattle.ft_quick.specs.declared.payload.WakeName.{WakeName}
+use Rattle.ft_quick.specs.declared.payload.WakeName.TheVariants as wakes
+use Rattle.ft_quick.specs.inner.Payloads.{IsFairTurn, IsFairWake}
 
 -- the event of these columns, where this was traced (our own choice)
 abbrev pub traced_with : Front → Body → Traced
@@ -12,4 +18,28 @@ traced_with front body = record { task = front.task.now; pid = front.pid; cpu = 
 
 -- whatever stands behind the columns, the line gives its event (our own choice)
 abbrev pub IsFront : List ℕ → Front → Type 0
-IsFront line front = (body : Body) → BodyIs front.rest.now (Ok body) → LineIs line (Ok (lines.Event (traced_with front body)))
+IsFront line front = (body : Body) → BodyIs (drop front.rest line) (Ok body) → LineIs line (Ok (lines.Event (traced_with front body)))
+
+-- what a wake event of this name is (kernel: events.rst, the events of `sched`)
+abbrev pub body_named : WakeName → Wake → Body
+body_named wakes.Waking wake = bodies.Waking wake
+body_named wakes.Wakeup wake = bodies.Wakeup wake
+body_named wakes.WakeupNew wake = bodies.WakeupNew wake
+
+-- the event is that of these columns and of a wake event with this payload (our own choice)
+pub record IsPutWake (name : WakeName) (payload : List ℕ) (front : Front) (event : Traced) : Type 0 where
+  pub wake : Wake
+  pub fair : IsFairWake payload wake
+  pub put : event ≡ traced_with front (body_named name wake)
+
+-- the event is that of these columns and of a switch with this payload (our own choice)
+pub record IsPutTurn (payload : List ℕ) (front : Front) (event : Traced) : Type 0 where
+  pub turn : Turn
+  pub fair : IsFairTurn payload turn
+  pub put : event ≡ traced_with front (bodies.Switch turn)
+
+-- the event is that of these columns and of what stands behind them (our own choice)
+pub record IsPut (rest : List ℕ) (front : Front) (event : Traced) : Type 0 where
+  pub body : Body
+  pub is : BodyIs rest (Ok body)
+  pub put : event ≡ traced_with front body

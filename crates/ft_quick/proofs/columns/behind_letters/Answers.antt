@@ -1,16 +1,18 @@
-use Rattle.std.proofs.Common.{◌+◌, arith, drop}
-use Rattle.std.proofs.lemmas.List.{take_rest}
-use Rattle.ft_quick.specs.inner.Cuts.{IsSkip}
-use Rattle.ft_quick.proofs.ColumnCuts.{no_letters, letters_passed, next_bare}
+use Rattle.std.proofs.Common.{drop}
+use Rattle.ft_quick.proofs.ColumnCuts.{no_letters}
+use Rattle.ft_quick.proofs.Places.{no_letter_yet, next_letter_at, letters_passed_at}
 use Rattle.ft_quick.proofs.columns.behind_letters.Goals as goal
 
-pub returns-then-byte-eq58 : goal.returns-then-byte-eq58
-returns-then-byte-eq58 c = no_letters c.args.text.now c.without_spaces-word.result.now c.without_spaces-word.ensures
+pub loop-end-init : goal.loop-end-init
+loop-end-init c = no_letter_yet (drop c.behind_spaces-word.result c.args.line.now) c.behind_spaces-word.result
 
-pub returns-then-byte-eq32 : goal.returns-then-byte-eq32
-returns-then-byte-eq32 c =
-    let behind : IsSkip (drop (c.loop-at.at + 1) c.without_spaces-word.result.now) c.without_spaces.result.now = rw take_rest at c.without_spaces.ensures in
-    letters_passed c.args.text.now c.without_spaces-word.result.now c.without_spaces.result.now c.loop-at.at c.without_spaces-word.ensures c.loop-at-test.true c.if-byte-eq32.true (omega arith) c.if-at-gt16.false c.loop-at.invariant behind
+pub returns-then-line-end-eq58-clause-lettered : goal.returns-then-line-end-eq58-clause-lettered
+returns-then-line-end-eq58-clause-lettered c = no_letters (drop c.args.at c.args.line.now) (drop c.behind_spaces-word.result c.args.line.now) c.behind_spaces-word.ensures.skip
 
-pub loop-at-preserved : goal.loop-at-preserved
-loop-at-preserved c = next_bare c.without_spaces-word.result.now c.loop-at.at c.loop-at-test.true c.if-byte-eq32.false c.if-byte-eq58.false c.loop-at.invariant
+pub returns-then-line-end-eq32-clause-lettered : goal.returns-then-line-end-eq32-clause-lettered
+returns-then-line-end-eq32-clause-lettered c =
+    letters_passed_at c.args.line.now (drop c.args.at c.args.line.now) (drop c.behind_spaces.result c.args.line.now) c.behind_spaces-word.result c.loop-end.end c.loop-end.auto.end c.behind_spaces-word.ensures.skip c.loop-end-test.true c.if-line-end-eq32.true
+    c.if-end-word.false c.if-end-word-gt16.false c.loop-end.invariant c.behind_spaces.ensures.skip
+
+pub loop-end-preserved : goal.loop-end-preserved
+loop-end-preserved c = next_letter_at c.args.line.now c.behind_spaces-word.result c.loop-end.end c.loop-end.auto.end c.loop-end-test.true c.if-line-end-eq32.false c.if-line-end-eq58.false c.loop-end.invariant

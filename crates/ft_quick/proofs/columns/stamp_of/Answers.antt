@@ -1,7 +1,17 @@
-use Rattle.std.proofs.Common.{arith}
+use Rattle.std.proofs.Common.{◌+◌, ℕ, List, drop, arith}
+use Rattle.std.proofs.lemmas.List.{length-drop}
 use Rattle.ft_quick.proofs.ColumnCuts.{stamp_found}
 use Rattle.ft_quick.proofs.columns.stamp_of.Goals as goal
 
 pub returns-clause-stamped : goal.returns-clause-stamped
-returns-clause-stamped c = rw (c.from.ensures, c.from-2.ensures) (stamp_found c.args.text.now c.in_ok-word.word.now c.in_ok-seconds.rest.now c.in_ok-digits.digits.now c.in_ok-micros.rest.now c.in_ok-rest.rest.now c.in_ok-seconds.seconds c.in_ok-micros.micros
-    c.in_ok-word.ensures c.in_ok-seconds.ensures c.if-word-rest-gt10.false c.in_ok-digits.ensures c.in_ok-micros.ensures c.if-micros-gt999999.false c.if-digits-rest-ne6.false c.in_ok-rest.ensures (c.begins_no_word.ensures c.if-not-begins_no_word.false))
+returns-clause-stamped c =
+    let from : ℕ → List ℕ = λ n. drop n c.args.line.now in
+    let word = length-drop c.in_ok-word.word c.args.line.now in
+    let dot = length-drop c.in_ok-seconds.dot c.args.line.now in
+    let digits = length-drop c.in_ok-digits.digits c.args.line.now in
+    let colon = length-drop (c.in_ok-digits.digits + 6) c.args.line.now in
+    let shorter = c.in_ok-seconds.ensures.within in
+    let behind = c.in_ok-seconds.ensures.behind in
+    let within = c.in_ok-part.ensures.within in
+    rw (c.from.ensures, c.from-2.ensures) (stamp_found (from c.args.at) (from c.in_ok-word.word) (from c.in_ok-seconds.dot) (from c.in_ok-digits.digits) (from (c.in_ok-digits.digits + 6)) (from c.in_ok-rest.rest) c.in_ok-seconds.seconds c.in_ok-part.part
+    c.in_ok-word.ensures.lettered c.in_ok-seconds.ensures.number (omega arith) c.in_ok-digits.ensures.cut c.in_ok-part.ensures.number c.if-part-gt999999.false (omega arith) c.in_ok-rest.ensures.cut (c.ends_word.ensures c.if-not-ends_word.false))
