@@ -47,8 +47,19 @@ turn_gives : (payload : List ℕ) (turn : Turn) → IsFairTurn payload turn → 
 turn_gives payload turn fair = inl (
   turn,
   fair.is,
-  inr (λ long. omega (arith, fair.prev_short), inr (λ out. out fair.prev_pid_fits, inr (λ out. out fair.prev_prio_fits, inr (λ long. omega (arith, fair.state_short),
-  inr (λ long. omega (arith, fair.next_short), inr (λ out. out fair.next_pid_fits, inr (λ out. out fair.next_prio_fits, refl))))))),
+  inr (
+    λ long. omega (arith, fair.prev_short),
+    inr (
+      λ out. out fair.prev_pid_fits,
+      inr (
+        λ out. out fair.prev_prio_fits,
+        inr (
+          λ long. omega (arith, fair.state_short),
+          inr (λ long. omega (arith, fair.next_short), inr (λ out. out fair.next_pid_fits, inr (λ out. out fair.next_prio_fits, refl))),
+        ),
+      ),
+    ),
+  ),
 )
 
 -- the events, by what stands behind ` sched_`

@@ -117,7 +117,7 @@ stamp_found text word from_dot from_micros from_colon rest seconds micros letter
       seconds = s.digits;
       micros = m.digits;
       joined = lettered.joined ∙ ap (λ (x : List ℕ). (lettered.gap ++ lettered.column) ++ x) (s.joined ∙ ap (λ (x : List ℕ). s.digits ++ x) (dot ∙ ap (λ (x : List ℕ). 46 ∷ x) (m.joined ∙ ap (λ (x : List ℕ). m.digits ++ x) colon)))
-      ∙ sym (stamp_joined lettered.gap lettered.column s.digits m.digits rest);
+          ∙ sym (stamp_joined lettered.gap lettered.column s.digits m.digits rest);
       before = lettered.before;
       letters = lettered.letters;
       seconds_digits = s.are;

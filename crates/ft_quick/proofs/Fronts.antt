@@ -29,7 +29,7 @@ rest_is : (p : ℕ → Bool) (run rest : List ℕ) → list_all p run ≡ true �
 rest_is p run rest passes stops = rw (run_len p run rest passes stops) (drop_at run rest (length run) refl)
 
 -- what stands behind spaces has one place
-rest_same : (p : ℕ → Bool) (line run rest run' rest' : List ℕ) → line ≡ run ++ rest → line ≡ run' ++ rest' → list_all p run ≡ true → list_all p run' ≡ true → Stops p rest → Stops p rest' → rest ≡ rest'
+pub rest_same : (p : ℕ → Bool) (line run rest run' rest' : List ℕ) → line ≡ run ++ rest → line ≡ run' ++ rest' → list_all p run ≡ true → list_all p run' ≡ true → Stops p rest → Stops p rest' → rest ≡ rest'
 rest_same p line run rest run' rest' cut cut' passes passes' stops stops' =
     sym (rest_is p run rest passes stops) ∙ ap (λ (l : List ℕ). drop (prefix_len p l) l) (sym cut ∙ cut') ∙ rest_is p run' rest' passes' stops'
 

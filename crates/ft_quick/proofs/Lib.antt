@@ -2,6 +2,7 @@ mod BodyCuts
 mod ColumnCuts
 mod Fronts
 mod Labels
+mod Others
 mod PayloadCuts
 mod Places
 mod Runs

@@ -84,7 +84,7 @@ next_digit_at line from at n order within digit small read =
 pub numbered_at : (line : List ℕ) (from at n : ℕ) → from ≤ at → (at ≡ from → ⊥) → at ≤ length line → IsRead (drop from line) (at - from) n → IsNumbered (drop from line) n (drop at line)
 numbered_at line from at n order some within read =
     let len = length-drop from line in
-    let less : from < at = elim (cases_lt from at) [ | inl h ↦ h | inr h ↦ absurd (some (omega arith)) ] in
+    let less : from < at = elim (cases_lt from at) [ inl h ↦ h | inr h ↦ absurd (some (omega arith)) ] in
     subst (IsNumbered (drop from line) n) (rest_at line from at order) (numbered (drop from line) (at - from) n (omega arith) (omega arith) read)
 
 pub number_ends_at : (line : List ℕ) (from at n : ℕ) → from ≤ at → (from ≡ length line → ⊥) → at ≤ length line → length line ≤ at → IsRead (drop from line) (at - from) n → IsNumbered (drop from line) n (drop (length line) line)
@@ -144,6 +144,6 @@ next_letter_at line from at order within space colon bare =
 pub letters_passed_at : (line text rest : List ℕ) (from at : ℕ) → from ≤ at → IsSkip text (drop from line) → at < length line → get_or line at 0 ≡ 32 → (at ≡ from → ⊥) → at - from ≤ 16 → IsBare (drop from line) (at - from) → IsSkip (drop (at + 1) line) rest → IsLettered text rest
 letters_passed_at line text rest from at order skip within here some short bare behind =
     let len = length-drop from line in
-    let less : from < at = elim (cases_lt from at) [ | inl h ↦ h | inr h ↦ absurd (some (omega arith)) ] in
+    let less : from < at = elim (cases_lt from at) [ inl h ↦ h | inr h ↦ absurd (some (omega arith)) ] in
     let place : drop (at + 1) line ≡ drop (at - from + 1) (drop from line) = sym (ap (λ (n : ℕ). drop n (drop from line)) (next_is from at order) ∙ rest_at line from (at + 1) (omega arith)) in
     letters_passed text (drop from line) rest (at - from) skip (omega arith) (byte_at line from at order ∙ here) (omega arith) short bare (subst (λ (x : List ℕ). IsSkip x rest) place behind)

@@ -6,5 +6,7 @@ mod cuts;
 mod front;
 mod line;
 mod payload;
+#[cfg(test)]
+mod tests;
 
 pub use line::read_cut_line;

@@ -44,7 +44,7 @@ fn front_of(line: &[u8]) -> Option<Front<'_>>
 /// Puts the event of a line of the usual form: whether the line is one. `event` may be any where it
 /// isn't.
 #[inline(always)]
-fn put_usual(line: &[u8], event: &mut Event) -> bool
+pub(crate) fn put_usual(line: &[u8], event: &mut Event) -> bool
     requires { list_any (λ b. b == 10) line.now ≡ false }
     ensures { result ≡ true → LineIs line.now (Ok (lines.Event event.new)) }
 {

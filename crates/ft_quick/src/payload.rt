@@ -1,7 +1,9 @@
 //! The payloads of named events.
 
-ghost use Rattle.std.specs.Prelude.{◌≡◌, ◌≤◌, ◌++◌, true, codes, length, drop, IfSome};
-ghost use Rattle.ft_quick.specs.inner.Payloads.{IsName, IsTask, IsFairWake, IsFairTurn};
+ghost use Rattle.std.specs.Prelude.{◌≡◌, ◌≤◌, ◌++◌, true, codes, length, drop, Ok, IfSome};
+ghost use Rattle.ft_fields.specs.declared.event.Body.TheVariants as bodies;
+ghost use Rattle.ft_event.specs.LineIs.{BodyIs};
+ghost use Rattle.ft_quick.specs.inner.Payloads.{IsName, IsTask, IsFairWake, IsFairTurn, IsUnlabelled};
 ghost use Rattle.ft_quick.specs.inner.Lines.{body_named, IsPutWake, IsPutTurn, IsPut};
 
 use crate::cuts::{before, behind, number, signed, until};
@@ -127,13 +129,7 @@ fn turn_of(line: &[u8], at: usize) -> Option<Turn>
 /// Puts the wake event of this name: whether its payload is of the usual form.
 // Apart from the columns, each keeps its registers.
 #[inline(never)]
-fn put_wake(
-    front: &Front<'_>,
-    name: WakeName,
-    line: &[u8],
-    at: usize,
-    event: &mut Event,
-) -> bool
+fn put_wake(front: &Front<'_>, name: WakeName, line: &[u8], at: usize, event: &mut Event) -> bool
     requires { at ≤ length line.now }
     ensures { result ≡ true
         → IsPutWake name (codes "comm=" ++ drop at line.now) front.now event.new }
@@ -163,9 +159,43 @@ fn put_turn(front: &Front<'_>, line: &[u8], at: usize, event: &mut Event) -> boo
     }
 }
 
-/// Puts the event of a line with these columns: whether it is a named one of the usual form.
+/// Whether an event without a name surely begins here: `wakeup_latency`, which no line names, is asked
+/// of the general reader.
 #[inline(always)]
-pub(crate) fn put_body(front: &Front<'_>, line: &[u8], event: &mut Event) -> bool
+fn is_unlabelled(line: &[u8], at: usize) -> bool
+    requires { at ≤ length line.now }
+    ensures { result ≡ true → IsUnlabelled (drop at line.now) }
+{
+    let Some((front, _)) = line[at..].split_first_chunk::<8>() else {
+        return false;
+    };
+    if front[0] == b' ' || front[0] == b':' || front[0] == b'w' {
+        return false;
+    }
+    if front == b"sched_wa" {
+        return false;
+    }
+    if front == b"sched_sw" {
+        return false;
+    }
+    true
+}
+
+/// Whether what stands here is surely one space and an event without a name.
+fn is_other(line: &[u8], at: usize) -> bool
+    requires { at ≤ length line.now }
+    ensures { result ≡ true → BodyIs (drop at line.now) (Ok bodies.Other) }
+{
+    match behind(b" ", line, at) {
+        Some(text) => is_unlabelled(line, text),
+        None => false,
+    }
+}
+
+/// Puts the event of a line with these columns, where it is a named one: whether it is of the usual
+/// form.
+#[inline(always)]
+fn put_named(front: &Front<'_>, line: &[u8], event: &mut Event) -> bool
     requires { front.now.rest ≤ length line.now }
     ensures { result ≡ true → IsPut (drop front.now.rest line.now) front.now event.new }
 {
@@ -183,6 +213,22 @@ pub(crate) fn put_body(front: &Front<'_>, line: &[u8], event: &mut Event) -> boo
     }
     if let Some(at) = behind(b"wakeup_new: comm=", line, label) {
         return put_wake(front, WakeName::WakeupNew, line, at, event);
+    }
+    false
+}
+
+/// Puts the event of a line with these columns: whether it is of the usual form.
+#[inline(always)]
+pub(crate) fn put_body(front: &Front<'_>, line: &[u8], event: &mut Event) -> bool
+    requires { front.now.rest ≤ length line.now }
+    ensures { result ≡ true → IsPut (drop front.now.rest line.now) front.now event.new }
+{
+    if put_named(front, line, event) {
+        return true;
+    }
+    if is_other(line, front.rest) {
+        front.put(event, Body::Other);
+        return true;
     }
     false
 }

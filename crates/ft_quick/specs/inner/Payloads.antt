@@ -1,5 +1,5 @@
 -- Payloads, cut from the left (kernel: events.rst, the events of `sched`).
-use Rattle.std.specs.Prelude.{◌≡◌, ◌≤◌, ℕ, List, ◌∷◌, ◌++◌, length, reverse, Contains, None, codes, ℤ, FitsSigned}
+use Rattle.std.specs.Prelude.{◌≡◌, ◌≤◌, ℕ, List, ◌∷◌, ◌++◌, length, take, reverse, slice_index, Contains, None, codes, ℤ, FitsSigned}
 use Rattle.std.specs.Int.{w32}
 use Rattle.ft_fields.specs.declared.event.Turn.{Turn}
 use Rattle.ft_fields.specs.declared.event.Wake.{Wake}
@@ -44,3 +44,11 @@ pub record IsFairTurn (payload : List ℕ) (turn : Turn) : Type 0 where
   pub next_pid_fits : FitsSigned w32 turn.next_pid
   pub next_prio_fits : FitsSigned w32 turn.next_prio
   pub last : Stops is_space (reverse payload)
+
+-- what tells a text from all labels: its first byte, and its first eight (our own choice)
+pub record IsUnlabelled (text : List ℕ) : Type 0 where
+  pub space : slice_index text 0 ≡ 32 → ⊥
+  pub colon : slice_index text 0 ≡ 58 → ⊥
+  pub made : slice_index text 0 ≡ 119 → ⊥
+  pub wake : take 8 text ≡ codes "sched_wa" → ⊥
+  pub turn : take 8 text ≡ codes "sched_sw" → ⊥

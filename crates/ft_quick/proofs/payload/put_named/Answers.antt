@@ -1,6 +1,6 @@
 use Rattle.std.proofs.Common.{ℕ, List, drop}
 use Rattle.ft_quick.proofs.BodyCuts.{switch_put, waking_put, wakeup_put, wakeup_new_put}
-use Rattle.ft_quick.proofs.payload.put_body.Goals as goal
+use Rattle.ft_quick.proofs.payload.put_named.Goals as goal
 
 pub returns-in-Some-behind : goal.returns-in-Some-behind
 returns-in-Some-behind c = λ done. switch_put (drop c.args.front.now.rest c.args.line.now) (drop c.in-Some.label c.args.line.now) (drop c.in-Some-behind.at c.args.line.now) c.args.front.now c.put_turn.new.event c.in-Some.ensures.cut c.in-Some-behind.ensures.cut (c.put_turn.ensures done)
