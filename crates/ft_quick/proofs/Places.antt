@@ -1,14 +1,14 @@
 -- Places in a line, and what stands from there on.
 use Rattle.std.proofs.Common.{◌≡◌, ◌<◌, ◌≤◌, ℕ, ◌+◌, ◌-◌, ◌*◌, inl, inr, true, false, List, [], ◌∷◌, ◌++◌, take, drop, length, get_or, refl, sym, ap, ◌∙◌, append_assoc, arith, subst, eqb}
-use Rattle.std.proofs.lemmas.Bool.{and_from, cases_lt}
-use Rattle.std.proofs.lemmas.List.{append-nil, drop_all, get_or-drop, drop-drop, length-drop, take-append-drop}
+use Rattle.std.proofs.lemmas.Bool.{and_from, and_parts, cases_Bool, cases_lt, eqb-true}
+use Rattle.std.proofs.lemmas.List.{append-nil, drop_all, get_or_append_left, get_or_default, get_or-drop, drop-drop, length-drop, take-append-drop}
 use Rattle.std.proofs.lemmas.List.Folds.{list_all-append}
 use Rattle.std.specs.List.{list_all}
 use lib.Pointwise.{pointwise}
 use Rattle.ft_event.specs.Bytes.{is_space, is_digit}
 use Rattle.ft_event.specs.LineIs.{Stops}
 use Rattle.ft_quick.specs.inner.Columns.{ends_task, IsTask, IsLettered}
-use Rattle.ft_quick.specs.inner.Cuts.{IsGap, IsSkip, IsNumbered}
+use Rattle.ft_quick.specs.inner.Cuts.{IsGap, IsSkip, IsNumbered, IsUntil}
 use Rattle.ft_quick.proofs.ColumnCuts.{IsBare, task_found, still_none, next_bare, letters_passed}
 use Rattle.ft_quick.proofs.Labels.{label_cut}
 use Rattle.ft_quick.proofs.Runs.{IsRead, next_space, skip_found, skip_ends, next_digit, numbered}
@@ -114,6 +114,19 @@ ends_task_at line from at order =
     let here = byte_at line from at order in
     let behind : get_or (drop from line) (at - from + 1) 0 ≡ get_or line (at + 1) 0 = ap (λ (n : ℕ). get_or (drop from line) n 0) (next_is from at order) ∙ byte_at line from (at + 1) (omega arith) in
     rw (here, behind) refl
+
+-- a `-` that is the first ends TASK
+pub task_until : (text front rest : List ℕ) → IsUntil 45 text front rest → IsTask text front rest
+task_until text front rest cut = record {
+  joined = cut.joined;
+  first = λ k below. elim (cases_Bool (ends_task text k)) [
+    | inl ends ↦
+        let both = and_parts (eqb (get_or text k 0) 45) (is_digit (get_or text (k + 1) 0)) ends in
+        let here : get_or text k 0 ≡ get_or front k 0 = ap (λ (x : List ℕ). get_or x k 0) cut.joined ∙ get_or_append_left front (45 ∷ rest) 0 k below in
+        absurd (cut.first (k, below, get_or_default front k 45 0 below ∙ sym here ∙ eqb-true _ _ both.0))
+    | inr none ↦ none
+  ];
+}
 
 pub no_task_yet : (text : List ℕ) (from : ℕ) → (k : ℕ) → k < from - from → ends_task text k ≡ false
 no_task_yet text from k below = absurd (omega arith)
