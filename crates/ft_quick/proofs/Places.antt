@@ -73,30 +73,25 @@ margin_found line two three rest a b c = record {
 pub no_digit_yet : (text : List ℕ) (from : ℕ) → IsRead text (from - from) 0
 no_digit_yet text from = subst (λ (n : ℕ). IsRead text n 0) (nothing from) (record { digits = refl; value = refl; below = omega arith })
 
-pub next_digit_at : (line : List ℕ) (from at n : ℕ) → from ≤ at → at < length line → is_digit (get_or line at 0) ≡ true → n ≤ 99999999 → IsRead (drop from line) (at - from) n → IsRead (drop from line) (at + 1 - from) (n * 10 + (get_or line at 0 - 48))
-next_digit_at line from at n order within digit small read =
+pub next_digit_at : (line : List ℕ) (from at n : ℕ) → from ≤ at → at < length line → is_digit (get_or line at 0) ≡ true → IsRead (drop from line) (at - from) n → IsRead (drop from line) (at + 1 - from) (n * 10 + (get_or line at 0 - 48))
+next_digit_at line from at n order within digit read =
     let len = length-drop from line in
     let here = byte_at line from at order in
-    let more = next_digit (drop from line) (at - from) n (omega arith) (ap is_digit here ∙ digit) small read in
+    let more = next_digit (drop from line) (at - from) n (omega arith) (ap is_digit here ∙ digit) read in
     let value : n * 10 + (get_or (drop from line) (at - from) 0 - 48) ≡ n * 10 + (get_or line at 0 - 48) = ap (λ (b : ℕ). n * 10 + (b - 48)) here in
     subst (λ (k : ℕ). IsRead (drop from line) k (n * 10 + (get_or line at 0 - 48))) (next_is from at order) (subst (IsRead (drop from line) (at - from + 1)) value more)
 
-pub numbered_at : (line : List ℕ) (from at n : ℕ) → from ≤ at → (at ≡ from → ⊥) → at ≤ length line → IsRead (drop from line) (at - from) n → IsNumbered (drop from line) n (drop at line)
-numbered_at line from at n order some within read =
+pub numbered_at : (line : List ℕ) (from at n : ℕ) → from ≤ at → (at ≡ from → ⊥) → at ≤ from + 9 → at ≤ length line → IsRead (drop from line) (at - from) n → IsNumbered (drop from line) n (drop at line)
+numbered_at line from at n order some few within read =
     let len = length-drop from line in
     let less : from < at = elim (cases_lt from at) [ inl h ↦ h | inr h ↦ absurd (some (omega arith)) ] in
-    subst (IsNumbered (drop from line) n) (rest_at line from at order) (numbered (drop from line) (at - from) n (omega arith) (omega arith) read)
-
-pub number_ends_at : (line : List ℕ) (from at n : ℕ) → from ≤ at → (from ≡ length line → ⊥) → at ≤ length line → length line ≤ at → IsRead (drop from line) (at - from) n → IsNumbered (drop from line) n (drop (length line) line)
-number_ends_at line from at n order some within past read =
-    let same : at ≡ length line = omega arith in
-    subst (λ (k : ℕ). IsNumbered (drop from line) n (drop k line)) same (numbered_at line from at n order (λ none. some (sym none ∙ same)) within read)
+    subst (IsNumbered (drop from line) n) (rest_at line from at order) (numbered (drop from line) (at - from) n (omega arith) (omega arith) (omega arith) read)
 
 -- six digits that stand here
 pub six_read : (text : List ℕ) (at n : ℕ) → length text ≡ 6 → length text ≤ at → at ≤ length text → IsRead text at n → IsNumbered text n []
 six_read text at n six past within read =
     let none : drop at text ≡ [] = drop_all at text past in
-    subst (IsNumbered text n) none (numbered text at n (omega arith) within read)
+    subst (IsNumbered text n) none (numbered text at n (omega arith) (omega arith) within read)
 
 pub six_here : (line digits : List ℕ) (at n : ℕ) → digits ≡ take 6 (drop at line) → IsNumbered digits n [] → IsNumbered (drop at line) n (drop (at + 6) line)
 six_here line digits at n cut read = record {

@@ -75,22 +75,20 @@ pub(crate) fn number(line: &[u8], from: usize) -> Option<(u32, usize)>
     ensures within { IfSome result (λ x. x.1 ≤ length line.now) }
 {
     let mut number: u32 = 0;
-    for at in from..line.len() {
+    let stop = line.len().min(from + 9);
+    for at in from..stop {
         if !line[at].is_ascii_digit() {
             if at == from {
                 return None;
             }
             return Some((number, at));
         }
-        if number > 99_999_999 {
-            return None;
-        }
         number = number * 10 + u32::from(line[at] - b'0');
     }
-    if from == line.len() {
+    if from == stop {
         return None;
     }
-    Some((number, line.len()))
+    Some((number, stop))
 }
 
 /// The number of six digits that the text is.
@@ -101,10 +99,6 @@ fn six_digits(text: &[u8; 6]) -> Option<u32>
     let mut number: u32 = 0;
     for byte in text {
         if !byte.is_ascii_digit() {
-            return None;
-        }
-        // Never so, as the compiler finds too.
-        if number > 99_999_999 {
             return None;
         }
         number = number * 10 + u32::from(*byte - b'0');
