@@ -1,5 +1,5 @@
 -- What stands behind STAMP, cut from the left: the body of an event.
-use Rattle.std.proofs.Common.{◌≡◌, ◌<◌, ℕ, inl, inr, List, [], ◌∷◌, ◌++◌, length, reverse, refl, sym, ap, ◌∙◌, arith, Ok, Option, Some, None, true}
+use Rattle.std.proofs.Common.{◌≡◌, ◌<◌, ℕ, inl, inr, List, [], ◌∷◌, ◌++◌, length, reverse, refl, sym, ap, ◌∙◌, arith, Ok, Option, Some, None, true, false}
 use Rattle.std.proofs.lemmas.List.{append-nil}
 use Rattle.std.specs.Prelude.{codes}
 use Rattle.std.specs.Option.{is_some}
@@ -17,12 +17,16 @@ use Rattle.ft_quick.specs.declared.payload.WakeName.TheVariants as wakes
 use Rattle.ft_quick.specs.inner.Lines.{IsPutWake, IsPutTurn, IsPut}
 use Rattle.ft_quick.specs.inner.Payloads.{IsFairWake, IsFairTurn}
 
+nothing_found : false ≡ true → ⊥
+nothing_found h = cc
+
 -- what was found
 abbrev the : {A : Type 0} → (o : Option A) → is_some o ≡ true → A
-the None found = absurd cc
+the None found = absurd (nothing_found found)
 the (Some x) found = x
 
-is_named : (rest : List ℕ) (label : _) (payload : List ℕ) → rest ≡ codes " " ++ text_of label ++ codes " " ++ payload → Stops is_space payload → Stops is_space (reverse payload) → IsNamed rest label payload
+is_named : (rest : List ℕ) (label : _) (payload : List ℕ) → rest ≡ codes " " ++ text_of label ++ codes " " ++ payload → Stops is_space payload
+    → Stops is_space (reverse payload) → IsNamed rest label payload
 is_named rest label payload cut first last = record {
   before = codes " ";
   left = codes " ";
@@ -63,35 +67,43 @@ turn_gives payload turn fair = inl (
 )
 
 -- the events, by what stands behind ` sched_`
-switch_found : (rest text payload : List ℕ) (turn : Turn) → rest ≡ codes " sched_" ++ text → text ≡ codes "switch: prev_comm=" ++ payload → IsFairTurn (codes "prev_comm=" ++ payload) turn → BodyIs rest (Ok (bodies.Switch turn))
+switch_found : (rest text payload : List ℕ) (turn : Turn) → rest ≡ codes " sched_" ++ text → text ≡ codes "switch: prev_comm=" ++ payload
+    → IsFairTurn (codes "prev_comm=" ++ payload) turn → BodyIs rest (Ok (bodies.Switch turn))
 unfolding label_of behind
 switch_found rest text payload turn cut label fair =
     inl (((the (label_of (codes "sched_switch:")) refl).0, codes "prev_comm=" ++ payload), is_named rest (the (label_of (codes "sched_switch:")) refl).0 (codes "prev_comm=" ++ payload) (cut ∙ ap (λ (x : List ℕ). codes " sched_" ++ x) label) refl fair.last, turn_gives (codes "prev_comm=" ++ payload) turn fair)
 
-waking_found : (rest text payload : List ℕ) (wake : Wake) → rest ≡ codes " sched_" ++ text → text ≡ codes "waking: comm=" ++ payload → IsFairWake (codes "comm=" ++ payload) wake → BodyIs rest (Ok (bodies.Waking wake))
+waking_found : (rest text payload : List ℕ) (wake : Wake) → rest ≡ codes " sched_" ++ text → text ≡ codes "waking: comm=" ++ payload
+    → IsFairWake (codes "comm=" ++ payload) wake → BodyIs rest (Ok (bodies.Waking wake))
 unfolding label_of behind
 waking_found rest text payload wake cut label fair =
     inl (((the (label_of (codes "sched_waking:")) refl).0, codes "comm=" ++ payload), is_named rest (the (label_of (codes "sched_waking:")) refl).0 (codes "comm=" ++ payload) (cut ∙ ap (λ (x : List ℕ). codes " sched_" ++ x) label) refl fair.last, wake_gives bodies.Waking (codes "comm=" ++ payload) wake fair)
 
-wakeup_found : (rest text payload : List ℕ) (wake : Wake) → rest ≡ codes " sched_" ++ text → text ≡ codes "wakeup: comm=" ++ payload → IsFairWake (codes "comm=" ++ payload) wake → BodyIs rest (Ok (bodies.Wakeup wake))
+wakeup_found : (rest text payload : List ℕ) (wake : Wake) → rest ≡ codes " sched_" ++ text → text ≡ codes "wakeup: comm=" ++ payload
+    → IsFairWake (codes "comm=" ++ payload) wake → BodyIs rest (Ok (bodies.Wakeup wake))
 unfolding label_of behind
 wakeup_found rest text payload wake cut label fair =
     inl (((the (label_of (codes "sched_wakeup:")) refl).0, codes "comm=" ++ payload), is_named rest (the (label_of (codes "sched_wakeup:")) refl).0 (codes "comm=" ++ payload) (cut ∙ ap (λ (x : List ℕ). codes " sched_" ++ x) label) refl fair.last, wake_gives bodies.Wakeup (codes "comm=" ++ payload) wake fair)
 
-wakeup_new_found : (rest text payload : List ℕ) (wake : Wake) → rest ≡ codes " sched_" ++ text → text ≡ codes "wakeup_new: comm=" ++ payload → IsFairWake (codes "comm=" ++ payload) wake → BodyIs rest (Ok (bodies.WakeupNew wake))
+wakeup_new_found : (rest text payload : List ℕ) (wake : Wake) → rest ≡ codes " sched_" ++ text → text ≡ codes "wakeup_new: comm=" ++ payload
+    → IsFairWake (codes "comm=" ++ payload) wake → BodyIs rest (Ok (bodies.WakeupNew wake))
 unfolding label_of behind
 wakeup_new_found rest text payload wake cut label fair =
     inl (((the (label_of (codes "sched_wakeup_new:")) refl).0, codes "comm=" ++ payload), is_named rest (the (label_of (codes "sched_wakeup_new:")) refl).0 (codes "comm=" ++ payload) (cut ∙ ap (λ (x : List ℕ). codes " sched_" ++ x) label) refl fair.last, wake_gives bodies.WakeupNew (codes "comm=" ++ payload) wake fair)
 
 -- the events that are put
-pub switch_put : (rest text payload : List ℕ) (front : Front) (event : Traced) → rest ≡ codes " sched_" ++ text → text ≡ codes "switch: prev_comm=" ++ payload → IsPutTurn (codes "prev_comm=" ++ payload) front event → IsPut rest front event
+pub switch_put : (rest text payload : List ℕ) (front : Front) (event : Traced) → rest ≡ codes " sched_" ++ text
+    → text ≡ codes "switch: prev_comm=" ++ payload → IsPutTurn (codes "prev_comm=" ++ payload) front event → IsPut rest front event
 switch_put rest text payload front event cut label p = record { body = bodies.Switch p.turn; is = switch_found rest text payload p.turn cut label p.fair; put = p.put }
 
-pub waking_put : (rest text payload : List ℕ) (front : Front) (event : Traced) → rest ≡ codes " sched_" ++ text → text ≡ codes "waking: comm=" ++ payload → IsPutWake wakes.Waking (codes "comm=" ++ payload) front event → IsPut rest front event
+pub waking_put : (rest text payload : List ℕ) (front : Front) (event : Traced) → rest ≡ codes " sched_" ++ text
+    → text ≡ codes "waking: comm=" ++ payload → IsPutWake wakes.Waking (codes "comm=" ++ payload) front event → IsPut rest front event
 waking_put rest text payload front event cut label p = record { body = bodies.Waking p.wake; is = waking_found rest text payload p.wake cut label p.fair; put = p.put }
 
-pub wakeup_put : (rest text payload : List ℕ) (front : Front) (event : Traced) → rest ≡ codes " sched_" ++ text → text ≡ codes "wakeup: comm=" ++ payload → IsPutWake wakes.Wakeup (codes "comm=" ++ payload) front event → IsPut rest front event
+pub wakeup_put : (rest text payload : List ℕ) (front : Front) (event : Traced) → rest ≡ codes " sched_" ++ text
+    → text ≡ codes "wakeup: comm=" ++ payload → IsPutWake wakes.Wakeup (codes "comm=" ++ payload) front event → IsPut rest front event
 wakeup_put rest text payload front event cut label p = record { body = bodies.Wakeup p.wake; is = wakeup_found rest text payload p.wake cut label p.fair; put = p.put }
 
-pub wakeup_new_put : (rest text payload : List ℕ) (front : Front) (event : Traced) → rest ≡ codes " sched_" ++ text → text ≡ codes "wakeup_new: comm=" ++ payload → IsPutWake wakes.WakeupNew (codes "comm=" ++ payload) front event → IsPut rest front event
+pub wakeup_new_put : (rest text payload : List ℕ) (front : Front) (event : Traced) → rest ≡ codes " sched_" ++ text
+    → text ≡ codes "wakeup_new: comm=" ++ payload → IsPutWake wakes.WakeupNew (codes "comm=" ++ payload) front event → IsPut rest front event
 wakeup_new_put rest text payload front event cut label p = record { body = bodies.WakeupNew p.wake; is = wakeup_new_found rest text payload p.wake cut label p.fair; put = p.put }

@@ -11,17 +11,14 @@ use Rattle.ft_event.specs.LineIs.{IsLost, IsLetters, IsStamped, Stops}
 use Rattle.ft_quick.specs.inner.Columns.{ends_task, IsPlain, IsTask, IsTail, IsLettered}
 use Rattle.ft_quick.specs.inner.Cuts.{IsSkip, IsNumbered}
 
--- a line of lost events has a colon behind three bytes
-pub not_lost : (line : List ℕ) → (get_or line 3 0 ≡ 58 → ⊥) → IsLost line → ⊥
-not_lost line other lost = other (ap (λ (l : List ℕ). get_or l 3 0) lost.joined)
-
 -- a text is cut at a byte
 pub cut_at : (text : List ℕ) (at byte : ℕ) → at < length text → get_or text at 0 ≡ byte → text ≡ take at text ++ byte ∷ drop (at + 1) text
 cut_at text at byte within here =
     sym (take-append-drop at text) ∙ ap (λ (x : List ℕ). take at text ++ x) (drop_more text at 0 within ∙ ap (λ (b : ℕ). b ∷ drop (at + 1) text) here)
 
 -- TASK is found
-pub task_found : (text : List ℕ) (at : ℕ) → at < length text → ends_task text at ≡ true → ((k : ℕ) → k < at → ends_task text k ≡ false) → IsTask text (take at text) (drop (at + 1) text)
+pub task_found : (text : List ℕ) (at : ℕ) → at < length text → ends_task text at ≡ true → ((k : ℕ) → k < at → ends_task text k ≡ false)
+    → IsTask text (take at text) (drop (at + 1) text)
 task_found text at within here before =
     let both = and_parts _ _ here in
     record {
@@ -37,7 +34,8 @@ still_none text at here before k below = elim (cases_lt k at) [
 ]
 
 -- PID and CPU are found
-pub tail_found : (text from_gap behind_gap from_bracket from_cpu from_close rest : List ℕ) (pid cpu : ℕ) → IsNumbered text pid from_gap → from_gap ≡ codes " " ++ behind_gap → IsSkip behind_gap from_bracket
+pub tail_found : (text from_gap behind_gap from_bracket from_cpu from_close rest : List ℕ) (pid cpu : ℕ) → IsNumbered text pid from_gap
+    → from_gap ≡ codes " " ++ behind_gap → IsSkip behind_gap from_bracket
     → from_bracket ≡ codes "[" ++ from_cpu → IsNumbered from_cpu cpu from_close → cpu ≤ 8191 → from_close ≡ codes "] " ++ rest → IsTail text pid cpu rest
 tail_found text from_gap behind_gap from_bracket from_cpu from_close rest pid cpu pid_is space skip bracket cpu_is within close = record {
   from_gap = from_gap;
@@ -76,7 +74,8 @@ no_letters text word skip = record {
 }
 
 -- LETTERS are passed
-pub letters_passed : (text word rest : List ℕ) (at : ℕ) → IsSkip text word → at < length word → get_or word at 0 ≡ 32 → 0 < at → at ≤ 16 → IsBare word at → IsSkip (drop (at + 1) word) rest → IsLettered text rest
+pub letters_passed : (text word rest : List ℕ) (at : ℕ) → IsSkip text word → at < length word → get_or word at 0 ≡ 32 → 0 < at → at ≤ 16
+    → IsBare word at → IsSkip (drop (at + 1) word) rest → IsLettered text rest
 letters_passed text word rest at skip within here some short bare behind =
     let letters : List ℕ = take at word in
     let gap : List ℕ = 32 ∷ behind.gap in
@@ -102,11 +101,13 @@ letters_passed text word rest at skip within here some short bare behind =
 
 -- ---- STAMP
 
-stamp_joined : (gap column seconds micros rest : List ℕ) → gap ++ column ++ seconds ++ codes "." ++ micros ++ codes ":" ++ rest ≡ (gap ++ column) ++ (seconds ++ (46 ∷ (micros ++ (58 ∷ rest))))
+stamp_joined : (gap column seconds micros rest : List ℕ)
+    → gap ++ column ++ seconds ++ codes "." ++ micros ++ codes ":" ++ rest ≡ (gap ++ column) ++ (seconds ++ (46 ∷ (micros ++ (58 ∷ rest))))
 stamp_joined gap column seconds micros rest = simp append_assoc
 
 -- STAMP is found
-pub stamp_found : (text word from_dot from_micros from_colon rest : List ℕ) (seconds micros : ℕ) → IsLettered text word → IsNumbered word seconds from_dot → length word - length from_dot ≤ 10 → from_dot ≡ codes "." ++ from_micros
+pub stamp_found : (text word from_dot from_micros from_colon rest : List ℕ) (seconds micros : ℕ) → IsLettered text word
+    → IsNumbered word seconds from_dot → length word - length from_dot ≤ 10 → from_dot ≡ codes "." ++ from_micros
     → IsNumbered from_micros micros from_colon → micros ≤ 999999 → length from_micros - length from_colon ≡ 6 → from_colon ≡ codes ":" ++ rest → Stops is_in_word rest → IsStamped text (seconds * 1000000 + micros) rest
 stamp_found text word from_dot from_micros from_colon rest seconds micros lettered s short dot m below six colon ends =
     let s_len = ap length s.joined ∙ length-append s.digits from_dot in

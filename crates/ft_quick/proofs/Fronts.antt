@@ -29,7 +29,8 @@ rest_is : (p : ℕ → Bool) (run rest : List ℕ) → list_all p run ≡ true �
 rest_is p run rest passes stops = rw (run_len p run rest passes stops) (drop_at run rest (length run) refl)
 
 -- what stands behind spaces has one place
-pub rest_same : (p : ℕ → Bool) (line run rest run' rest' : List ℕ) → line ≡ run ++ rest → line ≡ run' ++ rest' → list_all p run ≡ true → list_all p run' ≡ true → Stops p rest → Stops p rest' → rest ≡ rest'
+pub rest_same : (p : ℕ → Bool) (line run rest run' rest' : List ℕ) → line ≡ run ++ rest → line ≡ run' ++ rest' → list_all p run ≡ true
+    → list_all p run' ≡ true → Stops p rest → Stops p rest' → rest ≡ rest'
 rest_same p line run rest run' rest' cut cut' passes passes' stops stops' =
     sym (rest_is p run rest passes stops) ∙ ap (λ (l : List ℕ). drop (prefix_len p l) l) (sym cut ∙ cut') ∙ rest_is p run' rest' passes' stops'
 
@@ -45,7 +46,8 @@ ends_at task (d ∷ ds) rest digits =
     let is : is_digit d ≡ true = (and_parts (is_digit d) (list_all is_digit ds) digits.1).0 in
     and_from _ _ (eq-eqb _ _ dash) (ap is_digit first ∙ is)
 
-head_joined : (blanks task pid gap column cpu rest : List ℕ) → blanks ++ task ++ codes "-" ++ pid ++ gap ++ column ++ codes "[" ++ cpu ++ codes "] " ++ rest ≡ blanks ++ (task ++ 45 ∷ (pid ++ (gap ++ (column ++ (91 ∷ (cpu ++ (93 ∷ 32 ∷ rest)))))))
+head_joined : (blanks task pid gap column cpu rest : List ℕ)
+    → blanks ++ task ++ codes "-" ++ pid ++ gap ++ column ++ codes "[" ++ cpu ++ codes "] " ++ rest ≡ blanks ++ (task ++ 45 ∷ (pid ++ (gap ++ (column ++ (91 ∷ (cpu ++ (93 ∷ 32 ∷ rest)))))))
 head_joined blanks task pid gap column cpu rest = simp append_assoc
 
 task_stops : (task rest : List ℕ) → Stops is_space task → Stops is_space (task ++ 45 ∷ rest)
@@ -92,7 +94,8 @@ abbrev pub event_given : List ℕ → ℕ → ℕ → ℕ → Body → Result Li
 event_given task pid cpu stamp body = Ok (lines.Event (record { task = task; pid = pos pid; cpu = cpu; stamp = stamp; body = body }))
 
 -- the columns, and the event of the line
-pub front_found : (line text task from_pid from_stamp rest : List ℕ) (pid cpu stamp : ℕ) (body : Body) → list_any (λ b. eqb b 10) line ≡ false → IsPlain line → IsSkip line text → IsTask text task from_pid → length task ≤ 31
+pub front_found : (line text task from_pid from_stamp rest : List ℕ) (pid cpu stamp : ℕ) (body : Body) → list_any (λ b. eqb b 10) line ≡ false
+    → IsPlain line → IsSkip line text → IsTask text task from_pid → length task ≤ 31
     → IsTail from_pid pid cpu from_stamp → IsStamped from_stamp stamp rest → BodyIs rest (Ok body) → LineIs line (event_given task pid cpu stamp body)
 unfolding LineIs
 front_found line text task from_pid from_stamp rest pid cpu stamp body none plain skip cut short tail stamped is =

@@ -25,10 +25,6 @@ pub last_cut : (text label front rest : List ℕ) (n : ℕ) → front ≡ take n
 last_cut text label front rest n f r same =
     sym (take-append-drop n text) ∙ ap (λ (x : List ℕ). x ++ drop n text) (sym f) ∙ ap (λ (x : List ℕ). front ++ x) (sym r ∙ pointwise_same rest label same)
 
--- a text whose length is 0, and one whose length is another
-pub empty : (xs : List ℕ) → eqb (length xs) 0 ≡ true → xs ≡ []
-empty [] none = refl
-empty (x ∷ xs) none = let h : suc (length xs) ≡ 0 = eqb-true (suc (length xs)) 0 none in absurd (omega arith)
-
+-- a text whose length is not 0
 pub some : (xs : List ℕ) → eqb (length xs) 0 ≡ false → 0 < length xs
 some xs other = let h = eqb-false (length xs) 0 other in omega arith

@@ -45,13 +45,9 @@ rejoined before label left payload right = simp append_assoc
 pub other_found : (rest text : List ℕ) → rest ≡ codes " " ++ text → IsUnlabelled text → BodyIs rest (Ok bodies.Other)
 other_found rest text cut other = inr (
   λ named h.
-  let more : List ℕ = h.left ++ (named.1 ++ h.right) in
-  let joined : rest ≡ h.before ++ (text_of named.0 ++ more) = h.joined ∙ rejoined h.before (text_of named.0) h.left named.1 h.right in
-  let same : text ≡ text_of named.0 ++ more = rest_same is_space rest (codes " ") text h.before (text_of named.0 ++ more) cut joined refl h.before_spaces (first_stops text other.space) (no_space_first (named_by named.0) more) in
-  no_label (named_by named.0) text more other same,
+      let more : List ℕ = h.left ++ (named.1 ++ h.right) in
+      let joined : rest ≡ h.before ++ (text_of named.0 ++ more) = h.joined ∙ rejoined h.before (text_of named.0) h.left named.1 h.right in
+      let same : text ≡ text_of named.0 ++ more = rest_same is_space rest (codes " ") text h.before (text_of named.0 ++ more) cut joined refl h.before_spaces (first_stops text other.space) (no_space_first (named_by named.0) more) in
+      no_label (named_by named.0) text more other same,
   refl,
 )
-
--- texts that are not the same byte by byte are two
-pub differ : (xs ys zs : List ℕ) → pointwise eqb xs ys ≡ false → pointwise eqb ys ys ≡ true → xs ≡ zs → zs ≡ ys → ⊥
-differ xs ys zs other same e f = let both : pointwise eqb xs ys ≡ true = ap (λ (x : List ℕ). pointwise eqb x ys) (e ∙ f) ∙ same in cc

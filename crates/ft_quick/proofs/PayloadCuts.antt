@@ -47,7 +47,8 @@ last_number front number z h =
 -- ---- a task's part
 
 -- a name, and behind its labels a PID and a priority
-pub task_cut : (pid_label prio_label text comm from_pid from_label from_prio rest : List ℕ) (pid prio p q : ℤ) → IsName pid_label text comm from_pid → IsSigned from_pid pid from_label → from_label ≡ prio_label ++ from_prio → IsSigned from_prio prio rest
+pub task_cut : (pid_label prio_label text comm from_pid from_label from_prio rest : List ℕ) (pid prio p q : ℤ) → IsName pid_label text comm from_pid
+    → IsSigned from_pid pid from_label → from_label ≡ prio_label ++ from_prio → IsSigned from_prio prio rest
     → p ≡ pid → q ≡ prio → IsTask pid_label prio_label text comm p q rest
 task_cut pid_label prio_label text comm from_pid from_label from_prio rest pid prio p q name a label b same_pid same_prio = record {
   pid_text = a.number;
@@ -82,7 +83,8 @@ same_wake v w a b c d =
     ∙ ap (λ (x : ℤ). record { comm = w.comm; pid = w.pid; prio = x; target_cpu = v.target_cpu }) c
     ∙ ap (λ (x : ℤ). record { comm = w.comm; pid = w.pid; prio = w.prio; target_cpu = x }) d
 
-fair_wake : (text from_label from_cpu comm : List ℕ) (pid prio : ℤ) (cpu : ℕ) → IsTask (codes " pid") (codes " prio=") text comm pid prio from_label → from_label ≡ codes " target_cpu=" ++ from_cpu
+fair_wake : (text from_label from_cpu comm : List ℕ) (pid prio : ℤ) (cpu : ℕ) → IsTask (codes " pid") (codes " prio=") text comm pid prio from_label
+    → from_label ≡ codes " target_cpu=" ++ from_cpu
     → IsNumbered from_cpu cpu [] → IsFairWake (codes "comm=" ++ text) (record { comm = comm; pid = pid; prio = prio; target_cpu = pos cpu })
 fair_wake text from_label from_cpu comm pid prio cpu task label cpu_is =
     let digits : List ℕ = cpu_is.digits in
@@ -109,7 +111,8 @@ fair_wake text from_label from_cpu comm pid prio cpu task label cpu_is =
     }
 
 -- the payload of a wake event is found
-pub wake_found : (text from_label from_cpu comm rest : List ℕ) (pid prio : ℤ) (cpu : ℕ) (wake : Wake) → IsTask (codes " pid") (codes " prio=") text comm pid prio from_label → from_label ≡ codes " target_cpu=" ++ from_cpu
+pub wake_found : (text from_label from_cpu comm rest : List ℕ) (pid prio : ℤ) (cpu : ℕ) (wake : Wake)
+    → IsTask (codes " pid") (codes " prio=") text comm pid prio from_label → from_label ≡ codes " target_cpu=" ++ from_cpu
     → IsNumbered from_cpu cpu rest → rest ≡ [] → wake.comm ≡ comm → wake.pid ≡ pid → wake.prio ≡ prio → wake.target_cpu ≡ pos cpu → IsFairWake (codes "comm=" ++ text) wake
 wake_found text from_label from_cpu comm rest pid prio cpu wake task label cpu_is ends a b c d =
     let whole : IsNumbered from_cpu cpu [] = subst (IsNumbered from_cpu cpu) ends cpu_is in
@@ -126,7 +129,8 @@ no_space (x ∷ xs) bare =
     and_from _ _ (ap not (ne_eqb x 32 (λ e. bare (0, omega arith, e)))) (no_space xs (λ hit. bare (suc hit.0, omega (arith, hit.1), hit.2)))
 
 -- no `=` stands at a later place
-arrow_at : (before behind front back : List ℕ) → (Contains behind 61 → ⊥) → before ++ codes " ==> next_comm=" ++ behind ≡ front ++ codes " ==> next_comm=" ++ back → length before < length front → ⊥
+arrow_at : (before behind front back : List ℕ) → (Contains behind 61 → ⊥)
+    → before ++ codes " ==> next_comm=" ++ behind ≡ front ++ codes " ==> next_comm=" ++ back → length before < length front → ⊥
 arrow_at before behind front back bare cut later =
     let text : List ℕ = before ++ codes " ==> next_comm=" ++ behind in
     let at : ℕ = length front + 14 in
@@ -157,7 +161,8 @@ turn_joined : (c1 p1 q1 state c2 p2 q2 : List ℕ)
     ≡ (codes "prev_comm=" ++ c1 ++ codes " prev_pid=" ++ p1 ++ codes " prev_prio=" ++ q1 ++ codes " prev_state=" ++ state) ++ codes " ==> next_comm=" ++ c2 ++ codes " next_pid=" ++ p2 ++ codes " next_prio=" ++ q2
 turn_joined c1 p1 q1 state c2 p2 q2 = sym (simp append_assoc)
 
-pub same_turn : (v w : Turn) → v.prev_comm ≡ w.prev_comm → v.prev_pid ≡ w.prev_pid → v.prev_prio ≡ w.prev_prio → v.prev_state ≡ w.prev_state → v.next_comm ≡ w.next_comm → v.next_pid ≡ w.next_pid → v.next_prio ≡ w.next_prio → v ≡ w
+pub same_turn : (v w : Turn) → v.prev_comm ≡ w.prev_comm → v.prev_pid ≡ w.prev_pid → v.prev_prio ≡ w.prev_prio → v.prev_state ≡ w.prev_state
+    → v.next_comm ≡ w.next_comm → v.next_pid ≡ w.next_pid → v.next_prio ≡ w.next_prio → v ≡ w
 same_turn v w a b c d e f g =
     ap (λ (x : List ℕ). record { prev_comm = x; prev_pid = v.prev_pid; prev_prio = v.prev_prio; prev_state = v.prev_state; next_comm = v.next_comm; next_pid = v.next_pid; next_prio = v.next_prio }) a
     ∙ ap (λ (x : ℤ). record { prev_comm = w.prev_comm; prev_pid = x; prev_prio = v.prev_prio; prev_state = v.prev_state; next_comm = v.next_comm; next_pid = v.next_pid; next_prio = v.next_prio }) b
@@ -221,7 +226,8 @@ fair_turn text turn cut =
     }
 
 -- the payload of a switch is found
-pub turn_found : (text from_state_label from_state from_arrow from_next rest : List ℕ) (turn read : Turn) → IsTask (codes " prev_pid") (codes " prev_prio=") text read.prev_comm read.prev_pid read.prev_prio from_state_label
+pub turn_found : (text from_state_label from_state from_arrow from_next rest : List ℕ) (turn read : Turn)
+    → IsTask (codes " prev_pid") (codes " prev_prio=") text read.prev_comm read.prev_pid read.prev_prio from_state_label
     → from_state_label ≡ codes " prev_state=" ++ from_state → IsUntil 32 from_state read.prev_state from_arrow → 0 < length read.prev_state → length read.prev_state ≤ 31 → from_arrow ≡ codes "==> next_comm=" ++ from_next
     → IsTask (codes " next_pid") (codes " next_prio=") from_next read.next_comm read.next_pid read.next_prio rest → rest ≡ [] → turn ≡ read → IsFairTurn (codes "prev_comm=" ++ text) turn
 turn_found text from_state_label from_state from_arrow from_next rest turn read prev label state some short arrow next ends same =

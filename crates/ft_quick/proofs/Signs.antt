@@ -12,12 +12,3 @@ signed_minus text behind rest n z cut read value = record {
   is = (read.digits, read.are, inr (refl, value ∙ ap (λ (m : ℕ). neg_ℤ (pos m)) read.value));
   fits = let small = read.below in omega (arith, ints);
 }
-
--- digits alone
-pub signed_plain : (text rest : List ℕ) (n : ℕ) (z : ℤ) → IsNumbered text n rest → z ≡ pos n → IsSigned text z rest
-signed_plain text rest n z read value = record {
-  number = read.digits;
-  joined = read.joined;
-  is = (read.digits, read.are, inl (refl, value ∙ ap (λ (m : ℕ). pos m) read.value));
-  fits = let small = read.below in omega (arith, ints);
-}

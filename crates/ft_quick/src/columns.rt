@@ -6,7 +6,7 @@ ghost use Rattle.ft_event.specs.Bytes.{is_in_word};
 ghost use Rattle.ft_event.specs.LineIs.{IsStamped, Stops};
 ghost use Rattle.ft_quick.specs.inner.Columns.{ends_task, IsPlain, IsTask, IsTail, IsLettered};
 
-use crate::cuts::{behind, behind_spaces, micros, number, until};
+use crate::cuts::{behind, behind_spaces, micros, number};
 
 /// Whether the line is short enough, and surely neither a comment nor one that says that events were
 /// lost.
@@ -39,23 +39,6 @@ fn ends_task(line: &[u8], at: usize) -> bool
 /// The place of the `-` behind TASK: the first that a digit follows.
 #[inline(always)]
 pub(crate) fn task_end(line: &[u8], from: usize) -> Option<usize>
-    requires { from ≤ length line.now }
-    ensures task { IfSome result (λ end.
-        IsTask (drop from line.now) (take (end - from) (drop from line.now)) (drop (end + 1) line.now)) }
-    ensures behind { IfSome result (λ end. from ≤ end) }
-    ensures within { IfSome result (λ end. end < length line.now) }
-{
-    // Most names hold no `-`, so the first is found fast.
-    let dash = until(b'-', line, from)?;
-    if ends_task(line, dash) {
-        return Some(dash);
-    }
-    dashed_task_end(line, from)
-}
-
-/// The same of a name that may hold `-`.
-#[inline(never)]
-fn dashed_task_end(line: &[u8], from: usize) -> Option<usize>
     requires { from ≤ length line.now }
     ensures task { IfSome result (λ end.
         IsTask (drop from line.now) (take (end - from) (drop from line.now)) (drop (end + 1) line.now)) }

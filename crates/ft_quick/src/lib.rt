@@ -1,4 +1,18 @@
 //! Lines of the kernel's `trace` file as events, fast where a line is of the usual form.
+//!
+//! That is the form that the kernel gives the lines of events, with columns of any width and no thread
+//! groups: TASK, PID and CPU, perhaps LETTERS, STAMP, one space, and a named event whose names hold no
+//! `=` or an event without a name. Nothing in it is out of range. Such a line is cut from the left in one
+//! go. Any other line, and so each that has a fault, goes to the reader of `ft_event`, whose contract
+//! this one has.
+//!
+//! ```ignore
+//! let mut event = Event::blank();
+//! let line = b"sim-1 [001] 6.000100: sched_waking: comm=w pid=42 prio=120 target_cpu=000";
+//! assert_eq!(rt; read_cut_line(line, &mut event), Ok(true));
+//! assert_eq!(rt; event.stamp, 6_000_100);
+//! assert_eq!(rt; read_cut_line(b"# a comment", &mut event), Ok(false));
+//! ```
 #![tactic(auto)]
 
 mod columns;
