@@ -9,7 +9,8 @@ ghost use Rattle.ft_desk.specs.Edits.{events_of, line_in_front, event_or_refused
 ghost use Rattle.ft_desk.specs.inner.Reading.{in_front};
 
 use ft_answers::Refused;
-use ft_event::{Event, Line, read_cut_line, read_line};
+use ft_event::{Event, Line, read_line};
+use ft_quick::read_cut_line;
 use ft_script::next_line;
 use ft_store::Store;
 use std::alloc::Global;
