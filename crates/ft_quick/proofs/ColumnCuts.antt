@@ -1,14 +1,13 @@
 -- The columns of a line, found from the left.
-use Rattle.std.proofs.Common.{◌≡◌, ◌⊎◌, ◌<◌, ◌≤◌, ℕ, ◌+◌, ◌-◌, ◌*◌, true, false, inl, inr, List, [], ◌∷◌, ◌++◌, take, drop, length, get_or, refl, sym, ap, ◌∙◌, append_assoc, arith, subst, eqb}
+use Rattle.std.proofs.Common.{◌≡◌, ◌<◌, ◌≤◌, ℕ, ◌+◌, ◌-◌, ◌*◌, true, false, inl, inr, List, [], ◌∷◌, ◌++◌, take, drop, length, get_or, refl, sym, ap, ◌∙◌, append_assoc, arith, subst}
 use Rattle.std.proofs.lemmas.Bool.{and_from, and_parts, ne_eqb, eqb-true, cases_lt}
 use Rattle.std.proofs.lemmas.List.{take-append-drop, drop_more, length-take, length-append, append-nil}
 use Rattle.std.proofs.lemmas.List.Folds.{list_all_more, list_any_more}
 use Rattle.std.specs.List.{list_all, list_any}
 use Rattle.std.specs.Prelude.{codes, not}
-use Rattle.std.specs.Str.Parse.{digits_value}
-use Rattle.ft_event.specs.Bytes.{is_space, is_in_word, is_colon}
-use Rattle.ft_event.specs.LineIs.{IsLost, IsLetters, IsStamped, Stops}
-use Rattle.ft_quick.specs.inner.Columns.{ends_task, IsPlain, IsTask, IsTail, IsLettered}
+use Rattle.ft_event.specs.Bytes.{is_in_word, is_colon}
+use Rattle.ft_event.specs.LineIs.{IsLetters, IsStamped, Stops}
+use Rattle.ft_quick.specs.inner.Columns.{ends_task, IsTask, IsTail, IsLettered}
 use Rattle.ft_quick.specs.inner.Cuts.{IsSkip, IsNumbered}
 
 -- a text is cut at a byte

@@ -1,5 +1,5 @@
 -- A line with columns of the usual form: its one answer is an event.
-use Rattle.std.proofs.Common.{◌≡◌, ◌⊎◌, ◌<◌, ◌≤◌, ℕ, suc, ◌+◌, Bool, true, false, inl, inr, List, [], ◌∷◌, ◌++◌, drop, length, get_or, refl, sym, ap, ◌∙◌, append_assoc, arith, subst, eqb, Ok, Result, pos}
+use Rattle.std.proofs.Common.{◌≡◌, ◌≤◌, ℕ, ◌+◌, Bool, true, false, inl, inr, List, [], ◌∷◌, ◌++◌, drop, length, get_or, refl, sym, ap, ◌∙◌, append_assoc, arith, subst, eqb, Ok, Result, pos}
 use Rattle.std.proofs.lemmas.Bool.{and_from, and_parts, eq-eqb, cases_lt}
 use Rattle.std.proofs.lemmas.List.{drop_at, get_or_at, length-append}
 use Rattle.std.proofs.lemmas.List.Folds.{list_all-append, list_any_at}
@@ -12,7 +12,7 @@ use Rattle.ft_event.specs.declared.fault.Line.{Line}
 use Rattle.ft_event.specs.declared.fault.Line.TheVariants as lines
 use Rattle.ft_event.specs.declared.fault.LineFault.{LineFault}
 use Rattle.ft_event.specs.Bytes.{is_space, is_digit, is_blank}
-use Rattle.ft_event.specs.LineIs.{Head, IsDigits, IsHead, IsShortest, IsSkipped, IsStamped, BodyIs, HeadGives, LineIs, Stops}
+use Rattle.ft_event.specs.LineIs.{Head, IsDigits, IsHead, IsSkipped, IsStamped, BodyIs, HeadGives, LineIs, Stops}
 use Rattle.ft_quick.specs.inner.Columns.{ends_task, IsPlain, IsTask, IsTail}
 use Rattle.ft_quick.specs.inner.Cuts.{IsSkip}
 

@@ -1,5 +1,5 @@
 -- Texts that are the same byte by byte.
-use Rattle.std.proofs.Common.{◌≡◌, ◌<◌, ℕ, suc, true, false, arith, length, List, [], ◌∷◌, ◌++◌, refl, sym, ap, ◌∙◌, eqb, take, drop}
+use Rattle.std.proofs.Common.{◌≡◌, ◌<◌, ℕ, true, false, arith, length, List, [], ◌∷◌, ◌++◌, refl, sym, ap, ◌∙◌, eqb, take, drop}
 use Rattle.std.proofs.lemmas.Bool.{and_parts, eqb-true, eqb-false}
 use Rattle.std.proofs.lemmas.List.{take-append-drop}
 use lib.Pointwise.{pointwise}

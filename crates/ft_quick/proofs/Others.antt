@@ -1,15 +1,14 @@
 -- Events without a name: no label begins what stands behind STAMP.
-use Rattle.std.proofs.Common.{◌≡◌, ℕ, true, false, inr, List, [], ◌∷◌, ◌++◌, take, get_or, refl, sym, ap, ◌∙◌, append_assoc, eqb, Ok}
+use Rattle.std.proofs.Common.{◌≡◌, ℕ, inr, List, [], ◌∷◌, ◌++◌, take, get_or, refl, ap, ◌∙◌, append_assoc, Ok}
 use Rattle.std.proofs.lemmas.Bool.{ne_eqb}
 use Rattle.std.specs.Prelude.{codes, unwrap_or}
-use lib.Pointwise.{pointwise}
 use Rattle.ft_fields.specs.declared.event.Body.TheVariants as bodies
 use Rattle.ft_fields.specs.declared.event.Name.{Name}
 use Rattle.ft_fields.specs.declared.event.Name.TheVariants as names
 use Rattle.ft_fields.specs.Names.{name_text}
 use Rattle.ft_event.specs.Bytes.{is_space}
 use Rattle.ft_event.specs.Labels.{named_by, text_of}
-use Rattle.ft_event.specs.LineIs.{IsNamed, BodyIs, Stops}
+use Rattle.ft_event.specs.LineIs.{BodyIs, Stops}
 use Rattle.ft_quick.specs.inner.Payloads.{IsUnlabelled}
 use Rattle.ft_quick.proofs.Fronts.{rest_same}
 

@@ -1,8 +1,8 @@
 -- Payloads that are cut from the left: each is of its event's form.
-use Rattle.std.proofs.Common.{◌≡◌, ◌<◌, ◌≤◌, ℕ, suc, ◌+◌, ◌-◌, Bool, true, inl, inr, List, [], ◌∷◌, ◌++◌, drop, length, get_or, reverse, refl, sym, ap, ◌∙◌, append_assoc, arith, subst, ℤ, pos, None}
+use Rattle.std.proofs.Common.{◌≡◌, ◌<◌, ◌≤◌, ℕ, suc, ◌+◌, ◌-◌, Bool, true, inl, inr, List, [], ◌∷◌, ◌++◌, drop, length, get_or, reverse, refl, sym, ap, ◌∙◌, append_assoc, arith, subst, ℤ, pos}
 use Rattle.std.proofs.lemmas.Bool.{and_from, and_parts, cases_lt, leb-true, ne_eqb}
 use Rattle.std.proofs.lemmas.Int.{ints}
-use Rattle.std.proofs.lemmas.List.{append-nil, drop_all, reverse-append, length-reverse, length-append, get_or_append_left, get_or-append-add, get_or-append_right, get_or_past, get_or_default}
+use Rattle.std.proofs.lemmas.List.{append-nil, drop_all, reverse-append, length-reverse, length-append, get_or_append_left, get_or-append-add, get_or-append_right, get_or_default}
 use Rattle.std.proofs.lemmas.List.Folds.{list_all-append}
 use Rattle.std.specs.Int.{w32}
 use Rattle.std.specs.List.{list_all}
@@ -10,7 +10,7 @@ use Rattle.std.specs.Prelude.{codes, Contains, FitsSigned, not}
 use Rattle.ft_fields.specs.declared.event.Turn.{Turn}
 use Rattle.ft_fields.specs.declared.event.Wake.{Wake}
 use Rattle.ft_event.specs.Bytes.{is_space, is_in_word, is_digit}
-use Rattle.ft_event.specs.LineIs.{IsDigits, NumberIs, IsWake, IsTurn, IsLastArrow, Stops}
+use Rattle.ft_event.specs.LineIs.{IsDigits, NumberIs, IsLastArrow, Stops}
 use Rattle.ft_quick.specs.inner.Cuts.{IsNumbered, IsSigned, IsUntil}
 use Rattle.ft_quick.specs.inner.Payloads.{IsName, IsTask, IsFairWake, IsFairTurn}
 

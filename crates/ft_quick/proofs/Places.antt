@@ -1,12 +1,11 @@
 -- Places in a line, and what stands from there on.
-use Rattle.std.proofs.Common.{◌≡◌, ◌<◌, ◌≤◌, ℕ, ◌+◌, ◌-◌, ◌*◌, inl, inr, true, false, List, [], ◌∷◌, ◌++◌, take, drop, length, get_or, refl, sym, ap, ◌∙◌, append_assoc, arith, subst, eqb}
+use Rattle.std.proofs.Common.{◌≡◌, ◌<◌, ◌≤◌, ℕ, ◌+◌, ◌-◌, ◌*◌, inl, inr, true, false, List, [], ◌++◌, take, drop, length, get_or, refl, sym, ap, ◌∙◌, append_assoc, arith, subst, eqb}
 use Rattle.std.proofs.lemmas.Bool.{and_from, cases_lt}
 use Rattle.std.proofs.lemmas.List.{append-nil, drop_all, get_or-drop, drop-drop, length-drop, take-append-drop}
 use Rattle.std.proofs.lemmas.List.Folds.{list_all-append}
 use Rattle.std.specs.List.{list_all}
 use lib.Pointwise.{pointwise}
 use Rattle.ft_event.specs.Bytes.{is_space, is_digit}
-use Rattle.ft_event.specs.LineIs.{Stops}
 use Rattle.ft_quick.specs.inner.Columns.{ends_task, IsTask, IsLettered}
 use Rattle.ft_quick.specs.inner.Cuts.{IsGap, IsSkip, IsNumbered}
 use Rattle.ft_quick.proofs.ColumnCuts.{IsBare, task_found, still_none, next_bare, letters_passed}

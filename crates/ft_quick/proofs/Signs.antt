@@ -1,5 +1,5 @@
 -- Numbers that may have a `-`.
-use Rattle.std.proofs.Common.{◌≡◌, ℕ, inl, inr, List, ◌++◌, refl, ap, ◌∙◌, ℤ, pos, arith}
+use Rattle.std.proofs.Common.{◌≡◌, ℕ, inr, List, ◌++◌, refl, ap, ◌∙◌, ℤ, pos, arith}
 use Rattle.std.proofs.lemmas.Int.{ints}
 use Rattle.std.specs.Prelude.{codes, neg_ℤ}
 use Rattle.ft_quick.specs.inner.Cuts.{IsNumbered, IsSigned}

@@ -1,4 +1,3 @@
-use Rattle.std.proofs.Common.{arith}
 use Rattle.ft_quick.proofs.Places.{no_space_yet, next_space_at, skip_found_at, skip_ends_at}
 use Rattle.std.proofs.Common.{drop}
 use Rattle.ft_quick.proofs.cuts.behind_spaces.Goals as goal

@@ -1,4 +1,4 @@
-use Rattle.std.proofs.Common.{ℕ, List, drop}
+use Rattle.std.proofs.Common.{drop}
 use Rattle.ft_quick.proofs.BodyCuts.{switch_put, waking_put, wakeup_put, wakeup_new_put}
 use Rattle.ft_quick.proofs.payload.put_named.Goals as goal
 

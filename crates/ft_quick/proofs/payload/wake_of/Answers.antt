@@ -1,4 +1,4 @@
-use Rattle.std.proofs.Common.{◌∙◌, ℕ, List, drop, arith, sym, w32}
+use Rattle.std.proofs.Common.{ℕ, List, drop, arith, w32}
 use Rattle.std.proofs.lemmas.Int.{ints, to_z-of_z}
 use Rattle.ft_quick.proofs.PayloadCuts.{wake_found, nothing_left}
 use Rattle.ft_quick.proofs.payload.wake_of.Goals as goal
