@@ -644,7 +644,8 @@ class Tool(unittest.TestCase):
             file.write("raise ImportError('none here')\n")
         environment = {**os.environ, "PYTHONPATH": self.folder.name}
         _, told_of = self.run_tool(self.path("kinds"), status=2, env=environment)
-        self.assertEqual(told_of, "waits: numpy is needed here: apt-get install python3-numpy, or pip install numpy\n")
+        how = "apt-get install python3-numpy gives it to Debian's own python3, pip install numpy to any"
+        self.assertEqual(told_of, f"waits: {sys.executable} has no numpy, which is needed here: {how}\n")
         environment = {**os.environ, "HISTDESK_LIBRARY": os.path.join(self.folder.name, "none.so")}
         _, told_of = self.run_tool(self.path("kinds"), status=2, env=environment)
         self.assertEqual((told_of.count("\n"), told_of[:27]), (1, "waits: histdesk needs the l"))

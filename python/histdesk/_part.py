@@ -3,6 +3,7 @@
 from __future__ import annotations
 
 import re
+import sys
 from typing import Any, Collection, List, NamedTuple, Optional
 
 from . import _layout
@@ -79,7 +80,8 @@ def needed() -> Any:
     """numpy. Raises `ImportError`, which says how to get it."""
     numpy = _layout.numpy()
     if numpy is None:
-        raise ImportError("numpy is needed here: apt-get install python3-numpy, or pip install numpy", name="numpy")
+        how = "apt-get install python3-numpy gives it to Debian's own python3, pip install numpy to any"
+        raise ImportError(f"{sys.executable} has no numpy, which is needed here: {how}", name="numpy")
     return numpy
 
 
