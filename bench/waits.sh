@@ -21,7 +21,6 @@ trace=$folder/trace
 "$tools/from-perf" "$recording" >"$trace" 2>"$folder/err" || true
 python=python3
 "$python" -c 'import numpy' 2>/dev/null || python=/usr/bin/python3
-last=$("$python" "$tools/waits" --csv "$trace" 2>"$folder/err" | tail -n +2 | head -n 1 || true)
 
 # least WHAT COMMAND..: the least time of some runs, and the user and system time of that run.
 least() {
@@ -34,7 +33,7 @@ least() {
     awk -v what="$what" '{ printf "%-28s %6.2f s by the clock, %6.2f s of processors\n", what, $1, $2 + $3 }' <<<"$best"
 }
 
-printf '%s events, the greatest wait: %s\n' "$(grep -vc '^#' "$trace")" "$last"
+"$python" "$tools/waits" --top 1 "$trace" 2>"$folder/err" | head -n 2
 least 'perf sched latency' perf sched latency -p -i "$recording"
 least 'perf sched timehist -s' perf sched timehist -s -i "$recording"
 least 'from-perf' "$tools/from-perf" "$recording"
