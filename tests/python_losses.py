@@ -3,8 +3,10 @@
 expected values are written by hand. The last line says how many of the tests hold."""
 
 import io
+import itertools
 import os
 import pickle
+import random
 import subprocess
 import sys
 import tempfile
@@ -25,7 +27,7 @@ from python_answers import numpy, with_numpy
 from python_package import main
 
 if numpy:
-    from histdesk import _part
+    from histdesk import _part, _scan
 
 WAKING = "sim-1 [{cpu:03}] d.h.. {stamp}: sched_waking: comm=w pid={pid} prio=120 target_cpu=000\n"
 SWITCH = (
@@ -256,6 +258,59 @@ class Parts(unittest.TestCase):
         self.assertEqual((recording.bad_lines, histdesk.Desk().load(recording)), ((1, 3, 7), 2))
         self.assertEqual(recording.text, b"\n" + waking(0, "1.000000").encode() + b"\n\n# c\n" + waking(0, "2.000000").encode())
         self.assertEqual(self.part(MIDDLE, lenient=True).bad_lines, ())
+
+
+# Lines, and the CPU, the stamp and the name of each one's event.
+SCANNED = {
+    "  sim-1     [003] d..2.  6012.000100: sched_waking: comm=w": (3, 6012000100, "sched_waking"),
+    "sim-1 [003] 6012.000100: sched_wakeup: comm=w": (3, 6012000100, "sched_wakeup"),
+    "my-app 2-9 [000] d.... 0.000001: sched_wakeup_new: comm=w": (0, 1, "sched_wakeup_new"),
+    "-1 [010] 4294967295.999999: sched_switch: prev_comm=a": (10, 4294967295999999, "sched_switch"),
+    "a-1 [8191] 1.000000: sched_switch: x": (8191, 1000000, "sched_switch"),
+    "a-1 [7] 1.000000:sched_switch: x": (7, 1000000, "sched_switch"),
+    "a-1 (  12) [001] d.... 2.500000: sched_waking: x": (1, 2500000, "sched_waking"),
+    "a-12 [003] x-4711 [002] d..2. 3.000000: sched_waking: x": (2, 3000000, "sched_waking"),
+    "a] b-5 [001] 1.000000:  sched_waking: x": (1, 1000000, "sched_waking"),
+    "a-1 [001] 1.000000: sched_wakeup_newer: x": (1, 1000000, "other"),
+    "a-1 [001] 1.000000: sched_waking x": (1, 1000000, "other"),
+    "a-1 [001] 1.000000:": (1, 1000000, "other"),
+    "a-1 [001] d..2. 1.000000: irq_handler_entry: irq=1 name=a-2 [003] 4.000000: x": (1, 1000000, "other"),
+    "a-1 [001] a b 1.000000: x": None,
+    "a-1 [001] 1.00000: x": None,
+    "a-1 [001] 12345678901.000000: x": None,
+    "a1 [001] 1.000000: x": None,
+    "a-1[001] 1.000000: x": None,
+    "# a-1": None,
+    "CPU:3 [LOST 4 EVENTS]": None,
+    "": None,
+}
+
+
+@with_numpy
+class Scanned(unittest.TestCase):
+    """The events of a text as they are found before it is loaded: plain lines at once, others one by one."""
+
+    def found(self, text):
+        lines = _scan.scanned(text.encode())
+        names = [histdesk._layout.EVENT_NAMES[name] for name in lines.names]
+        told = zip(lines.cpus.tolist(), lines.stamps.tolist(), names)
+        return lines.ends.tolist(), [None if event[0] < 0 else event for event in told]
+
+    def test_forms(self):
+        for end in ("\n", ""):
+            for line, event in SCANNED.items():
+                if line + end:
+                    self.assertEqual(self.found(line + end), ([len(line + end)], [event]), line)
+
+    def test_whole_texts(self):
+        lines, generator = list(SCANNED), random.Random(1)
+        for room in (1, 100, 1 << 20):
+            text = [generator.choice(lines) for _ in range(2000)]
+            with mock.patch.object(_scan, "ROOM", room):
+                ends, events = self.found("".join(line + "\n" for line in text))
+            self.assertEqual(events, [SCANNED[line] for line in text])
+            self.assertEqual(ends, list(itertools.accumulate(len(line) + 1 for line in text)))
+        self.assertEqual(self.found(""), ([], []))
 
 
 TOOL = """

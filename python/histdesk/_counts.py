@@ -7,7 +7,7 @@ from fractions import Fraction
 from typing import Any, Dict, Iterable, Iterator, List, NamedTuple, Optional, Sequence, Tuple, Union
 
 from . import _shown
-from ._part import needed
+from ._layout import needed
 from ._values import Log2
 
 Key = Tuple[Union[int, str], ...]

@@ -11,7 +11,7 @@ from ._counts import Counts, CountsRow, Key
 from ._desk import Desk, Trace
 from ._library import library
 from ._losses import LossWarning
-from ._part import needed
+from ._layout import needed
 from ._recording import Recording, read
 from ._waits import BY, SPARE, Waits, numbered, of, waits, waits_of
 

@@ -6,6 +6,7 @@ from __future__ import annotations
 import ctypes
 import functools
 import struct
+import sys
 from typing import Any
 
 EVENT_NAMES = ("sched_waking", "sched_wakeup", "sched_wakeup_new", "sched_switch", "wakeup_latency", "other")
@@ -102,6 +103,15 @@ def numpy() -> Any:
         import numpy as module
     except ImportError:
         return None
+    return module
+
+
+def needed() -> Any:
+    """numpy. Raises `ImportError`, which says how to get it."""
+    module = numpy()
+    if module is None:
+        how = "apt-get install python3-numpy gives it to Debian's own python3, pip install numpy to any"
+        raise ImportError(f"{sys.executable} has no numpy, which is needed here: {how}", name="numpy")
     return module
 
 

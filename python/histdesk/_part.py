@@ -2,33 +2,13 @@
 
 from __future__ import annotations
 
-import re
-import sys
-from typing import Any, Collection, List, NamedTuple, Optional
+from typing import Any, Collection, Optional
 
 from . import _layout
+from ._layout import needed
 from ._recording import LIMIT, Choice, Part, Recording, leave_out
+from ._scan import NONE, Lines, scanned
 from ._source import content_of, searched
-
-# A line, with the CPU, the stamp and the label of its event, if it has one. Whether the desk can read it is the desk's to say.
-LINE = re.compile(
-    rb"^(?:[^\n]*?-[0-9]+ +(?:\( *[0-9-]+\) +)?\[0*([0-9]{1,5})\] +(?:[^ :\n]+ +)?([0-9]{1,10})\.([0-9]{6}): *"
-    rb"(sched_(?:waking|wakeup|wakeup_new|switch)(?=:))?)?[^\n]*\n?",
-    re.MULTILINE,
-)
-# So many bytes are taken at once.
-ROOM = 1 << 25
-NONE = -1
-
-
-class Lines(NamedTuple):
-    """Of each line of a text where it ends, behind its line break, and its event's CPU (-1 where there is none), stamp in
-    microseconds and name (by its number)."""
-
-    ends: Any
-    cpus: Any
-    stamps: Any
-    names: Any
 
 
 def take(recording: Recording, choice: Choice, lines: Optional[Lines] = None) -> None:
@@ -74,54 +54,6 @@ def part_with(recording: Recording, cpu: int, line: int) -> Optional[Recording]:
     other.choice = choice._replace(start=start)
     take(other, other.choice, lines)
     return other
-
-
-def needed() -> Any:
-    """numpy. Raises `ImportError`, which says how to get it."""
-    numpy = _layout.numpy()
-    if numpy is None:
-        how = "apt-get install python3-numpy gives it to Debian's own python3, pip install numpy to any"
-        raise ImportError(f"{sys.executable} has no numpy, which is needed here: {how}", name="numpy")
-    return numpy
-
-
-def scanned(text: Any) -> Lines:
-    """What is known of each line of a text."""
-    numpy = needed()
-    parts: List[Lines] = []
-    start = 0
-    while start < len(text):
-        end = min(start + ROOM, len(text))
-        end = text.rfind(b"\n", start, end) + 1 or text.find(b"\n", end) + 1 or len(text)
-        parts.append(scanned_part(bytes(text[start:end]), start))
-        start = end
-    return Lines(*map(numpy.concatenate, zip(*parts))) if parts else Lines(*numpy.zeros((4, 0), "i8"))
-
-
-def scanned_part(text: bytes, start: int) -> Lines:
-    """What is known of each line of a part, which begins at some byte of the whole."""
-    numpy = needed()
-    breaks = numpy.flatnonzero(numpy.frombuffer(text, "u1") == 10) + 1
-    ends = breaks if text.endswith(b"\n") else numpy.append(breaks, len(text))
-    # At its end a text has an empty match.
-    cpus, seconds, micros, names = zip(*LINE.findall(text)[: len(ends)])
-    stamps = numbers(seconds) * 1_000_000 + numbers(micros)
-    codes = numpy.full(len(ends), _layout.OTHER, "u1")
-    labels = numpy.array(names)
-    for code, name in enumerate(_layout.EVENT_NAMES[: _layout.SWITCH + 1]):
-        codes[labels == name.encode()] = code
-    return Lines(ends + start, numbers(cpus, NONE), stamps, codes)
-
-
-def numbers(digits: Any, missing: int = 0) -> Any:
-    """Texts of digits as numbers, and another number for empty ones."""
-    numpy = needed()
-    texts = numpy.array(digits)
-    is_missing = texts == b""
-    texts[is_missing] = b"0"
-    found = texts.astype("i8")
-    found[is_missing] = missing
-    return found
 
 
 def chosen(lines: Lines, choice: Choice) -> Any:

@@ -8,7 +8,7 @@ from typing import TYPE_CHECKING, Any, Dict, Iterator, List, NamedTuple, Optiona
 
 from . import _layout, _waits
 from ._losses import Hole, seconds
-from ._part import needed
+from ._layout import needed
 from ._recording import Recording
 from ._values import Event
 

@@ -14,7 +14,7 @@ from ._desk import Desk, Trace
 from ._events import coded
 from ._library import library
 from ._losses import Hole, Losses, LossWarning, seconds
-from ._part import needed
+from ._layout import needed
 from ._recording import Recording, read
 from ._trigger import Trigger
 from ._values import Totals
