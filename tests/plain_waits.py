@@ -16,6 +16,8 @@ SWITCH = re.compile(
 )
 LOST = re.compile(r"CPU:([0-9]+) \[LOST (?:([0-9]+) )?EVENTS\]")
 BEGUN = re.compile(r"##### CPU ([0-9]+) buffer started ####")
+# What the recorder says of a CPU that was only idle.
+KEPT = re.compile(r"# CPU ([0-9]+): 0 events overwritten")
 
 
 class Event(NamedTuple):
@@ -63,7 +65,8 @@ def gaps_of(text: bytes) -> List[Gap]:
             cpu = int(event["cpu"])
             last[cpu] = int(event["s"]) * 1000000 + int(event["us"])
             gaps = [gap._replace(before=last[cpu]) if gap.cpu == cpu and gap.before is None else gap for gap in gaps]
-    return gaps
+    kept = {int(found[1]) for found in map(KEPT.fullmatch, lines_of(text)) if found}
+    return [gap for gap in gaps if gap.cpu not in kept or gap.after is not None or gap.lost is not None]
 
 
 def waits_of(text: bytes) -> List[Wait]:
