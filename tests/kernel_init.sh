@@ -1,4 +1,5 @@
 #!/bin/busybox sh
+# shellcheck shell=dash
 # The first process of the guest that tests/kernel.sh boots. It attaches the triggers of /cases, runs the workload, and
 # writes what the kernel then shows to the second serial line, as the base64 of a tar. Its words come from the kernel's
 # command line: hd_seed=SEED and hd_clock=CLOCK.

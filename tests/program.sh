@@ -8,6 +8,7 @@
 # with the counts.
 #
 # A row is a folder in tests/rows: a script, its traces, its whole output and its exit status.
+# shellcheck disable=SC2154 # what counts.sh assigns
 set -uo pipefail
 
 here=$(dirname -- "$(realpath -- "${BASH_SOURCE[0]}")")

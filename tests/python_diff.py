@@ -31,6 +31,7 @@ sys.path[:0] = [PYTHON, HERE]
 import histdesk
 import plain_waits
 import recordings
+from python_runner import Runner
 
 try:
     import numpy
@@ -352,22 +353,6 @@ class Tool(Case):
         self.assertRegex(errors, f"^diff: {path}: events were lost: .*CPU 2")
         self.assertIn("doubtful waits are left out, 3 before and 3 behind", told)
         self.assertIn("2 -> 1", told)
-
-
-class Result(unittest.TextTestResult):
-    """Counts what holds."""
-
-    good = 0
-
-    def addSuccess(self, test):
-        super().addSuccess(test)
-        self.good += 1
-
-
-class Runner(unittest.TextTestRunner):
-    """Runs with that count."""
-
-    resultclass = Result
 
 
 def main():

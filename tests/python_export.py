@@ -26,7 +26,7 @@ sys.path.insert(0, PYTHON)
 
 import histdesk
 from python_answers import with_numpy, with_pandas
-from python_package import main
+from python_runner import main
 from recordings import all_known, text_of
 
 EVENT = "stamp,cpu,line,name,task,common_pid,comm,pid,prio,target_cpu,prev_comm,prev_pid,prev_prio,prev_state"

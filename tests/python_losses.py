@@ -24,7 +24,7 @@ sys.path.insert(0, PYTHON)
 import histdesk
 from histdesk import Hole, Lane, LossWarning, Part, _recording
 from python_answers import numpy, with_numpy
-from python_package import main
+from python_runner import main
 
 if numpy:
     from histdesk import _part, _scan

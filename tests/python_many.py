@@ -35,6 +35,7 @@ sys.path[:0] = [PYTHON, HERE]
 import histdesk
 import plain_waits
 import recordings
+from python_runner import Runner
 
 # Neither is imported here, since each worker reads this file anew.
 with_numpy = unittest.skipUnless(importlib.util.find_spec("numpy"), "numpy is missing")
@@ -546,22 +547,6 @@ class ByDask(Alike):
 
 
 # ---- the test
-
-
-class Result(unittest.TextTestResult):
-    """Counts what holds."""
-
-    good = 0
-
-    def addSuccess(self, test):
-        super().addSuccess(test)
-        self.good += 1
-
-
-class Runner(unittest.TextTestRunner):
-    """Runs with that count."""
-
-    resultclass = Result
 
 
 def main():

@@ -8,7 +8,6 @@ The library is found as the package finds it. What needs numpy or pandas is skip
 how many tests of what were skipped, and the last one how many hold.
 """
 
-import collections
 import copy
 import ctypes.util
 import doctest
@@ -35,6 +34,7 @@ import histdesk
 from histdesk import _layout, _library
 from python_answers import *
 from python_answers import LINE, MAKER, MERGED, TRACE, WAITS, desk_of, with_numpy, with_pandas, with_waits
+from python_runner import main
 
 HEADER = os.path.realpath(os.path.join(HERE, "..", "include", "histdesk.h"))
 
@@ -464,32 +464,6 @@ class Documents(unittest.TestCase):
 
     def test_typed(self):
         self.assertTrue(os.path.exists(os.path.join(PYTHON, "histdesk", "py.typed")))
-
-
-class Result(unittest.TextTestResult):
-    """Counts what holds."""
-
-    good = 0
-
-    def addSuccess(self, test):
-        super().addSuccess(test)
-        self.good += 1
-
-
-class Runner(unittest.TextTestRunner):
-    """Runs with that count."""
-
-    resultclass = Result
-
-
-def main():
-    # The traces tell of lost events on purpose; tests of that warning ask for it.
-    ran = unittest.main(exit=False, testRunner=Runner, warnings="ignore").result
-    for reason, count in sorted(collections.Counter(reason for _, reason in ran.skipped).items()):
-        print(f"{count} skipped: {reason}")
-    wrong = len(ran.failures) + len(ran.errors)
-    print(f"{ran.good} of {ran.good + wrong} tests hold")
-    return 1 if wrong else 0
 
 
 if __name__ == "__main__":

@@ -34,7 +34,7 @@ import plain_waits
 import recordings
 from histdesk import Counts, LossWarning, Refused, _part, _recording, _waits
 from python_answers import with_numpy, with_pandas, without_numpy
-from python_package import main
+from python_runner import main
 from recordings import Known, Place, Wait, switch, text_of, waking
 
 BYS = ("task", "name", "cpu", "prio", "kind")

@@ -22,7 +22,7 @@ sys.path.insert(0, PYTHON)
 import histdesk
 from histdesk import Hole, Share, Stretch
 from python_answers import with_numpy
-from python_package import main
+from python_runner import main
 from recordings import all_known, simulated
 from why_command import *
 from why_traces import BUSY, BUSY_TOLD, line, switch, trace, waking

@@ -3,6 +3,7 @@
 # refusals and faults, by HISTWATCH too where it is given, desk over the rows and on a terminal, the others on short texts
 # and on a folder that stands for tracefs. Without a word, it runs the launcher. It prints what went wrong, and a last line
 # with the counts.
+# shellcheck disable=SC2154 # what counts.sh assigns
 set -uo pipefail
 
 here=$(dirname -- "$(realpath -- "${BASH_SOURCE[0]}")")

@@ -108,10 +108,10 @@ class Desk:
             for cpu in (cpu for cpu in range(CPUS) if cpu not in self._held):
                 if not count:
                     break
-                events = self._count(cpu)
-                if events:
-                    lanes.append(Lane(cpu, events, *self._session.ends(library.histdesk_lane, cpu, 1)))
-                    count -= events
+                lane = self._session.ends(library.histdesk_lane, cpu, 1)
+                if lane:
+                    lanes.append(Lane(cpu, *lane))
+                    count -= lane[0]
         except MemoryError:
             # From here on it isn't known any more, and has to be asked.
             self._held = None

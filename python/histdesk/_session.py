@@ -131,15 +131,18 @@ class Session:
         copy, size = library.histdesk_events_copy, _layout.EVENT.size
         return Events(self.content(copy, size, ask, *arguments, given=given, numpy=_layout.numpy()))
 
-    def ends(self, ask: Any, *arguments: Any) -> Tuple[int, int]:
-        """The stamps of the first and the last of the events at the places that `ask` answers, of which there is one."""
-        count, room = self.count(ask, *arguments), ctypes.create_string_buffer(_layout.EVENT.size)
+    def ends(self, ask: Any, *arguments: Any) -> Optional[Tuple[int, int, int]]:
+        """How many events are at the places that `ask` answers, and the stamps of the first and the last of them; `None` where
+        there is none, or `ask` is refused. Raises `MemoryError` where memory ran out."""
+        count, room = ctypes.c_uint64(), ctypes.create_string_buffer(_layout.EVENT.size)
+        if not self.holds(ask, *arguments, count):
+            return None
         try:
             stamps = []
-            for at in (0, count - 1):
+            for at in (0, count.value - 1) if count.value else ():
                 complete(library.histdesk_events_copy(self.handle, at, room, 1), 1)
                 stamps.append(_layout.EVENT.unpack(room.raw)[0])
-            return stamps[0], stamps[1]
+            return (count.value, stamps[0], stamps[1]) if stamps else None
         finally:
             library.histdesk_forget(self.handle)
 

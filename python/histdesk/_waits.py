@@ -444,7 +444,7 @@ def held_by(desk: Desk) -> Held:
     """What a desk holds."""
     cpus = desk.cpus()
     events = sum(cpus.values())
-    first, last = desk._session.ends(library.histdesk_events) if events else (None, None)
+    _, first, last = desk._session.ends(library.histdesk_events) or (0, None, None)
     return Held(events, first, last, tuple(cpu for cpu, count in sorted(cpus.items()) if count))
 
 

@@ -1,0 +1,31 @@
+"""Runs the tests of a file of the Python package, and says how many hold: what those files have in common."""
+
+import collections
+import unittest
+
+
+class Result(unittest.TextTestResult):
+    """Counts what holds."""
+
+    good = 0
+
+    def addSuccess(self, test):
+        super().addSuccess(test)
+        self.good += 1
+
+
+class Runner(unittest.TextTestRunner):
+    """Runs with that count."""
+
+    resultclass = Result
+
+
+def main():
+    """Runs the tests of the program. The lines at the end say how many tests were skipped, and why, and how many hold."""
+    # The traces tell of lost events on purpose; tests of that warning ask for it.
+    ran = unittest.main(exit=False, testRunner=Runner, warnings="ignore").result
+    for reason, count in sorted(collections.Counter(reason for _, reason in ran.skipped).items()):
+        print(f"{count} skipped: {reason}")
+    wrong = len(ran.failures) + len(ran.errors)
+    print(f"{ran.good} of {ran.good + wrong} tests hold")
+    return 1 if wrong else 0
