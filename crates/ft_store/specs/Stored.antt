@@ -1,9 +1,14 @@
 -- The event at a place of a store.
-use Rattle.std.specs.Prelude.{ℕ, List, [], pos, slice_index_or}
+use Rattle.std.specs.Prelude.{ℕ, ℤ, List, [], Option, Some, None, pos, slice_index_or}
+use Rattle.std.specs.Option.{option_and_then}
 use Rattle.ft_fields.specs.declared.event.Body.{Body}
 use Rattle.ft_fields.specs.declared.event.Body.TheVariants as bodies
 use Rattle.ft_fields.specs.declared.event.Turn.{Turn}
 use Rattle.ft_fields.specs.declared.event.Wake.{Wake}
+use Rattle.ft_fields.specs.declared.field.Field.{Field}
+use Rattle.ft_fields.specs.declared.field.Value.{Value}
+use Rattle.ft_fields.specs.declared.field.Value.TheVariants as values
+use Rattle.ft_fields.specs.Fields.{field_of}
 use Rattle.ft_fields.specs.Traced.{Traced}
 use Rattle.ft_store.specs.declared.stored.Stored.{Stored}
 
@@ -39,3 +44,12 @@ bare_body bodies.Other = bodies.Other
 -- an event without its names (our own choice)
 abbrev pub bare : Traced → Traced
 bare event = record event { task = []; body = bare_body event.body }
+
+-- the number that a value is, where it is no text (our own choice)
+abbrev pub as_number : Value → Option ℤ
+as_number (values.Num number) = Some number
+as_number (values.Text text) = None
+
+-- the number that a field of an event holds, where the event has the field and it holds no text (our own choice)
+abbrev pub number_of : Traced → Field → Option ℤ
+number_of event field = option_and_then as_number (field_of event field)

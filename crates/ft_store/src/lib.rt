@@ -2,8 +2,8 @@
 //!
 //! A store gives its events by value, and packs them: their names stand behind each other in one
 //! text, as long as they are, and the rest takes 56 bytes. A reference to an event (`Stored`) tells
-//! its name and its stamp without unpacking it, and gives the event without its names (`bare`) to
-//! those who ask it for numbers alone.
+//! its name, its stamp and the number of a field without unpacking it, and gives the event without
+//! its names (`bare`) to those who ask it for more numbers.
 //!
 //! ```ignore
 //! let mut store = Store::new(rt.alloc());

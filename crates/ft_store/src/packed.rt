@@ -1,12 +1,15 @@
 //! Events without their names, which stand in a text beside them.
 
 ghost use Rattle.std.specs.Prelude.{◌≡◌, ◌+◌, ◌≤◌, ◌++◌, ℕ, List, [], length, take, OnOk, OnErr};
+ghost use Rattle.std.specs.Option.{option_map};
+ghost use Rattle.ft_fields.specs.Fields as fields;
+ghost use Rattle.ft_fields.specs.Fields.{matched_of, task_of};
 ghost use Rattle.ft_store.specs.inner.Packing.{turn_names, body_names, event_names, packed_wake, packed_turn, packed_body, packed};
 ghost use Rattle.ft_store.specs.inner.Packing.{turn_width, body_width, width, wake_of, turn_of, body_of, own_names, unpacked, kind_of};
 ghost use Rattle.ft_store.specs.inner.Packing.{IsShortTurn, IsShortBody, IsSound};
-ghost use Rattle.ft_store.specs.Stored.{bare_wake, bare_turn, bare_body, bare};
+ghost use Rattle.ft_store.specs.Stored.{bare_wake, bare_turn, bare_body, bare, number_of};
 
-use ft_fields::{Body, Comm, Event, Matched, Name, Turn, Wake};
+use ft_fields::{Body, Comm, Event, Field, Matched, Name, Turn, Wake};
 use std::alloc::AllocError;
 use std::mem::size_of;
 
@@ -245,6 +248,75 @@ impl PackedBody {
         }
     }
 
+    /// What it says of a task that is woken, where it is a wake event.
+    #[inline(always)]
+    fn wake(&self) -> Option<PackedWake>
+        ensures { (names : List ℕ) → option_map (wake_of names) result
+            ≡ fields.wake_of (body_of names self.now) }
+    {
+        match self {
+            PackedBody::Waking(wake) | PackedBody::Wakeup(wake) | PackedBody::WakeupNew(wake) => {
+                Some(*wake)
+            }
+            PackedBody::Switch(_) | PackedBody::WakeupLatency(_) | PackedBody::Other => None,
+        }
+    }
+
+    /// What it says of the two tasks, where it is a switch.
+    #[inline(always)]
+    fn turn(&self) -> Option<PackedTurn>
+        ensures { (names : List ℕ) → option_map (turn_of names) result
+            ≡ fields.turn_of (body_of names self.now) }
+    {
+        match self {
+            PackedBody::Switch(turn) => Some(*turn),
+            PackedBody::Waking(_) | PackedBody::Wakeup(_) | PackedBody::WakeupNew(_) => None,
+            PackedBody::WakeupLatency(_) | PackedBody::Other => None,
+        }
+    }
+
+    /// What it says of a latency, where a trigger made it.
+    #[inline(always)]
+    fn matched(&self) -> Option<Matched>
+        ensures { (names : List ℕ) → result ≡ matched_of (body_of names self.now) }
+    {
+        match self {
+            PackedBody::WakeupLatency(matched) => Some(*matched),
+            PackedBody::Waking(_) | PackedBody::Wakeup(_) | PackedBody::WakeupNew(_) => None,
+            PackedBody::Switch(_) | PackedBody::Other => None,
+        }
+    }
+
+    /// The PID of the task that it says is woken, where it is a wake event or a made one.
+    #[inline(always)]
+    fn pid(&self) -> Option<i64>
+        ensures { (names : List ℕ) → result
+            ≡ option_map (λ task. task.pid) (task_of (body_of names self.now)) }
+    {
+        match self {
+            PackedBody::Waking(wake) | PackedBody::Wakeup(wake) | PackedBody::WakeupNew(wake) => {
+                Some(i64::from(wake.pid))
+            }
+            PackedBody::WakeupLatency(matched) => Some(matched.pid),
+            PackedBody::Switch(_) | PackedBody::Other => None,
+        }
+    }
+
+    /// The priority of the task that it says is woken, where it is a wake event or a made one.
+    #[inline(always)]
+    fn prio(&self) -> Option<i64>
+        ensures { (names : List ℕ) → result
+            ≡ option_map (λ task. task.prio) (task_of (body_of names self.now)) }
+    {
+        match self {
+            PackedBody::Waking(wake) | PackedBody::Wakeup(wake) | PackedBody::WakeupNew(wake) => {
+                Some(i64::from(wake.prio))
+            }
+            PackedBody::WakeupLatency(matched) => Some(matched.prio),
+            PackedBody::Switch(_) | PackedBody::Other => None,
+        }
+    }
+
     /// Which event it is.
     fn name(&self) -> Name
         ensures { result ≡ kind_of self.now }
@@ -322,6 +394,25 @@ impl Packed {
             cpu: self.cpu,
             stamp: self.stamp,
             body: self.body.bare(),
+        }
+    }
+
+    /// The number that a field of it holds.
+    pub(crate) fn number(&self, field: Field) -> Option<i64>
+        ensures { (text : List ℕ) → result ≡ number_of (unpacked text self.now) field }
+    {
+        match field {
+            Field::CommonPid => Some(i64::from(self.pid)),
+            Field::CommonCpu => Some(i64::from(self.cpu)),
+            Field::Pid => self.body.pid(),
+            Field::Prio => self.body.prio(),
+            Field::TargetCpu => Some(i64::from(self.body.wake()?.target_cpu)),
+            Field::PrevPid => Some(i64::from(self.body.turn()?.prev_pid)),
+            Field::PrevPrio => Some(i64::from(self.body.turn()?.prev_prio)),
+            Field::NextPid => Some(i64::from(self.body.turn()?.next_pid)),
+            Field::NextPrio => Some(i64::from(self.body.turn()?.next_prio)),
+            Field::Lat => Some(self.body.matched()?.lat),
+            Field::Comm | Field::PrevComm | Field::PrevState | Field::NextComm => None,
         }
     }
 

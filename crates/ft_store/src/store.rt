@@ -4,7 +4,7 @@ ghost use Rattle.std.specs.Prelude.{◌≡◌, ◌≤◌, ◌++◌, ◌∷◌, [
 ghost use Rattle.ft_store.specs.inner.Packing.{event_names, packed, IsSound};
 
 use crate::packed::{Packed, push_names};
-use ft_fields::{Event, Name};
+use ft_fields::{Event, Field, Name};
 use std::alloc::{AllocError, Global};
 use std::marker::Model;
 
@@ -61,7 +61,7 @@ fn push_packed(
 
 impl Store {
     ghost use Rattle.ft_fields.specs.Traced.{last_cpu, name_of};
-    ghost use Rattle.ft_store.specs.Stored.{bare, stored_at};
+    ghost use Rattle.ft_store.specs.Stored.{bare, number_of, stored_at};
 
     /// No events. It takes no memory.
     pub fn new(alloc: Global) -> Store
@@ -71,6 +71,16 @@ impl Store {
             names: Vec::new(alloc),
             events: Vec::new(alloc),
         }
+    }
+
+    /// No events, with room for so many and for so many bytes of names. Refused for memory.
+    pub fn with_room(alloc: Global, events: usize, names: usize) -> Result<Store, AllocError>
+        ensures { IfOk result (λ store. store ≡ []) }
+    {
+        Ok(Store {
+            names: Vec::with_capacity(alloc, names)?,
+            events: Vec::with_capacity(alloc, events)?,
+        })
     }
 
     /// These events, in this order. Refused for memory.
@@ -209,6 +219,19 @@ impl Store {
         match self.events.get(place) {
             Some(packed) => packed.stamp,
             None => 0,
+        }
+    }
+
+    /// The number that a field of the event at a place holds. No name is read.
+    pub(crate) fn number_at(&self, place: usize, field: Field) -> Option<i64>
+        ensures { result ≡ number_of (stored_at self.now place) field }
+    {
+        match self.events.get(place) {
+            Some(packed) => packed.number(field),
+            None => match field {
+                Field::CommonPid | Field::CommonCpu => Some(0),
+                _ => None,
+            },
         }
     }
 }

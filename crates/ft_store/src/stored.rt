@@ -3,7 +3,7 @@
 ghost use Rattle.std.specs.Prelude.{◌≡◌};
 
 use crate::store::Store;
-use ft_fields::{Event, Name};
+use ft_fields::{Event, Field, Name};
 
 /// The event at a place of a store, as a reference to it.
 #[derive(Clone, Copy)]
@@ -14,7 +14,7 @@ pub struct Stored<'a> {
 
 impl<'a> Stored<'a> {
     ghost use Rattle.ft_fields.specs.Traced.{name_of};
-    ghost use Rattle.ft_store.specs.Stored.{bare, held, stored_at};
+    ghost use Rattle.ft_store.specs.Stored.{bare, held, number_of, stored_at};
 
     /// The event at a place of a store.
     pub fn new(store: &'a Store, place: u32) -> Stored<'a>
@@ -49,5 +49,20 @@ impl<'a> Stored<'a> {
         ensures { result ≡ (held self.now).stamp }
     {
         self.store.stamp_at(self.place as usize)
+    }
+
+    /// The number that a field of it holds, or `None` where it has no such field or the field holds
+    /// a text. No event is made of it, and no name is read.
+    pub fn number(&self, field: Field) -> Option<i64>
+        ensures { result ≡ number_of (held self.now) field }
+    {
+        self.store.number_at(self.place as usize, field)
+    }
+
+    /// Its place in the store.
+    pub fn place(&self) -> u32
+        ensures { result ≡ self.now.place }
+    {
+        self.place
     }
 }
