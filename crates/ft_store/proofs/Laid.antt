@@ -1,10 +1,11 @@
 -- Packed events whose names stand one behind the other in a text.
-use Rattle.std.proofs.Common.{◌≡◌, ◌+◌, ◌<◌, ◌≤◌, ◌++◌, ℕ, zero, suc, List, [], ◌∷◌, length, get_or, take, drop, refl, sym, ap, subst, ◌∙◌, arith, length-append}
+use Rattle.std.proofs.Common.{◌≡◌, ◌+◌, ◌<◌, ◌≤◌, ◌++◌, ℕ, zero, suc, List, [], ◌∷◌, length, get_or, take, drop, map, refl, sym, ap, subst, ◌∙◌, arith, length-append}
 use Rattle.std.proofs.lemmas.List.{take-append-drop, length-take-le, take-map, map-append}
+use Rattle.std.proofs.Math.Seq.{drop-append-add}
 use Rattle.ft_fields.specs.Traced.{Traced}
 use Rattle.ft_store.specs.declared.packed.Packed.{Packed}
-use Rattle.ft_store.specs.inner.Packing.{event_names, packed, width, event_of, unpacked, all_unpacked, IsSound, AreLaid}
-use Rattle.ft_store.proofs.Names.{event_takes, added_back, names_stay}
+use Rattle.ft_store.specs.inner.Packing.{moved, width, event_of, unpacked, all_unpacked, IsSound, AreLaid}
+use Rattle.ft_store.proofs.Names.{added_names, names_stay}
 
 -- an event stands at a place of a list
 abbrev pub StandsAt : List Packed → ℕ → Packed → Type 0
@@ -37,13 +38,13 @@ laid_front begins (first ∷ events) ends zero event laid at = sym laid.1 ∙ ap
 laid_front begins (first ∷ events) ends (suc n) event laid at =
     (laid.0, laid.1, laid_front (begins + width first) events ends n event laid.2 (omega arith, at.1))
 
--- ---- one event more
+-- ---- more events
 
--- an event whose names begin where the others' end is laid behind them
-laid_more : (begins : ℕ) (events : List Packed) (ends : ℕ) (event : Packed) → AreLaid begins events ends → IsSound event → event.begins ≡ ends
-    → AreLaid begins (events ++ event ∷ []) (ends + width event)
-laid_more begins [] ends event laid sound at = (sound, at ∙ sym laid, ap (λ (n : ℕ). n + width event) laid)
-laid_more begins (first ∷ events) ends event laid sound at = (laid.0, laid.1, laid_more (begins + width first) events ends event laid.2 sound at)
+-- events that are laid where others end are laid behind them
+laid_join : (begins : ℕ) (events : List Packed) (mid : ℕ) (more : List Packed) (ends : ℕ) → AreLaid begins events mid → AreLaid mid more ends
+    → AreLaid begins (events ++ more) ends
+laid_join begins [] mid more ends laid behind = subst (λ (n : ℕ). AreLaid n more ends) (sym laid) behind
+laid_join begins (first ∷ events) mid more ends laid behind = (laid.0, laid.1, laid_join (begins + width first) events mid more ends laid.2 behind)
 
 -- all events come back as before where bytes are added to the text
 all_stay : (text more : List ℕ) (begins : ℕ) (events : List Packed) (ends : ℕ) → AreLaid begins events ends → ends ≤ length text
@@ -54,21 +55,55 @@ all_stay text more begins (event ∷ events) ends laid within =
     ap (λ (names : List ℕ). event_of names event ∷ all_unpacked (text ++ more) events) (names_stay text more event inside)
     ∙ ap (λ (rest : List Traced). unpacked text event ∷ rest) (all_stay text more (begins + width event) events ends laid.2 within)
 
--- an event that is packed behind the others is laid behind them
-pub packed_more : (text : List ℕ) (events : List Packed) (event : Traced) → AreLaid 0 events (length text) → IsSound (packed (length text) event)
-    → AreLaid 0 (events ++ packed (length text) event ∷ []) (length (text ++ event_names event))
-packed_more text events event laid sound =
-    subst (AreLaid 0 (events ++ packed (length text) event ∷ []))
-    (ap (λ (n : ℕ). length text + n) (event_takes (length text) event) ∙ sym (length-append text (event_names event)))
-    (laid_more 0 events (length text) (packed (length text) event) laid sound refl)
+-- ---- one event more
+
+-- an event whose names are added to the text is laid behind the others
+pub laid_more : (text names : List ℕ) (events : List Packed) (event : Packed) → AreLaid 0 events (length text) → IsSound event → event.begins ≡ length text
+    → width event ≡ length names → AreLaid 0 (events ++ event ∷ []) (length (text ++ names))
+laid_more text names events event laid sound at long =
+    laid_join 0 events (length text) (event ∷ []) (length (text ++ names)) laid (sound, at, omega (arith, long, length-append text names))
 
 -- and it comes back behind them
-pub unpacked_more : (text : List ℕ) (events : List Packed) (event : Traced) → AreLaid 0 events (length text)
-    → all_unpacked (text ++ event_names event) (events ++ packed (length text) event ∷ []) ≡ all_unpacked text events ++ event ∷ []
-unpacked_more text events event laid =
-    map-append (unpacked (text ++ event_names event)) events (packed (length text) event ∷ [])
-    ∙ ap (λ (before : List Traced). before ++ unpacked (text ++ event_names event) (packed (length text) event) ∷ []) (all_stay text (event_names event) 0 events (length text) laid (omega arith))
-    ∙ ap (λ (last : Traced). all_unpacked text events ++ last ∷ []) (added_back text event)
+pub unpacked_more : (text names : List ℕ) (events : List Packed) (event : Packed) → AreLaid 0 events (length text) → event.begins ≡ length text
+    → width event ≡ length names → all_unpacked (text ++ names) (events ++ event ∷ []) ≡ all_unpacked text events ++ event_of names event ∷ []
+unpacked_more text names events event laid at long =
+    map-append (unpacked (text ++ names)) events (event ∷ [])
+    ∙ ap (λ (before : List Traced). before ++ unpacked (text ++ names) event ∷ []) (all_stay text names 0 events (length text) laid (omega arith))
+    ∙ ap (λ (own : List ℕ). all_unpacked text events ++ event_of own event ∷ []) (added_names text names event at long)
+
+-- ---- a store more
+
+-- events stay laid where all their names stand further behind
+laid_moved : (by begins : ℕ) (events : List Packed) (ends : ℕ) → AreLaid begins events ends → AreLaid (by + begins) (map (moved by) events) (by + ends)
+laid_moved by begins [] ends laid = ap (λ (n : ℕ). by + n) laid
+laid_moved by begins (event ∷ events) ends laid = (
+  record { task = laid.0.task; body = laid.0.body; stamp = laid.0.stamp; cpu = laid.0.cpu },
+  ap (λ (n : ℕ). by + n) laid.1,
+  subst (λ (n : ℕ). AreLaid n (map (moved by) events) (by + ends)) (omega arith) (laid_moved by (begins + width event) events ends laid.2),
+)
+
+-- events come back as before where their names stand behind a text
+all_moved : (text more : List ℕ) (events : List Packed) → all_unpacked (text ++ more) (map (moved (length text)) events) ≡ all_unpacked more events
+all_moved text more [] = refl
+all_moved text more (event ∷ events) =
+    ap (λ (names : List ℕ). event_of (take (width event) names) event ∷ all_unpacked (text ++ more) (map (moved (length text)) events)) (drop-append-add text more event.begins)
+    ∙ ap (λ (rest : List Traced). unpacked more event ∷ rest) (all_moved text more events)
+
+-- the events of a store, with their names behind the others', are laid behind the others
+pub laid_all : (text more : List ℕ) (events others : List Packed) → AreLaid 0 events (length text) → AreLaid 0 others (length more)
+    → AreLaid 0 (events ++ map (moved (length text)) others) (length (text ++ more))
+laid_all text more events others laid behind =
+    laid_join 0 events (length text) (map (moved (length text)) others) (length (text ++ more)) laid
+    (subst (AreLaid (length text) (map (moved (length text)) others)) (sym (length-append text more))
+    (subst (λ (n : ℕ). AreLaid n (map (moved (length text)) others) (length text + length more)) (omega arith) (laid_moved (length text) 0 others (length more) behind)))
+
+-- and they come back behind them
+pub unpacked_all : (text more : List ℕ) (events others : List Packed) → AreLaid 0 events (length text)
+    → all_unpacked (text ++ more) (events ++ map (moved (length text)) others) ≡ all_unpacked text events ++ all_unpacked more others
+unpacked_all text more events others laid =
+    map-append (unpacked (text ++ more)) events (map (moved (length text)) others)
+    ∙ ap (λ (before : List Traced). before ++ all_unpacked (text ++ more) (map (moved (length text)) others)) (all_stay text more 0 events (length text) laid (omega arith))
+    ∙ ap (λ (behind : List Traced). all_unpacked text events ++ behind) (all_moved text more others)
 
 -- ---- fewer events
 

@@ -1,5 +1,5 @@
 -- What is packed comes back from its names.
-use Rattle.std.proofs.Common.{◌≡◌, ◌+◌, ◌≤◌, ◌++◌, ℕ, List, length, take, drop, refl, ap, ◌∙◌, arith, length-append, length-drop}
+use Rattle.std.proofs.Common.{◌≡◌, ◌+◌, ◌≤◌, ◌++◌, ℕ, List, length, take, drop, refl, sym, ap, ◌∙◌, arith, length-append, length-drop}
 use Rattle.std.proofs.lemmas.List.{take_all, take_at, drop_at, take-append-le, drop-append-le}
 use Rattle.ft_fields.specs.declared.event.Body.{Body}
 use Rattle.ft_fields.specs.declared.event.Body.TheVariants as bodies
@@ -7,7 +7,7 @@ use Rattle.ft_fields.specs.declared.event.Turn.{Turn}
 use Rattle.ft_fields.specs.declared.event.Wake.{Wake}
 use Rattle.ft_fields.specs.Traced.{Traced}
 use Rattle.ft_store.specs.declared.packed.Packed.{Packed}
-use Rattle.ft_store.specs.inner.Packing.{body_names, event_names, packed_wake, packed_turn, packed_body, packed, body_width, width, wake_of, turn_of, body_of, event_of, own_names, unpacked}
+use Rattle.ft_store.specs.inner.Packing.{body_names, event_names, packed_wake, packed_turn, packed_body, packed, body_width, width, wake_of, turn_of, body_of, event_of, own_names}
 
 -- ---- how many bytes names take
 
@@ -52,7 +52,7 @@ body_back (bodies.WakeupLatency matched) = refl
 body_back bodies.Other = refl
 
 -- an event comes back from its names
-event_back : (begins : ℕ) (event : Traced) → event_of (event_names event) (packed begins event) ≡ event
+pub event_back : (begins : ℕ) (event : Traced) → event_of (event_names event) (packed begins event) ≡ event
 event_back begins event =
     let task : take (length event.task) (event_names event) ≡ event.task = take_at event.task (body_names event.body) (length event.task) refl in
     let body : body_of (drop (length event.task) (event_names event)) (packed_body event.body) ≡ event.body =
@@ -63,16 +63,9 @@ event_back begins event =
 
 -- ---- names in a text
 
--- names that are added to a text stand behind it
-added_names : (text names : List ℕ) (n : ℕ) → n ≡ length names → take n (drop (length text) (text ++ names)) ≡ names
-added_names text names n many = ap (take n) (drop_at text names (length text) refl) ∙ take_all n names (omega arith)
-
--- an event whose names are added to a text comes back
-pub added_back : (text : List ℕ) (event : Traced) → unpacked (text ++ event_names event) (packed (length text) event) ≡ event
-added_back text event =
-    ap (λ (names : List ℕ). event_of names (packed (length text) event))
-    (added_names text (event_names event) (width (packed (length text) event)) (event_takes (length text) event))
-    ∙ event_back (length text) event
+-- names that are added to a text are those of an event that begins there
+pub added_names : (text names : List ℕ) (event : Packed) → event.begins ≡ length text → width event ≡ length names → own_names (text ++ names) event ≡ names
+added_names text names event at long = ap (take (width event)) (drop_at text names event.begins (sym at)) ∙ take_all (width event) names (omega (arith, long))
 
 -- names within a text stay where bytes are added to it
 pub names_stay : (text more : List ℕ) (event : Packed) → event.begins + width event ≤ length text → own_names (text ++ more) event ≡ own_names text event

@@ -1,12 +1,12 @@
 //! Events without their names, which stand in a text beside them.
 
-ghost use Rattle.std.specs.Prelude.{◌≡◌, ◌+◌, ◌≤◌, ◌++◌, ℕ, List, [], length, take, OnOk, OnErr};
+ghost use Rattle.std.specs.Prelude.{◌≡◌, ◌+◌, ◌≤◌, ◌++◌, ℕ, List, [], length, take, OnOk, OnErr, IfOk};
 ghost use Rattle.std.specs.Option.{option_map};
 ghost use Rattle.ft_fields.specs.Fields as fields;
 ghost use Rattle.ft_fields.specs.Fields.{matched_of, task_of};
 ghost use Rattle.ft_store.specs.inner.Packing.{turn_names, body_names, event_names, packed_wake, packed_turn, packed_body, packed};
 ghost use Rattle.ft_store.specs.inner.Packing.{turn_width, body_width, width, wake_of, turn_of, body_of, own_names, unpacked, kind_of};
-ghost use Rattle.ft_store.specs.inner.Packing.{IsShortTurn, IsShortBody, IsSound};
+ghost use Rattle.ft_store.specs.inner.Packing.{IsShortTurn, IsShortBody, IsSound, placed, moved};
 ghost use Rattle.ft_store.specs.Stored.{bare_wake, bare_turn, bare_body, bare, number_of};
 
 use ft_fields::{Body, Comm, Event, Field, Matched, Name, Turn, Wake};
@@ -59,6 +59,9 @@ pub(crate) struct Packed {
 }
 
 const _: () = prove!(size_of::<Packed>() == 56);
+
+/// The last place of a text where the names of an event can begin.
+pub(crate) const LAST_PLACE: usize = 4_294_967_295;
 
 /// How many bytes a name has.
 fn len_of(name: &Comm) -> u8
@@ -348,6 +351,28 @@ impl Packed {
         }
     }
 
+    /// The same with its names at another place of the text. Refused behind the last place.
+    #[inline(always)]
+    pub(crate) fn placed(&self, begins: usize) -> Result<Packed, AllocError>
+        ensures { IfOk result (λ packed. packed ≡ placed begins self.now) }
+    {
+        if begins > LAST_PLACE {
+            return Err(AllocError);
+        }
+        Ok(Packed {
+            begins: begins as u32,
+            ..*self
+        })
+    }
+
+    /// The same with its names so many bytes further behind. Refused behind the last place.
+    #[inline(always)]
+    pub(crate) fn moved(&self, by: usize) -> Result<Packed, AllocError>
+        ensures { IfOk result (λ packed. packed ≡ moved by self.now) }
+    {
+        self.placed(by.saturating_add(self.begins as usize))
+    }
+
     /// How many bytes its names take.
     #[inline(always)]
     fn width(&self) -> usize
@@ -358,7 +383,7 @@ impl Packed {
 
     /// Its names in the text.
     #[inline(always)]
-    fn own_names<'a>(&self, text: &'a [u8]) -> &'a [u8]
+    pub(crate) fn own_names<'a>(&self, text: &'a [u8]) -> &'a [u8]
         requires { self.now.begins + width self.now ≤ length text.now }
         ensures value { result.now ≡ own_names text.now self.now }
         ensures long { length result.now ≡ width self.now }

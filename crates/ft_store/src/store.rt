@@ -1,9 +1,10 @@
 //! The store.
 
-ghost use Rattle.std.specs.Prelude.{◌≡◌, ◌≤◌, ◌++◌, ◌∷◌, [], length, take, OnOk, OnErr, IfOk};
-ghost use Rattle.ft_store.specs.inner.Packing.{event_names, packed, IsSound};
+ghost use Rattle.std.specs.Prelude.{◌≡◌, ◌≤◌, ◌++◌, ◌∷◌, [], length, map, take, OnOk, OnErr, IfOk};
+ghost use Rattle.ft_store.specs.inner.Packing.{event_names, event_of, packed, moved, width, IsSound};
 
-use crate::packed::{Packed, push_names};
+use crate::packed::{LAST_PLACE, Packed, push_names};
+use crate::stored::Stored;
 use ft_fields::{Event, Field, Name};
 use std::alloc::{AllocError, Global};
 use std::marker::Model;
@@ -33,9 +34,6 @@ impl Model for Store {
     ghost invariant = { λ s. AreLaid 0 s.events.items (length s.names.items) };
 }
 
-/// The last place of a text where the names of an event can begin.
-const LAST_PLACE: usize = 4_294_967_295;
-
 /// Adds an event to those that are packed, and its names to their text. After a refusal some of
 /// the names may be there.
 fn push_packed(
@@ -59,9 +57,43 @@ fn push_packed(
     Ok(())
 }
 
+/// Adds packed events behind others, their names so many bytes further behind. After a refusal
+/// some of them may be there.
+fn push_moved(events: &mut Vec<Packed>, more: &[Packed], by: usize) -> Result<(), AllocError>
+    ensures ok { OnOk result (events.new.items ≡ events.old.items ++ map (moved by) more.now) }
+    ensures err { OnErr result (take (length events.old.items) events.new.items ≡ events.old.items) }
+{
+    events.reserve(more.len())?;
+    for packed in more {
+        events.push(packed.moved(by)?)?;
+    }
+    Ok(())
+}
+
+/// Adds packed events behind others, and the text of their names behind theirs. After a refusal
+/// some of both may be there.
+fn append_packed(
+    names: &mut Vec<u8>,
+    events: &mut Vec<Packed>,
+    text: &[u8],
+    more: &[Packed],
+) -> Result<(), AllocError>
+    ensures names { OnOk result (names.new.items ≡ names.old.items ++ text.now) }
+    ensures events { OnOk result
+        (events.new.items ≡ events.old.items ++ map (moved (length names.old.items)) more.now) }
+    ensures names_err { OnErr result
+        (take (length names.old.items) names.new.items ≡ names.old.items) }
+    ensures events_err { OnErr result
+        (take (length events.old.items) events.new.items ≡ events.old.items) }
+{
+    let by = names.len();
+    names.extend_from_slice(text)?;
+    push_moved(events, more, by)
+}
+
 impl Store {
     ghost use Rattle.ft_fields.specs.Traced.{last_cpu, name_of};
-    ghost use Rattle.ft_store.specs.Stored.{bare, number_of, stored_at};
+    ghost use Rattle.ft_store.specs.Stored.{bare, held, number_of, stored_at};
 
     /// No events. It takes no memory.
     pub fn new(alloc: Global) -> Store
@@ -120,6 +152,34 @@ impl Store {
         Ok(())
     }
 
+    /// Adds an event of another store behind the others, without unpacking it. Refused for memory,
+    /// or where their names take 4 GiB, and then all is as it was.
+    pub fn push_from(&mut self, stored: &Stored<'_>) -> Result<(), AllocError>
+        ensures ok { OnOk result (self.new ≡ self.old ++ held stored.now ∷ []) }
+        ensures err { OnErr result (self.new ≡ self.old) }
+    {
+        let from = stored.store();
+        match from.events.get(stored.place() as usize) {
+            Some(packed) => self.push_behind(packed, packed.own_names(&from.names)),
+            None => self.push(&Event::blank()),
+        }
+    }
+
+    /// Adds a packed event with its names behind the others. Refused for memory, or where their
+    /// names take 4 GiB, and then all is as it was.
+    fn push_behind(&mut self, packed: &Packed, names: &[u8]) -> Result<(), AllocError>
+        requires sound { IsSound packed.now }
+        requires long { length names.now ≡ width packed.now }
+        ensures ok { OnOk result (self.new ≡ self.old ++ event_of names.now packed.now ∷ []) }
+        ensures err { OnErr result (self.new ≡ self.old) }
+    {
+        let behind = packed.placed(self.names.len())?;
+        self.events.reserve(1)?;
+        self.names.extend_from_slice(names)?;
+        self.events.push_reserved(behind);
+        Ok(())
+    }
+
     /// Adds events behind the others. An empty store takes them over. Refused for memory, and then
     /// all is as it was.
     pub fn append(&mut self, events: Store) -> Result<(), AllocError>
@@ -130,21 +190,18 @@ impl Store {
             *self = events;
             return Ok(());
         }
-        let len = self.len();
-        if let Err(refused) = self.push_all(&events) {
-            self.truncate(len);
+        let ends = self.names.len();
+        let kept = self.events.len();
+        let appended = append_packed(
+            &mut self.names,
+            &mut self.events,
+            &events.names,
+            &events.events,
+        );
+        if let Err(refused) = appended {
+            self.names.truncate(ends);
+            self.events.truncate(kept);
             return Err(refused);
-        }
-        Ok(())
-    }
-
-    /// Adds events behind the others. After a refusal for memory some of them may be there.
-    fn push_all(&mut self, events: &Store) -> Result<(), AllocError>
-        ensures ok { OnOk result (self.new ≡ self.old ++ events.now) }
-        ensures err { OnErr result (take (length self.old) self.new ≡ self.old) }
-    {
-        for place in 0..events.len() {
-            self.push(&events.get(place))?;
         }
         Ok(())
     }

@@ -23,6 +23,13 @@ impl<'a> Stored<'a> {
         Stored { store, place }
     }
 
+    /// The store.
+    pub(crate) fn store(&self) -> &'a Store
+        ensures { result.now ≡ self.now.store.now }
+    {
+        self.store
+    }
+
     /// The event.
     pub fn event(&self) -> Event
         ensures { result ≡ held self.now }

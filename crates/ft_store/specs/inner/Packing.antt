@@ -66,6 +66,14 @@ packed begins event = record {
   body = packed_body event.body;
 }
 
+-- an event whose names begin at a place of the text (our own choice)
+abbrev pub placed : ℕ → Packed → Packed
+placed begins event = record event { begins = begins }
+
+-- an event whose names begin so many bytes further behind (our own choice)
+abbrev pub moved : ℕ → Packed → Packed
+moved by event = placed (by + event.begins) event
+
 -- how many bytes the names of a switch take (our own choice)
 abbrev pub turn_width : PackedTurn → ℕ
 turn_width turn = turn.prev_comm + (turn.prev_state + turn.next_comm)

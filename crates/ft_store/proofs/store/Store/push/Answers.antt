@@ -1,17 +1,25 @@
 -- An event that is packed behind the others comes back behind them.
-use Rattle.std.proofs.Common.{◌≡◌, ◌++◌, List, [], ◌∷◌, length, ap, ◌∙◌}
+use Rattle.std.proofs.Common.{◌≡◌, ◌++◌, List, [], ◌∷◌, length, refl, ap, ◌∙◌}
 use Rattle.ft_fields.specs.Traced.{Traced}
-use Rattle.ft_store.specs.inner.Packing.{all_unpacked, AreLaid}
-use Rattle.ft_store.proofs.Laid.{of_same, packed_more, unpacked_more}
+use Rattle.ft_store.specs.inner.Packing.{event_names, packed, all_unpacked, AreLaid}
+use Rattle.ft_store.proofs.Names.{event_takes, event_back}
+use Rattle.ft_store.proofs.Laid.{of_same, laid_more, unpacked_more}
 use Rattle.ft_store.proofs.store.Store.push.Goals as goal
 
 pub invariant_of-self-in_default : goal.invariant_of-self-in_default
 invariant_of-self-in_default c =
+    let names = c.self.inside.names.items in
+    let event = c.args.event.now in
     of_same (λ names events. AreLaid 0 events (length names)) _ _ _ _ c.in_default.ensures.names c.in_default.ensures.events
-    (packed_more c.self.inside.names.items c.self.inside.events.items c.args.event.now c.self.invariant c.in_default.ensures.sound)
+    (laid_more names (event_names event) c.self.inside.events.items (packed (length names) event) c.self.invariant c.in_default.ensures.sound refl
+    (event_takes (length names) event))
 
 pub returns-clause-ok : goal.returns-clause-ok
 returns-clause-ok c =
-    of_same (λ names events. all_unpacked names events ≡ c.args.self.now ++ c.args.event.now ∷ []) _ _ _ _ c.in_default.ensures.names c.in_default.ensures.events
-    (unpacked_more c.self.inside.names.items c.self.inside.events.items c.args.event.now c.self.invariant
-    ∙ ap (λ (before : List Traced). before ++ c.args.event.now ∷ []) c.self.view_is)
+    let names = c.self.inside.names.items in
+    let events = c.self.inside.events.items in
+    let event = c.args.event.now in
+    of_same (λ names events. all_unpacked names events ≡ c.args.self.now ++ event ∷ []) _ _ _ _ c.in_default.ensures.names c.in_default.ensures.events
+    (unpacked_more names (event_names event) events (packed (length names) event) c.self.invariant refl (event_takes (length names) event)
+    ∙ ap (λ (last : Traced). all_unpacked names events ++ last ∷ []) (event_back (length names) event)
+    ∙ ap (λ (before : List Traced). before ++ event ∷ []) c.self.view_is)
