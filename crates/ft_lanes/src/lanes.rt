@@ -46,6 +46,7 @@ impl Lanes {
     ghost use Rattle.std.specs.Prelude.{ℕ};
     ghost use Rattle.std.specs.List.{AllByRecursion};
     ghost use Rattle.std.specs.Map.Iter.{ShowsInOrder};
+    ghost use Rattle.ft_fields.specs.Traced.{last_cpu};
     ghost use Rattle.ft_lanes.specs.Held.{Lane, event_limit, number_limit, event_at, held_in, held_on, HasCpu};
     ghost use Rattle.ft_lanes.specs.Walks.{shown, itself};
     ghost use Rattle.ft_lanes.specs.Loaded.{first_held, with_lanes};
@@ -210,6 +211,22 @@ impl Lanes {
         ensures { result ≡ held_on self.now cpu }
     {
         count_in(&self.lanes, cpu)
+    }
+
+    /// How many places there are, counted from 0, that held events may stand at: at least as many
+    /// as there are events held.
+    pub fn stored(&self) -> usize
+        ensures { held_in self.now ≤ result }
+    {
+        self.store.len()
+    }
+
+    /// The CPU of the event that stands at a place, also where that event is no longer held; 0
+    /// behind the last place.
+    pub fn cpu_at(&self, place: u32) -> u16
+        ensures { result ≤ last_cpu }
+    {
+        self.store.cpu(place as usize)
     }
 
     /// Clears the store where nothing is held.
