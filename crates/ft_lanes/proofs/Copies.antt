@@ -1,6 +1,6 @@
 -- Lanes copied behind a store one after another.
 use Rattle.std.proofs.Common.{◌≡◌, ℕ, ◌+◌, ◌<◌, List, [], ◌∷◌, ◌++◌, length, fold, refl, sym, ap, ◌∙◌, subst, Some, ⊎_elim, unwrap_or, arith}
-use Rattle.std.specs.List.{sum_by}
+use Rattle.std.specs.List.{sum_by, AllByRecursion}
 use Rattle.std.specs.List.Sorted.{IsStrictlySortedBy}
 use Rattle.std.specs.Ordering.{nat_cmp}
 use Rattle.std.specs.Cmp.{nat_cmp_total}
@@ -16,7 +16,8 @@ use Rattle.ft_maps.specs.Entries.{entries-from_entries, strictly_sorted}
 use Rattle.ft_maps.specs.Mapped.{entries_by, map_by, map_by-insert}
 use Rattle.ft_lanes.specs.Held.{Lane, Lanes, held_in}
 use Rattle.ft_store.specs.Stored.{stored_at}
-use Rattle.ft_lanes.specs.inner.Slots.{AllSlots, placed_from, slots_from, lane_by, lanes_by, slots_in, IsWithin, AreWithin, AreBelow, AreStored}
+use Rattle.ft_lanes.specs.inner.Slots.{AllSlots, placed_from, slots_from, lane_by, lanes_by, slots_in, IsWithin, AreWithin, AreStored}
+use Rattle.ft_lanes.specs.inner.Rows.{Rise, AreBelow}
 use Rattle.ft_lanes.proofs.Counts.{held-slots}
 use Rattle.ft_lanes.proofs.Each.{each-insert, within-empty, within-longer}
 use Rattle.ft_lanes.proofs.Loads.{Stands, stands}
@@ -45,15 +46,6 @@ placed-within n (l ∷ lines) line place is =
     omega (arith, rest))
     (cases_eq line l)
 
--- a line of these is one of the entries' keys
-placed-below : (next : ℕ) (es : List (ℕ × Traced)) (n line place : ℕ) → ((e : Traced) → find nat_cmp line es ≡ Some e → line < next) → find nat_cmp line (placed_from n (keys_of es)) ≡ Some place → line < next
-placed-below next [] n line place above is = absurd (none-some place is)
-placed-below next (e ∷ es) n line place above is =
-    ⊎_elim
-    (λ s. above e.1 (ap (λ k. find nat_cmp k (e ∷ es)) s ∙ find-here e.0 e.1 es))
-    (λ ne. placed-below next es (n + 1) line place (λ x found. above x (find-there line e es ne ∙ found)) (sym (find-there line (e.0, n) (placed_from (n + 1) (keys_of es)) ne) ∙ is))
-    (cases_eq line e.0)
-
 -- what stands at the places is what the entries hold
 placed-seen : (f : ℕ → Traced) (n : ℕ) (es : List (ℕ × Traced)) → Stands f n (values_of es) → entries_by f (placed_from n (keys_of es)) ≡ es
 placed-seen f n [] s = refl
@@ -66,14 +58,12 @@ module _ (n : ℕ) (lane : Lane) where
   es = map.entries lane.events
 
   -- its lines rise
-  pub copy-ascends : IsStrictlySortedBy nat_cmp (keys_of (placed_from n (keys_of es)))
-  copy-ascends = subst (IsStrictlySortedBy nat_cmp) (sym (placed-keys n (keys_of es))) (strictly_sorted nat_cmp es (entries_sorted lane.events))
+  pub copy-rises : Rise (placed_from n (keys_of es))
+  copy-rises = subst (IsStrictlySortedBy nat_cmp) (sym (placed-keys n (keys_of es))) (strictly_sorted nat_cmp es (entries_sorted lane.events))
 
   -- below its next number
-  pub copy-below : (next : ℕ) → ((line : ℕ) (event : Traced) → map.get lane.events line ≡ Some event → line < next) → AreBelow next (slots_from n lane).places
-  copy-below next above line place is =
-      placed-below next es n line place (λ e found. above line e (get-entries lane.events line ∙ found))
-      (sym (get-from_entries nat_cmp_total (placed_from n (keys_of es)) line) ∙ is)
+  pub copy-below : (next : ℕ) → AllByRecursion (λ line. line < next) (keys_of es) → AreBelow next (placed_from n (keys_of es))
+  copy-below next above = subst (AllByRecursion (λ line. line < next)) (sym (placed-keys n (keys_of es))) above
 
   copy-within : IsWithin (n + length es) (slots_from n lane)
   copy-within line place is =
@@ -90,7 +80,7 @@ lane-copied store lane =
     let at = stored_at (store ++ values_of entries) in
     let placed = placed_from (length store) (keys_of entries) in
     let events : map_by at (map.from_entries {R = nat_cmp} placed) ≡ lane.events =
-    ap (λ l. map.from_entries (entries_by at l)) (entries-from_entries nat_cmp_total placed (copy-ascends (length store) lane))
+    ap (λ l. map.from_entries (entries_by at l)) (entries-from_entries nat_cmp_total placed (copy-rises (length store) lane))
     ∙ ap map.from_entries (placed-seen at (length store) entries (stands store (values_of entries)))
     ∙ whole lane.events in
     λ i. record { events = events i; next = lane.next }

@@ -1,5 +1,5 @@
 -- Sums over the values of a map, and how many slots there are, as the map is edited.
-use Rattle.std.proofs.Common.{◌≡◌, ℕ, ◌+◌, ◌-◌, ◌<◌, Bool, true, false, cond, ◌&&◌, List, [], ◌∷◌, map as list_map, length, refl, sym, ap, subst, ◌∙◌, Option, Some, None, is_some, option_map, unwrap_or, ⊎_elim, arith}
+use Rattle.std.proofs.Common.{◌≡◌, ℕ, ◌+◌, ◌-◌, Bool, true, false, cond, ◌&&◌, List, [], ◌∷◌, map as list_map, length, refl, sym, ap, subst, ◌∙◌, Option, Some, None, is_some, option_map, unwrap_or, ⊎_elim, arith}
 use Rattle.std.specs.Prelude.{option_and_then}
 use Rattle.std.specs.declared.cmp.Ordering.{Ordering}
 use Rattle.std.specs.declared.cmp.Ordering.TheVariants.{Less, Equal, Greater}
@@ -16,10 +16,10 @@ use Rattle.std.proofs.lemmas.Option.{none-some}
 use Rattle.std.proofs.lemmas.List.{length-map}
 use Rattle.std.proofs.lemmas.List.Sums.{sum_by-cons}
 use Rattle.ft_fields.specs.Traced.{Traced}
-use Rattle.ft_maps.specs.Entries.{entries-empty, get-insert_other, get-remove_same, get-remove_other, insert_same}
+use Rattle.ft_maps.specs.Entries.{entries-empty, get-remove_same, get-remove_other, insert_same}
 use Rattle.ft_maps.specs.Mapped.{map_by, entries_by, entries-map_by}
 use Rattle.ft_lanes.specs.Held.{held_in}
-use Rattle.ft_lanes.specs.inner.Slots.{SlotsOf, AllSlots, slots_in, slots_with, slots_without, all_with, all_without, no_slots, lane_by, lanes_by, AreBelow, AreWithin, AreStored}
+use Rattle.ft_lanes.specs.inner.Slots.{SlotsOf, AllSlots, slots_in, slots_without, all_with, all_without, no_slots, lane_by, lanes_by, AreWithin, AreStored}
 use Rattle.ft_lanes.proofs.Each.{within-longer, within-with, within-without, within-unloaded}
 use lib.Dec.{T}
 
@@ -102,7 +102,7 @@ back all cpu slots is =
     again q true e = refl
     again q false e = e
 
-remove_none : {X : Type 0} (all : FinMap nat_cmp X) (cpu : ℕ) → map.get all cpu ≡ None → map.remove all cpu ≡ all
+pub remove_none : {X : Type 0} (all : FinMap nat_cmp X) (cpu : ℕ) → map.get all cpu ≡ None → map.remove all cpu ≡ all
 remove_none all cpu none =
     same_map nat_cmp_total nat_cmp-IsAntisymmetric _ _ (λ q.
     ⊎_elim
@@ -117,38 +117,6 @@ slots-removed all cpu slots is =
     let none : option_map_or count (map.get (map.remove all cpu) cpu) 0 ≡ 0 = ap (λ o. option_map_or count o 0) (get-remove_same nat_cmp_total all cpu) in
     let whole : slots_in (map.insert (map.remove all cpu) cpu slots) ≡ slots_in all = ap slots_in (back all cpu slots is) in
     omega (arith, put_back, none, whole)
-
--- ---- lines below the next number
-
--- a line that is below the next number is not the next one
-next-free : (next : ℕ) (places : FinMap nat_cmp ℕ) → AreBelow next places → map.contains_key places next ≡ false
-next-free next places below = at (map.get places next) refl
-  where
-    at : (o : Option ℕ) → map.get places next ≡ o → is_some o ≡ false
-    at None is = refl
-    at (Some place) is = absurd (omega (arith, below next place is))
-
--- one more line is one more slot
-pub len-with : (next : ℕ) (places : FinMap nat_cmp ℕ) (place : ℕ) → AreBelow next places → map.len (map.insert places next place) ≡ map.len places + 1
-len-with next places place below = len-insert nat_cmp_total places next place ∙ ap (λ b. cond b (map.len places) (map.len places + 1)) (next-free next places below)
-
--- and lines stay below the next number
-pub below-with : (next : ℕ) (places : FinMap nat_cmp ℕ) (place : ℕ) → AreBelow next places → AreBelow (next + 1) (map.insert places next place)
-below-with next places place below line at is =
-    ⊎_elim
-    (λ s. omega arith)
-    (λ ne. let lt : line < next = below line at (sym (get-insert_other nat_cmp_total nat_cmp-IsAntisymmetric places next place line ne) ∙ is) in omega arith)
-    (cases_eq line next)
-
-pub below-without : (next : ℕ) (places : FinMap nat_cmp ℕ) (gone : ℕ) → AreBelow next places → AreBelow next (map.remove places gone)
-below-without next places gone below line at is =
-    ⊎_elim
-    (λ s. absurd (none-some at (sym (get-remove_same nat_cmp_total places gone) ∙ ap (map.get (map.remove places gone)) (sym s) ∙ is)))
-    (λ ne. below line at (sym (get-remove_other nat_cmp_total nat_cmp-IsAntisymmetric places gone line ne) ∙ is))
-    (cases_eq line gone)
-
-pub below-empty : (next : ℕ) → AreBelow next map.empty
-below-empty next line at is = absurd (none-some at (sym (get-empty nat_cmp line) ∙ is))
 
 -- ---- a slot less
 
@@ -181,12 +149,6 @@ slots-unloaded all cpu = at (map.get all cpu) refl
     at : (o : Option SlotsOf) → map.get all cpu ≡ o → slots_in all ≡ slots_in (map.remove all cpu) + unwrap_or (option_map count o) 0
     at None is = omega (arith, ap slots_in (remove_none all cpu is))
     at (Some slots) is = slots-removed all cpu slots is
-
--- one slot more
-pub slots-with : (all : AllSlots) (cpu place : ℕ) → AreBelow (unwrap_or (map.get all cpu) no_slots).next (unwrap_or (map.get all cpu) no_slots).places → slots_in (all_with all cpu place) ≡ slots_in all + 1
-slots-with all cpu place below =
-    let slots = unwrap_or (map.get all cpu) no_slots in
-    slots-more all cpu (slots_with slots place) (len-with slots.next slots.places place below)
 
 -- ---- no slots at all
 

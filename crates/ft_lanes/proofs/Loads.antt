@@ -1,12 +1,12 @@
 -- Slots for the events of a load, one by one: they stand for the lanes that a load gives, and removing them again leaves the old ones.
 use mathlib.Core.Bool.{false≢true}
-use Rattle.std.proofs.Common.{◌≡◌, ℕ, ◌+◌, ◌-◌, ◌<◌, ◌≤◌, zero, suc, Bool, true, false, cond, ◌==◌, ◌||◌, List, [], ◌∷◌, ◌++◌, length, get_or, drop, filter, fold, refl, sym, ap, ◌∙◌, subst, Option, Some, None, is_some, option_map, unwrap_or, ⊎_elim, append_assoc, arith}
+use Rattle.std.proofs.Common.{◌≡◌, ℕ, ◌+◌, ◌<◌, ◌≤◌, zero, suc, Bool, true, false, cond, ◌==◌, ◌||◌, List, [], ◌∷◌, ◌++◌, length, get_or, drop, filter, fold, refl, sym, ap, ◌∙◌, subst, Option, Some, None, is_some, option_map, unwrap_or, ⊎_elim, append_assoc, arith}
 use Rattle.std.specs.List.{enumerate_from}
 use Rattle.std.specs.List as list
 use Rattle.std.specs.Ordering.{nat_cmp}
-use Rattle.std.specs.Cmp.{nat_cmp_total}
+use Rattle.std.specs.Cmp.{nat_cmp_total, unsigned_tied}
 use Rattle.std.specs.FinMap as map
-use Rattle.std.specs.FinMap.{same_map, from_entries_push, nat_cmp-IsAntisymmetric}
+use Rattle.std.specs.FinMap.{find, same_map, from_entries_push, nat_cmp-IsAntisymmetric}
 use Rattle.std.proofs.lemmas.Bool.{cases_eq, eq-eqb, ne_eqb, eqb-true, or_cases, or_parts, or_left, or_right}
 use Rattle.std.proofs.lemmas.List.{append-nil, length_push, at_drop_more, at_drop_all}
 use Rattle.std.proofs.Math.Seq.{drop-append_seam}
@@ -18,7 +18,6 @@ use Rattle.ft_lanes.specs.Loaded.{lane_of, with_lanes, first_held}
 use Rattle.ft_lanes.specs.Edits.{new_lane, lane_with, lanes_with}
 use Rattle.ft_store.specs.Stored.{stored_at}
 use Rattle.ft_lanes.specs.inner.Slots.{SlotsOf, AllSlots, no_slots, slots_with, all_with, all_from, slots_in, lane_by, lanes_by, first_cpu, has_cpu, AgreeBeside, HasRoom, AreWithin, AreStored}
-use Rattle.ft_lanes.proofs.RowLines.{enumerate_from-push, find-past}
 use Rattle.ft_lanes.proofs.Each.{within-longer, within-with}
 use Rattle.ft_lanes.proofs.Views.{held-slots_of, lanes-with, lanes-appended, lane-found}
 use Rattle.ft_maps.specs.Entries.{get-insert_same, get-insert_other, get-remove_same, get-remove_other}
@@ -69,6 +68,19 @@ own-none cpu (e ∷ es) none =
 
 lane_of-none : (cpu : ℕ) (es : List Traced) → has_cpu es cpu ≡ false → lane_of cpu es ≡ new_lane
 lane_of-none cpu es none = lane_of-own cpu es ∙ ap lane_from (own-none cpu es none)
+
+enumerate_from-push : (n : ℕ) (es : List Traced) (e : Traced) → enumerate_from n (es ++ e ∷ []) ≡ enumerate_from n es ++ (n + length es, e) ∷ []
+enumerate_from-push n [] e = ap (λ (k : ℕ). (k, e) ∷ []) (omega arith)
+enumerate_from-push n (x ∷ es) e =
+    let same : n + 1 + length es ≡ n + suc (length es) = omega arith in
+    ap (λ r. (n, x) ∷ r) (enumerate_from-push (n + 1) es e ∙ ap (λ k. enumerate_from (n + 1) es ++ (k, e) ∷ []) same)
+
+-- a number past the last is not found
+find-past : (n : ℕ) (es : List Traced) (k : ℕ) → n + length es ≤ k → find nat_cmp k (enumerate_from n es) ≡ None
+find-past n [] k past = refl
+find-past n (x ∷ es) k past =
+    ap (λ b. cond b (Some x) (find nat_cmp k (enumerate_from (n + 1) es))) (unsigned_tied k n ∙ ne_eqb k n (λ s. omega arith))
+    ∙ find-past (n + 1) es k (omega arith)
 
 lane_from-push : (es : List Traced) (e : Traced) → lane_from (es ++ e ∷ []) ≡ lane_with (lane_from es) e
 lane_from-push es e =

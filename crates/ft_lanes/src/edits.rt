@@ -1,11 +1,12 @@
 //! Edits of slots by CPU.
 
-ghost use Rattle.std.specs.Prelude.{◌≡◌, ◌+◌, ◌≤◌, OnOk, OnErr, IfOk, unwrap_or, option_map, option_and_then};
+ghost use Rattle.std.specs.Prelude.{◌≡◌, ◌+◌, ◌≤◌, ◌<◌, OnOk, OnErr, IfOk, unwrap_or, option_map, option_and_then};
 ghost use Rattle.std.specs.Option.{option_len, option_map_or};
 ghost use Rattle.std.specs.Ordering.{nat_cmp};
 ghost use Rattle.std.specs.FinMap as map;
 ghost use Rattle.ft_maps.specs.Seen.{seen};
 ghost use Rattle.ft_lanes.specs.Held.{number_limit};
+ghost use Rattle.ft_lanes.specs.inner.Rows.{struck_place};
 ghost use Rattle.ft_lanes.specs.inner.Slots.{no_slots, all_with, all_without, slots_in};
 
 use crate::slots::Slots;
@@ -21,7 +22,8 @@ pub(crate) fn push_in(
     cpu: u16,
     place: u32,
 ) -> Result<u32, AllocError>
-    requires { (unwrap_or (map.get (seen nat_cmp lanes.old) cpu) no_slots).next ≤ number_limit }
+    requires numbered { (unwrap_or (map.get (seen nat_cmp lanes.old) cpu) no_slots).next ≤ number_limit }
+    requires placed { place < struck_place }
     ensures ok { OnOk result (seen nat_cmp lanes.new ≡ all_with (seen nat_cmp lanes.old) cpu place) }
     ensures line { IfOk result (λ line.
         line ≡ (unwrap_or (map.get (seen nat_cmp lanes.old) cpu) no_slots).next) }

@@ -160,7 +160,7 @@ impl Lanes {
         ensures runs { ShowsInOrder shown }
     {
         match self.lanes.get(&cpu) {
-            Some(slots) => Some(Lines::new(&self.store, slots.entries())),
+            Some(slots) => Some(Lines::new(&self.store, slots.rows())),
             None => None,
         }
     }

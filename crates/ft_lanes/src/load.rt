@@ -6,9 +6,9 @@ ghost use Rattle.std.specs.Ordering.{nat_cmp};
 ghost use Rattle.std.specs.FinMap as map;
 ghost use Rattle.ft_maps.specs.Seen.{seen};
 ghost use Rattle.ft_lanes.specs.Held.{event_limit, HasCpu};
-ghost use Rattle.ft_lanes.specs.inner.Slots.{all_from, first_cpu, slots_in};
+ghost use Rattle.ft_lanes.specs.inner.Slots.{all_from, first_cpu, slots_in, AgreeBeside, HasRoom};
 
-use crate::rows::{put_rows, rows_of};
+use crate::edits::push_in;
 use crate::slots::Slots;
 use ft_maps::take;
 use ft_store::Store;
@@ -39,6 +39,30 @@ fn remove_all(lanes: &mut BTreeMap<u16, Slots>, store: &Store, first: u32)
     }
 }
 
+/// Adds a slot for each event of a store from a place on. After a refusal for memory some are added.
+fn push_all(
+    alloc: Global,
+    lanes: &mut BTreeMap<u16, Slots>,
+    store: &Store,
+    first: u32,
+) -> Result<(), AllocError>
+    requires room { HasRoom (seen nat_cmp lanes.old) (drop first store.now) }
+    requires places { length store.now < 2 ^ 32 }
+    ensures ok { OnOk result
+        (seen nat_cmp lanes.new
+        ≡ all_from (seen nat_cmp lanes.old) first (drop first store.now)) }
+    ensures count { OnOk result (slots_in (seen nat_cmp lanes.new)
+        ≡ slots_in (seen nat_cmp lanes.old) + length (drop first store.now)) }
+    ensures err { OnErr result (AgreeBeside (drop first store.now)
+        (seen nat_cmp lanes.old) (seen nat_cmp lanes.new)) }
+{
+    for i in 0..store.len().saturating_sub(first as usize) {
+        let place = first + i as u32;
+        push_in(alloc, lanes, store.cpu(place as usize), place)?;
+    }
+    Ok(())
+}
+
 /// Adds a slot for each event of a store from a place on, where no event's CPU has slots. Refused
 /// for memory, and then all is as it was.
 pub(crate) fn push_load(
@@ -57,10 +81,9 @@ pub(crate) fn push_load(
         ≡ slots_in (seen nat_cmp lanes.old) + length (drop first store.now)) }
     ensures err { OnErr result (seen nat_cmp lanes.new ≡ seen nat_cmp lanes.old) }
 {
-    let rows = rows_of(alloc, store, first)?;
-    let added = put_rows(alloc, lanes, rows);
-    if added.is_err() {
+    let pushed = push_all(alloc, lanes, store, first);
+    if pushed.is_err() {
         remove_all(lanes, store, first);
     }
-    added
+    pushed
 }

@@ -5,6 +5,7 @@ ghost use Rattle.std.specs.Ordering.{nat_cmp};
 ghost use Rattle.std.specs.Map.{keys_of, values_of};
 ghost use Rattle.std.specs.FinMap as map;
 ghost use Rattle.ft_maps.specs.Seen.{seen};
+ghost use Rattle.ft_lanes.specs.inner.Rows.{held_rows};
 ghost use Rattle.ft_lanes.specs.inner.Slots.{placed_from, slots_from};
 
 use crate::slots::Slots;
@@ -17,6 +18,7 @@ use std::collections::BTreeMap;
 
 /// Adds the events of a lane behind a store, by line: their lines with their places there. After a
 /// refusal for memory some are added.
+#[tactic(auto, using(crate::proofs::RowLines::held_more))]
 fn append_lane(
     alloc: Global,
     store: &mut Store,
@@ -26,6 +28,7 @@ fn append_lane(
         (store.new ≡ store.old ++ values_of (map.entries lane.now.events)) }
     ensures lines { IfOk result (λ lines. lines.items
         ≡ placed_from (length store.old) (keys_of (map.entries lane.now.events))) }
+    ensures held { IfOk result (λ lines. held_rows lines.items ≡ lines.items) }
 {
     let mut lines = Vec::new(alloc);
     for (line, stored) in lane.lines() {
@@ -51,6 +54,6 @@ pub(crate) fn copy_lane(
         ≡ map.insert (seen nat_cmp lanes.old) cpu (slots_from (length store.old) lane.now)) }
 {
     let lines = append_lane(alloc, store, lane)?;
-    let slots = Slots::of(alloc, lines, lane.next())?;
+    let slots = Slots::of(lines, lane.next());
     put(lanes, cpu, slots)
 }

@@ -1,131 +1,100 @@
-//! Rows of a load: the places of each CPU's events, which become slots at once.
+//! Rows of line numbers with places in a store, by line number, some of them struck.
 
-ghost use Rattle.std.specs.Prelude.{◌≡◌, ◌+◌, ◌≤◌, ◌<◌, ◌^◌, length, drop, unwrap_or, OnOk, OnErr, IfOk};
+ghost use Rattle.std.specs.Prelude.{◌≡◌, ◌+◌, ◌<◌, None, length, IfSome};
+ghost use Rattle.std.specs.List.{HoldsAt};
+ghost use Rattle.std.specs.Map.{lookup, keys_of};
+ghost use Rattle.std.specs.Map.Iter.{TakesFirst};
+ghost use Rattle.std.specs.Option.{option_len};
 ghost use Rattle.std.specs.Ordering.{nat_cmp};
+ghost use Rattle.std.specs.BTreeMap.{is_at};
 ghost use Rattle.std.specs.FinMap as map;
-ghost use Rattle.ft_maps.specs.Seen.{seen};
-ghost use Rattle.ft_lanes.specs.Held.{event_limit, number_limit};
-ghost use Rattle.ft_lanes.specs.inner.Slots.{no_slots, slots_with, all_with, all_from, all_put, slots_in, AgreeBesideRows};
+ghost use Rattle.ft_lanes.specs.Walks.{itself};
+ghost use Rattle.ft_lanes.specs.inner.Rows.{held_rows, struck_place, Rise};
 
-use crate::slots::Slots;
-use ft_maps::put;
-use ft_store::Store;
-use std::alloc::{AllocError, Global};
-use std::collections::BTreeMap;
-use std::marker::Model;
+/// The place of a struck row, at which no event stands.
+pub(crate) const STRUCK: u32 = u32::MAX;
 
-/// The places of one CPU's events in a store, at the lines from 1 on.
-#[derive(Drop)]
-pub(crate) struct Row {
-    lines: Vec<(u32, u32)>,
+const _: () = prove!(STRUCK == 4_294_967_295);
+
+/// Where a line's row stands if the lines from the first row's on have no gap.
+fn guess(rows: &[(u32, u32)], line: u32) -> usize {
+    match rows.first() {
+        Some((first, _)) => line.saturating_sub(*first) as usize,
+        None => 0,
+    }
 }
 
-impl Model for Row {
-    ghost use Rattle.ft_lanes.specs.inner.Slots.{SlotsOf, row_slots, IsRow};
-    ghost use Rattle.ft_lanes.specs.inner.Codes.{slots_code};
-
-    ghost Value = { SlotsOf };
-
-    ghost coded = { slots_code };
-
-    ghost view = { λ r. row_slots r.lines.items };
-
-    ghost invariant = { λ r. IsRow r.lines.items };
+/// Where a line's row stands, found by halving.
+fn search(rows: &[(u32, u32)], line: u32) -> Option<usize>
+    requires { Rise rows.now }
+    ensures within { IfSome result (λ i. i < length rows.now) }
+    ensures found { IfSome result (λ i. HoldsAt (λ row. row.0 ≡ line) rows.now i) }
+    ensures none { result ≡ None → lookup (is_at (nat_cmp line)) rows.now ≡ None }
+{
+    match rows.binary_search_by_key(&line, |row| row.0) {
+        Ok(i) => Some(i),
+        Err(_) => None,
+    }
 }
 
-impl Row {
-    /// No places; the first line is 1.
-    fn new(alloc: Global) -> Row
-        ensures { result ≡ no_slots }
-    {
-        Row {
-            lines: Vec::new(alloc),
+/// Where a line's row stands.
+fn index_of(rows: &[(u32, u32)], line: u32) -> Option<usize>
+    requires { Rise rows.now }
+    ensures within { IfSome result (λ i. i < length rows.now) }
+    ensures found { IfSome result (λ i. HoldsAt (λ row. row.0 ≡ line) rows.now i) }
+    ensures none { result ≡ None → lookup (is_at (nat_cmp line)) rows.now ≡ None }
+{
+    let guess = guess(rows, line);
+    match rows.get(guess) {
+        Some((there, _)) if *there == line => Some(guess),
+        _ => search(rows, line),
+    }
+}
+
+/// The place of a line, where its row is not struck.
+pub(crate) fn place_of(rows: &[(u32, u32)], line: u32) -> Option<u32>
+    requires { Rise rows.now }
+    ensures { result ≡ lookup (is_at (nat_cmp line)) (held_rows rows.now) }
+{
+    let i = index_of(rows, line)?;
+    let (_, place) = rows[i];
+    if place == STRUCK { None } else { Some(place) }
+}
+
+/// Strikes the row of a line, if it has one that is not struck: its place.
+pub(crate) fn strike(rows: &mut [(u32, u32)], line: u32) -> Option<u32>
+    requires { Rise rows.old }
+    ensures value { result ≡ lookup (is_at (nat_cmp line)) (held_rows rows.old) }
+    ensures rest { map.from_entries {R = nat_cmp} (held_rows rows.new)
+        ≡ map.remove (map.from_entries (held_rows rows.old)) line }
+    ensures lines { keys_of rows.new ≡ keys_of rows.old }
+    ensures count { length (held_rows rows.old) ≡ length (held_rows rows.new) + option_len result }
+{
+    let i = index_of(rows, line)?;
+    let (_, place) = rows[i];
+    if place == STRUCK {
+        return None;
+    }
+    rows[i] = (line, STRUCK);
+    Some(place)
+}
+
+/// Takes the struck rows away.
+pub(crate) fn drop_struck(rows: &mut Vec<(u32, u32)>)
+    ensures { rows.new.items ≡ held_rows rows.old.items }
+{
+    rows.retain(|row| row.1 != STRUCK);
+}
+
+/// Takes the first row that is not struck from the front, with those before it.
+pub(crate) fn next_held<'a>(rows: &mut &'a [(u32, u32)]) -> Option<(u32, u32)>
+    ensures { TakesFirst itself (held_rows rows.old.now) result (held_rows rows.new.now) }
+{
+    while let Some((row, behind)) = rows.split_first() {
+        *rows = behind;
+        if row.1 != STRUCK {
+            return Some(*row);
         }
     }
-
-    /// Adds a place at the next line number, which is at most 4,294,967,295. Refused for memory,
-    /// and then all is as it was.
-    fn push(&mut self, place: u32) -> Result<(), AllocError>
-        requires { self.old.next ≤ number_limit }
-        ensures ok { OnOk result (self.new ≡ slots_with self.old place) }
-        ensures grows { OnOk result (map.len self.new.places ≡ map.len self.old.places + 1) }
-        ensures err { OnErr result (self.new ≡ self.old) }
-    {
-        let line = self.lines.len() as u32 + 1;
-        self.lines.push((line, place))?;
-        Ok(())
-    }
-
-    /// The same as slots. Refused for memory.
-    fn into_slots(self, alloc: Global) -> Result<Slots, AllocError>
-        ensures { IfOk result (λ slots. slots ≡ self) }
-    {
-        let next = self.lines.len() as u64 + 1;
-        let Row { lines } = self;
-        Slots::of(alloc, lines, next)
-    }
-}
-
-/// Adds a place to the row of a CPU, which is made where there is none. Refused for memory, and
-/// then all is as it was.
-fn push_row(
-    alloc: Global,
-    rows: &mut BTreeMap<u16, Row>,
-    cpu: u16,
-    place: u32,
-) -> Result<(), AllocError>
-    requires { (unwrap_or (map.get (seen nat_cmp rows.old) cpu) no_slots).next ≤ number_limit }
-    ensures ok { OnOk result (seen nat_cmp rows.new ≡ all_with (seen nat_cmp rows.old) cpu place) }
-    ensures count { OnOk result
-        (slots_in (seen nat_cmp rows.new) ≡ slots_in (seen nat_cmp rows.old) + 1) }
-    ensures err { OnErr result (seen nat_cmp rows.new ≡ seen nat_cmp rows.old) }
-{
-    match rows.get_mut(&cpu) {
-        Some(row) => row.push(place),
-        None => {
-            let mut row = Row::new(alloc);
-            row.push(place)?;
-            put(rows, cpu, row)
-        }
-    }
-}
-
-/// A row for each CPU of a store's events from a place on. Refused for memory.
-pub(crate) fn rows_of(
-    alloc: Global,
-    store: &Store,
-    first: u32,
-) -> Result<BTreeMap<u16, Row>, AllocError>
-    requires few { length (drop first store.now) ≤ event_limit }
-    requires places { length store.now < 2 ^ 32 }
-    ensures rows { IfOk result (λ rows.
-        seen nat_cmp rows ≡ all_from map.empty first (drop first store.now)) }
-    ensures count { IfOk result (λ rows.
-        slots_in (seen nat_cmp rows) ≡ length (drop first store.now)) }
-{
-    let mut rows = BTreeMap::new(alloc);
-    for i in 0..store.len().saturating_sub(first as usize) {
-        let place = first + i as u32;
-        push_row(alloc, &mut rows, store.cpu(place as usize), place)?;
-    }
-    Ok(rows)
-}
-
-/// Puts the rows in as slots, in place of what their CPUs have. After a refusal for memory some
-/// are in.
-pub(crate) fn put_rows(
-    alloc: Global,
-    lanes: &mut BTreeMap<u16, Slots>,
-    rows: BTreeMap<u16, Row>,
-) -> Result<(), AllocError>
-    ensures ok { OnOk result
-        (seen nat_cmp lanes.new ≡ all_put (seen nat_cmp lanes.old) (seen nat_cmp rows)) }
-    ensures err { OnErr result (AgreeBesideRows (seen nat_cmp rows)
-        (seen nat_cmp lanes.old) (seen nat_cmp lanes.new)) }
-{
-    for (cpu, row) in rows {
-        let slots = row.into_slots(alloc)?;
-        put(lanes, cpu, slots)?;
-    }
-    Ok(())
+    None
 }

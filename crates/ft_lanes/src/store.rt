@@ -2,18 +2,22 @@
 
 ghost use Rattle.std.specs.Prelude.{◌≡◌, ◌+◌, ◌<◌, ◌^◌, length, option_map, OnOk, IfOk};
 ghost use Rattle.ft_store.specs.Stored.{stored_at};
+ghost use Rattle.ft_lanes.specs.inner.Rows.{struck_place};
 
+use crate::rows::STRUCK;
 use ft_fields::Event;
 use ft_store::Store;
 use std::alloc::AllocError;
 
-/// The place behind the last event of a store. Refused for memory where 32 bits can't number it.
+/// The place behind the last event of a store. Refused for memory where 32 bits can't number it, or
+/// struck rows have that number.
 pub(crate) fn end_of(store: &Store) -> Result<u32, AllocError>
-    ensures { IfOk result (λ place. place ≡ length store.now) }
+    ensures value { IfOk result (λ place. place ≡ length store.now) }
+    ensures free { IfOk result (λ place. place < struck_place) }
 {
     match u32::try_from(store.len()) {
-        Ok(place) => Ok(place),
-        Err(_) => Err(AllocError),
+        Ok(place) if place < STRUCK => Ok(place),
+        _ => Err(AllocError),
     }
 }
 

@@ -5,6 +5,7 @@ ghost use Rattle.std.specs.Iterator.{at_most};
 ghost use Rattle.std.specs.Map.Iter.{TakesFirst};
 ghost use Rattle.ft_lanes.specs.Walks.{shown, itself};
 
+use crate::rows::next_held;
 use crate::slots::Slots;
 use ft_store::{Store, Stored};
 use std::collections::btree_map::Iter;
@@ -14,7 +15,7 @@ use std::marker::Model;
 #[derive(Drop)]
 pub struct Lines<'a> {
     store: &'a Store,
-    places: Iter<'a, u32, u32>,
+    rows: &'a [(u32, u32)],
 }
 
 impl<'a> Model for Lines<'a> {
@@ -22,22 +23,24 @@ impl<'a> Model for Lines<'a> {
     ghost use Rattle.ft_fields.specs.Traced.{Traced};
     ghost use Rattle.ft_maps.specs.Mapped.{entries_by};
     ghost use Rattle.ft_store.specs.Stored.{stored_at};
+    ghost use Rattle.ft_lanes.specs.inner.Rows.{held_rows};
 
     ghost Value = { List (ℕ × Traced) };
 
-    ghost view = { λ l. entries_by (stored_at l.store.now) l.places };
+    ghost view = { λ l. entries_by (stored_at l.store.now) (held_rows l.rows.now) };
 }
 
 impl<'a> Lines<'a> {
     ghost use Rattle.std.specs.Prelude.{◌≡◌};
     ghost use Rattle.ft_maps.specs.Mapped.{entries_by};
     ghost use Rattle.ft_store.specs.Stored.{stored_at};
+    ghost use Rattle.ft_lanes.specs.inner.Rows.{held_rows};
 
-    /// The events at these places of a store.
-    pub(crate) fn new(store: &'a Store, places: Iter<'a, u32, u32>) -> Lines<'a>
-        ensures { result ≡ entries_by (stored_at store.now) places.entry }
+    /// The events at the places of these rows, of those that are not struck.
+    pub(crate) fn new(store: &'a Store, rows: &'a [(u32, u32)]) -> Lines<'a>
+        ensures { result ≡ entries_by (stored_at store.now) (held_rows rows.now) }
     {
-        Lines { store, places }
+        Lines { store, rows }
     }
 }
 
@@ -49,8 +52,8 @@ impl<'a> Iterator for Lines<'a> {
     ghost remaining = { λ s. at_most (length s) };
 
     fn next(&mut self) -> Option<(u32, Stored<'a>)> {
-        match self.places.next() {
-            Some((line, place)) => Some((*line, Stored::new(self.store, *place))),
+        match next_held(&mut self.rows) {
+            Some((line, place)) => Some((line, Stored::new(self.store, place))),
             None => None,
         }
     }
@@ -77,10 +80,11 @@ impl<'a> Model for Lane<'a> {
 }
 
 impl<'a> Lane<'a> {
-    ghost use Rattle.std.specs.Prelude.{◌≡◌, ◌<◌, ◌^◌, ℕ, Some};
+    ghost use Rattle.std.specs.Prelude.{◌≡◌, ◌<◌, ◌^◌};
+    ghost use Rattle.std.specs.List.{AllByRecursion};
+    ghost use Rattle.std.specs.Map.{keys_of};
     ghost use Rattle.std.specs.Map.Iter.{ShowsInOrder};
     ghost use Rattle.std.specs.FinMap as map;
-    ghost use Rattle.ft_fields.specs.Traced.{Traced};
     ghost use Rattle.ft_store.specs.Stored.{stored_at};
     ghost use Rattle.ft_lanes.specs.inner.Slots.{lane_by};
 
@@ -94,8 +98,7 @@ impl<'a> Lane<'a> {
     /// The number of its next line, which is above all its lines.
     pub(crate) fn next(&self) -> u64
         ensures value { result ≡ self.now.next }
-        ensures above { (line : ℕ) (event : Traced)
-            → map.get self.now.events line ≡ Some event → line < result }
+        ensures above { AllByRecursion (λ line. line < result) (keys_of (map.entries self.now.events)) }
     {
         self.slots.next()
     }
@@ -107,7 +110,7 @@ impl<'a> Lane<'a> {
         // A loop takes them from the front.
         ensures runs { ShowsInOrder shown }
     {
-        Lines::new(self.store, self.slots.entries())
+        Lines::new(self.store, self.slots.rows())
     }
 }
 

@@ -1,7 +1,7 @@
 -- Lanes as places in a store of events, and the lanes of events that they stand for.
-use Rattle.std.specs.Prelude.{◌≡◌, ℕ, ◌+◌, ◌<◌, ◌≤◌, Bool, true, false, ◌==◌, List, [], ◌∷◌, length, Option, option_map, Some, None, unwrap_or, fold}
-use Rattle.std.specs.List.{sum_by, find, list_any, enumerate_from}
-use Rattle.std.specs.Map.{keys_of, values_of}
+use Rattle.std.specs.Prelude.{◌≡◌, ℕ, ◌+◌, ◌<◌, ◌≤◌, Bool, true, false, ◌==◌, List, [], ◌∷◌, length, Option, option_map, Some, unwrap_or}
+use Rattle.std.specs.List.{sum_by, find, list_any}
+use Rattle.std.specs.Map.{keys_of}
 use Rattle.std.specs.Option.{option_map_or}
 use Rattle.std.specs.Ordering.{nat_cmp}
 use Rattle.std.specs.FinMap as map
@@ -26,14 +26,6 @@ no_slots = record { places = map.empty; next = 1 }
 -- slots with these lines and places, and this next number (our own choice)
 abbrev pub slots_of : List (ℕ × ℕ) → ℕ → SlotsOf
 slots_of lines next = record { places = map.from_entries lines; next = next }
-
--- the slots of a row: the next number follows the last line (our own choice)
-abbrev pub row_slots : List (ℕ × ℕ) → SlotsOf
-row_slots lines = slots_of lines (length lines + 1)
-
--- a row has the lines 1, 2, 3 and so on (our own choice)
-abbrev pub IsRow : List (ℕ × ℕ) → Type 0
-IsRow lines = lines ≡ enumerate_from 1 (values_of lines)
 
 -- these lines, at rising places (our own choice)
 abbrev pub placed_from : ℕ → List ℕ → List (ℕ × ℕ)
@@ -64,14 +56,6 @@ all_without all cpu line = option_map_or (λ slots. map.insert all cpu (slots_wi
 abbrev pub all_from : AllSlots → ℕ → List Traced → AllSlots
 all_from all place [] = all
 all_from all place (e ∷ es) = all_from (all_with all e.cpu place) (place + 1) es
-
--- the slots of some CPUs put in, in place of what these have (our own choice)
-abbrev pub all_put : AllSlots → AllSlots → AllSlots
-all_put all more = fold (λ m e. map.insert m e.0 e.1) all (map.entries more)
-
--- two sets of slots are the same but for the CPUs of the rows (our own choice)
-abbrev pub AgreeBesideRows : AllSlots → AllSlots → AllSlots → Type 0
-AgreeBesideRows rows old new = (cpu : ℕ) → map.get rows cpu ≡ None → map.get new cpu ≡ map.get old cpu
 
 -- the CPU of the first event that has one of these CPUs (our own choice)
 abbrev pub first_cpu : (ℕ → Bool) → List Traced → Option ℕ
@@ -112,10 +96,6 @@ AreWithin n all = Each (IsWithin n) all
 -- how many slots there are together (our own choice)
 abbrev pub slots_in : AllSlots → ℕ
 slots_in all = sum_by (λ slots. map.len slots.places) (map.values all)
-
--- lines are below the next number (our own choice)
-abbrev pub AreBelow : ℕ → FinMap nat_cmp ℕ → Type 0
-AreBelow next places = (line place : ℕ) → map.get places line ≡ Some place → line < next
 
 -- what holds of slots, of their number as it was counted, and of the length of their store (our own choice)
 pub record AreStored (n held : ℕ) (all : AllSlots) : Type 0 where

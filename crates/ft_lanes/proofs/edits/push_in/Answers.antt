@@ -11,9 +11,9 @@ use Rattle.ft_lanes.specs.inner.Slots.{no_slots, slots_with, slots_in}
 use Rattle.ft_lanes.proofs.Counts.{slots-more}
 use Rattle.ft_lanes.proofs.edits.push_in.Goals as goal
 
-pub push-requires : goal.push-requires
-push-requires c =
-    subst (λ o. (unwrap_or o no_slots).next ≤ number_limit) (get-seen nat_cmp_total c.args.lanes.now c.args.cpu ∙ sym c.in-Some.ensures.value) c.requires
+pub push-requires-clause-numbered : goal.push-requires-clause-numbered
+push-requires-clause-numbered c =
+    subst (λ o. (unwrap_or o no_slots).next ≤ number_limit) (get-seen nat_cmp_total c.args.lanes.now c.args.cpu ∙ sym c.in-Some.ensures.value) c.requires.numbered
 
 pub returns-in-Some-clause-ok : goal.returns-in-Some-clause-ok
 returns-in-Some-clause-ok c =

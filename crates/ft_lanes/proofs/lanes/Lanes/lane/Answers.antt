@@ -17,7 +17,7 @@ pub returns-in-Some-clause-rest : goal.returns-in-Some-clause-rest
 returns-in-Some-clause-rest c =
     let at = stored_at c.self.inside.store in
     let all = seen nat_cmp c.self.inside.lanes in
-    ap Some (c.new.ensures ∙ ap (entries_by at) c.entries.ensures.rest)
+    ap Some (c.new.ensures ∙ ap (entries_by at) c.rows.ensures.value)
     ∙ ap (option_map (λ (s : SlotsOf). entries_by at (map.entries s.places))) (c.in-Some.ensures.value ∙ sym (get-seen nat_cmp_total c.self.inside.lanes c.args.cpu))
     ∙ sym (lane-entries at all c.args.cpu)
     ∙ ap (λ (lanes : Lanes). option_map (λ (lane : Lane). map.entries lane.events) (map.get lanes c.args.cpu)) c.self.view_is

@@ -13,8 +13,8 @@ use Rattle.ft_lanes.proofs.Counts.{stored-with}
 use Rattle.ft_lanes.proofs.Views.{lanes-with, lanes-appended, lane-or_new, stored-last, at_ok}
 use Rattle.ft_lanes.proofs.lanes.Lanes.push_behind.Goals as goal
 
-pub push_in-pushed-requires : goal.push_in-pushed-requires
-push_in-pushed-requires c =
+pub push_in-pushed-requires-clause-numbered : goal.push_in-pushed-requires-clause-numbered
+push_in-pushed-requires-clause-numbered c =
     let at = stored_at c.self.inside.store in
     let all = seen nat_cmp c.self.inside.lanes in
     let same : (unwrap_or (map.get c.args.self.now c.args.event.cpu) new_lane).next ≡ (unwrap_or (map.get all c.event.inside.cpu) no_slots).next =
@@ -29,7 +29,7 @@ invariant_of-self-2 c =
     let n = length c.self.inside.store in
     let ok = c.if-is_err.ensures.value in
     subst (λ k. AreStored k (c.self.inside.held + 1) new) (sym (ap length c.in_ok-push.ensures.ok ∙ length_push c.self.inside.store c.args.event))
-    (stored-with n c.self.inside.held all new c.event.inside.cpu c.in_ok-place.place c.self.invariant c.in_ok-place.ensures (at_ok c.push_in-pushed.result ok c.push_in-pushed.ensures.ok) (at_ok c.push_in-pushed.result ok c.push_in-pushed.ensures.count))
+    (stored-with n c.self.inside.held all new c.event.inside.cpu c.in_ok-place.place c.self.invariant c.in_ok-place.ensures.value (at_ok c.push_in-pushed.result ok c.push_in-pushed.ensures.ok) (at_ok c.push_in-pushed.result ok c.push_in-pushed.ensures.count))
 
 pub returns-clause-ok : goal.returns-clause-ok
 returns-clause-ok c =
@@ -37,7 +37,7 @@ returns-clause-ok c =
     let store = c.self.inside.store in
     let new = c.push.new.self in
     let cpu = c.event.inside.cpu in
-    let at : stored_at new c.in_ok-place.place ≡ c.args.event = (λ i. stored_at (c.in_ok-push.ensures.ok i) (c.in_ok-place.ensures i)) ∙ stored-last store c.args.event in
+    let at : stored_at new c.in_ok-place.place ≡ c.args.event = (λ i. stored_at (c.in_ok-push.ensures.ok i) (c.in_ok-place.ensures.value i)) ∙ stored-last store c.args.event in
     let held : lanes_by (stored_at new) all ≡ c.args.self.now = ap (λ items. lanes_by (stored_at items) all) c.in_ok-push.ensures.ok ∙ lanes-appended store _ all c.self.invariant.within ∙ c.self.view_is in
     on_ok_weaker c.push_in-pushed.result (λ e.
     ap (lanes_by (stored_at new)) e

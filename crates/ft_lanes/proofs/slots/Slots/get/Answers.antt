@@ -1,8 +1,16 @@
 use Rattle.std.proofs.Common.{sym, ap, ◌∙◌}
-use Rattle.std.specs.Cmp.{nat_cmp_total}
+use Rattle.std.specs.Map.{lookup}
+use Rattle.std.specs.BTreeMap.{is_at}
+use Rattle.std.specs.Ordering.{nat_cmp}
 use Rattle.std.specs.FinMap as map
-use Rattle.ft_maps.specs.Seen.{get-seen}
+use Rattle.ft_lanes.specs.inner.Slots.{SlotsOf}
+use Rattle.ft_lanes.specs.inner.Rows.{held_rows}
+use Rattle.ft_lanes.proofs.RowLines.{get-places}
 use Rattle.ft_lanes.proofs.slots.Slots.get.Goals as goal
 
 pub returns : goal.returns
-returns c = c.copied.ensures ∙ c.get.ensures.value ∙ sym (ap (λ s. map.get s.places c.args.line) (sym c.self.view_is) ∙ get-seen nat_cmp_total c.self.inside.places c.args.line)
+returns c =
+    c.place_of.ensures
+    ∙ ap (λ rows. lookup (is_at (nat_cmp c.args.line)) (held_rows rows)) c.deref.ensures.value
+    ∙ sym (get-places c.self.inside.rows.items c.args.line)
+    ∙ ap (λ (s : SlotsOf). map.get s.places c.args.line) c.self.view_is

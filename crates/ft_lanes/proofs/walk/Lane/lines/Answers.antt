@@ -13,7 +13,7 @@ pub returns-clause-rest : goal.returns-clause-rest
 returns-clause-rest c =
     let at = stored_at c.self.inside.store.now in
     c.new.ensures
-    ∙ ap (entries_by at) c.entries.ensures.rest
+    ∙ ap (entries_by at) c.rows.ensures.value
     ∙ sym (entries-map_by at nat_cmp_total c.self.inside.slots.now.places)
     ∙ ap (λ (lane : Lane). map.entries lane.events) c.self.view_is
 
