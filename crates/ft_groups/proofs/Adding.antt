@@ -20,6 +20,7 @@ use Rattle.ft_hist.specs.Hit.{hit}
 use Rattle.ft_maps.specs.Entries.{same_from_tie}
 use Rattle.ft_groups.specs.Grouped.{same_key, is_under, run_under, Grouped, run_of, AreGrouped}
 use Rattle.ft_groups.specs.inner.Adding.{Adds}
+use Rattle.ft_groups.specs.inner.Comes.{Comes}
 
 -- events with their places by key
 abbrev Runs : Type 0
@@ -171,3 +172,12 @@ module _ (hist : Hist) (es : List (Pos × Traced)) (e : Pos × Traced) (key : Li
     };
     filled = is_filled;
   }
+
+-- an event comes to its key, if it is a hit
+pub comes_grouped : (hist : Hist) (es : List (Pos × Traced)) (e : Pos × Traced) (old new : Grouped) → Comes (hit hist e.1) e old new
+    → AreFilled hist es old → AreFilled hist (es ++ e ∷ []) new
+comes_grouped hist es e old new comes was = by (hit hist e.1) refl comes
+  where
+    by : (o : Option (List Part)) → hit hist e.1 ≡ o → Comes o e old new → AreFilled hist (es ++ e ∷ []) new
+    by (Some key) is adds = more_grouped hist es e key old new is adds was
+    by None is same = subst (AreFilled hist (es ++ e ∷ [])) (sym same) (still_grouped hist es e old is was)

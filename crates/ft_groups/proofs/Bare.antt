@@ -176,7 +176,7 @@ bare_hit hist event unfiltered numbers =
     ∙ ap (λ (key : Option (List Part)). if is_asked hist event then key else None) (bare_key hist.keys event numbers)
 
 -- no filter, and no key of a text
-numbers_mean : (filter : Option Tree) (texts : Bool) → (is_none filter && not texts) ≡ true → (filter ≡ None) × (texts ≡ false)
+pub numbers_mean : (filter : Option Tree) (texts : Bool) → (is_none filter && not texts) ≡ true → (filter ≡ None) × (texts ≡ false)
 numbers_mean (Some tree) texts is = absurd (cc is)
 numbers_mean None true is = absurd (cc is)
 numbers_mean None false is = (refl, refl)

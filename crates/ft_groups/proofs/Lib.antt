@@ -1,3 +1,4 @@
 mod Adding
 pub mod Bare
+mod Meeting
 mod Placing

@@ -28,7 +28,7 @@ Places = FinMap key_cmp ℕ
 -- ---- elements of lists
 
 module _ {X : Type 0} where
-  get_front : (xs ys : List X) (i : ℕ) (x : X) → slice_get xs i ≡ Some x → slice_get (xs ++ ys) i ≡ Some x
+  pub get_front : (xs ys : List X) (i : ℕ) (x : X) → slice_get xs i ≡ Some x → slice_get (xs ++ ys) i ≡ Some x
   get_front [] ys i x e = absurd (none-some x e)
   get_front (y ∷ xs) ys zero x e = e
   get_front (y ∷ xs) ys (suc i) x e = get_front xs ys i x e

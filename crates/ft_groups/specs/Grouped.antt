@@ -1,5 +1,6 @@
 -- The events that a trigger counts, by the key under which it counts them.
-use Rattle.std.specs.Prelude.{◌≡◌, ◌<◌, ℕ, Bool, false, List, [], length, nat_lt, slice_index_or, unwrap_or}
+use Rattle.std.specs.Prelude.{◌≡◌, ◌<◌, ℕ, Bool, false, List, [], length, nat_lt, slice_index_or, unwrap_or, map as list_map}
+use Rattle.std.specs.Borrow.{Bor}
 use Rattle.std.specs.List.{filter, list_any}
 use Rattle.std.specs.Option.{option_map_or}
 use Rattle.std.specs.Ordering.{eq_by_cmp}
@@ -11,6 +12,12 @@ use Rattle.ft_keys.specs.declared.key.Part.{Part}
 use Rattle.ft_keys.specs.Parts.{key_cmp}
 use Rattle.ft_hist.specs.Hist.{Hist}
 use Rattle.ft_hist.specs.Hit.{hit}
+use Rattle.ft_store.specs.Stored.{held}
+use Rattle.ft_store.specs.declared.stored.Stored.{Stored}
+
+-- events with their places, where references point to them (our own choice)
+abbrev pub events_of : List (Bor (Pos × Stored)) → List (Pos × Traced)
+events_of references = list_map (λ e. (e.now.0, held e.now.1)) references
 
 -- whether two keys are the same (our own choice)
 abbrev pub same_key : List Part → List Part → Bool

@@ -1,17 +1,23 @@
 //! Groups: events by key.
 
-ghost use Rattle.std.specs.Prelude.{◌≡◌, ◌+◌, ◌≤◌, [], length, IfOk};
+ghost use Rattle.std.specs.Prelude.{◌≡◌, ◌+◌, ◌≤◌, [], length, IfOk, OnOk};
 ghost use Rattle.std.specs.List.{list_any};
 ghost use Rattle.ft_hist.specs.Hit.{hit};
 ghost use Rattle.ft_hist.specs.Steps.{StepsGrow};
 ghost use Rattle.ft_hist.specs.Tests.{asked};
 ghost use Rattle.ft_maps.specs.Mapped.{entries_by};
 ghost use Rattle.ft_store.specs.Stored.{held};
-ghost use Rattle.ft_groups.specs.Grouped.{run_of, AreGrouped};
+ghost use Rattle.ft_groups.specs.Grouped.{events_of, run_of, AreGrouped};
+ghost use Rattle.ft_groups.specs.inner.Asks.{IsAskedRight};
+ghost use Rattle.ft_groups.specs.inner.Comes.{Comes};
+ghost use Rattle.ft_groups.specs.inner.Met.{AreMet};
 ghost use Rattle.ft_groups.specs.inner.Numbers.{asks_text, asks_numbers, asked_part};
+ghost use Rattle.ft_groups.specs.inner.Numbers.{only_field, number_field, counted_by};
+ghost use Rattle.ft_groups.specs.inner.Sorted.{IsSorted, groups_of};
 
+use crate::met::Met;
 use crate::sorted::Sorted;
-use ft_fields::{Event, Pos};
+use ft_fields::{Event, Field, Pos};
 use ft_hist::{Key, KeyItem, Trigger, Work};
 use ft_store::Stored;
 use std::alloc::{AllocError, Global};
@@ -47,9 +53,9 @@ impl<'a> Groups<'a> {
         &self.sorted.keys
     }
 
-    /// The events of a key with their places, in order.
-    pub fn run(&self, key: &Key) -> &[(Pos, Stored<'a>)]
-        ensures { entries_by held result.now ≡ run_of self.now key.now }
+    /// References to the events of a key with their places, in order.
+    pub fn run(&self, key: &Key) -> &[&'a (Pos, Stored<'a>)]
+        ensures { events_of result.now ≡ run_of self.now key.now }
     {
         let Some(run) = self.sorted.run(key) else {
             return no_events();
@@ -59,11 +65,12 @@ impl<'a> Groups<'a> {
 }
 
 /// Groups events by the key under which a trigger counts them. Tests those on the trigger's name
-/// alone. Refused for memory.
+/// alone; where one number tells the key, not those of a number that was met before. Refused for
+/// memory.
 pub fn grouped<'a>(
     alloc: Global,
     trigger: &Trigger,
-    events: &[(Pos, Stored<'a>)],
+    events: &'a [(Pos, Stored<'a>)],
     work: &mut Work,
 ) -> Result<Groups<'a>, AllocError>
     ensures groups { IfOk result (AreGrouped trigger.now (entries_by held events.now)) }
@@ -71,21 +78,93 @@ pub fn grouped<'a>(
     ensures puts { work.new.puts ≡ work.old.puts }
     ensures grow { StepsGrow work.old work.new }
 {
-    let bare = asks_numbers(trigger);
+    let asks = Asks::of(trigger);
     let mut sorted = Sorted::new(alloc, events.len())?;
-    for (pos, stored) in events {
-        if let Some(key) = key_of(trigger, stored, bare, work) {
-            sorted.add(key, *pos, *stored)?;
-        }
+    let mut met = Met::new(alloc, events.len())?;
+    for event in events {
+        event_comes(&mut sorted, &mut met, &asks, event, work)?;
     }
     Ok(Groups { sorted })
 }
 
 /// No events.
-fn no_events<'a>() -> &'a [(Pos, Stored<'a>)]
-    ensures { entries_by held result.now ≡ [] }
+fn no_events<'g, 'a>() -> &'g [&'a (Pos, Stored<'a>)]
+    ensures { events_of result.now ≡ [] }
 {
     &[]
+}
+
+/// A trigger, and what it asks events for.
+#[derive(Clone, Copy)]
+struct Asks<'a> {
+    trigger: &'a Trigger,
+    /// Whether it asks for numbers alone.
+    bare: bool,
+    /// The field whose number alone tells the key of an event, if one does.
+    field: Option<Field>,
+}
+
+impl<'a> Asks<'a> {
+    /// A trigger, with what it asks events for.
+    fn of(trigger: &'a Trigger) -> Asks<'a>
+        ensures trigger { result.trigger.now ≡ trigger.now }
+        ensures asks { IsAskedRight result }
+    {
+        let bare = asks_numbers(trigger);
+        Asks {
+            trigger,
+            bare,
+            field: number_field(trigger, bare),
+        }
+    }
+
+    /// The number that alone tells the key of an event, if one does and the trigger is on the
+    /// event's name.
+    fn number(&self, stored: &Stored<'_>) -> Option<i64>
+        requires { IsAskedRight self.now }
+        ensures { result ≡ counted_by self.now.trigger.now (held stored.now) }
+    {
+        if self.trigger.event() != stored.name() {
+            return None;
+        }
+        match self.field {
+            Some(field) => stored.number(field),
+            None => None,
+        }
+    }
+}
+
+/// Adds an event to the run of the key that a trigger counts it under, if it counts it. Refused for
+/// memory.
+fn event_comes<'a>(
+    sorted: &mut Sorted<'a>,
+    met: &mut Met,
+    asks: &Asks<'_>,
+    event: &'a (Pos, Stored<'a>),
+    work: &mut Work,
+) -> Result<(), AllocError>
+    requires placed { IsSorted sorted.old }
+    requires met { AreMet asks.now.trigger.now sorted.old.keys.items met.old.slots.items }
+    requires asks { IsAskedRight asks.now }
+    ensures placed { OnOk result (IsSorted sorted.new) }
+    ensures met { OnOk result
+        (AreMet asks.now.trigger.now sorted.new.keys.items met.new.slots.items) }
+    ensures comes { OnOk result (Comes (hit asks.now.trigger.now (held event.now.1))
+        (event.now.0, held event.now.1) (groups_of sorted.old) (groups_of sorted.new)) }
+    ensures evals { work.new.evals ≤ work.old.evals + 1 }
+    ensures puts { work.new.puts ≡ work.old.puts }
+    ensures grow { work.old.evals ≤ work.new.evals }
+{
+    let number = asks.number(&event.1);
+    if let Some(place) = met.get(number) {
+        return sorted.push(place, event);
+    }
+    let Some(key) = key_of(asks.trigger, &event.1, asks.bare, work) else {
+        return Ok(());
+    };
+    let place = sorted.add(key, event)?;
+    met.note(number, place);
+    Ok(())
 }
 
 /// Whether a trigger asks events for numbers alone: it has no filter, and no key of a text.
@@ -95,6 +174,28 @@ fn asks_numbers(trigger: &Trigger) -> bool
     match trigger.filter() {
         Some(_) => false,
         None => !some_text(trigger.keys()),
+    }
+}
+
+/// The field whose number alone tells the key of each of a trigger's events: it has no filter, and
+/// no other key. `bare` says whether it asks for numbers alone.
+fn number_field(trigger: &Trigger, bare: bool) -> Option<Field>
+    requires { bare ≡ asks_numbers trigger.now }
+    ensures { result ≡ number_field trigger.now }
+{
+    if bare {
+        return only_field(trigger.keys());
+    }
+    None
+}
+
+/// The field of the only key item.
+fn only_field(items: &[KeyItem]) -> Option<Field>
+    ensures { result ≡ only_field items.now }
+{
+    match items.first() {
+        Some(item) if items.len() == 1 => Some(item.field),
+        _ => None,
     }
 }
 

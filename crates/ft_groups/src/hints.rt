@@ -39,10 +39,15 @@ impl Hints {
         }
     }
 
-    /// The slot of a hash, by its upper half.
+    /// The slot of a hash.
     fn slot(&self, hash: u64) -> usize {
-        ((hash >> 32).wrapping_mul(self.places.len() as u64) >> 32) as usize
+        slot_of(hash, self.places.len())
     }
+}
+
+/// The slot of a hash among so many, by its upper half.
+pub(crate) fn slot_of(hash: u64, slots: usize) -> usize {
+    ((hash >> 32).wrapping_mul(slots as u64) >> 32) as usize
 }
 
 /// A hash of a key, whose upper bits depend on all of its parts.
@@ -52,26 +57,31 @@ pub(crate) fn hash_of(key: &Key) -> u64 {
         let Some(part) = key.part(number) else {
             return hash;
         };
-        hash = mixed(hash, part);
+        hash = with_part(hash, part);
     }
     hash
 }
 
 /// A hash with a part more.
-fn mixed(hash: u64, part: Part) -> u64 {
+fn with_part(hash: u64, part: Part) -> u64 {
     match part {
-        Part::Num(number) => (hash ^ number.cast_unsigned()).wrapping_mul(SPREAD),
-        Part::Log2(power) => (hash ^ u64::from(power)).wrapping_mul(SPREAD),
-        Part::Bucket(multiple) => (hash ^ multiple).wrapping_mul(SPREAD),
-        Part::Text(text) => spread(hash, text.bytes()),
+        Part::Num(number) => mixed(hash, number.cast_unsigned()),
+        Part::Log2(power) => mixed(hash, u64::from(power)),
+        Part::Bucket(multiple) => mixed(hash, multiple),
+        Part::Text(text) => with_bytes(hash, text.bytes()),
     }
 }
 
 /// A hash with the bytes of a text more.
-fn spread(hash: u64, bytes: &[u8]) -> u64 {
+fn with_bytes(hash: u64, bytes: &[u8]) -> u64 {
     let mut hash = hash;
     for byte in bytes {
-        hash = (hash ^ u64::from(*byte)).wrapping_mul(SPREAD);
+        hash = mixed(hash, u64::from(*byte));
     }
     hash
+}
+
+/// A hash with a number more.
+pub(crate) fn mixed(hash: u64, number: u64) -> u64 {
+    (hash ^ number).wrapping_mul(SPREAD)
 }

@@ -15,6 +15,7 @@
 
 mod groups;
 mod hints;
+mod met;
 mod run;
 mod sorted;
 

@@ -1,35 +1,34 @@
 //! Runs: the events of one key, in order.
 
 ghost use Rattle.std.specs.Prelude.{◌≡◌, ◌++◌, ◌∷◌, [], OnOk};
-ghost use Rattle.ft_maps.specs.Mapped.{entries_by};
 ghost use Rattle.ft_store.specs.Stored.{held};
+ghost use Rattle.ft_groups.specs.Grouped.{events_of};
 
 use ft_fields::Pos;
 use ft_store::Stored;
 use std::alloc::{AllocError, Global};
 use std::marker::Model;
 
-/// Events with their places, one behind the other.
+/// References to events with their places, one behind the other.
 ///
 /// Contracts see the list of the places and the events.
 #[derive(Drop)]
 pub(crate) struct Run<'a> {
-    events: Vec<(Pos, Stored<'a>)>,
+    events: Vec<&'a (Pos, Stored<'a>)>,
 }
 
 impl<'a> Model for Run<'a> {
     ghost use Rattle.std.specs.Prelude.{List};
     ghost use Rattle.ft_fields.specs.declared.pos.Pos.{Pos};
     ghost use Rattle.ft_fields.specs.Traced.{Traced};
-    ghost use Rattle.ft_maps.specs.Mapped.{entries_by};
-    ghost use Rattle.ft_store.specs.Stored.{held};
     ghost use Rattle.ft_groups.specs.Codes.{run_code};
+    ghost use Rattle.ft_groups.specs.Grouped.{events_of};
 
     ghost Value = { List (Pos × Traced) };
 
     ghost coded = { run_code };
 
-    ghost view = { λ r. entries_by held r.events.items };
+    ghost view = { λ r. events_of r.events.items };
 }
 
 impl<'a> Run<'a> {
@@ -43,16 +42,17 @@ impl<'a> Run<'a> {
     }
 
     /// Adds an event with its place. Refused for memory.
-    pub(crate) fn push(&mut self, pos: Pos, stored: Stored<'a>) -> Result<(), AllocError>
-        ensures { OnOk result (self.new ≡ self.old ++ (pos, held stored.entry) ∷ []) }
+    pub(crate) fn push(&mut self, event: &'a (Pos, Stored<'a>)) -> Result<(), AllocError>
+        ensures { OnOk result
+            (self.new ≡ self.old ++ (event.now.0, held event.now.1) ∷ []) }
     {
-        self.events.push((pos, stored))?;
+        self.events.push(event)?;
         Ok(())
     }
 
-    /// Its events with their places.
-    pub(crate) fn events(&self) -> &[(Pos, Stored<'a>)]
-        ensures { entries_by held result.now ≡ self.now }
+    /// References to its events with their places.
+    pub(crate) fn events(&self) -> &[&'a (Pos, Stored<'a>)]
+        ensures { events_of result.now ≡ self.now }
     {
         &self.events
     }

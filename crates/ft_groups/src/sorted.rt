@@ -1,9 +1,11 @@
 //! Sorting events by key, one behind the other.
 
-ghost use Rattle.std.specs.Prelude.{◌≡◌, [], Some, None, slice_get, IfSome, IfOk, OnOk};
+ghost use Rattle.std.specs.Prelude.{◌≡◌, ◌<◌, List, [], length, Some, None, slice_get};
+ghost use Rattle.std.specs.Prelude.{IfSome, IfOk, OnOk};
 ghost use Rattle.std.specs.FinMap as map;
 ghost use Rattle.std.specs.Option.{option_copied};
 ghost use Rattle.ft_keys.specs.Parts.{key_cmp};
+ghost use Rattle.ft_keys.specs.declared.key.Part.{Part};
 ghost use Rattle.ft_maps.specs.Seen.{seen};
 ghost use Rattle.ft_store.specs.Stored.{held};
 ghost use Rattle.ft_groups.specs.inner.Adding.{Adds};
@@ -48,24 +50,48 @@ impl<'a> Sorted<'a> {
         })
     }
 
-    /// Adds an event of a key with its place. Refused for memory.
-    pub(crate) fn add(&mut self, key: Key, pos: Pos, stored: Stored<'a>) -> Result<(), AllocError>
+    /// Adds an event of a key: the place of the key. Refused for memory.
+    pub(crate) fn add(
+        &mut self,
+        key: Key,
+        event: &'a (Pos, Stored<'a>),
+    ) -> Result<usize, AllocError>
         requires { IsSorted self.old }
         ensures placed { OnOk result (IsSorted self.new) }
-        ensures adds { OnOk result
-            (Adds key (pos, held stored.entry) (groups_of self.old) (groups_of self.new)) }
+        ensures adds { OnOk result (Adds key (event.now.0, held event.now.1)
+            (groups_of self.old) (groups_of self.new)) }
+        ensures stands { IfOk result (λ place.
+            slice_get self.new.keys.items place ≡ Some key) }
     {
         let hash = hash_of(&key);
         match self.place_of(&key, hash) {
             Some(place) => {
                 self.hints.note(hash, place);
-                self.runs[place].push(pos, stored)
+                self.push(place, event)?;
+                Ok(place)
             }
             None => {
                 self.hints.note(hash, self.keys.len());
-                self.add_key(key, pos, stored)
+                self.add_key(key, event)
             }
         }
+    }
+
+    /// Adds an event of the key at a place. Refused for memory.
+    pub(crate) fn push(
+        &mut self,
+        place: usize,
+        event: &'a (Pos, Stored<'a>),
+    ) -> Result<(), AllocError>
+        requires placed { IsSorted self.old }
+        requires within { place < length self.old.keys.items }
+        ensures placed { OnOk result (IsSorted self.new) }
+        ensures keys { OnOk result (self.new.keys.items ≡ self.old.keys.items) }
+        ensures adds { OnOk result ((key : List Part)
+            → slice_get self.old.keys.items place ≡ Some key
+            → Adds key (event.now.0, held event.now.1) (groups_of self.old) (groups_of self.new)) }
+    {
+        self.runs[place].push(event)
     }
 
     /// The run of a key, if it is there.
@@ -101,20 +127,22 @@ impl<'a> Sorted<'a> {
         }
     }
 
-    /// Adds a key that isn't there yet, with its first event. Refused for memory.
-    fn add_key(&mut self, key: Key, pos: Pos, stored: Stored<'a>) -> Result<(), AllocError>
+    /// Adds a key that isn't there yet, with its first event: its place. Refused for memory.
+    fn add_key(&mut self, key: Key, event: &'a (Pos, Stored<'a>)) -> Result<usize, AllocError>
         requires placed { IsSorted self.old }
         requires new { map.get (seen key_cmp self.old.places) key ≡ None }
         ensures placed { OnOk result (IsSorted self.new) }
-        ensures adds { OnOk result
-            (Adds key (pos, held stored.entry) (groups_of self.old) (groups_of self.new)) }
+        ensures adds { OnOk result (Adds key (event.now.0, held event.now.1)
+            (groups_of self.old) (groups_of self.new)) }
+        ensures stands { IfOk result (λ place.
+            slice_get self.new.keys.items place ≡ Some key) }
     {
         let place = self.keys.len();
         let mut run = Run::new(self.alloc);
-        run.push(pos, stored)?;
+        run.push(event)?;
         put(&mut self.places, key, place)?;
         self.runs.push(run)?;
         self.keys.push(key)?;
-        Ok(())
+        Ok(place)
     }
 }

@@ -1,5 +1,6 @@
 -- What a run of readings found, looked up by place: its hits, its readings, and the sources of its reads.
 use Rattle.std.proofs.Common.{◌≡◌, ◌<◌, ◌+◌, ◌++◌, append_assoc, drop, get_or, ℕ, suc, ℤ, Bool, true, false, cond, List, [], ◌∷◌, length, refl, sym, ap, subst, ◌∙◌, arith, Some, None, Option}
+use Rattle.std.specs.Borrow.{Bor}
 use Rattle.std.specs.Prelude.{◌&&◌, ◌||◌, is_some, option_and_then, option_map}
 use Rattle.std.specs.Option.{option_map_or}
 use Rattle.std.specs.List.{AllByRecursion, filter, list_any}
@@ -15,9 +16,9 @@ use Rattle.std.proofs.lemmas.Map.Keys.{sorted_head, sorted_tail}
 use Rattle.ft_fields.specs.Places.{pos_cmp, pos_cmp_total, pos_same}
 use Rattle.ft_fields.specs.Traced.{Traced}
 use Rattle.ft_fields.specs.declared.pos.Pos.{Pos}
+use Rattle.ft_groups.specs.Grouped.{events_of}
 use Rattle.ft_hist.specs.Hist.{Hist}
 use Rattle.ft_maps.specs.Entries.{same_from_tie}
-use Rattle.ft_maps.specs.Mapped.{entries_by}
 use Rattle.ft_pairs.specs.Edits.{same_at}
 use Rattle.ft_pairs.specs.Runs.{FindEach}
 use Rattle.ft_pairs.specs.Source.{Ops, IsSource}
@@ -204,39 +205,39 @@ pub found_pushed : (hist : Hist) (e : Pos × Traced) (saved : At) (found : Optio
 found_pushed hist e saved found spot values old new pushed stands worth is =
     pushed ∙ (λ i. old ++ (stands i, worth i) ∷ []) ∙ ap (λ f. old ++ hit_found hist e f) (sym is)
 
-module _ (hist : Hist) (run : List (Pos × Stored)) (found : List (Option At)) (i : ℕ) where
+module _ (hist : Hist) (run : List (Bor (Pos × Stored))) (found : List (Option At)) (i : ℕ) where
   -- one more hit is made, and that much less is left
-  pub hits_more : (e : Pos × Stored) (d : Option At) (old new all : List (Spot × List ℤ)) → i < length run → e ≡ get_or run i e → i < length found
-      → new ≡ old ++ hit_found hist (e.0, held e.1) (get_or found i d) → old ++ hits_found hist (entries_by held (drop i run)) (drop i found) ≡ all
-      → new ++ hits_found hist (entries_by held (drop (i + 1) run)) (drop (i + 1) found) ≡ all
+  pub hits_more : (e : Bor (Pos × Stored)) (d : Option At) (old new all : List (Spot × List ℤ)) → i < length run → e ≡ get_or run i e → i < length found
+      → new ≡ old ++ hit_found hist (e.now.0, held e.now.1) (get_or found i d) → old ++ hits_found hist (events_of (drop i run)) (drop i found) ≡ all
+      → new ++ hits_found hist (events_of (drop (i + 1) run)) (drop (i + 1) found) ≡ all
   hits_more e d old new all within is inside pushed made =
-      let left : hits_found hist (entries_by held (drop i run)) (drop i found) ≡ hit_found hist (e.0, held e.1) (get_or found i d) ++ hits_found hist (entries_by held (drop (i + 1) run)) (drop (i + 1) found) =
+      let left : hits_found hist (events_of (drop i run)) (drop i found) ≡ hit_found hist (e.now.0, held e.now.1) (get_or found i d) ++ hits_found hist (events_of (drop (i + 1) run)) (drop (i + 1) found) =
       (λ k. hits_found hist (first_event run i e within is k) (drop_more found i d inside k)) in
-      ap (λ xs. xs ++ hits_found hist (entries_by held (drop (i + 1) run)) (drop (i + 1) found)) pushed
-      ∙ append_assoc old (hit_found hist (e.0, held e.1) (get_or found i d)) (hits_found hist (entries_by held (drop (i + 1) run)) (drop (i + 1) found))
+      ap (λ xs. xs ++ hits_found hist (events_of (drop (i + 1) run)) (drop (i + 1) found)) pushed
+      ∙ append_assoc old (hit_found hist (e.now.0, held e.now.1) (get_or found i d)) (hits_found hist (events_of (drop (i + 1) run)) (drop (i + 1) found))
       ∙ ap (λ xs. old ++ xs) (sym left)
       ∙ made
 
   -- and one more reading
-  pub readings_more : (e : Pos × Stored) (d : Option At) (old new all : List (Pos × Pos)) → i < length run → e ≡ get_or run i e → i < length found
-      → new ≡ old ++ reading_found (e.0, held e.1) (get_or found i d) → old ++ readings_found (entries_by held (drop i run)) (drop i found) ≡ all
-      → new ++ readings_found (entries_by held (drop (i + 1) run)) (drop (i + 1) found) ≡ all
+  pub readings_more : (e : Bor (Pos × Stored)) (d : Option At) (old new all : List (Pos × Pos)) → i < length run → e ≡ get_or run i e → i < length found
+      → new ≡ old ++ reading_found (e.now.0, held e.now.1) (get_or found i d) → old ++ readings_found (events_of (drop i run)) (drop i found) ≡ all
+      → new ++ readings_found (events_of (drop (i + 1) run)) (drop (i + 1) found) ≡ all
   readings_more e d old new all within is inside pushed made =
-      let left : readings_found (entries_by held (drop i run)) (drop i found) ≡ reading_found (e.0, held e.1) (get_or found i d) ++ readings_found (entries_by held (drop (i + 1) run)) (drop (i + 1) found) =
+      let left : readings_found (events_of (drop i run)) (drop i found) ≡ reading_found (e.now.0, held e.now.1) (get_or found i d) ++ readings_found (events_of (drop (i + 1) run)) (drop (i + 1) found) =
       (λ k. readings_found (first_event run i e within is k) (drop_more found i d inside k)) in
-      ap (λ xs. xs ++ readings_found (entries_by held (drop (i + 1) run)) (drop (i + 1) found)) pushed
-      ∙ append_assoc old (reading_found (e.0, held e.1) (get_or found i d)) (readings_found (entries_by held (drop (i + 1) run)) (drop (i + 1) found))
+      ap (λ xs. xs ++ readings_found (events_of (drop (i + 1) run)) (drop (i + 1) found)) pushed
+      ∙ append_assoc old (reading_found (e.now.0, held e.now.1) (get_or found i d)) (readings_found (events_of (drop (i + 1) run)) (drop (i + 1) found))
       ∙ ap (λ xs. old ++ xs) (sym left)
       ∙ made
 
   module _ (none : drop i run ≡ []) where
-    pub hits_left : hits_found hist (entries_by held (drop i run)) (drop i found) ≡ []
-    hits_left = ap (λ r. hits_found hist (entries_by held r) (drop i found)) none
+    pub hits_left : hits_found hist (events_of (drop i run)) (drop i found) ≡ []
+    hits_left = ap (λ r. hits_found hist (events_of r) (drop i found)) none
 
-    pub readings_left : readings_found (entries_by held (drop i run)) (drop i found) ≡ []
-    readings_left = ap (λ r. readings_found (entries_by held r) (drop i found)) none
+    pub readings_left : readings_found (events_of (drop i run)) (drop i found) ≡ []
+    readings_left = ap (λ r. readings_found (events_of r) (drop i found)) none
 
 -- there are as many events as places
-pub length_run : (run : List (Pos × Stored)) → length (entries_by held run) ≡ length run
+pub length_run : (run : List (Bor (Pos × Stored))) → length (events_of run) ≡ length run
 length_run [] = refl
 length_run (e ∷ run) = omega (arith, length_run run)

@@ -79,9 +79,9 @@ fn reads_of(joining: &Joining<'_, '_>, key: &Key) -> Result<Vec<At>, AllocError>
 {
     let run = joining.groups.run(key);
     let mut reads = Vec::with_capacity(joining.alloc, run.len())?;
-    for (pos, _) in run {
+    for event in run {
         let at = At {
-            pos: *pos,
+            pos: event.0,
             trigger: joining.id,
         };
         reads.push(at)?;
@@ -106,8 +106,8 @@ fn hits_of(
 {
     let run = joining.groups.run(key);
     let mut hits = Vec::with_capacity(joining.alloc, run.len())?;
-    for (i, (pos, stored)) in run.iter().enumerate() {
-        add_found(joining.trigger, *pos, stored, found[i], &mut hits, readings)?;
+    for (i, event) in run.iter().enumerate() {
+        add_found(joining.trigger, event, found[i], &mut hits, readings)?;
     }
     Ok(hits)
 }
@@ -116,24 +116,23 @@ fn hits_of(
 /// memory.
 fn add_found(
     trigger: &Trigger,
-    pos: Pos,
-    stored: &Stored<'_>,
+    event: &(Pos, Stored<'_>),
     found: Option<At>,
     hits: &mut Vec<(Spot, [i64; 3])>,
     readings: &mut Vec<(Pos, Pos)>,
 ) -> Result<(), AllocError>
-    requires { (held stored.now).stamp ≡ pos.stamp }
+    requires { (held event.now.1).stamp ≡ event.now.0.stamp }
     ensures hits { OnOk result (hits.new.items ≡ hits.old.items
-        ++ hit_found trigger.now (pos, held stored.now) found) }
+        ++ hit_found trigger.now (event.now.0, held event.now.1) found) }
     ensures readings { OnOk result (readings.new.items ≡ readings.old.items
-        ++ reading_found (pos, held stored.now) found) }
+        ++ reading_found (event.now.0, held event.now.1) found) }
 {
     let Some(saved) = found else {
         return Ok(());
     };
-    let values = sums_at(trigger, pos, stored, Some(saved.pos));
-    hits.push((Spot::traced(pos), values))?;
-    readings.push((pos, saved.pos))?;
+    let values = sums_at(trigger, event.0, &event.1, Some(saved.pos));
+    hits.push((Spot::traced(event.0), values))?;
+    readings.push((event.0, saved.pos))?;
     Ok(())
 }
 

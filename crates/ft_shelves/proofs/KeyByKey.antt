@@ -2,18 +2,18 @@
 use Rattle.std.proofs.Common.{◌≡◌, ◌<◌, ◌≤◌, ◌++◌, ℕ, suc, append_assoc, Bool, true, false, cond, List, [], ◌∷◌, drop, get_or, length, refl, sym, ap, subst, ◌∙◌, arith, None, Option, ◌+◌, inl, inr}
 use Rattle.std.specs.Prelude.{◌||◌, nat_lt}
 use Rattle.std.specs.List.{AllByRecursion, filter, list_any}
+use Rattle.std.specs.Borrow.{Bor}
 use Rattle.std.specs.FinMap as map
 use Rattle.std.proofs.lemmas.Bool.{ltb-false}
 use Rattle.std.proofs.lemmas.List.{append-nil, drop_more}
 use Rattle.ft_fields.specs.Places.{pos_cmp, pos_cmp_total}
 use Rattle.ft_fields.specs.Traced.{Traced}
 use Rattle.ft_fields.specs.declared.pos.Pos.{Pos}
-use Rattle.ft_groups.specs.Grouped.{Grouped, is_under, run_of, run_under}
+use Rattle.ft_groups.specs.Grouped.{Grouped, events_of, is_under, run_of, run_under}
 use Rattle.ft_hist.specs.Hist.{Hist}
 use Rattle.ft_keys.specs.Orders.{key_cmp_total}
 use Rattle.ft_keys.specs.Ties.{key_same}
 use Rattle.ft_keys.specs.declared.key.Part.{Part}
-use Rattle.ft_maps.specs.Mapped.{entries_by}
 use Rattle.ft_store.specs.Stored.{held}
 use Rattle.ft_store.specs.declared.stored.Stored.{Stored}
 use Rattle.ft_table.specs.Hits.{same_key}
@@ -104,9 +104,9 @@ module _ (hist : Hist) (groups : Grouped) (of : AreGroupsOf hist groups) where
       (all_map _ _ (λ e there. of.stamped e.0 e.1 there) (map.entries of.events) (each_found pos_cmp pos_cmp_total of.events)))
 
 -- the first of the events that are left
-pub first_event : (es : List (Pos × Stored)) (i : ℕ) (e : Pos × Stored) → i < length es → e ≡ get_or es i e
-    → entries_by held (drop i es) ≡ (e.0, held e.1) ∷ entries_by held (drop (i + 1) es)
-first_event es i e within is = ap (entries_by held) (drop_more es i e within ∙ ap (λ (x : Pos × Stored). x ∷ drop (i + 1) es) (sym is))
+pub first_event : (es : List (Bor (Pos × Stored))) (i : ℕ) (e : Bor (Pos × Stored)) → i < length es → e ≡ get_or es i e
+    → events_of (drop i es) ≡ (e.now.0, held e.now.1) ∷ events_of (drop (i + 1) es)
+first_event es i e within is = ap events_of (drop_more es i e within ∙ ap (λ (x : Bor (Pos × Stored)). x ∷ drop (i + 1) es) (sym is))
 
 -- ---- what is made of events one behind the other
 

@@ -85,9 +85,9 @@ fn hits_of(joining: &Joining<'_, '_>, key: &Key) -> Result<Vec<(Spot, [i64; 3])>
 {
     let run = joining.groups.run(key);
     let mut hits = Vec::with_capacity(joining.alloc, run.len())?;
-    for (pos, stored) in run {
-        let values = sums_at(joining.trigger, *pos, stored, None);
-        hits.push((Spot::traced(*pos), values))?;
+    for event in run {
+        let values = sums_at(joining.trigger, event.0, &event.1, None);
+        hits.push((Spot::traced(event.0), values))?;
     }
     Ok(hits)
 }
@@ -99,9 +99,9 @@ fn saves_of(joining: &Joining<'_, '_>, key: &Key) -> Result<Vec<(At, Op)>, Alloc
 {
     let run = joining.groups.run(key);
     let mut saves = Vec::with_capacity(joining.alloc, run.len())?;
-    for (pos, _) in run {
+    for event in run {
         let at = At {
-            pos: *pos,
+            pos: event.0,
             trigger: joining.id,
         };
         saves.push((at, Op::Save))?;

@@ -11,11 +11,15 @@ use ft_hist::{Item, Trigger};
 use ft_store::Stored;
 
 /// What a trigger's hit at an event adds to its sums, where it read what was saved at a place, or
-/// read nothing. The event is looked at only where the trigger sums a field of it.
+/// read nothing. The event is looked at only where the trigger sums a field of it, and its stamp only
+/// where it sums something.
 pub fn sums_at(trigger: &Trigger, pos: Pos, stored: &Stored<'_>, read: Option<Pos>) -> [i64; 3]
     requires stamped { (held stored.now).stamp ≡ pos.stamp }
     ensures { result ≡ values_at trigger.now pos (held stored.now) read }
 {
+    if trigger.values().is_empty() {
+        return [0, 0, 0];
+    }
     let own = own_value(pos, stored, read);
     if sums_field(trigger.values()) {
         return trigger.values_of(&stored.bare(), own);

@@ -1,12 +1,14 @@
 -- Triggers that ask events for numbers alone.
-use Rattle.std.specs.Prelude.{Bool, not, ◌&&◌, if◌then◌else◌}
+use Rattle.std.specs.Prelude.{Bool, not, ◌&&◌, ℤ, List, [], ◌∷◌, Option, Some, None, if◌then◌else◌}
 use Rattle.std.specs.List.{list_any}
-use Rattle.std.specs.Option.{is_none}
+use Rattle.std.specs.Option.{is_none, option_and_then}
 use Rattle.ft_fields.specs.Fields.{is_text}
-use Rattle.ft_fields.specs.Traced.{Traced}
+use Rattle.ft_fields.specs.Traced.{Traced, name_of}
+use Rattle.ft_fields.specs.declared.field.Field.{Field}
 use Rattle.ft_hist.specs.declared.item.KeyItem.{KeyItem}
 use Rattle.ft_hist.specs.Hist.{Hist}
-use Rattle.ft_store.specs.Stored.{bare}
+use Rattle.ft_hist.specs.Hit.{same_name}
+use Rattle.ft_store.specs.Stored.{bare, number_of}
 
 -- the key item is of a field that holds a text (our own choice)
 abbrev pub asks_text : KeyItem → Bool
@@ -19,3 +21,17 @@ asks_numbers hist = is_none hist.filter && not (list_any asks_text hist.keys)
 -- the event, without its names where numbers alone are asked for (our own choice)
 abbrev pub asked_part : Bool → Traced → Traced
 asked_part numbers event = if numbers then bare event else event
+
+-- the field of the only key item (our own choice)
+abbrev pub only_field : List KeyItem → Option Field
+only_field [] = None
+only_field (item ∷ []) = Some item.field
+only_field (item ∷ other ∷ items) = None
+
+-- the field whose number alone tells the key of each of the trigger's events: it has no filter, and no other key (our own choice)
+abbrev pub number_field : Hist → Option Field
+number_field hist = if asks_numbers hist then only_field hist.keys else None
+
+-- the number that alone tells the key of an event, where the trigger is on its name (our own choice)
+abbrev pub counted_by : Hist → Traced → Option ℤ
+counted_by hist event = if same_name hist.event (name_of event.body) then option_and_then (number_of event) (number_field hist) else None

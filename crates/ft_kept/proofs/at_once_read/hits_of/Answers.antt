@@ -1,12 +1,11 @@
 -- Each event of the run gives its hit, if its reading found something.
 use Rattle.std.proofs.Common.{◌≡◌, ◌<◌, ◌++◌, List, [], drop, length, sym, ap, subst, ◌∙◌, arith}
+use Rattle.std.specs.Borrow.{Bor}
 use Rattle.std.specs.List.{AllByRecursion}
 use Rattle.std.proofs.lemmas.List.{drop_all}
 use Rattle.ft_fields.specs.Traced.{Traced}
 use Rattle.ft_fields.specs.declared.pos.Pos.{Pos}
-use Rattle.ft_groups.specs.Grouped.{run_of}
-use Rattle.ft_maps.specs.Mapped.{entries_by}
-use Rattle.ft_store.specs.Stored.{held}
+use Rattle.ft_groups.specs.Grouped.{events_of, run_of}
 use Rattle.ft_store.specs.declared.stored.Stored.{Stored}
 use Rattle.ft_kept.specs.inner.JoiningReads.{hits_found, readings_found}
 use Rattle.ft_kept.proofs.FoundRuns.{hits_left, hits_more, length_run, readings_left, readings_more}
@@ -22,7 +21,7 @@ loop-i-init c =
     let hist = c.args.joining.now.trigger.now in
     let groups = c.args.joining.now.groups.now in
     record {
-      hits = ap (λ hits. hits ++ hits_found hist (entries_by held c.run-run.result.now) c.args.found.now) c.in_ok-hits.ensures.items ∙ ap (λ run. hits_found hist run c.args.found.now) c.run-run.ensures;
+      hits = ap (λ hits. hits ++ hits_found hist (events_of c.run-run.result.now) c.args.found.now) c.in_ok-hits.ensures.items ∙ ap (λ run. hits_found hist run c.args.found.now) c.run-run.ensures;
       told = ap (λ run. c.args.readings.now.items ++ readings_found run c.args.found.now) c.run-run.ensures;
       stamped = subst (AllByRecursion HasStamp) (sym c.run-run.ensures) (stamped_run hist groups c.requires.grouped c.args.key.now);
     }
@@ -36,7 +35,7 @@ add_found-requires c =
 pub loop-i-preserved : goal.loop-i-preserved
 loop-i-preserved c =
     let hist = c.args.joining.now.trigger.now in
-    let run : List (Pos × Stored) = c.run-run.result.now in
+    let run : List (Bor (Pos × Stored)) = c.run-run.result.now in
     let found = c.args.found.now in
     let e = c.index-run-i.result in
     let first = first_event run c.loop-i.i e c.loop-i-test.true c.index-run-i.is in
@@ -51,12 +50,12 @@ loop-i-preserved c =
 
 pub returns-clause-hits : goal.returns-clause-hits
 returns-clause-hits c =
-    let run : List (Pos × Stored) = c.run-run.result.now in
+    let run : List (Bor (Pos × Stored)) = c.run-run.result.now in
     let none : drop c.loop-i.i run ≡ [] = drop_all c.loop-i.i run c.loop-i-test.false in
     made_all c.loop-i.hits.items _ _ (hits_left c.args.joining.now.trigger.now run c.args.found.now c.loop-i.i none) c.loop-i.invariant.hits
 
 pub returns-clause-readings : goal.returns-clause-readings
 returns-clause-readings c =
-    let run : List (Pos × Stored) = c.run-run.result.now in
+    let run : List (Bor (Pos × Stored)) = c.run-run.result.now in
     let none : drop c.loop-i.i run ≡ [] = drop_all c.loop-i.i run c.loop-i-test.false in
     made_all c.loop-i.readings.items _ _ (readings_left c.args.joining.now.trigger.now run c.args.found.now c.loop-i.i none) c.loop-i.invariant.told

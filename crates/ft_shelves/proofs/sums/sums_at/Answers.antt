@@ -25,4 +25,4 @@ returns c =
     c.values_of-2.ensures
     ∙ ap (values_of hist c.blank.result) (to_z-of_z w64 c.own_value-own.result (search rules) ∙ c.own_value-own.ensures)
     ∙ unasked hist c.blank.result (held c.args.stored.now) (own_value c.args.pos c.args.read)
-    (ap (list_any is_field) (sym c.values.ensures.value) ∙ sym c.sums_field.ensures ∙ c.if-sums_field.false)
+    (ap (list_any is_field) (sym c.values-2.ensures.value) ∙ sym c.sums_field.ensures ∙ c.if-sums_field.false)

@@ -16,7 +16,7 @@ put-requires c = key_same
 
 pub returns-clause-placed : goal.returns-clause-placed
 returns-clause-placed c =
-    let event : Pos × Traced = (c.args.pos, held c.args.stored) in
+    let event : Pos × Traced = (c.args.event.now.0, held c.args.event.now.1) in
     let places : FinMap key_cmp ℕ = seen key_cmp c.args.self.now.places in
     let run : c.push.new.self ≡ event ∷ [] = c.in_ok-push.ensures ∙ ap (λ (es : List (Pos × Traced)). es ++ event ∷ []) c.new-run.ensures in
     let place = c.in_ok-put.ensures.ok ∙ ap (map.insert places c.args.key) (c.len-place.ensures ∙ c.args.self.now.keys.ok.0) in
@@ -25,7 +25,7 @@ returns-clause-placed c =
 
 pub returns-clause-adds : goal.returns-clause-adds
 returns-clause-adds c =
-    let event : Pos × Traced = (c.args.pos, held c.args.stored) in
+    let event : Pos × Traced = (c.args.event.now.0, held c.args.event.now.1) in
     let places : FinMap key_cmp ℕ = seen key_cmp c.args.self.now.places in
     let run : c.push.new.self ≡ event ∷ [] = c.in_ok-push.ensures ∙ ap (λ (es : List (Pos × Traced)). es ++ event ∷ []) c.new-run.ensures in
     let place = c.in_ok-put.ensures.ok ∙ ap (map.insert places c.args.key) (c.len-place.ensures ∙ c.args.self.now.keys.ok.0) in
