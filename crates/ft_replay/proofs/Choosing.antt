@@ -1,6 +1,6 @@
 -- Lanes of some CPUs: their entries, and a walk that leaves some out.
 use Rattle.std.proofs.Common.{◌≡◌, ℕ, None, Bool, true, false, cond, List, [], ◌∷◌, ◌++◌, sym, ap, ◌∙◌, append_assoc}
-use Rattle.std.specs.Prelude.{filter, not}
+use Rattle.std.specs.Prelude.{not}
 use Rattle.std.specs.List.{flat_map}
 use Rattle.std.specs.declared.cmp.Ordering.{Ordering}
 use Rattle.std.specs.declared.cmp.Ordering.TheVariants.{Equal}
@@ -9,7 +9,6 @@ use Rattle.std.specs.FinMap as map
 use Rattle.std.specs.FinMap.{FinMap, IsAntisymmetric, entries_sorted, get-entries, get-retain_keys, same_map, nat_cmp-IsAntisymmetric}
 use Rattle.std.specs.FinMap.Entries.{where_key, is_sorted-where_key, find-where_key, same_entries}
 use Rattle.std.proofs.lemmas.List.{append-nil}
-use Rattle.std.proofs.lemmas.List.Elements.{filter-append}
 use Rattle.ft_fields.specs.Traced.{Traced}
 use Rattle.ft_fields.specs.declared.pos.Pos.{Pos}
 use Rattle.ft_lanes.specs.Held.{Lane, Lanes}
@@ -33,9 +32,7 @@ pub but_none : (lanes : Lanes) → lanes_but [] lanes ≡ lanes
 but_none lanes = same_map nat_cmp_total nat_cmp-IsAntisymmetric (lanes_but [] lanes) lanes (λ cpu. get-chosen (λ q. not (is_among [] q)) lanes cpu)
 
 -- one lane more, unless it is left out
-pub one_lane : (out : Bool) (pushed : List (Pos × Traced)) (fits : Pos × Traced → Bool) (e : ℕ × Lane) (rest : List (ℕ × Lane))
-    → (pushed ++ cond out [] (filter fits (placed e))) ++ filter fits (flat_map placed rest) ≡ pushed ++ filter fits (flat_map placed (cond (not out) (e ∷ rest) rest))
-one_lane true pushed fits e rest = ap (λ (es : List (Pos × Traced)). es ++ filter fits (flat_map placed rest)) (append-nil pushed)
-one_lane false pushed fits e rest =
-    append_assoc pushed (filter fits (placed e)) (filter fits (flat_map placed rest))
-    ∙ ap (λ (es : List (Pos × Traced)). pushed ++ es) (sym (filter-append fits (placed e) (flat_map placed rest)))
+pub one_lane : (out : Bool) (pushed : List (Pos × Traced)) (e : ℕ × Lane) (rest : List (ℕ × Lane))
+    → (pushed ++ cond out [] (placed e)) ++ flat_map placed rest ≡ pushed ++ flat_map placed (cond (not out) (e ∷ rest) rest)
+one_lane true pushed e rest = ap (λ (es : List (Pos × Traced)). es ++ flat_map placed rest) (append-nil pushed)
+one_lane false pushed e rest = append_assoc pushed (placed e) (flat_map placed rest)

@@ -3,6 +3,7 @@ pub mod Places
 pub mod Naming
 pub mod Placing
 pub mod Choosing
+pub mod Taking
 pub mod Counted
 pub mod KeysApart
 pub mod Growing

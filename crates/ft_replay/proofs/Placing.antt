@@ -213,15 +213,15 @@ module _ (names : Name → Bool) (lanes : Lanes) where
       ∙ sym (get-on (merged lanes) q)
 
   -- in order of their places they are the entries of the merged events
-  pub in_order : {Y : Type 0} (g : Y → Traced) (before after : List (Pos × Y)) → entries_by g before ≡ filter (has_one names) by_lane
-      → IsPermutation before after → IsSortedByKey (λ e. e.0) pos_cmp after → entries_by g after ≡ map.entries (events_on names (merged lanes))
-  in_order g before after all moved up =
+  pub in_order : {Y : Type 0} (g : Y → Traced) (events : List (Pos × Y)) → IsPermutation (filter (has_one names) by_lane) (entries_by g events)
+      → IsSortedByKey (λ e. e.0) pos_cmp events → entries_by g events ≡ map.entries (events_on names (merged lanes))
+  in_order g events moved up =
       let kept : IsDistinct (eq_by_cmp pos_cmp) (keys_of (filter (has_one names) by_lane)) = IsDistinct-keys_filter (eq_by_cmp pos_cmp) (has_one names) by_lane all_distinct in
-      let first : IsDistinct (eq_by_cmp pos_cmp) (keys_of before) = subst (IsDistinct (eq_by_cmp pos_cmp)) (sym (ap (λ (es : List (Pos × Traced)). keys_of es) all) ∙ keys_of-map_values g before) kept in
-      let last : IsDistinct (eq_by_cmp pos_cmp) (keys_of after) = IsDistinct-IsPermutation (eq_by_cmp pos_cmp) (eq_by_cmp_equiv pos_cmp_total).symm (keys_of before) (keys_of after) (IsPermutation-map (λ e. e.0) before after moved) first in
-      entries-moved pos_cmp_total pos_same (events_on names (merged lanes)) (filter (has_one names) by_lane) (entries_by g after) find-kept
-      (subst (λ (es : List (Pos × Traced)). IsPermutation es (entries_by g after)) all (IsPermutation-map (λ e. (e.0, g e.1)) before after moved)) kept
-      (subst (IsStrictlySortedBy pos_cmp) (sym (keys_of-map_values g after)) (ascends pos_cmp_total pos_same after up last))
+      let seen : IsDistinct (eq_by_cmp pos_cmp) (keys_of (entries_by g events)) =
+      IsDistinct-IsPermutation (eq_by_cmp pos_cmp) (eq_by_cmp_equiv pos_cmp_total).symm (keys_of (filter (has_one names) by_lane)) (keys_of (entries_by g events)) (IsPermutation-map (λ e. e.0) _ _ moved) kept in
+      let last : IsDistinct (eq_by_cmp pos_cmp) (keys_of events) = subst (IsDistinct (eq_by_cmp pos_cmp)) (keys_of-map_values g events) seen in
+      entries-moved pos_cmp_total pos_same (events_on names (merged lanes)) (filter (has_one names) by_lane) (entries_by g events) find-kept moved kept
+      (subst (IsStrictlySortedBy pos_cmp) (sym (keys_of-map_values g events)) (ascends pos_cmp_total pos_same events up last))
 
 -- what the events have at a place on whose name some trigger is
 pub get-named : (triggers : Triggers) (lanes : Lanes) (events : Events) (q : Pos) → map.get (named triggers events) q ≡ option_filter (is_named triggers) (map.get events q)

@@ -18,8 +18,10 @@ mod counter;
 pub mod laws;
 mod merge;
 mod names;
+mod ordered;
 mod pair;
 mod replay;
+mod rests;
 
 pub use counter::Counter;
 pub use laws::{

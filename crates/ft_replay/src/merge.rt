@@ -1,22 +1,24 @@
 //! The merged order: held events by their places, as references into the lanes.
 
-ghost use Rattle.std.specs.Prelude.{◌≡◌, ◌++◌, [], cond, IfOk, OnOk, IsPermutation, filter};
+ghost use Rattle.std.specs.Prelude.{◌≡◌, ◌++◌, ◌∷◌, [], IfOk, OnOk, IsPermutation};
 ghost use Rattle.std.specs.List.Sorted.{IsSortedByKey};
 ghost use Rattle.std.specs.Ordering.{nat_cmp};
 ghost use Rattle.std.specs.FinMap as map;
 ghost use Rattle.ft_fields.specs.Places.{pos_cmp};
-ghost use Rattle.ft_fields.specs.Traced.{name_of};
 ghost use Rattle.ft_maps.specs.Mapped.{entries_by};
 ghost use Rattle.ft_maps.specs.Seen.{seen};
 ghost use Rattle.ft_store.specs.Stored.{held};
-ghost use Rattle.ft_replay.specs.Chosen.{is_among, lanes_but};
-ghost use Rattle.ft_replay.specs.Merged.{merged, placed};
+ghost use Rattle.ft_replay.specs.Chosen.{lanes_but};
+ghost use Rattle.ft_replay.specs.Merged.{merged};
 ghost use Rattle.ft_replay.specs.Named.{named, events_on, has_name};
+ghost use Rattle.ft_replay.specs.inner.Rests.{entry_of, left_in, listed, with_names};
 
 use crate::names::Names;
+use crate::ordered::Ordered;
+use crate::rests::{Rest, Rests};
 use ft_fields::Pos;
 use ft_hist::Trigger;
-use ft_lanes::{Lane, Lanes};
+use ft_lanes::Lanes;
 use ft_store::Stored;
 use std::alloc::{AllocError, Global};
 use std::collections::BTreeMap;
@@ -71,51 +73,120 @@ fn events_but<'a>(
     ensures { IfOk result (λ events. entries_by held events.items
         ≡ map.entries (events_on (has_name names) (merged (lanes_but but.now lanes.now)))) }
 {
-    let mut events = Vec::new(alloc);
-    for (cpu, lane) in lanes.lanes() {
-        push_unless(&mut events, but, cpu, &lane, names)?;
+    if names.are_none() {
+        return Ok(Vec::new(alloc));
     }
+    let mut rests = Rests::of(alloc, lanes, but)?;
+    let mut ordered = Ordered::new(alloc);
+    walk(
+        lanes,
+        walked_places(lanes, but),
+        &mut rests,
+        names,
+        &mut ordered,
+    )?;
+    let mut events = ordered.into_events();
+    push_rests(&mut events, rests.into_rests(), names)?;
     sort_by_place(&mut events)?;
     Ok(events)
 }
 
-/// Adds the events of a lane that have one of the names, with their places, unless its CPU is among
-/// some. What it added before a refusal for memory stays.
-fn push_unless<'a>(
-    events: &mut Vec<(Pos, Stored<'a>)>,
-    but: &[u16],
-    cpu: u16,
-    lane: &Lane<'a>,
-    names: Names,
-) -> Result<(), AllocError>
-    ensures { OnOk result (entries_by held events.new.items ≡ entries_by held events.old.items
-        ++ cond (is_among but.now cpu) []
-        (filter (λ entry. has_name names (name_of entry.1.body)) (placed (cpu, lane.now)))) }
-{
-    if but.contains(&cpu) {
-        return Ok(());
+/// How many places of the store a walk goes over: all, where at least one of eight is that of an
+/// event of a CPU that is not left out, else none, since sorting then costs less.
+fn walked_places(lanes: &Lanes, but: &[u16]) -> u32 {
+    let mut count = lanes.len();
+    for cpu in but {
+        count = count.saturating_sub(lanes.held_on(*cpu));
     }
-    push_lane(events, cpu, lane, names)
+    if count < lanes.stored() as u64 / 8 {
+        return 0;
+    }
+    u32::try_from(lanes.stored()).unwrap_or(u32::MAX)
 }
 
-/// Adds the events of a lane that have one of the names, with their places. What it added before a
-/// refusal for memory stays.
-fn push_lane<'a>(
-    events: &mut Vec<(Pos, Stored<'a>)>,
+/// Takes events out of the lanes in the order in which they stand at so many places of the store,
+/// and adds those that have one of the names. Refused for memory.
+fn walk<'a>(
+    lanes: &Lanes,
+    places: u32,
+    rests: &mut Rests<'a>,
+    names: Names,
+    ordered: &mut Ordered<'a>,
+) -> Result<(), AllocError>
+    ensures { OnOk result (IsPermutation
+        (listed names ordered.old.events.items (left_in rests.old.rests.items))
+        (listed names ordered.new.events.items (left_in rests.new.rests.items))) }
+{
+    for place in 0..places {
+        take_one(rests, lanes.cpu_at(place), place, names, ordered)?;
+    }
+    Ok(())
+}
+
+/// Takes the event at a place of the store, if it is the first that is left of the lane of this
+/// CPU, and adds it if it has one of the names. Refused for memory.
+fn take_one<'a>(
+    rests: &mut Rests<'a>,
     cpu: u16,
-    lane: &Lane<'a>,
+    place: u32,
+    names: Names,
+    ordered: &mut Ordered<'a>,
+) -> Result<(), AllocError>
+    ensures { OnOk result (IsPermutation
+        (listed names ordered.old.events.items (left_in rests.old.rests.items))
+        (listed names ordered.new.events.items (left_in rests.new.rests.items))) }
+{
+    match rests.take_at(cpu, place) {
+        Some((pos, stored)) => push_named(ordered, pos, stored, names),
+        None => Ok(()),
+    }
+}
+
+/// Adds an event if it has one of the names. Refused for memory.
+fn push_named<'a>(
+    ordered: &mut Ordered<'a>,
+    pos: Pos,
+    stored: Stored<'a>,
     names: Names,
 ) -> Result<(), AllocError>
-    ensures { OnOk result (entries_by held events.new.items ≡ entries_by held events.old.items
-        ++ filter (λ entry. has_name names (name_of entry.1.body)) (placed (cpu, lane.now))) }
+    ensures { OnOk result (IsPermutation
+        (entries_by held ordered.old.events.items ++ with_names names (entry_of (pos, stored.entry) ∷ []))
+        (entries_by held ordered.new.events.items)) }
 {
-    if names.are_none() {
-        return Ok(());
+    if names.has(stored.name()) {
+        ordered.push(pos, stored)?;
     }
-    for (line, stored) in lane.lines() {
+    Ok(())
+}
+
+/// Adds what is left of lanes: the events that have one of the names. What it added before a
+/// refusal for memory stays.
+fn push_rests<'a>(
+    events: &mut Vec<(Pos, Stored<'a>)>,
+    rests: Vec<Rest<'a>>,
+    names: Names,
+) -> Result<(), AllocError>
+    ensures { OnOk result (entries_by held events.new.items
+        ≡ listed names events.old.items (left_in rests.entry.items)) }
+{
+    for rest in rests {
+        push_rest(events, rest, names)?;
+    }
+    Ok(())
+}
+
+/// Adds what is left of a lane: the events that have one of the names. What it added before a
+/// refusal for memory stays.
+fn push_rest<'a>(
+    events: &mut Vec<(Pos, Stored<'a>)>,
+    rest: Rest<'a>,
+    names: Names,
+) -> Result<(), AllocError>
+    ensures { OnOk result (entries_by held events.new.items ≡ listed names events.old.items rest.entry) }
+{
+    for (pos, stored) in rest {
         if names.has(stored.name()) {
-            let stamp = stored.stamp();
-            events.push((Pos { stamp, cpu, line }, stored))?;
+            events.push((pos, stored))?;
         }
     }
     Ok(())
