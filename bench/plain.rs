@@ -1,14 +1,21 @@
-//! What whole runs are measured against: a plain program with std's maps, which reads a trace into lanes and replays it
-//! once. It keeps nothing for edits, and proves nothing; what it prints is what `histdesk` prints for the same work.
+//! What whole runs are measured against: a plain program in safe Rust with std alone, which reads a trace once, replays it
+//! once and prints what `histdesk` prints for the same work.
 //!
 //! `plain load|table|pairs TRACE`: the load alone; `hist:keys=pid` over wakings, printed; the totals of a reader of wakeup
 //! latencies, with its saver.
+//!
+//! It is written for speed, with no dependency: the file's text stays, and names point into it; payloads are cut from the
+//! right; events stand in one vector in the order of lines, from which a trigger's are taken in merged order by a walk;
+//! tables are hash maps, whose hash is one multiplication. It proves nothing, has triggers of these forms alone, and keeps
+//! nothing for edits, listings or latencies: of each key a table has the count, and what was saved last. A line with a
+//! fault ends it, without a word on which line or fault, and it takes more lines for good ones or skipped ones than FORMAT.md does.
 
 // What an event has is held, as the desk holds it, also where nothing here reads it.
 #![allow(dead_code)]
 
-use std::collections::{BTreeMap, HashMap};
-use std::io::Write;
+use std::collections::HashMap;
+use std::hash::{BuildHasherDefault, Hasher};
+use std::io::{BufRead, Write};
 
 const SIZE: usize = 2048;
 
@@ -45,18 +52,29 @@ struct Event<'a> {
     body: Body<'a>,
 }
 
+// ---- Lines.
+
 /// The bytes in front of those that are not of a kind, and the rest.
 fn span(text: &[u8], kind: impl Fn(u8) -> bool) -> (&[u8], &[u8]) {
     let end = text.iter().position(|byte| !kind(*byte)).unwrap_or(text.len());
     text.split_at(end)
 }
 
-fn is_space(byte: u8) -> bool {
-    byte == b' '
+fn is_digit(byte: u8) -> bool {
+    byte.is_ascii_digit()
 }
 
-fn trim(text: &[u8]) -> &[u8] {
-    let (_, text) = span(text, is_space);
+/// The text behind its spaces.
+fn stripped(text: &[u8]) -> &[u8] {
+    span(text, |byte| byte == b' ').1
+}
+
+fn word(text: &[u8]) -> (&[u8], &[u8]) {
+    span(text, |byte| byte != b' ')
+}
+
+fn trimmed(text: &[u8]) -> &[u8] {
+    let text = stripped(text);
     let end = text.iter().rposition(|byte| *byte != b' ').map_or(0, |at| at + 1);
     &text[..end]
 }
@@ -66,18 +84,17 @@ fn digits(text: &[u8], most: u64) -> Option<u64> {
         return None;
     }
     text.iter().try_fold(0_u64, |number, byte| {
-        let digit = byte.is_ascii_digit().then(|| u64::from(byte - b'0'))?;
+        let digit = is_digit(*byte).then(|| u64::from(byte - b'0'))?;
         let number = number * 10 + digit;
         (number <= most).then_some(number)
     })
 }
 
 fn number(text: &[u8]) -> Option<i32> {
-    let (text, sign) = match text.strip_prefix(b"-") {
-        Some(text) => (text, -1),
-        None => (text, 1),
-    };
-    i32::try_from(digits(text, 1 << 31)? as i64 * sign).ok()
+    match text.strip_prefix(b"-") {
+        Some(text) => Some(-(digits(text, 1 << 31)? as i64) as i32),
+        None => Some(digits(text, i32::MAX as u64)? as i32),
+    }
 }
 
 fn name(text: &[u8]) -> Option<&[u8]> {
@@ -103,12 +120,21 @@ fn wake(text: &[u8]) -> Option<Wake<'_>> {
     })
 }
 
+/// The text in front of the last arrow, and the name behind it.
+fn arrow(text: &[u8]) -> Option<(&[u8], &[u8])> {
+    let mut end = text.len();
+    loop {
+        end = text[..end].iter().rposition(|byte| *byte == b'=')?;
+        if let Some(front) = text[..end].strip_suffix(b" ==> next_comm") {
+            return Some((front, &text[end + 1..]));
+        }
+    }
+}
+
 fn turn(text: &[u8]) -> Option<Turn<'_>> {
-    const ARROW: &[u8] = b" ==> next_comm=";
     let (text, next_prio) = last_part(text, b"next_prio=")?;
     let (text, next_pid) = last_part(text, b"next_pid=")?;
-    let at = text.windows(ARROW.len()).rposition(|part| part == ARROW)?;
-    let (text, next_comm) = (&text[..at], &text[at + ARROW.len()..]);
+    let (text, next_comm) = arrow(text)?;
     let (text, prev_state) = last_part(text, b"prev_state=")?;
     let (text, prev_prio) = last_part(text, b"prev_prio=")?;
     let (text, prev_pid) = last_part(text, b"prev_pid=")?;
@@ -124,140 +150,193 @@ fn turn(text: &[u8]) -> Option<Turn<'_>> {
 }
 
 fn body(text: &[u8]) -> Option<Body<'_>> {
-    Some(if let Some(text) = text.strip_prefix(b"sched_waking:") {
-        Body::Waking(wake(trim(text))?)
-    } else if let Some(text) = text.strip_prefix(b"sched_wakeup:") {
-        Body::Wakeup(wake(trim(text))?)
-    } else if let Some(text) = text.strip_prefix(b"sched_wakeup_new:") {
-        Body::WakeupNew(wake(trim(text))?)
-    } else if let Some(text) = text.strip_prefix(b"sched_switch:") {
-        Body::Switch(turn(trim(text))?)
+    let Some(rest) = text.strip_prefix(b"sched_") else {
+        return Some(Body::Other);
+    };
+    Some(if let Some(rest) = rest.strip_prefix(b"switch:") {
+        Body::Switch(turn(trimmed(rest))?)
+    } else if let Some(rest) = rest.strip_prefix(b"waking:") {
+        Body::Waking(wake(trimmed(rest))?)
+    } else if let Some(rest) = rest.strip_prefix(b"wakeup:") {
+        Body::Wakeup(wake(trimmed(rest))?)
+    } else if let Some(rest) = rest.strip_prefix(b"wakeup_new:") {
+        Body::WakeupNew(wake(trimmed(rest))?)
     } else {
         Body::Other
     })
 }
 
-/// What stands behind a task and its `-`: its pid, the CPU, and the rest of the line.
+/// What stands behind a task and its `-`: its pid, perhaps its thread group, the CPU, and the rest of the line.
 fn place(text: &[u8]) -> Option<(i32, u16, &[u8])> {
-    let (pid, text) = span(text, |byte| byte.is_ascii_digit());
-    let (gap, text) = span(text, is_space);
-    if pid.is_empty() || gap.is_empty() {
-        return None;
+    let (pid, text) = span(text, is_digit);
+    let mut text = stripped(text.strip_prefix(b" ")?);
+    if let Some(group) = text.strip_prefix(b"(") {
+        let (group, rest) = span(stripped(group), |byte| is_digit(byte) || byte == b'-');
+        text = stripped(rest.strip_prefix(b") ").filter(|_| !group.is_empty())?);
     }
-    let (cpu, text) = span(text.strip_prefix(b"[")?, |byte| byte.is_ascii_digit());
-    let rest = text.strip_prefix(b"] ")?;
-    Some((number(pid)?, digits(cpu, 8191)? as u16, rest))
+    let (cpu, text) = span(text.strip_prefix(b"[")?, is_digit);
+    Some((number(pid)?, digits(cpu, 8191)? as u16, text.strip_prefix(b"] ")?))
 }
 
 fn stamp(word: &[u8]) -> Option<u64> {
-    let dot = word.len().checked_sub(8)?;
-    if word[dot] != b'.' || word.last() != Some(&b':') {
-        return None;
-    }
-    let seconds = digits(&word[..dot], u64::from(u32::MAX))?;
-    Some(seconds * 1_000_000 + digits(&word[dot + 1..word.len() - 1], 999_999)?)
+    let (seconds, micros) = word.strip_suffix(b":")?.split_at_checked(word.len().checked_sub(8)?)?;
+    Some(digits(seconds, u64::from(u32::MAX))? * 1_000_000 + digits(micros.strip_prefix(b".")?, 999_999)?)
 }
 
 fn event(line: &[u8]) -> Option<Event<'_>> {
-    let (_, line) = span(line, is_space);
-    let dashes = line.iter().enumerate().filter(|(_, byte)| **byte == b'-');
+    let line = stripped(line);
+    let dashes = (0..line.len()).filter(|at| line[*at] == b'-');
     let (task, (pid, cpu, rest)) =
-        dashes.map(|(at, _)| at).find_map(|at| Some((&line[..at], place(&line[at + 1..])?)))?;
-    let (_, rest) = span(rest, is_space);
-    let (word, behind) = span(rest, |byte| byte != b' ');
-    let (word, rest) = if word.contains(&b':') {
-        (word, behind)
-    } else {
-        span(span(behind, is_space).1, |byte| byte != b' ')
-    };
-    Some(Event { task: name(task)?, pid, cpu, stamp: stamp(word)?, body: body(trim(rest))? })
+        dashes.map(|at| (&line[..at], &line[at + 1..])).find_map(|(task, rest)| Some((task, place(rest)?)))?;
+    let (letters, rest) = word(stripped(rest));
+    // The column of letters is not always there.
+    let (at, rest) = if letters.contains(&b':') { (letters, rest) } else { word(stripped(rest)) };
+    Some(Event { task: name(task)?, pid, cpu, stamp: stamp(at)?, body: body(stripped(rest))? })
 }
 
 fn is_skipped(line: &[u8]) -> bool {
-    line.starts_with(b"#") || line.iter().all(|byte| *byte == b' ') || line.starts_with(b"CPU:")
+    line.starts_with(b"#") || line.starts_with(b"CPU:") || line.iter().all(|byte| *byte == b' ')
 }
 
-fn load(text: &[u8]) -> BTreeMap<u16, Vec<Event<'_>>> {
-    let mut lanes: BTreeMap<u16, Vec<Event>> = BTreeMap::new();
-    for line in text.split(|byte| *byte == b'\n').filter(|line| !is_skipped(line)) {
-        let event = event(line).expect("a trace line");
-        lanes.entry(event.cpu).or_default().push(event);
+/// The events of a text, in the order of its lines.
+fn load(mut text: &[u8]) -> Vec<Event<'_>> {
+    // An average line is longer.
+    let mut events = Vec::with_capacity(text.len() / 128);
+    while !text.is_empty() {
+        let line = text;
+        let taken = text.skip_until(b'\n').expect("a slice is read without a fault");
+        let line = &line[..taken];
+        let line = line.strip_suffix(b"\n").unwrap_or(line);
+        if !is_skipped(line) {
+            events.push(event(line).expect("a trace line"));
+        }
     }
-    lanes
-}
-
-/// The events of some kind in merged order.
-fn merged<'a>(
-    lanes: &'a BTreeMap<u16, Vec<Event<'a>>>,
-    kind: impl Fn(&Body) -> bool,
-) -> Vec<&'a Event<'a>> {
-    // A stable sort keeps the order of lanes and lines.
-    let events = lanes.values().flatten();
-    let mut events: Vec<_> = events.filter(|event| kind(&event.body)).collect();
-    events.sort_by_key(|event| event.stamp);
     events
 }
 
-/// A table of hit counts, with room for so many keys.
+// ---- The replay.
+
+/// What a trigger takes of an event: where it stands, and a key; and whether it is a waking, which saves its stamp.
+#[derive(Clone, Copy)]
+struct Act {
+    stamp: u64,
+    cpu: u16,
+    saves: bool,
+    key: i32,
+}
+
+impl Act {
+    /// The act's place in merged order, but for its line.
+    fn place(&self) -> (u64, u16) {
+        (self.stamp, self.cpu)
+    }
+
+    fn of_waking(event: &Event) -> Option<Act> {
+        let Body::Waking(wake) = &event.body else { return None };
+        Some(Act { stamp: event.stamp, cpu: event.cpu, saves: true, key: wake.pid })
+    }
+
+    fn of_switch(event: &Event) -> Option<Act> {
+        let Body::Switch(turn) = &event.body else { return None };
+        Some(Act { stamp: event.stamp, cpu: event.cpu, saves: false, key: turn.next_pid })
+    }
+}
+
+/// The acts in merged order: by stamp, then CPU, then line.
+fn merged<'a>(events: &[Event<'a>], act_of: impl Fn(&Event<'a>) -> Option<Act>) -> Vec<Act> {
+    let mut acts: Vec<Act> = Vec::with_capacity(events.len());
+    for act in events.iter().filter_map(act_of) {
+        // Lines of most traces are nearly in order, so an act goes back as far as it must, and not far.
+        let back = acts.iter().rev().take(64).take_while(|before| before.place() > act.place()).count();
+        acts.insert(acts.len() - back, act);
+    }
+    // No act has gone past an equal one, and a stable sort keeps those in order too.
+    if !acts.is_sorted_by_key(Act::place) {
+        acts.sort_by_key(Act::place);
+    }
+    acts
+}
+
+/// The hash of a number: its product with an odd number near 2^64 over the golden ratio.
+#[derive(Default)]
+struct Product(u64);
+
+impl Hasher for Product {
+    fn finish(&self) -> u64 {
+        self.0.rotate_left(32)
+    }
+
+    fn write(&mut self, _: &[u8]) {
+        unreachable!("keys are numbers");
+    }
+
+    fn write_i32(&mut self, key: i32) {
+        self.0 = (key as u64).wrapping_mul(0x9e37_79b9_7f4a_7c15);
+    }
+}
+
+type Map<T> = HashMap<i32, T, BuildHasherDefault<Product>>;
+
+/// A table of hit counts, with room for `SIZE` keys, and a variable for each key that is in.
 #[derive(Default)]
 struct Table {
-    rows: HashMap<i32, u64>,
+    rows: Map<Row>,
     hits: u64,
     dropped: u64,
 }
 
+#[derive(Default)]
+struct Row {
+    hits: u64,
+    saved: Option<u64>,
+}
+
 impl Table {
-    /// Counts a hit: whether its key is in.
-    fn count(&mut self, key: i32) -> bool {
-        if let Some(hits) = self.rows.get_mut(&key) {
-            *hits += 1;
-        } else if self.rows.len() < SIZE {
-            self.rows.insert(key, 1);
-        } else {
+    /// Counts a hit: the row of its key, where that is in.
+    fn count(&mut self, key: i32) -> Option<&mut Row> {
+        if self.rows.len() == SIZE && !self.rows.contains_key(&key) {
             self.dropped += 1;
-            return false;
+            return None;
         }
         self.hits += 1;
-        true
+        let row = self.rows.entry(key).or_default();
+        row.hits += 1;
+        Some(row)
     }
 }
 
-fn table(lanes: &BTreeMap<u16, Vec<Event>>, out: &mut impl Write) -> std::io::Result<()> {
+fn table(events: &[Event], out: &mut impl Write) -> std::io::Result<()> {
     let mut table = Table::default();
-    for event in merged(lanes, |body| matches!(body, Body::Waking(_))) {
-        if let Body::Waking(wake) = &event.body {
-            table.count(wake.pid);
-        }
+    for act in merged(events, Act::of_waking) {
+        table.count(act.key);
     }
-    let mut rows: Vec<_> = table.rows.iter().map(|(key, hits)| (*hits, *key)).collect();
+    let mut rows: Vec<_> = table.rows.iter().map(|(key, row)| (row.hits, *key)).collect();
     rows.sort_unstable();
     writeln!(out, "attached 1\n# event histogram\n#")?;
     writeln!(out, "# trigger info: hist:keys=pid:vals=hitcount:sort=hitcount:size={SIZE} [active]\n#\n")?;
     for (hits, key) in rows {
         writeln!(out, "{{ pid: {key:>10} }} hitcount: {hits:>10}")?;
     }
-    write!(out, "\nTotals:\n    Hits: {}\n    Entries: {}\n    Dropped: {}\n", table.hits, table.rows.len(), table.dropped)
+    write!(
+        out,
+        "\nTotals:\n    Hits: {}\n    Entries: {}\n    Dropped: {}\n",
+        table.hits,
+        table.rows.len(),
+        table.dropped
+    )
 }
 
-fn pairs(lanes: &BTreeMap<u16, Vec<Event>>, out: &mut impl Write) -> std::io::Result<()> {
+fn pairs(events: &[Event], out: &mut impl Write) -> std::io::Result<()> {
     let (mut savers, mut readers) = (Table::default(), Table::default());
-    let mut saved: HashMap<i32, u64> = HashMap::new();
     let mut micros = 0_u64;
-    for event in merged(lanes, |body| matches!(body, Body::Waking(_) | Body::Switch(_))) {
-        match &event.body {
-            Body::Waking(wake) => {
-                if savers.count(wake.pid) {
-                    saved.insert(wake.pid, event.stamp);
-                }
+    for act in merged(events, |event| Act::of_waking(event).or_else(|| Act::of_switch(event))) {
+        if act.saves {
+            if let Some(row) = savers.count(act.key) {
+                row.saved = Some(act.stamp);
             }
-            Body::Switch(turn) => {
-                if let Some(stamp) = saved.remove(&turn.next_pid) {
-                    if readers.count(turn.next_pid) {
-                        micros = micros.wrapping_add(event.stamp.saturating_sub(stamp));
-                    }
-                }
-            }
-            Body::Wakeup(_) | Body::WakeupNew(_) | Body::Other => {}
+        } else if let Some(saved) = savers.rows.get_mut(&act.key).and_then(|row| row.saved.take()) {
+            readers.count(act.key);
+            micros = micros.wrapping_add(act.stamp.saturating_sub(saved));
         }
     }
     std::hint::black_box(micros);
@@ -268,14 +347,15 @@ fn pairs(lanes: &BTreeMap<u16, Vec<Event>>, out: &mut impl Write) -> std::io::Re
 fn main() -> std::io::Result<()> {
     let words: Vec<String> = std::env::args().collect();
     let text = std::fs::read(&words[2])?;
-    let lanes = load(&text);
-    let mut out = std::io::stdout().lock();
-    writeln!(out, "loaded {}", lanes.values().map(Vec::len).sum::<usize>())?;
+    let events = load(&text);
+    let mut out = std::io::BufWriter::new(std::io::stdout().lock());
+    writeln!(out, "loaded {}", events.len())?;
     match words[1].as_str() {
-        "table" => table(&lanes, &mut out)?,
-        "pairs" => pairs(&lanes, &mut out)?,
+        "table" => table(&events, &mut out)?,
+        "pairs" => pairs(&events, &mut out)?,
         _ => {}
     }
     out.flush()?;
+    // What is held is not freed, as the desk's isn't.
     std::process::exit(0)
 }

@@ -1,13 +1,15 @@
 #!/usr/bin/env bash
 # speed.sh [EVENTS]: whole runs of histdesk beside a plain program in Rust (plain.rs), which reads the same trace, replays it
 # once and keeps nothing for edits: a load, a table, the totals of wakeup latencies. Both print the same bytes, which is
-# tested. They run in turn, five times each or as often as TIMES says, and the least time counts.
+# tested. They and `wc -l` on the trace run in turn, five times each or as often as TIMES says. What counts is the least time
+# of a processor, the program's and the system's for it: each has one thread, and other work beside it says little there.
+# shellcheck disable=SC2016 # for the desk
 set -euo pipefail
 
 here=$(dirname -- "$(realpath -- "${BASH_SOURCE[0]}")")
-histdesk=${HISTDESK:-$here/../histdesk}
 events=${1:-1000000}
 times=${TIMES:-5}
+export LC_ALL=C
 export GLIBC_TUNABLES=${GLIBC_TUNABLES:+$GLIBC_TUNABLES:}glibc.malloc.hugetlb=1
 
 folder=$(mktemp -d)
@@ -21,20 +23,25 @@ printf '%s\n' 'load @1' 'attach sched_waking hist:keys=pid' 'hist 1' >"$folder/t
 printf '%s\n' 'load @1' 'attach sched_waking hist:keys=pid:ts0=common_timestamp.usecs' \
     'attach sched_switch hist:keys=next_pid:vals=$lat:lat=common_timestamp.usecs-$ts0' 'totals 2' >"$folder/pairs"
 
-# Runs a command: appends its time in nanoseconds and its most memory in KB to a file of that name.
+# The launcher builds the program where it is stale, which takes time at each call.
+histdesk=${HISTDESK:-$here/../crates/histdesk/out/histdesk}
+if [[ -z ${HISTDESK:-} ]]; then
+    "$here/../tools/build"
+fi
+
+# Runs a command: appends its time in milliseconds and its most memory in KB to a file of that name.
 run() {
-    local name=$1 start took
+    local name=$1 TIMEFORMAT='%3U %3S'
     shift
-    start=$(date +%s%N)
-    /usr/bin/time -f %M -o "$folder/memory" "$@" >"$folder/$name.out"
-    took=$(($(date +%s%N) - start))
-    echo "$took $(tail -n 1 "$folder/memory")" >>"$folder/$name.runs"
+    { time /usr/bin/time -f %M -o "$folder/memory" "$@" >"$folder/$name.out"; } 2>"$folder/took"
+    awk '{ print ($1 + $2) * 1000 }' "$folder/took" | paste -d ' ' - "$folder/memory" >>"$folder/$name.runs"
 }
 
-# Builds the program where it is stale, and warms the file's pages.
-"$histdesk" "$folder/load" "$trace" >"$folder/warm"
+# Warms the file's pages.
+wc -l <"$trace" >"$folder/warm"
 
 for ((i = 0; i < times; i++)); do
+    run wc wc -l "$trace"
     for what in load table pairs; do
         run "plain-$what" "$folder/plain" "$what" "$trace"
         run "desk-$what" "$histdesk" "$folder/$what" "$trace"
@@ -42,13 +49,16 @@ for ((i = 0; i < times; i++)); do
     done
 done
 
+# The least time of a command, and the most memory in that run.
 least() {
     sort -n -- "$folder/$1.runs" | head -n 1
 }
 
-echo "$events events, $(stat -c %s "$trace") bytes, the least of $times runs in turn"
-printf '%-8s %12s %12s %7s %12s %12s %7s\n' work 'plain, ms' 'desk, ms' times 'plain, MB' 'desk, MB' times
+echo "$events events, $(stat -c %s "$trace") bytes, the least of $times runs in turn; wc -l takes $(least wc | cut -d ' ' -f 1) ms"
+printf '%-8s %10s %10s %7s %11s %11s %10s %10s %7s\n' work 'plain, ms' 'desk, ms' times 'plain / wc' 'desk / wc' 'plain, MB' \
+    'desk, MB' times
 for what in load table pairs; do
-    echo "$what $(least "plain-$what") $(least "desk-$what")" | awk '{ printf "%-8s %12.0f %12.0f %7.2f %12.0f %12.0f %7.2f\n",
-        $1, $2 / 1e6, $4 / 1e6, $4 / $2, $3 / 1024, $5 / 1024, $5 / $3 }'
+    echo "$what $(least wc) $(least "plain-$what") $(least "desk-$what")" | awk '{
+        printf "%-8s %10.0f %10.0f %7.2f %11.1f %11.1f %10.0f %10.0f %7.2f\n",
+            $1, $4, $6, $6 / $4, $4 / $2, $6 / $2, $5 / 1024, $7 / 1024, $7 / $5 }'
 done
