@@ -33,7 +33,7 @@ fn append_lane(
     let mut lines = Vec::new(alloc);
     for (line, stored) in lane.lines() {
         let place = end_of(store)?;
-        store.push(&stored.event())?;
+        store.push_from(&stored)?;
         lines.push((line, place))?;
     }
     Ok(lines)
