@@ -15,12 +15,32 @@ use ft_script::next_line;
 use ft_store::Store;
 use std::alloc::Global;
 
+/// So many bytes of a text hold an event, more or less: the kernel's own lines are a little longer.
+const LINE_BYTES: usize = 128;
+
+/// So many bytes the names of an event have, more or less.
+const NAME_BYTES: usize = 22;
+
+/// The most events that a desk holds.
+const EVENT_LIMIT: usize = 1_048_576;
+
+/// No events, with room for those of a text of so many bytes where there is memory for it.
+fn store_for(alloc: Global, bytes: usize) -> Store
+    ensures { result ≡ [] }
+{
+    let events = (bytes / LINE_BYTES).min(EVENT_LIMIT);
+    match Store::with_room(alloc, events, events.saturating_mul(NAME_BYTES)) {
+        Ok(store) => store,
+        Err(_) => Store::new(alloc),
+    }
+}
+
 /// Reads every line of a trace text: its events in file order. Refused at the first line that
 /// cannot be read, or for memory.
 pub(crate) fn events_in(alloc: Global, text: &[u8]) -> Result<Store, Refused>
     ensures { AnswerIs (λ events. events) (events_of text.now) result }
 {
-    let mut events = Store::new(alloc);
+    let mut events = store_for(alloc, text.len());
     // Each line's event is put here, and stored from here alone.
     let mut event = Event::blank();
     let mut rest = text;
