@@ -67,43 +67,43 @@ turn_gives payload turn fair = inl (
 )
 
 -- the events, by what stands behind ` sched_`
-switch_found : (rest text payload : List ℕ) (turn : Turn) → rest ≡ codes " sched_" ++ text → text ≡ codes "switch: prev_comm=" ++ payload
-    → IsFairTurn (codes "prev_comm=" ++ payload) turn → BodyIs rest (Ok (bodies.Switch turn))
+switch_found : (rest text payload : List ℕ) (turn : Turn) → rest ≡ codes " sched_" ++ text → text ≡ codes "switch: " ++ payload
+    → IsFairTurn payload turn → BodyIs rest (Ok (bodies.Switch turn))
 unfolding label_of behind
 switch_found rest text payload turn cut label fair =
-    inl (((the (label_of (codes "sched_switch:")) refl).0, codes "prev_comm=" ++ payload), is_named rest (the (label_of (codes "sched_switch:")) refl).0 (codes "prev_comm=" ++ payload) (cut ∙ ap (λ (x : List ℕ). codes " sched_" ++ x) label) refl fair.last, turn_gives (codes "prev_comm=" ++ payload) turn fair)
+    inl (((the (label_of (codes "sched_switch:")) refl).0, payload), is_named rest (the (label_of (codes "sched_switch:")) refl).0 payload (cut ∙ ap (λ (x : List ℕ). codes " sched_" ++ x) label) fair.first fair.last, turn_gives payload turn fair)
 
-waking_found : (rest text payload : List ℕ) (wake : Wake) → rest ≡ codes " sched_" ++ text → text ≡ codes "waking: comm=" ++ payload
-    → IsFairWake (codes "comm=" ++ payload) wake → BodyIs rest (Ok (bodies.Waking wake))
+waking_found : (rest text payload : List ℕ) (wake : Wake) → rest ≡ codes " sched_" ++ text → text ≡ codes "waking: " ++ payload
+    → IsFairWake payload wake → BodyIs rest (Ok (bodies.Waking wake))
 unfolding label_of behind
 waking_found rest text payload wake cut label fair =
-    inl (((the (label_of (codes "sched_waking:")) refl).0, codes "comm=" ++ payload), is_named rest (the (label_of (codes "sched_waking:")) refl).0 (codes "comm=" ++ payload) (cut ∙ ap (λ (x : List ℕ). codes " sched_" ++ x) label) refl fair.last, wake_gives bodies.Waking (codes "comm=" ++ payload) wake fair)
+    inl (((the (label_of (codes "sched_waking:")) refl).0, payload), is_named rest (the (label_of (codes "sched_waking:")) refl).0 payload (cut ∙ ap (λ (x : List ℕ). codes " sched_" ++ x) label) fair.first fair.last, wake_gives bodies.Waking payload wake fair)
 
-wakeup_found : (rest text payload : List ℕ) (wake : Wake) → rest ≡ codes " sched_" ++ text → text ≡ codes "wakeup: comm=" ++ payload
-    → IsFairWake (codes "comm=" ++ payload) wake → BodyIs rest (Ok (bodies.Wakeup wake))
+wakeup_found : (rest text payload : List ℕ) (wake : Wake) → rest ≡ codes " sched_" ++ text → text ≡ codes "wakeup: " ++ payload
+    → IsFairWake payload wake → BodyIs rest (Ok (bodies.Wakeup wake))
 unfolding label_of behind
 wakeup_found rest text payload wake cut label fair =
-    inl (((the (label_of (codes "sched_wakeup:")) refl).0, codes "comm=" ++ payload), is_named rest (the (label_of (codes "sched_wakeup:")) refl).0 (codes "comm=" ++ payload) (cut ∙ ap (λ (x : List ℕ). codes " sched_" ++ x) label) refl fair.last, wake_gives bodies.Wakeup (codes "comm=" ++ payload) wake fair)
+    inl (((the (label_of (codes "sched_wakeup:")) refl).0, payload), is_named rest (the (label_of (codes "sched_wakeup:")) refl).0 payload (cut ∙ ap (λ (x : List ℕ). codes " sched_" ++ x) label) fair.first fair.last, wake_gives bodies.Wakeup payload wake fair)
 
-wakeup_new_found : (rest text payload : List ℕ) (wake : Wake) → rest ≡ codes " sched_" ++ text → text ≡ codes "wakeup_new: comm=" ++ payload
-    → IsFairWake (codes "comm=" ++ payload) wake → BodyIs rest (Ok (bodies.WakeupNew wake))
+wakeup_new_found : (rest text payload : List ℕ) (wake : Wake) → rest ≡ codes " sched_" ++ text → text ≡ codes "wakeup_new: " ++ payload
+    → IsFairWake payload wake → BodyIs rest (Ok (bodies.WakeupNew wake))
 unfolding label_of behind
 wakeup_new_found rest text payload wake cut label fair =
-    inl (((the (label_of (codes "sched_wakeup_new:")) refl).0, codes "comm=" ++ payload), is_named rest (the (label_of (codes "sched_wakeup_new:")) refl).0 (codes "comm=" ++ payload) (cut ∙ ap (λ (x : List ℕ). codes " sched_" ++ x) label) refl fair.last, wake_gives bodies.WakeupNew (codes "comm=" ++ payload) wake fair)
+    inl (((the (label_of (codes "sched_wakeup_new:")) refl).0, payload), is_named rest (the (label_of (codes "sched_wakeup_new:")) refl).0 payload (cut ∙ ap (λ (x : List ℕ). codes " sched_" ++ x) label) fair.first fair.last, wake_gives bodies.WakeupNew payload wake fair)
 
 -- the events that are put
 pub switch_put : (rest text payload : List ℕ) (front : Front) (event : Traced) → rest ≡ codes " sched_" ++ text
-    → text ≡ codes "switch: prev_comm=" ++ payload → IsPutTurn (codes "prev_comm=" ++ payload) front event → IsPut rest front event
+    → text ≡ codes "switch: " ++ payload → IsPutTurn payload front event → IsPut rest front event
 switch_put rest text payload front event cut label p = record { body = bodies.Switch p.turn; is = switch_found rest text payload p.turn cut label p.fair; put = p.put }
 
 pub waking_put : (rest text payload : List ℕ) (front : Front) (event : Traced) → rest ≡ codes " sched_" ++ text
-    → text ≡ codes "waking: comm=" ++ payload → IsPutWake wakes.Waking (codes "comm=" ++ payload) front event → IsPut rest front event
+    → text ≡ codes "waking: " ++ payload → IsPutWake wakes.Waking payload front event → IsPut rest front event
 waking_put rest text payload front event cut label p = record { body = bodies.Waking p.wake; is = waking_found rest text payload p.wake cut label p.fair; put = p.put }
 
 pub wakeup_put : (rest text payload : List ℕ) (front : Front) (event : Traced) → rest ≡ codes " sched_" ++ text
-    → text ≡ codes "wakeup: comm=" ++ payload → IsPutWake wakes.Wakeup (codes "comm=" ++ payload) front event → IsPut rest front event
+    → text ≡ codes "wakeup: " ++ payload → IsPutWake wakes.Wakeup payload front event → IsPut rest front event
 wakeup_put rest text payload front event cut label p = record { body = bodies.Wakeup p.wake; is = wakeup_found rest text payload p.wake cut label p.fair; put = p.put }
 
 pub wakeup_new_put : (rest text payload : List ℕ) (front : Front) (event : Traced) → rest ≡ codes " sched_" ++ text
-    → text ≡ codes "wakeup_new: comm=" ++ payload → IsPutWake wakes.WakeupNew (codes "comm=" ++ payload) front event → IsPut rest front event
+    → text ≡ codes "wakeup_new: " ++ payload → IsPutWake wakes.WakeupNew payload front event → IsPut rest front event
 wakeup_new_put rest text payload front event cut label p = record { body = bodies.WakeupNew p.wake; is = wakeup_new_found rest text payload p.wake cut label p.fair; put = p.put }

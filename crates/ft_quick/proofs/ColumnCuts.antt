@@ -1,10 +1,9 @@
 -- The columns of a line, found from the left.
-use Rattle.std.proofs.Common.{◌≡◌, ◌<◌, ◌≤◌, ℕ, ◌+◌, ◌-◌, ◌*◌, true, false, inl, inr, List, [], ◌∷◌, ◌++◌, take, drop, length, get_or, refl, sym, ap, ◌∙◌, append_assoc, arith, subst}
-use Rattle.std.proofs.lemmas.Bool.{and_from, and_parts, ne_eqb, eqb-true, cases_lt}
+use Rattle.std.proofs.Common.{◌≡◌, ◌<◌, ◌≤◌, ℕ, ◌+◌, ◌-◌, ◌*◌, true, false, inl, inr, List, [], ◌∷◌, ◌++◌, take, drop, length, get_or, refl, sym, ap, ◌∙◌, append_assoc, arith}
+use Rattle.std.proofs.lemmas.Bool.{and_parts, eqb-true}
 use Rattle.std.proofs.lemmas.List.{take-append-drop, drop_more, length-take, length-append, append-nil}
-use Rattle.std.proofs.lemmas.List.Folds.{list_all_more, list_any_more}
 use Rattle.std.specs.List.{list_all, list_any}
-use Rattle.std.specs.Prelude.{codes, not}
+use Rattle.std.specs.Prelude.{codes}
 use Rattle.ft_event.specs.Bytes.{is_in_word, is_colon}
 use Rattle.ft_event.specs.LineIs.{IsLetters, IsStamped, Stops}
 use Rattle.ft_quick.specs.inner.Columns.{ends_task, IsTask, IsTail, IsLettered}
@@ -24,13 +23,6 @@ task_found text at within here before =
       joined = cut_at text at 45 within (eqb-true _ _ both.0);
       first = λ k below. before k (omega (arith, length-take at text));
     }
-
--- no TASK ends up to here
-pub still_none : (text : List ℕ) (at : ℕ) → ends_task text at ≡ false → ((k : ℕ) → k < at → ends_task text k ≡ false) → (k : ℕ) → k < at + 1 → ends_task text k ≡ false
-still_none text at here before k below = elim (cases_lt k at) [
-  | inl less ↦ before k less
-  | inr same ↦ let e : at ≡ k = omega arith in subst (λ (n : ℕ). ends_task text n ≡ false) e here
-]
 
 -- PID and CPU are found
 pub tail_found : (text from_gap behind_gap from_bracket from_cpu from_close rest : List ℕ) (pid cpu : ℕ) → IsNumbered text pid from_gap
@@ -55,12 +47,6 @@ tail_found text from_gap behind_gap from_bracket from_cpu from_close rest pid cp
 pub record IsBare (word : List ℕ) (at : ℕ) : Type 0 where
   pub in_word : list_all is_in_word (take at word) ≡ true
   pub no_colon : list_any is_colon (take at word) ≡ false
-
-pub next_bare : (word : List ℕ) (at : ℕ) → at < length word → (get_or word at 0 ≡ 32 → ⊥) → (get_or word at 0 ≡ 58 → ⊥) → IsBare word at → IsBare word (at + 1)
-next_bare word at within space colon bare = record {
-  in_word = list_all_more is_in_word word at 0 within ∙ and_from _ _ bare.in_word (ap not (ne_eqb _ _ space));
-  no_colon = list_any_more is_colon word at 0 within ∙ rw (bare.no_colon, ne_eqb _ _ colon) refl;
-}
 
 -- no LETTERS stand before the stamp
 pub no_letters : (text word : List ℕ) → IsSkip text word → IsLettered text word

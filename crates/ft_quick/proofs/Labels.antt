@@ -1,30 +1,22 @@
--- Texts that are the same byte by byte.
-use Rattle.std.proofs.Common.{◌≡◌, ◌<◌, ℕ, true, false, arith, length, List, [], ◌∷◌, ◌++◌, refl, sym, ap, ◌∙◌, eqb, take, drop}
-use Rattle.std.proofs.lemmas.Bool.{and_parts, eqb-true, eqb-false}
-use Rattle.std.proofs.lemmas.List.{take-append-drop}
-use lib.Pointwise.{pointwise}
-
--- texts that are the same byte by byte are one
-pub pointwise_same : (xs ys : List ℕ) → pointwise eqb xs ys ≡ true → xs ≡ ys
-pointwise_same [] [] h = refl
-pointwise_same [] (y ∷ ys) h = absurd cc
-pointwise_same (x ∷ xs) [] h = absurd cc
-pointwise_same (x ∷ xs) (y ∷ ys) h =
-    let both = and_parts (eqb x y) (pointwise eqb xs ys) h in
-    let first : x ≡ y = eqb-true x y both.0 in
-    let rest : xs ≡ ys = pointwise_same xs ys both.1 in
-    ap (λ (z : ℕ). z ∷ xs) first ∙ ap (λ (zs : List ℕ). y ∷ zs) rest
-
--- a text that is cut where its label ends
-pub label_cut : (text label front rest : List ℕ) (n : ℕ) → front ≡ take n text → rest ≡ drop n text → pointwise eqb front label ≡ true → text ≡ label ++ rest
-label_cut text label front rest n f r same =
-    sym (take-append-drop n text) ∙ ap (λ (x : List ℕ). x ++ drop n text) (sym f ∙ pointwise_same front label same) ∙ ap (λ (x : List ℕ). label ++ x) (sym r)
+-- Labels that are found, and texts that are the same.
+use Rattle.std.proofs.Common.{◌≡◌, ◌<◌, ◌≤◌, ℕ, ◌+◌, ◌-◌, false, arith, length, List, ◌++◌, sym, ap, ap₂, ◌∙◌, eqb, take, drop}
+use Rattle.std.proofs.lemmas.Bool.{eqb-false}
+use Rattle.std.proofs.lemmas.List.{take-append-drop, drop-drop}
 
 -- a text that is cut where its last label begins
-pub last_cut : (text label front rest : List ℕ) (n : ℕ) → front ≡ take n text → rest ≡ drop n text → pointwise eqb rest label ≡ true → text ≡ front ++ label
-last_cut text label front rest n f r same =
-    sym (take-append-drop n text) ∙ ap (λ (x : List ℕ). x ++ drop n text) (sym f) ∙ ap (λ (x : List ℕ). front ++ x) (sym r ∙ pointwise_same rest label same)
+pub last_cut : (text label front rest : List ℕ) (n : ℕ) → front ≡ take n text → rest ≡ drop n text → rest ≡ label → text ≡ front ++ label
+last_cut text label front rest n f r same = sym (take-append-drop n text) ∙ ap₂ (λ (x y : List ℕ). x ++ y) (sym f) (sym r ∙ same)
 
 -- a text whose length is not 0
 pub some : (xs : List ℕ) → eqb (length xs) 0 ≡ false → 0 < length xs
 some xs other = let h = eqb-false (length xs) 0 other in omega arith
+
+-- texts of one length with the same beginnings and the same ends, which meet, are one
+pub ends_same : (a b a_first b_first a_last b_last : List ℕ) (n len : ℕ) → length a ≡ len → length b ≡ len → a_first ≡ take n a → b_first ≡ take n b → a_first ≡ b_first
+    → a_last ≡ drop (length a - n) a → b_last ≡ drop (length b - n) b → a_last ≡ b_last → len ≤ n + n → a ≡ b
+ends_same a b a_first b_first a_last b_last n len long_a long_b first_a first_b first last_a last_b last meet =
+    let k : ℕ = len - n in
+    let ends : drop k a ≡ drop k b = ap (λ (m : ℕ). drop (m - n) a) (sym long_a) ∙ sym last_a ∙ last ∙ last_b ∙ ap (λ (m : ℕ). drop (m - n) b) long_b in
+    let place : k + (n - k) ≡ n = omega arith in
+    let rests : drop n a ≡ drop n b = ap (λ (m : ℕ). drop m a) (sym place) ∙ sym (drop-drop (n - k) k a) ∙ ap (drop (n - k)) ends ∙ drop-drop (n - k) k b ∙ ap (λ (m : ℕ). drop m b) place in
+    sym (take-append-drop n a) ∙ ap₂ (λ (x y : List ℕ). x ++ y) (sym first_a ∙ first ∙ first_b) rests ∙ take-append-drop n b

@@ -2,6 +2,7 @@ mod BodyCuts
 mod ColumnCuts
 mod Fronts
 mod Labels
+mod Marked
 mod Others
 mod PayloadCuts
 mod Places

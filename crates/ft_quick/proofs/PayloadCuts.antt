@@ -107,18 +107,19 @@ fair_wake text from_label from_cpu comm pid prio cpu task label cpu_is =
       pid_fits = task.pid_fits;
       prio_fits = task.prio_fits;
       cpu_fits = let small = cpu_is.below in omega (arith, ints);
+      first = refl;
       last = subst (λ (x : List ℕ). Stops is_space (reverse x)) (sym (cut ∙ wake_last comm task.pid_text task.prio_text digits)) (last_digit (codes "comm=" ++ (comm ++ (codes " pid" ++ 61 ∷ (task.pid_text ++ (codes " prio=" ++ (task.prio_text ++ codes " target_cpu=")))))) digits cpu_is.are);
     }
 
 -- the payload of a wake event is found
-pub wake_found : (text from_label from_cpu comm rest : List ℕ) (pid prio : ℤ) (cpu : ℕ) (wake : Wake)
-    → IsTask (codes " pid") (codes " prio=") text comm pid prio from_label → from_label ≡ codes " target_cpu=" ++ from_cpu
-    → IsNumbered from_cpu cpu rest → rest ≡ [] → wake.comm ≡ comm → wake.pid ≡ pid → wake.prio ≡ prio → wake.target_cpu ≡ pos cpu → IsFairWake (codes "comm=" ++ text) wake
-wake_found text from_label from_cpu comm rest pid prio cpu wake task label cpu_is ends a b c d =
+pub wake_found : (payload text from_label from_cpu comm rest : List ℕ) (pid prio : ℤ) (cpu : ℕ) (wake : Wake)
+    → payload ≡ codes "comm=" ++ text → IsTask (codes " pid") (codes " prio=") text comm pid prio from_label → from_label ≡ codes " target_cpu=" ++ from_cpu
+    → IsNumbered from_cpu cpu rest → rest ≡ [] → wake.comm ≡ comm → wake.pid ≡ pid → wake.prio ≡ prio → wake.target_cpu ≡ pos cpu → IsFairWake payload wake
+wake_found payload text from_label from_cpu comm rest pid prio cpu wake begins task label cpu_is ends a b c d =
     let whole : IsNumbered from_cpu cpu [] = subst (IsNumbered from_cpu cpu) ends cpu_is in
     let plain : Wake = record { comm = comm; pid = pid; prio = prio; target_cpu = pos cpu } in
     let same : wake ≡ plain = same_wake wake plain a b c d in
-    subst (IsFairWake (codes "comm=" ++ text)) (sym same) (fair_wake text from_label from_cpu comm pid prio cpu task label whole)
+    subst (λ (x : List ℕ). IsFairWake x wake) (sym begins) (subst (IsFairWake (codes "comm=" ++ text)) (sym same) (fair_wake text from_label from_cpu comm pid prio cpu task label whole))
 
 -- ---- switches
 
@@ -222,15 +223,16 @@ fair_turn text turn cut =
       next_short = n.short;
       next_pid_fits = n.pid_fits;
       next_prio_fits = n.prio_fits;
+      first = refl;
       last = subst (λ (x : List ℕ). Stops is_space (reverse x)) (sym joined) (last_number (before ++ codes " ==> next_comm=" ++ turn.next_comm ++ codes " next_pid=" ++ n.pid_text ++ codes " next_prio=") n.prio_text turn.next_prio n.prio_is);
     }
 
 -- the payload of a switch is found
-pub turn_found : (text from_state_label from_state from_arrow from_next rest : List ℕ) (turn read : Turn)
-    → IsTask (codes " prev_pid") (codes " prev_prio=") text read.prev_comm read.prev_pid read.prev_prio from_state_label
+pub turn_found : (payload text from_state_label from_state from_arrow from_next rest : List ℕ) (turn read : Turn)
+    → payload ≡ codes "prev_comm=" ++ text → IsTask (codes " prev_pid") (codes " prev_prio=") text read.prev_comm read.prev_pid read.prev_prio from_state_label
     → from_state_label ≡ codes " prev_state=" ++ from_state → IsUntil 32 from_state read.prev_state from_arrow → 0 < length read.prev_state → length read.prev_state ≤ 31 → from_arrow ≡ codes "==> next_comm=" ++ from_next
-    → IsTask (codes " next_pid") (codes " next_prio=") from_next read.next_comm read.next_pid read.next_prio rest → rest ≡ [] → turn ≡ read → IsFairTurn (codes "prev_comm=" ++ text) turn
-turn_found text from_state_label from_state from_arrow from_next rest turn read prev label state some short arrow next ends same =
+    → IsTask (codes " next_pid") (codes " next_prio=") from_next read.next_comm read.next_pid read.next_prio rest → rest ≡ [] → turn ≡ read → IsFairTurn payload turn
+turn_found payload text from_state_label from_state from_arrow from_next rest turn read begins prev label state some short arrow next ends same =
     let whole : IsTask (codes " next_pid") (codes " next_prio=") from_next read.next_comm read.next_pid read.next_prio [] = subst (IsTask (codes " next_pid") (codes " next_prio=") from_next read.next_comm read.next_pid read.next_prio) ends next in
     let cut : IsCutTurn text read = record { from_state_label = from_state_label; from_state = from_state; from_arrow = from_arrow; from_next = from_next; prev = prev; state_label = label; state = state; state_some = some; state_short = short; arrow = arrow; next = whole } in
-    subst (IsFairTurn (codes "prev_comm=" ++ text)) (sym same) (fair_turn text read cut)
+    subst (λ (x : List ℕ). IsFairTurn x turn) (sym begins) (subst (IsFairTurn (codes "prev_comm=" ++ text)) (sym same) (fair_turn text read cut))

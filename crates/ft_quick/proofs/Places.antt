@@ -1,16 +1,17 @@
 -- Places in a line, and what stands from there on.
-use Rattle.std.proofs.Common.{◌≡◌, ◌<◌, ◌≤◌, ℕ, ◌+◌, ◌-◌, ◌*◌, inl, inr, true, false, List, [], ◌++◌, take, drop, length, get_or, refl, sym, ap, ◌∙◌, append_assoc, arith, subst, eqb}
-use Rattle.std.proofs.lemmas.Bool.{and_from, cases_lt}
-use Rattle.std.proofs.lemmas.List.{append-nil, drop_all, get_or-drop, drop-drop, length-drop, take-append-drop}
-use Rattle.std.proofs.lemmas.List.Folds.{list_all-append}
-use Rattle.std.specs.List.{list_all}
-use lib.Pointwise.{pointwise}
-use Rattle.ft_event.specs.Bytes.{is_space, is_digit}
+use Rattle.std.proofs.Common.{◌≡◌, ◌<◌, ◌≤◌, ℕ, zero, suc, ◌+◌, ◌-◌, ◌*◌, inl, inr, true, false, Bool, List, ◌∷◌, ◌++◌, take, drop, length, get_or, refl, sym, ap, ap₂, ◌∙◌, arith, subst, eqb}
+use Rattle.std.proofs.lemmas.Bool.{and_from, and_parts, cases_lt, eqb-true}
+use Rattle.std.proofs.lemmas.List.{drop_all, drop_more, get_or-drop, get_or_past, drop-drop, length-drop, take-append-drop}
+use Rattle.std.proofs.lemmas.List.Folds.{list_all_more, list_any_more}
+use Rattle.std.specs.List.{list_all, list_any}
+use Rattle.std.specs.Prelude.{not}
+use Rattle.ft_event.specs.Bytes.{is_space, is_digit, is_in_word, is_colon}
+use Rattle.ft_event.specs.LineIs.{Stops}
 use Rattle.ft_quick.specs.inner.Columns.{ends_task, IsTask, IsLettered}
-use Rattle.ft_quick.specs.inner.Cuts.{IsGap, IsSkip, IsNumbered}
-use Rattle.ft_quick.proofs.ColumnCuts.{IsBare, task_found, still_none, next_bare, letters_passed}
-use Rattle.ft_quick.proofs.Labels.{label_cut}
-use Rattle.ft_quick.proofs.Runs.{IsRead, next_space, skip_found, skip_ends, next_digit, numbered}
+use Rattle.ft_quick.specs.inner.Cuts.{IsSkip, IsNumbered}
+use Rattle.ft_quick.proofs.ColumnCuts.{IsBare, task_found, letters_passed}
+use Rattle.ft_quick.proofs.Marked.{IsFound, IsEnded}
+use Rattle.ft_quick.proofs.Runs.{IsRead, next_digit, numbered}
 
 -- ---- a place, seen from an earlier one
 
@@ -32,44 +33,74 @@ nothing n = omega arith
 -- ---- labels
 
 -- a label that is found here
-pub label_here : (line label front : List ℕ) (at n : ℕ) → at ≤ length line → front ≡ take n (drop at line) → pointwise eqb front label ≡ true
-    → drop at line ≡ label ++ drop (at + n) line
-label_here line label front at n within cut same = label_cut (drop at line) label front (drop (at + n) line) n cut (sym (drop-drop n at line)) same
+pub label_here : (line label front : List ℕ) (at n : ℕ) → front ≡ take n (drop at line) → front ≡ label → drop at line ≡ label ++ drop (at + n) line
+label_here line label front at n cut same = sym (take-append-drop n (drop at line)) ∙ ap₂ (λ (x y : List ℕ). x ++ y) (sym cut ∙ same) (drop-drop n at line)
+
+differ : true ≡ false → ⊥
+differ h = cc
+
+-- ---- runs
+
+-- a run whose bytes all pass
+run_passes : (p : ℕ → Bool) (text : List ℕ) (n : ℕ) → n ≤ length text → ((k : ℕ) → k < n → p (get_or text k 0) ≡ true) → list_all p (take n text) ≡ true
+run_passes p text zero few each = refl
+run_passes p text (suc n) few each =
+    let next : n + 1 ≡ suc n = omega arith in
+    ap (λ (m : ℕ). list_all p (take m text)) (sym next) ∙ list_all_more p text n 0 (omega arith) ∙ and_from _ _ (run_passes p text n (omega arith) (λ k below. each k (omega arith))) (each n (omega arith))
+
+-- a run of which no byte passes
+run_fails : (p : ℕ → Bool) (text : List ℕ) (n : ℕ) → n ≤ length text → ((k : ℕ) → k < n → p (get_or text k 0) ≡ false) → list_any p (take n text) ≡ false
+run_fails p text zero few each = refl
+run_fails p text (suc n) few each =
+    let next : n + 1 ≡ suc n = omega arith in
+    ap (λ (m : ℕ). list_any p (take m text)) (sym next) ∙ list_any_more p text n 0 (omega arith) ∙ rw (run_fails p text n (omega arith) (λ k below. each k (omega arith)), each n (omega arith)) refl
+
+-- the bytes of a run, seen from where it begins
+seen_from : (p : ℕ → Bool) (b : Bool) (line : List ℕ) (from at : ℕ) → ((k : ℕ) → from ≤ k → k < at → p (get_or line k 0) ≡ b)
+    → (k : ℕ) → k < at - from → p (get_or (drop from line) k 0) ≡ b
+seen_from p b line from at each k below = ap p (get_or-drop from line k 0) ∙ each (from + k) (omega arith) (omega arith)
+
+pub run_at : (p : ℕ → Bool) (line : List ℕ) (from at : ℕ) → at ≤ length line → ((k : ℕ) → from ≤ k → k < at → p (get_or line k 0) ≡ true)
+    → list_all p (take (at - from) (drop from line)) ≡ true
+run_at p line from at within each = let len = length-drop from line in run_passes p (drop from line) (at - from) (omega arith) (seen_from p true line from at each)
+
+pub no_run_at : (p : ℕ → Bool) (line : List ℕ) (from at : ℕ) → at ≤ length line → ((k : ℕ) → from ≤ k → k < at → p (get_or line k 0) ≡ false)
+    → list_any p (take (at - from) (drop from line)) ≡ false
+no_run_at p line from at within each = let len = length-drop from line in run_fails p (drop from line) (at - from) (omega arith) (seen_from p false line from at each)
+
+-- a run ends within the line, where a 0, as a read behind the line gives, does not pass
+pub run_within : (p : ℕ → Bool) (line : List ℕ) (from at : ℕ) → p 0 ≡ false → from ≤ length line → ((k : ℕ) → from ≤ k → k < at → p (get_or line k 0) ≡ true) → at ≤ length line
+run_within p line from at none begins each = elim (cases_lt (length line) at) [
+  | inl past ↦ let hit : p 0 ≡ true = ap p (sym (get_or_past line (length line) 0 (omega arith))) ∙ each (length line) begins past in absurd (differ (sym hit ∙ none))
+  | inr within ↦ within
+]
+
+-- what passes, as a 0 does not, stands within the line
+pub stands_within : (p : ℕ → Bool) (line : List ℕ) (at : ℕ) → p 0 ≡ false → p (get_or line at 0) ≡ true → at < length line
+stands_within p line at none here = elim (cases_lt at (length line)) [
+  | inl within ↦ within
+  | inr past ↦ absurd (differ (sym here ∙ ap p (get_or_past line at 0 past) ∙ none))
+]
 
 -- ---- spaces
 
-pub no_space_yet : (text : List ℕ) (from : ℕ) → list_all is_space (take (from - from) text) ≡ true
-no_space_yet text from = subst (λ (n : ℕ). list_all is_space (take n text) ≡ true) (nothing from) refl
+-- what stands here does not pass
+stops_at : (p : ℕ → Bool) (line : List ℕ) (at : ℕ) → p (get_or line at 0) ≡ false → Stops p (drop at line)
+stops_at p line at here = elim (cases_lt at (length line)) [
+  | inl within ↦ let stops : Stops p (get_or line at 0 ∷ drop (at + 1) line) = here in subst (Stops p) (sym (drop_more line at 0 within)) stops
+  | inr past ↦ subst (Stops p) (sym (drop_all at line past)) tt
+]
 
-pub next_space_at : (line : List ℕ) (from at : ℕ) → from ≤ at → at < length line → get_or line at 0 ≡ 32
-    → list_all is_space (take (at - from) (drop from line)) ≡ true → list_all is_space (take (at + 1 - from) (drop from line)) ≡ true
-next_space_at line from at order within here passes =
-    let len = length-drop from line in
-    let more = next_space (drop from line) (at - from) (omega arith) (byte_at line from at order ∙ here) passes in
-    subst (λ (n : ℕ). list_all is_space (take n (drop from line)) ≡ true) (next_is from at order) more
-
-pub skip_found_at : (line : List ℕ) (from at : ℕ) → from ≤ at → at < length line → (get_or line at 0 ≡ 32 → ⊥)
-    → list_all is_space (take (at - from) (drop from line)) ≡ true → IsSkip (drop from line) (drop at line)
-skip_found_at line from at order within other passes =
-    let len = length-drop from line in
-    let found = skip_found (drop from line) (at - from) (omega arith) (λ here. other (sym (byte_at line from at order) ∙ here)) passes in
-    subst (IsSkip (drop from line)) (rest_at line from at order) found
-
-pub skip_ends_at : (line : List ℕ) (from at : ℕ) → from ≤ at → length line ≤ at → list_all is_space (take (at - from) (drop from line)) ≡ true
-    → IsSkip (drop from line) (drop (length line) line)
-skip_ends_at line from at order past passes =
-    let len = length-drop from line in
-    let none : [] ≡ drop (length line) line = sym (drop_all (length line) line (omega arith)) in
-    subst (IsSkip (drop from line)) none (skip_ends (drop from line) (at - from) (omega arith) passes)
-
--- a gap before a gap
-pub margin_found : (line two three rest : List ℕ) → IsGap line two → IsGap two three → IsSkip three rest → IsSkip line rest
-margin_found line two three rest a b c = record {
-  gap = a.gap ++ (b.gap ++ c.gap);
-  joined = a.joined ∙ ap (λ (x : List ℕ). a.gap ++ x) (b.joined ∙ ap (λ (x : List ℕ). b.gap ++ x) c.joined) ∙ sym (simp append_assoc);
-  spaces = list_all-append is_space a.gap (b.gap ++ c.gap) ∙ and_from _ _ a.spaces (list_all-append is_space b.gap c.gap ∙ and_from _ _ b.spaces c.spaces);
-  stops = c.stops;
-}
+-- the rest behind spaces, which begins with none
+pub skip_at : (line : List ℕ) (from at : ℕ) → from ≤ length line → IsEnded (λ k. is_space (get_or line k 0)) from at → IsSkip (drop from line) (drop at line)
+skip_at line from at begins run =
+    let within = run_within is_space line from at refl begins run.before in
+    record {
+      gap = take (at - from) (drop from line);
+      joined = sym (take-append-drop (at - from) (drop from line)) ∙ ap (λ (rest : List ℕ). take (at - from) (drop from line) ++ rest) (rest_at line from at run.low);
+      spaces = run_at is_space line from at within run.before;
+      stops = stops_at is_space line at run.here;
+    }
 
 -- ---- digits
 
@@ -92,62 +123,40 @@ numbered_at line from at n order some few within read =
     let less : from < at = elim (cases_lt from at) [ inl h ↦ h | inr h ↦ absurd (some (omega arith)) ] in
     subst (IsNumbered (drop from line) n) (rest_at line from at order) (numbered (drop from line) (at - from) n (omega arith) (omega arith) (omega arith) read)
 
--- six digits that stand here
-pub six_read : (text : List ℕ) (at n : ℕ) → length text ≡ 6 → length text ≤ at → at ≤ length text → IsRead text at n → IsNumbered text n []
-six_read text at n six past within read =
-    let none : drop at text ≡ [] = drop_all at text past in
-    subst (IsNumbered text n) none (numbered text at n (omega arith) (omega arith) within read)
-
-pub six_here : (line digits : List ℕ) (at n : ℕ) → digits ≡ take 6 (drop at line) → IsNumbered digits n [] → IsNumbered (drop at line) n (drop (at + 6) line)
-six_here line digits at n cut read = record {
-  digits = read.digits;
-  joined = sym (take-append-drop 6 (drop at line)) ∙ ap (λ (x : List ℕ). x ++ drop 6 (drop at line)) (sym cut ∙ read.joined ∙ append-nil read.digits) ∙ ap (λ (x : List ℕ). read.digits ++ x) (drop-drop 6 at line);
-  are = read.are;
-  value = read.value;
-  below = read.below;
-}
-
 -- ---- TASK
 
-pub ends_task_at : (line : List ℕ) (from at : ℕ) → from ≤ at → ends_task (drop from line) (at - from) ≡ ends_task line at
-ends_task_at line from at order =
-    let here = byte_at line from at order in
-    let behind : get_or (drop from line) (at - from + 1) 0 ≡ get_or line (at + 1) 0 = ap (λ (n : ℕ). get_or (drop from line) n 0) (next_is from at order) ∙ byte_at line from (at + 1) (omega arith) in
-    rw (here, behind) refl
+pub task_within : (line : List ℕ) (from at : ℕ) → IsFound (ends_task line) from at → at < length line
+task_within line from at dash = stands_within (λ b. eqb b 45) line at refl (and_parts _ _ dash.here).0
 
-pub no_task_yet : (text : List ℕ) (from : ℕ) → (k : ℕ) → k < from - from → ends_task text k ≡ false
-no_task_yet text from k below = absurd (omega arith)
-
-pub no_task_at : (line : List ℕ) (from at : ℕ) → from ≤ at → ends_task line at ≡ false → ((k : ℕ) → k < at - from → ends_task (drop from line) k ≡ false)
-    → (k : ℕ) → k < at + 1 - from → ends_task (drop from line) k ≡ false
-no_task_at line from at order here before =
-    let more = still_none (drop from line) (at - from) (ends_task_at line from at order ∙ here) before in
-    λ k below. more k (omega arith)
-
-pub task_found_at : (line : List ℕ) (from at : ℕ) → from ≤ at → at < length line → ends_task line at ≡ true → ((k : ℕ) → k < at - from → ends_task (drop from line) k ≡ false)
-    → IsTask (drop from line) (take (at - from) (drop from line)) (drop (at + 1) line)
-task_found_at line from at order within here before =
+-- TASK is found
+pub task_at : (line : List ℕ) (from at : ℕ) → IsFound (ends_task line) from at → IsTask (drop from line) (take (at - from) (drop from line)) (drop (at + 1) line)
+task_at line from at dash =
+    let within = task_within line from at dash in
     let len = length-drop from line in
-    let found = task_found (drop from line) (at - from) (omega arith) (ends_task_at line from at order ∙ here) before in
-    let rest : drop (at - from + 1) (drop from line) ≡ drop (at + 1) line = ap (λ (n : ℕ). drop n (drop from line)) (next_is from at order) ∙ rest_at line from (at + 1) (omega arith) in
+    let order = dash.low in
+    let same : (k : ℕ) → from + k + 1 ≡ from + (k + 1) = λ k. omega arith in
+    let seen : (k : ℕ) → ends_task (drop from line) k ≡ ends_task line (from + k) =
+    λ k. rw (get_or-drop from line k 0, get_or-drop from line (k + 1) 0, same k) refl in
+    let place : from + (at - from) ≡ at = omega arith in
+    let found = task_found (drop from line) (at - from) (omega arith) (seen (at - from) ∙ ap (ends_task line) place ∙ dash.here) (λ k below. seen k ∙ dash.before (from + k) (omega arith) (omega arith)) in
+    let next : at - from + 1 ≡ at + 1 - from = omega arith in
+    let rest : drop (at - from + 1) (drop from line) ≡ drop (at + 1) line = ap (λ (n : ℕ). drop n (drop from line)) next ∙ rest_at line from (at + 1) (omega arith) in
     subst (IsTask (drop from line) (take (at - from) (drop from line))) rest found
 
 -- ---- LETTERS
 
-pub no_letter_yet : (word : List ℕ) (from : ℕ) → IsBare word (from - from)
-no_letter_yet word from = subst (IsBare word) (nothing from) (record { in_word = refl; no_colon = refl })
-
-pub next_letter_at : (line : List ℕ) (from at : ℕ) → from ≤ at → at < length line → (get_or line at 0 ≡ 32 → ⊥) → (get_or line at 0 ≡ 58 → ⊥)
-    → IsBare (drop from line) (at - from) → IsBare (drop from line) (at + 1 - from)
-next_letter_at line from at order within space colon bare =
-    let len = length-drop from line in
-    let here = byte_at line from at order in
-    subst (IsBare (drop from line)) (next_is from at order) (next_bare (drop from line) (at - from) (omega arith) (λ e. space (sym here ∙ e)) (λ e. colon (sym here ∙ e)) bare)
-
-pub letters_passed_at : (line text rest : List ℕ) (from at : ℕ) → from ≤ at → IsSkip text (drop from line) → at < length line → get_or line at 0 ≡ 32
-    → (at ≡ from → ⊥) → at - from ≤ 16 → IsBare (drop from line) (at - from) → IsSkip (drop (at + 1) line) rest → IsLettered text rest
-letters_passed_at line text rest from at order skip within here some short bare behind =
+-- LETTERS are passed
+pub letters_at : (line text rest : List ℕ) (from at colon : ℕ) → IsSkip text (drop from line) → IsFound (λ k. is_space (get_or line k 0)) from at → (at ≡ from → ⊥) → at - from ≤ 16
+    → IsFound (λ k. is_colon (get_or line k 0)) from colon → at ≤ colon → IsSkip (drop (at + 1) line) rest → IsLettered text rest
+letters_at line text rest from at colon skip space some short first late behind =
+    let within = stands_within is_space line at refl space.here in
+    let order = space.low in
     let len = length-drop from line in
     let less : from < at = elim (cases_lt from at) [ inl h ↦ h | inr h ↦ absurd (some (omega arith)) ] in
-    let place : drop (at + 1) line ≡ drop (at - from + 1) (drop from line) = sym (ap (λ (n : ℕ). drop n (drop from line)) (next_is from at order) ∙ rest_at line from (at + 1) (omega arith)) in
-    letters_passed text (drop from line) rest (at - from) skip (omega arith) (byte_at line from at order ∙ here) (omega arith) short bare (subst (λ (x : List ℕ). IsSkip x rest) place behind)
+    let bare : IsBare (drop from line) (at - from) = record {
+      in_word = run_at is_in_word line from at (omega arith) (λ k low below. ap not (space.before k low below));
+      no_colon = no_run_at is_colon line from at (omega arith) (λ k low below. first.before k low (omega arith));
+    } in
+    let next : at - from + 1 ≡ at + 1 - from = omega arith in
+    let place : drop (at + 1) line ≡ drop (at - from + 1) (drop from line) = sym (ap (λ (n : ℕ). drop n (drop from line)) next ∙ rest_at line from (at + 1) (omega arith)) in
+    letters_passed text (drop from line) rest (at - from) skip (omega arith) (byte_at line from at order ∙ eqb-true _ _ space.here) (omega arith) short bare (subst (λ (x : List ℕ). IsSkip x rest) place behind)

@@ -1,44 +1,15 @@
--- Runs of spaces and digits that a text begins with.
-use Rattle.std.proofs.Common.{◌≡◌, ◌<◌, ◌≤◌, ℕ, ◌+◌, ◌-◌, ◌*◌, ◌^◌, suc, true, List, [], ◌∷◌, take, drop, length, get_or, refl, sym, ap, ◌∙◌, arith, subst, leb}
+-- Runs of digits that a text begins with.
+use Rattle.std.proofs.Common.{◌≡◌, ◌<◌, ◌≤◌, ℕ, ◌+◌, ◌-◌, ◌*◌, ◌^◌, suc, true, List, take, drop, length, get_or, refl, sym, ap, ◌∙◌, arith, leb}
 use Rattle.std.proofs.Math.Nat.{pow-le-pow_right, pow-suc}
-use Rattle.std.proofs.lemmas.Bool.{and_from, and_parts, ne_eqb, eq-eqb, leb-true, le-ltb, lt-ltb}
+use Rattle.std.proofs.lemmas.Bool.{and_from, and_parts, leb-true, le-ltb, lt-ltb}
 use Rattle.std.proofs.lemmas.Int.Digits.{digits_value_more}
-use Rattle.std.proofs.lemmas.List.{take-append-drop, take_all, drop_more, length-take, append-nil}
+use Rattle.std.proofs.lemmas.List.{take-append-drop, length-take}
 use Rattle.std.proofs.lemmas.List.Folds.{list_all_more}
 use Rattle.std.specs.Char.{digit_value}
 use Rattle.std.specs.List.{list_all}
 use Rattle.std.specs.Str.Parse.{digits_value}
-use Rattle.ft_event.specs.Bytes.{is_space, is_digit}
-use Rattle.ft_event.specs.LineIs.{Stops}
-use Rattle.ft_quick.specs.inner.Cuts.{IsSkip, IsNumbered}
-
--- ---- spaces
-
--- one more space
-pub next_space : (text : List ℕ) (i : ℕ) → i < length text → get_or text i 0 ≡ 32 → list_all is_space (take i text) ≡ true → list_all is_space (take (i + 1) text) ≡ true
-next_space text i within here passes = list_all_more is_space text i 0 within ∙ and_from _ _ passes (eq-eqb _ _ here)
-
--- the rest behind spaces, which begins with none
-pub skip_found : (text : List ℕ) (i : ℕ) → i < length text → (get_or text i 0 ≡ 32 → ⊥) → list_all is_space (take i text) ≡ true → IsSkip text (drop i text)
-skip_found text i within other passes =
-    let stops : Stops is_space (get_or text i 0 ∷ drop (i + 1) text) = ne_eqb (get_or text i 0) 32 other in
-    record {
-      gap = take i text;
-      joined = sym (take-append-drop i text);
-      spaces = passes;
-      stops = subst (Stops is_space) (sym (drop_more text i 0 within)) stops;
-    }
-
--- spaces alone
-pub skip_ends : (text : List ℕ) (i : ℕ) → length text ≤ i → list_all is_space (take i text) ≡ true → IsSkip text []
-skip_ends text i past passes = record {
-  gap = take i text;
-  joined = sym (append-nil (take i text) ∙ take_all i text past);
-  spaces = passes;
-  stops = tt;
-}
-
--- ---- digits
+use Rattle.ft_event.specs.Bytes.{is_digit}
+use Rattle.ft_quick.specs.inner.Cuts.{IsNumbered}
 
 -- a digit's value
 digit_value_is : (b : ℕ) → is_digit b ≡ true → digit_value b ≡ b - 48

@@ -2,4 +2,5 @@
 pub mod Columns
 pub mod Cuts
 pub mod Lines
+pub mod Marks
 pub mod Payloads

@@ -1,12 +1,14 @@
 //! The columns of a line, before the event's own text.
 
 ghost use Rattle.std.specs.Prelude.{◌≡◌, ◌≤◌, ◌<◌, ◌+◌, ◌-◌, length, take, drop, true, IfSome};
-ghost use Rattle.ft_fields.specs.Traced.{last_stamp};
 ghost use Rattle.ft_event.specs.Bytes.{is_in_word};
 ghost use Rattle.ft_event.specs.LineIs.{IsStamped, Stops};
-ghost use Rattle.ft_quick.specs.inner.Columns.{ends_task, IsPlain, IsTask, IsTail, IsLettered};
+ghost use Rattle.ft_fields.specs.Traced.{last_stamp};
+ghost use Rattle.ft_quick.specs.inner.Columns.{AreMarked, IsPlain, IsTask, IsTail, IsLettered};
+ghost use Rattle.ft_quick.specs.inner.Cuts.{IsSkip, IsNumbered};
 
-use crate::cuts::{behind, behind_spaces, micros, number};
+use crate::cuts::{behind, digits};
+use crate::marks::{digits_of, first_bytes, next, next_other, next_pair, places_of};
 
 /// Whether the line is short enough, and surely neither a comment nor one that says that events were
 /// lost.
@@ -21,80 +23,6 @@ pub(crate) fn is_plain(line: &[u8]) -> bool
     line[0] != b'#' && line[3] != b':'
 }
 
-/// Whether a `-` stands here that a digit follows.
-#[inline(always)]
-fn ends_task(line: &[u8], at: usize) -> bool
-    requires { at < length line.now }
-    ensures { result ≡ ends_task line.now at }
-{
-    if line[at] != b'-' {
-        return false;
-    }
-    match line.get(at + 1) {
-        Some(byte) => byte.is_ascii_digit(),
-        None => false,
-    }
-}
-
-/// The place of the `-` behind TASK: the first that a digit follows.
-#[inline(always)]
-pub(crate) fn task_end(line: &[u8], from: usize) -> Option<usize>
-    requires { from ≤ length line.now }
-    ensures task { IfSome result (λ end.
-        IsTask (drop from line.now) (take (end - from) (drop from line.now)) (drop (end + 1) line.now)) }
-    ensures behind { IfSome result (λ end. from ≤ end) }
-    ensures within { IfSome result (λ end. end < length line.now) }
-{
-    for at in from..line.len() {
-        if ends_task(line, at) {
-            return Some(at);
-        }
-    }
-    None
-}
-
-/// PID, CPU, and the place behind `] `.
-#[inline(always)]
-pub(crate) fn tail_of(line: &[u8], at: usize) -> Option<(u32, u32, usize)>
-    requires { at ≤ length line.now }
-    ensures tail { IfSome result (λ x. IsTail (drop at line.now) x.0 x.1 (drop x.2 line.now)) }
-    ensures within { IfSome result (λ x. x.2 ≤ length line.now) }
-{
-    let (pid, at) = number(line, at)?;
-    let at = behind_spaces(line, behind(b" ", line, at)?);
-    let (cpu, at) = number(line, behind(b"[", line, at)?)?;
-    if cpu > 8191 {
-        return None;
-    }
-    let at = behind(b"] ", line, at)?;
-    Some((pid, cpu, at))
-}
-
-/// The place behind spaces and LETTERS, where these stand here.
-#[inline(always)]
-fn behind_letters(line: &[u8], at: usize) -> Option<usize>
-    requires { at ≤ length line.now }
-    ensures lettered { IfSome result (λ next. IsLettered (drop at line.now) (drop next line.now)) }
-    ensures within { IfSome result (λ next. next ≤ length line.now) }
-{
-    let word = behind_spaces(line, at);
-    for end in word..line.len() {
-        if line[end] == b':' {
-            return Some(word);
-        }
-        if line[end] == b' ' {
-            if end == word {
-                return None;
-            }
-            if end - word > 16 {
-                return None;
-            }
-            return Some(behind_spaces(line, end + 1));
-        }
-    }
-    None
-}
-
 /// Whether nothing or a space stands here.
 #[inline(always)]
 fn ends_word(line: &[u8], at: usize) -> bool
@@ -107,27 +35,142 @@ fn ends_word(line: &[u8], at: usize) -> bool
     }
 }
 
-/// The event's stamp in microseconds, and the place behind STAMP.
-#[inline(always)]
-pub(crate) fn stamp_of(line: &[u8], at: usize) -> Option<(u64, usize)>
-    requires { at ≤ length line.now }
-    ensures stamped { IfSome result (λ x. IsStamped (drop at line.now) x.0 (drop x.1 line.now)) }
-    ensures short { IfSome result (λ x. x.0 ≤ last_stamp) }
-    ensures within { IfSome result (λ x. x.1 ≤ length line.now) }
-{
-    let word = behind_letters(line, at)?;
-    let (seconds, dot) = number(line, word)?;
-    if dot - word > 10 {
-        return None;
+/// A line, and where in its first 64 bytes those stand that tell columns apart.
+#[derive(Clone, Copy)]
+pub(crate) struct Columns<'a> {
+    line: &'a [u8],
+    spaces: u64,
+    digits: u64,
+    dashes: u64,
+    colons: u64,
+}
+
+impl<'a> Columns<'a> {
+    /// The columns of this line, all within its first 64 bytes.
+    #[inline(always)]
+    pub(crate) fn of(line: &'a [u8]) -> Columns<'a>
+        ensures marked { AreMarked result }
+        ensures line { result.line.now ≡ line.now }
+    {
+        let bytes = first_bytes(line);
+        Columns {
+            line,
+            spaces: places_of(b' ', bytes),
+            digits: digits_of(bytes),
+            dashes: places_of(b'-', bytes),
+            colons: places_of(b':', bytes),
+        }
     }
-    let digits = behind(b".", line, dot)?;
-    let part = micros(line, digits)?;
-    if part > 999_999 {
-        return None;
+
+    /// The place behind the spaces that stand here.
+    #[inline(always)]
+    pub(crate) fn behind_spaces(&self, from: usize) -> Option<usize>
+        requires marked { AreMarked self.now }
+        requires within { from ≤ length self.now.line.now }
+        ensures skip { IfSome result (λ at. IsSkip (drop from self.now.line.now) (drop at self.now.line.now)) }
+        ensures behind { IfSome result (λ at. from ≤ at) }
+        ensures within { IfSome result (λ at. at ≤ length self.now.line.now) }
+    {
+        let at = next_other(self.spaces, from)?;
+        Some(at)
     }
-    let rest = behind(b":", line, digits + 6)?;
-    if !ends_word(line, rest) {
-        return None;
+
+    /// The place of the `-` behind TASK: the first that a digit follows.
+    #[inline(always)]
+    pub(crate) fn task_end(&self, from: usize) -> Option<usize>
+        requires marked { AreMarked self.now }
+        requires within { from ≤ length self.now.line.now }
+        ensures task { IfSome result (λ end. IsTask (drop from self.now.line.now)
+            (take (end - from) (drop from self.now.line.now)) (drop (end + 1) self.now.line.now)) }
+        ensures behind { IfSome result (λ end. from ≤ end) }
+        ensures within { IfSome result (λ end. end < length self.now.line.now) }
+    {
+        let end = next_pair(self.dashes, self.digits, from)?;
+        Some(end)
     }
-    Some((u64::from(seconds) * 1_000_000 + u64::from(part), rest))
+
+    /// The number that stands here, of one to nine digits, and the place behind it.
+    #[inline(always)]
+    fn number(&self, from: usize) -> Option<(u32, usize)>
+        requires marked { AreMarked self.now }
+        requires within { from ≤ length self.now.line.now }
+        ensures number { IfSome result (λ x. IsNumbered (drop from self.now.line.now) x.0 (drop x.1 self.now.line.now)) }
+        ensures behind { IfSome result (λ x. from ≤ x.1) }
+        ensures within { IfSome result (λ x. x.1 ≤ length self.now.line.now) }
+    {
+        let end = next_other(self.digits, from)?;
+        let number = digits(self.line, from, end)?;
+        Some((number, end))
+    }
+
+    /// PID, CPU, and the place behind `] `.
+    #[inline(always)]
+    pub(crate) fn tail(&self, at: usize) -> Option<(u32, u32, usize)>
+        requires marked { AreMarked self.now }
+        requires within { at ≤ length self.now.line.now }
+        ensures tail { IfSome result (λ x. IsTail (drop at self.now.line.now) x.0 x.1 (drop x.2 self.now.line.now)) }
+        ensures within { IfSome result (λ x. x.2 ≤ length self.now.line.now) }
+    {
+        let (pid, at) = self.number(at)?;
+        let at = self.behind_spaces(behind(b" ", self.line, at)?)?;
+        let (cpu, at) = self.number(behind(b"[", self.line, at)?)?;
+        if cpu > 8191 {
+            return None;
+        }
+        let at = behind(b"] ", self.line, at)?;
+        Some((pid, cpu, at))
+    }
+
+    /// The place behind spaces and LETTERS, where these stand here.
+    #[inline(always)]
+    fn behind_letters(&self, at: usize) -> Option<usize>
+        requires marked { AreMarked self.now }
+        requires within { at ≤ length self.now.line.now }
+        ensures lettered { IfSome result (λ word. IsLettered (drop at self.now.line.now) (drop word self.now.line.now)) }
+        ensures within { IfSome result (λ word. word ≤ length self.now.line.now) }
+    {
+        let word = self.behind_spaces(at)?;
+        let end = next(self.spaces, word)?;
+        let colon = next(self.colons, word)?;
+        if colon < end {
+            return Some(word);
+        }
+        if end == word {
+            return None;
+        }
+        if end - word > 16 {
+            return None;
+        }
+        let next_word = self.behind_spaces(end + 1)?;
+        Some(next_word)
+    }
+
+    /// The event's stamp in microseconds, and the place behind STAMP.
+    #[inline(always)]
+    pub(crate) fn stamp(&self, at: usize) -> Option<(u64, usize)>
+        requires marked { AreMarked self.now }
+        requires within { at ≤ length self.now.line.now }
+        ensures stamped { IfSome result (λ x. IsStamped (drop at self.now.line.now) x.0 (drop x.1 self.now.line.now)) }
+        ensures short { IfSome result (λ x. x.0 ≤ last_stamp) }
+        ensures within { IfSome result (λ x. x.1 ≤ length self.now.line.now) }
+    {
+        let word = self.behind_letters(at)?;
+        let (seconds, dot) = self.number(word)?;
+        if dot - word > 10 {
+            return None;
+        }
+        let begin = behind(b".", self.line, dot)?;
+        let (part, colon) = self.number(begin)?;
+        if colon - begin != 6 {
+            return None;
+        }
+        if part > 999_999 {
+            return None;
+        }
+        let rest = behind(b":", self.line, colon)?;
+        if !ends_word(self.line, rest) {
+            return None;
+        }
+        Some((u64::from(seconds) * 1_000_000 + u64::from(part), rest))
+    }
 }

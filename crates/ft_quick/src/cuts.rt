@@ -2,9 +2,12 @@
 //!
 //! A line stays one slice and places in it are numbers, so that few registers hold all that a loop needs.
 
-ghost use Rattle.std.specs.Prelude.{◌≡◌, ◌≤◌, ◌<◌, ◌+◌, ◌-◌, ◌++◌, [], length, take, drop, IfSome};
-ghost use Rattle.ft_quick.specs.inner.Cuts.{IsGap, IsSkip, IsNumbered, IsSigned, IsUntil};
+ghost use Rattle.std.specs.Prelude.{◌≡◌, ◌≤◌, ◌<◌, ◌+◌, ◌-◌, ◌++◌, ℕ, true, length, slice_index, take, drop, IfSome};
+ghost use Rattle.ft_event.specs.Bytes.{is_digit};
+ghost use Rattle.ft_quick.specs.inner.Cuts.{IsNumbered, IsSigned, IsUntil};
 
+use crate::marks::near;
+use crate::same::is_same;
 use memchr::memchr;
 
 /// The place behind a label that stands here.
@@ -15,7 +18,11 @@ pub(crate) fn behind<const N: usize>(label: &[u8; N], line: &[u8], at: usize) ->
     ensures within { IfSome result (λ next. next ≤ length line.now) }
 {
     let (front, _) = line[at..].split_first_chunk::<N>()?;
-    if front == label { Some(at + N) } else { None }
+    if is_same(front, label) {
+        Some(at + N)
+    } else {
+        None
+    }
 }
 
 /// What is before a label that the text ends with.
@@ -24,46 +31,32 @@ pub(crate) fn before<'a, const N: usize>(label: &[u8; N], text: &'a [u8]) -> Opt
     ensures { IfSome result (λ front. text.now ≡ front.now ++ label.now) }
 {
     let (front, last) = text.split_last_chunk::<N>()?;
-    if last == label { Some(front) } else { None }
-}
-
-/// The place behind the spaces that stand here.
-#[inline(always)]
-pub(crate) fn behind_spaces(line: &[u8], from: usize) -> usize
-    requires { from ≤ length line.now }
-    ensures skip { IsSkip (drop from line.now) (drop result line.now) }
-    ensures within { result ≤ length line.now }
-{
-    for at in from..line.len() {
-        if line[at] != b' ' {
-            return at;
-        }
-    }
-    line.len()
-}
-
-/// The place behind eight spaces, where these stand here.
-#[inline(always)]
-fn behind_eight(line: &[u8], at: usize) -> usize
-    requires { at ≤ length line.now }
-    ensures gap { IsGap (drop at line.now) (drop result line.now) }
-    ensures within { result ≤ length line.now }
-{
-    match behind(b"        ", line, at) {
-        Some(next) => next,
-        None => at,
+    if is_same(last, label) {
+        Some(front)
+    } else {
+        None
     }
 }
 
-/// The place behind the spaces that the line begins with, which may be many.
+/// The number that the digits from one place to another write, where these are one to nine.
 #[inline(always)]
-pub(crate) fn behind_margin(line: &[u8]) -> usize
-    ensures skip { IsSkip line.now (drop result line.now) }
-    ensures within { result ≤ length line.now }
+pub(crate) fn digits(line: &[u8], from: usize, end: usize) -> Option<u32>
+    requires behind { from ≤ end }
+    requires within { end ≤ length line.now }
+    requires digits { (k : ℕ) → from ≤ k → k < end → is_digit (slice_index line.now k) ≡ true }
+    ensures { IfSome result (λ n. IsNumbered (drop from line.now) n (drop end line.now)) }
 {
-    let at = behind_eight(line, 0);
-    let at = behind_eight(line, at);
-    behind_spaces(line, at)
+    if end == from {
+        return None;
+    }
+    if end - from > 9 {
+        return None;
+    }
+    let mut number: u32 = 0;
+    for at in from..end {
+        number = number * 10 + u32::from(line[at] - b'0');
+    }
+    Some(number)
 }
 
 /// The number that stands here, of one to nine digits, and the place behind it.
@@ -89,33 +82,6 @@ pub(crate) fn number(line: &[u8], from: usize) -> Option<(u32, usize)>
         return None;
     }
     Some((number, stop))
-}
-
-/// The number of six digits that the text is.
-#[inline(always)]
-fn six_digits(text: &[u8; 6]) -> Option<u32>
-    ensures { IfSome result (λ n. IsNumbered text.now n []) }
-{
-    let mut number: u32 = 0;
-    for byte in text {
-        if !byte.is_ascii_digit() {
-            return None;
-        }
-        number = number * 10 + u32::from(*byte - b'0');
-    }
-    Some(number)
-}
-
-/// The number of six digits that stands here.
-#[inline(always)]
-pub(crate) fn micros(line: &[u8], at: usize) -> Option<u32>
-    requires { at ≤ length line.now }
-    ensures number { IfSome result (λ n. IsNumbered (drop at line.now) n (drop (at + 6) line.now)) }
-    ensures within { IfSome result (λ n. at + 6 ≤ length line.now) }
-{
-    let (digits, _) = line[at..].split_first_chunk::<6>()?;
-    let number = six_digits(digits)?;
-    Some(number)
 }
 
 /// The number that stands here, perhaps a `-` and one to nine digits, and the place behind it.
@@ -146,6 +112,11 @@ pub(crate) fn until(byte: u8, line: &[u8], at: usize) -> Option<usize>
     ensures behind { IfSome result (λ end. at ≤ end) }
     ensures within { IfSome result (λ end. end < length line.now) }
 {
-    let len = memchr(byte, &line[at..])?;
-    Some(at + len)
+    match near(byte, line, at) {
+        Some(end) => Some(end),
+        None => {
+            let len = memchr(byte, &line[at..])?;
+            Some(at + len)
+        }
+    }
 }

@@ -1,9 +1,9 @@
 //! Lines of the kernel's `trace` file as events, fast where a line is of the usual form.
 //!
-//! That is the form that the kernel gives the lines of events, with columns of any width and no thread
-//! groups: TASK, PID and CPU, perhaps LETTERS, STAMP, one space, and a named event whose names hold no
-//! `=` or an event without a name. Nothing in it is out of range. Such a line is cut from the left in one
-//! go. Any other line, and so each that has a fault, goes to the reader of `ft_event`, whose contract
+//! That is the form that the kernel gives the lines of events, with columns of any width within the first
+//! 64 bytes and no thread groups: TASK, PID and CPU, perhaps LETTERS, STAMP, one space, and a named event
+//! whose names hold no `=` or an event without a name. Nothing in it is out of range. The bytes that tell
+//! such a line's columns apart are found all at once, and what follows is cut from the left. Any other line, and so each that has a fault, goes to the reader of `ft_event`, whose contract
 //! this one has.
 //!
 //! ```ignore
@@ -19,7 +19,9 @@ mod columns;
 mod cuts;
 mod front;
 mod line;
+mod marks;
 mod payload;
+mod same;
 #[cfg(test)]
 mod tests;
 

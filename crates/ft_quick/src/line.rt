@@ -7,8 +7,7 @@ ghost use Rattle.ft_event.specs.Line.{line_of, line_given};
 ghost use Rattle.ft_event.specs.LineIs.{LineIs};
 ghost use Rattle.ft_quick.specs.inner.Lines.{IsFront};
 
-use crate::columns::{is_plain, stamp_of, tail_of, task_end};
-use crate::cuts::behind_margin;
+use crate::columns::{Columns, is_plain};
 use crate::front::Front;
 use crate::payload::put_body;
 use ft_event::{LineFault, one_answer};
@@ -24,14 +23,15 @@ fn front_of(line: &[u8]) -> Option<Front<'_>>
     if !is_plain(line) {
         return None;
     }
-    let begin = behind_margin(line);
-    let end = task_end(line, begin)?;
+    let columns = Columns::of(line);
+    let begin = columns.behind_spaces(0)?;
+    let end = columns.task_end(begin)?;
     let task = &line[begin..end];
     if task.len() > 31 {
         return None;
     }
-    let (pid, cpu, at) = tail_of(line, end + 1)?;
-    let (stamp, rest) = stamp_of(line, at)?;
+    let (pid, cpu, at) = columns.tail(end + 1)?;
+    let (stamp, rest) = columns.stamp(at)?;
     Some(Front {
         task,
         pid: pid as i32,

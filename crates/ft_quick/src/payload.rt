@@ -1,6 +1,6 @@
 //! The payloads of named events.
 
-ghost use Rattle.std.specs.Prelude.{◌≡◌, ◌≤◌, ◌++◌, true, codes, length, drop, Ok, IfSome};
+ghost use Rattle.std.specs.Prelude.{◌≡◌, ◌≤◌, true, length, drop, Ok, IfSome};
 ghost use Rattle.ft_fields.specs.declared.event.Body.TheVariants as bodies;
 ghost use Rattle.ft_event.specs.LineIs.{BodyIs};
 ghost use Rattle.ft_quick.specs.inner.Payloads.{IsName, IsTask, IsFairWake, IsFairTurn, IsUnlabelled};
@@ -75,13 +75,14 @@ fn task_of<'a, const N: usize, const M: usize>(
     Some((comm, pid, prio, at))
 }
 
-/// What the payload of a wake event says, from what stands behind `comm=`, where it ends the line.
+/// What the payload of a wake event says, where one stands here and ends the line.
 #[inline(always)]
 fn wake_of(line: &[u8], at: usize) -> Option<Wake>
     requires { at ≤ length line.now }
-    ensures { IfSome result (IsFairWake (codes "comm=" ++ drop at line.now)) }
+    ensures { IfSome result (IsFairWake (drop at line.now)) }
 {
-    let (comm, pid, prio, at) = task_of(b" pid", b" prio=", line, at)?;
+    let name = behind(b"comm=", line, at)?;
+    let (comm, pid, prio, at) = task_of(b" pid", b" prio=", line, name)?;
     let (target_cpu, at) = number(line, behind(b" target_cpu=", line, at)?)?;
     if at != line.len() {
         return None;
@@ -94,13 +95,14 @@ fn wake_of(line: &[u8], at: usize) -> Option<Wake>
     })
 }
 
-/// What the payload of a switch says, from what stands behind `prev_comm=`, where it ends the line.
+/// What the payload of a switch says, where one stands here and ends the line.
 #[inline(always)]
 fn turn_of(line: &[u8], at: usize) -> Option<Turn>
     requires { at ≤ length line.now }
-    ensures { IfSome result (IsFairTurn (codes "prev_comm=" ++ drop at line.now)) }
+    ensures { IfSome result (IsFairTurn (drop at line.now)) }
 {
-    let (prev_comm, prev_pid, prev_prio, at) = task_of(b" prev_pid", b" prev_prio=", line, at)?;
+    let name = behind(b"prev_comm=", line, at)?;
+    let (prev_comm, prev_pid, prev_prio, at) = task_of(b" prev_pid", b" prev_prio=", line, name)?;
     let state = behind(b" prev_state=", line, at)?;
     let end = until(b' ', line, state)?;
     let prev_state = &line[state..end];
@@ -132,7 +134,7 @@ fn turn_of(line: &[u8], at: usize) -> Option<Turn>
 fn put_wake(front: &Front<'_>, name: WakeName, line: &[u8], at: usize, event: &mut Event) -> bool
     requires { at ≤ length line.now }
     ensures { result ≡ true
-        → IsPutWake name (codes "comm=" ++ drop at line.now) front.now event.new }
+        → IsPutWake name (drop at line.now) front.now event.new }
 {
     match wake_of(line, at) {
         Some(wake) => {
@@ -148,7 +150,7 @@ fn put_wake(front: &Front<'_>, name: WakeName, line: &[u8], at: usize, event: &m
 fn put_turn(front: &Front<'_>, line: &[u8], at: usize, event: &mut Event) -> bool
     requires { at ≤ length line.now }
     ensures { result ≡ true
-        → IsPutTurn (codes "prev_comm=" ++ drop at line.now) front.now event.new }
+        → IsPutTurn (drop at line.now) front.now event.new }
 {
     match turn_of(line, at) {
         Some(turn) => {
@@ -202,16 +204,16 @@ fn put_named(front: &Front<'_>, line: &[u8], event: &mut Event) -> bool
     let Some(label) = behind(b" sched_", line, front.rest) else {
         return false;
     };
-    if let Some(at) = behind(b"switch: prev_comm=", line, label) {
+    if let Some(at) = behind(b"switch: ", line, label) {
         return put_turn(front, line, at, event);
     }
-    if let Some(at) = behind(b"waking: comm=", line, label) {
+    if let Some(at) = behind(b"waking: ", line, label) {
         return put_wake(front, WakeName::Waking, line, at, event);
     }
-    if let Some(at) = behind(b"wakeup: comm=", line, label) {
+    if let Some(at) = behind(b"wakeup: ", line, label) {
         return put_wake(front, WakeName::Wakeup, line, at, event);
     }
-    if let Some(at) = behind(b"wakeup_new: comm=", line, label) {
+    if let Some(at) = behind(b"wakeup_new: ", line, label) {
         return put_wake(front, WakeName::WakeupNew, line, at, event);
     }
     false

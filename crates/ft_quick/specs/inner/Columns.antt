@@ -1,8 +1,10 @@
 -- The columns of a line, cut from the left (kernel: ftrace.rst, the trace output).
 use Rattle.std.specs.Prelude.{◌≡◌, ◌⊎◌, ◌≤◌, ◌<◌, ℕ, ◌+◌, Bool, false, ◌&&◌, ◌==◌, List, [], ◌∷◌, ◌++◌, length, slice_index, codes}
-use Rattle.ft_event.specs.Bytes.{is_digit}
+use Rattle.ft_event.specs.Bytes.{is_digit, is_space, is_colon}
 use Rattle.ft_event.specs.LineIs.{IsSpaces, IsGap, IsLetters, IsLost}
+use Rattle.ft_quick.specs.declared.columns.Columns.{Columns}
 use Rattle.ft_quick.specs.inner.Cuts.{IsNumbered}
+use Rattle.ft_quick.specs.inner.Marks.{IsMarks}
 
 -- whether a `-` stands here that a digit follows (our own choice: a task's name may hold `-`)
 abbrev pub ends_task : List ℕ → ℕ → Bool
@@ -39,3 +41,10 @@ pub record IsLettered (text rest : List ℕ) : Type 0 where
   pub joined : text ≡ gap ++ column ++ rest
   pub before : IsSpaces gap
   pub letters : (column ≡ []) ⊎ IsLetters column
+
+-- each kind of byte is marked where it stands in the line's first 64 bytes (our own choice)
+pub record AreMarked (columns : Columns) : Type 0 where
+  pub spaces : IsMarks (λ k. is_space (slice_index columns.line.now k)) columns.spaces
+  pub digits : IsMarks (λ k. is_digit (slice_index columns.line.now k)) columns.digits
+  pub dashes : IsMarks (λ k. slice_index columns.line.now k == 45) columns.dashes
+  pub colons : IsMarks (λ k. is_colon (slice_index columns.line.now k)) columns.colons

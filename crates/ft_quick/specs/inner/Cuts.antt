@@ -5,12 +5,6 @@ use Rattle.std.specs.Str.Parse.{digits_value}
 use Rattle.ft_event.specs.Bytes.{is_space}
 use Rattle.ft_event.specs.LineIs.{IsSpaces, IsDigits, NumberIs, Stops}
 
--- the text is spaces, and a rest (our own choice)
-pub record IsGap (text rest : List ℕ) : Type 0 where
-  pub gap : List ℕ
-  pub joined : text ≡ gap ++ rest
-  pub spaces : IsSpaces gap
-
 -- the text is spaces, and a rest that begins with none (our own choice)
 pub record IsSkip (text rest : List ℕ) : Type 0 where
   pub gap : List ℕ

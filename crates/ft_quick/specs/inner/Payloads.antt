@@ -31,6 +31,7 @@ pub record IsFairWake (payload : List ℕ) (wake : Wake) : Type 0 where
   pub pid_fits : FitsSigned w32 wake.pid
   pub prio_fits : FitsSigned w32 wake.prio
   pub cpu_fits : FitsSigned w32 wake.target_cpu
+  pub first : Stops is_space payload
   pub last : Stops is_space (reverse payload)
 
 -- the payload of a switch, of which nothing is too long or out of range (our own choice)
@@ -43,6 +44,7 @@ pub record IsFairTurn (payload : List ℕ) (turn : Turn) : Type 0 where
   pub next_short : length turn.next_comm ≤ 31
   pub next_pid_fits : FitsSigned w32 turn.next_pid
   pub next_prio_fits : FitsSigned w32 turn.next_prio
+  pub first : Stops is_space payload
   pub last : Stops is_space (reverse payload)
 
 -- what tells a text from all labels: its first byte, and its first eight (our own choice)

@@ -18,7 +18,7 @@ returns c =
       next_pid = c.in_ok-next_comm.next_pid;
       next_prio = c.in_ok-next_comm.next_prio;
     } in
-    turn_found (from c.args.at) (from c.in_ok-prev_comm.at) (from c.in_ok-state.state) (from (c.in_ok-end.end + 1)) (from c.in_ok-at.at) (from c.in_ok-next_comm.at) _ read c.in_ok-prev_comm.ensures.task c.in_ok-state.ensures.cut c.in_ok-end.ensures.until
+    turn_found (from c.args.at) (from c.in_ok-name.name) (from c.in_ok-prev_comm.at) (from c.in_ok-state.state) (from (c.in_ok-end.end + 1)) (from c.in_ok-at.at) (from c.in_ok-next_comm.at) _ read c.in_ok-name.ensures.cut c.in_ok-prev_comm.ensures.task c.in_ok-state.ensures.cut c.in_ok-end.ensures.until
     (some state (sym c.is_empty.ensures ∙ c.if-is_empty.false)) c.if-prev_state-gt31.false c.in_ok-at.ensures.cut c.in_ok-next_comm.ensures.task (nothing_left c.args.line.now c.in_ok-next_comm.at c.if-at-line.false)
     (same_turn _ read c.filled.ensures (to_z-of_z w32 _ c.in_ok-prev_comm.ensures.task.pid_fits) (to_z-of_z w32 _ c.in_ok-prev_comm.ensures.task.prio_fits) c.filled-2.ensures c.filled-3.ensures
     (to_z-of_z w32 _ c.in_ok-next_comm.ensures.task.pid_fits) (to_z-of_z w32 _ c.in_ok-next_comm.ensures.task.prio_fits))
