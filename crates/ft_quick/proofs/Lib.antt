@@ -1,5 +1,6 @@
 mod BodyCuts
 mod ColumnCuts
+mod Eight
 mod Fronts
 mod Labels
 mod Marked

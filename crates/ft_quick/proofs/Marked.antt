@@ -4,7 +4,7 @@ use Rattle.std.specs.Int.{bit_at, bit_not, trailing_zeros}
 use Rattle.std.proofs.Math.Nat.{div-le_self}
 use Rattle.std.specs.Simd.Lanes.{zip2, mask_l, top, Each1}
 use Rattle.std.proofs.lemmas.Bool.{and_from, eqb-true, eq-eqb, cases_lt, lt-ltb, le-ltb, le-leb, lt-leb}
-use Rattle.std.proofs.lemmas.List.{get_or-map, get_or_past, get_or_default, get_or-take, drop-drop, length-take, get_or_append_left, get_or-append_right, get_or-replicate, length-map, length-append, length-replicate, length-drop, drop-replicate}
+use Rattle.std.proofs.lemmas.List.{get_or-map, get_or_past, get_or_default, get_or-take, get_or-drop, drop-drop, length-take, get_or_append_left, get_or-append_right, get_or-replicate, length-map, length-append, length-replicate, length-drop, drop-replicate}
 use Rattle.std.proofs.lemmas.Nat.Bits.{bit_at-trailing_zeros, bit_at_above, bit_at_not, bit_at_and, bit_at-lt}
 use Rattle.std.proofs.lemmas.Simd.{bit_mask_l, bitmask_splat, zip2_splat, mask_l-lt, map-map, Each1-get_or, length-chunk, get_or-chunk}
 use Rattle.ft_event.specs.Bytes.{is_digit}
@@ -46,13 +46,13 @@ digit_less x byte = elim (cases_lt x 48) [
 abbrev less : ℕ → ℕ → ℕ
 less a b = (a + (2 ^ 8 - b)) % 2 ^ 8
 
-pub digits_marked : (bytes : List ℕ) (k : ℕ) → length bytes ≡ 64 → Each1 (Fits w8) bytes → k < 64
-    → bit_at (mask_l (map (top 7) (zip2 (λ a b. cond (ltb a b) 255 0) (zip2 (λ a b. (a + (2 ^ 8 - b)) % 2 ^ 8) bytes (replicate 64 48)) (replicate 64 10))) % 2 ^ 64) k ≡ cond (is_digit (get_or bytes k 0)) 1 0
-digits_marked bytes k long fits within =
-    let lessened : zip2 less bytes (replicate 64 48) ≡ map (λ x. less x 48) bytes = zip2_splat less bytes 64 48 long in
+pub digits_marked : (bytes : List ℕ) (n k : ℕ) → length bytes ≡ n → n ≤ 64 → Each1 (Fits w8) bytes → k < n
+    → bit_at (mask_l (map (top 7) (zip2 (λ a b. cond (ltb a b) 255 0) (zip2 (λ a b. (a + (2 ^ 8 - b)) % 2 ^ 8) bytes (replicate n 48)) (replicate n 10))) % 2 ^ 64) k ≡ cond (is_digit (get_or bytes k 0)) 1 0
+digits_marked bytes n k long few fits within =
+    let lessened : zip2 less bytes (replicate n 48) ≡ map (λ x. less x 48) bytes = zip2_splat less bytes n 48 long in
     let byte = (Each1-get_or (Fits w8) bytes k 0 (omega arith) fits).fits in
-    ap (λ (xs : List ℕ). bit_at (mask_l (map (top 7) (zip2 (λ a b. cond (ltb a b) 255 0) xs (replicate 64 10))) % 2 ^ 64) k) lessened
-    ∙ ap (λ (m : ℕ). bit_at m k) (bitmask_splat w8 ltb (map (λ x. less x 48) bytes) 64 10 (length-map bytes (λ x. less x 48) ∙ long) (omega arith) ∙ ap mask_l (map-map (λ x. ltb x 10) (λ x. less x 48) bytes))
+    ap (λ (xs : List ℕ). bit_at (mask_l (map (top 7) (zip2 (λ a b. cond (ltb a b) 255 0) xs (replicate n 10))) % 2 ^ 64) k) lessened
+    ∙ ap (λ (m : ℕ). bit_at m k) (bitmask_splat w8 ltb (map (λ x. less x 48) bytes) n 10 (length-map bytes (λ x. less x 48) ∙ long) few ∙ ap mask_l (map-map (λ x. ltb x 10) (λ x. less x 48) bytes))
     ∙ lane_marked (λ x. ltb (less x 48) 10) bytes k (omega arith)
     ∙ ap (λ (b : Bool). cond b 1 0) (digit_less (get_or bytes k 0) byte)
 
@@ -219,3 +219,12 @@ near_found line byte places at len room are small next =
           differ (sym (eq-eqb _ _ value) ∙ none);
     } in
     (subst (λ (n : ℕ). IsUntil byte text (take n text) (drop (at + len + 1) line)) (sym count) until, omega arith)
+
+-- the digits among the eight bytes that stand at a place
+pub digits_near : (line : List ℕ) (places at len : ℕ) → ((k : ℕ) → k < 8 → bit_at places k ≡ cond (is_digit (get_or (take 8 (drop at line)) k 0)) 1 0) → IsNextOther places 0 len → len ≤ 7
+    → (k : ℕ) → at ≤ k → k < at + len → is_digit (get_or line k 0) ≡ true
+digits_near line places at len are next few k low below =
+    let place : ℕ = k - at in
+    let back : at + place ≡ k = omega arith in
+    let digit = passes (is_digit (get_or (take 8 (drop at line)) place 0)) (bit_at places place) (are place (omega arith)) (next.before place (omega arith) (omega arith)) in
+    ap is_digit (ap (λ (n : ℕ). get_or line n 0) (sym back) ∙ sym (get_or-drop at line place 0) ∙ sym (get_or-take 8 (drop at line) place 0 (omega arith))) ∙ digit

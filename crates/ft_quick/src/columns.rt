@@ -7,8 +7,9 @@ ghost use Rattle.ft_fields.specs.Traced.{last_stamp};
 ghost use Rattle.ft_quick.specs.inner.Columns.{AreMarked, IsPlain, IsTask, IsTail, IsLettered};
 ghost use Rattle.ft_quick.specs.inner.Cuts.{IsSkip, IsNumbered};
 
-use crate::cuts::{behind, digits};
+use crate::cuts::behind;
 use crate::marks::{digits_of, first_bytes, next, next_other, next_pair, places_of};
+use crate::numbers::number_of;
 
 /// Whether the line is short enough, and surely neither a comment nor one that says that events were
 /// lost.
@@ -99,7 +100,7 @@ impl<'a> Columns<'a> {
         ensures within { IfSome result (λ x. x.1 ≤ length self.now.line.now) }
     {
         let end = next_other(self.digits, from)?;
-        let number = digits(self.line, from, end)?;
+        let number = number_of(self.line, from, end)?;
         Some((number, end))
     }
 

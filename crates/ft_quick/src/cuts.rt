@@ -2,11 +2,11 @@
 //!
 //! A line stays one slice and places in it are numbers, so that few registers hold all that a loop needs.
 
-ghost use Rattle.std.specs.Prelude.{◌≡◌, ◌≤◌, ◌<◌, ◌+◌, ◌-◌, ◌++◌, ℕ, true, length, slice_index, take, drop, IfSome};
-ghost use Rattle.ft_event.specs.Bytes.{is_digit};
+ghost use Rattle.std.specs.Prelude.{◌≡◌, ◌≤◌, ◌<◌, ◌+◌, ◌-◌, ◌++◌, length, take, drop, IfSome};
 ghost use Rattle.ft_quick.specs.inner.Cuts.{IsNumbered, IsSigned, IsUntil};
 
-use crate::marks::near;
+use crate::marks::{digits_end, near};
+use crate::numbers::number_of;
 use crate::same::is_same;
 use memchr::memchr;
 
@@ -38,30 +38,9 @@ pub(crate) fn before<'a, const N: usize>(label: &[u8; N], text: &'a [u8]) -> Opt
     }
 }
 
-/// The number that the digits from one place to another write, where these are one to nine.
+/// The number that stands here, of one to nine digits, and the place behind it, byte by byte.
 #[inline(always)]
-pub(crate) fn digits(line: &[u8], from: usize, end: usize) -> Option<u32>
-    requires behind { from ≤ end }
-    requires within { end ≤ length line.now }
-    requires digits { (k : ℕ) → from ≤ k → k < end → is_digit (slice_index line.now k) ≡ true }
-    ensures { IfSome result (λ n. IsNumbered (drop from line.now) n (drop end line.now)) }
-{
-    if end == from {
-        return None;
-    }
-    if end - from > 9 {
-        return None;
-    }
-    let mut number: u32 = 0;
-    for at in from..end {
-        number = number * 10 + u32::from(line[at] - b'0');
-    }
-    Some(number)
-}
-
-/// The number that stands here, of one to nine digits, and the place behind it.
-#[inline(always)]
-pub(crate) fn number(line: &[u8], from: usize) -> Option<(u32, usize)>
+fn number_by_bytes(line: &[u8], from: usize) -> Option<(u32, usize)>
     requires { from ≤ length line.now }
     ensures number { IfSome result (λ x. IsNumbered (drop from line.now) x.0 (drop x.1 line.now)) }
     ensures behind { IfSome result (λ x. from ≤ x.1) }
@@ -82,6 +61,32 @@ pub(crate) fn number(line: &[u8], from: usize) -> Option<(u32, usize)>
         return None;
     }
     Some((number, stop))
+}
+
+/// The number that stands here, of one to seven digits, and the place behind it, where this is not near
+/// the line's end.
+#[inline(always)]
+fn number_at_once(line: &[u8], from: usize) -> Option<(u32, usize)>
+    requires { from ≤ length line.now }
+    ensures number { IfSome result (λ x. IsNumbered (drop from line.now) x.0 (drop x.1 line.now)) }
+    ensures within { IfSome result (λ x. x.1 ≤ length line.now) }
+{
+    let end = digits_end(line, from)?;
+    let number = number_of(line, from, end)?;
+    Some((number, end))
+}
+
+/// The number that stands here, of one to nine digits, and the place behind it.
+#[inline(always)]
+pub(crate) fn number(line: &[u8], from: usize) -> Option<(u32, usize)>
+    requires { from ≤ length line.now }
+    ensures number { IfSome result (λ x. IsNumbered (drop from line.now) x.0 (drop x.1 line.now)) }
+    ensures within { IfSome result (λ x. x.1 ≤ length line.now) }
+{
+    match number_at_once(line, from) {
+        Some(found) => Some(found),
+        None => number_by_bytes(line, from),
+    }
 }
 
 /// The number that stands here, perhaps a `-` and one to nine digits, and the place behind it.

@@ -3,8 +3,8 @@
 //! That is the form that the kernel gives the lines of events, with columns of any width within the first
 //! 64 bytes and no thread groups: TASK, PID and CPU, perhaps LETTERS, STAMP, one space, and a named event
 //! whose names hold no `=` or an event without a name. Nothing in it is out of range. The bytes that tell
-//! such a line's columns apart are found all at once, and what follows is cut from the left. Any other line, and so each that has a fault, goes to the reader of `ft_event`, whose contract
-//! this one has.
+//! such a line's columns apart are found all at once, and what follows is cut from the left. Any other
+//! line, and so each that has a fault, goes to the reader of `ft_event`, whose contract this one has.
 //!
 //! ```ignore
 //! let mut event = Event::blank();
@@ -20,6 +20,7 @@ mod cuts;
 mod front;
 mod line;
 mod marks;
+mod numbers;
 mod payload;
 mod same;
 #[cfg(test)]

@@ -1,6 +1,6 @@
 //! Which of a line's first 64 bytes are of a kind, all told at once: bit k of a number tells of byte k.
 
-ghost use Rattle.std.specs.Prelude.{◌≡◌, ◌==◌, ◌≤◌, ◌<◌, ◌+◌, ◌-◌, ℕ, if◌then◌else◌, length, slice_index, take, drop, IfSome};
+ghost use Rattle.std.specs.Prelude.{◌≡◌, ◌==◌, ◌≤◌, ◌<◌, ◌+◌, ◌-◌, ℕ, if◌then◌else◌, true, length, slice_index, take, drop, IfSome};
 ghost use Rattle.std.specs.Int.{bit_at};
 ghost use Rattle.ft_event.specs.Bytes.{is_digit};
 ghost use Rattle.ft_quick.specs.inner.Cuts.{IsUntil};
@@ -80,6 +80,45 @@ pub(crate) fn near(byte: u8, line: &[u8], at: usize) -> Option<usize>
     }
     let places = near_places(byte, bytes_at(line, at));
     let len = next(places, 0)?;
+    Some(at + len)
+}
+
+/// The eight bytes that stand here.
+#[inline(always)]
+fn eight_at(line: &[u8], at: usize) -> u8x8
+    requires { at + 8 ≤ length line.now }
+    ensures { result ≡ take 8 (drop at line.now) }
+{
+    u8x8::from_slice(&line[at..])
+}
+
+/// The places of digits in eight bytes.
+#[inline(always)]
+fn near_digits(bytes: u8x8) -> u64
+    ensures { (k : ℕ) → k < 8 → bit_at result k ≡ if is_digit (slice_index bytes k) then 1 else 0 }
+{
+    (bytes - u8x8::splat(b'0'))
+        .simd_lt(u8x8::splat(10))
+        .to_bitmask()
+}
+
+/// Where the digits that stand here end, of which there are at most seven.
+#[inline(always)]
+pub(crate) fn digits_end(line: &[u8], at: usize) -> Option<usize>
+    requires { at ≤ length line.now }
+    ensures digits { IfSome result (λ end.
+        (k : ℕ) → at ≤ k → k < end → is_digit (slice_index line.now k) ≡ true) }
+    ensures behind { IfSome result (λ end. at ≤ end) }
+    ensures within { IfSome result (λ end. end ≤ length line.now) }
+{
+    if line.len() - at < 8 {
+        return None;
+    }
+    let places = near_digits(eight_at(line, at));
+    let len = next_other(places, 0)?;
+    if len > 7 {
+        return None;
+    }
     Some(at + len)
 }
 

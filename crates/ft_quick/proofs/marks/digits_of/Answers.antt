@@ -1,5 +1,6 @@
+use Rattle.std.proofs.Common.{arith}
 use Rattle.ft_quick.proofs.Marked.{digits_marked}
 use Rattle.ft_quick.proofs.marks.digits_of.Goals as goal
 
 pub returns : goal.returns
-returns c = λ k within. digits_marked c.args.bytes k c.fits-bytes.0 c.fits-bytes.1 within
+returns c = λ k within. digits_marked c.args.bytes 64 k c.fits-bytes.0 (omega arith) c.fits-bytes.1 within

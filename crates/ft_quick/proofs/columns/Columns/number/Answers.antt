@@ -4,11 +4,11 @@ use Rattle.ft_quick.proofs.Marked.{ended}
 use Rattle.ft_quick.proofs.Places.{run_within}
 use Rattle.ft_quick.proofs.columns.Columns.number.Goals as goal
 
-pub digits-requires-clause-within : goal.digits-requires-clause-within
-digits-requires-clause-within c = run_within is_digit c.args.self.now.line.now c.args.from c.in_ok-end.end refl c.requires.within (ended _ c.args.self.now.digits c.args.from c.in_ok-end.end c.requires.marked.digits c.in_ok-end.ensures).before
+pub number_of-requires-clause-within : goal.number_of-requires-clause-within
+number_of-requires-clause-within c = run_within is_digit c.args.self.now.line.now c.args.from c.in_ok-end.end refl c.requires.within (ended _ c.args.self.now.digits c.args.from c.in_ok-end.end c.requires.marked.digits c.in_ok-end.ensures).before
 
-pub digits-requires-clause-digits : goal.digits-requires-clause-digits
-digits-requires-clause-digits c = (ended _ c.args.self.now.digits c.args.from c.in_ok-end.end c.requires.marked.digits c.in_ok-end.ensures).before
+pub number_of-requires-clause-digits : goal.number_of-requires-clause-digits
+number_of-requires-clause-digits c = (ended _ c.args.self.now.digits c.args.from c.in_ok-end.end c.requires.marked.digits c.in_ok-end.ensures).before
 
 pub returns-clause-within : goal.returns-clause-within
 returns-clause-within c = run_within is_digit c.args.self.now.line.now c.args.from c.in_ok-end.end refl c.requires.within (ended _ c.args.self.now.digits c.args.from c.in_ok-end.end c.requires.marked.digits c.in_ok-end.ensures).before

@@ -2,7 +2,7 @@ use Rattle.std.proofs.Common.{◌≡◌, ◌-◌, ℕ, arith, subst, drop}
 use Rattle.ft_quick.specs.inner.Cuts.{IsNumbered}
 use Rattle.ft_quick.proofs.Runs.{has_room}
 use Rattle.ft_quick.proofs.Places.{no_digit_yet, next_digit_at, numbered_at}
-use Rattle.ft_quick.proofs.cuts.digits.Goals as goal
+use Rattle.ft_quick.proofs.numbers.one_by_one.Goals as goal
 
 pub loop-at-init : goal.loop-at-init
 loop-at-init c = no_digit_yet (drop c.args.from c.args.line.now) c.args.from
@@ -22,5 +22,5 @@ overflow_add-number c =
 pub returns : goal.returns
 returns c =
     let same : c.loop-at.at ≡ c.args.end = omega arith in
-    let whole = numbered_at c.args.line.now c.args.from c.loop-at.at c.loop-at.number c.loop-at.auto.at (λ none. c.if-end-from.false (omega arith)) (omega arith) (omega arith) c.loop-at.invariant in
+    let whole = numbered_at c.args.line.now c.args.from c.loop-at.at c.loop-at.number c.loop-at.auto.at (λ none. omega arith) (omega arith) (omega arith) c.loop-at.invariant in
     subst (λ (k : ℕ). IsNumbered (drop c.args.from c.args.line.now) c.loop-at.number (drop k c.args.line.now)) same whole

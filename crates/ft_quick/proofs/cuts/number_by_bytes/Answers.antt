@@ -2,7 +2,7 @@ use Rattle.std.proofs.Common.{◌≡◌, ◌-◌, ℕ, ◌∙◌, sym, subst, ar
 use Rattle.ft_quick.specs.inner.Cuts.{IsNumbered}
 use Rattle.ft_quick.proofs.Runs.{has_room}
 use Rattle.ft_quick.proofs.Places.{no_digit_yet, next_digit_at, numbered_at}
-use Rattle.ft_quick.proofs.cuts.number.Goals as goal
+use Rattle.ft_quick.proofs.cuts.number_by_bytes.Goals as goal
 
 pub loop-at-init : goal.loop-at-init
 loop-at-init c = no_digit_yet (drop c.args.from c.args.line.now) c.args.from
