@@ -59,7 +59,7 @@ used_programs() {
     prints "$1, bars" 7
     gives "$1, desk" 0 "" "${alone[@]}" histdesk-desk wakeups.trace <wakeups.script
     prints "$1, desk" "$(<"$examples/wakeups.expected")"
-    for tool in waits why diff export desk explain record from-perf from-trace-cmd; do
+    for tool in waits why diff view export desk explain record from-perf from-trace-cmd; do
         gives "$1, $tool --help" 0 "" "${alone[@]}" "histdesk-$tool" --help
         same "$1, $tool --help" "$(grep -o "^usage: [^ ]*" "$folder/out")" "usage: histdesk-$tool"
         same "$1, $tool of the repository" "$(grep -c 'tools/' "$folder/out")" 0
@@ -83,6 +83,9 @@ woken,10,263,26.3,7,12,204,204,6012001581,0,11,kworker/0:2,7105,0"
         "kworker/0:2-7105 (prio 120) waited 204 us for CPU 0, from 6012.001377 to 6012.001581, after it was woken."
     gives "$1, diff" 0 "" "${alone[@]}" histdesk-diff wakeups.trace --without 'sched_waking if pid == 7105'
     same "$1, diff" "$(sed -n 2p "$folder/out")" "without 2 of 11 sched_waking if pid == 7105"
+    gives "$1, view" 0 "" "${alone[@]}" histdesk-view wakeups.trace --save page.html
+    same "$1, view" "$(grep -o '"command":"[^"]*view[^"]*"' page.html | LC_ALL=C sort -u)" '"command":"histdesk view.script wakeups.trace"
+"command":"histdesk-view wakeups.trace"'
     gives "$1, export" 0 "" "${alone[@]}" histdesk-export wakeups.trace rows sched_waking hist:keys=prio
     prints "$1, export" $'prio,hitcount\n19,3\n120,8'
 }

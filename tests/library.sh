@@ -1,8 +1,8 @@
 #!/usr/bin/env bash
 # library.sh LIBRARY HISTDESK HISTWATCH: tests the library, libhistdesk.so.0 with the libhistdesk.a beside it, as its users
 # have it: from C (c_library.sh); from Python with the tools over it, by the python3 on the PATH and by the system's, which may
-# have numpy and pandas; and installed with the programs (install.sh). It prints what went wrong, what was not tried and why,
-# and a last line with the counts.
+# have numpy and pandas; the page of tools/view in a browser (page.py); and installed with the programs (install.sh). It prints
+# what went wrong, what was not tried and why, and a last line with the counts.
 # shellcheck disable=SC2154 # what counts.sh assigns
 set -uo pipefail
 
@@ -56,8 +56,11 @@ for python in "${pythons[@]}"; do
     for one in losses waits why export diff many; do
         part "$one from $python" "$python" "$here/python_$one.py"
     done
+    part "view from $python" "$python" "$here/python_view.py" "$histdesk"
+    part "server from $python" "$python" "$here/python_serve.py"
     part "recipes from $python" "$python" "$here/recipes.py" "$histdesk"
 done
+part "the page" "${pythons[-1]}" "$here/page.py" "$histdesk"
 part recorded "$here/recorded.sh" "$here/../tools"
 part installed "$here/install.sh" "$histdesk" "$histwatch" "$library"
 

@@ -27,5 +27,7 @@ def main():
     for reason, count in sorted(collections.Counter(reason for _, reason in ran.skipped).items()):
         print(f"{count} skipped: {reason}")
     wrong = len(ran.failures) + len(ran.errors)
+    if not ran.good + wrong:
+        print("not tried: all of it was skipped")
     print(f"{ran.good} of {ran.good + wrong} tests hold")
     return 1 if wrong else 0

@@ -94,7 +94,7 @@ def is_here(code):
 
 def lacking(kind, text):
     """What a block needs that isn't here; None where it can be tried."""
-    reports = re.search(r"\btools/(waits|why|diff|export)\b", text)
+    reports = re.search(r"\btools/(waits|why|diff|view|export)\b", text)
     if (reports or kind == "python" or "tools/explain" in text) and not is_here("import histdesk"):
         return "the library"
     return "numpy" if reports and not is_here("import numpy") else None

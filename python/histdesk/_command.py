@@ -116,10 +116,7 @@ def check_kind(found: Recording, path: str) -> None:
 
 def remarks(found: Recording, choice: Choice) -> List[str]:
     """What is to be known before an answer is believed, a line each."""
-    told = [found.warning] if found.warning else []
-    if found.bad_lines:
-        shown = ", ".join(map(str, found.bad_lines[:SHOWN])) + (", .." if len(found.bad_lines) > SHOWN else "")
-        told.append(f"{len(found.bad_lines)} lines can't be read and are left out: {shown}")
+    told = [*([found.warning] if found.warning else []), *bad_lines_told(found)]
     part = found.taken
     if part and part.rest is not None and part.first is not None and part.last is not None:
         length = seconds(part.last - part.first)
@@ -130,6 +127,14 @@ def remarks(found: Recording, choice: Choice) -> List[str]:
     elif part and part.events == 0 and not choice.is_all():
         told.append("no event of it is taken")
     return told
+
+
+def bad_lines_told(found: Recording) -> List[str]:
+    """Which lines were left out that can't be read; nothing where there are none."""
+    if not found.bad_lines:
+        return []
+    shown = ", ".join(map(str, found.bad_lines[:SHOWN])) + (", .." if len(found.bad_lines) > SHOWN else "")
+    return [f"{len(found.bad_lines)} lines can't be read and are left out: {shown}"]
 
 
 def refused(error: Refused) -> str:

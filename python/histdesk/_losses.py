@@ -6,6 +6,8 @@ import mmap
 import re
 from typing import Any, Dict, Iterator, List, NamedTuple, Optional, Tuple, Union
 
+from . import _layout
+
 # What has the searches of `bytes`.
 Text = Union[bytes, bytearray, mmap.mmap]
 
@@ -20,6 +22,9 @@ LOST = re.compile(rb"CPU:([0-9]+) \[LOST (?:([0-9]+) )?EVENTS\]")
 SIGNS = ((b"##### CPU ", b"#"), (b" [LOST ", b"O"))
 # So many bytes around such a line are looked at first.
 ROOM = 4096
+NEWLINE = 10
+# So many bytes the processor's caches hold.
+PIECE = 1 << 18
 # An event's CPU and its stamp. What stands in brackets and has a stamp behind it is the CPU: no name has room for both.
 EVENT = rb"\[0*(%s)\] +(?:[^ :\n]+ +)?([0-9]{1,10})\.([0-9]{6}):"
 
@@ -137,6 +142,10 @@ def lines_with(text: Text, sign: bytes, rare: bytes) -> Iterator[int]:
 
 def newlines(text: Text, start: int, end: int) -> int:
     """How many line breaks are in a part of a text."""
+    numpy = _layout.numpy()
+    if numpy is not None and end > start:
+        found = numpy.frombuffer(text, "u1")[start:end]
+        return sum(int(numpy.count_nonzero(found[at : at + PIECE] == NEWLINE)) for at in range(0, len(found), PIECE))
     if isinstance(text, (bytes, bytearray)):
         return text.count(b"\n", start, end)
     size = 1 << 20

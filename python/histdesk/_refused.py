@@ -116,11 +116,17 @@ def note(refused: Refused, given: Any) -> str:
         return _shown.shown(_layout.decoded(line_of(given, refused.line)))
     if refused.number == BAD_COMMAND:
         return f"triggers are attached to {', '.join(_layout.EVENT_NAMES[:_layout.OTHER])}"
+    place = place_in(refused, given)
+    return "" if place is None else marked(given, place)
+
+
+def place_in(refused: Refused, given: bytes) -> Optional[int]:
+    """The byte at which the text that was handed in is wrong, or None."""
     if refused.place is None:
-        return ""
+        return None
     # A place of a trigger's filter counts from the filter's first byte.
     front = FRONT.match(given) if refused.fault == FILTER_OF_TRIGGER else None
-    return marked(given, refused.place + (front.end() if front else 0))
+    return refused.place + (front.end() if front else 0)
 
 
 def detail(refused: Refused, refusal: _layout.Refusal) -> None:

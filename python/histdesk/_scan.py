@@ -3,7 +3,7 @@
 from __future__ import annotations
 
 import re
-from typing import Any, List, NamedTuple, Tuple
+from typing import Any, Iterator, NamedTuple, Tuple
 
 from . import _layout
 from ._layout import needed
@@ -41,16 +41,19 @@ class Lines(NamedTuple):
 
 def scanned(text: Any) -> Lines:
     """What is known of each line of a text."""
-    numpy = needed()
-    parts: List[Lines] = []
+    numpy, parts = needed(), list(scanned_parts(text))
+    return Lines(*map(numpy.concatenate, zip(*parts))) if parts else Lines(*numpy.zeros((4, 0), "i8"))
+
+
+def scanned_parts(text: Any) -> Iterator[Lines]:
+    """The same, part by part."""
     start = 0
     while start < len(text):
         end = min(start + ROOM, len(text))
         end = text.rfind(b"\n", start, end) + 1 or text.find(b"\n", end) + 1 or len(text)
         part = scanned_part(bytes(text[start:end]))
-        parts.append(part._replace(ends=part.ends + start))
+        yield part._replace(ends=part.ends + start)
         start = end
-    return Lines(*map(numpy.concatenate, zip(*parts))) if parts else Lines(*numpy.zeros((4, 0), "i8"))
 
 
 def scanned_part(text: bytes) -> Lines:

@@ -101,6 +101,7 @@ class Scene:
         self.seen = self.stamp, self.common_pid
         line = self.array["line"].copy()
         self.line = recording.lines(self.cpu, line) if recording else line
+        self._places: Dict[int, Any] = {}
 
     def event(self, at: int) -> Event:
         """An event, with its line in the whole trace."""
@@ -192,18 +193,30 @@ class Scene:
     def stretches(self, cpu: int, wait: Pair) -> Tuple[Stretch, ...]:
         """What ran on a CPU during a wait, in order; together they are as long as the wait."""
         end = len(self.events) - 1 if wait.end is None else wait.end
-        places = numbers(self.cpu == cpu)
-        first, behind = bisect.bisect_right(places, wait.begin), bisect.bisect_right(places, end)
-        walk = Walk(self, cpu, int(self.stamp[wait.begin]), int(self.stamp[end]))
+        found = self.ran(cpu, range(wait.begin + 1, end + 1), int(self.stamp[wait.begin]), int(self.stamp[end]))
+        return self.came_later(found, wait, end)
+
+    def ran(self, cpu: int, events: range, start: int, stop: int) -> List[Stretch]:
+        """What ran on a CPU between two stamps, in order; the events there are these."""
+        places = self.places_of(cpu)
+        first, behind = places.searchsorted([events.start, events.stop]).tolist()
+        walk = Walk(self, cpu, start, stop)
         if first:
-            walk.begin(places[first - 1])
-        for at, stamp, pid in zip(places[first:behind], *(column[places[first:behind]].tolist() for column in self.seen)):
+            walk.begin(int(places[first - 1]))
+        inside = places[first:behind]
+        for at, stamp, pid in zip(inside.tolist(), *(column[inside].tolist() for column in self.seen)):
             walk.see(at, stamp, pid)
             if self.name[at] == SWITCH:
                 walk.switch(at)
-        for at in places[behind : behind + 1]:
+        for at in places[behind : behind + 1].tolist():
             walk.see(at, int(self.stamp[at]), int(self.common_pid[at]))
-        return self.came_later(walk.ended(), wait, end)
+        return walk.ended()
+
+    def places_of(self, cpu: int) -> Any:
+        """The events of a CPU, as an array."""
+        if cpu not in self._places:
+            self._places[cpu] = (self.cpu == cpu).nonzero()[0]
+        return self._places[cpu]
 
     def came_later(self, stretches: List[Stretch], wait: Pair, end: int) -> Tuple[Stretch, ...]:
         """The stretches, each with the stamp at which its task was woken or forked within the wait."""

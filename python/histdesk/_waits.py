@@ -16,6 +16,7 @@ from ._library import library
 from ._losses import Hole, Losses, LossWarning, seconds
 from ._layout import needed
 from ._recording import Recording, read
+from ._session import PLACES
 from ._trigger import Trigger
 from ._values import Totals
 
@@ -91,6 +92,23 @@ class About(NamedTuple):
     begun: Dict[str, Totals]
 
 
+def dropped(about: About) -> int:
+    """How many events that would begin a wait found no room."""
+    return sum(totals.dropped for totals in about.begun.values())
+
+
+def remarks_of(about: About) -> List[str]:
+    """What else is to be known of waits before the numbers are believed, a line each."""
+    told = []
+    if dropped(about):
+        told.append(f"{dropped(about)} waits are missing: of more than {SIZE} tasks, only the first ones are told apart")
+    for kind in (kind for kind in ("woken", "preempted") if about.held.events and not about.begun[kind].hits):
+        told.append(f"there is no {BEGINS[kind][0]} of a task, so nothing is known of {kind} ones")
+    if about.rest is not None:
+        told.append(f"this is a part of the recording; the next one begins at {seconds(about.rest)}")
+    return told
+
+
 class Waits:
     """Waits of tasks for a processor, in the order in which they ended; `waits` makes it.
 
@@ -146,7 +164,7 @@ class Waits:
     def dropped(self) -> int:
         """How many events that would begin a wait found no room, since more than 131,072 tasks are there: these waits are
         missing."""
-        return sum(totals.dropped for totals in self._about.begun.values())
+        return dropped(self._about)
 
     @property
     def doubtful(self) -> int:
@@ -155,14 +173,7 @@ class Waits:
 
     def remarks(self) -> List[str]:
         """What else is to be known before the numbers are believed, a line each."""
-        about, told = self._about, []
-        if self.dropped:
-            told.append(f"{self.dropped} waits are missing: of more than {SIZE} tasks, only the first ones are told apart")
-        for kind in (kind for kind in ("woken", "preempted") if about.held.events and not about.begun[kind].hits):
-            told.append(f"there is no {BEGINS[kind][0]} of a task, so nothing is known of {kind} ones")
-        if about.rest is not None:
-            told.append(f"this is a part of the recording; the next one begins at {seconds(about.rest)}")
-        return told
+        return remarks_of(self._about)
 
     def __len__(self) -> int:
         return len(self.array)
@@ -442,24 +453,36 @@ def about(desk: Desk, recording: Optional[Recording], losses: Losses, begun: Dic
 
 def held_by(desk: Desk) -> Held:
     """What a desk holds."""
-    cpus = desk.cpus()
-    events = sum(cpus.values())
-    _, first, last = desk._session.ends(library.histdesk_events) or (0, None, None)
-    return Held(events, first, last, tuple(cpu for cpu, count in sorted(cpus.items()) if count))
+    lanes = {cpu: places_of(desk, cpu).stamp for cpu, count in sorted(desk.cpus().items()) if count}
+    first = min((int(stamps.min()) for stamps in lanes.values()), default=None)
+    last = max((int(stamps.max()) for stamps in lanes.values()), default=None)
+    return Held(sum(map(len, lanes.values())), first, last, tuple(lanes))
+
+
+def places_of(desk: Desk, cpu: int) -> Any:
+    """Where the events of a CPU stand, by line."""
+    return desk._session.records(library.histdesk_places_copy, PLACES, library.histdesk_lane, cpu, 1)
 
 
 def begins(desk: Desk, kind: str, attach: Callable[[str, str], Trigger]) -> Tuple[Any, Totals]:
     """The latencies from what begins waits of a kind to the switches that end them, by triggers that `attach` attaches; and what
     the saver of their stamps has counted."""
-    event, key, condition = BEGINS[kind]
-    name = free_name(desk)
-    saver = attach(event, f"hist:keys={key}:size={SIZE}:{name}={STAMP} if {condition}")
-    latencies = attach("sched_switch", f"hist:keys=next_pid:waited={STAMP}-${name} if {ENDS}").latencies()
+    saver, reader = triggers_of(desk, kind, attach)
+    latencies = reader.latencies()
     if kind == "preempted":
         begun = desk.matching("sched_switch", f"prev_pid != 0 && ({RUNNABLE})")
         saved = numbered(latencies.saved_cpu, latencies.saved_line)
         latencies = latencies[needed().isin(saved, numbered(begun.cpu, begun.line))]
     return latencies, saver.totals()
+
+
+def triggers_of(desk: Desk, kind: str, attach: Callable[[str, str], Trigger]) -> Tuple[Trigger, Trigger]:
+    """The triggers that measure waits of a kind, as `attach` attaches them: one that saves the stamps of what may begin some,
+    and one that reads them at the switches."""
+    event, key, condition = BEGINS[kind]
+    name = free_name(desk)
+    saver = attach(event, f"hist:keys={key}:size={SIZE}:{name}={STAMP} if {condition}")
+    return saver, attach("sched_switch", f"hist:keys=next_pid:waited={STAMP}-${name} if {ENDS}")
 
 
 def free_name(desk: Desk) -> str:

@@ -1,0 +1,94 @@
+"""The script for the program that gives what a page shows, and the shell's line that runs it."""
+
+from __future__ import annotations
+
+import itertools
+import shlex
+from typing import List, NamedTuple, Optional, Sequence, Tuple
+
+from . import _shown
+from ._recording import Recording
+from ._source import PACKED
+from ._waits import BEGINS, ENDS, RUNNABLE, SIZE, STAMP
+
+NAME = "view.script"
+
+
+class NoScript(LookupError):
+    """There is no script that gives it, and why."""
+
+
+def check(recording: Recording) -> None:
+    """Raises `NoScript` where the program can't load what the desk holds."""
+    if recording.bad_lines:
+        raise NoScript("the program refuses a trace that has lines which can't be read")
+    if recording.taken is not None and recording._lines is not None:
+        raise NoScript("the program loads whole traces, and this is a part of one")
+
+
+class Asked(NamedTuple):
+    """What is asked for: an event, a filter of waits that begin or end with it, and a trigger on it; each may be empty."""
+
+    event: str
+    filter: str
+    trigger: str
+
+
+def script_of(struck: Sequence[Tuple[int, int]], asked: Asked) -> str:
+    """The commands, a line each: events that are struck, by CPU and line, the table of the waits, and that of the trigger."""
+    lines = ["load @1", *(f"strike {cpu}:{line}" for cpu, line in struck)]
+    triggers = waits_of(asked)
+    lines.append(f"# of each task: how many {kind_of(asked)} waits, and how long they are together")
+    lines += [*(f"attach {trigger}" for trigger in triggers), f"hist {len(triggers)}", f"totals {len(triggers)}"]
+    if asked.trigger:
+        number = len(triggers) + 1
+        lines += ["# the trigger", f"attach {asked.event} {trigger_of(asked)}", f"hist {number}", f"totals {number}"]
+    if any("\n" in line for line in lines):
+        raise NoScript("a line of a script holds no line break")
+    return "".join(f"{line}\n" for line in lines)
+
+
+def kind_of(asked: Asked) -> str:
+    """The kind of the waits that a script measures."""
+    return "new" if asked.event == BEGINS["new"][0] else "woken"
+
+
+def waits_of(asked: Asked) -> List[str]:
+    """The triggers that measure waits of a kind, each behind its event; the last one has the table. A stamp of a waking that
+    is no wait's begin, or isn't wanted, is read by another one, so that none reads it later."""
+    begins, key, condition = BEGINS[kind_of(asked)]
+    name = next(name for name in map("begin{}".format, itertools.count()) if name not in asked.trigger)
+    take, at_begin, at_end = f"={STAMP}-${name}", asked.event == begins, asked.event == "sched_switch"
+    wanted = f" && ({asked.filter})" if asked.filter else ""
+    found = [f"{begins} hist:keys={key}:size={SIZE}:{name}={STAMP} if {condition}{wanted if at_begin else ''}"]
+    if wanted and at_begin:
+        found.append(f"{begins} hist:keys={key}:other{take} if {condition} && !({asked.filter})")
+    if begins == "sched_waking":
+        # It still ran, and was preempted later.
+        found.append(f"sched_switch hist:keys=prev_pid:ran{take} if prev_pid != 0 && ({RUNNABLE})")
+    reader = f"sched_switch hist:keys=next_pid:vals=$waited:size={SIZE}:waited{take} if {ENDS}"
+    if wanted and at_end:
+        return [*found, f"sched_switch hist:keys=next_pid:other{take} if {ENDS} && !({asked.filter})", reader]
+    return [*found, reader]
+
+
+def trigger_of(asked: Asked) -> str:
+    """The trigger, with the filter."""
+    return f"{asked.trigger} if {asked.filter}" if asked.filter else asked.trigger
+
+
+def command_of(program: str, path: Optional[str]) -> str:
+    """The shell's line that runs a script which stands in a file of that name."""
+    if path is None or path == "-":
+        return f"{program} {NAME} TRACE"
+    shown = shlex.quote(_shown.shown(path))
+    return f"{program} {NAME} {f'<(zcat {shown})' if is_packed(path) else shown}"
+
+
+def is_packed(path: str) -> bool:
+    """Whether gzip has packed a file."""
+    try:
+        with open(path, "rb") as file:
+            return file.read(len(PACKED)) == PACKED
+    except OSError:
+        return False
