@@ -1,9 +1,11 @@
-# What the benches of one crate share, read by pairs.sh and tables.sh.
+# shellcheck shell=bash disable=SC2154 # what common.sh and the scripts set
+# crates.sh: what the benches of one crate share, pairs.sh and tables.sh, which read it behind common.sh.
 
-# copy_crates FOLDER CRATE..: copies crates and all that they stand on to a repository of their own.
+# copy_crates CRATE..: copies crates and all that they stand on to a repository in FOLDER.
 copy_crates() {
-    local folder=$1 name line
-    for name in "${@:2}"; do
+    local name line
+    mkdir -p -- "$folder/crates"
+    for name in "$@"; do
         # A crate that crates.txt does not list is the kit's.
         if [[ -e $folder/crates/$name ]] || ! line=$(grep "^$name:" "$here/../crates.txt"); then
             continue
@@ -11,6 +13,36 @@ copy_crates() {
         cp -r -- "$here/../crates/$name" "$folder/crates"
         printf '%s\n' "$line" >>"$folder/crates.txt"
         # shellcheck disable=SC2086
-        copy_crates "$folder" ${line#*:}
+        copy_crates ${line#*:}
     done
+}
+
+# add_crate NAME CRATE..: a crate of this folder that stands on those. The gate takes each file that ends in .rt or .antt for
+# one that it has to read, so here they end in .in too.
+add_crate() {
+    local file to
+    while read -r file; do
+        to=$folder/crates/$1/${file%.in}
+        mkdir -p -- "${to%/*}"
+        cp -- "$here/$1/$file" "$to"
+    done < <(cd -- "$here/$1" && find . -name '*.in')
+    printf '%s: %s\n' "$1" "${*:2}" >>"$folder/crates.txt"
+}
+
+# build_crate NAME WORD..: proves and builds it, and runs it once with these words.
+build_crate() {
+    (cd -- "$folder/crates/$1" && rt run -- "${@:2}" >"$folder/log" 2>&1) || {
+        tail -n 40 -- "$folder/log"
+        exit 1
+    }
+}
+
+# least_columns COMMAND..: the least of some runs' numbers, column by column, and behind them the memory of the run in KB.
+least_columns() {
+    local run
+    for ((run = 0; run < times; run++)); do
+        /usr/bin/time -f %M -o "$folder/memory" "$@" >"$folder/out"
+        echo "$(<"$folder/out") $(<"$folder/memory")"
+    done | awk '{ for (i = 1; i <= NF; i++) if (NR == 1 || $i < best[i]) best[i] = $i }
+        END { for (i = 1; i <= NF; i++) printf "%s ", best[i]; print "" }'
 }

@@ -2,20 +2,13 @@
 # filters.sh [EVENTS]: at so many held events (1,000,000), with eight triggers on all four events, a saver and its reader
 # among them, times another filter for a trigger without a variable, for the reader and for the saver, against attaching
 # that trigger alone with that filter (the saver: with its reader), in one run.
+# shellcheck source-path=SCRIPTDIR
 set -euo pipefail
 
 here=$(dirname -- "$(realpath -- "${BASH_SOURCE[0]}")")
-histdesk=${HISTDESK:-$here/../histdesk}
+. "$here/common.sh"
 events=${1:-1000000}
-times=5
 
-folder=$(mktemp -d)
-trap 'rm -rf -- "$folder"' EXIT
-trace=$folder/trace
-python3 "$here/make_trace.py" "$events" >"$trace"
-
-saver='sched_waking hist:keys=pid:ts0=common_timestamp.usecs'
-reader='sched_switch hist:keys=next_pid:vals=$lat:lat=common_timestamp.usecs-$ts0'
 plain='sched_waking hist:keys=pid'
 triggers=(
     "$saver" "$reader" "$plain"
@@ -31,39 +24,10 @@ saver_id=1
 reader_id=2
 plain_id=3
 
-# A script that loads, attaches triggers, and then has these lines.
+# script NAME TRIGGER..: a script that loads and attaches these.
 script() {
-    printf 'load @1\n'
-    cat
-}
-
-attach_all() {
-    printf 'attach %s\n' "${triggers[@]}"
-}
-
-: >"$folder/nothing"
-script </dev/null >"$folder/load"
-printf 'attach %s %s\n' "$plain" "$filter" | script >"$folder/plain"
-printf 'attach %s\n' "$saver" | script >"$folder/saver"
-printf 'attach %s\n' "$saver" "$reader $filter" | script >"$folder/reader"
-printf 'attach %s\n' "$saver $filter" "$reader" | script >"$folder/pair"
-attach_all | script >"$folder/all"
-for id in "$plain_id" "$reader_id" "$saver_id"; do
-    { attach_all && printf 'filter %s %s\n' "$id" "$filter"; } | script >"$folder/filter-$id"
-done
-
-# The least time of some runs of a script, in nanoseconds.
-least() {
-    local best=0 start took
-    for ((i = 0; i < times; i++)); do
-        start=$(date +%s%N)
-        "$histdesk" "$1" "$trace" >"$folder/out"
-        took=$(($(date +%s%N) - start))
-        if ((best == 0 || took < best)); then
-            best=$took
-        fi
-    done
-    echo "$best"
+    printf 'load @1\n' >"$folder/$1"
+    (($# == 1)) || printf 'attach %s\n' "${@:2}" >>"$folder/$1"
 }
 
 row() {
@@ -72,17 +36,26 @@ row() {
     }'
 }
 
-# Builds the program where it is stale, which is not measured, and warms the file's pages.
-"$histdesk" "$folder/nothing" "$trace"
+make_trace "$events" >"$trace"
+script load
+script plain "$plain $filter"
+script saver "$saver"
+script reader "$saver" "$reader $filter"
+script pair "$saver $filter" "$reader"
+script all "${triggers[@]}"
+for id in "$plain_id" "$reader_id" "$saver_id"; do
+    { cat -- "$folder/all" && printf 'filter %s %s\n' "$id" "$filter"; } >"$folder/filter-$id"
+done
+warm
 
-load=$(least "$folder/load")
-one=$(($(least "$folder/plain") - load))
-saves=$(least "$folder/saver")
-read_alone=$(($(least "$folder/reader") - saves))
-pair=$(($(least "$folder/pair") - load))
-all=$(least "$folder/all")
+load=$(least_script load)
+one=$(($(least_script plain) - load))
+saves=$(least_script saver)
+read_alone=$(($(least_script reader) - saves))
+pair=$(($(least_script pair) - load))
+all=$(least_script all)
 echo "$events events, eight triggers, the least of $times runs"
 row "attach one without a variable" "$one" "$one"
-row "its filter" "$(($(least "$folder/filter-$plain_id") - all))" "$one"
-row "the reader's filter" "$(($(least "$folder/filter-$reader_id") - all))" "$read_alone"
-row "the saver's filter, with its reader" "$(($(least "$folder/filter-$saver_id") - all))" "$pair"
+row "its filter" "$(($(least_script "filter-$plain_id") - all))" "$one"
+row "the reader's filter" "$(($(least_script "filter-$reader_id") - all))" "$read_alone"
+row "the saver's filter, with its reader" "$(($(least_script "filter-$saver_id") - all))" "$pair"

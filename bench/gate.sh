@@ -3,11 +3,11 @@
 # prints what it took: for each crate its proof, its tests, the second proof that its edits begin with, and these edits that
 # must fail, in processor minutes, and by the clock in minutes and seconds. What each proof took is written to tools/weights,
 # where the gate passes.
+# shellcheck source-path=SCRIPTDIR
 set -euo pipefail
 
 here=$(dirname -- "$(realpath -- "${BASH_SOURCE[0]}")")
-folder=$(mktemp -d)
-trap 'rm -rf -- "$folder"' EXIT
+. "$here/common.sh"
 git clone -q -- "$here/.." "$folder/clone"
 cd -- "$folder/clone"
 # A kit that keeps what passed has a word against it.

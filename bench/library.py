@@ -131,12 +131,18 @@ def main():
             keep("package rows", in_numbers)
             keep("package text", as_text)
     print(f"the least of {TIMES} runs in turn, ms")
-    print(f"load of {events} events: program {1e3 * least['load']:.0f}, package {1e3 * least['package load']:.0f}, "
-          f"{least['package load'] / least['load']:.2f} times")
-    print(f"{2 * PAIRS} latencies of two readers as arrays: {1e3 * least['package latencies']:.0f}; the program's whole run "
-          f"that lists the {PAIRS} of one: {1e3 * least['listed']:.0f}")
-    print(f"{KEYS} rows: {1e3 * least['package rows']:.0f} in numbers, {1e3 * least['package text']:.0f} as one text; the "
-          f"program's whole run that prints them: {1e3 * least['shown']:.0f}")
+    print(
+        f"load of {events} events: program {1e3 * least['load']:.0f}, package {1e3 * least['package load']:.0f}, "
+        f"{least['package load'] / least['load']:.2f} times"
+    )
+    print(
+        f"{2 * PAIRS} latencies of two readers as arrays: {1e3 * least['package latencies']:.0f}; the program's whole run "
+        f"that lists the {PAIRS} of one: {1e3 * least['listed']:.0f}"
+    )
+    print(
+        f"{KEYS} rows: {1e3 * least['package rows']:.0f} in numbers, {1e3 * least['package text']:.0f} as one text; the "
+        f"program's whole run that prints them: {1e3 * least['shown']:.0f}"
+    )
 
 
 main()

@@ -116,9 +116,7 @@ class Machine:
         task = self.current[cpu]
         comm = "<idle>" if task.pid == 0 else task.comm
         seconds, micros = divmod(self.now, 1_000_000)
-        self.out.append(
-            f"{comm:>16}-{task.pid:<7} [{cpu:03}] {letters} {seconds:5}.{micros:06}: {text}\n"
-        )
+        self.out.append(f"{comm:>16}-{task.pid:<7} [{cpu:03}] {letters} {seconds:5}.{micros:06}: {text}\n")
 
     # ---- what happens
 
@@ -132,8 +130,7 @@ class Machine:
         self.line(
             waker,
             letters,
-            f"sched_waking: comm={task.comm} pid={task.pid} prio={task.prio} "
-            f"target_cpu={task.cpu:03}",
+            f"sched_waking: comm={task.comm} pid={task.pid} prio={task.prio} " f"target_cpu={task.cpu:03}",
         )
         task.state = "waking"
         self.at(rng.randrange(1, 4), self.wakeup, task, letters)
@@ -145,8 +142,7 @@ class Machine:
         self.line(
             waker,
             letters,
-            f"sched_waking: comm={task.comm} pid={task.pid} prio={task.prio} "
-            f"target_cpu={task.cpu:03}",
+            f"sched_waking: comm={task.comm} pid={task.pid} prio={task.prio} " f"target_cpu={task.cpu:03}",
         )
 
     def wakeup(self, task, letters):

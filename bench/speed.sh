@@ -3,31 +3,15 @@
 # once and keeps nothing for edits: a load, a table, the totals of wakeup latencies. Both print the same bytes, which is
 # tested. They and `wc -l` on the trace run in turn, five times each or as often as TIMES says. What counts is the least time
 # of a processor, the program's and the system's for it: each has one thread, and other work beside it says little there.
-# shellcheck disable=SC2016 # for the desk
+# shellcheck source-path=SCRIPTDIR
 set -euo pipefail
 
 here=$(dirname -- "$(realpath -- "${BASH_SOURCE[0]}")")
+. "$here/common.sh"
 events=${1:-1000000}
-times=${TIMES:-5}
 export LC_ALL=C
-export GLIBC_TUNABLES=${GLIBC_TUNABLES:+$GLIBC_TUNABLES:}glibc.malloc.hugetlb=1
-
-folder=$(mktemp -d)
-trap 'rm -rf -- "$folder"' EXIT
-trace=$folder/trace
-python3 "$here/make_trace.py" "$events" >"$trace"
-rustc --edition 2021 -C opt-level=3 -o "$folder/plain" "$here/plain.rs"
-
-printf '%s\n' 'load @1' >"$folder/load"
-printf '%s\n' 'load @1' 'attach sched_waking hist:keys=pid' 'hist 1' >"$folder/table"
-printf '%s\n' 'load @1' 'attach sched_waking hist:keys=pid:ts0=common_timestamp.usecs' \
-    'attach sched_switch hist:keys=next_pid:vals=$lat:lat=common_timestamp.usecs-$ts0' 'totals 2' >"$folder/pairs"
-
-# The launcher builds the program where it is stale, which takes time at each call.
-histdesk=${HISTDESK:-$here/../crates/histdesk/out/histdesk}
-if [[ -z ${HISTDESK:-} ]]; then
-    "$here/../tools/build"
-fi
+take_large_pages
+take_program
 
 # Runs a command: appends its time in milliseconds and its most memory in KB to a file of that name.
 run() {
@@ -37,8 +21,17 @@ run() {
     awk '{ print ($1 + $2) * 1000 }' "$folder/took" | paste -d ' ' - "$folder/memory" >>"$folder/$name.runs"
 }
 
-# Warms the file's pages.
-wc -l <"$trace" >"$folder/warm"
+# The least time of a command, and the most memory in that run.
+least_run() {
+    least_number <"$folder/$1.runs"
+}
+
+make_trace "$events" >"$trace"
+rustc --edition 2021 -C opt-level=3 -o "$folder/plain" "$here/plain.rs"
+printf '%s\n' 'load @1' >"$folder/load"
+printf '%s\n' 'load @1' 'attach sched_waking hist:keys=pid' 'hist 1' >"$folder/table"
+printf '%s\n' 'load @1' "attach $saver" "attach $reader" 'totals 2' >"$folder/pairs"
+warm
 
 for ((i = 0; i < times; i++)); do
     run wc wc -l "$trace"
@@ -49,16 +42,12 @@ for ((i = 0; i < times; i++)); do
     done
 done
 
-# The least time of a command, and the most memory in that run.
-least() {
-    sort -n -- "$folder/$1.runs" | head -n 1
-}
-
-echo "$events events, $(stat -c %s "$trace") bytes, the least of $times runs in turn; wc -l takes $(least wc | cut -d ' ' -f 1) ms"
+wc=$(least_run wc)
+echo "$events events, $(stat -c %s "$trace") bytes, the least of $times runs in turn; wc -l takes ${wc% *} ms"
 printf '%-8s %10s %10s %7s %11s %11s %10s %10s %7s\n' work 'plain, ms' 'desk, ms' times 'plain / wc' 'desk / wc' 'plain, MB' \
     'desk, MB' times
 for what in load table pairs; do
-    echo "$what $(least wc) $(least "plain-$what") $(least "desk-$what")" | awk '{
+    echo "$what $wc $(least_run "plain-$what") $(least_run "desk-$what")" | awk '{
         printf "%-8s %10.0f %10.0f %7.2f %11.1f %11.1f %10.0f %10.0f %7.2f\n",
             $1, $4, $6, $6 / $4, $4 / $2, $6 / $2, $5 / 1024, $7 / 1024, $7 / $5 }'
 done

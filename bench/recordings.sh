@@ -1,0 +1,16 @@
+# shellcheck shell=bash disable=SC2154 # what common.sh sets
+# recordings.sh: what the benches over recordings share, turn.sh and waits.sh, which read it behind common.sh.
+
+# What keeps a machine busy while it is recorded.
+busy='perf bench sched messaging -l 900; perf bench sched pipe -l 60000'
+
+# record_by_perf FILE EVENT..: records these events of the whole machine, as root.
+record_by_perf() {
+    local events=("${@:2}")
+    perf record -q -a -m 16M -o "$1" "${events[@]/#/-esched:}" bash -c "$busy" >"$folder/out"
+}
+
+# Whether a recording is of perf.
+is_by_perf() {
+    [[ $(head -c 8 -- "$1") == PERFILE2 ]]
+}
