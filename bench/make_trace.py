@@ -130,7 +130,7 @@ class Machine:
         self.line(
             waker,
             letters,
-            f"sched_waking: comm={task.comm} pid={task.pid} prio={task.prio} " f"target_cpu={task.cpu:03}",
+            f"sched_waking: comm={task.comm} pid={task.pid} prio={task.prio} target_cpu={task.cpu:03}",
         )
         task.state = "waking"
         self.at(rng.randrange(1, 4), self.wakeup, task, letters)
@@ -142,7 +142,7 @@ class Machine:
         self.line(
             waker,
             letters,
-            f"sched_waking: comm={task.comm} pid={task.pid} prio={task.prio} " f"target_cpu={task.cpu:03}",
+            f"sched_waking: comm={task.comm} pid={task.pid} prio={task.prio} target_cpu={task.cpu:03}",
         )
 
     def wakeup(self, task, letters):

@@ -192,10 +192,14 @@ class Row:
         demand(alone_later + onward_later > 0, "no edit answered Later")
         reported = [command for command in deferred if plain[command].report is not None]
         for command in reported:
-            demand(command in unreported and unreported[command] < deferred[command],
-                   f"{self.commands[command]}: deferred, and no growth before that cost it the report alone")
-        return (f"{alone} growths alone, {alone_later} runs with Later; from each of {onward} on, {onward_later} with Later; "
-                f"{len(reported)} edits whose report went first")
+            demand(
+                command in unreported and unreported[command] < deferred[command],
+                f"{self.commands[command]}: deferred, and no growth before that cost it the report alone",
+            )
+        return (
+            f"{alone} growths alone, {alone_later} runs with Later; from each of {onward} on, {onward_later} with Later; "
+            f"{len(reported)} edits whose report went first"
+        )
 
 
 def check(program, library, path):

@@ -1,3 +1,4 @@
+# shellcheck shell=bash disable=SC2034 # what they read
 # What the tests of the programs count with, read by program.sh and tools.sh.
 
 # A run that takes more seconds is ended, and fails.

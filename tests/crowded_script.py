@@ -137,7 +137,8 @@ def main():
         write(f"{folder}/trace{number}", "\n".join(trace) + "\n")
     write(f"{folder}/expected", "\n".join(script.printed) + "\n")
     write(f"{folder}/status", f"{int(script.refused)}\n")
-    print(f"{script.accepted} of {script.edits} edits accepted, {script.most_keys} keys, {script.switched} switched a saver's key")
+    accepted = f"{script.accepted} of {script.edits} edits accepted"
+    print(f"{accepted}, {script.most_keys} keys, {script.switched} switched a saver's key")
 
 
 main()

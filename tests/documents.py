@@ -118,7 +118,8 @@ def stands_on():
     rows = re.findall(r"^\| `(\w+)` \|[^|]*\|([^|]*)\|[^|]*\|$", text_of("docs/MAP.md"), re.MULTILINE)
     # A cell of names alone; that of the tests says it in words.
     told = {name: set(re.findall(r"\w+", cell)) for name, cell in rows if not re.sub(r"`\w+`|[, ]", "", cell)}
-    wrong = [f"MAP.md: {name} stands on {' '.join(sorted(crates.get(name, [])))}" for name in told if told[name] != crates.get(name)]
+    otherwise = [name for name in told if told[name] != crates.get(name)]
+    wrong = [f"MAP.md: {name} stands on {' '.join(sorted(crates.get(name, [])))}" for name in otherwise]
     missing = [name for name in sorted(crates) if name not in [row for row, _ in rows]]
     return crates, wrong + [f"MAP.md has no row for {name}" for name in missing]
 
@@ -127,7 +128,8 @@ def needed():
     """The line that installs what is needed of Debian, which README has in some lines."""
     ran = subprocess.run([os.path.join(ROOT, "tools", "needs")], stdout=subprocess.PIPE, check=True, universal_newlines=True)
     line, readme = ran.stdout.split(), re.sub(r"\\\n", " ", text_of("README.md"))
-    return {ran.stdout}, [] if line in [text.split()[1:] for text in readme.split("\n")] else ["README.md lacks what tools/needs prints"]
+    there = line in [text.split()[1:] for text in readme.split("\n")]
+    return {ran.stdout}, [] if there else ["README.md lacks what tools/needs prints"]
 
 
 def main():

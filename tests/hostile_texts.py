@@ -167,7 +167,7 @@ def predicate(draw, event):
     gap = draw.choice(["", " ", " ", "\t"])
     operator = draw.choice(["==", "!=", "~", "~"] if is_text else OPERATORS[:-1])
     if is_text:
-        quote = draw.choice("\"\"'")
+        quote = draw.choice(['"', '"', "'"])
         text = draw.choice(PATTERNS if operator == "~" else EDGES["text"])
         value = quote + text.replace(quote, "") + quote
     else:

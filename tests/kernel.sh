@@ -6,6 +6,7 @@
 # not run.
 set -euo pipefail
 
+# shellcheck disable=SC2016 # what stands in backquotes is the text's
 usage='usage: tests/kernel.sh [OPTION].. PROGRAM
 
 Boots a kernel in qemu, attaches hist triggers to the four events of the scheduler, runs a workload, and compares the

@@ -356,7 +356,8 @@ class Tools(unittest.TestCase):
 
     def test_losses_are_told_once(self):
         path = self.file("my.trace", MIDDLE.encode())
-        told = f"tool: {path}: events were lost: CPU 3 lost 5948 between 1.000000 and 1.500000; a wait across such a time may be false\n"
+        lost = "CPU 3 lost 5948 between 1.000000 and 1.500000"
+        told = f"tool: {path}: events were lost: {lost}; a wait across such a time may be false\n"
         self.assertEqual(self.run_tool(path), (0, "0\n", told))
         self.assertEqual(self.run_tool("-", input=MIDDLE.encode()), (0, "0\n", told.replace(path, "-")))
 

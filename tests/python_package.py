@@ -31,8 +31,8 @@ PYTHON = os.path.realpath(os.path.join(HERE, "..", "python"))
 sys.path.insert(0, PYTHON)
 
 import histdesk
+import python_answers
 from histdesk import _layout, _library
-from python_answers import *
 from python_answers import LINE, MAKER, MERGED, TRACE, WAITS, desk_of, with_numpy, with_pandas, with_waits
 from python_runner import main
 
@@ -114,7 +114,8 @@ class Life(unittest.TestCase):
 
     def test_other_threads(self):
         desk, _, reader = with_waits()
-        calls = [desk.events, lambda: desk.load(TRACE), lambda: desk.insert(LINE), desk.close, desk.cpus, reader.rows, reader.remove]
+        calls = [desk.events, desk.close, desk.cpus, reader.rows, reader.remove]
+        calls += [lambda: desk.load(TRACE), lambda: desk.insert(LINE)]
         for call in calls:
             self.assertIn("thread", str(elsewhere(call)))
             self.assertIsInstance(elsewhere(call), RuntimeError)
@@ -158,7 +159,8 @@ class Life(unittest.TestCase):
                 self.assertEqual((again, type(again), str(again)), (value, type(value), str(value)))
 
     def test_end_of_the_program(self):
-        told = python("import histdesk; desk = histdesk.Desk(); desk.load(b'a-1 [000] 1.000000:'); cycle = [desk]; cycle.append(cycle)")
+        cycle = "cycle = [desk]; cycle.append(cycle)"
+        told = python(f"import histdesk; desk = histdesk.Desk(); desk.load(b'a-1 [000] 1.000000:'); {cycle}")
         self.assertEqual(told, "")
 
 
@@ -236,7 +238,8 @@ hits 2, entries 2, dropped 0""",
     def test_texts_and_buckets(self):
         desk = desk_of()
         trigger = desk.attach("sched_waking", "hist:keys=comm,pid.buckets=16,prio.log2 if comm != '<b>'")
-        self.assertEqual(repr(trigger).split("\n")[1:4], ["comm    pid  prio  hitcount", "w     32-47   2^7         1", "x      0-15  2^64         1"])
+        told = ["comm    pid  prio  hitcount", "w     32-47   2^7         1", "x      0-15  2^64         1"]
+        self.assertEqual(repr(trigger).split("\n")[1:4], told)
         self.assertIn("&lt;b&gt;", trigger._repr_html_())
         self.assertIn("<td>32-47</td><td>2^7</td>", trigger._repr_html_())
 
@@ -246,7 +249,8 @@ hits 2, entries 2, dropped 0""",
             desk.insert(f"a-1 [000] 1.{pid:06}: sched_waking: comm=w pid={pid} prio=1 target_cpu=000")
         lines = repr(desk.attach("sched_waking", "hist:keys=pid")).split("\n")
         self.assertEqual(len(lines), 1 + 1 + 21 + 1)
-        self.assertEqual([lines[at] for at in (1, 2, 11, 12, 13, 22)], ["pid  hitcount", "  0         1", "  9         1", " ..        ..", " 20         1", " 29         1"])
+        told = ["pid  hitcount", "  0         1", "  9         1", " ..        ..", " 20         1", " 29         1"]
+        self.assertEqual([lines[at] for at in (1, 2, 11, 12, 13, 22)], told)
         self.assertEqual(len(repr(desk.events()).split("\n")), 1 + 1 + 21)
         self.assertIn("30 events", desk.events()._repr_html_())
 
@@ -309,17 +313,18 @@ class Memory(unittest.TestCase):
         return python(LIMITED + program, MALLOC_MMAP_THRESHOLD_="65536", MALLOC_TRIM_THRESHOLD_="65536")
 
     def test_load(self):
-        told = self.told("""
+        program = """
 trace = "".join(waits(200000)).replace("[000]", "[002]").encode()
 desk, saver, reader = with_waits()
 limited(1 << 20, lambda: desk.load(trace))
 print(desk.cpus(), reader.totals(), desk.is_deferred)
 print(desk.load(trace), reader.totals().hits)
-""")
+"""
+        told = self.told(program)
         self.assertEqual(told, "MemoryError\n{0: 3, 1: 2} Totals(hits=2, entries=2, dropped=0) False\n400000 200002\n")
 
     def test_answers(self):
-        told = self.told("""
+        program = """
 desk = desk_of("".join(waits(200000)).encode())
 saver, reader = desk.attach("sched_waking", SAVER), desk.attach("sched_switch", READER)
 print(reader.totals().hits)
@@ -327,11 +332,12 @@ limited(1 << 20, lambda: reader.latencies())
 limited(1 << 20, lambda: desk.events())
 limited(1 << 20, lambda: desk.list(0))
 print(len(reader.latencies()), len(desk.events()), reader.totals())
-""")
+"""
+        told = self.told(program)
         self.assertEqual(told, "200000\n" + "MemoryError\n" * 3 + "200000 400000 Totals(hits=200000, entries=1, dropped=0)\n")
 
     def test_deferred(self):
-        told = self.told("""
+        program = """
 desk = desk_of("".join(waits(40000)).encode())
 saver = desk.attach("sched_waking", SAVER)
 reader = limited(1 << 20, lambda: desk.attach("sched_switch", READER).id)
@@ -340,7 +346,8 @@ limited(1 << 20, lambda: desk.trigger(2).totals())
 limited(1 << 20, lambda: desk.strike(0, 1))
 print(desk.is_deferred, desk.trigger(2).totals().hits, desk.is_deferred)
 print(desk.strike(0, 3))
-""")
+"""
+        told = self.told(program)
         edit = "Edit(cpu=0, line={}, changed={}, deferred={})\n"
         changed = "[Changed(trigger=1, key=(42,)), Changed(trigger=2, key=(42,))]"
         self.assertEqual(
@@ -367,7 +374,8 @@ class Library(unittest.TestCase):
         return place
 
     def test_installed(self):
-        for package, library in [("a/lib/python3/dist-packages", "a/lib"), ("b/python", "b/lib"), ("c", "c/histdesk"), ("d/python", "d/crates/ft_c/out")]:
+        places = [("a/lib/python3/dist-packages", "a/lib"), ("b/python", "b/lib"), ("c", "c/histdesk")]
+        for package, library in [*places, ("d/python", "d/crates/ft_c/out")]:
             place = self.put(package, library)
             told = python(self.PROGRAM, PYTHONPATH=os.path.join(self.folder, package), HISTDESK_LIBRARY="")
             self.assertEqual(told, place + "\n")
@@ -467,4 +475,4 @@ class Documents(unittest.TestCase):
 
 
 if __name__ == "__main__":
-    sys.exit(main())
+    sys.exit(main(python_answers))

@@ -74,8 +74,9 @@ class Script:
             edit = self.edit(lambda: self.desk.insert(line[7:]))
             return b"inserted %d:%d" % (edit.cpu, edit.line)
         word, rest = split(line.strip(b" "))
-        commands = {b"load": self.load, b"attach": self.attach, b"unload": self.unload, b"strike": self.strike, b"list": self.list}
-        commands.update({b"filter": self.filter, b"remove": self.remove, b"hist": self.hist, b"totals": self.totals, b"lat": self.lat})
+        commands = {b"load": self.load, b"unload": self.unload, b"strike": self.strike, b"list": self.list}
+        commands.update({b"attach": self.attach, b"filter": self.filter, b"remove": self.remove})
+        commands.update({b"hist": self.hist, b"totals": self.totals, b"lat": self.lat})
         if word not in commands:
             raise ScriptRefused(16)
         return commands[word](rest)
@@ -151,7 +152,8 @@ class Script:
         same("totals", list(totals), [int(number) for number in re.findall(r"[0-9]+", told)])
         same("counted hits", (sum(row.hitcount for row in rows), len(rows)), totals[:2])
         same("the trigger's text", f"# trigger info: {trigger.canonical} [active]", head.split("\n")[2])
-        same("the trigger by id", [(one.id, one.event) for one in self.desk.triggers() if one == trigger], [(number, trigger.event)])
+        by_id = [(one.id, one.event) for one in self.desk.triggers() if one == trigger]
+        same("the trigger by id", by_id, [(number, trigger.event)])
         if pandas:
             same("a table in pandas", trigger.to_pandas("rows").shape, (len(rows), len(trigger.names)))
         return encoded(text)
@@ -224,7 +226,8 @@ def row_text(names, modes, row):
     parts = [f"{name}: {part_text(mode, value)}" for name, mode, value in zip(names, modes, row)]
     titles = [name[: -len("_sum")] if name.endswith("_sum") and name[: -len("_sum")] in names else name for name in names]
     sums = zip(titles[len(modes) + 1 :], row[len(modes) + 1 :])
-    return "{ " + ", ".join(parts) + f" }} hitcount: {row.hitcount:10}" + "".join(f"  {name}: {value:10}" for name, value in sums)
+    counted = f"hitcount: {row.hitcount:10}" + "".join(f"  {name}: {value:10}" for name, value in sums)
+    return "{ " + ", ".join(parts) + " } " + counted
 
 
 def part_text(mode, value):
@@ -249,14 +252,17 @@ def latency_text(latency, stamps):
 
 def event_text(event):
     """An event's line (docs/FORMAT.md, 6)."""
-    front = f"{event.cpu}:{event.line} {event.task}-{event.common_pid} [{event.cpu:03}] {event.stamp // 10**6}.{event.stamp % 10**6:06}:"
+    stamp = f"{event.stamp // 10**6}.{event.stamp % 10**6:06}"
+    front = f"{event.cpu}:{event.line} {event.task}-{event.common_pid} [{event.cpu:03}] {stamp}:"
     if event.name == "other":
         return front + "\n"
     if event.name == "sched_switch":
-        prev = f"prev_comm={event.prev_comm} prev_pid={event.prev_pid} prev_prio={event.prev_prio} prev_state={event.prev_state}"
-        return f"{front} {event.name}: {prev} ==> next_comm={event.comm} next_pid={event.pid} next_prio={event.prio}\n"
+        prev = f"prev_comm={event.prev_comm} prev_pid={event.prev_pid} prev_prio={event.prev_prio}"
+        after = f"next_comm={event.comm} next_pid={event.pid} next_prio={event.prio}"
+        return f"{front} {event.name}: {prev} prev_state={event.prev_state} ==> {after}\n"
     sign = "-" if event.target_cpu < 0 else ""
-    return f"{front} {event.name}: comm={event.comm} pid={event.pid} prio={event.prio} target_cpu={sign}{abs(event.target_cpu):03}\n"
+    target = f"{sign}{abs(event.target_cpu):03}"
+    return f"{front} {event.name}: comm={event.comm} pid={event.pid} prio={event.prio} target_cpu={target}\n"
 
 
 # ---- runs

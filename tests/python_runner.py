@@ -1,6 +1,7 @@
 """Runs the tests of a file of the Python package, and says how many hold: what those files have in common."""
 
 import collections
+import sys
 import unittest
 
 
@@ -20,8 +21,14 @@ class Runner(unittest.TextTestRunner):
     resultclass = Result
 
 
-def main():
-    """Runs the tests of the program. The lines at the end say how many tests were skipped, and why, and how many hold."""
+def main(*modules):
+    """Runs the tests of the program and of these modules, which its words may name alike. The lines at the end say how many
+    tests were skipped, and why, and how many hold."""
+    program = sys.modules["__main__"]
+    for module in modules:
+        for name, thing in vars(module).items():
+            if isinstance(thing, type) and issubclass(thing, unittest.TestCase):
+                setattr(program, name, thing)
     # The traces tell of lost events on purpose; tests of that warning ask for it.
     ran = unittest.main(exit=False, testRunner=Runner, warnings="ignore").result
     for reason, count in sorted(collections.Counter(reason for _, reason in ran.skipped).items()):

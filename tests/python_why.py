@@ -20,11 +20,11 @@ PYTHON = os.path.realpath(os.path.join(HERE, "..", "python"))
 sys.path.insert(0, PYTHON)
 
 import histdesk
+import why_command
 from histdesk import Hole, Share, Stretch
 from python_answers import with_numpy
 from python_runner import main
 from recordings import all_known, simulated
-from why_command import *
 from why_traces import BUSY, BUSY_TOLD, line, switch, trace, waking
 
 
@@ -631,4 +631,4 @@ def told_at_begin(desk, wait):
 
 
 if __name__ == "__main__":
-    sys.exit(main())
+    sys.exit(main(why_command))

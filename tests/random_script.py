@@ -27,7 +27,8 @@ def line(draw, cpu):
     comm, prio, name = draw.choice(COMMS), draw.randrange(-2, 140), draw.choice(EVENTS)
     head = f" sim-{draw.randrange(9)} [{cpu:03}] d.h.. {stamp // 10**6}.{stamp % 10**6:06}: {name}: "
     if name == "sched_switch":
-        return head + f"prev_comm=sim prev_pid=1 prev_prio=120 prev_state={draw.choice(STATES)} ==> next_comm={comm} next_pid={pid} next_prio={prio}"
+        before = f"prev_comm=sim prev_pid=1 prev_prio=120 prev_state={draw.choice(STATES)}"
+        return f"{head}{before} ==> next_comm={comm} next_pid={pid} next_prio={prio}"
     return head + f"comm={comm} pid={pid} prio={prio} target_cpu=001"
 
 

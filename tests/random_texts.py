@@ -122,7 +122,8 @@ def condition(draw, event):
 def key(draw, event):
     if draw.randrange(4) == 0 and textual(event):
         return draw.choice(textual(event))
-    return draw.choice(numeric(event)) + draw.choice(["", "", ".hex", ".log2", f".buckets={draw.choice(['3', '8', '010', '4294967295'])}"])
+    field, size = draw.choice(numeric(event)), draw.choice(["3", "8", "010", "4294967295"])
+    return field + draw.choice(["", "", ".hex", ".log2", f".buckets={size}"])
 
 
 def direction(draw):

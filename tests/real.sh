@@ -52,6 +52,7 @@ command -v python3 >/dev/null || stop "python3 is missing"
 
 folder=$(mktemp -d)
 work=
+# shellcheck disable=SC2317 # the trap calls it
 finish() {
     # The loop ends by itself where its folder is gone, and each round of the workload ends soon.
     rm -rf -- "$folder"

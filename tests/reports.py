@@ -24,8 +24,11 @@ import tempfile
 
 TRIGGERS = [
     ("sched_waking", "hist:keys=pid:ts0=common_timestamp.usecs:size=128"),
-    ("sched_switch", "hist:keys=next_pid:vals=$lat:lat=common_timestamp.usecs-$ts0:size=128"
-     ":onmatch(sched.sched_waking).wakeup_latency($lat,next_pid,next_prio)"),
+    (
+        "sched_switch",
+        "hist:keys=next_pid:vals=$lat:lat=common_timestamp.usecs-$ts0:size=128"
+        ":onmatch(sched.sched_waking).wakeup_latency($lat,next_pid,next_prio)",
+    ),
     ("sched_switch", "hist:keys=next_pid:vals=$l:l=common_timestamp.usecs-$ts0 if prev_pid<50"),
     ("sched_waking", "hist:keys=pid,prio:vals=target_cpu:size=128"),
     ("sched_switch", "hist:keys=prev_pid,next_pid:size=128"),
@@ -35,13 +38,17 @@ READERS, READS, MADE = 2, {2, 3}, {6}
 
 
 def waking(cpu, micros, pid, prio=120):
-    return (f" sim-1 [{cpu:03}] d.h.. {micros // 1000000}.{micros % 1000000:06}: sched_waking: comm=w pid={pid} prio={prio} "
-            f"target_cpu=000")
+    return (
+        f" sim-1 [{cpu:03}] d.h.. {micros // 1000000}.{micros % 1000000:06}: sched_waking: comm=w pid={pid} prio={prio} "
+        f"target_cpu=000"
+    )
 
 
 def switch(cpu, micros, before, pid):
-    return (f" sim-1 [{cpu:03}] d.h.. {micros // 1000000}.{micros % 1000000:06}: sched_switch: prev_comm=sim prev_pid={before} "
-            f"prev_prio=120 prev_state=S ==> next_comm=w next_pid={pid} next_prio=120")
+    return (
+        f" sim-1 [{cpu:03}] d.h.. {micros // 1000000}.{micros % 1000000:06}: sched_switch: prev_comm=sim prev_pid={before} "
+        f"prev_prio=120 prev_state=S ==> next_comm=w next_pid={pid} next_prio=120"
+    )
 
 
 def answers(program, script, trace):
@@ -83,8 +90,12 @@ def hold(command, report, before, after):
     """Holds a report against the tables by trigger, before an edit and behind it: how many rows changed."""
     demand(report is not None, f"{command}: no report")
     demand(len(set(report)) == len(report), f"{command}: a row twice")
-    changed = {(number, key) for number in before for key in {**before[number], **after[number]}
-               if number not in MADE and before[number].get(key) != after[number].get(key)}
+    changed = {
+        (number, key)
+        for number in before
+        for key in {**before[number], **after[number]}
+        if number not in MADE and before[number].get(key) != after[number].get(key)
+    }
     demand(changed <= set(report), f"{command}: {sorted(changed - set(report))} changed, and are not in {report}")
     for number in range(1, len(TRIGGERS) + 1):
         count = sum(row[0] == number for row in report)
@@ -94,8 +105,10 @@ def hold(command, report, before, after):
 
 def by_hand(program):
     """The rows of three edits that are known by hand."""
-    saver = ("attach sched_waking hist:keys=pid:ts0=common_timestamp.usecs{}",
-             "attach sched_switch hist:keys=next_pid:vals=$lat:lat=common_timestamp.usecs-$ts0")
+    saver = (
+        "attach sched_waking hist:keys=pid:ts0=common_timestamp.usecs{}",
+        "attach sched_switch hist:keys=next_pid:vals=$lat:lat=common_timestamp.usecs-$ts0",
+    )
     latency = [waking(0, 1000100, 42), switch(0, 1000150, 1, 42), switch(0, 1000170, 1, 42)]
     *_, (_, report, _) = answers(program, ["load @1", saver[0].format(""), saver[1], "strike 0:2"], latency)
     demand(report is not None and (2, (42,)) in report and len(set(report)) == len(report), f"one latency: {report}")

@@ -1,3 +1,4 @@
+# shellcheck shell=bash disable=SC2154 # what counts.sh assigns
 # What tools.sh tests with, read by it behind counts.sh: checks, programs that stand for others. HISTDESK is the desk.
 
 # gives WHAT STATUS ERROR COMMAND..: the command's status, and a pattern of all that it says on standard error.
@@ -7,6 +8,7 @@ gives() {
     timeout "$limit" "$@" >"$folder/out" 2>"$folder/err"
     status=$?
     told=$(<"$folder/err")
+    # shellcheck disable=SC2053 # it is a pattern
     if [[ $status == "$want" && $told == $error ]]; then
         pass
     else

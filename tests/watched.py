@@ -216,7 +216,8 @@ def hold(words, script, traces, wanted, status):
     ended, output, error = run(words, script, traces)
     if output != wanted:
         pairs = zip(output.splitlines(), wanted.splitlines())
-        at = next((number for number, (one, other) in enumerate(pairs) if one != other), min(output.count(b"\n"), wanted.count(b"\n")))
+        least = min(output.count(b"\n"), wanted.count(b"\n"))
+        at = next((number for number, (one, other) in enumerate(pairs) if one != other), least)
         demand(False, f"{words}: line {at + 1}: {output.splitlines()[at : at + 2]}, not {wanted.splitlines()[at : at + 2]}")
     demand((ended, error) == (status, b""), f"{words}: status {ended}, {error}")
 

@@ -38,8 +38,8 @@ class Parser(argparse.ArgumentParser):
 
 
 def parser(name: str, description: str) -> argparse.ArgumentParser:
-    """The words of a tool, of which the description's first line is short. Its usage has the name by which it was called: where it
-    is installed, that is histdesk-NAME."""
+    """The words of a tool, of which the description's first line is short. Its usage has the name by which it was called:
+    where it is installed, that is histdesk-NAME."""
     called = os.path.basename(sys.argv[0])
     words = Parser(
         prog=called if called.endswith(name) else name,

@@ -75,8 +75,8 @@ class Desk:
         the first and the last stamp, and where events were lost. Where some were, it warns with `LossWarning`, in one line.
 
         `trace` is a path (`str` or `os.PathLike`), the text itself as bytes or another buffer, an open file, which is read to
-        its end, or what `read` has read, which has warned already. What gzip has packed is unpacked, whatever its name. A buffer
-        isn't copied; nothing may change it until the call is done.
+        its end, or what `read` has read, which has warned already. What gzip has packed is unpacked, whatever its name. A
+        buffer isn't copied; nothing may change it until the call is done.
 
         Refused: 3 where a line can't be read, 4 where events of one of its CPUs are held, 7 where there is no room. Raises
         `OSError` where the file can't be read."""
@@ -99,8 +99,8 @@ class Desk:
         return loaded
 
     def _lanes_of(self, count: int) -> Tuple[Lane, ...]:
-        """What is known of each CPU of a trace of so many events, which has just been loaded; nothing where there is no memory to
-        ask."""
+        """What is known of each CPU of a trace of so many events, which has just been loaded; nothing where there is no memory
+        to ask."""
         if self._held is None:
             return ()
         lanes: List[Lane] = []

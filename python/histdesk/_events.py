@@ -27,8 +27,8 @@ class Events(Sequence[Event]):
     | `events[3]`, and each in a loop | an `Event` |
     | `events[2:9]` | `Events` |
     | `events["pid"]` | one field of all: a numpy array of numbers where numpy is there, else a list; names as a list of `str` |
-    | `events.array` | a numpy record array over the same memory: numbers as they are held, 0 where an event has no such field; \
-names as bytes, behind each its length |
+    | `events.array` | a numpy record array over the same memory: numbers as they are held, 0 where an event has no such \
+field; names as bytes, behind each its length |
     | `events.to_pandas()` | a DataFrame |
 
     >>> desk = Desk()
@@ -47,11 +47,16 @@ names as bytes, behind each its length |
         return self._count
 
     @overload
-    def __getitem__(self, at: int) -> Event: ...
+    def __getitem__(self, at: int) -> Event:
+        """The event at this place."""
+
     @overload
-    def __getitem__(self, at: slice) -> Events: ...
+    def __getitem__(self, at: slice) -> Events:
+        """The events at these places."""
+
     @overload
-    def __getitem__(self, at: str) -> Any: ...
+    def __getitem__(self, at: str) -> Any:
+        """The field of this name, of all events."""
 
     def __getitem__(self, at: Union[int, slice, str]) -> Any:
         if isinstance(at, str):
@@ -79,8 +84,8 @@ names as bytes, behind each its length |
         return numpy.frombuffer(self._content, _layout.event_type()).view(numpy.recarray)
 
     def to_pandas(self) -> Any:
-        """The events as a DataFrame, with the fields of `Event` as columns: texts as `str`, numbers of the common part as `int64`, and
-        others as `Int64`. Where an event has no such field they are None and NA.
+        """The events as a DataFrame, with the fields of `Event` as columns: texts as `str`, numbers of the common part as
+        `int64`, and others as `Int64`. Where an event has no such field they are None and NA.
 
         Raises `ImportError` where pandas or numpy isn't there."""
         import pandas  # type: ignore[import]

@@ -36,9 +36,9 @@ class LossWarning(UserWarning):
 class Hole(NamedTuple):
     """A stretch of time in which events of a CPU were lost. Stamps are in microseconds.
 
-    `after` is the stamp of the CPU's last event before it, or None where it begins with the recording; `before` that of the first
-    event behind it, or None where it lasts to the end. `lost` says how many events they were, where the text tells it, and
-    `line` which line of the text, from 1, tells of it."""
+    `after` is the stamp of the CPU's last event before it, or None where it begins with the recording; `before` that of the
+    first event behind it, or None where it lasts to the end. `lost` says how many events they were, where the text tells it,
+    and `line` which line of the text, from 1, tells of it."""
 
     cpu: int
     after: Optional[int]
@@ -103,8 +103,8 @@ def few_lost(torn: Dict[int, List[Hole]]) -> List[str]:
 
 
 class Mark(NamedTuple):
-    """A line that tells of a loss: its first byte and the one behind it, its number, the CPU, how many events they are, and whether
-    it says that a buffer begins."""
+    """A line that tells of a loss: its first byte and the one behind it, its number, the CPU, how many events they are, and
+    whether it says that a buffer begins."""
 
     start: int
     end: int
@@ -131,7 +131,7 @@ def marks_of(text: Text) -> List[Mark]:
 
 
 def lines_with(text: Text, sign: bytes, rare: bytes) -> Iterator[int]:
-    """The first byte of each line that has a sign. One byte of it, which few lines have, is looked for, since that is quickest."""
+    """The first byte of each line that has a sign. One byte of it, which few lines have, is looked for: that is quickest."""
     at = text.find(rare)
     while at >= 0:
         start, end = text.rfind(b"\n", 0, at) + 1, text.find(b"\n", at)

@@ -90,8 +90,8 @@ class Recording:
         return desk
 
     def line(self, cpu: int, line: int) -> int:
-        """The line of a CPU in the whole text, from 1, of a line of the desk that holds this. Raises `IndexError` where the desk
-        has no such line."""
+        """The line of a CPU in the whole text, from 1, of a line of the desk that holds this. Raises `IndexError` where the
+        desk has no such line."""
         if self._lines is None:
             return line
         if line < 1:
@@ -160,8 +160,8 @@ def read(
     first stretch that fits is taken, and `taken.rest` is the `start` of the next one. With `lenient`, lines that can't be read
     are left out, and `bad_lines` has their numbers.
 
-    `trace` is what `Desk.load` takes; a `Recording` is passed on. Raises `OSError` where it can't be read, `ImportError` where a
-    part is to be taken and there is no numpy, and `ValueError` where more events than a desk holds have one stamp."""
+    `trace` is what `Desk.load` takes; a `Recording` is passed on. Raises `OSError` where it can't be read, `ImportError` where
+    a part is to be taken and there is no numpy, and `ValueError` where more events than a desk holds have one stamp."""
     if isinstance(trace, Recording):
         return trace
     text = searched(content_of(trace))

@@ -65,9 +65,12 @@ class Rows(Sequence[Any]):
         return len(self._keys)
 
     @overload
-    def __getitem__(self, at: int) -> Any: ...
+    def __getitem__(self, at: int) -> Any:
+        """The row at this place."""
+
     @overload
-    def __getitem__(self, at: slice) -> List[Any]: ...
+    def __getitem__(self, at: slice) -> List[Any]:
+        """The rows at these places."""
 
     def __getitem__(self, at: Union[int, slice]) -> Any:
         if isinstance(at, slice):

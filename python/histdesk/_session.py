@@ -104,11 +104,9 @@ class Session:
         """A text that the library answers."""
         return _layout.decoded(self.content(library.histdesk_text_copy, 1, ask, *arguments))
 
-    def content(
-        self, copy: Any, size: int, ask: Any, *arguments: Any, given: Any = None, numpy: Any = None
-    ) -> Any:
-        """What `ask` answers, copied into a buffer of structs of so many bytes; the library forgets it. With numpy it is an array
-        of bytes, which isn't filled before."""
+    def content(self, copy: Any, size: int, ask: Any, *arguments: Any, given: Any = None, numpy: Any = None) -> Any:
+        """What `ask` answers, copied into a buffer of structs of so many bytes; the library forgets it. With numpy it is an
+        array of bytes, which isn't filled before."""
         count = self.count(ask, *arguments, given=given)
         try:
             room = bytearray(count * size) if numpy is None else numpy.empty(count * size, "u1")

@@ -79,7 +79,7 @@ def distinct(keys: List[str], values: List[str]) -> Tuple[str, ...]:
 
 
 def row_type(names: Sequence[str]) -> Any:
-    """Named tuples of these names, as Python takes them for attributes: a keyword gets a `_` behind it, and what begins with one
-    is called by its place."""
+    """Named tuples of these names, as Python takes them for attributes: a keyword gets a `_` behind it, and what begins with
+    one is called by its place."""
     attributes = [f"{name}_" if keyword.iskeyword(name) else name for name in names]
     return namedtuple("Row", attributes, rename=True)

@@ -49,8 +49,8 @@ class Trigger:
 
     @property
     def names(self) -> Tuple[str, ...]:
-        """The names of a row's parts: the fields of its keys, `hitcount`, and the fields or variables that it sums. A value that
-        is a key too has `_sum` behind its name."""
+        """The names of a row's parts: the fields of its keys, `hitcount`, and the fields or variables that it sums. A value
+        that is a key too has `_sum` behind its name."""
         return self._session.shape(self._id).names
 
     @property
@@ -94,8 +94,8 @@ class Trigger:
         return self._session.records(library.histdesk_latencies_copy, LATENCIES, library.histdesk_latencies, self._id)
 
     def to_pandas(self, what: Optional[str] = None) -> Any:
-        """A DataFrame: of the `"rows"`, with `names` as columns, or of the `"latencies"`. Without a word it is the latencies of a
-        trigger that reads a variable, and the rows of another one.
+        """A DataFrame: of the `"rows"`, with `names` as columns, or of the `"latencies"`. Without a word it is the latencies of
+        a trigger that reads a variable, and the rows of another one.
 
         `.log2` gives the power, `.buckets` the least value of each bucket. Sums are unsigned numbers of 64 bits, all others
         signed ones. Raises `ImportError` where pandas isn't there, and `ValueError` of another word."""

@@ -101,8 +101,8 @@ class Event(NamedTuple):
     """A held event. What the line of its name doesn't have is None.
 
     `name` is that of the kernel, or `other` for an event of which the desk holds the common part alone. `task` and
-    `common_pid` are the task that ran; `comm`, `pid` and `prio` are the task that was woken, or that was switched to (`next_comm`
-    and so on); those that begin with `prev_` are the task that was switched from.
+    `common_pid` are the task that ran; `comm`, `pid` and `prio` are the task that was woken, or that was switched to
+    (`next_comm` and so on); those that begin with `prev_` are the task that was switched from.
     """
 
     stamp: int

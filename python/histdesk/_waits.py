@@ -30,7 +30,8 @@ SIZE = 131_072
 STAMP = "common_timestamp.usecs"
 # Of each kind the event, the field with the task, and the filter of what begins a wait. Task 0 is what a CPU runs where nothing
 # waits; it is always runnable, and waits for nothing. Of the switches that a task leaves by, the last one counts, and begins a
-# wait only where the task could still run: one that left otherwise has run since it was preempted, though nothing tells of that.
+# wait only where the task could still run: one that left otherwise has run since it was preempted, though nothing tells of
+# that.
 BEGINS = {
     "woken": ("sched_waking", "pid", "pid != 0"),
     "new": ("sched_wakeup_new", "pid", "pid != 0"),
@@ -122,13 +123,13 @@ class Waits:
     |---|---|
     | `waits.array` | a numpy record array |
     | `waits.names`, `waits.name(3)` | the names of the tasks, as the switches have them that run them |
-    | `waits.table("task")` | a row for each task and kind, the greatest wait first; also `"name"`, `"cpu"`, `"prio"`, `"kind"` |
+    | `waits.table("task")` | a row for each task and kind, the greatest wait first; or `"name"`, `"cpu"`, `"prio"`, `"kind"` |
     | `waits.counts("task")` | `Counts`, which add up exactly over many recordings, and have other percentiles and histograms |
     | `waits.only(kinds=["woken"], cpus=[2])` | those of a kind, or that ended on a CPU; `waits[mask]` those of a numpy mask |
     | `waits.to_pandas()` | a DataFrame of the waits one by one; with a word, of that table |
 
-    The fields of the array are `kind`, `pid`, `prio`, `begin_stamp`, `begin_cpu`, `begin_line`, the same of `end_`, `micros` and
-    `doubtful`. Stamps are in microseconds; a CPU and a line name an event of the whole recording.
+    The fields of the array are `kind`, `pid`, `prio`, `begin_stamp`, `begin_cpu`, `begin_line`, the same of `end_`, `micros`
+    and `doubtful`. Stamps are in microseconds; a CPU and a line name an event of the whole recording.
     """
 
     def __init__(self, array: Any, names: Any, codes: Any, about: About) -> None:
@@ -465,8 +466,8 @@ def places_of(desk: Desk, cpu: int) -> Any:
 
 
 def begins(desk: Desk, kind: str, attach: Callable[[str, str], Trigger]) -> Tuple[Any, Totals]:
-    """The latencies from what begins waits of a kind to the switches that end them, by triggers that `attach` attaches; and what
-    the saver of their stamps has counted."""
+    """The latencies from what begins waits of a kind to the switches that end them, by triggers that `attach` attaches; and
+    what the saver of their stamps has counted."""
     saver, reader = triggers_of(desk, kind, attach)
     latencies = reader.latencies()
     if kind == "preempted":
