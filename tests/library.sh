@@ -1,8 +1,9 @@
 #!/usr/bin/env bash
 # library.sh LIBRARY HISTDESK HISTWATCH: tests the library, libhistdesk.so.0 with the libhistdesk.a beside it, as its users
 # have it: from C (c_library.sh); from Python with the tools over it, by the python3 on the PATH and by the system's, which may
-# have numpy and pandas; the page of tools/view in a browser (page.py); and installed with the programs (install.sh). It prints
-# what went wrong, what was not tried and why, and a last line with the counts.
+# have numpy and pandas; the page of tools/view in a browser (page.py); and installed with the programs (install.sh). The
+# scripts that all of this stands on are looked through too (lint.sh). It prints what went wrong, what was not tried and
+# why, and a last line with the counts.
 # shellcheck disable=SC2154 # what counts.sh assigns
 set -uo pipefail
 
@@ -61,6 +62,7 @@ for python in "${pythons[@]}"; do
     part "recipes from $python" "$python" "$here/recipes.py" "$histdesk"
 done
 part "the page" "${pythons[-1]}" "$here/page.py" "$histdesk"
+part scripts "$here/lint.sh"
 part recorded "$here/recorded.sh" "$here/../tools"
 part installed "$here/install.sh" "$histdesk" "$histwatch" "$library"
 

@@ -1,0 +1,68 @@
+#!/usr/bin/env bash
+# lint.sh: what others' programs find in the scripts of this repository: shellcheck in all that is bash; flake8, or pyflakes
+# where there is no flake8, in all that is Python, which has black's form; and mypy in the Python package, whose types are
+# strict. Which findings are left out stands in .shellcheckrc and .flake8, or beside the line. It prints what was found, what
+# was not tried since a program is missing, and a last line with the counts.
+# shellcheck disable=SC2154 # what counts.sh assigns
+set -uo pipefail
+
+cd -- "$(dirname -- "$(realpath -- "${BASH_SOURCE[0]}")")/.." || exit
+. tests/counts.sh
+
+# The scripts, by their names or first lines, those too that aren't committed yet.
+shells=()
+pythons=()
+while IFS= read -r -d '' file; do
+    [[ -f $file ]] || continue
+    first=
+    IFS= read -r first <"$file"
+    case $file:$first in
+        *.py:* | *:'#!'*python*) pythons+=("$file") ;;
+        *.sh:* | *:'#!'*sh | *:'# shellcheck shell='*) shells+=("$file") ;;
+    esac
+done < <(git ls-files -z --cached --others --exclude-standard -- . ':!crates' ':!tests/rows' ':!examples')
+
+# lint NAME COMMAND..: what this program finds; it runs beside the others.
+names=()
+runs=()
+lint() {
+    names+=("$1")
+    timeout 600 "${@:2}" >"$folder/$1" 2>&1 </dev/null &
+    runs+=("$!")
+}
+
+# there PROGRAM WHAT: whether it is installed.
+there() {
+    command -v "$1" >/dev/null || {
+        echo "not tried: $2, since $1 is missing"
+        return 1
+    }
+}
+
+if there shellcheck "scripts in bash"; then
+    lint shellcheck shellcheck -- "${shells[@]}"
+fi
+if command -v flake8 >/dev/null; then
+    lint flake8 flake8 -- "${pythons[@]}"
+elif command -v pyflakes3 >/dev/null; then
+    lint pyflakes3 pyflakes3 "${pythons[@]}"
+else
+    there flake8 "faults in Python"
+fi
+if there black "the form of Python"; then
+    BLACK_CACHE_DIR=$folder/black lint black black -q -l 128 --diff --check -- "${pythons[@]}"
+fi
+if there mypy "types in Python"; then
+    lint mypy mypy --strict --config-file=python/pyproject.toml --cache-dir="$folder/types" python/histdesk
+fi
+for at in "${!names[@]}"; do
+    if wait "${runs[at]}"; then
+        pass
+    else
+        fail "${names[at]}: status $?"
+        cat -- "$folder/${names[at]}"
+    fi
+done
+
+echo "$passed passed, $failed failed"
+((failed == 0))
