@@ -1,5 +1,5 @@
 # shellcheck shell=bash disable=SC2034 # what they read
-# What the tests of the programs count with, read by program.sh and tools.sh.
+# What the tests of the programs count with, read by those in bash.
 
 # A run that takes more seconds is ended, and fails.
 limit=120
