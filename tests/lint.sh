@@ -49,7 +49,10 @@ elif command -v pyflakes3 >/dev/null; then
 else
     there flake8 "faults in Python"
 fi
-if there black "the form of Python"; then
+# The form of lines is one for each year of black's.
+if [[ $(black --version 2>/dev/null) != "black, 23."* ]]; then
+    echo "not tried: the form of Python, since there is no black 23"
+else
     BLACK_CACHE_DIR=$folder/black lint black black -q -l 128 --diff --check -- "${pythons[@]}"
 fi
 if there mypy "types in Python"; then
