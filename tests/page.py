@@ -123,7 +123,11 @@ class Page(unittest.TestCase):
 
     def open(self, address):
         self.driver.get(address)
-        self.until(lambda: self.js("return document.body.classList.contains('ready') && document.getElementById('figures').tBodies[0].rows.length"))
+        self.until(
+            lambda: self.js(
+                "return document.body.classList.contains('ready') && document.getElementById('figures').tBodies[0].rows.length"
+            )
+        )
 
     def resize(self, width, height):
         words = {"width": width, "height": height, "deviceScaleFactor": 1, "mobile": False}
@@ -173,7 +177,9 @@ class Page(unittest.TestCase):
 
     def bars(self):
         """What is said of each bar: its bounds, and how many waits it has."""
-        labels = self.js("return [...document.querySelectorAll('#bars [role=option]')].map((bar) => bar.getAttribute('aria-label'))")
+        labels = self.js(
+            "return [...document.querySelectorAll('#bars [role=option]')].map((bar) => bar.getAttribute('aria-label'))"
+        )
         return [label.split(": ", 1) for label in labels]
 
     def click_at(self, element, x, y):
@@ -194,11 +200,17 @@ class Page(unittest.TestCase):
         box.send_keys(text)
 
     def choose(self, chosen, value):
-        self.js("const box = document.querySelector(arguments[0]); box.value = arguments[1]; box.dispatchEvent(new Event('change'))", chosen, value)
+        self.js(
+            "const box = document.querySelector(arguments[0]); box.value = arguments[1]; box.dispatchEvent(new Event('change'))",
+            chosen,
+            value,
+        )
 
     def listed(self):
         """The rows of the list that are in sight."""
-        return self.js("return [...document.querySelectorAll('.tall .row')].map((row) => [...row.children].map((cell) => cell.textContent))")
+        return self.js(
+            "return [...document.querySelectorAll('.tall .row')].map((row) => [...row.children].map((cell) => cell.textContent))"
+        )
 
     def count_listed(self):
         return int(self.js("return document.getElementById('worst-rows').getAttribute('aria-rowcount')"))
@@ -219,9 +231,16 @@ class Shown(Page):
             self.choose("#by", by)
             counts = self.js("return [...state.told[0].stacks]")
             self.assertEqual(sum(counts), len(self.waits))
-            column = {"task": self.waits.names, "cpu": self.waits.array.end_cpu, "prio": self.waits.array.prio, "kind": self.waits.array.kind}[by]
+            column = {
+                "task": self.waits.names,
+                "cpu": self.waits.array.end_cpu,
+                "prio": self.waits.array.prio,
+                "kind": self.waits.array.kind,
+            }[by]
             most = collections.Counter(map(str, column.tolist())).most_common(1)[0][1]
-            first = self.js("const {groups, told} = state; return told[0].stacks.filter((_, at) => at % groups.count === 0).reduce((a, b) => a + b, 0)")
+            first = self.js(
+                "const {groups, told} = state; return told[0].stacks.filter((_, at) => at % groups.count === 0).reduce((a, b) => a + b, 0)"
+            )
             self.assertEqual(first, most)
 
     def test_linear_bars_hold_all(self):
@@ -229,7 +248,11 @@ class Shown(Page):
         found = self.until(lambda: [label for label in self.bars() if "to" in label[0]] and self.bars())
         micros = self.waits.array.micros
         for name, told in found:
-            low, high = (int(number) for number in (re.findall("[0-9]+", name.replace(",", "")) + ["999999999"])[:2]) if "above" in name else (-1, int(re.search("[0-9]+", name)[0]))
+            low, high = (
+                (int(number) for number in (re.findall("[0-9]+", name.replace(",", "")) + ["999999999"])[:2])
+                if "above" in name
+                else (-1, int(re.search("[0-9]+", name)[0]))
+            )
             self.assertEqual(told, f"{int(((micros > low) & (micros <= high)).sum())} waits", name)
 
     def test_a_filter_chooses_at_each_key(self):
@@ -277,7 +300,12 @@ class Shown(Page):
         wait = self.waits.array[micros == wanted[1]][0]
         told = histdesk.why(TRACE, int(wait.end_cpu), int(wait.end_line)).text()
         words = lambda text: re.sub(r"\s+", " ", text).strip()
-        self.until_equal(words(told), lambda: words(self.js("return [...document.querySelector('#wait-text').children].map((one) => one.textContent).join(' ')")))
+        self.until_equal(
+            words(told),
+            lambda: words(
+                self.js("return [...document.querySelector('#wait-text').children].map((one) => one.textContent).join(' ')")
+            ),
+        )
         self.assertFalse(self.find("#wait-empty").is_displayed())
         self.assertIn(f"waited {wanted[1]} µs", self.until(lambda: self.text("#view-told")))
         # It is seen over time, too.
@@ -288,12 +316,17 @@ class Shown(Page):
         for column, at in (("name", 1), ("end", 6), ("endCpu", 3), ("micros", 0)):
             self.find(f"[data-sort={column}] button").click()
             order = self.until(lambda: self.js("return document.querySelector(arguments[0]).ariaSort", f"[data-sort={column}]"))
-            told = self.js("return Array.from(worst.numbers, (wait) => { const side = state.sides[0]; return arguments[0] === 'end' ? ended(side, wait) : arguments[0] === 'name' ? side.task(wait) : side.value(arguments[0], wait); })", column)
+            told = self.js(
+                "return Array.from(worst.numbers, (wait) => { const side = state.sides[0]; return arguments[0] === 'end' ? ended(side, wait) : arguments[0] === 'name' ? side.task(wait) : side.value(arguments[0], wait); })",
+                column,
+            )
             self.assertEqual(told, sorted(told, reverse=order == "descending"))
             self.assertEqual(len(told), len(self.waits))
 
     def test_a_point_is_a_wait(self):
-        x, y = self.js("const at = worst.numbers[0], side = state.sides[0]; return [overTime.view.x(ended(side, at)), overTime.y(side.value('micros', at))]")
+        x, y = self.js(
+            "const at = worst.numbers[0], side = state.sides[0]; return [overTime.view.x(ended(side, at)), overTime.y(side.value('micros', at))]"
+        )
         self.click_at(self.find("#time-points"), x, y)
         self.until(lambda: f"waited {self.waits.array.micros.max()} µs" in self.text("#view-told"))
 
@@ -317,7 +350,11 @@ class Shown(Page):
         before = self.js("return lanes.scene.from")
         for _ in range(4):
             self.find("#lanes").send_keys("-")
-        self.until(lambda: self.js("return lanes.scene.from < arguments[0] && lanes.scene.from <= lanes.scene.begin + lanes.view.low", before))
+        self.until(
+            lambda: self.js(
+                "return lanes.scene.from < arguments[0] && lanes.scene.from <= lanes.scene.begin + lanes.view.low", before
+            )
+        )
 
     def test_all_keys_do_something(self):
         from selenium.webdriver.common.keys import Keys
@@ -330,7 +367,14 @@ class Shown(Page):
         self.find("[data-sort=pid] button").send_keys(Keys.ENTER)
         self.assertEqual(self.js("return worst.key"), "pid")
         self.find("[data-sort=micros] button").send_keys(Keys.ENTER)
-        for key, wanted in (("/", "filter"), ("t", "trigger"), ("h", "bars"), ("w", "worst-rows"), ("o", "time-points"), ("r", "tab-table")):
+        for key, wanted in (
+            ("/", "filter"),
+            ("t", "trigger"),
+            ("h", "bars"),
+            ("w", "worst-rows"),
+            ("o", "time-points"),
+            ("r", "tab-table"),
+        ):
             self.press(Keys.ESCAPE)
             self.press(key)
             self.assertEqual(focus(), wanted, key)
@@ -347,9 +391,11 @@ class Shown(Page):
         self.assertEqual(self.js("return state.bar"), None)
 
     def test_all_that_is_used_has_a_name(self):
-        nameless = self.js("""return [...document.querySelectorAll("button, input, select, canvas, [role], [tabindex='0']")].filter((one) =>
+        nameless = self.js(
+            """return [...document.querySelectorAll("button, input, select, canvas, [role], [tabindex='0']")].filter((one) =>
             !(one.textContent.trim() || one.getAttribute("aria-label") || one.getAttribute("aria-labelledby") || one.labels?.length)
-            && !["row", "tooltip", "status", "gridcell"].includes(one.getAttribute("role")) && one.getClientRects().length).map((one) => one.outerHTML.slice(0, 80))""")
+            && !["row", "tooltip", "status", "gridcell"].includes(one.getAttribute("role")) && one.getClientRects().length).map((one) => one.outerHTML.slice(0, 80))"""
+        )
         self.assertEqual(nameless, [])
 
 
@@ -367,17 +413,21 @@ class Triggers(Page):
         self.find("#tab-table").click()
         with histdesk.Desk() as desk:
             desk.load(TRACE)
-            trigger = desk.attach("sched_switch", "hist:keys=next_comm,next_pid:vals=hitcount:sort=hitcount.descending if next_pid != 0 && next_prio < 121")
+            trigger = desk.attach(
+                "sched_switch",
+                "hist:keys=next_comm,next_pid:vals=hitcount:sort=hitcount.descending if next_pid != 0 && next_prio < 121",
+            )
             rows, totals = [[str(cell) for cell in row] for row in trigger.rows()], trigger.totals()
         self.until_equal(rows, lambda: self.rows("#table-rows"))
-        self.assertEqual(self.text("#table-told"), f"{totals.entries:,} rows of {totals.hits:,} hits, {totals.dropped:,} dropped")
+        self.assertEqual(
+            self.text("#table-told"), f"{totals.entries:,} rows of {totals.hits:,} hits, {totals.dropped:,} dropped"
+        )
         self.find("#tab-script").click()
         self.until(lambda: "next_prio < 121" in self.text("#script-text"))
         self.assertIn("recipes.trace", self.text("#script-command"))
         if PROGRAM:
             told = re.findall(r"\{ next_comm: ([^,]*?) *, next_pid: +([0-9]+) *\} hitcount: +([0-9]+)", self.ran())
             self.assertEqual([list(row) for row in told], rows)
-
 
     def ran(self):
         """What the program prints of the script that the page shows."""
@@ -394,19 +444,27 @@ class Triggers(Page):
         for event, text in (("sched_switch", ""), ("sched_switch", "next_prio < 121"), ("sched_waking", "pid > 24653")):
             self.choose("#event", event)
             self.typed("#filter", text or " ")
-            self.until(lambda: f"attach {event} hist" in self.text("#script-text") and text in self.text("#script-text") and self.js("return state.filter") == text)
+            self.until(
+                lambda: f"attach {event} hist" in self.text("#script-text")
+                and text in self.text("#script-text")
+                and self.js("return state.filter") == text
+            )
             for struck in ([], ["sched_waking if common_cpu == 1"]):
-                self.js("strikes.set(arguments[0].map((text) => ({ event: 'sched_waking', text: text.split(' if ')[1] })))", struck)
+                self.js(
+                    "strikes.set(arguments[0].map((text) => ({ event: 'sched_waking', text: text.split(' if ')[1] })))", struck
+                )
                 self.until_equal(bool(struck), lambda: self.js("return state.fresh !== null"))
                 self.until_equal(bool(struck), lambda: "\nstrike " in self.text("#script-text"))
-                shown = self.js("""const side = state.sides[state.sides.length - 1], found = {};
+                shown = self.js(
+                    """const side = state.sides[state.sides.length - 1], found = {};
                     for (const wait of side.longest(-1, Infinity, null)) {
                         if (side.value("kind", wait)) continue;
                         const row = found[side.value("pid", wait)] ??= [0, 0];
                         row[0]++;
                         row[1] += side.value("micros", wait);
                     }
-                    return found;""")
+                    return found;"""
+                )
                 table = self.ran().split("# event histogram")[1]
                 told = re.findall(r"\{ next_pid: +([0-9]+) *\} hitcount: +([0-9]+) +waited: +([0-9]+)", table)
                 self.assertEqual({pid: [int(count), int(micros)] for pid, count, micros in told}, shown, (event, text, struck))
@@ -416,7 +474,7 @@ class Strikes(Page):
     """Waits without some wakings."""
 
     def tick(self, text):
-        self.js("document.querySelector(`[data-strike=\"${CSS.escape(arguments[0])}\"]`).click()", text)
+        self.js('document.querySelector(`[data-strike="${CSS.escape(arguments[0])}"]`).click()', text)
 
     def assert_struck(self, *texts):
         """The page shows what the package says of a recording without these events."""
@@ -426,7 +484,10 @@ class Strikes(Page):
         pair = lambda was, now: shown(was) if was == now else f"{shown(was)} → {shown(now)}"
         wanted = {}
         for key, row in rows.items():
-            sides = [[getattr(side, name) if side.count else None for name in ("count", "p50", "p99", "max")] for side in (row.before, row.behind)]
+            sides = [
+                [getattr(side, name) if side.count else None for name in ("count", "p50", "p99", "max")]
+                for side in (row.before, row.behind)
+            ]
             wanted[key] = [pair(*both) for both in zip(*sides)]
         self.until_equal(wanted, lambda: {row[0]: row[1:] for row in self.rows("#rows")})
 
@@ -460,7 +521,11 @@ class Strikes(Page):
         self.until_equal(int((difference.behind.array.pid == 24650).sum()), self.count_listed)
 
     def test_a_wait_behind_is_told_as_it_is_there(self):
-        texts = [f"sched_waking if {field} == {number}" for field in ("pid", "common_pid") for number in (0, *set(self.waits.array.pid.tolist()))]
+        texts = [
+            f"sched_waking if {field} == {number}"
+            for field in ("pid", "common_pid")
+            for number in (0, *set(self.waits.array.pid.tolist()))
+        ]
         fates = ((text, quietly(histdesk.diff, TRACE, without=text).fate) for text in texts)
         text = next(text for text, fate in fates if fate.moved + fate.new)
         self.typed("#strike-text", text.split(" if ")[1])
@@ -513,11 +578,19 @@ class Two(Page):
     def test_both_are_shown(self):
         others = quietly(histdesk.waits, TRACE)
         self.assertEqual(self.figures(), [figures_of(self.waits), figures_of(others)])
-        counts = [dict(zip(map(bounds, dict(side.counts().histogram())), dict(side.counts().histogram()).values())) for side in (self.waits, others)]
+        counts = [
+            dict(zip(map(bounds, dict(side.counts().histogram())), dict(side.counts().histogram()).values()))
+            for side in (self.waits, others)
+        ]
         for name, told in self.bars():
             self.assertEqual(told, f"{counts[0].get(name, 0)} recipes-before.trace, {counts[1].get(name, 0)} recipes.trace")
         self.choose("#form", "curve")
-        self.until_equal([4, 2], lambda: self.js("return [document.querySelectorAll('#bars circle').length, document.querySelectorAll('#bars polyline').length]"))
+        self.until_equal(
+            [4, 2],
+            lambda: self.js(
+                "return [document.querySelectorAll('#bars circle').length, document.querySelectorAll('#bars polyline').length]"
+            ),
+        )
         self.press("v")
         self.until_equal(len(others), self.count_listed)
 
@@ -558,17 +631,23 @@ class Looks(Page):
     """How it looks: at two sizes, light and dark, without jumps."""
 
     def places(self):
-        return self.js("""return [...document.querySelectorAll("header, #line, section, #bars, #legend, #figures, #worst-rows, footer")].map((one) => {
+        return self.js(
+            """return [...document.querySelectorAll("header, #line, section, #bars, #legend, #figures, #worst-rows, footer")].map((one) => {
             const { x, y, width, height } = one.getBoundingClientRect();
             return [one.id || one.tagName, Math.round(x), Math.round(y), Math.round(width), one.id === "figures" ? 0 : Math.round(height)];
-        })""")
+        })"""
+        )
 
     def test_all_is_in_sight_and_nothing_jumps(self):
         for width, height in SIZES:
             self.resize(width, height)
             self.open(self.server.address)
             before = self.places()
-            self.assertTrue(self.js("return document.documentElement.scrollWidth <= innerWidth && document.documentElement.scrollHeight <= innerHeight"))
+            self.assertTrue(
+                self.js(
+                    "return document.documentElement.scrollWidth <= innerWidth && document.documentElement.scrollHeight <= innerHeight"
+                )
+            )
             self.assertGreaterEqual(self.js("return rem()"), 13 if width < 2000 else 20)
             self.typed("#filter", "next_pid = ")
             self.until(lambda: self.text("#filter-told"))
@@ -583,7 +662,9 @@ class Looks(Page):
 
     def test_light_and_dark(self):
         ground = lambda: self.js("return getComputedStyle(document.body).backgroundColor")
-        told = lambda name: self.driver.execute_cdp_cmd("Emulation.setEmulatedMedia", {"features": [{"name": "prefers-color-scheme", "value": name}]})
+        told = lambda name: self.driver.execute_cdp_cmd(
+            "Emulation.setEmulatedMedia", {"features": [{"name": "prefers-color-scheme", "value": name}]}
+        )
         told("light")
         light = ground()
         told("dark")
@@ -653,7 +734,9 @@ class Files(unittest.TestCase):
         self.assertLessEqual(sum(texts[name].count("\n") for name in scripts), LINES)
         self.assertEqual(set(re.findall(r'<script src="([^"]+)"', texts["page.html"])), set(scripts))
         for name, text in texts.items():
-            self.assertEqual([found for found in re.findall(r"https?://[^\"' ]*", text) if found != "http://www.w3.org/2000/svg"], [], name)
+            self.assertEqual(
+                [found for found in re.findall(r"https?://[^\"' ]*", text) if found != "http://www.w3.org/2000/svg"], [], name
+            )
 
 
 def main():

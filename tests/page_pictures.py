@@ -21,7 +21,10 @@ def light(page):
     """A wait of a bar, and what had been without some wakings."""
     page.js("choose(state.scale.bar(2000), null); worst.choose(3, true)")
     page.until(lambda: page.js("return lanes.scene !== null"))
-    page.js("const tick = document.querySelector('[data-strike$=\"common_cpu == 5\"]'); tick.scrollIntoView({block: 'center'}); tick.click()")
+    page.js(
+        "const tick = document.querySelector('[data-strike$=\"common_cpu == 5\"]');"
+        "tick.scrollIntoView({block: 'center'}); tick.click()"
+    )
     page.until(lambda: page.js("return strikes.counts.length"))
 
 

@@ -419,7 +419,8 @@ class Triggers(unittest.TestCase):
 
 
 def shown(answer):
-    """The rows of a table, as the program prints them, by the parts of a key and the sums: texts without spaces at their ends."""
+    """The rows of a table, as the program prints them, by the parts of a key and the sums: texts without spaces at their
+    ends."""
     return [[str(part).strip() for part in row] for row in answer["rows"]]
 
 

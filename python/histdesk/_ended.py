@@ -193,8 +193,8 @@ class Ended:
         return needed().flatnonzero(self.now.differs(self.first))
 
     def begins(self, cpu: int, line: int) -> Optional[Tuple[str, Tuple[int, int]]]:
-        """Of which kind the wait is that the switch of a CPU at a line ends now, and the CPU and the line at which it began; None
-        where it ends none, or there is no such switch."""
+        """Of which kind the wait is that the switch of a CPU at a line ends now, and the CPU and the line at which it began;
+        None where it ends none, or there is no such switch."""
         of_cpu = needed().flatnonzero(self.places.cpus(self.number) == cpu)
         at = of_cpu[self.places.lines(self.number[of_cpu]) == line]
         if not len(at) or self.now.begin[at[0]] < 0:

@@ -112,8 +112,8 @@ class Server(http.server.ThreadingHTTPServer):
         threading.Thread(target=self.serve_forever, daemon=True).start()
 
     def answer_all(self, prepare: Callable[[], bool]) -> None:
-        """Answers questions until it is interrupted. Where none comes for a while, `prepare` is called, again and again until it
-        says that nothing is left to prepare."""
+        """Answers questions until it is interrupted. Where none comes for a while, `prepare` is called, again and again until
+        it says that nothing is left to prepare."""
         is_left = True
         pause: Optional[float] = None
         while True:

@@ -85,8 +85,8 @@ class View:
         return answered("", lambda: side.wait(place, window, behind))
 
     def strike(self, strikes: Sequence[Tuple[str, str]]) -> Json:
-        """The waits of the first recording without the events that some filters choose, each with the name of its event: what is
-        other than in `waits`. A refusal has the number of its filter."""
+        """The waits of the first recording without the events that some filters choose, each with the name of its event: what
+        is other than in `waits`. A refusal has the number of its filter."""
         side, began = self.side(0), time.perf_counter()
         filters = filters_of(strikes)
         try:
@@ -133,8 +133,8 @@ class Side:
     """A recording: its desk, its waits, and what is asked of them."""
 
     def __init__(self, recording: Recording, remarks: Sequence[str] = ()) -> None:
-        """`remarks` are others than those of its waits. Raises what `Recording.desk` raises, and `ImportError` where numpy isn't
-        there."""
+        """`remarks` are others than those of its waits. Raises what `Recording.desk` raises, and `ImportError` where numpy
+        isn't there."""
         needed()
         self.recording = recording
         self._remarks = remarks
@@ -210,7 +210,8 @@ class Side:
         return packed({**columns, "name": self.ended.codes[at]})
 
     def filter(self, event: str, text: str) -> Json:
-        """The waits that a filter chooses; an empty one chooses all of that event. Where events are struck, those of `changed` too."""
+        """The waits that a filter chooses; an empty one chooses all of that event. Where events are struck, those of `changed`
+        too."""
         mask = self.ended.places.mask(self.struck.matching(event, text if text.strip() else ALWAYS))
 
         def chosen(found: Found, at: Any) -> Any:
