@@ -90,7 +90,7 @@ def quietly(call, *words, **named):
 
 def shown(value):
     """A figure as the page shows it."""
-    return "-" if value is None else f"{value:.1f}" if isinstance(value, float) else f"{value:,}"
+    return "-" if value is None else f"{value:,.1f}" if isinstance(value, float) else f"{value:,}"
 
 
 def figures_of(waits, doubtful=False):
@@ -625,6 +625,29 @@ class Lossy(Page):
         self.until_equal([figures_of(self.waits, True)], self.figures)
         self.find("#warning").click()
         self.assertIn(self.waits.warning, self.text("#status"))
+
+
+class Empty(Page):
+    """A recording without events."""
+
+    @classmethod
+    def setUpClass(cls):
+        cls.file = tempfile.NamedTemporaryFile(suffix=".trace")
+        cls.words = (cls.file.name,)
+        super().setUpClass()
+
+    @classmethod
+    def tearDownClass(cls):
+        super().tearDownClass()
+        cls.file.close()
+
+    def test_nothing_is_told_of_nothing(self):
+        self.assertEqual(self.figures(), [["0", *["-"] * 6, "0"]])
+        self.assertIn("This recording has no wait", self.text("#worst-empty"))
+        # A heading has something below it.
+        self.assertEqual(self.js("return document.querySelectorAll('#ticks h3:has(+ h3), #ticks h3:last-child').length"), 0)
+        self.press("p")
+        self.until(lambda: self.text("#script-text").startswith("load @1"))
 
 
 class Looks(Page):

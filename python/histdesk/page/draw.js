@@ -14,6 +14,7 @@ function made(name, attributes = {}, ...children) {
 }
 
 const grouped = new Intl.NumberFormat("en-US");
+const tenths = new Intl.NumberFormat("en-US", { minimumFractionDigits: 1, maximumFractionDigits: 1 });
 const number = (value) => value === null || value === undefined ? "-" : grouped.format(value);
 const inUnits = (value, units) => {
   const [size, unit] = units.findLast(([least]) => Math.abs(value) >= least) || units[0];
@@ -45,6 +46,7 @@ function cleared(canvas) {
   return { context, width, height };
 }
 
+const fill = (context, name, ...area) => Object.assign(context, { fillStyle: colour(name) }).fillRect(...area);
 const line = (context, x1, y1, x2, y2) => context.stroke(new Path2D(`M${x1} ${y1} L${x2} ${y2}`));
 const write = (context, text, x, y, textAlign, name = "quiet") => Object.assign(context, { fillStyle: colour(name), textAlign }).fillText(text, x, y);
 

@@ -127,7 +127,7 @@ const histogram = {
   },
   figures() {
     const names = ["count", "mean", ...Object.keys(PERCENTILES), "max", "doubtful"];
-    const told = (value, name) => name === "mean" && value !== null ? value.toFixed(1) : number(value);
+    const told = (value, name) => name === "mean" && value !== null ? tenths.format(value) : number(value);
     const cell = (figures, name) => made("td", { class: "n", "data-figure": name }, told(figures[name], name));
     byId("figures").tBodies[0].replaceChildren(...state.told.map(({ figures }, at) =>
       made("tr", {}, made("th", { class: `text-${at}` }, state.sides[at].title), ...names.map((name) => cell(figures, name)))));

@@ -53,13 +53,13 @@ const lanes = {
       this.bounds(context, cpus);
     });
     this.axes(context, cpus, unit);
+    if (left) write(context, `${left} more CPUs have no room`, view.left + view.width, this.top + this.height + 3.1 * unit, "right");
     byId("view-told").textContent = `${wait.task} ${wait.pid} waited ${number(scene.end - scene.begin)} µs for CPU ${wait.cpu}`
-      + `${left ? `; ${left} more CPUs have no room` : ""}${scene.cut ? "; too much for all: zoom in by +" : ""}`;
+      + `${scene.cut ? "; too much for all: zoom in by +" : ""}`;
   },
   lane(context, { cpu, stretches }, top) {
     const { scene, view } = this, high = this.tall - Math.min(4, this.tall / 4), x = (at) => view.x(at - scene.begin);
-    context.fillStyle = colour("lane");
-    context.fillRect(view.left, top, view.width, high);
+    fill(context, "lane", view.left, top, view.width, high);
     for (const stretch of stretches) {
       const from = Math.max(x(stretch.begin), view.left), wide = Math.min(x(stretch.end), view.left + view.width) - from;
       if (wide < 0) continue;
@@ -74,23 +74,21 @@ const lanes = {
   },
   stretch(context, { pid, task }, x, wide, top, high) {
     const name = pid === this.scene.wait.pid ? "side-1" : pid === this.scene.who?.pid ? "side-0" : `task-${Math.abs(pid) % 4}`;
-    context.fillStyle = colour(name);
-    context.fillRect(x, top, Math.max(wide - 1, 1), high);
+    fill(context, name, x, top, Math.max(wide - 1, 1), high);
     if (wide < 2 * rem() || high < 0.8 * rem()) return;
     within(context, x, top, wide - 3, high, () => write(context, task, x + 4, top + high / 2, "left", name.startsWith("side") ? "on-side" : "text"));
   },
   // When the wait begins and ends, and a line from the CPU where the task was woken to that where it ran; all else is paler.
   bounds(context, cpus) {
     const { scene, view, top, height } = this, from = view.x(0), until = view.x(scene.end - scene.begin), bottom = top + height;
-    context.fillStyle = colour("veil");
-    context.fillRect(view.left, top, from - view.left, height);
-    context.fillRect(until, top, view.left + view.width - until, height);
+    fill(context, "veil", view.left, top, from - view.left, height);
+    fill(context, "veil", until, top, view.left + view.width - until, height);
     Object.assign(context, { strokeStyle: colour("text"), lineWidth: 1.5 });
     for (const x of [from, until]) line(context, x, top - 6, x, bottom);
     line(context, from, top - 6, until, top - 6);
     const middle = Math.min(Math.max((from + until) / 2, view.left + 5 * rem()), view.left + view.width - 5 * rem());
     write(context, `waited ${time(scene.end - scene.begin)}`, middle, top - 1.05 * rem(), "center", "text");
-    const y = (cpu) => top + (cpus.findIndex((one) => one.cpu === cpu) + 0.45) * this.tall;
+    const y = (cpu) => top + (cpus.findIndex((one) => one.cpu === cpu) + 0.78) * this.tall;
     const [start, end] = [[from, y(scene.who?.cpu ?? scene.wait.from)], [until, y(scene.wait.cpu)]];
     context.setLineDash([5, 4]);
     line(context, ...start, ...end);

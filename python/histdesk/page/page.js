@@ -116,7 +116,7 @@ const filtered = latest(async () => {
 
 const triggered = latest(async () => {
   // Where the table isn't seen, filters and strikes go first.
-  if (byId("table").hidden && !SAVED) await new Promise((done) => setTimeout(done, 300));
+  if (byId("table").hidden && byId("script").hidden && !SAVED) await new Promise((done) => setTimeout(done, 300));
   const event = byId("event").value, trigger = byId("trigger").value.trim(), recording = state.sides[state.shown].recording, { filter } = state;
   byId("filter").placeholder = SAVED ? `only with ${SAVED.about.command}` : `a filter of waits, as ${EVENTS[event]}comm == "make"`;
   if (!byId("script").hidden) {

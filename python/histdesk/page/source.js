@@ -36,8 +36,7 @@ function latest(work) {
 }
 
 function tell(text, isError = false) {
-  byId("status").textContent = text;
-  byId("status").classList.toggle("error", isError);
+  Object.assign(byId("status"), { textContent: text, className: isError ? "error" : "" });
 }
 
 // Says at the bottom what went wrong. A `TypeError` of `fetch` is a server that isn't there.

@@ -42,7 +42,7 @@ const strikes = {
   // Draws what can be ticked, own filters first.
   list() {
     const own = this.own.length ? [["without", this.own]] : [];
-    byId("ticks").replaceChildren(...[...own, ...this.sections].flatMap(([title, ticks]) => [made("h3", {}, title), ...ticks.map((one) => this.tick(one))]));
+    byId("ticks").replaceChildren(...[...own, ...this.sections].flatMap(([title, ticks]) => ticks.length ? [made("h3", {}, title), ...ticks.map((one) => this.tick(one))] : []));
     this.check();
   },
   tick(one) {

@@ -30,7 +30,7 @@ const overTime = {
       if (told.recording === side.recording) context.strokeRect(view.x(told.end) - unit / 2, this.y(told.micros) - unit / 2, unit, unit);
     });
     byId("view-told").textContent = `${number(count)} waits from ${from} to ${until}`;
-    if (!count) write(context, "No wait is here: zoom out, or change the filter.", view.left + view.width / 2, this.top + this.height / 2, "center");
+    if (!count) write(context, side.order.length ? "No wait is here: zoom out, or change the filter." : "This recording has no wait.", view.left + view.width / 2, this.top + this.height / 2, "center");
   },
   y: (micros) => overTime.top + overTime.height * (1 - logOf(micros) / overTime.logs),
   axes(context, about, unit) {
