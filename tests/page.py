@@ -390,6 +390,23 @@ class Shown(Page):
         self.press(Keys.ESCAPE)
         self.assertEqual(self.js("return state.bar"), None)
 
+    def test_who_uses_keys_stays_where_they_are(self):
+        from selenium.webdriver.common.keys import Keys
+
+        focused = lambda: self.js("return document.activeElement.textContent.trim() || document.activeElement.id")
+        name = self.js(
+            "const [, button] = document.querySelectorAll('#legend button'); button.focus(); return button.textContent"
+        )
+        self.press(Keys.ENTER)
+        self.until(lambda: self.js("return state.group === 1"))
+        self.until(lambda: self.js("return document.querySelectorAll('#bars .dim').length"))
+        self.assertEqual(focused(), name)
+        # The button that takes this back goes away by it; the list stays.
+        self.js("document.getElementById('all-bars').focus()")
+        self.press(Keys.ENTER)
+        self.until(lambda: self.js("return state.group === null"))
+        self.assertEqual(self.js("return document.activeElement.id"), "worst-rows")
+
     def test_all_that_is_used_has_a_name(self):
         nameless = self.js(
             """return [...document.querySelectorAll("button, input, select, canvas, [role], [tabindex='0']")].filter((one) =>
@@ -593,6 +610,35 @@ class Two(Page):
         )
         self.press("v")
         self.until_equal(len(others), self.count_listed)
+
+    def wanted(self, figure):
+        """What differs, as the package has it: the rows first of which a figure changed most."""
+        table = histdesk.diff(OTHER, TRACE).table("name")
+        told = lambda side, name: getattr(side, name) if side.count else None
+        table.sort(key=lambda row: -abs((told(row.behind, figure) or 0) - (told(row.before, figure) or 0)))
+        pairs = (
+            [(shown(told(row.before, name)), shown(told(row.behind, name))) for name in ("count", "p50", "p99", "max")]
+            for row in table
+        )
+        cells = ([was if was == now else f"{was} → {now}" for was, now in row] for row in pairs)
+        return [[f"{row.key[0]}  {row.key[1]}", *found] for row, found in zip(table, cells)]
+
+    def test_what_differs_is_what_the_package_says(self):
+        for figure in ("count", "p99"):
+            self.find(f"[data-change={figure}] button").click()
+            wanted = self.wanted(figure)
+            # Those that changed alike stand in either order.
+            self.until_equal(sorted(wanted), lambda: sorted(self.rows("#rows")))
+            changes = [row[1 + 2 * (figure == "p99")] for row in wanted]
+            self.until_equal(changes, lambda: [row[1 + 2 * (figure == "p99")] for row in self.rows("#rows")])
+        self.assertEqual(self.rows("#rows")[0][0], "cyclictest  woken")
+        told = self.text("#side-told")
+        self.assertEqual(told, f"{len(wanted)} rows differ")
+        # What is struck is struck from the first one; behind it the rows come again.
+        self.js("document.querySelector('#ticks input').click()")
+        self.until(lambda: "recipes-before.trace struck" in self.text("#side-told"))
+        self.press("u")
+        self.until_equal(told, lambda: self.text("#side-told"))
 
 
 class Lossy(Page):

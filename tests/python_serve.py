@@ -540,7 +540,8 @@ class Saved(unittest.TestCase):
                 self.assertTrue(name == "page.html" or file.read() in page, name)
         data = json.loads(re.search("<script>window.SAVED = ([^<]*)</script>", page)[1])
         running = Running(TRACE, before, "--no-browser")
-        self.assertEqual(data["about"], json.loads(running.get("about")[2]))
+        for name in ("about", "differences"):
+            self.assertEqual(data[name], json.loads(running.get(name)[2]))
         for at, waits in enumerate(data["waits"]):
             self.assertEqual(gzip.decompress(base64.b64decode(waits)), running.get(f"waits.bin?recording={at}")[2])
         for at, packed in enumerate(data["scenes"]):

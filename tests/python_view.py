@@ -243,6 +243,25 @@ class Shown(unittest.TestCase):
         self.assertEqual(about["cpus"], [3])
         self.assertEqual(view_of(b"").about()["recordings"][0]["first"], None)
 
+    def test_differences(self):
+        """What differs between two recordings is what the package says, while something is struck too; of one there is none."""
+        texts = [example("recipes-before.trace"), example("recipes.trace")]
+        self.assertEqual(view_of(texts[0]).differences(), {"rows": []})
+        self.assertEqual(view_of(texts[0], texts[0]).differences(), {"rows": []})
+        for before, behind in (texts, texts[::-1], (texts[0], b""), (b"", texts[1])):
+            view = view_of(before, behind)
+            view.strike([("sched_waking", "pid > 0")])
+            rows = [
+                (row.key, *((side.count, side.p50, side.p99, side.max) if side.count else None for side in row[1:]))
+                for row in histdesk.diff(before, behind).table("name")
+            ]
+            told = [
+                ((row["task"], row["kind"]), *(row[side] and tuple(row[side].values()) for side in ("before", "behind")))
+                for row in view.differences()["rows"]
+            ]
+            self.assertEqual(told, rows)
+            self.assertTrue(rows)
+
     def test_remarks(self):
         text = text_of([waking(0, 5, 7)])
         self.assertEqual(

@@ -88,6 +88,7 @@ def data_of(view: View) -> Dict[str, Any]:
     scenes = (json.dumps(scenes_of(side), separators=(",", ":")).encode() for side in view.sides)
     return {
         "about": view.about(),
+        "differences": view.differences(),
         "packed": True,
         "waits": [packed(side.columns()) for side in view.sides],
         "scenes": [packed(content) for content in scenes],

@@ -297,7 +297,11 @@ def server_of(view: View, port: int) -> Server:
     def script(recording: int, event: str, filter: str, trigger: str, strikes: List[Any]) -> Json:
         return view.script(recording, Asked(event, filter, trigger), strikes_of(strikes))
 
-    gets = {"about": Ask(view.about, {}), "waits.bin": Ask(view.waits, {"recording": (int,)})}
+    gets = {
+        "about": Ask(view.about, {}),
+        "differences": Ask(view.differences, {}),
+        "waits.bin": Ask(view.waits, {"recording": (int,)}),
+    }
     posts = {
         "filter": Ask(view.filter, {"recording": (int,), "event": (str,), "text": (str,)}),
         "script": Ask(script, {"recording": (int,), "event": (str,), "filter": (str,), "trigger": (str,), "strikes": (list,)}),

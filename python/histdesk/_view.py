@@ -10,7 +10,7 @@ from typing import Any, Callable, Dict, List, Optional, Sequence, Tuple
 from . import _layout
 from ._changed import Row, fate_of, rows_of
 from ._desk import Desk
-from ._diff import ALWAYS, SIDES, STRIKABLE
+from ._diff import ALWAYS, SIDES, STRIKABLE, Difference, DifferenceRow, Figures
 from ._diff import Struck as Strike
 from ._ended import Ended, Found, Places
 from ._layout import needed
@@ -46,6 +46,8 @@ COLUMNS = (
 ALIGNED = 8
 # A longer wait, of more than 71 minutes, is shown as of so many microseconds.
 LONGEST = 2**32 - 1
+# What is told of both sides of a row that differs.
+SHOWN = ("count", "p50", "p99", "max")
 # So many rows of a trigger's table are told.
 ROWS = 1000
 
@@ -83,6 +85,14 @@ class View:
         without those that are struck."""
         side = self.side(recording)
         return answered("", lambda: side.wait(place, window, behind))
+
+    def differences(self) -> Json:
+        """The names and kinds of which something differs between two recordings, and what is counted of them in both, as
+        `Difference.table` has it; of one recording there are none."""
+        if len(self.sides) < 2:
+            return {"rows": []}
+        before, behind = (side.waits for side in self.sides)
+        return {"rows": [difference_told(row) for row in Difference(before, behind).table("name")]}
 
     def strike(self, strikes: Sequence[Tuple[str, str]]) -> Json:
         """The waits of the first recording without the events that some filters choose, each with the name of its event: what
@@ -319,6 +329,16 @@ def row_told(row: Row) -> Json:
     """A row of which something changed."""
     sides = {side: None if counted is None else counted._asdict() for side, counted in zip(SIDES, row[-2:])}
     return {"task": row.task, "pid": row.pid, "kind": row.kind, **sides}
+
+
+def difference_told(row: DifferenceRow) -> Json:
+    """A row of which something differs, in the form of `row_told`. The same tasks have other numbers in another recording."""
+
+    def side(figures: Figures) -> Optional[Json]:
+        return {name: getattr(figures, name) for name in SHOWN} if figures.count else None
+
+    task, kind = row.key
+    return {"task": task, "pid": None, "kind": kind, **dict(zip(SIDES, map(side, (row.before, row.behind))))}
 
 
 def cell(value: Any) -> Any:

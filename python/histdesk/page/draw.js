@@ -14,12 +14,12 @@ function made(name, attributes = {}, ...children) {
 }
 
 const grouped = new Intl.NumberFormat("en-US");
-const tenths = new Intl.NumberFormat("en-US", { minimumFractionDigits: 1, maximumFractionDigits: 1 });
 const number = (value) => value === null || value === undefined ? "-" : grouped.format(value);
 const inUnits = (value, units) => {
   const [size, unit] = units.findLast(([least]) => Math.abs(value) >= least) || units[0];
   return `${+(value / size).toPrecision(3)}${unit}`;
 };
+const counted = (count, what) => `${number(count)} ${what}${count === 1 ? "" : "s"}`;
 const short = (count) => inUnits(count, [[1, ""], [1e3, "k"], [1e6, "M"]]);
 const time = (micros) => inUnits(micros, [[1, " µs"], [1e3, " ms"], [1e6, " s"]]);
 // A stamp as traces have it.

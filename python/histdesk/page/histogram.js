@@ -123,11 +123,13 @@ const histogram = {
     };
     const items = isTwo || isCurve ? sides.map(ofSide) : Array.from({ length: groups.count }, ofGroup);
     if (told.some(({ doubtful }) => doubtful.some(Boolean))) items.push(made("span", {}, made("i", { class: "swatch hatched" }), "doubtful"));
+    const at = [...byId("legend").children].indexOf(document.activeElement);
     byId("legend").replaceChildren(...items);
+    byId("legend").children[at]?.focus();
   },
   figures() {
     const names = ["count", "mean", ...Object.keys(PERCENTILES), "max", "doubtful"];
-    const told = (value, name) => name === "mean" && value !== null ? tenths.format(value) : number(value);
+    const told = (value, name) => name === "mean" && value !== null ? value.toLocaleString("en-US", { minimumFractionDigits: 1, maximumFractionDigits: 1 }) : number(value);
     const cell = (figures, name) => made("td", { class: "n", "data-figure": name }, told(figures[name], name));
     byId("figures").tBodies[0].replaceChildren(...state.told.map(({ figures }, at) =>
       made("tr", {}, made("th", { class: `text-${at}` }, state.sides[at].title), ...names.map((name) => cell(figures, name)))));

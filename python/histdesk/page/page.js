@@ -51,7 +51,7 @@ function show(at) {
   state.shown = at;
   byId("sides").hidden = state.sides.length < 2;
   [...byId("sides").children].forEach((button, side) => {
-    button.setAttribute("aria-checked", side === at);
+    button.setAttribute("aria-pressed", side === at);
     button.lastChild.textContent = state.sides[side]?.title || "";
   });
   recount();
@@ -152,10 +152,7 @@ function cycle(id) {
   byId(id).dispatchEvent(new Event("change"));
 }
 
-function open(name, chosen) {
-  tab(name);
-  document.querySelector(chosen)?.focus();
-}
+const open = (name, chosen) => { tab(name); document.querySelector(chosen)?.focus(); };
 
 // The list of keys in page.html says what each does.
 const KEYS = {
@@ -191,10 +188,12 @@ function listen() {
   on("worst-rows", "scroll", () => redraw("worst"));
   on("worst-rows", "keydown", (event) => event.target.id === "worst-rows" && worst.pressed(event));
   on("bars", "keydown", (event) => histogram.key(event));
+  on("all-bars", "click", () => byId("worst-rows").focus());
   on("warning", "click", () => tell(byId("warning").title));
   document.addEventListener("keydown", pressed);
   each("[data-side]", (button) => button.addEventListener("click", () => show(Number(button.dataset.side))));
   each("[data-sort]", (cell) => cell.addEventListener("click", () => worst.sortBy(cell.dataset.sort)));
+  each("[data-change]", (head) => head.addEventListener("click", () => strikes.rows(strikes.all, head.dataset.change)));
   each("[data-key]", (button) => button.addEventListener("click", () => KEYS[button.dataset.key]()));
   each("[role=tab]", (button) => button.addEventListener("click", () => tab(button.id.slice(4))));
   each(".tabs", (tabs) => tabs.addEventListener("keydown", (event) => {
@@ -230,7 +229,7 @@ async function begin() {
   state.recordings = await Promise.all(about.recordings.map(async (one, at) => ({ about: one, waits: new Waits(await waits(at), one.waits) })));
   byId("trigger").value = firstTrigger(byId("event").value);
   if (about.recordings.length > 1) byId("heights").value = "share";
-  if (SAVED) for (const one of document.querySelectorAll(":is(#line, #strike) :is(input, select, button)")) one.disabled = true;
+  if (SAVED) for (const one of document.querySelectorAll(":is(#line, #strike .left) :is(input, select, button)")) one.disabled = true;
   head();
   listen();
   overTime.start();
@@ -238,6 +237,7 @@ async function begin() {
   group();
   strikes.start();
   document.body.classList.add("ready");
+  if (about.recordings.length > 1) strikes.rows(strikes.differences = (SAVED ? SAVED.differences : await asked("differences")).rows);
 }
 
 begin().catch(failed);

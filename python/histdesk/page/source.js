@@ -35,9 +35,7 @@ function latest(work) {
   };
 }
 
-function tell(text, isError = false) {
-  Object.assign(byId("status"), { textContent: text, className: isError ? "error" : "" });
-}
+const tell = (text, isError = false) => Object.assign(byId("status"), { textContent: text, className: isError ? "error" : "" });
 
 // Says at the bottom what went wrong. A `TypeError` of `fetch` is a server that isn't there.
 function failed(error) {

@@ -2,7 +2,7 @@
 const ROWS = 100;
 
 const strikes = {
-  sections: [], own: [], history: [], counts: [], shown: new Map(),
+  sections: [], own: [], history: [], counts: [], shown: new Map(), differences: [], all: [],
   start() {
     byId("strike-any").addEventListener("submit", (event) => {
       event.preventDefault();
@@ -14,8 +14,7 @@ const strikes = {
       if (answer.refused) return this.refuse(list, answer);
       this.counts = answer.struck;
       await struckBy(answer);
-      this.rows(answer.rows);
-      return this.check();
+      this.rows(list.length ? answer.rows : this.differences);
     });
     if (!SAVED) return this.fill();
     byId("rows-empty").textContent = `What the waits would be without some wakings is told by: ${SAVED.about.command}`;
@@ -41,8 +40,8 @@ const strikes = {
   key: ({ event, text }) => `${event} if ${text}`,
   // Draws what can be ticked, own filters first.
   list() {
-    const own = this.own.length ? [["without", this.own]] : [];
-    byId("ticks").replaceChildren(...[...own, ...this.sections].flatMap(([title, ticks]) => ticks.length ? [made("h3", {}, title), ...ticks.map((one) => this.tick(one))] : []));
+    const section = ([title, ticks]) => ticks.length ? [made("h3", {}, title), ...ticks.map((one) => this.tick(one))] : [];
+    byId("ticks").replaceChildren(...[["without", this.own], ...this.sections].flatMap(section));
     this.check();
   },
   tick(one) {
@@ -52,16 +51,16 @@ const strikes = {
   },
   // Ticks what is struck, and says how many events that are.
   check() {
-    const struck = new Map(state.strikes.map((one, at) => [this.key(one), this.counts[at]]));
-    const all = this.counts.reduce((sum, count) => sum + count, 0);
+    const struck = new Map(state.strikes.map((one, at) => [this.key(one), this.counts[at]])), all = this.counts.reduce((sum, count) => sum + count, 0);
     for (const input of byId("ticks").querySelectorAll("input")) {
       const count = struck.get(input.dataset.strike), told = count === undefined ? "" : number(count), { lastChild } = input.parentElement;
       input.checked = struck.has(input.dataset.strike);
       if (lastChild.textContent !== told) lastChild.textContent = told;
     }
     byId("undo").disabled = !this.history.length;
-    const rows = this.shown.size, told = `${number(all)} events struck, ${number(rows)} rows differ${rows > ROWS ? `, ${ROWS} shown` : ""}`;
-    byId("side-told").textContent = state.strikes.length ? told : "";
+    const of = state.recordings.length > 1 ? ` of ${nameOf(state.recordings[0].about.path)}` : "";
+    const rows = this.shown.size, told = `${counted(rows, "row")} differ${rows === 1 ? "s" : ""}${rows > ROWS ? `, ${ROWS} shown` : ""}`;
+    byId("side-told").textContent = state.strikes.length ? `${counted(all, "event")}${of} struck, ${told}` : rows ? told : "";
   },
   // Strikes, or inserts back.
   toggle(one) {
@@ -84,22 +83,24 @@ const strikes = {
     this.history.pop();
     this.list(this.set(state.strikes.filter((one) => this.key(one) !== wrong)));
   },
-  // The rows that differ, those with most waits fewer or more first; what the last strike changed flashes.
-  rows(rows) {
-    const before = this.shown, change = (row) => Math.abs((row.before?.count || 0) - (row.behind?.count || 0));
-    const all = rows.sort((one, other) => change(other) - change(one)).slice(0, ROWS);
+  // The rows that differ, those first of which a figure changed most, or how many waits there are; what the last strike changed flashes.
+  rows(rows, by = "count") {
+    const before = this.shown, change = (row) => Math.abs((row.before?.[by] || 0) - (row.behind?.[by] || 0));
+    for (const head of document.querySelectorAll("[data-change]")) head.ariaSort = head.dataset.change === by ? "descending" : "none";
+    const all = (this.all = rows).sort((one, other) => change(other) - change(one)).slice(0, ROWS);
     const cell = (row, name) => {
       const [was, is] = [row.before, row.behind].map((side) => number(side && side[name]));
       return made("td", { class: `n${was === is ? "" : " changed"}` }, was === is ? was : `${was} → ${is}`);
     };
-    this.shown = new Map(rows.map((row) => [`${row.pid} ${row.kind}`, JSON.stringify([row.before, row.behind])]));
+    this.shown = new Map(rows.map((row) => [`${row.pid ?? row.task} ${row.kind}`, JSON.stringify([row.before, row.behind])]));
     byId("rows").tBodies[0].replaceChildren(...all.map((row) => {
-      const key = `${row.pid} ${row.kind}`, name = made("td", {}, `${row.task} ${row.pid} `, made("i", {}, row.kind));
-      const attributes = { class: before.get(key) === this.shown.get(key) ? "" : "flash", "data-row": key };
-      return made("tr", attributes, name, ...["count", "p50", "p99", "max"].map((name) => cell(row, name)));
+      const key = `${row.pid ?? row.task} ${row.kind}`, name = made("td", {}, `${row.task} ${row.pid ?? ""} `, made("i", {}, row.kind));
+      const isSame = !state.strikes.length || before.get(key) === this.shown.get(key);
+      return made("tr", { class: isSame ? "" : "flash", "data-row": key }, name, ...["count", "p50", "p99", "max"].map((name) => cell(row, name)));
     }));
     byId("rows").hidden = !rows.length;
-    byId("rows-empty").hidden = rows.length > 0;
-    byId("rows-empty").textContent = state.strikes.length ? "Without these events the waits are the same." : "Nothing is struck.";
+    const told = state.strikes.length ? "Without these events the waits are the same." : "Nothing is struck.";
+    Object.assign(byId("rows-empty"), { hidden: rows.length > 0, textContent: told });
+    this.check();
   },
 };
