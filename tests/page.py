@@ -30,6 +30,7 @@ sys.path[:0] = [os.path.join(ROOT, "python"), HERE]
 
 import histdesk
 import python_runner
+import recordings
 
 TRACE, OTHER = (os.path.join(ROOT, "examples", name) for name in ("recipes.trace", "recipes-before.trace"))
 FIGURES = ("count", "mean", "p50", "p90", "p99", "p99.9", "max", "doubtful")
@@ -406,6 +407,12 @@ class Shown(Page):
         self.press(Keys.ENTER)
         self.until(lambda: self.js("return state.group === null"))
         self.assertEqual(self.js("return document.activeElement.id"), "worst-rows")
+        self.js("document.querySelector('#ticks input').click()")
+        self.until(lambda: self.find("#undo").is_enabled())
+        self.js("document.getElementById('undo').focus()")
+        self.press(Keys.ENTER)
+        self.until(lambda: not self.find("#undo").is_enabled())
+        self.assertEqual(self.js("return document.activeElement.id"), "tab-strike")
 
     def test_all_that_is_used_has_a_name(self):
         nameless = self.js(
@@ -671,6 +678,42 @@ class Lossy(Page):
         self.until_equal([figures_of(self.waits, True)], self.figures)
         self.find("#warning").click()
         self.assertIn(self.waits.warning, self.text("#status"))
+
+
+class Wide(Page):
+    """More CPUs than have room."""
+
+    CPUS = 80
+
+    @classmethod
+    def setUpClass(cls):
+        cls.folder = tempfile.TemporaryDirectory()
+        cls.words = (os.path.join(cls.folder.name, "wide.trace"),)
+        with open(cls.words[0], "wb") as file:
+            events = [recordings.waking(0, 1000, 7)]
+            events += [recordings.switch(cpu, 1001 + cpu, "<idle>-0", f"task-{100 + cpu}") for cpu in range(cls.CPUS)]
+            events += [recordings.switch(5, 2000, "task-105", "late-7")]
+            file.write(recordings.text_of(events))
+        super().setUpClass()
+
+    @classmethod
+    def tearDownClass(cls):
+        super().tearDownClass()
+        cls.folder.cleanup()
+
+    def test_a_key_shows_the_next_cpus(self):
+        self.press("n")
+        self.find("#worst-0").click()
+        self.until(lambda: self.js("return lanes.scene && lanes.boxes.length"))
+        shown = lambda: self.js("return lanes.shown().map(({ cpu }) => cpu)")
+        first, seen = shown(), set()
+        self.assertEqual(first[:2], [0, 5])
+        self.assertLess(len(first), self.CPUS)
+        for _ in range(self.CPUS // (len(first) - 2) + 1):
+            self.assertEqual((shown()[:2], len(shown())), ([0, 5], len(first)))
+            seen.update(shown())
+            self.press("n")
+        self.assertEqual(seen, set(range(self.CPUS)))
 
 
 class Empty(Page):

@@ -1,6 +1,6 @@
 // One wait: what ran on each CPU from a bit before it began to a bit after it ended, who woke the task, and all that in words.
 const lanes = {
-  scene: null, boxes: [],
+  scene: null, boxes: [], skipped: 0, step: 1,
   start() {
     this.canvas = byId("lanes");
     this.view = new View(this, this.canvas);
@@ -34,11 +34,13 @@ const lanes = {
     this.scene = { ...more, wait: scene.wait };
     redraw("wait");
   },
-  // Where there is no room for all CPUs, those of the wait come first.
+  next: () => { lanes.skipped += lanes.step; redraw("wait"); },
+  // Where there is no room for all CPUs, those of the wait come first, and others may be skipped, round and round.
   shown() {
     const { cpus, who, wait } = this.scene, room = Math.max(Math.floor(this.height / (0.9 * rem())), 1);
     const isOfIt = ({ cpu }) => cpu === wait.cpu || cpu === who?.cpu;
-    return cpus.length <= room ? cpus : [...cpus.filter(isOfIt), ...cpus.filter((one) => !isOfIt(one))].slice(0, room);
+    const own = cpus.filter(isOfIt), others = cpus.filter((one) => !isOfIt(one)), at = this.skipped % Math.max(others.length, 1);
+    return cpus.length <= room ? cpus : [...own, ...others.slice(at), ...others.slice(0, at)].slice(0, room);
   },
   draw() {
     byId("view-told").textContent = "";
@@ -47,13 +49,13 @@ const lanes = {
     Object.assign(view, { left: 4 * unit, width: width - 5 * unit });
     Object.assign(this, { top: 1.7 * unit, height: height - 5.2 * unit, boxes: [] });
     const cpus = this.shown(), left = scene.cpus.length - cpus.length;
-    this.tall = this.height / cpus.length;
+    Object.assign(this, { tall: this.height / cpus.length, step: Math.max(cpus.length - 2, 1) });
     within(context, view.left, 0, view.width, height, () => {
       cpus.forEach((one, at) => this.lane(context, one, this.top + at * this.tall));
       this.bounds(context, cpus);
     });
     this.axes(context, cpus, unit);
-    if (left) write(context, `${left} more CPUs have no room`, view.left + view.width, this.top + this.height + 3.1 * unit, "right");
+    if (left) write(context, `${left} more CPUs: n`, view.left + view.width, this.top + this.height + 3.1 * unit, "right");
     byId("view-told").textContent = `${wait.task} ${wait.pid} waited ${number(scene.end - scene.begin)} µs for CPU ${wait.cpu}`
       + `${scene.cut ? "; too much for all: zoom in by +" : ""}`;
   },

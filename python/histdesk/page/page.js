@@ -157,7 +157,7 @@ const open = (name, chosen) => { tab(name); document.querySelector(chosen)?.focu
 // The list of keys in page.html says what each does.
 const KEYS = {
   "/": () => byId("filter").focus(), t: () => byId("trigger").focus(), h: () => byId("bars").focus(), w: () => byId("worst-rows").focus(),
-  o: () => open("time", "#time-points"), l: () => open("wait", "#lanes"), s: () => open("strike", "#ticks input"),
+  o: () => open("time", "#time-points"), l: () => open("wait", "#lanes"), n: () => lanes.next(), s: () => open("strike", "#ticks input"),
   r: () => open("table", "#tab-table"), p: () => open("script", "#script-text"),
   g: () => cycle("by"), c: () => cycle("form"), x: () => cycle("scale"), y: () => cycle("heights"), d: () => cycle("theme"),
   v: () => state.sides.length > 1 && show(1 - state.shown), u: () => strikes.history.length && strikes.set(strikes.history.pop()),

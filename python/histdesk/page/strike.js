@@ -57,6 +57,7 @@ const strikes = {
       input.checked = struck.has(input.dataset.strike);
       if (lastChild.textContent !== told) lastChild.textContent = told;
     }
+    if (!this.history.length && document.activeElement.id === "undo") byId("tab-strike").focus();
     byId("undo").disabled = !this.history.length;
     const of = state.recordings.length > 1 ? ` of ${nameOf(state.recordings[0].about.path)}` : "";
     const rows = this.shown.size, told = `${counted(rows, "row")} differ${rows === 1 ? "s" : ""}${rows > ROWS ? `, ${ROWS} shown` : ""}`;
@@ -70,10 +71,7 @@ const strikes = {
     this.history.push(state.strikes);
     this.set(left.length < state.strikes.length ? left : [...left, { event: one.event, text: one.text }]);
   },
-  set(list) {
-    state.strikes = list;
-    this.send(list);
-  },
+  set(list) { this.send(state.strikes = list); },
   // A filter that can't be read is said below its box, and isn't struck.
   refuse(list, { refused, at, strike }) {
     const wrong = this.key(list[strike ?? list.length - 1]);
