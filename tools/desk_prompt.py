@@ -229,7 +229,7 @@ class Prompt:
         bare(rest)
         desk = self.commands.desk
         holes = [hole.cpu for hole in desk.holes]
-        rows = [(cpu, count, *(ends(desk, cpu) if count else ("", "")), holes.count(cpu)) for cpu, count in desk.cpus().items()]
+        rows = [(cpu, count, *ends(desk, cpu), holes.count(cpu)) for cpu, count in desk.cpus().items()]
         return in_columns(("CPU", "events", "first", "last", "losses"), rows) if rows else "no events are held"
 
     def waits(self, rest: str) -> str:
@@ -264,9 +264,9 @@ def in_columns(names: Tuple[str, ...], rows: List[Any]) -> str:
 
 
 def ends(desk: histdesk.Desk, cpu: int) -> Tuple[str, str]:
-    """The first and the last stamp of a CPU by line, of which events are held."""
-    first, last = desk._session.ends(library.histdesk_lane, cpu, 1)
-    return seconds(first), seconds(last)
+    """The first and the last stamp of a CPU by line; nothing where none of its events is held."""
+    lane = desk._session.ends(library.histdesk_lane, cpu, 1)
+    return (seconds(lane[1]), seconds(lane[2])) if lane else ("", "")
 
 
 def held(loaded: histdesk.Loaded) -> str:
