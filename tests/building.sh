@@ -74,7 +74,7 @@ building='build: building histdesk, histwatch and the library'
 all=(ft_c ft_desk ft_low histdesk histwatch)
 above=(ft_c ft_desk histdesk histwatch)
 
-builds first 0 "$building, all 5 crates, which takes a quarter of an hour and more; see $left/log"$'\n*' "${all[@]}"
+builds first 0 "$building, all 5 crates, which takes twenty minutes and more; see $left/log"$'\n*' "${all[@]}"
 head -n 2 -- "$folder/proved" >"$folder/out"
 prints "first, the lower ones first" $'ft_low\nft_desk'
 builds nothing 0 ""

@@ -200,7 +200,7 @@ expected() {
     elif [[ -s $took ]]; then
         echo "all ${#crates[@]} crates, which took $(<"$took") minutes the last time"
     else
-        echo "all ${#crates[@]} crates, which takes a quarter of an hour and more"
+        echo "all ${#crates[@]} crates, which takes twenty minutes and more"
     fi
 }
 
