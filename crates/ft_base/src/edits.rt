@@ -1,4 +1,4 @@
-//! Edits that boards share.
+//! Edits that boards share: a lane that is held, and another filter of a trigger.
 
 ghost use Rattle.std.specs.Prelude.{◌≡◌, ℕ, ◌≤◌, None, Some, IfSome, IsSome, option_map};
 ghost use Rattle.std.specs.Option.{ForSome, option_map_or};

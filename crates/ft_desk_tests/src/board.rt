@@ -1,3 +1,5 @@
+//! Edits and answers of both boards, and what these tests share.
+
 mod answers;
 mod attach;
 mod load;

@@ -1,4 +1,4 @@
-//! Filters.
+//! `Filter`: a condition on the fields of one event.
 
 ghost use Rattle.std.specs.Prelude.{◌≡◌};
 ghost use Rattle.ft_filter.specs.Tree.{tree_of};

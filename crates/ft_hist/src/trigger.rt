@@ -1,4 +1,4 @@
-//! Triggers.
+//! `Trigger`: a hist trigger, its parts, its `onmatch` and its filter.
 
 ghost use Rattle.std.specs.Prelude.{◌≡◌, ◌<◌, ◌≤◌, length, option_map, IsTrue, true};
 ghost use Rattle.std.specs.List.{list_all};

@@ -1,3 +1,5 @@
+//! Names, places and events, and what these tests share.
+
 mod fields;
 mod lines;
 

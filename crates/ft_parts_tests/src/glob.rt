@@ -1,3 +1,5 @@
+//! Which patterns are globs, and what they match.
+
 use ft_glob::*;
 use std::test::*;
 

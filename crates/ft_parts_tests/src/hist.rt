@@ -1,3 +1,5 @@
+//! Hist triggers without their texts: keys, values, parts; and what these tests share.
+
 mod keys;
 mod parts;
 mod values;

@@ -1,3 +1,5 @@
+//! Lanes: loads, edits and walks of them, and refused growths.
+
 mod listing;
 
 use crate::holds::changes;

@@ -1,3 +1,5 @@
+//! Finite maps: each call once.
+
 use crate::holds::{changes, holds};
 use ft_maps::*;
 use std::alloc::{AllocError, Global};

@@ -1,4 +1,4 @@
-//! Tests, and what they share.
+//! Saves and reads of a variable, and what these tests share.
 
 mod examples;
 mod mixed;

@@ -1,4 +1,4 @@
-//! Each call once.
+//! Lines of scripts and commands: each call once.
 
 use ft_event::Name;
 use ft_script::{Command, next_line, read_command};

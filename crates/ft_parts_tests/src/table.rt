@@ -1,4 +1,4 @@
-//! Tests, and what they share.
+//! Tables, and what these tests share.
 
 ghost use Rattle.ft_hist.specs.Fitting.{KeyFits};
 ghost use Rattle.ft_hist.specs.Hist.{Hist};

@@ -1,3 +1,5 @@
+//! Numbers and texts: each call once.
+
 use ft_text::*;
 use std::alloc::AllocError;
 use std::test::*;

@@ -1,3 +1,5 @@
+//! Hist triggers as texts, and what these tests share.
+
 mod filters;
 mod making;
 mod reading;

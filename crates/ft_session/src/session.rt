@@ -1,4 +1,4 @@
-//! The session.
+//! `Session` and its calls: a desk, and what was last asked of it.
 
 ghost use Rattle.std.specs.Prelude.{◌≡◌, Ok, [], unwrap_or};
 ghost use Rattle.std.specs.Option.{option_copied};

@@ -1,4 +1,4 @@
-//! The store.
+//! `Store` and its calls: events packed one after the other.
 
 ghost use Rattle.std.specs.Prelude.{◌≡◌, ◌≤◌, ◌++◌, ◌∷◌, [], length, map, take, OnOk, OnErr, IfOk};
 ghost use Rattle.ft_store.specs.inner.Packing.{event_names, event_of, packed, moved, width, IsSound};

@@ -1,4 +1,4 @@
-//! One event of a store.
+//! `Stored`: a reference to one event of a store, and what it tells without the rest.
 
 ghost use Rattle.std.specs.Prelude.{◌≡◌};
 

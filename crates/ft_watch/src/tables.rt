@@ -1,4 +1,4 @@
-//! The tables of a watch.
+//! The tables of a watch: what is known of each, and what an edit prints of them.
 
 ghost use Rattle.std.specs.Prelude.{◌≡◌, ◌+◌, ◌++◌, false, codes, decimal, option_map, ℕ, IfOk, OnOk, OnErr};
 ghost use Rattle.std.specs.Ordering.{nat_cmp};
