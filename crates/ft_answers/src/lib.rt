@@ -14,6 +14,74 @@
 //! // An answer depends on what is held and attached, and on nothing else.
 //! assert!(rt; board.totals(id)? == totals);
 //! ```
+//!
+//! # Contracts
+//!
+//! The clauses of trait `Board`. Steps are tests of an event against a trigger (`evals`), and hits
+//! and operations that are put into tables and pairs (`puts`).
+//!
+//! - `gives` of the edits (`EditGives`, `specs/Edited.antt`): the base is what `after_load` to
+//!   `after_remove` make of the base before (`ft_base/specs/After.antt`), or the refusal is theirs
+//!   and nothing has changed. A board may keep tables and put off bringing them up to its base: it
+//!   is *deferred*, the edit says so in `Done::kept`, and a refused edit changes nothing of it.
+//!   Lets through: running out of memory at any time, except in `unload`, `strike` and `remove`
+//!   (clause `memory`), which may give up what is kept beside the base; deferring without need,
+//!   except where `now` shuts it out.
+//! - `gives` of `hist`, `rows`, `counts`, `row`, `totals`, `latencies`, `pairs` (`AnswersFrom`):
+//!   each is a function of what replaying the base with the events that readings make gives
+//!   (`specs/Answers.antt`, `ft_made/specs/ReplayMaking.antt`). The table of a trigger on
+//!   `wakeup_latency` shows made events, that of any other held ones (`specs/Counting.antt`). The
+//!   base stays; no answer makes a board deferred, and after an accepted one it isn't. Lets
+//!   through: running out of memory at any time.
+//! - `content`, `list`, `name_of`, `is_deferred`: exact. `list` lets through: running out of memory
+//!   at any time.
+//! - `counts`: no count falls, and a refused edit takes no step.
+//! - `repairs` and `costs` (`specs/Costs.antt`) bound the steps where no made event is counted
+//!   (`MakesNothing`): no reader has an onmatch part, or no trigger is on `wakeup_latency`.
+//!   - `insert` and `strike`, with m attached triggers on the event's name: m tests at most and,
+//!     where each saver's table has the same keys before and after, 3m puts at most, on a deferred
+//!     board too.
+//!   - `unload` of a lane with fewer events than all others together, and `load` of fewer events
+//!     than are held: one test at most for each of these events and each trigger on its name.
+//!   - `refilter` of a trigger that reads nothing: one test at most for each held event on its
+//!     name, and as much for each trigger that reads what it saves.
+//!   - Let through: any number of steps of the other edits, of all edits where made events are
+//!     counted, of another filter for a reader, and of tables built anew; the puts of any other
+//!     filter; which trigger took which steps (`ft_kept` says it of each); steps that are not
+//!     counted, or by another `Work`. That the boards' constructors alone make that `Work`, and
+//!     `hit_of` alone evaluates keys and filters, is seen by reading.
+//! - `steps`: on a board that keeps tables and isn't deferred, no answer takes a step. Lets
+//!   through: any number of steps of the answers of other boards.
+//! - `now` (`specs/Deferral.antt`): on a board that isn't deferred, these accepted edits put
+//!   nothing off, made events counted or not: `insert` of an event that no trigger hits; `strike`
+//!   of one that no trigger with a variable hits; `unload` of a lane of such events that are fewer
+//!   than all others together; `remove` of a trigger that reads nothing. Lets through: running out
+//!   of memory for tables at any other edit.
+//! - `memory` of `totals`: on a board that keeps tables, it runs out of memory only where the board
+//!   is deferred, and leaves it so. The other answers make a text or a list, and may run out at any
+//!   time. That `row` makes no other row's text is seen in the source.
+//! - `reports` of `insert` and `strike` (`specs/Reporting.antt`): where an accepted edit has a
+//!   report, no row is in it twice, and each is of an attached trigger that counts held events. A
+//!   row of such a trigger that isn't in it is the one that replaying gave before, or there is none
+//!   before and after. Two rows at most are of one trigger that reads nothing; four of a reader,
+//!   and two more for each attached trigger that reads the same variable, itself among them. Apart
+//!   from the report, an accepted edit may name rows of triggers that count made events
+//!   (`IsMadeReport`): none twice, each of such an attached trigger, and a row that isn't named
+//!   stays as it was. A board that is deferred after the edit, or keeps no tables, as `PlainBoard`,
+//!   gives neither. Lets through: no report at all, and no rows of made events; rows that are named
+//!   and have not changed; any number of rows of made events. Nothing is said of totals and
+//!   latencies.
+//!
+//! And the rest:
+//!
+//! - `PlainBoard`, law `plain_board_keeps_none`: it meets `Board`, keeps no tables, and so is never
+//!   deferred.
+//! - Law `rows_make_the_text`: the text of a trigger's table is the lines above its rows, the texts
+//!   that `rows` gives, each with a line break, and the totals. The text that `row` gives is the
+//!   one that the key has among those of `rows`, and none where it has none there
+//!   (`specs/Rows.antt`).
+//! - `latency_of`, `table_text`, `table_rows`, `table_counts`, `table_row`, `counts_made`: exact.
+//!   The four of tables let through: running out of memory at any time.
 #![tactic(auto)]
 
 mod answers;

@@ -17,6 +17,24 @@
 //! content.removable(id)?;
 //! content.remove(id);
 //! ```
+//!
+//! # Contracts
+//!
+//! - `Content::load`, `unload`, `insert`, `attach`, `refilter`, and `strike` and `remove` once
+//!   `place_of` and `removable` have found what goes: contracts see the base, which is lanes,
+//!   attached triggers and the next id (`specs/Base.antt`). The base is what `after_load` to
+//!   `after_remove` make of the one before (`specs/After.antt`), or the refusal is theirs and
+//!   nothing has changed (`BaseGives`). `load`, `insert` and `attach` let through: running out of
+//!   memory at any time.
+//! - `Content::list`, `name_of`, `attached_triggers`, `trigger_text`, and `attached`, `role_of`,
+//!   `is_reader`, `Refused::number`: exact. `list`, `attached_triggers` and `trigger_text` let
+//!   through: running out of memory at any time.
+//! - Law `reachable_bases`: `IsReachable` (`specs/Reachable.antt`: limits, line numbers below the
+//!   lane's next one, one saver of a name, a saver with matching keys for each reader) holds of the
+//!   empty base, and each edit keeps it. Both boards have it as their invariant.
+//! - Law `one_saver`: who a reader's saver is.
+//! - Law `last_numbers`: the line number and the id 4,294,967,295 are still given; after each, the
+//!   lane's next event is refused with 7 and the next trigger with 15.
 #![tactic(auto)]
 
 mod attach;

@@ -4,14 +4,14 @@
 //! Shelves, one of each trigger, follow the base by `ft_repair`: one event more or less changes a few
 //! entries, one trigger more or less leaves those of the others, and where more events are loaded or
 //! unloaded than stay, all is built anew. Beside them stand the tables of events that readings make.
-//! As events come or go, these are mended: the shelves note what readings had found, and behind the
+//! As events come or go, these are mended: the shelves note what readings had found, and after the
 //! repair the hits of made events go and come where something is noted. They are made anew where
 //! shelves are built anew, as a trigger is attached or gets another filter, and as one goes that
 //! read. Where memory runs out for any of it, the edit stands, and the next answer builds it.
 //!
 //! An event that is inserted or struck may change a few rows of each trigger that counts held events,
-//! and these are reported: they are told by the triggers that act at the event and by what is kept
-//! behind it. Of triggers that count made events no rows are reported.
+//! and these are reported: they are found by the triggers that act at the event and by what is kept
+//! after it. The rows of triggers that count made events are named apart (`Edited::made`).
 //!
 //! ```ignore
 //! let mut board = KeptBoard::new(rt.alloc());
@@ -19,13 +19,52 @@
 //! let id = board.attach(trigger)?.value;
 //! let Done { value: edited, kept } = board.insert(event)?;
 //! assert!(rt; board.is_deferred() == (kept == Kept::Later));
-//! // Which rows may have changed, as far as memory was found: all others are as they were, but of
-//! // triggers that count made events.
+//! // Which rows may have changed, as far as memory was found: all others are as they were, except
+//! // those of triggers that count made events, which `edited.made` names.
 //! let rows = edited.report;
 //! // Read off the tables: no event is tested, where they have the edit.
 //! let totals = board.totals(id)?;
 //! assert!(rt; !board.is_deferred());
 //! ```
+//!
+//! # Contracts
+//!
+//! - `KeptBoard`, law `kept_board_keeps`: it meets `Board`, and keeps tables. Its invariant: where
+//!   it is not deferred, the shelves are those of the base's triggers and hold what their acts at
+//!   all held events say (`AreKeptOf`, of `ft_repair`), and beside them each trigger on
+//!   `wakeup_latency` has the table of the events that all readings make (`AreMade`,
+//!   `specs/MadeShelves.antt`). Lets through: deferring without need at a hit that comes, at one of
+//!   a saver or reader that goes, and at the other edits; leaving a report out. No clause says that
+//!   only running out of memory does it. The source shows it, and tests.
+//!
+//! The laws `kept_shelves`, `others_stay` and `readers_stay` of `ft_repair` are reached here too.
+//!
+//! **Made events.** Where events come or go one by one, the tables of made events are mended. The
+//! shelf of each trigger that makes events notes what its readings had found before they changed
+//! (`specs/inner/Mending.antt`). After the repair, the hit of what was made of that goes from each
+//! table that counts it, and the hit of what is made instead comes. Where nothing was noted, this
+//! takes neither memory nor steps. The tables are made anew where shelves are built anew, after
+//! `attach` and `refilter`, and as a reader is removed. No clause bounds the steps of either where
+//! made events are counted; where memory runs out, the shelves are given up too.
+//!
+//! **Which tables an edit touches** is how the source does it: `insert` and `strike` repair the
+//! tables by the one event, `attach` and `remove` add or take one trigger's, `refilter` builds anew
+//! those of a trigger and of its readers, and `unload` and `load` let the events of lanes go or
+//! come one by one where these are fewer than stay, else build all anew. The clause `costs` shuts
+//! out that `refilter` builds all anew; the clause `repairs` that the `unload` of a smaller lane
+//! does, or a `load` of few events.
+//!
+//! **Reports.** That `insert` and `strike` have a report wherever the tables have the edit, and
+//! memory for the report is found, is how the source does it. What they name is `ft_report`'s
+//! report of the acts that were gathered as the event came or went, by what is kept after it:
+//! clauses of `let_come`, `let_go` and the private `report` say that, and the private law
+//! `reported_edits` that such a report is one of the bases before and after the edit. No edit is
+//! put off for its report: `Acted::add` and `report` refuse nothing; where memory for either runs
+//! out there is no report, and the repair goes on. Of a strike of a hit of triggers without a
+//! variable alone, the clause `now` says so; of others, a test that refuses each growth of memory
+//! in turn. The rows of made events are found between the repair and the mending, from the notes,
+//! and hold of the tables before and after it: that is a clause of the private `turned`
+//! (`specs/inner/Turned.antt`).
 #![tactic(auto)]
 
 mod kept;

@@ -17,6 +17,16 @@
 //! // No desk is there.
 //! assert_eq!(rt; histdesk_load(alloc, &mut desk, trace, &mut events), 255);
 //! ```
+//!
+//! # Contracts
+//!
+//! - Each `histdesk_..` with a code: where the handle holds a session, what the session's call
+//!   says, and it is in the handle again; where it holds nothing, the code for that
+//!   (`specs/Codes.antt`), and nothing is written. A copy copies from what the session holds
+//!   (`specs/Copies.antt`), or nothing. Lets through: running out of memory, as the session.
+//!
+//! What C owes stands at the head of `include/histdesk.h`, and is assumed. That a handle is null or
+//! owns its session is what every export leaves, so that C can break it only by writing to it.
 #![tactic(auto)]
 
 mod codes;

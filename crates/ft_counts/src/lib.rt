@@ -7,6 +7,10 @@
 //! count.raise();
 //! // Contracts see 2.
 //! ```
+//!
+//! # Contracts
+//!
+//! - `Count::zero`, `Count::raise`: 0, and one more than before; exact.
 #![tactic(auto)]
 
 mod count;

@@ -13,6 +13,61 @@
 //! let done = desk.insert(b"a-1 [003] 1.000001: sched_waking: comm=b pid=8 prio=19 target_cpu=000")?;
 //! assert_eq!(rt; done.value.place, Place { cpu: 3, line: 1 });
 //! ```
+//!
+//! # Contracts
+//!
+//! - `Desk`, over every board: the clauses of `Board`, of texts: `after_load_text`,
+//!   `after_insert_text`, `after_attach_text`, `after_refilter_text` (`specs/Edits.antt`). The
+//!   first line that can't be read is named; `refilter` looks the id up before it reads the filter.
+//!   The board's counts and reports are the desk's. Lets through: what the board does.
+//! - `Desk::event`, `events`, `lane`, `matching`, `attached`, `trigger_text`: functions of the base
+//!   (`specs/Found.antt`, `ft_held/specs/Places.antt`), which they leave as it is. All except
+//!   `event` let through: running out of memory at any time.
+//! - `perform`: what one script line prints, whether it is refused, and the base after it:
+//!   `outcome` (`specs/Output.antt`). Lets through: running out of memory at any time.
+//! - `refused`: the line of a refusal, exact; it fails where the refusal is that memory ran out.
+//!   Lets through: running out of memory at any time.
+//! - `run_text`, over every board: what a script in memory prints is the text of `output` of files
+//!   and script, and its status is that of `output`. Lets through: running out of memory at any
+//!   time, which is its one failure.
+//! - `run`, over every reader and writer: `RunEnds` (`specs/Run.antt`) of what commands mean to a
+//!   desk (`outcome`). It says what was read and what was written by how the run ends:
+//!   - Well: the script was read to its end, and what was written is its whole output; the status
+//!     is that of the output.
+//!   - For memory: the whole output of the lines before the last one that was read was written, or
+//!     of all that had ended, where a part of the next found no memory.
+//!   - For reading: the whole output of the lines which byte 10 had ended was written.
+//!   - For writing: the whole output of the lines before the last one that was read was written
+//!     and, of that one's, a beginning with something left; or the script was read to its end and
+//!     its whole output written, and the flush failed.
+//!   - So a body that holds output back or reads ahead is refused. However it ends, at most
+//!     1,073,741,824 lines that byte 10 ended were read.
+//!   - Lets through: where the reader tells nothing, each case speaks of some script, and where the
+//!     writer tells nothing, of no bytes: so it is with the system's streams.
+//! - `run_counted`, over every `Session`, reader and writer, which `run` and both programs call:
+//!   `RunEnds` of what commands mean to the session. The reader is asked 1,073,741,824 times at
+//!   most, and not again after it failed; `Read` is answered where it failed, and else only where
+//!   it was asked so often. The writer is flushed once where the run ends well, for memory or for
+//!   reading, and not after a failed write; a failing flush makes `Write` of `Ok`, and changes no
+//!   other answer (`specs/Steps.antt`). Lets through: calls that are not counted (the source shows
+//!   that the private `take_part` has the one `fill_buf`, and `flush` the one flush, each beside
+//!   its tick); a second write after a failed one, which tests exclude.
+//! - Trait `Session`, met by `Desk`: what a line prints, whether it is refused and what is held
+//!   then is what commands mean to the session (`means`, a `Meaning` of `specs/Output.antt`); to a
+//!   desk that is `outcome`. Lets through: running out of memory at any time.
+//! - Laws `first_lines`, `what_runs_write`: whatever commands mean, the output of the first lines
+//!   of a script is a beginning of the whole script's; however a run ends, what it wrote is a
+//!   beginning of the output of the lines that it read, and of the whole script's.
+//! - `histdesk`, `run_program`: the exit status is at most 2; which one, by how the run ended, is a
+//!   clause of the private `exit_status`. Lets through: words that are no text; what goes to
+//!   standard error; and, of the system's files and standard input, of which nothing is told, all
+//!   that `run_words` says of told ones. The tests of the built program show these.
+//! - `read_traces`, `run_words` and `run_script`, which are private, over all that opens paths and
+//!   every session: `ProgramEnds` (`specs/inner/Ends.antt`). Words that name nothing are refused as
+//!   such, and only they. Else a path is told that cannot be read while all traces before it can,
+//!   the script's last. Else the script that the words name is run with the files at the paths that
+//!   they name, in order, and the status is that of `output`. Lets through: running out of memory
+//!   at any time; a path that is there and yet cannot be read.
 #![tactic(auto)]
 
 mod calls;

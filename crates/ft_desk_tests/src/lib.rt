@@ -1,4 +1,4 @@
-//! Tests of boards, desks and runs: each public call once, streams that fail, want of memory. They
+//! Tests of boards, desks and runs: each public call once, streams that fail, memory that runs out. They
 //! stand apart, so that no crate is proved a second time with its tests.
 #![tactic(auto)]
 

@@ -15,6 +15,20 @@
 //! let earlier = Pos { stamp: 6_000_100, cpu: 1, line: 9 };
 //! assert!(rt; earlier < Pos { stamp: 6_000_100, cpu: 2, line: 3 });
 //! ```
+//!
+//! # Contracts
+//!
+//! - `Event::name`, `Event::field`, `field_named`, `field_text`, `Field::is_text`: the table of
+//!   fields (`specs/Fields.antt`), exact. A second clause of `field_named`, `meaning`: a field is
+//!   given just where the event has it and the text is its name.
+//! - `Name::text`, `Name::called`, `Name::is_traced`: the names of events, and which of them are
+//!   traced (`specs/Names.antt`), exact. `called` has a clause `meaning` too.
+//! - `Comm::of`, `Comm::filled`, `Comm::bytes`, `Event::blank`: exact. `of` gives none just where
+//!   the text has over 31 bytes; `filled` requires that it has not.
+//! - `Comm`, `Pos`: lawful total orders.
+//! - Law `one_order`: places stand by stamp, then CPU, then line number; places that tie are equal.
+//! - Law `values_of_fields`: an event has a value in just the fields of its name, and a text in
+//!   just the fields that hold texts.
 #![tactic(auto)]
 
 mod comm;

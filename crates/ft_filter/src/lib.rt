@@ -1,4 +1,4 @@
-//! Filters of events, as they stand behind a trigger: reading them, writing them, and testing
+//! Filters of events, as they stand after a trigger: reading them, writing them, and testing
 //! events.
 //!
 //! A filter compares fields of one event with numbers, texts and globs, joined by `&&`, `||`, `!`
@@ -15,6 +15,27 @@
 //!     Err(fault) => report(fault.number(), fault.place()),
 //! }
 //! ```
+//!
+//! # Contracts
+//!
+//! - `parse`, clause `meaning`: the grammar `FilterIs` (`specs/FilterIs.antt`), for every text and
+//!   event: the tree by its rules, or the first fault with its place. Clause `exact`: the answer is
+//!   the function `filter_of`. Both let through: running out of memory at any time.
+//! - `Filter::holds`: whether an event passes, by cases of the tree (`specs/Holds.antt`); exact.
+//! - `Filter::write`: the canonical text, the one spelling that the desk writes, is added
+//!   (`specs/Canonical.antt`); after an error the text is as it was. Lets through: running out of
+//!   memory at any time.
+//! - `Filter::event`, `Filter::expr`, the parts of an expression, `FilterFault::number`,
+//!   `FilterFault::place`: exact.
+//! - `Pattern::bytes`, `Pattern::matches`: exact. A pattern's bytes are a glob, so that no event
+//!   tests this again.
+//! - Law `one_answer`: every text has one answer on every event.
+//! - Laws `reads_again`, `trees_of_texts`: the canonical text of a tree that some text gives, gives
+//!   that tree again; which trees those are (`specs/Shape.antt`).
+//! - Law `predicates_of_texts`: what the text of a predicate is read as, or its first fault with
+//!   its place, by conditions on cuts (`specs/PredIs.antt`).
+//! - Laws `words_of_texts`, `numbers_of_words`: gaps, names, operators and quoted texts by cuts; a
+//!   word writes a number just where it has one of the three forms (`specs/Numbers.antt`).
 #![tactic(auto)]
 
 mod fault;

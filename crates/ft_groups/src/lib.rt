@@ -11,6 +11,17 @@
 //!     let run = groups.run(key);
 //! }
 //! ```
+//!
+//! # Contracts
+//!
+//! - `grouped`, `Groups::keys`, `Groups::run`: of a list of events those that the trigger counts
+//!   under a key, in the order of the list, for each key under which it counts any; each such key
+//!   once (`specs/Grouped.antt`). At most as many ticks of `evals` as there are events. Lets
+//!   through: running out of memory at any time, and the order of the keys, which is that of their
+//!   first events.
+//!
+//! Each event is tested once at most. Where one number tells the key, an event whose number was met
+//! before may come to that number's key untested.
 #![tactic(auto)]
 
 mod groups;

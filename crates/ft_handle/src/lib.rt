@@ -13,6 +13,13 @@
 //! }
 //! handle.end(alloc);
 //! ```
+//!
+//! # Contracts
+//!
+//! - `Handle::empty`, `take`, `put`: contracts see what a handle holds: a session, or nothing,
+//!   which is null. `take` gives the session and leaves nothing; `put` drops what was there and
+//!   holds the session; exact. `end` drops what is held, and has no clause. `Handle` has no `Drop`,
+//!   so that no code lets a session go unseen.
 #![tactic(auto)]
 
 ghost use Rattle.std.specs.Prelude.{◌≡◌, Option, Some, None};

@@ -13,6 +13,15 @@
 //!     Ok(_) => return Err("that part was read"),
 //! }
 //! ```
+//!
+//! # Contracts
+//!
+//! - `parts_of`: the draft that the parts make, or the first fault among them with its place, as
+//!   `parts_from` has it (`specs/Draft.antt`). Lets through: running out of memory at any time.
+//! - `Draft`, `Action`, `TriggerFault::number`, `TriggerFault::place`: exact.
+//! - Law `sizes`: the size that a text writes.
+//! - Law `one_action`: onmatch parts are what they make when they are written again
+//!   (`specs/Onmatch.antt`, `specs/PartSpelling.antt`).
 #![tactic(auto)]
 
 mod draft;

@@ -13,6 +13,13 @@
 //! let filter = parse(rt.alloc(), b"pid == 42", Name::Waking)?;
 //! let wakings = matching_places(rt.alloc(), &lanes, &filter)?;
 //! ```
+//!
+//! # Contracts
+//!
+//! - `places`, `lane_places`, `matching_places`: the places of all held events in merged order; of
+//!   a lane's from a line on, by line; of those that have a filter's name and pass it, in merged
+//!   order (`specs/Places.antt`). Exact. Lets through: running out of memory at any time; any
+//!   number of passes over what is held.
 #![tactic(auto)]
 
 mod in_lane;

@@ -15,6 +15,36 @@
 //! }
 //! trigger.write(&mut text)?;
 //! ```
+//!
+//! # Contracts
+//!
+//! - What reads a trigger's parts: exact. A trigger keeps the limits (1 to 3 keys, at most 3
+//!   values, 1 or 2 sort items, a size of 128 to 131,072) and is sound (`specs/Sound.antt`): its
+//!   items are fields of its event that suit them, or its own variable; one with an onmatch part
+//!   reads a variable, that part names one of the four events, and both its fields are numbers of
+//!   the trigger's own event; one on `wakeup_latency` has neither variable nor onmatch part.
+//! - `Trigger::write`: the canonical text is added (`specs/Canonical.antt`); after an error the
+//!   text is as it was. Lets through: running out of memory at any time.
+//! - `Trigger::set_filter`, `Trigger::set_onmatch`: that filter or onmatch part, or none; all else
+//!   stays.
+//! - `Trigger::hit_of`: the key where the event has the trigger's name and passes its filter, else
+//!   none (`specs/Hit.antt`), at exactly one tick of `evals` of the `Work` handed in and none of
+//!   `puts`. Lets through: ticks of another `Work`.
+//! - `Trigger::values_of`: what an event adds to the sums, in the order of the values; 0 after the
+//!   last one (`specs/Values.antt`).
+//! - `Trigger::made`: where there is an onmatch part, the event `wakeup_latency` of a reading and
+//!   the saving that it found (`specs/Made.antt`): the reading event's task, PID, CPU and stamp,
+//!   the microseconds between the two, and the numbers of both fields.
+//! - `Trigger::keys_match`: whether the keys of two triggers make parts of the same kinds; exact,
+//!   with a clause `meaning`.
+//! - `Work`: two counters that contracts alone see. Lets through: a tick for anything. No clause
+//!   says what a step is.
+//! - Law `powers`: `.log2` gives the least n for which 2 to the n is not below the value.
+//! - Law `multiples`: `.buckets` gives the greatest multiple that is not above the value.
+//! - Law `fitting_parts`: the key of a hit has a part of its kind for each key item.
+//! - Law `asked_events`: an event is a hit just where it has the trigger's name and passes its
+//!   filter.
+//! - Law `summed_fields`: at a hit each field that is summed holds a number, which is its value.
 #![tactic(auto)]
 
 mod hitting;

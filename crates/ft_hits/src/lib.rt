@@ -18,6 +18,28 @@
 //! by_key.insert(other, Entry::of(rt.alloc(), run)?)?;
 //! assert!(rt; take_hit(&mut by_key, mark) && !holds(&by_key, mark));
 //! ```
+//!
+//! # Contracts
+//!
+//! - `Spot::traced`: exact. A *spot* is the place of an event and who made it: 0 for an event of
+//!   the trace, else the id of the trigger that made it (`specs/Spots.antt`). A *mark* is a spot
+//!   and a key (`specs/Marks.antt`).
+//! - `put_hit`, `take_hit`: of a tree that has an entry for each key, contracts see all its hits: a
+//!   finite map from mark to values (`specs/ByKey.antt`). `put_hit` puts one where none stands, and
+//!   a refusal changes nothing; `take_hit` takes one, tells whether it stood there, and needs no
+//!   memory. `put_hit` lets through: running out of memory at any time.
+//! - `put_behind`: puts a hit where its key has one before it, and tells the first of these; else,
+//!   and at a refusal, nothing changes. Lets through: running out of memory at any time; saying
+//!   that the key has none before it.
+//! - `count_of`, `sums_at`, `first_at`, `next_hit`, `holds`: how many hits a key has, their sums
+//!   modulo 2^64, the spot of the first, the first after a spot, whether one stands at a mark
+//!   (`specs/Hits.antt`); exact.
+//! - `Entry::of`, `Entry::len`, `Entry::first`: contracts see of an entry its hits, a finite map
+//!   from spot to values. `of` makes it of a list, and keeps the first of several hits at one spot;
+//!   exact. `of` lets through: running out of memory at any time.
+//! - `count_puts`: one tick of `puts` for each hit of a list.
+//! - Laws `one_spot_order`, `one_mark_order`: spots stand by place, then by maker; marks by spot,
+//!   then by key.
 #![tactic(auto)]
 
 mod entry;

@@ -23,6 +23,40 @@
 //!     tables.acts_come(&triggers, trigger, 3, &groups, &mut work)?;
 //! }
 //! ```
+//!
+//! # Contracts
+//!
+//! - `Tables::event_comes`, `event_goes`, clause `right`: contracts see a *shelf* for each trigger
+//!   (`ft_shelves/specs/Shelves.antt`). Where the shelves hold what the triggers' acts at some
+//!   events say, they hold afterwards what those at one event more, or less, say
+//!   (`specs/Acts.antt`, `specs/Entries.antt`, `specs/Repairs.antt`). No replay is in it. Lets
+//!   through: running out of memory, except where `memory` shuts it out; then nothing is said of
+//!   the shelves.
+//! - Clauses `memory`: an event that comes and is no hit, and one that goes and is a hit of
+//!   triggers without a variable alone, never run out of memory (`specs/Memory.antt`).
+//! - Clauses `evals`, `puts`: the event is tested at most once for each trigger on its name. With m
+//!   such triggers, at most 3m is put into tables and pairs, unless the event's hit moves a key
+//!   into some saver's table or out of it (`specs/Bounds.antt`). Lets through: any walks and
+//!   look-ups, and any work where readings are kept. None of these is counted.
+//! - Clauses `acted`: after what `Acted` has gathered stand the triggers that the event is a hit
+//!   of, in order of id, each with the hit's key (`specs/Acted.antt`). Lets through: gathering
+//!   nothing any more, at any time. That only running out of memory does it is seen in the source.
+//! - `Tables::acts_come`, clause `right`: all acts of a trigger of which nothing is kept yet, by
+//!   its events grouped by key: where the shelves hold what the acts of the others say, they hold
+//!   afterwards what all acts say (`specs/AtOnce.antt`). No event is tested again. Lets through:
+//!   running out of memory at any time, and then nothing is said of the shelves; any number of
+//!   puts.
+//! - `Tables::is_bare`: where it says so, nothing is kept of the trigger, no operation stands on
+//!   what it saves, and no other trigger reads what it reads. Lets through: saying no; then the
+//!   acts come one by one.
+//! - `Tables::comes_to`, `goes_from`: the same as `event_comes` and `event_goes` at one trigger;
+//!   the other savers' tables stay. Lets through: the same.
+//! - `Tables::new`, `add`, `drop_shelf`, `take_notes`, `drop_notes`, `shelf`, `Acted::new`,
+//!   `unasked`, `all`: exact. `add` lets through: running out of memory at any time.
+//!
+//! That only what an event touches is repaired (its own hit and operation, the next reading, the
+//! readings of keys that moved) is how the source does it. The clauses bound the puts and say
+//! nothing of the rest.
 #![tactic(auto)]
 
 mod act;

@@ -11,6 +11,14 @@
 //! assert_eq!(long.part(1), Some(Part::Log2(3)));
 //! assert!(short.part(1).is_none());
 //! ```
+//!
+//! # Contracts
+//!
+//! - `Key`: contracts see a list of one to three parts. What makes one and what reads its parts is
+//!   exact.
+//! - `Key`, `Part`: lawful total orders (`specs/Parts.antt`, `specs/Orders.antt`).
+//! - Laws `one_key_order`, `equal_keys`: keys compare by their parts from the left, a beginning
+//!   before what it begins; keys that tie are equal.
 #![tactic(auto)]
 
 mod key;

@@ -16,6 +16,19 @@
 //! assert!(rt; lanes.next_line(event.cpu) > u64::from(line));
 //! let text = lanes.list(rt.alloc(), event.cpu)?;
 //! ```
+//!
+//! # Contracts
+//!
+//! - `Lanes::load`, `push`, `take`, `take_lane`: contracts see a finite map from CPU to a lane,
+//!   which is its events by line and its next number (`specs/Held.antt`). Each CPU of the events
+//!   gets a lane; an event at its lane's next number; an event or a lane less, without memory. A
+//!   refusal changes nothing. `load` and `push` let through: running out of memory at any time;
+//!   whether dead places in the store are ever used again, which a test shows at a later load.
+//! - `Lanes::get`, `lane`, `lanes`, `next_line`, `held_cpu`, `held_on`, `len`: exact.
+//! - `Lanes::list`: the text of a lane (`specs/Listing.antt`). Lets through: running out of memory
+//!   at any time.
+//! - `Lanes::stored`, `cpu_at`: at least as many places as events are held; at most the last CPU.
+//!   Lets through: any such numbers. They only help walks.
 #![tactic(auto)]
 
 mod edits;

@@ -8,6 +8,20 @@
 //! // Of five places, those from the fourth on.
 //! assert_eq!(copy_places(&places, 3, &mut room), 2);
 //! ```
+//!
+//! # Contracts
+//!
+//! - `RowLayout::of` and the other layouts: each struct is a function of the value that it shows
+//!   (`specs/Rows.antt`, `specs/Events.antt`, `specs/Places.antt`, `specs/Refusals.antt`).
+//!   `name_number`, `name_numbered`: a name's number and back.
+//! - `copy_part`, `copy_rows` and the other copies: as many items from a number on as there are and
+//!   as have room are shown at the front of the caller's array, the rest of which stays, and the
+//!   answer is how many (`specs/Copied.antt`); exact.
+//! - `refused_of`, law `numbers_of_refusals`: the refusal that numbers are of, where they are of
+//!   one; that of a refusal's layout is the refusal. Law `numbers_of_names`: the same of names.
+//! - `refusal_text`, `refusal_words`: the line that a script prints of it, without its line break,
+//!   exact; its words, which have no clause, and none where the numbers are of no refusal. Lets
+//!   through: running out of memory at any time.
 #![tactic(auto)]
 
 mod copying;

@@ -19,6 +19,49 @@
 //! put_turned_keys(&mut keys, lanes, trigger, maker, turn, &mut work)?;
 //! turn_made(&mut table, lanes, trigger, 2, maker, turn, &mut work)?;
 //! ```
+//!
+//! # Contracts
+//!
+//! What a reading makes is `made_of` of the trigger (`ft_hist/specs/Made.antt`): an event where the
+//! trigger has an onmatch part. It depends on the place and the event of the reading, and on the
+//! place of the saving that it finds.
+//!
+//! - Law `counted_made`: replaying with made events (`specs/ReplayMaking.antt`) comes apart. Its
+//!   field `first` is, as one state, what replaying without them gives. In its field `made` an
+//!   attached trigger has counted the made events in order of their spots, and no other id has a
+//!   tally. Events on whose name no trigger is change nothing; where no attached trigger has an
+//!   onmatch part, `made` is as it started.
+//! - Law `made_by_spot`: the made events are a finite map from spots to what the reading there
+//!   makes of the saving that it finds in the replay without made events. Its entries are those of
+//!   all triggers at all held events, in order, no two at one spot (`specs/MadeEvents.antt`).
+//! - Law `same_made`: a place that keeps its event, trigger and role, and whose reading finds what
+//!   it found, makes what it made; savings that are what readings find make the same events.
+//! - Law `tallied_made`: what an attached trigger counts of made events is what a table makes of
+//!   its hits among them (`specs/MadeHits.antt`). A map with the right look-ups, by spot and key,
+//!   gives that tally. So does one that is given, spot by spot, by the savings that readings find.
+//! - Law `made_tables`: a table that holds just what the events made of kept readings add
+//!   (`IsMadeTable`, `specs/MadeTables.antt`) has that tally, where what is kept is what readings
+//!   find; its keys fit its trigger. Where what is made changes at one spot alone, a table that
+//!   changes there alone stays one, as by one `put_made` or `take_made`.
+//! - Law `replayed_pairs`: the pairs that replaying gives are those of readings in merged order; a
+//!   table that is made of them has the tally that replaying with made events gives.
+//! - Law `turned_keys`: take the table of what readings make by what they found, and the one by
+//!   what they find later. They have one size, and the same hits of all keys outside a list, where
+//!   the list has the keys of what is made either way wherever it differs. The list that
+//!   `put_turned_keys` gives has them at each noted place (`specs/Turning.antt`).
+//! - `made_table`: such a table, of held events and of what is kept of readings in pairs (trait
+//!   `KeptReadings`); no step where no trigger has an onmatch part. Lets through: running out of
+//!   memory at any time; any number of steps where one has.
+//! - `turn_made`: takes a table that was made of readings, of which notes tell what some had found;
+//!   gives the one that is made of what these find. Where nothing is noted, it succeeds, changes
+//!   nothing and takes no step. Lets through: elsewhere, running out of memory, and then nothing is
+//!   said of the table; any number of steps.
+//! - `put_turned_keys`: adds the keys under which a trigger counts what another made at noted
+//!   places, and what that makes there; exact. Lets through: running out of memory at any time; any
+//!   number of steps.
+//! - `put_made`, `take_made`: the table with, or without, the hit that an event made at a spot is;
+//!   exact. One test where the trigger is on its name, and one put at most. `put_made` lets
+//!   through: running out of memory at any time, and then the table is as it was.
 #![tactic(auto)]
 
 pub mod laws;

@@ -15,6 +15,13 @@
 //! }
 //! take(&mut map, &3);
 //! ```
+//!
+//! # Contracts
+//!
+//! - `put`, `take`, `get`, `len`, `entries`: contracts see a finite map (`specs/Seen.antt`). One
+//!   key of it is put, taken or looked up, its keys are counted, its entries walked in order;
+//!   exact. `put` and `take` require an order in which keys that tie are equal. A refused `put`
+//!   leaves the map as it was. `put` lets through: running out of memory at any time.
 #![tactic(auto)]
 
 ghost use Rattle.std.specs.Prelude.{◌≡◌, ◌<◌, ◌^◌, length, OnOk, OnErr};

@@ -10,11 +10,37 @@
 //! pairs.insert(key, saving, Op::Save, &mut work)?;
 //! pairs.insert(key, reading, Op::Read, &mut work)?;
 //! assert!(rt; pairs.source(&key, reading) == Some(saving));
-//! // The reading has unset the variable, so one behind it finds nothing.
+//! // The reading has unset the variable, so one after it finds nothing.
 //! assert!(rt; pairs.source(&key, later).is_none());
 //! pairs.remove(&key, reading);
 //! assert!(rt; pairs.source(&key, later) == Some(saving));
 //! ```
+//!
+//! # Contracts
+//!
+//! - `Role`, `Variable`: what a trigger does with which variable (`specs/Roles.antt`); variables
+//!   stand by saver, then by key.
+//! - `Pairs::insert`, `remove`, `remove_key`: contracts see what stands at each key and place
+//!   (`specs/ByKey.antt`). One operation more, at exactly one tick of `puts`, and a refusal changes
+//!   nothing; one less, or all saves of a key, without memory (`specs/Edits.antt`). `insert` lets
+//!   through: running out of memory at any time.
+//! - `Pairs::put_key`: all operations of a key that has none yet, those of a list; a refusal
+//!   changes nothing (`specs/Runs.antt`). A tick of `puts` for each. Lets through: running out of
+//!   memory at any time.
+//! - `Pairs::put_reads`: reads of a key at some places, with what each of them finds then. A tick
+//!   of `puts` for each, refused or not. Lets through: running out of memory at any time; then some
+//!   of the reads may stand: each place of the key has what it had or its read, and other keys have
+//!   what they had.
+//! - `Pairs::is_empty`: where it says so, no operation is there. Lets through: saying no.
+//! - `Pairs::op_at`, `source`, `next_op`: what stands there; what a reading finds
+//!   (`specs/Source.antt`); the next operation (`specs/Next.antt`), with a number that falls.
+//! - Laws `one_act_order`, `one_source`, `one_next`: triggers act in order of place, then of id;
+//!   what a reading finds, and the next operation, are one thing or nothing.
+//! - Laws `local_sources`, `one_operation`, `reads_of_one_key`, `own_operations`, `whole_walks`:
+//!   what a reading finds depends on the operations before it, back to the last one that stays; one
+//!   operation more or less changes what the next one on its key finds, at most; where a key's
+//!   saves go, only reads of that key are touched; a key's operations decide alone; a walk has each
+//!   operation once, in order.
 #![tactic(auto)]
 
 mod at;

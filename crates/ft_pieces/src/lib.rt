@@ -16,6 +16,17 @@
 //! }
 //! assert!(rt; number_in(b"065", 1, 100) == Some(65) && number_in(b"101", 1, 100).is_none());
 //! ```
+//!
+//! # Contracts
+//!
+//! - `Pieces::of`, `Pieces::next_piece`, `Piece`: the pieces of a text between separators, in
+//!   order, each with the place at which it begins (`specs/Words.antt`); exact.
+//! - `word_of`, `Word`: an item as a `$` or none, a name and a suffix; none where it has another
+//!   form. Whether two words have the same name, both with a `$` or both without. Exact.
+//! - `is_name`, `number_in`: whether a text is a name and nothing else; the number that decimal
+//!   digits write, where it is within both limits. Exact.
+//! - Laws `one_list`, `one_word`: pieces and items are what they make when they are written again
+//!   (`specs/Spelling.antt`).
 #![tactic(auto)]
 
 pub mod laws;

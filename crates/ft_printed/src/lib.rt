@@ -10,6 +10,15 @@
 //! let line = refused_line(alloc, Refused::LaneHeld(3))?;
 //! assert!(rt; line.as_slice() == b"refused 4: cpu 3\n");
 //! ```
+//!
+//! # Contracts
+//!
+//! - `EditValue::add_to`, `done_line`: the text of a number or a place is added after the old
+//!   bytes; the line of an accepted edit is its word, its value and byte 10; exact. Lets through:
+//!   running out of memory at any time.
+//! - `Answer::into_lines`, `refused_line`: the lines of totals and latencies
+//!   (`specs/Answered.antt`), a text as it is; the line of a refusal, with what it says beside its
+//!   number (`specs/Refusals.antt`); exact. Lets through: running out of memory at any time.
 #![tactic(auto)]
 
 mod accepted;

@@ -13,6 +13,15 @@
 //! assert_eq!(rt; event.stamp, 6_000_100);
 //! assert_eq!(rt; read_cut_line(b"# a comment", &mut event), Ok(false));
 //! ```
+//!
+//! # Contracts
+//!
+//! - `read_cut_line`: both clauses of `ft_event::read_cut_line`. Lets through: which lines are read
+//!   the quick way; a body that gave each line to the general reader would meet it.
+//!
+//! A line of the usual form is cut from the left, and each cut is an equation of texts. Together
+//! they are a cut as the line relation asks for; by `ft_event`'s law `one_answer` its answer is
+//! that of the general reader.
 #![tactic(auto)]
 
 mod columns;

@@ -18,6 +18,53 @@
 //!     restore(&mut kept, alloc, &content, work);
 //! }
 //! ```
+//!
+//! # Contracts
+//!
+//! Each call takes the shelves where there are some (`Option<Tables>`), leaves none where there are
+//! none, and gives them up where memory runs out. What is kept before and after is said of the base
+//! (`AreKeptOf` and its like, `specs/Repaired.antt`).
+//!
+//! - `let_come`, `let_go`: the event of a line comes to shelves that are kept of all others, or
+//!   goes from those that are kept of all; the triggers that act at it are gathered; what it costs
+//!   is `CostsOf`. The shelves are never given up as an event comes that no trigger hits, or as one
+//!   goes that only triggers without a variable hit; where only such triggers hit it, notes stay as
+//!   they are. Lets through: giving the shelves up at any other event.
+//! - `let_lanes_come`, `cpus_before`: the events of all lanes except those of some CPUs come to the
+//!   shelves, with a test at most for each and each trigger on its name; which CPUs are held before
+//!   a load, exact, where fewer events come than are held. Lets through: giving the shelves up, and
+//!   running out of memory, at any time.
+//! - `let_lane_go`: the events of a lane go from the shelves, with as many tests at most. Where
+//!   only triggers without a variable hit these, the shelves are never given up. Lets through:
+//!   giving the shelves up at any other lane.
+//! - `join`: an attached trigger joins the shelves with those that read what it saves, of which
+//!   nothing need be kept before, with a test at most for each event on their names. Lets through:
+//!   giving the shelves up at any time.
+//! - `leave`: a trigger that none reads leaves the shelves. Where it reads nothing, that takes no
+//!   step, never gives the shelves up, and leaves all others as they are. Lets through: giving the
+//!   shelves up where it reads a variable.
+//! - `make_way`: whatever filter the trigger gets next, the shelves of all except it and its
+//!   readers are kept. Where no trigger has the id, nothing changes; where it reads nothing, it
+//!   takes no step. Lets through: giving the shelves up at any time.
+//! - `renew`, `restore`: the shelves are built anew, where there were some; where there were none
+//!   too. Let through: giving the shelves up at any time; any number of steps.
+//! - `reads`: whether the trigger with an id reads a variable; exact.
+//! - Law `kept_shelves`: shelves that hold what the acts of all held events say give the tally that
+//!   replaying gives. Each one's table is made of its trigger's hits in the whole replay, which are
+//!   of events of the trace; its readings found there what is kept of them; the operations kept on
+//!   a variable are those of the replay (`specs/KeptShelves.antt`).
+//! - Law `others_stay`: a trigger that reads nothing keeps its table, whatever other triggers come,
+//!   go or get another filter.
+//! - Law `readers_stay`: a trigger that reads keeps its table and what its readings found, whatever
+//!   other triggers come, go or get another filter, where its saver stays and the same triggers
+//!   read that (`specs/Staying.antt`); the operations on what such a saver saves stay too. So
+//!   another filter of one trigger leaves each reader's table and readings as they are, except
+//!   where that trigger is the saver or reads it. Lets through: any change of other readers of a
+//!   variable as one of them comes, goes or gets another filter, since what this one reads, they
+//!   miss.
+//!
+//! That the shelves outside stay as they are while a family gets new ones is a clause of the
+//! private `renew_shelves`.
 #![tactic(auto)]
 
 mod lane_goes;

@@ -11,6 +11,26 @@
 //! let totals = counter.table().totals();
 //! let pairs = counter.pairs();
 //! ```
+//!
+//! # Contracts
+//!
+//! - `replayed`, `Counter`: a counter for each attached trigger, whose hits and pairs are the tally
+//!   that replaying what is held gives (`specs/Counters.antt`), with the trigger's role and size,
+//!   and only keys that fit it; no count of steps falls. `Counter::role`, `table`, `pairs`: exact.
+//!   Lets through: running out of memory at any time; any number of steps.
+//! - `merged_events`, `merged_events_but`, `events_with`, `Names`: the events of these names in
+//!   merged order; exact. Lets through: running out of memory at any time.
+//! - Law `merged_order`: what the merged order holds at a place is the event held there, and
+//!   nothing else.
+//! - Law `named_events`: events on whose name no trigger is change nothing as they are replayed.
+//! - Law `matched_readings`, the matching law: a reading finds the place of the last operation
+//!   before it, if that is a save, and nothing else (`specs/Operations.antt`).
+//! - Law `counted_hits`, the admission law: what a trigger has counted is what a table makes of its
+//!   hits. A key is in just where it has a hit and fewer than `size` other keys have an earlier
+//!   first one.
+//! - Law `kept_maps`: maps with the right look-ups give the tally that replaying gives
+//!   (`specs/Found.antt`).
+//! - Law `same_elsewhere`: what stays as events change elsewhere (`specs/Elsewhere.antt`).
 #![tactic(auto)]
 
 mod act;

@@ -1,7 +1,7 @@
 //! Reports: as one event comes or goes, which rows may differ.
 //!
 //! They are told by the keys under which triggers act at the event, and by what is kept before it
-//! or behind it. Of a trigger that reads nothing the event touches its own key alone; of a reader
+//! or after it. Of a trigger that reads nothing the event touches its own key alone; of a reader
 //! all keys under which triggers read the same variable, its saver's, and those that may come into
 //! the saver's table or go out. The rows of touched keys may differ, and those of their rivals in
 //! the trigger's own table.
@@ -15,6 +15,28 @@
 //!     // The row of `rows[0].key` in the table of trigger `rows[0].id` may differ, and so on.
 //! }
 //! ```
+//!
+//! # Contracts
+//!
+//! - Law `event_rows`: says of an event that came or went, by what is kept before and after, as
+//!   `Tables::event_comes` and `event_goes` leave it (clauses `came`, `went`): a trigger's row of a
+//!   key stays where the key isn't *named* for that trigger (`specs/Touched.antt`). What is named
+//!   may be read off what is kept before or after. Two keys at most are named of a trigger that
+//!   reads nothing; of a reader four, and two more for each attached trigger that reads the same
+//!   variable, itself among them.
+//! - Law `touched_rows`: the same of acts that change at one place in any way. The hits of keys
+//!   that aren't *touched* stay, and the rows of those that aren't named. Named are the touched
+//!   keys and their rivals in the trigger's table, none twice. Touched are a trigger's own keys; of
+//!   a reader, those under which its saver's readers act, the saver's own, and their rivals in the
+//!   saver's table.
+//! - Law `reported_rows`: the report of an event has no row twice, each row that differs of an
+//!   attached trigger that counts held events, and as few of each trigger as `event_rows` says. It
+//!   may be read off what is kept before or after (`specs/Report.antt`).
+//! - `changed_rows`: that report, of the acts that it is given, in order of the triggers' ids;
+//!   exact. Lets through: running out of memory at any time; acts other than the event's, which the
+//!   laws shut out and it doesn't test. It looks for no rows of triggers that count made events.
+//! - `distinct`, `put_rows`: some keys, each once; the rows of some keys of a trigger, added to
+//!   others; exact. Lets through: running out of memory at any time.
 #![tactic(auto)]
 
 mod keys;

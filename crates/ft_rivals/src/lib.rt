@@ -12,6 +12,18 @@
 //! table.remove(spot, key);
 //! // The rows of `key` and of `found`, which is one key at most, may differ now, and no others.
 //! ```
+//!
+//! # Contracts
+//!
+//! - Law `some_rivals`: take two tables of one size that differ in the hits of some keys alone.
+//!   They have the same rows, except those of these keys and of their *rivals*
+//!   (`specs/Rivals.antt`). Rivals are other keys, none twice, at most as many as the keys. They
+//!   depend on the size and on the other keys' hits alone, so they are the same before and after.
+//!   One hit that comes or goes is such a change at its key; several changes together are one at
+//!   all their keys, in any order, and so is a change that is undone.
+//! - `rivals`: the rivals of keys of which no two are the same, in order of their first hits;
+//!   exact. Lets through: running out of memory at any time; how far from the table's edge it
+//!   looks.
 #![tactic(auto)]
 
 mod changed;

@@ -14,6 +14,19 @@
 //! write_heading(&trigger, &mut text)?;
 //! write_rows(&trigger, &rows, totals, &mut text)?;
 //! ```
+//!
+//! # Contracts
+//!
+//! - `sort_rows`: the same rows, in order of the sort items, equal rows by key
+//!   (`specs/Sorting.antt`).
+//! - `write_heading`, `write_rows`: the lines above the rows, with the trigger's canonical text;
+//!   the text of rows and totals (`specs/Text.antt`). It is added. Lets through: running out of
+//!   memory at any time.
+//! - `row_text`, `table_rows`: the text of one row, of which `write_rows` adds just this and a line
+//!   break; rows with their texts, in the same order. Contracts see a `TableRow` as its key and its
+//!   text's bytes (`specs/Keyed.antt`). Lets through: running out of memory at any time.
+//! - Law `one_row_order`: the order of rows is total, and rows of distinct keys have one sorted
+//!   order.
 #![tactic(auto)]
 
 pub mod laws;

@@ -10,6 +10,18 @@
 //! assert_eq!(rt; read_command(b"# strike 0:7"), Command::Nothing);
 //! assert_eq!(rt; read_command(b"strike 0"), Command::NoForm);
 //! ```
+//!
+//! # Contracts
+//!
+//! - `read_command`: what a script line asks for, `asked_by` of the line (`specs/Script.antt`,
+//!   `specs/Command.antt`); exact.
+//! - `next_line`: a text is its first line and the lines of what is left (`specs/Lines.antt`).
+//! - Law `written_commands`: a command that is written out, within the limit of lines, asks for
+//!   just what it names (`specs/Written.antt`): each form with every number of 32 bits, every event
+//!   that has a name, and the text of every trigger and filter without spaces at its ends.
+//! - Law `writable_commands`: what any line asks for may be written out so. Lets through: which
+//!   other lines ask for it, as those with more spaces or with zeros before numbers. `asked_by`
+//!   alone says that.
 #![tactic(auto)]
 
 pub mod laws;

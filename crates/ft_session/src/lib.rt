@@ -19,6 +19,17 @@
 //! assert_eq!(rt; session.hist(7, &mut length), 10);
 //! assert!(rt; session.refused == Some(Refused::NoTrigger));
 //! ```
+//!
+//! # Contracts
+//!
+//! - The calls of `Session`: each does what the desk's call does, by the clauses `gives` and
+//!   `reports` that `Desk` has, with the answer put together of what the session shows: the refusal
+//!   that it holds, the value that was written, the list that was asked for (`specs/Calls.antt`,
+//!   `specs/Told.antt`). The code is 0 or the refusal's number, a value is written only where the
+//!   call is accepted, and what was asked for before stays. `unload`, `strike` and `remove` never
+//!   run out of memory. Lets through: running out of memory at any time in the other calls; any
+//!   number of steps; putting the tables off at any edit (the desk's own clauses `repairs` and
+//!   `now` are not told again here); a new session whose tables are deferred.
 #![tactic(auto)]
 
 mod session;

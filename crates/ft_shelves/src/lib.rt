@@ -1,7 +1,7 @@
 //! A shelf: what is kept of one attached trigger beside the events that it counts. Its hits are a
 //! table; what it saves of a variable stands as operations, with the reads of other triggers among
 //! them; what its readings found stands by place. Each edit changes one part and leaves the others,
-//! but for a saver's hit: the operations follow the keys that are in its table. Where nothing is
+//! except for a saver's hit: the operations follow the keys that are in its table. Where nothing is
 //! kept of a trigger yet, each key's part is made as a whole.
 //!
 //! ```ignore
@@ -14,6 +14,34 @@
 //! // The reading finds the save of that hit.
 //! let found = shelf.source(&key, reading);
 //! ```
+//!
+//! # Contracts
+//!
+//! - `Shelf::new`, `role`, `table`, `readings`, `notes`, `take_notes`, `drop_notes`, `take_hit`:
+//!   contracts see a *shelf* (`specs/Shelves.antt`): what the trigger does with its variable, its
+//!   table's hits and size, the operations on what it saves, what each of its readings found and,
+//!   while notes are taken, what those that changed had found. Exact.
+//! - `Shelf::put_hit`, `note`, `set_readings`: one more hit and what it read; a note, where the
+//!   reading at the place has none yet; other readings (`specs/Edits.antt`, `specs/Joining.antt`).
+//!   All else stays. Lets through: running out of memory at any time, and then nothing is said of
+//!   the shelf.
+//! - `Shelf::put_op`, `take_op`, `put_reads`, `source`, `next_op`: the operations of one key change
+//!   or are looked up, as `ft_pairs` says it, and all else stays. What puts lets through: running
+//!   out of memory at any time, and then nothing is said of the shelf.
+//! - `put_saver_hit`, `take_saver_hit`: a saver's hit comes or goes, and the operations follow the
+//!   keys of its table: of a key that comes in each hit saves, of one that goes out none does; the
+//!   reads and the notes stay (`specs/Following.antt`). The answer names the keys that came in or
+//!   went out: the hit's own, and one other at most. Where none did, it takes two puts at most as
+//!   it comes, and none as it goes. Lets through: running out of memory at any time, and then
+//!   nothing is said of the shelf; any number of puts where a key moved.
+//! - `Shelf::put_groups`, `put_savings`, `Shelf::put_run`: a trigger that joins: the hits of all
+//!   events that it counts, by their groups; a saver's, with a save at each event whose key is in
+//!   the table; the hits of one key (`specs/Joining.antt`). No event is tested. Lets through:
+//!   running out of memory at any time, and then nothing is said of the shelf; any number of puts.
+//! - `sums_at`: what a trigger's hit at an event adds to its sums, by what the event read, where
+//!   the event has the stamp of its place; exact.
+//! - `Shelf::is_unused`, `has_no_ops`: where it says so, there are no hits and no notes; no
+//!   operation stands on what is saved. Lets through: saying no.
 #![tactic(auto)]
 
 mod joining;

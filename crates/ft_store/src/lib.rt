@@ -13,6 +13,18 @@
 //! assert!(rt; stored.name() == event.name() && stored.event() == event);
 //! store.truncate(0);
 //! ```
+//!
+//! # Contracts
+//!
+//! - `Store::new`, `with_room`, `of`, `push`, `push_from`, `append`, `truncate`, `clear`: contracts
+//!   see the list of the events. What is added stands after the others, and what is taken off is
+//!   the end. A refusal changes nothing. Lets through: running out of memory at any time; how
+//!   events are packed; whether the bytes of names that were taken off are ever used again, which a
+//!   test shows.
+//! - `Store::get`, `bare`, `len`, `cpu`, and `Stored::event`, `bare`, `name`, `stamp`, `number`,
+//!   `place`: exact (`specs/Stored.antt`). After the last event stands the blank one. A bare event
+//!   is the event without its names.
+//! - `Store::room`: no clause. It only tells lanes when to copy what is held.
 #![tactic(auto)]
 
 mod packed;

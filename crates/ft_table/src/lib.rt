@@ -16,6 +16,33 @@
 //! table.remove(spot, key);
 //! assert!(rt; table.row(&key).is_none());
 //! ```
+//!
+//! # Contracts
+//!
+//! - `Table::insert`, `Table::remove`: contracts see of a table its hits, a finite map from mark to
+//!   values, and its size (`specs/Tabled.antt`). One hit more, at exactly one tick of `puts`, and a
+//!   refusal changes nothing; one hit less, without memory. `insert` lets through: running out of
+//!   memory at any time.
+//! - `Table::put_key`: all hits of a key that has none yet, those of a list, at a tick of `puts`
+//!   for each; a refusal changes nothing (`specs/Runs.antt`). Lets through: running out of memory
+//!   at any time.
+//! - `Table::is_empty`, `is_in`, `is_among`, `row`, `totals`, `size`, `order`, `edge`, `hit_after`,
+//!   `holds`: exact, by the first hits of keys (`specs/Tabled.antt`, `specs/Rows.antt`).
+//! - `Table::rows`, `write`, `text`: the rows of the keys in the table by the sort items; their
+//!   text and the totals' is added; the whole text of the table with its heading
+//!   (`specs/Rows.antt`, in the words of `ft_rows`). Lets through: running out of memory at any
+//!   time.
+//! - `Table::keyed_rows`, `text_of_row`: the same rows with their texts; the text of a key's row,
+//!   or none where the key isn't in the table. Lets through: running out of memory at any time.
+//! - `hit_with`: the hit of a trigger at an event, with its values (`specs/Values.antt`); exact.
+//! - Law `first_keys`: a key is in just where it has a hit and fewer than `size` other keys have an
+//!   earlier first hit.
+//! - Law `all_hits`: a key in the table has all its hits counted, all hits of the others are
+//!   dropped, and both together are all hits.
+//! - Laws `one_more_hit`, `one_key`: what a hit after all others does; with any change of one key's
+//!   hits, only it and at most one other key come in or go out.
+//! - Laws `first_outside`, `fitting_keys`: the first key outside isn't in; keys fit a trigger as
+//!   long as only keys that do come in.
 #![tactic(auto)]
 
 mod keyed;

@@ -11,6 +11,13 @@
 //! assert!(rt; number_within(&text[4..], 4095) == Some(2));
 //! assert!(rt; number_within(b"4096", 4095).is_none());
 //! ```
+//!
+//! # Contracts
+//!
+//! - `write_decimal`, `write_signed`, `write_right`, `write_fill`: the number, or the filling of
+//!   its column, stands after the old bytes; after an error the text still begins with its old
+//!   bytes (`specs/Fronts.antt`). Lets through: running out of memory at any time.
+//! - `number_within`, `are_digits`, `is_same`: exact (`specs/Digits.antt`).
 #![tactic(auto)]
 
 mod digits;

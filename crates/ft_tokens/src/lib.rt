@@ -1,7 +1,7 @@
 //! The words of filters and triggers as they stand at the head of a text: gaps, names, quoted texts
 //! and numbers.
 //!
-//! Each reader gives what it found there and the text behind it, or nothing; none of them needs
+//! Each reader gives what it found there and the text after it, or nothing; none of them needs
 //! memory. A number is read whole however large it is, so that one which is out of range is told
 //! from a text that begins with no number.
 //!
@@ -12,6 +12,11 @@
 //! assert_eq!(rt; quoted_at(b"'a b' "), Some((b"a b".as_slice(), b" ".as_slice())));
 //! assert!(rt; quoted_at(b"'a b").is_none());
 //! ```
+//!
+//! # Contracts
+//!
+//! - `is_gap`, `skip`, `name_at`, `is_quote`, `quoted_at`, `number_at`: what stands at the head of
+//!   a text, and the text after it (`specs/Tokens.antt`, `specs/Ranged.antt`); exact.
 #![tactic(auto)]
 
 mod numbers;

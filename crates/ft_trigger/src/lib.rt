@@ -14,6 +14,31 @@
 //!     Ok(_) => return Err("a waking has no such field"),
 //! }
 //! ```
+//!
+//! # Contracts
+//!
+//! - `parse`, clause `meaning`: `TriggerIs` (`specs/TriggerIs.antt`, with
+//!   `ft_head/specs/Draft.antt`), for every text and event: the trigger that the text is, or the
+//!   first fault with its place. Lets through: running out of memory at any time; by clause
+//!   `memory` it is never reported as the filter's fault.
+//! - Law `one_answer`: every text has one answer on every event.
+//! - Laws `reads_again`, `refiltered_reads_again`: the canonical text of a trigger that some text
+//!   gives, also with another filter or none, gives that trigger again.
+//! - Law `sound_triggers`: such a trigger is of its event, within the limits, and sound.
+//! - Laws `cuts`, `one_tail`, `shapes`: every text is a head, and then nothing or a gap and a tail;
+//!   a tail says one thing; what the text of a trigger looks like.
+//! - Laws `heads_first`, `faults_stay`: a text has each fault of its head, whatever its tail is; a
+//!   fault of the head's parts stays with any parts after them.
+//! - Law `any_order`: where a text is a trigger, swapping any two neighbours among its parts gives
+//!   the same trigger.
+//! - Laws `one_cut`, `first_parts`, `first_items`: a text is cut at a separator in one way. Of the
+//!   parts of a head, and of the items of keys, values and sort items, the first that has a fault,
+//!   given what is read of those before it, decides; where none has one, the answer is what is read
+//!   of all (`specs/FirstFaults.antt`). Let through: which fault a part or an item has. The rules
+//!   `with_part`, `with_key`, `with_value` and `with_sort` alone say that.
+//! - Law `forms_in_front`: what is read of parts tells which forms stand among them, each once; a
+//!   part has the same fault after any parts of the same forms; a second part of a kind has
+//!   `Duplicate`, except one that is left out (`specs/Forms.antt`).
 #![tactic(auto)]
 
 pub mod laws;

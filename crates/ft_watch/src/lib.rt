@@ -11,6 +11,21 @@
 //! let printed = b"inserted 0:1\n+ 1 { pid:          8 } hitcount:          1\nchanged 1\n";
 //! assert!(rt; done.text.as_slice() == printed);
 //! ```
+//!
+//! # Contracts
+//!
+//! - `Watch`, a `Session`, over every board: `watched` (`specs/Watched.antt`). A command means what
+//!   it means to a desk. An accepted insert or strike prints also `changes_text` of the bases
+//!   before and after it (`specs/Changes.antt`): of each attached trigger in order of id, and of
+//!   each key of its rows before or after in order, a `-` line of the row that was and a `+` line
+//!   of the row that is, where they differ; and then `changed N`, N the number of these rows.
+//!   Exact, whatever rows the board names. Lets through: running out of memory at any time, after
+//!   which the watch answers nothing else to an insert or a strike.
+//! - `run_watch`, over every reader and writer: `RunEnds` of `watched`. How often its reader is
+//!   asked and its writer flushed, `run_counted` over a `Watch` says. Lets through: what `run`
+//!   does.
+//! - `histwatch`: the exit status is at most 2, as that of `histdesk`. Lets through: what goes to
+//!   standard error.
 #![tactic(auto)]
 
 mod changes;

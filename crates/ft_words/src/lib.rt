@@ -1,6 +1,6 @@
 //! What the program is given: its words, `histdesk [SCRIPT [TRACE]...]`, and files that are read
 //! whole. A word that looks like an option is refused: there is none. A file that isn't there, is no
-//! file, or is past a limit, cannot be read. The only fault besides is want of memory.
+//! file, or is past a limit, cannot be read. The only fault besides is that memory runs out.
 //!
 //! ```ignore
 //! let words = read_words(alloc, &["histdesk", "my.script", "a.trace", "b.trace"])?;
@@ -11,6 +11,15 @@
 //! }
 //! assert_eq!(rt; read_words(alloc, &["histdesk", "-1"]).err(), Some(WordsFault::Refused));
 //! ```
+//!
+//! # Contracts
+//!
+//! - `read_words`: which script and traces the program's words name, and which words are refused
+//!   (`specs/Words.antt`); exact. Lets through: running out of memory at any time.
+//! - `read_whole`, `read_file`: all that a reader had, to its end and within the limit, where the
+//!   reader tells its bytes; over all that opens paths (trait `Paths`), the bytes that are told of
+//!   the path (`specs/Files.antt`). Lets through: running out of memory and failing to read at any
+//!   time; of the system's files, of which the kit's contracts tell nothing, any bytes.
 #![tactic(auto)]
 
 mod files;

@@ -10,6 +10,11 @@
 //! // A struct of another crate keeps `ptr`, and owns what it leads to.
 //! let seven = Parts { ptr, alloc }.into_box();
 //! ```
+//!
+//! # Contracts
+//!
+//! - `Parts::of`, `Parts::into_box`: the parts own what the box owned and have its value, and the
+//!   box is that of the parts.
 #![tactic(auto)]
 
 ghost use Rattle.std.specs.Prelude.{◌≡◌};
