@@ -1,3 +1,4 @@
+pub mod Borrowed
 pub mod Codes
 pub mod Fields
 pub mod Names

@@ -31,12 +31,14 @@
 //!   just the fields that hold texts.
 #![tactic(auto)]
 
+mod borrowed;
 mod comm;
 mod event;
 mod field;
 pub mod laws;
 mod pos;
 
+pub use borrowed::{BodyRef, EventRef, NameRef, TurnRef, WakeRef};
 pub use comm::Comm;
 pub use event::{Body, Event, Matched, Name, Turn, Wake};
 pub use field::{Field, Value, field_named, field_text};
