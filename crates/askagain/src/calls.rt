@@ -6,9 +6,9 @@ use ft_script::{Command, Numbered};
 /// What a call answers that isn't refused.
 #[derive(Drop)]
 pub(crate) enum Answer {
-    /// An edit that gives a number, behind the word that it prints.
+    /// An edit that gives a number, after the word that it prints.
     Number(&'static str, u64, Kept),
-    /// An edit that gives a place and a report, behind the word that it prints.
+    /// An edit that gives a place and a report, after the word that it prints.
     Edited(&'static str, Edited, Kept),
     /// The text of a table or of a lane.
     Text(Vec<u8>),

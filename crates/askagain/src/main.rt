@@ -1,12 +1,12 @@
 //! `askagain SCRIPT [TRACE]..`: what a desk over the kept board answers where growths of its memory are
-//! refused in the middle of a script. A call that answers want of memory is made once more at once.
+//! refused in the middle of a script. A call that answers out of memory is made once more at once.
 //!
-//! Behind each call's text stands a line: `-- now`, `-- later` of an accepted edit, else `-- none`; and
+//! After each call's text stands a line: `-- now`, `-- later` of an accepted edit, else `-- none`; and
 //! then ` deferred` or ` kept`, as the desk is. The text is what the script's run prints, but a refusal
-//! is its number alone, and want of memory is `memory`. Before that line of an accepted insert or
+//! is its number alone, and out of memory is `memory`. Before that line of an accepted insert or
 //! strike stands its report: `-- rows` with ` ID:PART,..` for each row, or `-- no report`.
 //!
-//! One byte goes to standard error before each first call and one behind it, so that who refuses
+//! One byte goes to standard error before each first call and one after it, so that who refuses
 //! growths, as `tests/refuse_growth.c` does, knows which are those of the call.
 //!
 //! `askagain watch-plain SCRIPT [TRACE]..` is another program: `histwatch` over the board that keeps no
@@ -130,7 +130,7 @@ fn read_files<P: Files + AllocGlobal>(rt: &P, paths: &[String]) -> io::Result<Ve
     Ok(files)
 }
 
-/// Makes a call, and once more where it wants memory; and prints what each answers.
+/// Makes a call, and once more where it is out of memory; and prints what each answers.
 fn ask<B: Board, P: Print + Eprint>(
     rt: &P,
     desk: &mut Desk<B>,

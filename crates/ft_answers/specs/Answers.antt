@@ -35,7 +35,7 @@ tally_made triggers events id = unwrap_or (map.get (replay_making triggers event
 abbrev pub tally_shown : Triggers → Events → ℕ → Hist → Tally
 tally_shown triggers events id hist = if counts_made hist then tally_made triggers events id else tally_at triggers events id
 
--- an answer about an attached trigger; none is attached: refused (our own choice)
+-- an answer about an attached trigger; none is attached: refused
 abbrev pub of_attached : {T : Type 0} → Triggers → ℕ → (Hist → Result T Refused) → Result T Refused
 of_attached triggers id answer = option_map_or answer (map.get triggers id) (Err NoTrigger)
 
@@ -75,7 +75,7 @@ row_from triggers events id key = of_attached triggers id (λ hist. Ok (tally_ro
 abbrev pub totals_from : Triggers → Events → ℕ → Result Totals Refused
 totals_from triggers events id = of_attached triggers id (λ hist. Ok (totals_in (tally_shown triggers events id hist)))
 
--- the line that stands at a place in the merged order (our own choice)
+-- the line that stands at a place in the merged order
 abbrev pub line_at : Pos → Place
 line_at at = record { cpu = at.cpu; line = at.line }
 
@@ -83,7 +83,7 @@ line_at at = record { cpu = at.cpu; line = at.line }
 abbrev pub latency_of : Pair → Latency
 latency_of pair = record { saved = line_at pair.saved; read = line_at pair.read; micros = pair.read.stamp - pair.saved.stamp }
 
--- the latencies of a trigger with a variable: one that saves, or has none, has no latencies (our own choice)
+-- the latencies of a trigger with a variable: one that saves, or has none, has no latencies
 abbrev pub latencies_as : Option Var → Tally → Result (List Latency) Refused
 latencies_as (Some (vars.Reads own source)) tally = Ok (list_map latency_of tally.pairs)
 latencies_as variable tally = Err NotReading

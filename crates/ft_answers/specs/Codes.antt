@@ -6,11 +6,11 @@ use Rattle.ft_base.specs.Base.{Base}
 use Rattle.ft_base.specs.Codes.{base_code}
 use Rattle.ft_answers.specs.Shown.{Shown}
 
--- counts of steps, stored as two numbers (our own choice)
+-- counts of steps, stored as two numbers
 abbrev pub steps_code : Coded Steps
 steps_code = code_by (ℕ × ℕ) (coded× coded_ℕ coded_ℕ) (λ s. (s.evals, s.puts)) (λ p. record { evals = p.0; puts = p.1 }) (λ _. refl)
 
--- a board, stored as its base, its two flags and its counts (our own choice)
+-- a board, stored as its base, its two flags and its counts
 abbrev pub shown_code : Coded Shown
 shown_code = code_by
     (Base × (Bool × (Bool × Steps))) (coded× base_code (coded× coded_bool (coded× coded_bool steps_code)))

@@ -11,14 +11,14 @@ use Rattle.ft_base.specs.Roles.{is_reader}
 abbrev pub counts_made : Hist → Bool
 counts_made hist = same_name hist.event names.WakeupLatency
 
--- no attached trigger counts made events (our own choice)
+-- no attached trigger counts made events
 abbrev pub CountNone : Triggers → Type 0
 CountNone triggers = (id : ℕ) (hist : Hist) → map.get triggers id ≡ Some hist → counts_made hist ≡ false
 
--- no attached trigger that reads makes events; one that reads nothing has nothing to make them of (our own choice)
+-- no attached trigger that reads makes events; one that reads nothing has nothing to make them of
 abbrev pub ReadersMakeNone : Triggers → Type 0
 ReadersMakeNone triggers = (id : ℕ) (hist : Hist) → map.get triggers id ≡ Some hist → is_reader hist.variable ≡ true → hist.onmatch ≡ None
 
--- no made event is counted: no attached trigger that reads makes any, or none is on their name (our own choice)
+-- no made event is counted: no attached trigger that reads makes any, or none is on their name
 abbrev pub MakesNothing : Triggers → Type 0
 MakesNothing triggers = ReadersMakeNone triggers ⊎ CountNone triggers

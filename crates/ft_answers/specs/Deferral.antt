@@ -1,4 +1,4 @@
--- When an edit puts nothing off (our own choice).
+-- When an edit puts nothing off.
 use Rattle.std.specs.Prelude.{◌≡◌, ℕ, true, false, List, Some, None, Result, Err}
 use Rattle.std.specs.FinMap as map
 use Rattle.ft_fields.specs.Traced.{Traced}
@@ -12,7 +12,7 @@ use Rattle.ft_base.specs.Base.{Triggers}
 use Rattle.ft_base.specs.Roles.{is_reader}
 use Rattle.ft_answers.specs.Shown.{Shown}
 
--- a board whose tables lack no edit before lacks none afterwards (our own choice)
+-- a board whose tables lack no edit before lacks none afterwards
 abbrev pub PutsNothingOff : Shown → Shown → Type 0
 PutsNothingOff old new = old.deferred ≡ false → new.deferred ≡ false
 
@@ -32,6 +32,6 @@ IsPlainLane triggers lanes cpu = (line : ℕ) (event : Traced) → event_at lane
 abbrev pub ReadsNothing : Triggers → ℕ → Type 0
 ReadsNothing triggers id = (hist : Hist) → map.get triggers id ≡ Some hist → is_reader hist.variable ≡ false
 
--- an answer that needs no memory of its own: over a board that keeps tables it finds none wanting but where these lack an edit, and then they lack it still (our own choice)
+-- an answer that needs no memory of its own: over a board that keeps tables it runs out of memory only where these lack an edit, and then they lack it still
 abbrev pub WantsForTables : {S : Type 0} → Shown → Shown → Result S Refused → Type 0
 WantsForTables old new answer = old.keeps ≡ true → answer ≡ Err Memory → (old.deferred ≡ true) × (new.deferred ≡ true)

@@ -9,21 +9,21 @@ pub use Rattle.ft_base.specs.Answers.{AnswerIs}
 use Rattle.ft_base.specs.Base.{Base}
 use Rattle.ft_answers.specs.Shown.{Shown}
 
--- `Later` just where the tables are deferred (our own choice)
+-- `Later` just where the tables are deferred
 abbrev pub kept_of : Bool → Kept
 kept_of true = Later
 kept_of false = Now
 
--- An edit did what after says: the new base and the value, as view sees it, or its refusal and nothing changed. Want of memory may stand in place of any answer, and changes nothing either. No edit brings deferred tables up to date (our own choice).
+-- An edit did what after says: the new base and the value, as view sees it, or its refusal and nothing changed. Out of memory may stand in place of any answer, and changes nothing either. No edit brings deferred tables up to date.
 abbrev pub EditGives : {S T : Type 0} → (S → T) → Result (Base × T) Refused → Shown → Shown → Result (Done S) Refused → Type 0
 EditGives view after old new (Ok done) = (after ≡ Ok (new.base, view done.value)) × (done.kept ≡ kept_of new.deferred) × (old.deferred ≡ true → new.deferred ≡ true)
 EditGives view after old new (Err refused) = (new.base ≡ old.base) × (new.deferred ≡ old.deferred) × ((refused ≡ Memory) ⊎ (after ≡ Err refused))
 
--- After an accepted answer the tables are not deferred. Want of memory doesn't make them so, and another refusal leaves the flag as it was (our own choice).
+-- After an accepted answer the tables are not deferred. Out of memory doesn't make them so, and another refusal leaves the flag as it was.
 abbrev pub AnswerKeeps : {S : Type 0} → Bool → Bool → Result S Refused → Type 0
 AnswerKeeps deferred_old deferred_new (Ok answer) = deferred_new ≡ false
 AnswerKeeps deferred_old deferred_new (Err refused) = (deferred_new ≡ true → deferred_old ≡ true) × (refused ≢ Memory → deferred_new ≡ deferred_old)
 
--- An answer is the one expected, the base stays, and the tables are not deferred by it (our own choice).
+-- An answer is the one expected, the base stays, and the tables are not deferred by it.
 abbrev pub AnswersFrom : {S T : Type 0} → (S → T) → Result T Refused → Shown → Shown → Result S Refused → Type 0
 AnswersFrom view expected old new answer = (new.base ≡ old.base) × AnswerIs view expected answer × AnswerKeeps old.deferred new.deferred answer

@@ -11,7 +11,7 @@ use Rattle.ft_table.specs.Hits.{same_key}
 use Rattle.ft_base.specs.Base.{Base}
 use Rattle.ft_answers.specs.Answers.{hist_text, rows_shown, row_shown, totals}
 
--- the texts of rows, each with a line break (our own choice)
+-- the texts of rows, each with a line break
 abbrev pub lines_of : List KeyedText → List ℕ
 lines_of rows = flat_map (λ row. row.text ++ codes "\n") rows
 
@@ -21,7 +21,7 @@ RowsMakeText = (base : Base) (id : ℕ) (hist : Hist) (rows : List KeyedText) (t
     → map.get base.triggers id ≡ Some hist → rows_shown base id ≡ Ok rows → totals base id ≡ Ok told
     → hist_text base id ≡ Ok (heading hist ++ (lines_of rows ++ totals_text told))
 
--- the text of a key's row among rows, if there is one (our own choice)
+-- the text of a key's row among rows, if there is one
 abbrev pub text_among : List Part → List KeyedText → Option (List ℕ)
 text_among key [] = None
 text_among key (row ∷ rows) = if same_key key row.key then Some row.text else text_among key rows

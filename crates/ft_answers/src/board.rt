@@ -18,7 +18,7 @@ use ft_table::Totals;
 /// count where no made event is counted, and answers from them without a step.
 ///
 /// A refused edit changes nothing, and drops what was handed in. `strike`, `unload` and `remove`
-/// never find memory wanting.
+/// never run out of memory.
 pub trait Board: Drop {
     ghost use Rattle.std.specs.Prelude.{◌≡◌, ◌≢◌, true, false, Some, Err, option_map};
     ghost use Rattle.std.specs.List.{All};

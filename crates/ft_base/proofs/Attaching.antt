@@ -25,7 +25,7 @@ use Rattle.ft_base.proofs.Reachable.{same-Some}
 
 -- ---- among some triggers
 
--- one more behind them leaves the saver that is found as it was
+-- one more after them leaves the saver that is found as it was
 saver-put : (name : List ℕ) (id : ℕ) (hist : Hist) (es : List (ℕ × Hist)) (saver : ℕ) → ((q : ℕ) → is_some (find nat_cmp q es) ≡ true → q < id) → saver_among name es ≡ Some saver → saver_among name (put nat_cmp id hist es) ≡ Some saver
 saver-put name id hist [] saver below named = cc
 saver-put name id hist (e ∷ es) saver below named =
@@ -80,12 +80,12 @@ name-free triggers hist (Some (vars.Saves label)) name free saves =
     ap (saver_of triggers) (sym (same_text label name (sym saves)))
     ∙ elim (saver_of triggers label) as (λ o. option_map NameTaken o ≡ None → o ≡ None) [ None ↦ λ _. refl | Some id ↦ λ taken. cc ] free
 
--- a test that passes, where the refusal behind it does not stand
+-- a test that passes, where the refusal after it does not stand
 passed : (b : Bool) (refused : Refused) → cond b None (Some refused) ≡ None → b ≡ true
 passed true refused none = refl
 passed false refused none = cc
 
--- two tests that pass, one behind the other
+-- two tests that pass, one after the other
 both : (a b : Bool) (refused other : Refused) → cond a (cond b None (Some refused)) (Some other) ≡ None → (a ≡ true) × (b ≡ true)
 both true b refused other none = (refl, passed b refused none)
 both false b refused other none = cc

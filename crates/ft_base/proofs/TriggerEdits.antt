@@ -24,7 +24,7 @@ use Rattle.ft_base.proofs.Savers.{reads-none, saver-saves}
 use Rattle.ft_base.proofs.OneSaver.{one_saver}
 use Rattle.ft_base.proofs.LaneEdits.{found-before, len-removed}
 
--- ---- triggers that are as before, or fewer, but for their filters
+-- ---- triggers that are as before, or fewer, except for their filters
 
 -- at an id stands a trigger with the event, the keys, the variable and the onmatch part of this one
 record HasLike (triggers : Triggers) (id : ℕ) (hist : Hist) : Type 0 where

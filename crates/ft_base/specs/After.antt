@@ -19,25 +19,25 @@ use Rattle.ft_base.specs.Roles.{saver_of, reader_of, saves_for}
 
 -- ---- lanes
 
--- loading events in file order: a lane for each CPU, unless one is held or they are too many (our own choice)
+-- loading events in file order: a lane for each CPU, unless one is held or they are too many
 unfoldable pub after_load : Base → List Traced → Result (Base × ℕ) Refused
 after_load base events =
     option_map_or (λ cpu. Err (LaneHeld cpu)) (first_held base.lanes events)
     (if nat_lt event_limit (held_in base.lanes + length events) then Err Full else Ok (record base { lanes = with_lanes base.lanes events }, length events))
 
--- unloading the lane of a CPU, where it is held: how many events it had (our own choice)
+-- unloading the lane of a CPU, where it is held: how many events it had
 unfoldable pub after_unload : Base → ℕ → Result (Base × ℕ) Refused
 after_unload base cpu =
     option_map_or (λ lane. Ok (record base { lanes = map.remove base.lanes cpu }, map.len lane.events)) (map.get base.lanes cpu) (Err (NoLane cpu))
 
--- inserting an event at the next line of its CPU's lane, which is made where there is none, unless the events or the lane's line numbers are used up: the event's place (our own choice)
+-- inserting an event at the next line of its CPU's lane, which is made where there is none, unless the events or the lane's line numbers are used up: the event's place
 unfoldable pub after_insert : Base → Traced → Result (Base × Place) Refused
 after_insert base event =
     let line = (lane_or_new base.lanes event.cpu).next in
     if nat_le event_limit (held_in base.lanes) || nat_lt number_limit line then Err Full
     else Ok (record base { lanes = lanes_with base.lanes event }, record { cpu = event.cpu; line = line })
 
--- striking the event of a CPU's line, where it is held: its place; no other line changes its number, and this one is not given again while the lane is held (our own choice)
+-- striking the event of a CPU's line, where it is held: its place; no other line changes its number, and this one is not given again while the lane is held
 unfoldable pub after_strike : Base → ℕ → ℕ → Result (Base × Place) Refused
 after_strike base cpu line =
     option_map_or (λ lane.
@@ -63,14 +63,14 @@ variable_refused triggers hist None = None
 variable_refused triggers hist (Some (vars.Saves label)) = option_map NameTaken (saver_of triggers label)
 variable_refused triggers hist (Some (vars.Reads own source)) = reader_refused triggers hist source
 
--- attaching a trigger: at the next id, unless the triggers or the ids are used up, or its variable stands against it (our own choice)
+-- attaching a trigger: at the next id, unless the triggers or the ids are used up, or its variable stands against it
 unfoldable pub after_attach : Base → Hist → Result (Base × ℕ) Refused
 after_attach base hist =
     if nat_le trigger_limit (map.len base.triggers) || nat_lt id_limit base.next_id then Err TooManyTriggers
     else option_map_or Err (variable_refused base.triggers hist hist.variable)
     (Ok (record base { triggers = map.insert base.triggers base.next_id hist; next_id = base.next_id + 1 }, base.next_id))
 
--- giving an attached trigger another filter, or none, for the events held before and for those to come (our own choice)
+-- giving an attached trigger another filter, or none, for the events held before and for those to come
 unfoldable pub after_refilter : Base → ℕ → Option Tree → Result (Base × ℕ) Refused
 after_refilter base id filter =
     option_map_or (λ hist. Ok (record base { triggers = map.insert base.triggers id (with_filter hist filter) }, id)) (map.get base.triggers id) (Err NoTrigger)

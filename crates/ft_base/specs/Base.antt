@@ -6,17 +6,17 @@ use Rattle.std.specs.FinMap.{FinMap}
 use Rattle.ft_hist.specs.Hist.{Hist}
 use Rattle.ft_lanes.specs.Held.{Lanes}
 
--- attached triggers by id (our own choice)
+-- attached triggers by id
 abbrev pub Triggers : Type 0
 Triggers = FinMap nat_cmp Hist
 
--- lanes, attached triggers, and the next id (our own choice)
+-- lanes, attached triggers, and the next id
 pub record Base : Type 0 where
   pub lanes : Lanes
   pub triggers : Triggers
   pub next_id : ℕ
 
--- nothing held and nothing attached; the first trigger gets id 1 (our own choice)
+-- nothing held and nothing attached; the first trigger gets id 1
 abbrev pub empty_base : Base
 empty_base = record { lanes = map.empty; triggers = map.empty; next_id = 1 }
 

@@ -7,7 +7,7 @@ use Rattle.ft_lanes.specs.Codes.{lanes_code}
 use Rattle.ft_lanes.specs.Held.{Lanes}
 use Rattle.ft_base.specs.Base.{Triggers, Base}
 
--- a base, stored as its lanes, its triggers and its next id (our own choice)
+-- a base, stored as its lanes, its triggers and its next id
 abbrev pub base_code : Coded Base
 base_code = code_by
     (Lanes × (Triggers × ℕ)) (coded× lanes_code (coded× (map.code coded_ℕ hist_code) coded_ℕ))

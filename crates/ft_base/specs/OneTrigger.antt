@@ -1,4 +1,4 @@
--- One trigger that joins the others, that leaves them, or that gets another filter (our own choice).
+-- One trigger that joins the others, that leaves them, or that gets another filter.
 use Rattle.std.specs.Prelude.{◌≡◌, ◌==◌, ◌||◌, ℕ, Bool, false, Some}
 use Rattle.std.specs.FinMap as map
 use Rattle.ft_hist.specs.Hist.{Hist}
@@ -12,17 +12,17 @@ pub record IsUnread (triggers : Triggers) (id : ℕ) : Type 0 where
   pub unread : (reader : ℕ) → role_at triggers reader ≡ Reads id → ⊥
   pub others : (other : ℕ) → (other ≡ id → ⊥) → role_at (map.remove triggers id) other ≡ role_at triggers other
 
--- a base without one of its triggers (our own choice)
+-- a base without one of its triggers
 abbrev pub base_without : Base → ℕ → Base
 base_without base id = record base { triggers = map.remove base.triggers id }
 
--- a trigger is attached with an id that no trigger had; no other reads what it saves yet, and without it there are the triggers of before (our own choice)
+-- a trigger is attached with an id that no trigger had; no other reads what it saves yet, and without it there are the triggers of before
 pub record JoinsAs (id : ℕ) (hist : Hist) (old new : Base) : Type 0 where
   pub attached : map.get new.triggers id ≡ Some hist
   pub unread : IsUnread new.triggers id
   pub before : base_without new id ≡ record old { next_id = new.next_id }
 
--- an attached trigger has another filter, or none: what is held and the other triggers are as before, and each does with its variable what it did (our own choice)
+-- an attached trigger has another filter, or none: what is held and the other triggers are as before, and each does with its variable what it did
 pub record GetsFilter (id : ℕ) (old new : Base) : Type 0 where
   pub was : Hist
   pub attached_before : map.get old.triggers id ≡ Some was

@@ -1,4 +1,4 @@
--- What holds of each base that edits lead to from the empty one (our own choice).
+-- What holds of each base that edits lead to from the empty one.
 use Rattle.std.specs.Prelude.{◌≡◌, ℕ, ◌+◌, ◌<◌, ◌≤◌, true, List, Some}
 use Rattle.std.specs.FinMap as map
 use Rattle.ft_fields.specs.Traced.{Traced, last_cpu}
@@ -9,7 +9,7 @@ use Rattle.ft_lanes.specs.Held.{Lane, event_limit, number_limit, held_in}
 use Rattle.ft_base.specs.Base.{Triggers, Base, trigger_limit, id_limit}
 use Rattle.ft_base.specs.Roles.{saves_name, saver_of, saves_for}
 
--- no two attached triggers save one name (our own choice)
+-- no two attached triggers save one name
 abbrev pub HasOneSaver : Triggers → Type 0
 HasOneSaver triggers =
     (i j : ℕ) (a b : Hist) (name : List ℕ) → map.get triggers i ≡ Some a → map.get triggers j ≡ Some b
@@ -29,7 +29,7 @@ abbrev pub HasSavers : Triggers → Type 0
 HasSavers triggers =
     (id : ℕ) (hist : Hist) (own source : List ℕ) → map.get triggers id ≡ Some hist → hist.variable ≡ Some (vars.Reads own source) → HasSaver triggers hist source
 
--- lanes are of CPUs and hold their own CPU's events below their next number, ids are below the next id, the limits are kept, and variables are saved once and before they are read (our own choice)
+-- lanes are of CPUs and hold their own CPU's events below their next number, ids are below the next id, the limits are kept, and variables are saved once and before they are read
 pub record IsReachable (base : Base) : Type 0 where
   pub cpus : (cpu : ℕ) (lane : Lane) → map.get base.lanes cpu ≡ Some lane → cpu ≤ last_cpu
   pub numbers : (cpu : ℕ) (lane : Lane) → map.get base.lanes cpu ≡ Some lane → (1 ≤ lane.next) × (lane.next ≤ number_limit + 1)

@@ -1,9 +1,9 @@
--- The numbers of refusals (our own choice).
+-- The numbers of refusals.
 use Rattle.std.specs.Prelude.{ℕ}
 use Rattle.ft_base.specs.declared.refused.Refused.{Refused}
 use Rattle.ft_base.specs.declared.refused.Refused.TheVariants.{Memory, NoFile, BadLine, LaneHeld, NoLane, NoEvent, Full, BadTrigger, BadFilter, NoTrigger, InUse, NameTaken, NoVariable, KeyMismatch, TooManyTriggers, BadCommand, NotReading}
 
--- the number that a refused command prints (our own choice)
+-- the number that a refused command prints
 abbrev pub number_of : Refused → ℕ
 number_of Memory = 1
 number_of NoFile = 2

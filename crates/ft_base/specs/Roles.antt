@@ -31,13 +31,13 @@ reads_name name variable = false
 unfoldable pub reader_of : Triggers → List ℕ → Option ℕ
 reader_of triggers name = option_map (λ attached. attached.0) (find (λ attached. reads_name name attached.1.variable) (map.entries triggers))
 
--- what a trigger does with its variable; where nobody saves what it reads, it reads that of 0, who is nobody (our own choice)
+-- what a trigger does with its variable; where nobody saves what it reads, it reads that of 0, who is nobody
 abbrev pub role_of : Triggers → Option Var → Role
 role_of triggers None = Plain
 role_of triggers (Some (vars.Saves label)) = Saves
 role_of triggers (Some (vars.Reads own source)) = Reads (unwrap_or (saver_of triggers source) 0)
 
--- what the trigger with an id does with its variable (our own choice)
+-- what the trigger with an id does with its variable
 unfoldable pub role_at : Triggers → ℕ → Role
 role_at triggers id = option_map_or (λ hist. role_of triggers hist.variable) (map.get triggers id) Plain
 

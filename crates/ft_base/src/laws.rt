@@ -54,7 +54,7 @@ pub fn one_saver()
 {}
 
 /// A law of the last numbers: the greatest line number of a lane is still given to an event, and the
-/// greatest id to a trigger; behind each, the next event of the lane and the next trigger are refused.
+/// greatest id to a trigger; after each, the next event of the lane and the next trigger are refused.
 pub fn last_numbers()
     ensures last_line { (base : Base) (event : Traced) (lane : Lane)
         → map.get base.lanes event.cpu ≡ Some lane → lane.next ≡ number_limit

@@ -35,7 +35,7 @@ pub none_is : (kept : Option Shelves) → is_none kept ≡ true → kept ≡ Non
 none_is None is = refl
 none_is (Some shelves) is = let both : ◌≡◌ {A = Bool} false true = is in absurd cc
 
--- an answer that is told by what is kept is that of the base, and no edit is missing in the tables then; want of memory puts nothing off
+-- an answer that is told by what is kept is that of the base, and no edit is missing in the tables then; out of memory puts nothing off
 pub told : {S T : Type 0} (view : S → T) (expected : Base → Result T Refused) (shown : Shown) (content : Base) (kept new : Option Shelves) (work later : Steps) (answer : Result S Refused)
     → kept_shown content kept work ≡ shown → (new ≡ None → kept ≡ None) → IsTold view (expected content) new answer
     → AnswersFrom view (expected shown.base) shown (kept_shown content new later) answer
@@ -47,7 +47,7 @@ told view expected shown content kept new work later (Err refused) is back memor
   (λ none. ap (λ (s : Shown). s.deferred) (sym is) ∙ ap is_none (back (none_is new none)), λ other. absurd (other memory)),
 )
 
--- an answer that finds memory wanting only where there are no tables
+-- an answer that runs out of memory only where there are no tables
 pub wants : {S : Type 0} (shown : Shown) (content : Base) (kept new : Option Shelves) (work later : Steps) (answer : Result S Refused)
     → kept_shown content kept work ≡ shown → (new ≡ None → kept ≡ None) → OnErr answer (new ≡ None) → WantsForTables shown (kept_shown content new later) answer
 wants {S} shown content kept new work later (Ok answer) is back none keeps err = let both : ◌≡◌ {A = Result S Refused} (Ok answer) (Err Memory) = err in absurd cc

@@ -1,4 +1,4 @@
--- What the rows that were told of tables of made events say of the bases before an edit and behind it.
+-- What the rows that were told of tables of made events say of the bases before an edit and after it.
 use Rattle.std.proofs.Common.{◌≡◌, ℕ, [], true, List, refl, sym, ap, subst, ◌∙◌, Option, Some, None, unwrap_or}
 use Rattle.std.specs.Prelude.{option_and_then}
 use Rattle.std.specs.Option.{IfSome, option_map_or}
@@ -24,7 +24,7 @@ use Rattle.ft_board.specs.inner.Readings.{readings_on}
 use Rattle.ft_board.specs.inner.Turned.{AreTurnedRows}
 use Rattle.ft_board.proofs.Mending.{alike_part}
 
--- shelves that are the same but for their notes have the same readings
+-- shelves that are the same except for their notes have the same readings
 alike_readings : (old new : Shelves) → AreAlike old new → readings_on new ≡ readings_on old
 alike_readings old new alike = λ i id. alike_part (λ (o : Option Shelved). option_map_or (λ (s : Shelved). s.readings) o map.empty) (λ shelf notes. refl) (map.get old id) (map.get new id) (alike id) i
 

@@ -1,4 +1,4 @@
--- Shelves that are the same but for their notes, and tables of made events that go by what makers' readings find.
+-- Shelves that are the same except for their notes, and tables of made events that go by what makers' readings find.
 use Rattle.std.proofs.Common.{◌≡◌, ⊎_elim, ℕ, refl, sym, ap, subst, ◌∙◌, true, false, Option, Some, None, is_some}
 use Rattle.std.specs.Prelude.{◌&&◌, option_map, option_and_then}
 use Rattle.std.specs.Option.{option_map_or}
@@ -31,7 +31,7 @@ use Rattle.ft_repair.specs.KeptShelves.{AreKept, HasItsShelf}
 use Rattle.ft_board.specs.MadeShelves.{MadeTables, AreMadeBy, made_on}
 use Rattle.ft_board.specs.inner.Mending.{AreAlike, IsAlike}
 
--- ---- shelves that are the same but for their notes
+-- ---- shelves that are the same except for their notes
 
 alike_same : (shelf : Option Shelved) → IsAlike shelf shelf
 alike_same None = refl
@@ -47,7 +47,7 @@ alike_then (Some shelf) mid new first then =
     let is : IsAlike (Some (record shelf { notes = first.0 })) new = subst (λ (o : Option Shelved). IsAlike o new) first.1 then in
     (is.0, is.1)
 
--- one change behind another
+-- one change after another
 pub alike_trans : (old mid new : Shelves) → AreAlike old mid → AreAlike mid new → AreAlike old new
 alike_trans old mid new first then id = alike_then (map.get old id) (map.get mid id) (map.get new id) (first id) (then id)
 
@@ -63,7 +63,7 @@ module _ (id : ℕ) (notes : Option Notes) (old new : Shelves) (is : ChangesShel
       (λ apart. subst (λ (o : Option Shelved). IsAlike (map.get old other) o) (sym (is.others other apart)) (alike_same (map.get old other)))
       (cases_eq other id)
 
--- what is told of a shelf whatever its notes, is told of one that is the same but for them
+-- what is told of a shelf whatever its notes, is told of one that is the same except for them
 pub alike_part : {X : Type 0} (tell : Option Shelved → X) → ((shelf : Shelved) (notes : Option Notes) → tell (Some (record shelf { notes = notes })) ≡ tell (Some shelf))
     → (old new : Option Shelved) → IsAlike old new → tell new ≡ tell old
 alike_part tell same None new is = ap tell is

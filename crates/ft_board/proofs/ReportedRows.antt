@@ -1,4 +1,4 @@
--- The rows that a report has, told by each attached trigger's own; a report of shelves that are the same but for their notes.
+-- The rows that a report has, told by each attached trigger's own; a report of shelves that are the same except for their notes.
 use Rattle.std.proofs.Common.{◌≡◌, ℕ, Bool, true, false, cond, List, [], ◌∷◌, refl, sym, ap, subst, ◌∙◌, Option, Some, None, nat_eq, arith}
 use Rattle.std.specs.Prelude.{◌&&◌, ◌||◌, ◌++◌, map as list_map, if◌then◌else◌}
 use Rattle.std.specs.List.{flat_map, AllByRecursion}
@@ -117,7 +117,7 @@ module _ (shelves : Shelves) (acting : List Acting) where
       | false ↦ λ _. refl
     ] refl
 
--- ---- shelves that are the same but for their notes
+-- ---- shelves that are the same except for their notes
 
 -- the touched keys of a trigger with this role, by what tells the roles of others and the rivals of keys
 abbrev touched_with : Role → (ℕ → Role) → (ℕ → List (List Part) → List (List Part)) → ℕ → List Acting → List (List Part)

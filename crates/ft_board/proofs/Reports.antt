@@ -1,4 +1,4 @@
--- What a report says of the bases before an edit and behind it, by the shelves that are kept of them.
+-- What a report says of the bases before an edit and after it, by the shelves that are kept of them.
 use Rattle.std.proofs.Common.{◌≡◌, inl, inr, ℕ, ◌≤◌, ◌+◌, ◌*◌, Bool, true, false, List, [], length, refl, sym, ap, subst, ◌∙◌, Option, Some, None, Ok}
 use Rattle.std.specs.Prelude.{IsSome, option_and_then}
 use Rattle.std.specs.List.{filter}
@@ -107,7 +107,7 @@ module _ (tallies : TalliesAre) (first : HeldAreCounted) (rows : EventRows) (onc
   unfolding row_in
   row_of_base base shelves are id hist there key = row_kept tallies first base.triggers (merged base.lanes) shelves are id hist there key
 
-  -- a report made behind the repair for one event is one of the bases before and behind it
+  -- a report made after the repair for one event is one of the bases before and after it
   pub repairs_reported : RepairsReported
   repairs_reported base lanes pos event before behind kept later change =
       let acting : List Acting = acting_of base.triggers event in
@@ -125,7 +125,7 @@ module _ (tallies : TalliesAre) (first : HeldAreCounted) (rows : EventRows) (onc
             (reader base.triggers event behind id saver (ap (λ (role : ℕ → Role). role id) roles ∙ reads));
       }
 
--- ---- behind an edit
+-- ---- after an edit
 
 -- what is gathered where nothing was is all of it
 all_gathered : (more acting : List Acting) (new : Gathered) → Gathers more (Some []) new → new ≡ Some acting → acting ≡ more
@@ -167,7 +167,7 @@ module _ (reported : RepairsReported) (base : Base) where
         subst (IsReport base (base_with base lanes)) (ap (report_of base.triggers behind) (sym all) ∙ sym (alike_report behind shelves repaired.alike base.triggers acting))
         (reported base lanes pos event before behind repaired.noted_kept repaired.later_kept (change before behind repaired.forms repaired.noted_kept repaired.later_kept))
 
-    -- a report that is made behind an edit is one of the bases before and behind it
+    -- a report that is made after an edit is one of the bases before and after it
     edit_reported : (noted later mended : Option Shelves) → AreRepaired base (base_with base lanes) noted later mended → (acted : Gathered) → IfSome later (λ _. Gathers (acting_of base.triggers event) (Some []) acted)
         → (rows : List Changed) → IsReportBy base.triggers mended acted rows → IsReport base (base_with base lanes) rows
     edit_reported noted later mended repaired acted gathered rows by =

@@ -116,7 +116,7 @@ module _ (readings : ReadingsAre) (triggers : Triggers) (events : Events) (noted
 abbrev pub AreRightIf : Triggers → Events → Option Shelves → MadeTables → Type 0
 AreRightIf triggers events kept made = IfSome kept (AreKept triggers events) × IfSome kept (λ _. AreMadeBy triggers events (saving_found triggers events) made)
 
--- what taking notes leaves: the shelves but for their notes, and there nothing is noted yet
+-- what taking notes leaves: the shelves except for their notes, and there nothing is noted yet
 pub record AreNoted (triggers : Triggers) (old noted : Option Shelves) : Type 0 where
   pub alike : IfBoth AreAlike old noted
   pub nothing : IfSome noted (NothingNoted triggers)
@@ -127,7 +127,7 @@ pub noted_by : (given triggers : Triggers) → given ≡ triggers → (old noted
     → AreNoted triggers old noted
 noted_by given triggers same old noted alike nothing reads deferred = subst (λ (t : Triggers). AreNoted t old noted) same (record { alike = alike; nothing = nothing; reads = reads; deferred = deferred })
 
--- shelves that are the same but for their notes are kept of the same
+-- shelves that are the same except for their notes are kept of the same
 pub alike_if : (triggers : Triggers) (events : Events) (old noted : Option Shelves) → IfBoth AreAlike old noted → (old ≡ None → noted ≡ None) → IfSome old (AreKept triggers events) → IfSome noted (AreKept triggers events)
 alike_if triggers events old None alike deferred kept = tt
 alike_if triggers events None (Some noted) alike deferred kept = let both : ◌≡◌ {A = Option Shelves} (Some noted) None = deferred refl in absurd cc
@@ -141,7 +141,7 @@ module _ (readings : ReadingsAre) (triggers : Triggers) (events more : Events) (
       (had_saved readings triggers events noted (alike_kept triggers events old noted kept alike) nothing reads later forms)
       (made_more triggers events more among (saving_found triggers events) (λ id at none. no_saving triggers events id at none) made are)
 
-  -- behind a repair, the tables are those of what readings had found
+  -- after a repair, the tables are those of what readings had found
   pub mend_if : (old noted later : Option Shelves) (made : MadeTables) → AreRightIf triggers events old made → AreNoted triggers old noted
       → IfBoth FormsStay noted later → (noted ≡ None → later ≡ None) → IfSome later (λ shelves. CanMend triggers more shelves made)
   mend_if old noted None made right notes forms gone = tt

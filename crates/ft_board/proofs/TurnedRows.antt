@@ -78,7 +78,7 @@ module _ (named : ℕ → Hist → List (List Part)) where
   and_second true b is = is
   and_second false b is = absurd (true≢false (sym is))
 
-  -- triggers behind an id have no row of it
+  -- triggers after an id have no row of it
   none_reported : (id : ℕ) (key : List Part) (ts : List (ℕ × Hist)) → T (map.Entries.below_all nat_cmp id ts) → is_reported (rows_among ts) id key ≡ false
   none_reported id key [] below = refl
   none_reported id key (t ∷ ts) below =

@@ -1,4 +1,4 @@
--- Tables of made events that are turned from what readings had found to what they find, one maker and one table behind the other.
+-- Tables of made events that are turned from what readings had found to what they find, one maker and one table after the other.
 use Rattle.std.proofs.Common.{◌≡◌, ℕ, refl, sym, ap, subst, ◌∙◌, Bool, true, false, cond, List, [], ◌∷◌, Option, Some, None, is_some}
 use Rattle.std.specs.Prelude.{◌==◌, not, if◌then◌else◌, option_and_then, unwrap_or}
 use Rattle.std.specs.List.{AllByRecursion}
@@ -119,7 +119,7 @@ none_noted triggers shelves nothing id hist attached makes = elim (map.get shelv
       ∙ ap (λ (n : ℕ). not (n == 0)) (len-empty pos_cmp (Option Pos))
 ] refl
 
--- ---- one maker behind the other
+-- ---- one maker after the other
 
 -- what readings had found, or find
 abbrev pub found_by : Shelves → Bool → Readings
@@ -131,7 +131,7 @@ abbrev pub half_turned : Shelves → List (ℕ × Hist) → Readings
 half_turned shelves rest id = found_by shelves (is_some (find nat_cmp id rest)) id
 
 module _ (triggers : Triggers) (events : Events) (shelves : Shelves) (hist : Hist) where
-  -- a table is turned but for the triggers that are left
+  -- a table is turned except for the triggers that are left
   pub record IsTurning (rest : List (ℕ × Hist)) (table : Tabled) : Type 0 where
     pub made : IsMadeTable triggers events (half_turned shelves rest) hist table
     pub attached : AllByRecursion (λ e. map.get triggers e.0 ≡ Some e.1) rest
@@ -157,7 +157,7 @@ module _ (triggers : Triggers) (events : Events) (shelves : Shelves) (hist : His
     pub first_had : (pos : Pos) → half_turned shelves (e ∷ rest) e.0 pos ≡ had_by shelves e.0 pos
     first_had pos = ap (λ (b : Bool). found_by shelves (is_some (cond b (Some e.1) (find nat_cmp e.0 rest))) e.0 pos) tied
 
-    -- but for it, the others find what they found
+    -- except for it, the others find what they found
     others_left : (id : ℕ) → eq_by_cmp nat_cmp id e.0 ≡ false → (pos : Pos) → half_turned shelves rest id pos ≡ half_turned shelves (e ∷ rest) id pos
     others_left id apart pos = sym (ap (λ (b : Bool). found_by shelves (is_some (cond b (Some e.1) (find nat_cmp id rest))) id pos) apart)
 
@@ -198,7 +198,7 @@ module _ (triggers : Triggers) (events : Events) (shelves : Shelves) (hist : His
       sorted = sorted_tail nat_cmp e.0 (keys_of rest) is.sorted;
     }
 
--- ---- one table behind the other
+-- ---- one table after the other
 
 -- a trigger's table stays, where only another's may change
 table_stays : (id : ℕ) (old new : MadeTables) → OthersStay id old new → (other : ℕ) (hist : Hist) → (other ≡ id → ⊥) → made_on new other hist ≡ made_on old other hist

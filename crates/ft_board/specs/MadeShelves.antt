@@ -1,4 +1,4 @@
--- Tables of made events that are kept beside shelves, so that no answer replays (our own choice).
+-- Tables of made events that are kept beside shelves, so that no answer replays.
 use Rattle.std.specs.Prelude.{◌≡◌, ℕ, true, unwrap_or, Some}
 use Rattle.std.specs.Ordering.{nat_cmp}
 use Rattle.std.specs.FinMap as map
@@ -11,11 +11,11 @@ use Rattle.ft_replay.specs.Merged.{Events, merged}
 use Rattle.ft_made.specs.MadeTables.{Readings, IsMadeTable}
 use Rattle.ft_answers.specs.Counting.{counts_made}
 
--- tables of made events, by the trigger's id (our own choice)
+-- tables of made events, by the trigger's id
 abbrev pub MadeTables : Type 0
 MadeTables = FinMap nat_cmp Tabled
 
--- a trigger's table of made events: where none is kept, one without hits (our own choice)
+-- a trigger's table of made events: where none is kept, one without hits
 abbrev pub made_on : MadeTables → ℕ → Hist → Tabled
 made_on made id hist = unwrap_or (map.get made id) (record { hits = map.empty; size = hist.size })
 
@@ -24,6 +24,6 @@ abbrev pub AreMadeBy : Triggers → Events → Readings → MadeTables → Type 
 AreMadeBy triggers events found made = (id : ℕ) (hist : Hist) → map.get triggers id ≡ Some hist → counts_made hist ≡ true
     → IsMadeTable triggers events found hist (made_on made id hist)
 
--- the tables are those of all events that a base's readings make (our own choice)
+-- the tables are those of all events that a base's readings make
 abbrev pub AreMade : Base → MadeTables → Type 0
 AreMade base made = AreMadeBy base.triggers (merged base.lanes) (saving_found base.triggers (merged base.lanes)) made

@@ -1,5 +1,5 @@
 //! Tables of made events that are mended where they stand: while an edit repairs the shelves, notes
-//! are taken of what readings had found, and behind it the events that were made of what these had
+//! are taken of what readings had found, and after it the events that were made of what these had
 //! found go from the tables, and those that are made of what they find come.
 
 ghost use Rattle.std.specs.Prelude.{◌≡◌, false, None, Ok, IfSome, OnOk};
@@ -109,7 +109,7 @@ pub(crate) struct Scene<'a> {
     pub(crate) tables: &'a Tables,
 }
 
-/// Mends the tables of made events behind a repair of the shelves, by the notes that were taken, and
+/// Mends the tables of made events after a repair of the shelves, by the notes that were taken, and
 /// drops the notes: whether there are tables then. Where memory runs out, the shelves are given up.
 /// Where nothing was noted, it takes neither memory nor steps.
 pub(crate) fn mend(

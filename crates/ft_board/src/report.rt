@@ -11,7 +11,7 @@ use ft_rivals::Changed;
 use std::alloc::Global;
 
 /// The rows that may differ with an event and without it, by what was gathered as it came or went
-/// and by what is kept behind it. None where nothing is kept or nothing was gathered, or where
+/// and by what is kept after it. None where nothing is kept or nothing was gathered, or where
 /// memory runs out.
 pub(crate) fn report(
     kept: &Option<Tables>,
@@ -32,7 +32,7 @@ pub(crate) fn report(
     changed_rows(alloc, tables, content.triggers(), acting).ok()
 }
 
-/// A law: the report that shelves give behind the repair for one event has all rows of triggers that
+/// A law: the report that shelves give after the repair for one event has all rows of triggers that
 /// count held events and that differ from those before it, by replaying either base, and few others.
 pub(crate) fn reported_edits()
     ensures { RepairsReported }

@@ -1,4 +1,4 @@
-//! The rows of tables of made events that an event which came or went may have changed: told behind
+//! The rows of tables of made events that an event which came or went may have changed: told after
 //! the repair of the shelves, and before the tables are mended, by what was noted of readings.
 
 ghost use Rattle.std.specs.Prelude.{◌≡◌, ◌++◌, IfOk, IfSome, OnOk, option_and_then};
@@ -95,7 +95,7 @@ fn turned_rows(
     Ok(rows)
 }
 
-/// Puts the rows of one trigger behind others: of the keys on which notes bear, and of their rivals.
+/// Puts the rows of one trigger after others: of the keys on which notes bear, and of their rivals.
 /// Refused for memory.
 fn put_trigger(
     rows: &mut Vec<Changed>,
@@ -154,7 +154,7 @@ fn keys_turned(
     distinct(scene.alloc, &keys)
 }
 
-/// Puts the keys of a trigger behind others on which the notes bear that were taken of another's
+/// Puts the keys of a trigger after others on which the notes bear that were taken of another's
 /// readings. Refused for memory.
 fn put_maker(
     keys: &mut Vec<Key>,

@@ -37,7 +37,7 @@ blank_but_spaces (b ∷ bytes) =
           rw none refl
     ]
 
--- whether a line is blank shows in its text behind the spaces
+-- whether a line is blank shows in its text after the spaces
 pub blank_behind : (line text : List ℕ) → text ≡ without_spaces line → eqb (prefix_len is_blank line) (length line) ≡ eqb (prefix_len is_blank text) (length text)
 blank_behind line text e = rw e (sym (blank_but_spaces line))
 
@@ -46,7 +46,7 @@ blank_behind line text e = rw e (sym (blank_but_spaces line))
 abbrev events_text : List ℕ
 events_text = codes "EVENTS]"
 
--- no digits begin what stands behind the count
+-- no digits begin what stands after the count
 no_count : behind_count events_text ≡ None
 unfolding behind_count run_of
 no_count = refl

@@ -1,4 +1,4 @@
--- LETTERS and STAMP: what is read is the one cut of the text behind CPU.
+-- LETTERS and STAMP: what is read is the one cut of the text after CPU.
 use Rattle.std.proofs.Common.{◌≡◌, ◌⊎◌, ◌≤◌, ◌<◌, ℕ, ◌+◌, ◌*◌, Bool, true, false, not, ◌||◌, cond, inl, inr, subst, List, [], ◌∷◌, ◌++◌, take, length, Some, None, refl, sym, ap, ◌∙◌, append_assoc, arith, eqb, ltb, length-append}
 use Rattle.std.proofs.lemmas.Bool.{cases_Bool, cases_lt, and_parts, and_from, or_parts, or_right, eqb-true, eq-eqb, ne_eqb, ltb-false, le-ltb, lt-ltb, leb-true, not-true, not-false, both_ways}
 use Rattle.std.proofs.lemmas.List.{nil_from_length}

@@ -1,4 +1,4 @@
--- How a reader finds the texts of a line's columns, from left to right (our own choice).
+-- How a reader finds the texts of a line's columns, from left to right.
 use Rattle.std.specs.Prelude.{ℕ, ◌+◌, ◌*◌, ◌||◌, not, List, [], ◌∷◌, ◌++◌, length, Option, Some, None, ◌==◌, nat_lt, if◌then◌else◌, codes, unwrap_or}
 use Rattle.std.specs.List.{list_any}
 use Rattle.ft_event.specs.Bytes.{is_space, is_digit, is_colon, is_in_group}
@@ -7,12 +7,12 @@ use Rattle.ft_event.specs.Spans.{run_of, word_of, without_spaces, behind, number
 use Rattle.ft_fields.specs.Traced.{last_second}
 
 infixl 10 ◌>>=◌
--- the second step, on what the first one found (our own choice)
+-- the second step, on what the first one found
 abbrev pub ◌>>=◌ : {A B : Type 0} → Option A → (A → Option B) → Option B
 None >>= f = None
 (Some x) >>= f = f x
 
--- what stands behind GROUP and its spaces: `(`, any spaces, digits or `-`, `)`, spaces (kernel: ftrace.rst, the option record-tgid)
+-- what stands after GROUP and its spaces: `(`, any spaces, digits or `-`, `)`, spaces (kernel: ftrace.rst, the option record-tgid)
 unfoldable pub behind_group : List ℕ → Option (List ℕ)
 behind_group text = do
   inner ← behind (codes "(") text
@@ -31,22 +31,22 @@ tail_of text = do
   rest ← behind (codes "] ") cpu.1
   Some (record { pid = pid.0; cpu = cpu.0; rest = rest })
 
--- the head that ends at this `-`, or else a later one (our own choice)
+-- the head that ends at this `-`, or else a later one
 abbrev pub head_from : Option Tail → Option Head → Option Head
 head_from (Some tail) later = Some (record { task = []; tail = tail })
 head_from None later = later
 
--- the head with a longer TASK (our own choice)
+-- the head with a longer TASK
 abbrev pub with_front : List ℕ → Option Head → Option Head
 with_front front None = None
 with_front front (Some head) = Some (record { task = front ++ head.task; tail = head.tail })
 
--- the head that ends at the first `-` with a tail (our own choice)
+-- the head that ends at the first `-` with a tail
 unfoldable pub head_of : List ℕ → Option Head
 head_of [] = None
 head_of (b ∷ bs) = if b == 45 then head_from (tail_of bs) (with_front (b ∷ []) (head_of bs)) else with_front (b ∷ []) (head_of bs)
 
--- the word that is STAMP: the first if it holds a `:`, else the one behind LETTERS of at most 16 bytes (kernel: ftrace.rst, the option irq-info)
+-- the word that is STAMP: the first if it holds a `:`, else the one after LETTERS of at most 16 bytes (kernel: ftrace.rst, the option irq-info)
 unfoldable pub stamp_word_of : List ℕ → Option (List ℕ × List ℕ)
 stamp_word_of text =
     let first = word_of (without_spaces text) in
@@ -64,7 +64,7 @@ micros_of word = do
   part ← number_of 999999 micros.0
   if nat_lt 10 (length seconds.0) || not (length micros.0 == 6) || not (length end == 0) then None else Some (whole * 1000000 + part)
 
--- the event's stamp in microseconds, and what stands behind STAMP (kernel: ftrace.rst, TIMESTAMP)
+-- the event's stamp in microseconds, and what stands after STAMP (kernel: ftrace.rst, TIMESTAMP)
 unfoldable pub stamp_of : List ℕ → Option (ℕ × List ℕ)
 stamp_of text = do
   word ← stamp_word_of text

@@ -9,27 +9,27 @@ ghost use Rattle.ft_fields.specs.Traced.{last_stamp};
 
 use crate::scan::{Class, behind, number, run, without_spaces, word};
 
-/// What stands behind TASK and its `-`.
+/// What stands after TASK and its `-`.
 #[derive(Clone, Copy)]
 pub(crate) struct Tail<'a> {
     /// The digits of PID.
     pub(crate) pid: &'a [u8],
     /// The digits of CPU.
     pub(crate) cpu: &'a [u8],
-    /// What stands behind `] `.
+    /// What stands after `] `.
     pub(crate) rest: &'a [u8],
 }
 
-/// TASK, and what stands behind it.
+/// TASK, and what stands after it.
 #[derive(Clone, Copy)]
 pub(crate) struct Head<'a> {
     /// TASK, of any length.
     pub(crate) task: &'a [u8],
-    /// What stands behind its `-`.
+    /// What stands after its `-`.
     pub(crate) tail: Tail<'a>,
 }
 
-/// What stands behind GROUP and its spaces: `(`, any spaces, digits or `-`, `)`, spaces.
+/// What stands after GROUP and its spaces: `(`, any spaces, digits or `-`, `)`, spaces.
 #[tactic(auto, unfolding(crate::specs::Columns::behind_group))]
 fn behind_group(text: &[u8]) -> Option<&[u8]>
     ensures { option_copied result ≡ behind_group text.now }
@@ -74,8 +74,8 @@ pub(crate) fn head_of(text: &[u8]) -> Option<Head<'_>>
     None
 }
 
-/// The word that is STAMP, and what stands behind it: the first word if it holds a `:`, else the
-/// one behind LETTERS of at most 16 bytes.
+/// The word that is STAMP, and what stands after it: the first word if it holds a `:`, else the
+/// one after LETTERS of at most 16 bytes.
 #[tactic(auto, unfolding(crate::specs::Columns::stamp_word_of))]
 fn stamp_word_of(text: &[u8]) -> Option<(&[u8], &[u8])>
     ensures { option_map (λ x. (x.0.now, x.1.now)) result ≡ stamp_word_of text.now }
@@ -115,7 +115,7 @@ fn micros_of(word: &[u8]) -> Option<u64>
     Some(whole * 1_000_000 + part)
 }
 
-/// The event's stamp in microseconds, and what stands behind STAMP.
+/// The event's stamp in microseconds, and what stands after STAMP.
 #[tactic(auto, unfolding(crate::specs::Columns::stamp_of))]
 pub(crate) fn stamp_of(text: &[u8]) -> Option<(u64, &[u8])>
     ensures value { option_map (λ x. (x.0, x.1.now)) result ≡ stamp_of text.now }

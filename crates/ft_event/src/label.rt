@@ -19,7 +19,7 @@ pub(crate) enum EventLabel {
     Switch,
 }
 
-/// The label that the text begins with, and what stands behind it. No label begins another one.
+/// The label that the text begins with, and what stands after it. No label begins another one.
 #[tactic(auto, unfolding(crate::specs::Labels::label_of))]
 pub(crate) fn label_of(text: &[u8]) -> Option<(EventLabel, &[u8])>
     ensures { option_map (λ x. (x.0, x.1.now)) result ≡ label_of text.now }

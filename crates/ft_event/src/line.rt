@@ -85,7 +85,7 @@ fn put_turn(front: &Front<'_>, payload: &[u8], event: &mut Event) -> Result<(), 
     Ok(())
 }
 
-/// Puts the event with the payload behind a label.
+/// Puts the event with the payload after a label.
 #[tactic(auto, unfolding(crate::specs::Line::payload_from))]
 fn put_named(
     front: &Front<'_>,
@@ -105,7 +105,7 @@ fn put_named(
     Ok(())
 }
 
-/// Puts the event with this behind STAMP: a named event with its payload, or any other one.
+/// Puts the event with this after STAMP: a named event with its payload, or any other one.
 #[tactic(auto, unfolding(crate::specs::Line::body_from))]
 fn put_body(front: &Front<'_>, rest: &[u8], event: &mut Event) -> Result<(), LineFault>
     ensures { line_put result event.new ≡ line_behind front.now (body_from rest.now) }

@@ -65,7 +65,7 @@ pub(crate) fn back_len(text: &[u8], class: Class) -> usize
     text.len()
 }
 
-/// A run of one or more bytes of the class, as long as it goes, and what is behind it.
+/// A run of one or more bytes of the class, as long as it goes, and what is after it.
 #[tactic(auto, unfolding(crate::specs::Spans::run_of))]
 pub(crate) fn run(text: &[u8], class: Class) -> Option<(&[u8], &[u8])>
     ensures { option_map (λ x. (x.0.now, x.1.now)) result ≡ run_of (test_of class) text.now }
@@ -77,7 +77,7 @@ pub(crate) fn run(text: &[u8], class: Class) -> Option<(&[u8], &[u8])>
     Some(text.split_at(len))
 }
 
-/// The word that the text begins with, which may be empty, and what is behind it.
+/// The word that the text begins with, which may be empty, and what is after it.
 pub(crate) fn word(text: &[u8]) -> (&[u8], &[u8])
     ensures { (result.0.now, result.1.now) ≡ word_of text.now }
 {
@@ -115,7 +115,7 @@ fn is_label<const N: usize>(label: &[u8; N], text: &[u8; N]) -> bool
     true
 }
 
-/// What is behind a label that the text begins with.
+/// What is after a label that the text begins with.
 #[tactic(auto, unfolding(crate::specs::Spans::behind))]
 #[inline(always)]
 pub(crate) fn behind<'a, const N: usize>(label: &[u8; N], text: &'a [u8]) -> Option<&'a [u8]>
@@ -129,7 +129,7 @@ pub(crate) fn behind<'a, const N: usize>(label: &[u8; N], text: &'a [u8]) -> Opt
     }
 }
 
-/// What stands before and behind the last space.
+/// What stands before and after the last space.
 #[tactic(auto, unfolding(crate::specs::Spans::last_cut))]
 pub(crate) fn last_cut(text: &[u8]) -> Option<(&[u8], &[u8])>
     ensures { option_map (λ x. (x.0.now, x.1.now)) result ≡ last_cut text.now }
@@ -142,7 +142,7 @@ pub(crate) fn last_cut(text: &[u8]) -> Option<(&[u8], &[u8])>
     Some((&text[..start - 1], &text[start..]))
 }
 
-/// What stands before and behind the last place of a label, which must not be empty.
+/// What stands before and after the last place of a label, which must not be empty.
 pub(crate) fn label_cut<'a, const N: usize>(
     label: &[u8; N],
     text: &'a [u8],

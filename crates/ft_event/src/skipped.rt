@@ -7,7 +7,7 @@ ghost use Rattle.ft_event.specs.Spans.{without_spaces};
 
 use crate::scan::{Class, behind, front_len, run};
 
-/// What stands behind digits and a space.
+/// What stands after digits and a space.
 #[tactic(auto, unfolding(crate::specs::Skipped::behind_count))]
 fn behind_count(text: &[u8]) -> Option<&[u8]>
     ensures { option_copied result ≡ behind_count text.now }
@@ -16,7 +16,7 @@ fn behind_count(text: &[u8]) -> Option<&[u8]>
     behind(b" ", rest)
 }
 
-/// What stands behind `CPU:`, digits, ` [LOST `, perhaps a count, `EVENTS]`.
+/// What stands after `CPU:`, digits, ` [LOST `, perhaps a count, `EVENTS]`.
 #[tactic(auto, unfolding(crate::specs::Skipped::behind_lost))]
 fn behind_lost(line: &[u8]) -> Option<&[u8]>
     ensures { option_copied result ≡ behind_lost line.now }
@@ -37,7 +37,7 @@ fn is_lost(line: &[u8]) -> bool
     }
 }
 
-/// Whether the line, which is this text behind its spaces, is blank, a comment of the header, or
+/// Whether the line, which is this text after its spaces, is blank, a comment of the header, or
 /// says that events were lost.
 #[tactic(auto, unfolding(crate::specs::Skipped::is_skipped), using(crate::proofs::Skips::blank_behind))]
 pub(crate) fn is_skipped(line: &[u8], text: &[u8]) -> bool

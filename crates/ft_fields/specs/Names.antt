@@ -28,10 +28,10 @@ is_traced names.Switch = true
 is_traced names.WakeupLatency = false
 is_traced names.Other = false
 
--- whether the text is the event's name (our own choice)
+-- whether the text is the event's name
 abbrev pub is_called : List ℕ → Name → Bool
 is_called text name = option_map_or (λ own. bytes_eq own text) (name_text name) false
 
--- the event that has the text as its name (our own choice)
+-- the event that has the text as its name
 abbrev pub name_called : List ℕ → Option Name
 name_called text = find (is_called text) all_names

@@ -25,6 +25,8 @@
 //!   traced (`specs/Names.antt`), exact. `called` has a clause `meaning` too.
 //! - `Comm::of`, `Comm::filled`, `Comm::bytes`, `Event::blank`: exact. `of` gives none just where
 //!   the text has over 31 bytes; `filled` requires that it has not.
+//! - `EventRef` and the other types with borrowed names: the event that one tells is a function of
+//!   it (`specs/Borrowed.antt`), and that of `borrowed` is the event itself; exact.
 //! - `Comm`, `Pos`: lawful total orders.
 //! - Law `one_order`: places stand by stamp, then CPU, then line number; places that tie are equal.
 //! - Law `values_of_fields`: an event has a value in just the fields of its name, and a text in

@@ -14,7 +14,7 @@ use Rattle.ft_filter.proofs.Spelled.{Apart, skip_gap}
 use Rattle.ft_filter.proofs.Preds.{PredFits, pred_again, pred_begins, pred_first}
 use Rattle.ft_filter.proofs.Fits.{needs, IsReadable, AreReadable, Fits, filter_fits}
 
--- what may stand behind what a rule reads
+-- what may stand after what a rule reads
 abbrev Follows : Rule → List ℕ → Type 0
 Follows (Joined joints.Or) rest = Apart rest × (behind_joint joints.And rest ≡ None) × (behind_joint joints.Or rest ≡ None)
 Follows (Joined joints.And) rest = Apart rest × (behind_joint joints.And rest ≡ None)
@@ -32,7 +32,7 @@ more_follows joints.And End rest h = h.0
 more_follows joints.Or (More tree trees) rest h = (refl, refl)
 more_follows joints.And (More tree trees) rest h = refl
 
--- behind the joint that a canonical text writes
+-- after the joint that a canonical text writes
 joint_found : (joint : Joint) (text : List ℕ) → behind_joint joint (joint_text joint ++ text) ≡ Some (32 ∷ text)
 joint_found joints.Or text = refl
 joint_found joints.And text = refl
@@ -62,7 +62,7 @@ module _ (event : Name) where
       let is : skip text ≡ 40 ∷ (front ++ (41 ∷ rest)) = e ∙ ap (λ (t : List ℕ). 40 ∷ t) (append_assoc front (41 ∷ []) rest) in
       enclosed room text (front ++ (41 ∷ rest)) (Found tree (41 ∷ rest)) is (one room (omega arith) whole (41 ∷ rest) (front ++ (41 ∷ rest)) (refl, refl, refl) refl)
 
-  -- an operand behind a `!`
+  -- an operand after a `!`
   behind_not : (room n : ℕ) (front : List ℕ) (tree : Tree) → suc n ≤ room → ((less : ℕ) → n ≤ less → Gives Operand less front tree) → Gives Operand room (codes "!" ++ front) (Not tree)
   behind_not zero n front tree le one = absurd (omega arith)
   behind_not (suc room) n front tree le one = λ whole rest text h e. negated room text (front ++ rest) (Found tree rest) e (one room (omega arith) whole rest (front ++ rest) h refl)
@@ -84,7 +84,7 @@ module _ (event : Name) where
       first joint room text tree (behind ++ rest) (Found (More next trees) rest)
       (one whole (behind ++ rest) text (more_follows joint (More next trees) rest h) (e ∙ ap skip (append_assoc front behind rest))) (more whole rest h)
 
-  -- an operand behind a joint, and those behind it
+  -- an operand after a joint, and those after it
   goes_next : (joint : Joint) (room : ℕ) (tree : Tree) (trees : Trees) → Gives (below joint) room (enclosed_if (needs_enclosing joint tree) (canonical tree)) tree → MoreGive joint room trees
       → MoreGive joint room (More tree trees)
   goes_next joint room tree trees one more whole rest h =

@@ -35,12 +35,12 @@ module _ (event : Name) (whole : ℕ) where
   abbrev IsRead : Rule → ℕ → List ℕ → Type 0
   IsRead rule room text = (read : Read Tree) × Reads event whole rule room text read
 
-  -- operands go on behind the text's front
+  -- operands go on after the text's front
   abbrev GoesOn : Joint → ℕ → List ℕ → Type 0
   GoesOn joint room text = (read : Read Trees) × Goes event whole joint room text read
 
   module _ (joint : Joint) (room : ℕ) (one : (text : List ℕ) → IsRead (below joint) room text) where
-    -- behind a joint
+    -- after a joint
     goes_behind : (text behind : List ℕ) → ((rest : List ℕ) → length rest < length behind → GoesOn joint room rest)
         → behind_joint joint text ≡ Some behind → (read : Read Tree) → Reads event whole (below joint) room behind read → GoesOn joint room text
     goes_behind text behind next some (Found tree rest) reads =
@@ -62,7 +62,7 @@ module _ (event : Name) (whole : ℕ) where
     goes_on zero text le = goes_from text (λ rest shorter. absurd (omega arith)) (behind_joint joint text) refl
     goes_on (suc n) text le = goes_from text (λ rest shorter. goes_on n rest (omega arith)) (behind_joint joint text) refl
 
-    -- behind a first operand
+    -- after a first operand
     joined_behind : (text : List ℕ) (read : Read Tree) → Reads event whole (below joint) room text read → IsRead (Joined joint) room text
     joined_behind text (Found tree rest) reads =
         let more = goes_on (length rest) rest (omega arith) in

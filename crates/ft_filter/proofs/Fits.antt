@@ -80,13 +80,13 @@ module _ (event : Name) where
   joined_fits joints.And room tree (Found (More next trees) rest) one more =
       record { readable = (tt, (one.readable, more.0)); within = let here = one.within in let there = more.1 in omega arith }
 
-  -- operands behind a joint
+  -- operands after a joint
   more_fit : (joint : Joint) (room : ℕ) (tree : Tree) (read : Read Trees) → Fits event (below joint) room tree → MoreFit event joint room read → MoreFit event joint room (made (More tree) read)
   more_fit joint room tree (Stop fault) one more = tt
   more_fit joints.Or room tree (Found trees rest) one more = ((one.readable, more.0), let here = one.within in let there = more.1 in omega arith)
   more_fit joints.And room tree (Found trees rest) one more = ((one.readable, more.0), let here = one.within in let there = more.1 in omega arith)
 
-  -- what is behind a `!`
+  -- what is after a `!`
   not_fits : (room : ℕ) (read : Read Tree) → ReadFits event Operand room read → ReadFits event Operand (suc room) (made Not read)
   not_fits room (Stop fault) h = tt
   not_fits room (Found tree rest) h = record { readable = h.readable; within = let le = h.within in omega arith }

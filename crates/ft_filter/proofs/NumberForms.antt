@@ -15,7 +15,7 @@ use Rattle.ft_filter.proofs.Runs.{run_len, run_splits, label_joined}
 
 -- ---- forms
 
--- digits behind a first one
+-- digits after a first one
 decimal_more : (first : ℕ) (others : List ℕ) → 49 ≤ first → first ≤ 57 → list_all is_ascii_digit others ≡ true → is_decimal (first ∷ others) ≡ true
 decimal_more first others low high digits =
     let a : is_ascii_digit first ≡ true = and_from _ _ (le-leb 48 first (omega arith)) (le-leb first 57 high) in
@@ -70,7 +70,7 @@ writes_to word z (plain digits h) = let form = decimal_to digits h in rw form re
 writes_to word z (negative digits h) = let form = decimal_to digits h in rw (eqb-suc-zero (length digits), form) refl
 writes_to word z (hexadecimal digits h) = let form = hexadecimal_to digits h in rw (eqb-suc-zero (suc (length digits)), form) refl
 
--- a word behind a label that it begins with
+-- a word after a label that it begins with
 behind_label : (label word : List ℕ) → starts_with ◌==◌ word label ≡ true → label ++ drop (length label) word ≡ word
 behind_label label word h = sym (label_joined label word h)
 

@@ -69,7 +69,7 @@ where_passes A fault false next read after = (
   λ e. inr (λ f. cc, after.1 e),
 )
 
--- what is behind a gap
+-- what is after a gap
 where_gap : (P : List ℕ → Type 0) (Q : Type 0) (text : List ℕ) → P (skip text) ↔ Q → ((here : List ℕ) × IsBehindGap text here × P here) ↔ Q
 where_gap P Q text iff = (
   λ h. iff.0 (subst P (sym (gap_to text h.0 h.1)) h.2),
@@ -213,7 +213,7 @@ value_read whole field op text = from (is_quote (slice_index text 0))
     from true = quoted (quoted_at text)
     from false = number (number_at text)
 
--- a text behind `~`
+-- a text after `~`
 glob_gives : (at : ℕ) (field : Field) (text rest : List ℕ) (read : Read Pred)
     → TextGives at field ops.Glob text rest read ↔ (read ≡ passed_or (BadGlob at) (is_glob text) (Found (pred_of field ops.Glob (literals.Glob text)) rest))
 glob_gives at field text rest read =
@@ -222,7 +222,7 @@ glob_gives at field text rest read =
       λ e. inl (refl, inner.1 e),
     )
 
--- a text behind another operator
+-- a text after another operator
 plain_gives : (at : ℕ) (field : Field) (op : Op) (text rest : List ℕ) (read : Read Pred) → (op ≡ ops.Glob → ⊥)
     → TextGives at field op text rest read ↔ (read ≡ Found (pred_of field op (literals.Text text)) rest)
 plain_gives at field op text rest read other = (

@@ -20,7 +20,7 @@ use Rattle.ft_filter.specs.Operators.{text_of, op_at}
 use Rattle.ft_filter.specs.Predicate.{Read, Found, Stop, place, found_or, passed_or, is_match, literal_of, suits, text_value, number_value, value_at, with_value, comparison_at, pred_at}
 use Rattle.ft_filter.proofs.Spelled.{Apart, IsQuotable, skip_gap, skip_none, name_again, name_first, field_again, op_again, op_first, quotes, quoted_again, quoted_first, quotable, number_again, number_first}
 
--- the value is one that can stand behind the operator, for a field that holds texts or numbers
+-- the value is one that can stand after the operator, for a field that holds texts or numbers
 abbrev pub ValueFits : Bool → Op → Literal → Type 0
 ValueFits text op (literals.Number number) = (text ≡ false) × (fits number ≡ true)
 ValueFits text op (literals.Text bytes) = (text ≡ true) × (is_match op ≡ false) × IsQuotable bytes
@@ -146,7 +146,7 @@ find_passes test (y ∷ xs) x e = from (find_passes test xs x) (test y) refl e
 same_found : {A : Type 0} (a b : A) (x y : List ℕ) → Found a x ≡ Found b y → a ≡ b
 same_found a b x y e = cc
 
--- a text that may stand behind the operator fits as its value
+-- a text that may stand after the operator fits as its value
 literal_fits : (op : Op) (bytes : List ℕ) → (not (is_match op) || is_glob bytes) ≡ true → IsQuotable bytes → ValueFits true op (literal_of (is_match op) bytes)
 literal_fits op bytes glob quotable = from (is_match op) refl glob
   where

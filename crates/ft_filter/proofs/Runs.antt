@@ -44,7 +44,7 @@ run_splits p (b ∷ text) =
           subst R (sym e) at_zero
     ]
 
--- a text behind a label that it begins with
+-- a text after a label that it begins with
 pub label_joined : (label text : List ℕ) → pointwise eqb label (take (length label) text) ≡ true → text ≡ label ++ drop (length label) text
 label_joined [] text h = refl
 label_joined (x ∷ label) [] h = absurd cc

@@ -21,7 +21,7 @@ use Rattle.ft_filter.specs.Predicate.{Read, Found, Stop, place, is_match, litera
 use Rattle.ft_filter.specs.FilterIs.{Rule, behind_joint, made, closed, text_of as joint_text, Reads, first, first_fails, negated, enclosed, deep, compared, Goes, ended, another, another_fails}
 use Rattle.ft_filter.specs.Tree.{Tree, Trees}
 
--- what is left behind what is read has fewer bytes than n
+-- what is left after what is read has fewer bytes than n
 abbrev pub LeavesLess : {A : Type 0} → ℕ → Read A → Type 0
 LeavesLess n (Found found rest) = length rest < n
 LeavesLess n (Stop fault) = Unit {0}
@@ -31,12 +31,12 @@ pub less_more : {A : Type 0} (n m : ℕ) (read : Read A) → n ≤ m → LeavesL
 less_more n m (Found found rest) le h = omega arith
 less_more n m (Stop fault) le h = tt
 
--- behind a thing that may be missing
+-- after a thing that may be missing
 less_found : {A B : Type 0} (n : ℕ) (fault : FilterFault) (o : Option A) (next : A → Read B) → ((x : A) → o ≡ Some x → LeavesLess n (next x)) → LeavesLess n (found_or fault o next)
 less_found n fault None next h = tt
 less_found n fault (Some x) next h = h x refl
 
--- behind a test
+-- after a test
 less_passed : {B : Type 0} (n : ℕ) (fault : FilterFault) (b : Bool) (next : Read B) → LeavesLess n next → LeavesLess n (passed_or fault b next)
 less_passed n fault true next h = h
 less_passed n fault false next h = tt
@@ -52,7 +52,7 @@ less_made n f (Stop fault) h = tt
 drop_le : (n : ℕ) (text : List ℕ) → length (drop n text) ≤ length text
 drop_le n text = omega (arith, length-drop n text)
 
--- behind spaces and tabs there is no more
+-- after spaces and tabs there is no more
 pub skip_le : (text : List ℕ) → length (skip text) ≤ length text
 skip_le text = drop_le _ text
 
@@ -65,7 +65,7 @@ of_three false b c d h = h
 in_name : (byte : ℕ) → begins_name byte ≡ true → is_in_name byte ≡ true
 in_name byte = of_three (is_in_range 48 57 byte) (is_in_range 65 90 byte) (is_in_range 97 122 byte) (byte == 95)
 
--- behind a name there is less
+-- after a name there is less
 name_less : (text : List ℕ) (found : List ℕ × List ℕ) → name_at text ≡ Some found → length found.1 < length text
 unfolding name_at
 name_less [] found e = absurd cc
@@ -79,7 +79,7 @@ name_less (byte ∷ text) found e = from (begins_name byte) refl e
         let some : prefix_len is_in_name (byte ∷ text) ≡ 1 + prefix_len is_in_name text = rw one refl in
         omega (arith, length-drop (prefix_len is_in_name (byte ∷ text)) (byte ∷ text))
 
--- behind an operator there is no more
+-- after an operator there is no more
 op_le : (text : List ℕ) (found : Op × List ℕ) → op_at text ≡ Some found → length found.1 ≤ length text
 unfolding op_at
 op_le text found e = from (starts_with ◌==◌ text (codes "&&")) (find (begins text) all_ops) e
@@ -91,7 +91,7 @@ op_le text found e = from (starts_with ◌==◌ text (codes "&&")) (find (begins
         let same = ap (λ (p : Op × List ℕ). length p.1) (same_Some _ _ e) in
         omega (arith, drop_le (length (text_of op)) text)
 
--- behind a closing quote there is no more
+-- after a closing quote there is no more
 cut_le : (mark : ℕ) (text : List ℕ) (found : List ℕ × List ℕ) → cut_at mark text ≡ Some found → length found.1 ≤ length text
 cut_le mark text found e = from (length (drop (prefix_len (λ byte. not (byte == mark)) text) text) == 0) e
   where
@@ -101,7 +101,7 @@ cut_le mark text found e = from (length (drop (prefix_len (λ byte. not (byte ==
         let same = ap (λ (p : List ℕ × List ℕ). length p.1) (same_Some _ _ e) in
         omega (arith, drop_le (prefix_len (λ byte. not (byte == mark)) text) text, drop_le 1 (drop (prefix_len (λ byte. not (byte == mark)) text) text))
 
--- behind a quoted text there is no more
+-- after a quoted text there is no more
 quoted_le : (text : List ℕ) (found : List ℕ × List ℕ) → quoted_at text ≡ Some found → length found.1 ≤ length text
 unfolding quoted_at
 quoted_le [] found e = absurd cc
@@ -111,7 +111,7 @@ quoted_le (mark ∷ text) found e = from (is_quote mark) e
     from false e = absurd cc
     from true e = let le = cut_le mark text found e in omega arith
 
--- behind a number there is no more
+-- after a number there is no more
 number_le : (text : List ℕ) (found : ℤ × List ℕ) → number_at text ≡ Some found → length found.1 ≤ length text
 unfolding number_at
 number_le text found e = from (number_of (take (word_len text) text)) e
@@ -124,7 +124,7 @@ number_le text found e = from (number_of (take (word_len text) text)) e
 
 -- ---- a predicate
 
--- behind a quoted value there is no more
+-- after a quoted value there is no more
 text_value_le : (at : ℕ) (text : Bool) (op : Op) (rest : List ℕ) → LeavesLess (suc (length rest)) (text_value at text op rest)
 unfolding text_value
 text_value_le at text op rest =
@@ -133,7 +133,7 @@ text_value_le at text op rest =
     let lt : length quoted.1 < suc (length rest) = omega arith in
     less_passed _ (WrongKind at) text _ (less_passed _ (BadGlob at) (not (is_match op) || is_glob quoted.0) (Found (literal_of (is_match op) quoted.0) quoted.1) lt))
 
--- behind a number there is no more
+-- after a number there is no more
 number_value_le : (at : ℕ) (text : Bool) (rest : List ℕ) → LeavesLess (suc (length rest)) (number_value at text rest)
 unfolding number_value
 number_value_le at text rest =
@@ -142,7 +142,7 @@ number_value_le at text rest =
     let lt : length number.1 < suc (length rest) = omega arith in
     less_passed _ (WrongKind at) (not text) _ (less_passed _ (NumberRange at) (fits number.0) (Found (literals.Number number.0) number.1) lt))
 
--- behind a value there is no more
+-- after a value there is no more
 value_le : (whole : ℕ) (text : Bool) (op : Op) (rest : List ℕ) → LeavesLess (suc (length rest)) (value_at whole text op rest)
 unfolding value_at
 value_le whole text op rest = from (is_quote (slice_index rest 0))
@@ -156,14 +156,14 @@ less_with : (n : ℕ) (field : Field) (op : Op) (read : Read Literal) → Leaves
 less_with n field op (Found value rest) h = h
 less_with n field op (Stop fault) h = tt
 
--- behind an operator and a value there is no more
+-- after an operator and a value there is no more
 comparison_le : (whole : ℕ) (field : Field) (rest : List ℕ) → LeavesLess (suc (length rest)) (comparison_at whole field rest)
 unfolding comparison_at
 comparison_le whole field rest =
     less_found _ _ _ _ (λ op is. less_passed _ _ _ _ (less_with _ field op.0 _ (
     less_more _ _ _ (let le = op_le rest op is in omega (arith, skip_le op.1)) (value_le whole (is_text field) op.0 (skip op.1)))))
 
--- behind a predicate there is less
+-- after a predicate there is less
 pub pred_less : (event : Name) (whole : ℕ) (text : List ℕ) → LeavesLess (length text) (pred_at event whole text)
 unfolding pred_at
 pred_less event whole text =
@@ -172,7 +172,7 @@ pred_less event whole text =
 
 -- ---- the grammar
 
--- behind a joint there is less
+-- after a joint there is less
 pub behind_less : (joint : Joint) (text behind : List ℕ) → behind_joint joint text ≡ Some behind → length behind < length text
 behind_less joint text behind e = from joint (skip text) (skip_le text) e
   where
@@ -185,7 +185,7 @@ behind_less joint text behind e = from joint (skip text) (skip_le text) e
         some false e = absurd cc
         some true e = let same = ap length (same_Some _ _ e) in omega (arith, length-drop 2 (byte ∷ rest))
 
--- behind a closing parenthesis there is no more
+-- after a closing parenthesis there is no more
 pub less_closed : (n whole : ℕ) (read : Read Tree) → LeavesLess n read → LeavesLess n (closed whole read)
 less_closed n whole (Stop fault) h = tt
 less_closed n whole (Found tree rest) h = from (starts_with ◌==◌ (skip rest) (codes ")"))
@@ -196,7 +196,7 @@ less_closed n whole (Found tree rest) h = from (starts_with ◌==◌ (skip rest)
 
 module _ (event : Name) (whole : ℕ) where
   mutual
-    -- behind what a rule reads there is less
+    -- after what a rule reads there is less
     pub reads_less : (rule : Rule) (room : ℕ) (text : List ℕ) (read : Read Tree) → Reads event whole rule room text read → LeavesLess (length text) read
     reads_less rule room text read (first joint room' text' tree rest more one others) =
         less_made _ _ more (less_more _ _ more (let lt : length rest < length text' = reads_less _ _ _ _ one in omega arith) (goes_less _ _ _ _ others))
@@ -209,7 +209,7 @@ module _ (event : Name) (whole : ℕ) where
     reads_less rule room text read (compared room' text' no_not no_paren) =
         less_made _ _ _ (less_more _ _ _ (skip_le text') (pred_less event whole (skip text')))
 
-    -- behind what goes on there is no more
+    -- after what goes on there is no more
     pub goes_less : (joint : Joint) (room : ℕ) (text : List ℕ) (read : Read Trees) → Goes event whole joint room text read → LeavesLess (suc (length text)) read
     goes_less joint room text read (ended joint' room' text' none) = omega arith
     goes_less joint room text read (another joint' room' text' behind tree rest more some one others) =

@@ -291,7 +291,7 @@ number_plain : (word : List ℕ) (n : ℕ) → is_decimal word ≡ true → digi
 unfolding number_of
 number_plain word n form value = rw (form, value) refl
 
--- a number that is written so, behind a `-`
+-- a number that is written so, after a `-`
 number_minus : (word : List ℕ) (n : ℕ) → is_decimal word ≡ true → digits_value 10 word ≡ suc n → number_of (45 ∷ word) ≡ Some (negsuc n)
 unfolding number_of
 number_minus word n form value = rw (eqb-suc-zero (length word), form, value) refl

@@ -79,7 +79,7 @@ module _ (event : Name) (whole : ℕ) where
       → (read : Read Tree) → read ≡ Found (Not tree) rest → Reads event whole Operand room text read
   negated_so room less text behind rest tree more is reads read so = subst (Reads event whole Operand room text) (sym so) (not_of room less text behind (Found tree rest) more is reads)
 
-  -- ---- operands behind a first one
+  -- ---- operands after a first one
 
   pub completes_first : (joint : Joint) (room : ℕ) (behind rest : List ℕ) (tree : Tree) → Reads event whole (below joint) room behind (Found tree rest) → Completes joint room behind rest (tree ∷ [])
   completes_first joint room behind rest tree reads start is read goes =

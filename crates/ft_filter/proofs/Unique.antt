@@ -14,7 +14,7 @@ use Rattle.ft_filter.proofs.Shorter.{reads_less, behind_less}
 
 -- ---- the steps of the function
 
--- one operand and those behind it
+-- one operand and those after it
 joined_found : (one : List ℕ → Read Tree) (joint : Joint) (text : List ℕ) (tree : Tree) (rest : List ℕ) (more : Read Trees)
     → Found tree rest ≡ one text → more ≡ going one joint (length rest) rest → made (joined joint tree) more ≡ joined_at one joint text
 unfolding joined_at
@@ -26,13 +26,13 @@ joined_fails : (one : List ℕ → Read Tree) (joint : Joint) (text : List ℕ) 
 unfolding joined_at
 joined_fails one joint text fault e = rw (← e) refl
 
--- behind a `!`
+-- after a `!`
 operand_not : (event : Name) (whole room : ℕ) (text behind : List ℕ) → skip text ≡ 33 ∷ behind
     → operand_at event whole (suc room) text ≡ made Not (operand_at event whole room behind)
 unfolding operand_at
 operand_not event whole room text behind e = rw e refl
 
--- behind a `(`
+-- after a `(`
 operand_paren : (event : Name) (whole room : ℕ) (text behind : List ℕ) → skip text ≡ 40 ∷ behind
     → operand_at event whole (suc room) text ≡ closed whole (operands_at (operand_at event whole room) behind)
 unfolding operand_at

@@ -22,7 +22,7 @@ use Rattle.ft_filter.proofs.Spelled.{field_again, quote_cases, quotes_found}
 
 -- ---- gaps
 
--- what is behind a gap
+-- what is after a gap
 pub gap_to : (text rest : List ℕ) → IsBehindGap text rest → skip text ≡ rest
 gap_to text rest h = (run_found is_gap text h.gap rest (record { joined = h.joined; passes = h.gaps; stops = h.longest })).1
 
@@ -213,7 +213,7 @@ quote_is mark (inr e) = rw e refl
 pub quoted_to : (text : List ℕ) (cut : List ℕ × List ℕ) → IsQuoted text cut.0 cut.1 → quoted_at text ≡ Some cut
 quoted_to text cut h = ap quoted_at h.joined ∙ quotes_found h.quote cut.0 cut.1 (quote_is h.quote h.either) (all_free h.quote cut.0 h.free)
 
--- what is cut stands before and behind the mark
+-- what is cut stands before and after the mark
 cut_stands : (mark : ℕ) (text front back : List ℕ) (cut : List ℕ × List ℕ) → IsRun (λ byte. not (byte == mark)) text front back
     → (if length back == 0 then None else Some (front, drop 1 back)) ≡ Some cut → (text ≡ cut.0 ++ mark ∷ cut.1) × (Contains cut.0 mark → ⊥)
 cut_stands mark text front [] cut run e = absurd cc

@@ -16,7 +16,7 @@ use Rattle.ft_filter.specs.declared.tree.Joint.TheVariants as joints
 use Rattle.ft_filter.specs.Predicate.{Read, Found, Stop, place, pred_at}
 use Rattle.ft_filter.specs.Tree.{Tree, Trees, Any, All, Not, Test, End, More}
 
--- what is read: operands that a joint joins, or one operand (our own choice)
+-- what is read: operands that a joint joins, or one operand
 pub data Rule : Type 0 where
   Joined : Joint → Rule
   Operand : Rule
@@ -31,26 +31,26 @@ abbrev pub text_of : Joint → List ℕ
 text_of joints.Or = codes "||"
 text_of joints.And = codes "&&"
 
--- what is behind the joint, where it stands next (our own choice)
+-- what is after the joint, where it stands next
 abbrev pub behind_joint : Joint → List ℕ → Option (List ℕ)
 behind_joint joint text = if starts_with ◌==◌ (skip text) (text_of joint) then Some (drop 2 (skip text)) else None
 
--- operands of a joint, at least two (our own choice)
+-- operands of a joint, at least two
 abbrev pub both : Joint → Trees → Tree
 both joints.Or trees = Any trees
 both joints.And trees = All trees
 
--- a first operand and those behind it: one operand alone stands for itself (our own choice)
+-- a first operand and those after it: one operand alone stands for itself
 abbrev pub joined : Joint → Tree → Trees → Tree
 joined joint tree End = tree
 joined joint tree (More next trees) = both joint (More tree (More next trees))
 
--- what is read, with something made of it (our own choice)
+-- what is read, with something made of it
 abbrev pub made : {A B : Type 0} → (A → B) → Read A → Read B
 made f (Found found rest) = Found (f found) rest
 made f (Stop fault) = Stop fault
 
--- the tree in parentheses, where the closing one stands behind it (kernel: events.rst, event filtering)
+-- the tree in parentheses, where the closing one stands after it (kernel: events.rst, event filtering)
 abbrev pub closed : ℕ → Read Tree → Read Tree
 closed whole (Found tree rest) =
     if starts_with ◌==◌ (skip rest) (codes ")") then Found tree (drop 1 (skip rest)) else Stop (Syntax (place whole (skip rest)))
@@ -59,7 +59,7 @@ closed whole (Stop fault) = Stop fault
 mutual
   -- the rule reads the front of a text of an event's filter, in which so many more `(` and `!` may be opened: a tree and the rest, or the first fault (kernel: events.rst, event filtering)
   pub data Reads (event : Name) (whole : ℕ) : Rule → ℕ → List ℕ → Read Tree → Type 0 where
-    -- an operand and those behind it
+    -- an operand and those after it
     first : (joint : Joint) (room : ℕ) (text : List ℕ) (tree : Tree) (rest : List ℕ) (read : Read Trees)
         → Reads event whole (below joint) room text (Found tree rest) → Goes event whole joint room rest read
         → Reads event whole (Joined joint) room text (made (joined joint tree) read)
@@ -82,7 +82,7 @@ mutual
     compared : (room : ℕ) (text : List ℕ) → slice_index (skip text) 0 ≢ 33 → slice_index (skip text) 0 ≢ 40
         → Reads event whole Operand room text (made Test (pred_at event whole (skip text)))
 
-  -- what goes on behind an operand: a joint and an operand, again and again (kernel: events.rst, event filtering)
+  -- what goes on after an operand: a joint and an operand, again and again (kernel: events.rst, event filtering)
   pub data Goes (event : Name) (whole : ℕ) : Joint → ℕ → List ℕ → Read Trees → Type 0 where
     -- no joint
     ended : (joint : Joint) (room : ℕ) (text : List ℕ) → behind_joint joint text ≡ None
@@ -102,7 +102,7 @@ mutual
 abbrev pub most_open : ℕ
 most_open = 32
 
--- a whole filter: nothing but spaces and tabs may follow it (our own choice)
+-- a whole filter: nothing but spaces and tabs may follow it
 abbrev pub whole_of : ℕ → Read Tree → Result Tree FilterFault
 whole_of whole (Found tree rest) = if length (skip rest) == 0 then Ok tree else Err (Syntax (place whole (skip rest)))
 whole_of whole (Stop fault) = Err fault

@@ -17,7 +17,7 @@ use Rattle.ft_glob.specs.Matching.{matches}
 use Rattle.ft_filter.specs.Predicate.{is_match}
 use Rattle.ft_filter.specs.Tree.{Tree, Trees, Any, All, Not, Test, End, More}
 
--- a number before the operator and one behind it; `&`: they have a bit in common, as 64 bits of two's complement (kernel: events.rst, event filtering)
+-- a number before the operator and one after it; `&`: they have a bit in common, as 64 bits of two's complement (kernel: events.rst, event filtering)
 abbrev pub numbers_hold : Op → ℤ → ℤ → Bool
 numbers_hold ops.Eq a b = int_eq a b
 numbers_hold ops.Ne a b = not (int_eq a b)
@@ -28,7 +28,7 @@ numbers_hold ops.Ge a b = int_le b a
 numbers_hold ops.Bits a b = not (bit_and (cast_unsigned w64 a) (cast_unsigned w64 b) == 0)
 numbers_hold ops.Glob a b = false
 
--- a text before the operator and one behind it (kernel: events.rst, event filtering)
+-- a text before the operator and one after it (kernel: events.rst, event filtering)
 abbrev pub texts_hold : Op → List ℕ → List ℕ → Bool
 texts_hold ops.Eq a b = bytes_eq a b
 texts_hold ops.Ne a b = not (bytes_eq a b)

@@ -10,7 +10,7 @@ use Rattle.ft_tokens.specs.Tokens.{is_in_name}
 abbrev pub IsDecimal : List ℕ → Type 0
 IsDecimal digits = (digits ≡ codes "0") ⊎ ((first : ℕ) × (others : List ℕ) × (digits ≡ first ∷ others) × (49 ≤ first) × (first ≤ 57) × IsTrue (list_all is_ascii_digit others))
 
--- one or more hexadecimal digits, of either case (our own choice)
+-- one or more hexadecimal digits, of either case
 abbrev pub IsHexadecimal : List ℕ → Type 0
 IsHexadecimal digits = (0 < length digits) × IsTrue (list_all is_ascii_hexdigit digits)
 
@@ -23,7 +23,7 @@ pub data Writes : List ℕ → ℤ → Type 0 where
   -- `0x` and hexadecimal digits
   hexadecimal : (digits : List ℕ) → IsHexadecimal digits → Writes (codes "0x" ++ digits) (pos (digits_value 16 digits))
 
--- the text is a word, which is a `-` that stands there and the longest run of letters, digits and `_`, and the rest (our own choice)
+-- the text is a word, which is a `-` that stands there and the longest run of letters, digits and `_`, and the rest
 pub record IsWord (text word rest : List ℕ) : Type 0 where
   pub run : List ℕ
   pub joined : text ≡ word ++ rest
@@ -31,6 +31,6 @@ pub record IsWord (text word rest : List ℕ) : Type 0 where
   pub letters : IsTrue (list_all is_in_name run)
   pub longest : Stops is_in_name rest
 
--- the text is a word that writes the number, and the rest (our own choice)
+-- the text is a word that writes the number, and the rest
 abbrev pub IsNumber : List ℕ → ℤ → List ℕ → Type 0
 IsNumber text z rest = (word : List ℕ) × IsWord text word rest × Writes word z

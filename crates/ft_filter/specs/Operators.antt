@@ -15,15 +15,15 @@ text_of ops.Gt = codes ">"
 text_of ops.Bits = codes "&"
 text_of ops.Glob = codes "~"
 
--- the operators, the longer ones first (our own choice)
+-- the operators, the longer ones first
 abbrev pub all_ops : List Op
 all_ops = ops.Eq ∷ ops.Ne ∷ ops.Le ∷ ops.Ge ∷ ops.Lt ∷ ops.Gt ∷ ops.Bits ∷ ops.Glob ∷ []
 
--- the text begins with the operator (our own choice)
+-- the text begins with the operator
 abbrev pub begins : List ℕ → Op → Bool
 begins text op = starts_with ◌==◌ text (text_of op)
 
--- the longest operator that the text begins with, and what is behind it; a `&` before a `&` is none (kernel: events.rst, event filtering; the `&` is our own choice)
+-- the longest operator that the text begins with, and what is after it; a `&` before a `&` is none (kernel: events.rst, event filtering; the `&` is our own choice)
 unfoldable pub op_at : List ℕ → Option (Op × List ℕ)
 op_at text =
     if starts_with ◌==◌ text (codes "&&") then None

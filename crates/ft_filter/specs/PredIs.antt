@@ -51,7 +51,7 @@ pub record IsQuoted (text inside rest : List ℕ) : Type 0 where
   pub joined : text ≡ quote ∷ (inside ++ quote ∷ rest)
   pub free : Contains inside quote → ⊥
 
--- a value, before its kind is asked: a number of any size, or a text (our own choice)
+-- a value, before its kind is asked: a number of any size, or a text
 pub data Token : Type 0 where
   Number : ℤ → Token
   Text : List ℕ → Token
@@ -72,11 +72,11 @@ ops_of false = ops.Eq ∷ ops.Ne ∷ ops.Lt ∷ ops.Le ∷ ops.Gt ∷ ops.Ge ∷
 abbrev pub SuitsField : Field → Op → Type 0
 SuitsField field op = Contains (ops_of (is_text field)) op
 
--- the predicate of its three parts (our own choice)
+-- the predicate of its three parts
 abbrev pub pred_of : Field → Op → Literal → Pred
 pred_of field op value = record { field = field; op = op; value = value }
 
--- a text as the value: behind `~` it must be a glob (kernel: events.rst, event filtering)
+-- a text as the value: after `~` it must be a glob (kernel: events.rst, event filtering)
 abbrev pub TextGives : ℕ → Field → Op → List ℕ → List ℕ → Read Pred → Type 0
 TextGives at field op text rest read =
     Where (op ≡ ops.Glob)

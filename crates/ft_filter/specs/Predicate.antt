@@ -16,21 +16,21 @@ use Rattle.ft_filter.specs.declared.tree.Pred.{Pred}
 use Rattle.ft_filter.specs.Operators.{op_at}
 use Rattle.ft_glob.specs.Matching.{is_glob}
 
--- what is read: a thing and the text behind it, or the first fault (our own choice)
+-- what is read: a thing and the text after it, or the first fault
 pub data Read (A : Type 0) : Type 0 where
   Found : A → List ℕ → Read A
   Stop : FilterFault → Read A
 
--- the place of a rest, in a text of so many bytes (our own choice)
+-- the place of a rest, in a text of so many bytes
 abbrev pub place : ℕ → List ℕ → ℕ
 place whole rest = whole - length rest
 
--- what follows where a thing is there, and else the fault (our own choice)
+-- what follows where a thing is there, and else the fault
 abbrev pub found_or : {A B : Type 0} → FilterFault → Option A → (A → Read B) → Read B
 found_or fault (Some found) next = next found
 found_or fault None next = Stop fault
 
--- what follows where a test passes, and else the fault (our own choice)
+-- what follows where a test passes, and else the fault
 abbrev pub passed_or : {B : Type 0} → FilterFault → Bool → Read B → Read B
 passed_or fault true next = next
 passed_or fault false next = Stop fault
@@ -46,17 +46,17 @@ suits text ops.Ge = not text
 suits text ops.Bits = not text
 suits text ops.Glob = text
 
--- the operator is `~` (our own choice)
+-- the operator is `~`
 abbrev pub is_match : Op → Bool
 is_match ops.Glob = true
 is_match op = false
 
--- a text as the value: a glob behind `~` (our own choice)
+-- a text as the value: a glob after `~`
 abbrev pub literal_of : Bool → List ℕ → Literal
 literal_of true text = literals.Glob text
 literal_of false text = literals.Text text
 
--- a quoted text as the value: for a field that holds texts, and a glob behind `~` (kernel: events.rst, event filtering)
+-- a quoted text as the value: for a field that holds texts, and a glob after `~` (kernel: events.rst, event filtering)
 unfoldable pub text_value : ℕ → Bool → Op → List ℕ → Read Literal
 text_value at text op rest =
     found_or (Syntax at) (quoted_at rest) (λ quoted.
@@ -72,12 +72,12 @@ number_value at text rest =
     (passed_or (NumberRange at) (fits number.0)
     (Found (literals.Number number.0) number.1)))
 
--- the value behind an operator that suits the field (kernel: events.rst, event filtering)
+-- the value after an operator that suits the field (kernel: events.rst, event filtering)
 unfoldable pub value_at : ℕ → Bool → Op → List ℕ → Read Literal
 value_at whole text op rest =
     if is_quote (slice_index rest 0) then text_value (place whole rest) text op rest else number_value (place whole rest) text rest
 
--- the predicate with its value (our own choice)
+-- the predicate with its value
 abbrev pub with_value : Field → Op → Read Literal → Read Pred
 with_value field op (Found value rest) = Found (record { field = field; op = op; value = value }) rest
 with_value field op (Stop fault) = Stop fault

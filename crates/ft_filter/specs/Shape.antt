@@ -1,4 +1,4 @@
--- The filters that texts give: their predicates, their operands, and how deep they are (our own choice).
+-- The filters that texts give: their predicates, their operands, and how deep they are.
 use Rattle.std.specs.Prelude.{◌≡◌, ◌≢◌, ◌⊎◌, ◌≤◌, ℕ, zero, suc, max, Bool, true, false, IsTrue, List, Contains, FitsSigned}
 use Rattle.std.specs.Int.{w64}
 use Rattle.ft_fields.specs.declared.event.Name.{Name}
@@ -22,7 +22,7 @@ use Rattle.ft_filter.specs.Tree.{Tree, Trees, Any, All, Not, Test, End, More}
 abbrev pub CanBeQuoted : List ℕ → Type 0
 CanBeQuoted text = (Contains text 34 → ⊥) ⊎ (Contains text 39 → ⊥)
 
--- the value is of the field's kind: a number of 64 bits with a sign, or a text, which is a glob behind `~` alone (kernel: events.rst, event filtering)
+-- the value is of the field's kind: a number of 64 bits with a sign, or a text, which is a glob after `~` alone (kernel: events.rst, event filtering)
 abbrev pub SuitsValue : Field → Op → Literal → Type 0
 SuitsValue field op (literals.Number z) = (IsTrue (is_text field) → ⊥) × FitsSigned w64 z
 SuitsValue field op (literals.Text text) = IsTrue (is_text field) × (op ≢ ops.Glob) × CanBeQuoted text
@@ -57,25 +57,25 @@ abbrev mutual
 
 -- ---- levels
 
--- one level more, where parentheses stand (our own choice)
+-- one level more, where parentheses stand
 abbrev pub level_if : Bool → ℕ → ℕ
 level_if true n = suc n
 level_if false n = n
 
 abbrev mutual
-  -- how many `(` and `!` are open at once, at most, in the tree's canonical text: a `!` is open to the end of its operand (our own choice)
+  -- how many `(` and `!` are open at once, at most, in the tree's canonical text: a `!` is open to the end of its operand
   pub levels : Tree → ℕ
   levels (Any trees) = most_levels joints.Or trees
   levels (All trees) = most_levels joints.And trees
   levels (Not tree) = suc (level_if (is_joined tree) (levels tree))
   levels (Test pred) = zero
 
-  -- how many, at most, in the text of one of a joint's operands (our own choice)
+  -- how many, at most, in the text of one of a joint's operands
   pub most_levels : Joint → Trees → ℕ
   most_levels joint End = zero
   most_levels joint (More tree trees) = max (level_if (needs_enclosing joint tree) (levels tree)) (most_levels joint trees)
 
--- the tree is of the event, and has at most 32 levels (our own choice)
+-- the tree is of the event, and has at most 32 levels
 pub record IsFilterOf (event : Name) (tree : Tree) : Type 0 where
   pub tree_of_event : IsTreeOf event tree
   pub shallow : levels tree ≤ 32

@@ -15,7 +15,7 @@ mutual
     Not : Tree → Tree
     Test : Pred → Tree
 
-  -- operands, in order (our own choice)
+  -- operands, in order
   pub data Trees : Type 0 where
     End : Trees
     More : Tree → Trees → Trees
@@ -25,26 +25,26 @@ pub record Condition : Type 0 where
   pub event : Name
   pub tree : Tree
 
--- trees as operands (our own choice)
+-- trees as operands
 abbrev pub trees : List Tree → Trees
 trees [] = End
 trees (tree ∷ list) = More tree (trees list)
 
--- one level of an expression, its operands already seen as trees (our own choice)
+-- one level of an expression, its operands already seen as trees
 abbrev pub tree_step : Expr-F Tree Trees → Tree
 tree_step (Expr-F.Any operands) = Any operands
 tree_step (Expr-F.All operands) = All operands
 tree_step (Expr-F.Not operand) = Not operand.value
 tree_step (Expr-F.Pred pred) = Test pred
 
--- operands, each already seen as a tree (our own choice)
+-- operands, each already seen as a tree
 abbrev pub trees_step : Exprs-F Tree Trees → Trees
 trees_step operands = trees operands.list.items
 
--- an expression as a tree, whatever its place in memory (our own choice)
+-- an expression as a tree, whatever its place in memory
 abbrev pub tree_of : Expr → Tree
 tree_of = fold-Expr Tree Trees tree_step trees_step
 
--- operands as trees (our own choice)
+-- operands as trees
 abbrev pub trees_in : Exprs → List Tree
 trees_in operands = map tree_of operands.list.items

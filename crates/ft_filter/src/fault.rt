@@ -20,7 +20,7 @@ pub enum FilterFault {
     /// The operator is not one of the field's kind, or the value is not of it.
     #[error("the operator or the value is of another kind than the field")]
     WrongKind(usize),
-    /// The value behind `~` is no glob.
+    /// The value after `~` is no glob.
     #[error("this is no pattern")]
     BadGlob(usize),
     /// The number is not one of 64 bits with a sign.

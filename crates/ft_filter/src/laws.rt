@@ -44,7 +44,7 @@ pub fn predicates_of_texts()
         → PredIs event whole text read ↔ (read ≡ pred_at event whole text) }
 {}
 
-/// A law: what is behind a gap, and where a name, an operator or a quoted text stands first, is
+/// A law: what is after a gap, and where a name, an operator or a quoted text stands first, is
 /// what the cuts of the text say.
 pub fn words_of_texts()
     ensures gap { (text rest : List ℕ) → (skip text ≡ rest) ↔ IsBehindGap text rest }

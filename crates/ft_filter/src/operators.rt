@@ -26,7 +26,7 @@ fn first_op(text: &[u8]) -> Option<Op>
     OPS.iter().copied().find(|op| text.starts_with(op.text()))
 }
 
-/// The longest operator that the text begins with, and what is behind it. A `&` before a `&` is
+/// The longest operator that the text begins with, and what is after it. A `&` before a `&` is
 /// none.
 #[tactic(auto, unfolding(crate::specs::Operators::op_at))]
 pub(crate) fn op_at(text: &[u8]) -> Option<(Op, &[u8])>

@@ -25,14 +25,14 @@ pub(crate) struct Source {
     pub(crate) len: usize,
 }
 
-/// A predicate, and the text behind it.
+/// A predicate, and the text after it.
 #[derive(Drop)]
 pub(crate) struct Compared<'a> {
     pub(crate) pred: Pred,
     pub(crate) rest: &'a [u8],
 }
 
-/// A value, and the text behind it.
+/// A value, and the text after it.
 #[derive(Drop)]
 struct Valued<'a> {
     value: Literal,
@@ -62,7 +62,7 @@ pub(crate) fn predicate(source: Source, text: &[u8]) -> Result<Compared<'_>, Fil
     }
 }
 
-/// Reads the operator and the value behind a field.
+/// Reads the operator and the value after a field.
 #[tactic(auto, unfolding(crate::specs::Predicate::comparison_at))]
 fn comparison(source: Source, field: Field, text: &[u8]) -> Result<Compared<'_>, FilterFault>
     ensures { GivesPred (comparison_at source.len field text.now) result }
@@ -86,7 +86,7 @@ fn comparison(source: Source, field: Field, text: &[u8]) -> Result<Compared<'_>,
     }
 }
 
-/// Reads the value behind an operator, for a field that holds texts or one that holds numbers.
+/// Reads the value after an operator, for a field that holds texts or one that holds numbers.
 #[tactic(auto, unfolding(crate::specs::Predicate::value_at))]
 fn value(source: Source, is_text: bool, op: Op, text: &[u8]) -> Result<Valued<'_>, FilterFault>
     ensures { GivesValue (value_at source.len is_text op text.now) result }
@@ -119,14 +119,14 @@ fn text_value(source: Source, is_text: bool, op: Op, text: &[u8]) -> Result<Valu
     }
 }
 
-/// Whether the text may stand behind the operator: behind `~` it must be a glob.
+/// Whether the text may stand after the operator: after `~` it must be a glob.
 fn may_follow(op: Op, text: &[u8]) -> bool
     ensures { result ≡ (not (is_match op) || is_glob text.now) }
 {
     op != Op::Glob || is_glob(text)
 }
 
-/// The text as the value behind the operator: a glob behind `~`. Refused for memory.
+/// The text as the value after the operator: a glob after `~`. Refused for memory.
 fn literal(alloc: Global, op: Op, text: &[u8]) -> Result<Literal, AllocError>
     requires { IsTrue (not (is_match op) || is_glob text.now) }
     ensures { IfOk result (λ value. value ≡ literal_of (is_match op) text.now) }

@@ -22,7 +22,7 @@ use std::alloc::Global;
 /// How many `(` and `!` may be open at once.
 const MOST_OPEN: u32 = 32;
 
-/// An expression, and the text behind it.
+/// An expression, and the text after it.
 #[derive(Drop)]
 struct Parsed<'a> {
     expr: Expr,
@@ -50,7 +50,7 @@ pub fn parse(alloc: Global, text: &[u8], event: Name) -> Result<Filter, FilterFa
     Ok(Filter::new(event, parsed.expr))
 }
 
-/// What is behind the joint, where it stands next.
+/// What is after the joint, where it stands next.
 fn behind_joint(joint: Joint, text: &[u8]) -> Option<&[u8]>
     ensures value { option_copied result ≡ behind_joint joint text.now }
     ensures shorter { IfSome result (λ rest. length rest.now < length text.now) }
@@ -93,7 +93,7 @@ fn read_below<'a>(
     }
 }
 
-/// Reads on behind a first operand, which a joint stands behind.
+/// Reads on after a first operand, which a joint stands after.
 #[cycle(read)]
 fn read_more<'a>(
     source: Source,
@@ -138,7 +138,7 @@ fn read_operand<'a>(source: Source, room: u32, text: &'a [u8]) -> Result<Parsed<
     compared(source, text)
 }
 
-/// Reads the operand behind a `!`.
+/// Reads the operand after a `!`.
 #[cycle(read)]
 fn read_not<'a>(source: Source, room: u32, behind: &'a [u8]) -> Result<Parsed<'a>, FilterFault>
     ensures reads { (text : List ℕ) → skip text ≡ 33 ∷ behind.now →
@@ -152,7 +152,7 @@ fn read_not<'a>(source: Source, room: u32, behind: &'a [u8]) -> Result<Parsed<'a
     negated(source.alloc, operand.expr, operand.rest)
 }
 
-/// Reads the operands behind a `(`, and the `)` behind them.
+/// Reads the operands after a `(`, and the `)` after them.
 #[cycle(read)]
 fn read_enclosed<'a>(source: Source, room: u32, behind: &'a [u8]) -> Result<Parsed<'a>, FilterFault>
     ensures reads { (text : List ℕ) → skip text ≡ 40 ∷ behind.now →
@@ -179,7 +179,7 @@ fn compared(source: Source, text: &[u8]) -> Result<Parsed<'_>, FilterFault>
     })
 }
 
-/// That an operand does not hold; the text is behind it.
+/// That an operand does not hold; the text is after it.
 fn negated(alloc: Global, operand: Expr, rest: &[u8]) -> Result<Parsed<'_>, FilterFault>
     ensures reads { GivesTree (λ read. read ≡ Found (Not (tree_of operand)) rest.now) result }
     ensures same { IfOk result (λ parsed. parsed.rest.now ≡ rest.now) }
@@ -193,7 +193,7 @@ fn negated(alloc: Global, operand: Expr, rest: &[u8]) -> Result<Parsed<'_>, Filt
     }
 }
 
-/// What is in parentheses, where the closing one stands in the text behind it.
+/// What is in parentheses, where the closing one stands in the text after it.
 fn closed(source: Source, inside: Expr, rest: &[u8]) -> Result<Parsed<'_>, FilterFault>
     ensures reads { GivesTree (λ read. read ≡ closed source.len (Found (tree_of inside) rest.now))
         result }

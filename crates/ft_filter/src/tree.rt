@@ -32,7 +32,7 @@ pub struct Exprs {
     list: Vec<Expr>,
 }
 
-/// A field, an operator, and the value behind it.
+/// A field, an operator, and the value after it.
 #[derive(Drop)]
 pub struct Pred {
     /// The field.

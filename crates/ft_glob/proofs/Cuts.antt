@@ -53,7 +53,7 @@ class_has_not false false members byte h e = λ some. let f : false ≡ true = h
 class_has_not true true members byte h e = λ none. none (h.0 refl)
 class_has_not true false members byte h e = absurd cc
 
--- behind a `[` a class stands first
+-- after a `[` a class stands first
 pub record ClassFirst (text : List ℕ) (items : List Item) : Type 0 where
   pub negated : Bool
   pub members : List Member
@@ -91,7 +91,7 @@ pub none_closed : (text inside rest : List ℕ) (negated : Bool) → (Contains t
 none_closed text inside rest true none cut = none (subst (λ (t : List ℕ). Contains t 93) (sym cut.joined) (has_close (33 ∷ inside) rest))
 none_closed text inside rest false none cut = none (subst (λ (t : List ℕ). Contains t 93) (sym cut.joined) (has_close inside rest))
 
--- so it is behind a `!`
+-- so it is after a `!`
 pub none_closed_marked : (text inside rest : List ℕ) (negated : Bool) → starts_with eqb text (33 ∷ []) ≡ true → (Contains (take (length text - 1) (drop 1 text)) 93 → ⊥) → IsCut text negated inside rest → ⊥
 none_closed_marked [] inside rest negated marked none cut = absurd cc
 none_closed_marked (b ∷ text) inside rest true marked none cut =

@@ -132,7 +132,7 @@ close_from (byte ∷ text) cut e = elim (cases_eq byte 93) [
       subst (λ (c : List ℕ × List ℕ). Cut (byte ∷ text) c) same here)
 ]
 
--- behind the mark, a class with these members
+-- after the mark, a class with these members
 record ClosedIs (text : List ℕ) (members : List Member) (rest : List ℕ) : Type 0 where
   inside : List ℕ
   cut : Cut text (inside, rest)
@@ -174,7 +174,7 @@ class_to text false members rest h =
     cond-false (eqb (get_or text 0 0) 33) _ _ (ne_eqb (get_or text 0 0) 33 other)
     ∙ closed_to false text members rest (record { inside = h.inside; cut = (h.cut.joined, h.cut.closed); some = h.some; read = h.read })
 
--- a class stands behind the `[`
+-- a class stands after the `[`
 abbrev ClassFound : List ℕ → Item × List ℕ → Type 0
 ClassFound text found = (negated : Bool) × (members : List Member) × (found.0 ≡ Item.Class negated members) × ClassIs text negated members found.1
 

@@ -3,7 +3,7 @@ use Rattle.std.proofs.Common.{◌≡◌, ◌≢◌, ℕ, subst, List, [], ◌∷
 use Rattle.ft_glob.specs.Glob.{Item, ItemsAre, IsPlain, Glob}
 use Rattle.ft_glob.specs.inner.Walk.{Takes}
 
--- one item stands first, and the others behind it
+-- one item stands first, and the others after it
 pub record Firsts (item : Item) (rest : List ℕ) (items : List Item) : Type 0 where
   pub behind : List Item
   pub first : items ≡ item ∷ behind

@@ -6,7 +6,7 @@ use Rattle.ft_glob.specs.inner.Walk.{ReadsAsItems, ReadsAsMembers}
 use Rattle.ft_glob.proofs.Cuts.{class_first, class_found}
 use Rattle.ft_glob.proofs.Firsts.{star_first, one_first, byte_first}
 
--- behind any byte but a `[`
+-- after any byte but a `[`
 pub reads_byte : (first : ℕ) (rest : List ℕ) → first ≢ 91 → ReadsAsItems (first ∷ rest) ↔ ReadsAsItems rest
 reads_byte first rest other =
     elim (cases_eq first 42) [
@@ -18,7 +18,7 @@ reads_byte first rest other =
           ]
     ]
 
--- behind a class
+-- after a class
 pub reads_class : (behind inside rest : List ℕ) (negated : Bool) → IsCut behind negated inside rest → 0 < length inside → ReadsAsMembers inside → ReadsAsItems (91 ∷ behind) ↔ ReadsAsItems rest
 reads_class behind inside rest negated cut some members = (
   λ h. let f = class_found behind h.0 negated inside rest cut h.1 in (f.behind, f.read),

@@ -7,7 +7,7 @@ use Rattle.ft_glob.specs.inner.Walk.{Takes}
 
 -- ---- ends of a text
 
--- some end is the text itself or an end of what is behind its first byte
+-- some end is the text itself or an end of what is after its first byte
 pub end_cases : (Q : List ℕ → Type 0) (text : List ℕ) → SomeEnd Q text → Q text ⊎ SomeEnd Q (drop 1 text)
 end_cases Q text h = go h.0 h.1 text h.2 h.3
   where
@@ -42,7 +42,7 @@ takes_glob Item.One byte items left takes = (λ g. g.1, λ g. (tt, g))
 takes_glob (Item.Class negated members) byte items left takes = (λ g. g.1, λ g. (takes, g))
 takes_glob (Item.Byte own) byte items left takes = (λ g. g.1, λ g. (takes, g))
 
--- where an item for one byte and others match an end, the others match an end behind the first byte
+-- where an item for one byte and others match an end, the others match an end after the first byte
 end_behind : (P : ℕ → Type 0) (Q : List ℕ → Type 0) (byte : ℕ) (left : List ℕ) → SomeEnd (OneThen P Q) (byte ∷ left) → SomeEnd Q left
 end_behind P Q byte left h = go h.0 h.1 h.2 h.3
   where

@@ -5,7 +5,7 @@ use Rattle.ft_glob.specs.Glob.{Item, ItemsAre, SomeEnd, Glob}
 use Rattle.ft_glob.specs.inner.Walk.{Takes}
 use Rattle.ft_glob.proofs.Stars.{Stands, stands_past, stands_star, stands_back, stands_none, stands_end}
 
--- the items stand for the answer before the text; where a star was met, a later try is at an end behind the place where it was tried last
+-- the items stand for the answer before the text; where a star was met, a later try is at an end after the place where it was tried last
 abbrev pub StandsBehind : Type 0 → List ℕ → List ℕ → List ℕ → List ℕ → Type 0
 StandsBehind answer pattern text behind tried =
     (items : List Item) × (after : List Item) × ItemsAre pattern items × ItemsAre behind after × Stands answer items text (SomeEnd (Glob after) (drop 1 tried))
@@ -60,7 +60,7 @@ abbrev pub tries : List ℕ → Option Place → ℕ
 tries text None = length text
 tries text (Some last) = length last.text.now
 
--- what is behind the last star is no longer than the pattern
+-- what is after the last star is no longer than the pattern
 abbrev pub IsShort : List ℕ → Option Place → Type 0
 IsShort pattern None = Unit {0}
 IsShort pattern (Some last) = length last.pattern.now ≤ length pattern

@@ -15,17 +15,17 @@ pub data Item : Type 0 where
 
 -- ---- reading
 
--- `-` and a byte stand behind a member's first byte (our own choice)
+-- `-` and a byte stand after a member's first byte
 abbrev pub GoesOn : List ℕ → Type 0
 GoesOn (dash ∷ high ∷ rest) = dash ≡ 45
 GoesOn rest = ⊥
 
--- the text is a member and the rest: a range where one can stand, not from a higher byte to a lower one; else a byte alone (our own choice)
+-- the text is a member and the rest: a range where one can stand, not from a higher byte to a lower one; else a byte alone
 abbrev pub MemberIs : List ℕ → Member → List ℕ → Type 0
 MemberIs text (Member.Range low high) rest = (text ≡ low ∷ 45 ∷ high ∷ rest) × (low ≤ high)
 MemberIs text (Member.Single byte) rest = (text ≡ byte ∷ rest) × (GoesOn rest → ⊥)
 
--- the text is these members, read from the left (our own choice)
+-- the text is these members, read from the left
 abbrev pub MembersAre : List ℕ → List Member → Type 0
 MembersAre text [] = text ≡ []
 MembersAre text (member ∷ members) = (rest : List ℕ) × MemberIs text member rest × MembersAre rest members
@@ -35,13 +35,13 @@ abbrev pub mark : Bool → List ℕ
 mark true = codes "!"
 mark false = []
 
--- behind a `[` stand an optional `!`, which is read first, what is inside, the first `]`, and the rest (our own choice)
+-- after a `[` stand an optional `!`, which is read first, what is inside, the first `]`, and the rest
 pub record IsCut (text : List ℕ) (negated : Bool) (inside rest : List ℕ) : Type 0 where
   pub joined : text ≡ mark negated ++ (inside ++ (codes "]" ++ rest))
   pub closed : Contains inside 93 → ⊥
   pub unmarked : negated ≡ false → slice_index inside 0 ≢ 33
 
--- the text behind a `[` is a class with these members, at least one, and the rest (our own choice: a class without members is none)
+-- the text after a `[` is a class with these members, at least one, and the rest (our own choice: a class without members is none)
 pub record ClassIs (text : List ℕ) (negated : Bool) (members : List Member) (rest : List ℕ) : Type 0 where
   pub inside : List ℕ
   pub cut : IsCut text negated inside rest
@@ -59,7 +59,7 @@ ItemIs text Item.One rest = text ≡ codes "?" ++ rest
 ItemIs text (Item.Class negated members) rest = (behind : List ℕ) × (text ≡ codes "[" ++ behind) × ClassIs behind negated members rest
 ItemIs text (Item.Byte byte) rest = (text ≡ byte ∷ rest) × IsPlain byte
 
--- the text is these items, read from the left (our own choice)
+-- the text is these items, read from the left
 abbrev pub ItemsAre : List ℕ → List Item → Type 0
 ItemsAre text [] = text ≡ []
 ItemsAre text (item ∷ items) = (rest : List ℕ) × ItemIs text item rest × ItemsAre rest items
@@ -70,7 +70,7 @@ pub record GlobIs (pattern : List ℕ) (items : List Item) : Type 0 where
   pub unescaped : Contains pattern 92 → ⊥
   pub read : ItemsAre pattern items
 
--- the pattern is a glob (our own choice)
+-- the pattern is a glob
 abbrev pub IsGlob : List ℕ → Type 0
 IsGlob pattern = (items : List Item) × GlobIs pattern items
 
@@ -91,12 +91,12 @@ abbrev pub ClassHas : Bool → List Member → ℕ → Type 0
 ClassHas false members byte = SomeHas members byte
 ClassHas true members byte = SomeHas members byte → ⊥
 
--- the text is one byte, which P holds for, and a rest, which Q holds for (our own choice)
+-- the text is one byte, which P holds for, and a rest, which Q holds for
 abbrev pub OneThen : (ℕ → Type 0) → (List ℕ → Type 0) → List ℕ → Type 0
 OneThen P Q [] = ⊥
 OneThen P Q (byte ∷ rest) = P byte × Q rest
 
--- Q holds for some end of the text (our own choice)
+-- Q holds for some end of the text
 abbrev pub SomeEnd : (List ℕ → Type 0) → List ℕ → Type 0
 SomeEnd Q text = (front end : List ℕ) × (text ≡ front ++ end) × Q end
 

@@ -75,15 +75,15 @@ struct Place<'a> {
 /// How a pattern goes on before a byte.
 #[derive(Clone, Copy)]
 enum Step<'a> {
-    /// A star stands first; what is behind it.
+    /// A star stands first; what is after it.
     Star(&'a [u8]),
-    /// The first item takes the byte; what is behind it.
+    /// The first item takes the byte; what is after it.
     Past(&'a [u8]),
     /// Neither.
     Miss,
 }
 
-/// A class, without its brackets, and what is behind it.
+/// A class, without its brackets, and what is after it.
 #[derive(Clone, Copy)]
 struct Class<'a> {
     negated: bool,
@@ -91,7 +91,7 @@ struct Class<'a> {
     rest: &'a [u8],
 }
 
-/// The first member of a class by its bounds, which a byte alone has twice, and what is behind it.
+/// The first member of a class by its bounds, which a byte alone has twice, and what is after it.
 #[derive(Clone, Copy)]
 struct Bounded<'a> {
     low: u8,
@@ -123,7 +123,7 @@ fn step_before(pattern: &[u8], byte: u8) -> Step<'_>
     }
 }
 
-/// How the pattern goes on before the byte, where a class stands first; the text is behind its `[`.
+/// How the pattern goes on before the byte, where a class stands first; the text is after its `[`.
 fn class_step(text: &[u8], byte: u8) -> Step<'_>
     ensures meaning { (items : List Item) → ItemsAre (91 ∷ text.now) items
         → StepIs items byte result }
@@ -148,7 +148,7 @@ fn are_stars(pattern: &[u8]) -> bool
     pattern.iter().all(|byte| *byte == b'*')
 }
 
-/// What is behind the item that begins with the byte, where one does.
+/// What is after the item that begins with the byte, where one does.
 fn behind_item(first: u8, behind: &[u8]) -> Option<&[u8]>
     ensures shorter { IfSome result (λ rest. length rest.now ≤ length behind.now) }
     ensures found { IfSome result (λ rest. ReadsAsItems (first ∷ behind.now)

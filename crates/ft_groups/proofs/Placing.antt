@@ -174,7 +174,7 @@ module _ (keys : List (List Part)) (runs : List Run) (places : Places) (placed :
 
     module _ (keys' : List (List Part)) (runs' : List Run) (places' : Places)
         (key_there : keys' ≡ keys ++ key ∷ []) (run_there : runs' ≡ runs ++ run ∷ []) (place_there : places' ≡ places_then) where
-      -- a new key stands behind the others
+      -- a new key stands after the others
       pub new_placed : ArePlaced keys' runs' places'
       new_placed =
           subst (λ (ks : List (List Part)). ArePlaced ks runs' places') (sym key_there)

@@ -12,15 +12,15 @@ use Rattle.ft_keys.specs.contracts.key.Part as part
 use Rattle.ft_keys.specs.Parts.{key_cmp}
 use Rattle.ft_groups.specs.Grouped.{Grouped}
 
--- events with their places, stored as a list of pairs (our own choice)
+-- events with their places, stored as a list of pairs
 abbrev pub run_code : Coded (List (Pos × Traced))
 run_code = coded_list (coded× pos.the_row.coded traced_code)
 
--- a key, stored as its parts (our own choice)
+-- a key, stored as its parts
 abbrev pub key_code : Coded (List Part)
 key_code = coded_list part.the_row.coded
 
--- groups, stored as their keys and their runs (our own choice)
+-- groups, stored as their keys and their runs
 abbrev pub grouped_code : Coded Grouped
 grouped_code = code_by
     (List (List Part) × FinMap key_cmp (List (Pos × Traced))) (coded× (coded_list key_code) (map.code key_code run_code))

@@ -15,11 +15,11 @@ use Rattle.ft_hist.specs.Hit.{hit}
 use Rattle.ft_store.specs.Stored.{held}
 use Rattle.ft_store.specs.declared.stored.Stored.{Stored}
 
--- events with their places, where references point to them (our own choice)
+-- events with their places, where references point to them
 abbrev pub events_of : List (Bor (Pos × Stored)) → List (Pos × Traced)
 events_of references = list_map (λ e. (e.now.0, held e.now.1)) references
 
--- whether two keys are the same (our own choice)
+-- whether two keys are the same
 abbrev pub same_key : List Part → List Part → Bool
 same_key = eq_by_cmp key_cmp
 
@@ -31,16 +31,16 @@ is_under hist key event = option_map_or (same_key key) (hit hist event) false
 abbrev pub run_under : Hist → List (Pos × Traced) → List Part → List (Pos × Traced)
 run_under hist events key = filter (λ e. is_under hist key e.1) events
 
--- keys, and events with their places by key (our own choice)
+-- keys, and events with their places by key
 pub record Grouped : Type 0 where
   pub keys : List (List Part)
   pub runs : FinMap key_cmp (List (Pos × Traced))
 
--- the events of a key (our own choice)
+-- the events of a key
 abbrev pub run_of : Grouped → List Part → List (Pos × Traced)
 run_of groups key = unwrap_or (map.get groups.runs key) []
 
--- the events of a list that a trigger counts are grouped by their keys, none of which is named twice (our own choice)
+-- the events of a list that a trigger counts are grouped by their keys, none of which is named twice
 pub record AreGrouped (hist : Hist) (events : List (Pos × Traced)) (groups : Grouped) : Type 0 where
   pub runs : (key : List Part) → run_of groups key ≡ run_under hist events key
   pub once : (i j : ℕ) (d : List Part) → i < j → j < length groups.keys → slice_index_or groups.keys i d ≡ slice_index_or groups.keys j d → ⊥

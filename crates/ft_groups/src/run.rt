@@ -9,7 +9,7 @@ use ft_store::Stored;
 use std::alloc::{AllocError, Global};
 use std::marker::Model;
 
-/// References to events with their places, one behind the other.
+/// References to events with their places, one after the other.
 ///
 /// Contracts see the list of the places and the events.
 #[derive(Drop)]

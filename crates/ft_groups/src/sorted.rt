@@ -1,4 +1,4 @@
-//! Sorting events by key, one behind the other.
+//! Sorting events by key, one after the other.
 
 ghost use Rattle.std.specs.Prelude.{◌≡◌, ◌<◌, List, [], length, Some, None, slice_get};
 ghost use Rattle.std.specs.Prelude.{IfSome, IfOk, OnOk};

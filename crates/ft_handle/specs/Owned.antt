@@ -9,23 +9,23 @@ use Rattle.std.specs.Global.{Global}
 use Rattle.std.specs.contracts.impls.GlobalAllocator.TheImpl.{ghosts}
 use Rattle.ft_session.specs.contracts.Session.{the_row}
 
--- a session as contracts see it: here and in the import of `the_row` alone is it named (our own choice)
+-- a session as contracts see it: here and in the import of `the_row` alone is it named
 abbrev pub Held : Type 0
 Held = the_row.Denot
 
--- how a handle's value is stored (our own choice)
+-- how a handle's value is stored
 abbrev pub held_code : Coded (Option Held)
 held_code = coded_option the_row.coded
 
--- the global allocator (our own choice)
+-- the global allocator
 abbrev pub heap : Global
 heap = record { memory = record { seal = tt } }
 
--- the memory of a session in a box at this pointer, with the right to free it (our own choice)
+-- the memory of a session in a box at this pointer, with the right to free it
 abbrev pub boxed : Ptr → Held → Fml
 boxed = box_owns (ghosts.dealloc_token heap) the_row
 
--- what a handle owns by its pointer (our own choice)
+-- what a handle owns by its pointer
 abbrev pub handle_owns : Ptr → Option Held → Fml
 handle_owns p None = feq Ptr p null_ptr
 handle_owns p (Some x) = boxed p x

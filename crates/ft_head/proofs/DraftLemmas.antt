@@ -22,7 +22,7 @@ part_other event draft part bytes is kept none =
     let kept_here : is_part_left_out part.bytes ≡ false = subst (λ text. is_part_left_out text ≡ false) is kept in
     rw kept_here (rw none_here refl)
 
--- a value that begins as one that reads does is one where a name stands behind that
+-- a value that begins as one that reads does is one where a name stands after that
 pub stamp_since : (value rest : List ℕ) → rest ≡ drop 24 value → bytes_eq value (codes "common_timestamp.usecs") ≡ false → starts_with ◌==◌ value (codes "common_timestamp.usecs-$") ≡ true → stamp_of value ≡ (if is_name rest then Some (Since rest) else None)
 unfolding stamp_of
 stamp_since value rest is saved since =

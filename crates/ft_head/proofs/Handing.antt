@@ -17,7 +17,7 @@ use Rattle.ft_pieces.proofs.Spellings.{IsName, Apart, name_parts, name_again, fr
 
 -- ---- steps
 
--- what stands behind a front
+-- what stands after a front
 behind_parts : (front text rest : List ℕ) → behind front text ≡ Some rest → text ≡ front ++ rest
 behind_parts front text rest e =
     let found = cond_some (starts_with ◌==◌ text front) (drop (length front) text) rest e in
@@ -80,7 +80,7 @@ event_named names.Other text is = absurd cc
 abbrev spelled : List ℕ → List ℕ → List ℕ → List ℕ → List ℕ
 spelled event own pid prio = codes "onmatch(sched." ++ (event ++ (codes ").wakeup_latency($" ++ (own ++ (codes "," ++ (pid ++ (codes "," ++ (prio ++ codes ")")))))))
 
--- what is read last, behind names before their ends
+-- what is read last, after names before their ends
 last_parts : (part : List ℕ) (event own pid prio : List ℕ × List ℕ) (words : Handed) → part ≡ codes "onmatch(sched." ++ (event.0 ++ (codes ").wakeup_latency($" ++ (own.0 ++ (codes "," ++ (pid.0 ++ (codes "," ++ (prio.0 ++ (codes ")" ++ prio.1))))))))
     → IsName own.0 → IsName pid.0 → IsName prio.0 → handed_with event.0 own.0 pid.0 prio ≡ Some words → IsHanded part words
 last_parts part event own pid prio words is n m k e =
@@ -128,19 +128,19 @@ handed_parts part words e =
 step : {A B : Type 0} (found : Option A) (next : A → Option B) (x : A) (y : B) → found ≡ Some x → next x ≡ Some y → with_found found next ≡ Some y
 step found next x y is e = rw is e
 
--- what is read behind the name of the first field
+-- what is read after the name of the first field
 abbrev by_pid : List ℕ → List ℕ → List ℕ × List ℕ → Option Handed
 by_pid event own pid = with_found (name_before (codes ")") pid.1) (handed_with event own pid.0)
 
--- what is read behind that of the variable
+-- what is read after that of the variable
 abbrev by_own : List ℕ → List ℕ × List ℕ → Option Handed
 by_own event own = with_found (name_before (codes ",") own.1) (by_pid event own.0)
 
--- what is read behind that of the event
+-- what is read after that of the event
 abbrev by_event : List ℕ × List ℕ → Option Handed
 by_event event = with_found (name_before (codes ",") event.1) (by_own event.0)
 
--- what is read behind the front
+-- what is read after the front
 abbrev by_front : List ℕ → Option Handed
 by_front rest = with_found (name_before (codes ").wakeup_latency($") rest) by_event
 

@@ -86,7 +86,7 @@ power_fits k sized =
     let form = number_form (2 ^ k) (omega arith) in
     record { reads = written_again (2 ^ k) (2 ^ k) (decimal (2 ^ k)) form.0 form.1 (power_again k) sized; bare = decimal_bare (2 ^ k) (omega arith) }
 
--- what stands behind a size that is read
+-- what stands after a size that is read
 pub size_parts : (text : List ℕ) (size : ℕ) → size_of text ≡ Some size → (is_number text ≡ true) × (is_size size ≡ true) × (rounded (digits_value 10 text) ≡ size)
 size_parts text size e =
     let found = cond_some (is_number text && is_size (rounded (digits_value 10 text))) (rounded (digits_value 10 text)) size e in
@@ -166,7 +166,7 @@ size_none text e = from (is_number text) (nat_le (digits_value 10 text) 131072) 
 pub rounded_most : (n : ℕ) → n ≤ 131072 → rounded n ≤ 131072
 rounded_most n low = rounded_least n 17 low
 
--- what stands behind a number up to the greatest size
+-- what stands after a number up to the greatest size
 number_up_to : (text : List ℕ) (n : ℕ) → number_in 0 131072 text ≡ Some n → (is_number text ≡ true) × (digits_value 10 text ≡ n) × (n ≤ 131072)
 unfolding number_in
 number_up_to text n e =

@@ -24,7 +24,7 @@ use Rattle.ft_head.specs.Onmatch.{Action, Handed, handed_of}
 use Rattle.ft_pieces.specs.Words.{Piece, pieces, Word, word_of, is_word, same_word, is_name, is_number, number_in}
 use Rattle.ft_tokens.specs.Tokens.{name_at}
 
--- what has been read so far; a list that has not stood yet is none, and names are not yet resolved (our own choice)
+-- what has been read so far; a list that has not stood yet is none, and names are not yet resolved
 pub record Draft : Type 0 where
   pub keys : Option (List KeyItem)
   pub values : Option (List Word)
@@ -33,22 +33,22 @@ pub record Draft : Type 0 where
   pub variable : Option Var
   pub onmatch : Option Action
 
--- nothing yet (our own choice)
+-- nothing yet
 abbrev pub blank : Draft
 blank = record { keys = None; values = None; sort = None; size = None; variable = None; onmatch = None }
 
 infixl 10 ◌>>=◌
--- what follows a step that has no fault (our own choice)
+-- what follows a step that has no fault
 abbrev pub ◌>>=◌ : {A B : Type 0} → Result A TriggerFault → (A → Result B TriggerFault) → Result B TriggerFault
 (Ok x) >>= f = f x
 (Err fault) >>= f = Err fault
 
--- the first test that is met decides, and else what follows (our own choice)
+-- the first test that is met decides, and else what follows
 abbrev pub unless : {A : Type 0} → List (Bool × TriggerFault) → Result A TriggerFault → Result A TriggerFault
 unless [] next = next
 unless (rule ∷ rules) next = if rule.0 then Err rule.1 else unless rules next
 
--- what follows where a thing is there, and else the fault (our own choice)
+-- what follows where a thing is there, and else the fault
 abbrev pub given_or : {A B : Type 0} → TriggerFault → Option A → (A → Result B TriggerFault) → Result B TriggerFault
 given_or fault (Some found) next = next found
 given_or fault None next = Err fault
@@ -77,7 +77,7 @@ is_left_out (Some suffix) =
 abbrev pub buckets_of : List ℕ → Option Mode
 buckets_of suffix = if starts_with ◌==◌ suffix (codes "buckets=") then option_map modes.Buckets (number_in 1 4294967295 (drop 8 suffix)) else None
 
--- the modifier that stands behind a `.`: a name and nothing else, or buckets of a size (kernel: histogram.rst, modifiers)
+-- the modifier that stands after a `.`: a name and nothing else, or buckets of a size (kernel: histogram.rst, modifiers)
 abbrev pub number_mode : List ℕ → Option Mode
 number_mode suffix = option_or (find (is_called suffix) named_modes) (buckets_of suffix)
 
@@ -86,7 +86,7 @@ abbrev pub mode_of : Bool → Option (List ℕ) → Option Mode
 mode_of text None = Some modes.Plain
 mode_of text (Some suffix) = if text then None else number_mode suffix
 
--- the field is a key's (our own choice)
+-- the field is a key's
 abbrev pub is_key : List KeyItem → Field → Bool
 is_key keys field = list_any (λ key. bytes_eq (text_of key.field) (text_of field)) keys
 
@@ -94,7 +94,7 @@ is_key keys field = list_any (λ key. bytes_eq (text_of key.field) (text_of fiel
 abbrev pub is_no_key : Word → Bool
 is_no_key word = word.dollar || list_any (bytes_eq word.name) (codes "common_timestamp" ∷ codes "stacktrace" ∷ codes "common_stacktrace" ∷ [])
 
--- one more key item of a field, with what is behind its `.` (kernel: histogram.rst, modifiers)
+-- one more key item of a field, with what is after its `.` (kernel: histogram.rst, modifiers)
 abbrev pub with_field : List KeyItem → ℕ → Field → Option (List ℕ) → Result (List KeyItem) TriggerFault
 with_field keys place field suffix =
     unless ((is_left_out suffix, LeftOut place) ∷ [])
@@ -183,12 +183,12 @@ abbrev pub var_of : List ℕ → Stamp → Var
 var_of name Saved = vars.Saves name
 var_of name (Since source) = vars.Reads name source
 
--- the name is the one that is read (our own choice)
+-- the name is the one that is read
 abbrev pub reads_itself : List ℕ → Stamp → Bool
 reads_itself name Saved = false
 reads_itself name (Since source) = bytes_eq name source
 
--- a variable may not have this name: that of a field of the event, `hitcount`, or the name that it reads (our own choice)
+-- a variable may not have this name: that of a field of the event, `hitcount`, or the name that it reads
 abbrev pub is_taken : Name → List ℕ → Stamp → Bool
 is_taken event name stamp = is_some (find (is_named event name) all_fields) || (bytes_eq name (codes "hitcount") || reads_itself name stamp)
 

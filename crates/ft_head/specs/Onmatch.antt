@@ -7,7 +7,7 @@ use Rattle.ft_fields.specs.Names.{is_traced, name_called}
 use Rattle.ft_hist.specs.declared.onmatch.Onmatch.{Onmatch}
 use Rattle.ft_tokens.specs.Tokens.{name_at}
 
--- what has been read of such a part: the name of the variable that it hands on, and what the trigger makes events of (our own choice)
+-- what has been read of such a part: the name of the variable that it hands on, and what the trigger makes events of
 pub record Action : Type 0 where
   pub own : List ℕ
   pub onmatch : Onmatch
@@ -19,15 +19,15 @@ pub record Handed : Type 0 where
   pub pid : List ℕ
   pub prio : List ℕ
 
--- what follows where a thing is there (our own choice)
+-- what follows where a thing is there
 abbrev pub with_found : {A B : Type 0} → Option A → (A → Option B) → Option B
 with_found found next = option_and_then next found
 
--- what is behind a text's front, where the text begins so (our own choice)
+-- what is after a text's front, where the text begins so
 abbrev pub behind : List ℕ → List ℕ → Option (List ℕ)
 behind front text = if starts_with ◌==◌ text front then Some (drop (length front) text) else None
 
--- a name that stands before an end, and what is behind that (our own choice)
+-- a name that stands before an end, and what is after that
 abbrev pub name_before : List ℕ → List ℕ → Option (List ℕ × List ℕ)
 name_before end text = with_found (name_at text) (λ cut. option_map (λ rest. (cut.0, rest)) (behind end cut.1))
 
@@ -35,7 +35,7 @@ name_before end text = with_found (name_at text) (λ cut. option_map (λ rest. (
 abbrev pub traced_called : List ℕ → Option Name
 traced_called text = with_found (name_called text) (λ event. if is_traced event then Some event else None)
 
--- the words of names, where nothing is behind them and the first is an event's (our own choice)
+-- the words of names, where nothing is after them and the first is an event's
 abbrev pub handed_with : List ℕ → List ℕ → List ℕ → List ℕ × List ℕ → Option Handed
 handed_with event own pid prio =
     if length prio.1 == 0 then option_map (λ name. record { event = name; own = own; pid = pid; prio = prio.0 }) (traced_called event) else None

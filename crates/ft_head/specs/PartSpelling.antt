@@ -24,7 +24,7 @@ pub record IsHanded (part : List ℕ) (words : Handed) : Type 0 where
 abbrev pub is_part : List ℕ → Bool
 is_part text = list_all (λ byte. not (is_gap byte) && not (byte == 58)) text
 
--- parts behind others, each behind a `:` (kernel: histogram.rst, hist triggers)
+-- parts after others, each after a `:` (kernel: histogram.rst, hist triggers)
 abbrev pub more_parts : List (List ℕ) → List ℕ
 more_parts [] = []
 more_parts (part ∷ parts) = 58 ∷ (part ++ more_parts parts)

@@ -1,9 +1,9 @@
--- The numbers and places of what may be wrong with a trigger's text (our own choice).
+-- The numbers and places of what may be wrong with a trigger's text.
 use Rattle.std.specs.Prelude.{ℕ, Option, Some, None}
 use Rattle.ft_head.specs.declared.fault.TriggerFault.{TriggerFault}
 use Rattle.ft_head.specs.declared.fault.TriggerFault.TheVariants.{Memory, Syntax, NoField, NotNumeric, TooMany, Duplicate, BadSize, BadSort, BadModifier, LeftOut, BadFilter}
 
--- the number that a refusal prints (our own choice)
+-- the number that a refusal prints
 abbrev pub number_of : TriggerFault → ℕ
 number_of Memory = 1
 number_of (Syntax place) = 2
@@ -17,7 +17,7 @@ number_of BadModifier = 9
 number_of (LeftOut place) = 10
 number_of (BadFilter fault) = 11
 
--- the byte that it is at, where it has a place; a filter's fault has its own (our own choice)
+-- the byte that it is at, where it has a place; a filter's fault has its own
 abbrev pub place_of : TriggerFault → Option ℕ
 place_of (Syntax place) = Some place
 place_of (LeftOut place) = Some place

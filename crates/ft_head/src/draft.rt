@@ -55,7 +55,7 @@ pub struct Draft<'a> {
     pub onmatch: Option<Action<'a>>,
 }
 
-/// The kinds of parts, but for variables. What a part adds to a draft is defined kind by kind.
+/// The kinds of parts, except for variables. What a part adds to a draft is defined kind by kind.
 #[derive(Clone, Copy)]
 pub enum Kind {
     /// `keys=`

@@ -95,7 +95,7 @@ fn is_no_key(word: &Word<'_>) -> bool
         || is_same(name, b"common_stacktrace")
 }
 
-/// Adds the key item of a field with what stands behind its `.`.
+/// Adds the key item of a field with what stands after its `.`.
 fn with_field(
     keys: &mut Vec<KeyItem>,
     place: usize,
@@ -166,7 +166,7 @@ fn mode_of(is_text: bool, suffix: Option<&[u8]>) -> Option<Mode>
     }
 }
 
-/// The modifier that stands behind a `.`: a name and nothing else, or buckets of a size.
+/// The modifier that stands after a `.`: a name and nothing else, or buckets of a size.
 fn number_mode(suffix: &[u8]) -> Option<Mode>
     ensures { result ≡ number_mode suffix.now }
 {

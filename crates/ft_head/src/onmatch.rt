@@ -121,7 +121,7 @@ pub(crate) fn handed_of(part: &[u8]) -> Option<Handed<'_>>
     })
 }
 
-/// A name that stands before an end, and what is behind that.
+/// A name that stands before an end, and what is after that.
 fn name_before<'a>(text: &'a [u8], end: &[u8]) -> Option<(&'a [u8], &'a [u8])>
     ensures { option_map (λ cut. (cut.0.now, cut.1.now)) result ≡ name_before end.now text.now }
 {

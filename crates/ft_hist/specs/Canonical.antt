@@ -1,4 +1,4 @@
--- The one text of a trigger that is printed (our own choice).
+-- The one text of a trigger that is printed.
 use Rattle.std.specs.Prelude.{ℕ, List, [], ◌∷◌, ◌++◌, slice_get, map, if◌then◌else◌, Option, Some, None, unwrap_or, codes, decimal}
 use Rattle.std.specs.Option.{option_map_or}
 use Rattle.ft_fields.specs.declared.event.Name.{Name}
@@ -19,12 +19,12 @@ use Rattle.ft_hist.specs.declared.onmatch.Onmatch.{Onmatch}
 use Rattle.ft_hist.specs.Hist.{Hist}
 use Rattle.ft_hist.specs.Modifiers.{mode_text}
 
--- texts, each behind a `,` (our own choice)
+-- texts, each after a `,`
 abbrev pub more_items : List (List ℕ) → List ℕ
 more_items [] = []
 more_items (text ∷ texts) = codes "," ++ text ++ more_items texts
 
--- texts with a `,` between each two (our own choice)
+-- texts with a `,` between each two
 abbrev pub listed : List (List ℕ) → List ℕ
 listed [] = []
 listed (text ∷ texts) = text ++ more_items texts
@@ -39,7 +39,7 @@ name_of None = []
 name_of (Some (vars.Saves name)) = name
 name_of (Some (vars.Reads own source)) = own
 
--- a value item: a field, or the own variable behind a `$` (kernel: histogram.rst, `values`)
+-- a value item: a field, or the own variable after a `$` (kernel: histogram.rst, `values`)
 abbrev pub value_text : Option Var → Item → List ℕ
 value_text variable (items.Num field) = text_of field
 value_text variable items.Own = codes "$" ++ name_of variable
@@ -54,17 +54,17 @@ by_text hist (sorts.Value n) = option_map_or (value_text hist.variable) (slice_g
 abbrev pub sort_text : Hist → SortItem → List ℕ
 sort_text hist item = by_text hist item.what ++ (if item.descending then codes ".descending" else [])
 
--- a variable's part, behind a `:` (kernel: histogram.rst, inter-event hist triggers)
+-- a variable's part, after a `:` (kernel: histogram.rst, inter-event hist triggers)
 abbrev pub variable_text : Option Var → List ℕ
 variable_text None = []
 variable_text (Some (vars.Saves name)) = codes ":" ++ name ++ codes "=common_timestamp.usecs"
 variable_text (Some (vars.Reads own source)) = codes ":" ++ own ++ codes "=common_timestamp.usecs-$" ++ source
 
--- the event at which the stamp is saved, behind `onmatch` (kernel: histogram.rst, the `onmatch` handler)
+-- the event at which the stamp is saved, after `onmatch` (kernel: histogram.rst, the `onmatch` handler)
 abbrev pub matching_text : Name → List ℕ
 matching_text event = codes "onmatch(sched." ++ unwrap_or (name_text event) []
 
--- a field that is handed on, behind a `,` (kernel: histogram.rst, the `onmatch` handler)
+-- a field that is handed on, after a `,` (kernel: histogram.rst, the `onmatch` handler)
 abbrev pub param_text : Field → List ℕ
 param_text field = codes "," ++ text_of field
 
@@ -76,17 +76,17 @@ making_text own onmatch = codes ").wakeup_latency($" ++ own ++ param_text onmatc
 abbrev pub onmatch_part : List ℕ → Onmatch → List ℕ
 onmatch_part own onmatch = matching_text onmatch.event ++ making_text own onmatch
 
--- an onmatch part behind a `:`, where there is one (kernel: histogram.rst, the `onmatch` handler)
+-- an onmatch part after a `:`, where there is one (kernel: histogram.rst, the `onmatch` handler)
 abbrev pub onmatch_text : Option Var → Option Onmatch → List ℕ
 onmatch_text variable None = []
 onmatch_text variable (Some onmatch) = codes ":" ++ onmatch_part (name_of variable) onmatch
 
--- a filter, behind `if` (kernel: events.rst, `if` before a filter)
+-- a filter, after `if` (kernel: events.rst, `if` before a filter)
 abbrev pub if_text : Option Tree → List ℕ
 if_text None = []
 if_text (Some tree) = codes " if " ++ filter_text tree
 
--- a trigger's canonical text: keys, values with `hitcount` in front, variable, sort items, size, onmatch part, filter (our own choice)
+-- a trigger's canonical text: keys, values with `hitcount` in front, variable, sort items, size, onmatch part, filter
 unfoldable pub canonical : Hist → List ℕ
 canonical hist =
     codes "hist:keys=" ++ listed (map key_text hist.keys)

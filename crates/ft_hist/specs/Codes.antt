@@ -17,7 +17,7 @@ use Rattle.ft_hist.specs.declared.onmatch.Onmatch.{Onmatch}
 use Rattle.ft_hist.specs.contracts.onmatch.Onmatch as onmatch
 use Rattle.ft_hist.specs.Hist.{Hist}
 
--- a trigger, stored as its parts (our own choice)
+-- a trigger, stored as its parts
 abbrev pub hist_code : Coded Hist
 hist_code = code_by
     (Name × (List KeyItem × (List Item × (List SortItem × (Option Var × (ℕ × (Option Onmatch × Option Tree)))))))

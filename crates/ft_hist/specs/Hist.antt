@@ -19,16 +19,16 @@ pub record Hist : Type 0 where
   pub onmatch : Option Onmatch
   pub filter : Option Tree
 
--- the trigger of these parts, with its filter as a tree, that makes no events (our own choice)
+-- the trigger of these parts, with its filter as a tree, that makes no events
 abbrev pub hist_with : Name → List KeyItem → List Item → List SortItem → Option Var → ℕ → Option Condition → Hist
 hist_with event keys values sort variable size filter =
     record { event = event; keys = keys; values = values; sort = sort; variable = variable; size = size; onmatch = None; filter = option_map (λ f. f.tree) filter }
 
--- the trigger with this onmatch part, or none, in place of its own (our own choice)
+-- the trigger with this onmatch part, or none, in place of its own
 abbrev pub with_onmatch : Hist → Option Onmatch → Hist
 with_onmatch hist onmatch = record hist { onmatch = onmatch }
 
--- the trigger with this filter, or none, in place of its own (our own choice)
+-- the trigger with this filter, or none, in place of its own
 abbrev pub with_filter : Hist → Option Tree → Hist
 with_filter hist filter = record hist { filter = filter }
 

@@ -21,7 +21,7 @@ abbrev pub key_of : List KeyItem → Traced → Option (List Part)
 key_of [] event = Some []
 key_of (item ∷ items) event = option_and_then (λ part. option_map (λ rest. part ∷ rest) (key_of items event)) (part_of item event)
 
--- two names of events are the same (our own choice)
+-- two names of events are the same
 abbrev pub same_name : Name → Name → Bool
 same_name names.Waking names.Waking = true
 same_name names.Wakeup names.Wakeup = true

@@ -13,7 +13,7 @@ use Rattle.ft_keys.specs.declared.key.Part.TheVariants as parts
 
 -- ---- how they are written
 
--- the name of a modifier, behind the `.` of its field; that of buckets stands before their size (kernel: histogram.rst, modifiers)
+-- the name of a modifier, after the `.` of its field; that of buckets stands before their size (kernel: histogram.rst, modifiers)
 abbrev pub mode_name : Mode → List ℕ
 mode_name modes.Plain = []
 mode_name modes.Hex = codes "hex"
@@ -24,23 +24,23 @@ mode_name (modes.Buckets size) = codes "buckets="
 abbrev pub named_modes : List Mode
 named_modes = modes.Hex ∷ modes.Log2 ∷ []
 
--- whether the text is the modifier's name (our own choice)
+-- whether the text is the modifier's name
 abbrev pub is_called : List ℕ → Mode → Bool
 is_called text mode = bytes_eq (mode_name mode) text
 
--- what stands behind the `.` of a field: nothing, where no `.` stands (kernel: histogram.rst, modifiers)
+-- what stands after the `.` of a field: nothing, where no `.` stands (kernel: histogram.rst, modifiers)
 abbrev pub mode_suffix : Mode → Option (List ℕ)
 mode_suffix modes.Plain = None
 mode_suffix (modes.Buckets size) = Some (mode_name (modes.Buckets size) ++ decimal size)
 mode_suffix mode = Some (mode_name mode)
 
--- a modifier, as it stands behind its field (kernel: histogram.rst, modifiers)
+-- a modifier, as it stands after its field (kernel: histogram.rst, modifiers)
 abbrev pub mode_text : Mode → List ℕ
 mode_text mode = option_map_or (λ suffix. codes "." ++ suffix) (mode_suffix mode) []
 
 -- ---- which fields they suit
 
--- the modifier may stand behind a field of texts, or behind one of numbers; buckets have a size (kernel: histogram.rst, modifiers)
+-- the modifier may stand after a field of texts, or after one of numbers; buckets have a size (kernel: histogram.rst, modifiers)
 abbrev pub mode_suits : Bool → Mode → Bool
 mode_suits text modes.Plain = true
 mode_suits text modes.Hex = not text
@@ -68,7 +68,7 @@ value_part mode (values.Text text) = text_part mode text
 
 -- ---- of which kind that is
 
--- what a key item makes: numbers, powers, multiples of a size, or texts (our own choice)
+-- what a key item makes: numbers, powers, multiples of a size, or texts
 pub data Kind : Type 0 where
   Numbers : Kind
   Powers : Kind
@@ -82,7 +82,7 @@ number_kind modes.Hex = Numbers
 number_kind modes.Log2 = Powers
 number_kind (modes.Buckets size) = Multiples size
 
--- two kinds are the same; multiples are where their sizes are (our own choice)
+-- two kinds are the same; multiples are where their sizes are
 abbrev pub same_kind : Kind → Kind → Bool
 same_kind Numbers Numbers = true
 same_kind Powers Powers = true

@@ -1,7 +1,7 @@
 -- What a modifier makes of a number (kernel: histogram.rst, `.log2` and `.buckets`).
 use Rattle.std.specs.Prelude.{◌≡◌, ℕ, zero, suc, ◌+◌, ◌*◌, ◌/◌, ◌^◌, nat_le, if◌then◌else◌}
 
--- the first of so many numbers, from n on, whose power of 2 is not below the value; where none is, the number behind them (our own choice)
+-- the first of so many numbers, from n on, whose power of 2 is not below the value; where none is, the number after them
 abbrev pub first_power : ℕ → ℕ → ℕ → ℕ
 first_power value zero n = n
 first_power value (suc left) n = if nat_le value (2 ^ n) then n else first_power value left (n + 1)
@@ -14,6 +14,6 @@ log2_of value = first_power value 64 0
 abbrev pub bucket_of : ℕ → ℕ → ℕ
 bucket_of size value = value / size * size
 
--- the number is so many times the size, however many (our own choice)
+-- the number is so many times the size, however many
 abbrev pub IsMultiple : ℕ → ℕ → Type 0
 IsMultiple size number = (n : ℕ) × (number ≡ n * size)

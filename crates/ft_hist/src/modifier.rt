@@ -37,7 +37,7 @@ pub fn mode_named(name: &[u8]) -> Option<Mode>
 }
 
 impl Mode {
-    /// Its name, behind the `.` of its field; that of buckets stands before their size.
+    /// Its name, after the `.` of its field; that of buckets stands before their size.
     fn name(self) -> &'static [u8]
         ensures { result.now ≡ mode_name self }
     {
@@ -49,7 +49,7 @@ impl Mode {
         }
     }
 
-    /// Adds it as it stands behind its field. What it added before a refusal stays.
+    /// Adds it as it stands after its field. What it added before a refusal stays.
     pub(crate) fn write(self, text: &mut Vec<u8>) -> Result<(), AllocError>
         ensures ok { OnOk result (text.new.items ≡ text.old.items ++ mode_text self) }
         ensures err { OnErr result (IsFront text.old.items text.new.items) }

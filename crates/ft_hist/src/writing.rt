@@ -100,7 +100,7 @@ fn write_key(key: KeyItem, text: &mut Vec<u8>) -> Result<(), AllocError>
     key.mode.write(text)
 }
 
-/// Adds the value items, each behind a `,`.
+/// Adds the value items, each after a `,`.
 fn write_values(trigger: &Trigger, text: &mut Vec<u8>) -> Result<(), AllocError>
     ensures ok { OnOk result (text.new.items ≡ text.old.items
         ++ more_items (map (value_text trigger.now.variable) trigger.now.values)) }
@@ -114,7 +114,7 @@ fn write_values(trigger: &Trigger, text: &mut Vec<u8>) -> Result<(), AllocError>
     Ok(())
 }
 
-/// Adds a value item: a field, or the own variable behind a `$`.
+/// Adds a value item: a field, or the own variable after a `$`.
 fn write_value(variable: Option<&Var>, item: Item, text: &mut Vec<u8>) -> Result<(), AllocError>
     ensures ok { OnOk result (text.new.items ≡ text.old.items
         ++ value_text (option_copied variable.entry) item) }
@@ -132,7 +132,7 @@ fn write_value(variable: Option<&Var>, item: Item, text: &mut Vec<u8>) -> Result
     }
 }
 
-/// Adds a variable's part behind a `:`, where there is a variable.
+/// Adds a variable's part after a `:`, where there is a variable.
 fn write_variable(variable: Option<&Var>, text: &mut Vec<u8>) -> Result<(), AllocError>
     ensures ok { OnOk result (text.new.items ≡ text.old.items
         ++ variable_text (option_copied variable.entry)) }
@@ -152,7 +152,7 @@ fn write_variable(variable: Option<&Var>, text: &mut Vec<u8>) -> Result<(), Allo
     }
 }
 
-/// Adds a variable's own name behind a `:`.
+/// Adds a variable's own name after a `:`.
 fn write_name(name: &Label, text: &mut Vec<u8>) -> Result<(), AllocError>
     ensures ok { OnOk result (text.new.items ≡ text.old.items ++ (codes ":" ++ name.now)) }
     ensures err { OnErr result (IsFront text.old.items text.new.items) }
@@ -209,7 +209,7 @@ fn write_by(trigger: &Trigger, by: SortBy, text: &mut Vec<u8>) -> Result<(), All
     }
 }
 
-/// Adds an onmatch part behind a `:`, where there is one.
+/// Adds an onmatch part after a `:`, where there is one.
 fn write_onmatch(trigger: &Trigger, text: &mut Vec<u8>) -> Result<(), AllocError>
     ensures ok { OnOk result (text.new.items ≡ text.old.items
         ++ onmatch_text trigger.now.variable trigger.now.onmatch) }
@@ -225,7 +225,7 @@ fn write_onmatch(trigger: &Trigger, text: &mut Vec<u8>) -> Result<(), AllocError
     }
 }
 
-/// Adds the event at which the stamp is saved, behind `onmatch`.
+/// Adds the event at which the stamp is saved, after `onmatch`.
 fn write_matching(event: Name, text: &mut Vec<u8>) -> Result<(), AllocError>
     ensures ok { OnOk result (text.new.items ≡ text.old.items ++ matching_text event) }
     ensures err { OnErr result (IsFront text.old.items text.new.items) }
@@ -266,7 +266,7 @@ fn write_own(variable: Option<&Var>, text: &mut Vec<u8>) -> Result<(), AllocErro
     }
 }
 
-/// Adds a field that is handed on, behind a `,`.
+/// Adds a field that is handed on, after a `,`.
 fn write_param(field: Field, text: &mut Vec<u8>) -> Result<(), AllocError>
     ensures ok { OnOk result (text.new.items ≡ text.old.items ++ param_text field) }
     ensures err { OnErr result (IsFront text.old.items text.new.items) }
@@ -275,7 +275,7 @@ fn write_param(field: Field, text: &mut Vec<u8>) -> Result<(), AllocError>
     text.extend_from_slice(field_text(field))
 }
 
-/// Adds a filter behind `if`, where there is one.
+/// Adds a filter after `if`, where there is one.
 fn write_filter(filter: Option<&Filter>, text: &mut Vec<u8>) -> Result<(), AllocError>
     ensures ok { OnOk result (text.new.items ≡ text.old.items
         ++ if_text (option_map (λ f. f.tree) (option_copied filter.entry))) }

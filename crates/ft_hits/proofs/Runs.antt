@@ -122,7 +122,7 @@ seen-run run hits sorted made = seen-from_get spot_cmp_total spot_same hits _ (�
     ∙ update_all_none (eq_by_cmp_equiv spot_cmp_total) (eq_by_cmp spot_cmp) (λ x y. refl) run q (IsDistinct-from_sorted spot_cmp (keys_of run) sorted)
     ∙ sym (get-from_entries spot_cmp_total run q ∙ find-lookup spot_cmp q run))
 
--- ---- in any order: the hits so far, and behind them the rest
+-- ---- in any order: the hits so far, and after them the rest
 
 not_some : {X : Type 0} (o : Option X) → is_some o ≡ false → o ≡ None
 not_some None e = refl
@@ -155,11 +155,11 @@ module _ (hits : EntryHits) (e : Spot × List ℤ) (es : List (Spot × List ℤ)
     at true tie = sym (none_or _ _ (ap (map.get hits) (spot_same q e.0 (is_equal _ tie)) ∙ not_some _ none))
     at false tie = refl
 
--- none yet, and all behind them
+-- none yet, and all after them
 pub all-left : (run : List (Spot × List ℤ)) (hits : EntryHits) → hits ≡ map.empty → (q : Spot) → option_or (map.get hits q) (find spot_cmp q run) ≡ find spot_cmp q run
 all-left run hits is q = none_or _ _ (ap (λ (h : EntryHits). map.get h q) is ∙ get-empty spot_cmp q)
 
--- and all, and none behind them
+-- and all, and none after them
 pub none-left : (run : List (Spot × List ℤ)) (hits : EntryHits) → ((q : Spot) → option_or (map.get hits q) None ≡ find spot_cmp q run) → hits ≡ map.from_entries run
 none-left run hits h = same_map spot_cmp_total spot_same _ _ (λ q. sym (or_none (map.get hits q)) ∙ h q ∙ sym (get-from_entries spot_cmp_total run q))
 

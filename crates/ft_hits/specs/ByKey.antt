@@ -9,14 +9,14 @@ use Rattle.ft_keys.specs.Parts.{key_cmp}
 use Rattle.ft_maps.specs.Seen.{seen}
 use Rattle.ft_hits.specs.Hits.{Hits, EntryHits}
 
--- the hits of each key (our own choice)
+-- the hits of each key
 abbrev pub ByKey : Type 0
 ByKey = FinMap key_cmp EntryHits
 
--- all hits, of the hits of each key (our own choice)
+-- all hits, of the hits of each key
 unfoldable pub flat : ByKey → Hits
 flat by_key = map.from_entries (flat_map (λ entry. list_map (λ e. (record { spot = e.0; key = entry.0 }, e.1)) (map.entries entry.1)) (map.entries by_key))
 
--- all hits of a tree with an entry for each key (our own choice)
+-- all hits of a tree with an entry for each key
 abbrev pub hits_in : BTreeMap (List Part) EntryHits → Hits
 hits_in by_key = flat (seen key_cmp by_key)

@@ -4,6 +4,6 @@ use Rattle.std.specs.FinMap as map
 use Rattle.ft_hits.specs.contracts.spot.Spot as spot
 use Rattle.ft_hits.specs.Hits.{EntryHits}
 
--- the hits of one key, stored as their list (our own choice)
+-- the hits of one key, stored as their list
 abbrev pub entry_code : Coded EntryHits
 entry_code = map.code spot.the_row.coded (coded_list coded_ℤ)

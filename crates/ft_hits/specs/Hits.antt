@@ -13,23 +13,23 @@ use Rattle.ft_hits.specs.declared.hit.Hit.{Hit}
 use Rattle.ft_hits.specs.declared.mark.Mark.{Mark}
 use Rattle.ft_hits.specs.Marks.{mark_cmp}
 
--- the hits of a trigger: values by spot and key (our own choice)
+-- the hits of a trigger: values by spot and key
 abbrev pub Hits : Type 0
 Hits = FinMap mark_cmp (List ℤ)
 
--- the hits of one key: values by spot (our own choice)
+-- the hits of one key: values by spot
 abbrev pub EntryHits : Type 0
 EntryHits = FinMap spot_cmp (List ℤ)
 
--- all hits are of events of the trace (our own choice)
+-- all hits are of events of the trace
 abbrev pub AreTraced : Hits → Type 0
 AreTraced hits = (m : Mark) → IsMade m.spot → map.get hits m ≡ None
 
--- whether two keys are the same (our own choice)
+-- whether two keys are the same
 abbrev pub same_key : List Part → List Part → Bool
 same_key = eq_by_cmp key_cmp
 
--- the hits of a key among all (our own choice)
+-- the hits of a key among all
 unfoldable pub hits_of : Hits → List Part → EntryHits
 hits_of hits key = map.from_entries (list_map (λ e. (e.0.spot, e.1)) (filter (λ e. same_key e.0.key key) (map.entries hits)))
 
@@ -49,34 +49,34 @@ column j hits = sum_by (unsigned_at j) (map.values hits) % 2 ^ 64
 abbrev pub sums_of : EntryHits → List ℕ
 sums_of hits = column 0 hits ∷ column 1 hits ∷ column 2 hits ∷ []
 
--- the key of the first of some entries (our own choice)
+-- the key of the first of some entries
 abbrev pub least_key : {K X : Type 0} → List (K × X) → Option K
 least_key [] = None
 least_key (e ∷ es) = Some e.0
 
--- the spot of a key's first hit (our own choice)
+-- the spot of a key's first hit
 abbrev pub first_place : Hits → List Part → Option Spot
 first_place hits key = least_key (map.entries (hits_of hits key))
 
--- the first of spots, as another comes (our own choice)
+-- the first of spots, as another comes
 abbrev pub first_with : Option Spot → Spot → Option Spot
 first_with None p = Some p
 first_with (Some f) p = if is_lt (spot_cmp f p) then Some f else Some p
 
--- the first of a list (our own choice)
+-- the first of a list
 abbrev pub first_entry : {X : Type 0} → List X → Option X
 first_entry [] = None
 first_entry (x ∷ xs) = Some x
 
--- whether a spot is after another, if there is another (our own choice)
+-- whether a spot is after another, if there is another
 abbrev pub is_after : Option Spot → Spot → Bool
 is_after None p = true
 is_after (Some a) p = is_lt (spot_cmp a p)
 
--- the hits after a spot, in order; without a spot all (our own choice)
+-- the hits after a spot, in order; without a spot all
 abbrev pub hits_after : Option Spot → EntryHits → List (Spot × List ℤ)
 hits_after place hits = filter (λ e. is_after place e.0) (map.entries hits)
 
--- the first hit of a key after a spot; without a spot its first (our own choice)
+-- the first hit of a key after a spot; without a spot its first
 abbrev pub hit_after : Hits → List Part → Option Spot → Option Hit
 hit_after hits key after = option_map (λ e. record { spot = e.0; key = key; values = e.1 }) (first_entry (hits_after after (hits_of hits key)))

@@ -1,4 +1,4 @@
--- Spots: where hits stand (our own choice).
+-- Spots: where hits stand.
 use Rattle.std.specs.Prelude.{◌≡◌, ℕ, ◌==◌, Option, Some, None, if◌then◌else◌}
 use Rattle.std.specs.declared.cmp.Ordering.{Ordering}
 use Rattle.std.specs.Ordering.{nat_cmp, on, then_cmp}
@@ -10,11 +10,11 @@ use Rattle.ft_fields.specs.declared.pos.Pos.{Pos}
 use Rattle.ft_fields.specs.Places.{pos_cmp, pos_cmp_total, pos_same}
 use Rattle.ft_hits.specs.declared.spot.Spot.{Spot}
 
--- where a hit of an event of the trace stands: no trigger made the event (our own choice)
+-- where a hit of an event of the trace stands: no trigger made the event
 abbrev pub traced : Pos → Spot
 traced pos = record { pos = pos; maker = 0 }
 
--- the place of a spot where an event of the trace stands; where a trigger made the event, there is none (our own choice)
+-- the place of a spot where an event of the trace stands; where a trigger made the event, there is none
 abbrev pub traced_place : Spot → Option Pos
 traced_place spot = if spot.maker == 0 then Some spot.pos else None
 
@@ -22,15 +22,15 @@ traced_place spot = if spot.maker == 0 then Some spot.pos else None
 abbrev pub IsMade : Spot → Type 0
 IsMade spot = spot.maker ≡ 0 → ⊥
 
--- spots in order: by the event's place, then by who made it (our own choice)
+-- spots in order: by the event's place, then by who made it
 abbrev pub spot_cmp : Spot → Spot → Ordering
 spot_cmp = then_cmp (on (λ s. s.pos) pos_cmp) (on (λ s. s.maker) nat_cmp)
 
--- the order of spots is total (our own choice)
+-- the order of spots is total
 pub spot_cmp_total : IsTotalOrder spot_cmp
 spot_cmp_total = then_total (on_total (λ s. s.pos) pos_cmp_total) (on_total (λ s. s.maker) nat_cmp_total)
 
--- spots that tie are equal (our own choice)
+-- spots that tie are equal
 pub spot_same : IsAntisymmetric spot_cmp
 spot_same a b h =
     ap (λ (p : Pos × ℕ). record { pos = p.0; maker = p.1 })

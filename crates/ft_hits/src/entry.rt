@@ -168,7 +168,7 @@ impl Entry {
         }
     }
 
-    /// Puts a hit at a spot behind its first hit, if it has one before that spot: where the first
+    /// Puts a hit at a spot after its first hit, if it has one before that spot: where the first
     /// stands. Else, and where it is refused for memory, it is as it was.
     fn insert_behind(
         &mut self,
@@ -287,7 +287,7 @@ pub fn holds(by_key: &BTreeMap<Key, Entry>, mark: Mark) -> bool
     }
 }
 
-/// Puts a hit in behind the first of its key, if that has one before it: where the first stands.
+/// Puts a hit in after the first of its key, if that has one before it: where the first stands.
 /// Else, and where it is refused for memory, all is as it was.
 pub fn put_behind(
     alloc: Global,

@@ -201,7 +201,7 @@ module _ (id : ℕ) (told : List (Pos × Pos)) (old new : Shelves) (h : ChangesS
 
 -- ---- acts under some keys
 
--- an act, where its key is none of these (our own choice)
+-- an act, where its key is none of these
 abbrev pub act_beside : List (List Part) → Option (List Part × Traced) → Option (List Part × Traced)
 act_beside rest act = option_and_then (λ (a : List Part × Traced). cond (list_any (same_key a.0) rest) None (Some a)) act
 

@@ -78,7 +78,7 @@ pub reading_savers : (id saver : ℕ) (key : List Part) (edit : Ops → Ops) (ol
 reading_savers id saver key edit old put mid new h first last =
     savers_trans id old put new (read_forms saver key edit old put h) (savers_of_ops id saver key edit old put h) (savers_of_readers id put new (readers_trans put mid new first last))
 
--- and goes: its hit, behind a note, its read, and then what the next reading counts and reads
+-- and goes: its hit, after a note, its read, and then what the next reading counts and reads
 pub reading_less_savers : (at : At) (saver : ℕ) (key : List Part) (edit : Ops → Ops) (old took less new : Shelves) → ChangesShelf at.trigger (TakesNoted (record { spot = traced at.pos; key = key })) old took
     → ChangesShelf saver (OpsChange key edit) took less → ReadersChange less new → OtherSaversStay at.trigger old new
 reading_less_savers at saver key edit old took less new hit h last =

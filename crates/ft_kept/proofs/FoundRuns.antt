@@ -59,7 +59,7 @@ found_at [] found q = None
 found_at (e ∷ run) [] q = None
 found_at (e ∷ run) (f ∷ found) q = cond (eq_by_cmp pos_cmp q e.0) (Some (e.1, f)) (found_at run found q)
 
--- behind all places of the run nothing stands
+-- after all places of the run nothing stands
 absent : (q : Pos) (run : List (Pos × Traced)) (found : List (Option At)) → AllByRecursion (λ p. pos_cmp q p ≡ Less) (keys_of run) → found_at run found q ≡ None
 absent q [] found above = refl
 absent q (e ∷ run) [] above = refl
@@ -133,7 +133,7 @@ skip_step : (e : Pos × Traced) (base : Option Pos) (later : Option (Traced × O
 skip_step e base later true none = ap (read_or base) (none refl)
 skip_step e base later false none = refl
 
--- the readings of a run behind others
+-- the readings of a run after others
 pub readings_at : (run : List (Pos × Traced)) (found : List (Option At)) → IsStrictlySortedBy pos_cmp (keys_of run) → (base : Pos → Option Pos) (q : Pos)
     → update_all (eq_by_cmp pos_cmp) base (readings_found run found) q ≡ read_or (base q) (found_at run found q)
 readings_at [] found sorted base q = refl
@@ -146,7 +146,7 @@ readings_at (e ∷ run) (Some saved ∷ found) sorted base q =
     ∙ ap (λ b. read_or (cond b (Some saved.pos) (base q)) (found_at run found q)) ((eq_by_cmp_equiv pos_cmp_total).symm e.0 q)
     ∙ read_step q e (base q) saved (found_at run found q) (eq_by_cmp pos_cmp q e.0) (λ tie. absent_same q e run found sorted (same_from_tie pos_same q e.0 tie))
 
--- a list behind another tells last
+-- a list after another tells last
 pub told_behind : {K X : Type 0} (same : K → K → Bool) (base : K → Option X) (told more : List (K × X)) (q : K) → update_all same base (told ++ more) q ≡ update_all same (update_all same base told) more q
 told_behind same base [] more q = refl
 told_behind same base (t ∷ told) more q = told_behind same (update same base t.0 (Some t.1)) told more q
@@ -197,7 +197,7 @@ any_read id q (e ∷ run) =
     ap (λ b. b || list_any (same_at q) (reads_of_run id run)) (then_ties (pos_cmp q.pos e.0) (nat_cmp q.trigger id))
     ∙ any_step (eq_by_cmp pos_cmp q.pos e.0) (eq_by_cmp nat_cmp q.trigger id) e.1 (find pos_cmp q.pos run) (list_any (same_at q) (reads_of_run id run)) (any_read id q run)
 
--- ---- one event behind the other
+-- ---- one event after the other
 
 -- the hit that was pushed is that of a reading that found something
 pub found_pushed : (hist : Hist) (e : Pos × Traced) (saved : At) (found : Option At) (spot : Spot) (values : List ℤ) (old new : List (Spot × List ℤ))

@@ -15,7 +15,7 @@ use Rattle.ft_kept.specs.declared.acted.Acting.{Acting}
 abbrev pub acts_among : Traced → List (ℕ × Hist) → List Acting
 acts_among event es = flat_map (λ e. act_as e.0 (hit e.1 event)) es
 
--- what is gathered, with more acts behind it
+-- what is gathered, with more acts after it
 abbrev with_acts : List Acting → Gathered → Gathered
 with_acts more gathered = option_map (λ acts. acts ++ more) gathered
 
@@ -29,7 +29,7 @@ pub all_left : (triggers : FinMap nat_cmp Hist) (event : Traced) (es : List (ℕ
 unfolding acting_of
 all_left triggers event es gathered all = inr (ap (λ ts. with_acts (acts_among event ts) gathered) all)
 
--- acts behind acts are acts behind both
+-- acts after acts are acts after both
 behind_both : (more left : List Acting) (gathered : Gathered) → with_acts left (with_acts more gathered) ≡ with_acts (more ++ left) gathered
 behind_both more left None = refl
 behind_both more left (Some acts) = ap Some (append_assoc acts more left)
@@ -40,7 +40,7 @@ fewer_left all more left first old new (inl lost) were = inl lost
 fewer_left all more left first old new (inr is) (inl lost) = inl (is ∙ ap (with_acts more) lost)
 fewer_left all more left first old new (inr is) (inr same) = inr (ap (with_acts left) is ∙ behind_both more left old ∙ same)
 
--- no acts behind others leave them
+-- no acts after others leave them
 behind_none : (gathered : Gathered) → with_acts [] gathered ≡ gathered
 behind_none None = refl
 behind_none (Some acts) = ap Some (append-nil acts)

@@ -30,7 +30,7 @@ module _ (triggers : FinMap nat_cmp Hist) (lanes : Lanes) (old mid : Shelves) (a
   abbrev variable : List Part → Variable
   variable k = record { saver = at.trigger; key = k }
 
-  -- what is kept is that of some acts, but for what is owed
+  -- what is kept is that of some acts, except for what is owed
   pub saving_partly : CanCome triggers lanes at (Some (key, event)) old → IsPartly triggers lanes mid
   saving_partly can =
       let next = next_there mid (variable key) (Some at) in

@@ -1,4 +1,4 @@
--- Behind each place stands a next operation on a variable, or none does.
+-- After each place stands a next operation on a variable, or none does.
 use Rattle.std.proofs.Common.{◌≡◌, List, [], ◌∷◌, refl, sym, ap, subst, ◌∙◌, Some, None, Option, inl, inr}
 use Rattle.std.specs.Prelude.{◌⊎◌, option_and_then, if◌then◌else◌}
 use Rattle.std.specs.Ordering.{ordering_reverse}
@@ -89,7 +89,7 @@ listed_next (e ∷ es) after = one_more (λ q. find at_cmp q es) e.0 e.1 after (
 mapped_next : (ops : KeyOps) (after : Option At) → HasNext (map.get ops) after
 mapped_next ops after = subst (λ (f : Ops). HasNext f after) (λ i q. sym (get-entries ops q) i) (listed_next (map.entries ops) after)
 
--- behind each place stands a next operation on a variable, or none does
+-- after each place stands a next operation on a variable, or none does
 pub next_there : (shelves : Shelves) (variable : Variable) (after : Option At) → HasNext ((kept_on shelves).ops variable) after
 unfolding kept_on
 next_there shelves variable after = by_shelf (map.get shelves variable.saver)

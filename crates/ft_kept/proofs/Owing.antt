@@ -67,7 +67,7 @@ module _ (old new : Ops) (at : At) where
       | Greater ↦ λ more. absurd (none_not_some (old mid) op (h.none mid (at_cmp_total.antisymm last mid ∙ ap ordering_reverse more) under) is)
     ] refl
 
-    -- a change in front of an operation changes no source behind it
+    -- a change in front of an operation changes no source after it
     far_source : (found : Option At) → IsSource old at found → IsSource new at found
     far_source (Some saved) h = back_last saved Save h
     far_source None (inl none) = absurd (none_not_some (old mid) op (none mid under) is)

@@ -139,7 +139,7 @@ module _ (triggers : FinMap nat_cmp Hist) (lanes : Lanes) (a b : Shelves) (first
       (then admits acts (first owed) held
       (subst (λ role. IsKeptBut role (values_by triggers) admits acts (kept_on b) (first owed)) (sym same_roles) (pays admits acts owed held kept)))
 
-  -- and what is kept is that of the same acts, but for what is owed still
+  -- and what is kept is that of the same acts, except for what is owed still
   pub pays_partly : IsPartly triggers lanes a → IsPartly triggers lanes b
   pays_partly partly = record {
     admits = partly.admits;

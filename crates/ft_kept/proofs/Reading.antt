@@ -142,7 +142,7 @@ module _ (triggers : FinMap nat_cmp Hist) (lanes : Lanes) (old put : Shelves) (a
         next_owed_there next is_next = kept_as (role_on old) (role_on settled) (values_by triggers) (admits_on old) (admits_on old) after (kept_on settled) (is_next_read next)
             (roles_stay old settled settled_forms) (λ id k. refl) (next_owed next is_next)
 
-      -- what is kept is that of some acts, but for the next reading
+      -- what is kept is that of some acts, except for the next reading
       pub settled_partly : CanCome triggers lanes at (Some (key, event)) old → IsPartly triggers lanes settled
       settled_partly can =
           let next = next_there settled variable (Some at) in

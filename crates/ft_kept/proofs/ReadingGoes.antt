@@ -114,7 +114,7 @@ module _ (triggers : FinMap nat_cmp Hist) (lanes : Lanes) (old mid put : Shelves
         (read_readings saver key (without_op at) mid put k at.trigger at.pos ∙ take_unread old mid at key h)
         (λ x. read_hits saver key (without_op at) mid put k at.trigger (record { spot = traced at.pos; key = x }) ∙ take_gone old mid at key h event own x))))
 
-  -- what is kept is that of some acts, but for the next reading
+  -- what is kept is that of some acts, except for the next reading
   pub went_partly : (event : Traced) → CanGo triggers lanes at (Some (key, event)) old → IsPartly triggers lanes put
   went_partly event can =
       let next = next_there put variable (Some at) in

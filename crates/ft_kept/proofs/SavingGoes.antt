@@ -27,7 +27,7 @@ module _ (triggers : FinMap nat_cmp Hist) (lanes : Lanes) (old mid : Shelves) (a
     (forms : FormsStay old mid) (others : (id : ℕ) → (id ≡ at.trigger → ⊥) → map.get mid id ≡ map.get old id)
     (owing : HasGoneOwing triggers lanes at (Some (key, event)) (record { saver = at.trigger; key = key }) old mid)
     (moved : MovesKeys key moves (admits_on old at.trigger) (admits_on mid at.trigger)) where
-  -- what is kept is that of some acts, but for what is owed
+  -- what is kept is that of some acts, except for what is owed
   pub taken_partly : CanGo triggers lanes at (Some (key, event)) old → IsPartly triggers lanes mid
   taken_partly can =
       let next = next_there mid (record { saver = at.trigger; key = key }) (Some at) in

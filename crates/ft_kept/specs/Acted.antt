@@ -14,25 +14,25 @@ use Rattle.ft_kept.specs.declared.acted.Acting.{Acting}
 
 -- ---- the acts at an event
 
--- the act of a trigger at an event, if the event is a hit of it (our own choice)
+-- the act of a trigger at an event, if the event is a hit of it
 abbrev pub act_as : ℕ → Option (List Part) → List Acting
 act_as id None = []
 act_as id (Some key) = record { id = id; key = key } ∷ []
 
--- the acts of attached triggers at an event, in order of id (our own choice)
+-- the acts of attached triggers at an event, in order of id
 unfoldable pub acting_of : FinMap nat_cmp Hist → Traced → List Acting
 acting_of triggers event = flat_map (λ t. act_as t.0 (hit t.1 event)) (map.entries triggers)
 
 -- ---- what is gathered of them
 
--- the acts that were gathered, or none where nothing is gathered (our own choice)
+-- the acts that were gathered, or none where nothing is gathered
 abbrev pub Gathered : Type 0
 Gathered = Option (List Acting)
 
--- what is gathered, stored as a list of acts, if there is one (our own choice)
+-- what is gathered, stored as a list of acts, if there is one
 abbrev pub gathered_code : Coded Gathered
 gathered_code = coded_option (coded_list acting.the_row.coded)
 
--- more acts were gathered behind those that were there, or nothing is gathered any more (our own choice)
+-- more acts were gathered after those that were there, or nothing is gathered any more
 abbrev pub Gathers : List Acting → Gathered → Gathered → Type 0
 Gathers more old new = (new ≡ None) ⊎ (new ≡ option_map (λ acts. acts ++ more) old)

@@ -15,7 +15,7 @@ use Rattle.ft_pairs.specs.declared.role.Role.{Role}
 use Rattle.ft_pairs.specs.declared.role.Variable.{Variable}
 use Rattle.ft_pairs.specs.Roles.{Admits, op_as}
 
--- the acts: at each place the key that the event there has at the trigger, and the event, where it has the trigger's name and passes its filter (our own choice)
+-- the acts: at each place the key that the event there has at the trigger, and the event, where it has the trigger's name and passes its filter
 abbrev pub Acts : Type 0
 Acts = At → Option (List Part × Traced)
 
@@ -29,13 +29,13 @@ acts_of triggers events at =
 unfoldable pub op_of : (ℕ → Role) → Admits → Acts → Variable → Ops
 op_of role admits acts variable at = option_and_then (λ act. op_as admits (role at.trigger) variable at.trigger act.0) (acts at)
 
--- the event of each act is held, with the stamp of its place (our own choice)
+-- the event of each act is held, with the stamp of its place
 abbrev pub AreHeld : Lanes → Acts → Type 0
 AreHeld lanes acts =
     (at : At) (key : List Part) (event : Traced) → acts at ≡ Some (key, event)
     → (event_at lanes at.pos.cpu at.pos.line ≡ Some event) × (event.stamp ≡ at.pos.stamp)
 
--- an act comes, if there is one, where none was; all others stay (our own choice)
+-- an act comes, if there is one, where none was; all others stay
 pub record Comes (at : At) (act : Option (List Part × Traced)) (before after : Acts) : Type 0 where
   pub elsewhere : (q : At) → (q ≡ at → ⊥) → after q ≡ before q
   pub absent : before at ≡ None

@@ -17,7 +17,7 @@ use Rattle.ft_kept.specs.Entries.{IsKept}
 use Rattle.ft_shelves.specs.Shelves.{Shelved, Shelves, role_on, admits_on, kept_on}
 pub use Rattle.ft_shelves.specs.Joining.{AreGroupsOf}
 
--- nothing is kept of a trigger yet: no hits are on its shelf and no notes are taken; what it saves has no operation; what it reads no other trigger reads (our own choice)
+-- nothing is kept of a trigger yet: no hits are on its shelf and no notes are taken; what it saves has no operation; what it reads no other trigger reads
 pub record IsBare (id : ℕ) (shelves : Shelves) : Type 0 where
   pub hits : (shelf : Shelved) → map.get shelves id ≡ Some shelf → shelf.table.hits ≡ map.empty
   pub notes : (shelf : Shelved) → map.get shelves id ≡ Some shelf → shelf.notes ≡ None
@@ -28,13 +28,13 @@ pub record IsBare (id : ℕ) (shelves : Shelves) : Type 0 where
 abbrev pub acts_with : Hist → FinMap pos_cmp Traced → Pos → Option (List Part × Traced)
 acts_with hist events pos = option_and_then (λ event. option_map (λ key. (key, event)) (hit hist event)) (map.get events pos)
 
--- all acts of one trigger come, where it had none; those of others stay (our own choice)
+-- all acts of one trigger come, where it had none; those of others stay
 pub record AllCome (id : ℕ) (acts : Pos → Option (List Part × Traced)) (before after : Acts) : Type 0 where
   pub elsewhere : (q : At) → (q.trigger ≡ id → ⊥) → after q ≡ before q
   pub absent : (pos : Pos) → before (record { pos = pos; trigger = id }) ≡ None
   pub here : (pos : Pos) → after (record { pos = pos; trigger = id }) ≡ acts pos
 
--- they came: where without them all was right, with them all is right (our own choice)
+-- they came: where without them all was right, with them all is right
 abbrev pub AllHaveCome : FinMap nat_cmp Hist → ℕ → (Pos → Option (List Part × Traced)) → Shelves → Shelves → Type 0
 AllHaveCome triggers id acts old new =
     (before after : Acts) → AllCome id acts before after

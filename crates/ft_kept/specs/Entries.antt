@@ -15,15 +15,15 @@ use Rattle.ft_pairs.specs.declared.role.Variable.{Variable}
 use Rattle.ft_shelves.specs.Shelves.{Kept}
 use Rattle.ft_kept.specs.Acts.{Acts, op_of}
 
--- the hits of a trigger at one place, by key (our own choice)
+-- the hits of a trigger at one place, by key
 abbrev pub HitsHere : Type 0
 HitsHere = List Part → Option (List ℤ)
 
--- the hits of the trigger at a place, by key (our own choice)
+-- the hits of the trigger at a place, by key
 abbrev pub hits_here : Kept → At → HitsHere
 hits_here kept at key = kept.hits at.trigger (record { spot = traced at.pos; key = key })
 
--- what the trigger's reading at a place found (our own choice)
+-- what the trigger's reading at a place found
 abbrev pub read_here : Kept → At → Option Pos
 read_here kept at = kept.read at.trigger at.pos
 
@@ -31,7 +31,7 @@ read_here kept at = kept.read at.trigger at.pos
 abbrev pub Finds : Ops → At → Option Pos → Type 0
 Finds ops at read = (found : Option At) × (IsSource ops at found × (read ≡ option_map (λ saved. saved.pos) found))
 
--- one hit of a key, or none (our own choice)
+-- one hit of a key, or none
 abbrev pub one_hit : List Part → Option (List ℤ) → HitsHere
 one_hit own values key = if same_key key own then values else None
 
@@ -44,20 +44,20 @@ IsEntry values ops at (Reads saver) (Some act) hits read =
     Finds (ops (record { saver = saver; key = act.0 })) at read
     × ((key : List Part) → hits key ≡ one_hit act.0 (option_map (λ saved. values at.trigger at.pos act.1 (Some saved)) read) key)
 
--- hits at a place stand under the key of the act there alone (our own choice)
+-- hits at a place stand under the key of the act there alone
 abbrev pub IsOwn : Option (List Part × Traced) → HitsHere → Type 0
 IsOwn act hits = (key : List Part) → (hits key ≡ None) ⊎ ((a : List Part × Traced) × ((act ≡ Some a) × (a.0 ≡ key)))
 
 module _ (role : ℕ → Role) (values : ValuesBy) where
-  -- the place has what its act and the operations say (our own choice)
+  -- the place has what its act and the operations say
   abbrev pub IsRight : Acts → Kept → At → Type 0
   IsRight acts kept at = IsEntry values kept.ops at (role at.trigger) (acts at) (hits_here kept at) (read_here kept at)
 
-  -- the operations are those of the acts, and each place has what it should, but for some where that is still owed: there hits stand under the act's key alone (our own choice)
+  -- the operations are those of the acts, and each place has what it should, except for some where that is still owed: there hits stand under the act's key alone
   pub record IsKeptBut (admits : Admits) (acts : Acts) (kept : Kept) (owed : At → Bool) : Type 0 where
     pub ops : (variable : Variable) (at : At) → kept.ops variable at ≡ op_of role admits acts variable at
     pub entries : (at : At) → ((owed at ≡ true) × IsOwn (acts at) (hits_here kept at)) ⊎ IsRight acts kept at
 
-  -- nothing is owed (our own choice)
+  -- nothing is owed
   abbrev pub IsKept : Admits → Acts → Kept → Type 0
   IsKept admits acts kept = IsKeptBut admits acts kept (λ at. false)

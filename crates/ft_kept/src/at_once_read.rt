@@ -47,7 +47,7 @@ pub(crate) fn readings_come(
 }
 
 /// The readings of one key come: first all their reads, so that each finds what it will find, then
-/// the hits of those that found something. Their readings are gathered behind others. Refused for
+/// the hits of those that found something. Their readings are gathered after others. Refused for
 /// memory.
 fn key_comes(
     tables: &mut Tables,
@@ -89,7 +89,7 @@ fn reads_of(joining: &Joining<'_, '_>, key: &Key) -> Result<Vec<At>, AllocError>
     Ok(reads)
 }
 
-/// The hits of those of a key's readings that found something. What they found is gathered behind
+/// The hits of those of a key's readings that found something. What they found is gathered after
 /// other readings. Refused for memory.
 fn hits_of(
     joining: &Joining<'_, '_>,

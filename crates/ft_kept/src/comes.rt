@@ -31,7 +31,7 @@ use std::collections::BTreeMap;
 
 impl Tables {
     /// An event that is held comes to each trigger that it is a hit of, in order of id, and each of
-    /// them with its key is gathered behind others. Tests it against the triggers on its name
+    /// them with its key is gathered after others. Tests it against the triggers on its name
     /// alone. Refused for memory, and then the tables are of no use any more; an event that is no
     /// hit takes none.
     pub fn event_comes(
@@ -105,7 +105,7 @@ impl Tables {
 }
 
 /// An event that is held comes to one attached trigger, where it is a hit of it, and the trigger
-/// with its key is gathered behind others. Tests it where the trigger is on its name alone. Refused
+/// with its key is gathered after others. Tests it where the trigger is on its name alone. Refused
 /// for memory.
 fn comes_at(
     tables: &mut Tables,

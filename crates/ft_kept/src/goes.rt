@@ -29,9 +29,9 @@ use std::collections::BTreeMap;
 
 impl Tables {
     /// An event that is still held goes from each trigger that it is a hit of, in order of id, and
-    /// each of them with its key is gathered behind others. Tests it against the triggers on its
+    /// each of them with its key is gathered after others. Tests it against the triggers on its
     /// name alone. Refused for memory, and then the tables are of no use any more; at triggers
-    /// without a variable it takes none but for what is gathered.
+    /// without a variable it takes none except for what is gathered.
     pub fn event_goes(
         &mut self,
         triggers: &BTreeMap<u32, Trigger>,
@@ -100,7 +100,7 @@ impl Tables {
 }
 
 /// An event that is still held goes from one attached trigger, where it is a hit of it, and the
-/// trigger with its key is gathered behind others. Tests it where the trigger is on its name alone.
+/// trigger with its key is gathered after others. Tests it where the trigger is on its name alone.
 /// Refused for memory.
 fn goes_at(
     tables: &mut Tables,

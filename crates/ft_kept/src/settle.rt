@@ -93,7 +93,7 @@ fn settle_op(
     }
 }
 
-/// Makes the reading right that is the next operation on a variable behind a place, if that is a
+/// Makes the reading right that is the next operation on a variable after a place, if that is a
 /// read. Refused for memory.
 pub(crate) fn settle_next(
     tables: &mut Tables,

@@ -117,8 +117,8 @@ impl Tables {
         }
     }
 
-    /// The first operation on a variable behind a place, or the first of all. Behind it fewer are
-    /// left than behind that place, so that a walk ends.
+    /// The first operation on a variable after a place, or the first of all. After it fewer are
+    /// left than after that place, so that a walk ends.
     pub(crate) fn next_op(&self, variable: &Variable, after: Option<At>) -> Option<(At, Op)>
         ensures next { IsNext ((kept_on self.now).ops variable.now) after result }
         ensures fewer { IfSome result (λ next.

@@ -6,45 +6,45 @@ use Rattle.std.specs.Cmp.Lexicographic.{slice_cmp}
 use Rattle.ft_keys.specs.declared.key.Part.{Part}
 use Rattle.ft_keys.specs.declared.key.Part.TheVariants.{Num, Log2, Bucket, Text}
 
--- the number of a part's kind: numbers, powers, multiples, texts (our own choice)
+-- the number of a part's kind: numbers, powers, multiples, texts
 abbrev pub kind_of : Part → ℕ
 kind_of (Num z) = 0
 kind_of (Log2 n) = 1
 kind_of (Bucket n) = 2
 kind_of (Text bytes) = 3
 
--- the number in a part; a text has none, and is given 0 (our own choice)
+-- the number in a part; a text has none, and is given 0
 abbrev pub number_of : Part → ℤ
 number_of (Num z) = z
 number_of (Log2 n) = pos n
 number_of (Bucket n) = pos n
 number_of (Text bytes) = pos 0
 
--- the bytes of a text; other parts have none (our own choice)
+-- the bytes of a text; other parts have none
 abbrev pub bytes_of : Part → List ℕ
 bytes_of (Num z) = []
 bytes_of (Log2 n) = []
 bytes_of (Bucket n) = []
 bytes_of (Text bytes) = bytes
 
--- the part of this kind with this number or these bytes (our own choice)
+-- the part of this kind with this number or these bytes
 abbrev pub part_with : ℕ → ℤ → List ℕ → Part
 part_with (suc zero) (pos n) bytes = Log2 n
 part_with (suc (suc zero)) (pos n) bytes = Bucket n
 part_with (suc (suc (suc kind))) z bytes = Text bytes
 part_with kind z bytes = Num z
 
--- a part is the one with its kind, number and bytes (our own choice)
+-- a part is the one with its kind, number and bytes
 pub part_with-of : (part : Part) → part_with (kind_of part) (number_of part) (bytes_of part) ≡ part
 part_with-of (Num z) = refl
 part_with-of (Log2 n) = refl
 part_with-of (Bucket n) = refl
 part_with-of (Text bytes) = refl
 
--- parts in order: by kind, then numbers as signed ones, then texts by their bytes (our own choice)
+-- parts in order: by kind, then numbers as signed ones, then texts by their bytes
 abbrev pub part_cmp : Part → Part → Ordering
 part_cmp = then_cmp (on kind_of nat_cmp) (then_cmp (on number_of int_cmp) (on bytes_of (slice_cmp nat_cmp)))
 
--- keys in order: by their parts from the left, a beginning before what it begins (our own choice)
+-- keys in order: by their parts from the left, a beginning before what it begins
 abbrev pub key_cmp : List Part → List Part → Ordering
 key_cmp = slice_cmp part_cmp

@@ -1,4 +1,4 @@
--- Parts and keys that tie in the order are equal, by which finite maps tell them apart (our own choice).
+-- Parts and keys that tie in the order are equal, by which finite maps tell them apart.
 use Rattle.std.specs.Prelude.{ℕ, ℤ, List}
 use Rattle.std.specs.Ordering.{nat_cmp, int_cmp}
 use Rattle.std.specs.Cmp.Lexicographic.{slice_cmp}
@@ -7,7 +7,7 @@ use Rattle.std.proofs.Common.{sym, ap, ◌∙◌}
 use Rattle.std.proofs.lemmas.Map.Lookups.{exact_pairs, exact_unsigned, exact_signed, exact_bytes}
 use Rattle.ft_keys.specs.Parts.{kind_of, number_of, bytes_of, part_with, part_with-of, part_cmp, key_cmp}
 
--- parts that tie are equal (our own choice)
+-- parts that tie are equal
 pub part_same : IsAntisymmetric part_cmp
 part_same a b tie =
     sym (part_with-of a)
@@ -16,6 +16,6 @@ part_same a b tie =
     (kind_of a, (number_of a, bytes_of a)) (kind_of b, (number_of b, bytes_of b)) tie)
     ∙ part_with-of b
 
--- keys that tie are equal (our own choice)
+-- keys that tie are equal
 pub key_same : IsAntisymmetric key_cmp
 key_same = slice_cmp-IsAntisymmetric part_same

@@ -1,2 +1,2 @@
--- Words of private functions and types, which no public clause says (our own choice).
+-- Words of private functions and types, which no public clause says.
 pub mod Stored

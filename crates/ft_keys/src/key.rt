@@ -35,14 +35,14 @@ pub struct Key {
     rest: Rest,
 }
 
-/// What stands behind a key's first part.
+/// What stands after a key's first part.
 #[derive(Clone, Copy, Debug)]
 enum Rest {
     End,
     More(Part, Last),
 }
 
-/// What stands behind a key's second part.
+/// What stands after a key's second part.
 #[derive(Clone, Copy, Debug)]
 enum Last {
     Done,
@@ -94,7 +94,7 @@ impl Key {
         }
     }
 
-    /// Its part of this number, from 0, or `None` behind its last. There are one to three.
+    /// Its part of this number, from 0, or `None` after its last. There are one to three.
     pub fn part(&self, number: usize) -> Option<Part>
         ensures value { result ≡ slice_get self.now number }
         ensures some { 0 < length self.now }
@@ -167,7 +167,7 @@ impl Ord for Part {
     }
 }
 
-/// How what stands behind two keys' second parts is ordered.
+/// How what stands after two keys' second parts is ordered.
 fn last_cmp(a: &Last, b: &Last) -> Ordering
     ensures { result ≡ key_cmp (last_parts a.now) (last_parts b.now) }
 {
@@ -179,7 +179,7 @@ fn last_cmp(a: &Last, b: &Last) -> Ordering
     }
 }
 
-/// How what stands behind two keys' first parts is ordered.
+/// How what stands after two keys' first parts is ordered.
 fn rest_cmp(a: &Rest, b: &Rest) -> Ordering
     ensures { result ≡ key_cmp (rest_parts a.now) (rest_parts b.now) }
 {

@@ -9,7 +9,7 @@ use ft_fields::{Comm, Name};
 #[repr(C)]
 #[derive(Clone, Copy, Debug, PartialEq, Eq)]
 pub struct NameLayout {
-    /// The bytes, and zeros behind them.
+    /// The bytes, and zeros after them.
     pub bytes: [u8; 31],
     /// How many bytes the text has.
     pub length: u8,

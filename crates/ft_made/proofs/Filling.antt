@@ -179,7 +179,7 @@ module _ (lanes : Lanes) (hist : Hist) (pairs : ℕ → List Pair) where
     | Some onmatch ↦ size_pairs lanes hist t.0 t.1 (pairs t.0) table
   ]
 
-  -- those behind a trigger stay without hits
+  -- those after a trigger stay without hits
   pub idle_later : (table : Tabled) (t : ℕ × Hist) (ts : List (ℕ × Hist)) → AllByRecursion (λ u. nat_cmp t.0 u.0 ≡ Less) ts → AllByRecursion (λ u. IsIdle u.0 table) ts
       → AllByRecursion (λ u. IsIdle u.0 (with_maker lanes hist pairs table t)) ts
   idle_later table t ts above idle =

@@ -53,7 +53,7 @@ module _ {K X : Type 0} (R : K → K → Ordering) (f : K → Option X) where
     | false ↦ λ other. at_later k q (filter_map standing ks) other (f k) ∙ find-standing same ks q
   ] refl
 
--- ---- lists one behind the other
+-- ---- lists one after the other
 
 pub sorted_append : {K : Type 0} (R : K → K → Ordering) (xs ys : List K) → IsStrictlySortedBy R xs → IsStrictlySortedBy R ys → AllByRecursion (λ x. AllByRecursion (λ y. R x y ≡ Less) ys) xs → IsStrictlySortedBy R (xs ++ ys)
 unfolding IsStrictlySortedBy

@@ -32,7 +32,7 @@ use Rattle.ft_made.proofs.MadeTables.{made_change, put_changes, take_changes}
 
 -- ---- one spot
 
--- two changes at one spot, one behind the other
+-- two changes at one spot, one after the other
 pub both_changes : (hist : Hist) (spot : Spot) (one_made two_made : Option Traced) (before between after : Tabled)
     → ChangesMade hist spot one_made before between → ChangesMade hist spot two_made between after → ChangesMade hist spot two_made before after
 both_changes hist spot one_made two_made before between after one two = record {

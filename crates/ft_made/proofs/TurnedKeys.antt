@@ -78,7 +78,7 @@ module _ (events : Events) (hist maker : Hist) (readings : FinMap pos_cmp Pos) w
       ap (λ (o : Option (List Part)). is_of (cons_option o []) key) is
       ∙ or_left (same_key key key) false ((eq_by_cmp_equiv key_cmp_total).refl key)
 
-  -- one behind another, keys have those of both
+  -- one after another, keys have those of both
   have_left : (made : Option Traced) (xs ys : List (List Part)) → HaveKey hist made xs → HaveKey hist made (xs ++ ys)
   have_left made xs ys have key is = list_any-append (same_key key) xs ys ∙ or_left (is_of xs key) (is_of ys key) (have key is)
 

@@ -36,7 +36,7 @@ use Rattle.ft_made.specs.Turning.{HaveKey, HaveTurned, keys_turned, made_as}
 
 -- ---- two replays, one after the other
 
--- held events are counted, and variables set, as if no event were made (our own choice)
+-- held events are counted, and variables set, as if no event were made
 abbrev pub HeldAreCounted : Type 0
 HeldAreCounted = (triggers : Triggers) (events : Events) → (replay_making triggers events).first ≡ replay triggers events
 
@@ -50,15 +50,15 @@ abbrev pub MadeAreTallied : Type 0
 MadeAreTallied = (triggers : Triggers) (events : Events) (id : ℕ) (hist : Hist) → map.get triggers id ≡ Some hist
     → map.get (replay_making triggers events).made id ≡ Some (tally_of (table_for hist (made_hits_of triggers events hist)) [])
 
--- no other id has a tally of made events (our own choice)
+-- no other id has a tally of made events
 abbrev pub OthersCountNone : Type 0
 OthersCountNone = (triggers : Triggers) (events : Events) (id : ℕ) → map.get triggers id ≡ None → map.get (replay_making triggers events).made id ≡ None
 
--- where no attached trigger makes an event, nothing but held events is counted (our own choice)
+-- where no attached trigger makes an event, nothing but held events is counted
 abbrev pub NoneIsMade : Type 0
 NoneIsMade = (triggers : Triggers) (events : Events) → MakeNone triggers → (replay_making triggers events).made ≡ started triggers
 
--- an event on whose name no trigger is makes none, and changes nothing (our own choice)
+-- an event on whose name no trigger is makes none, and changes nothing
 abbrev pub NamedMakeAll : Type 0
 NamedMakeAll = (triggers : Triggers) (events : Events) → replay_making triggers (named triggers events) ≡ replay_making triggers events
 
@@ -68,31 +68,31 @@ NamedMakeAll = (triggers : Triggers) (events : Events) → replay_making trigger
 abbrev pub MadeBySpot : Type 0
 MadeBySpot = (triggers : Triggers) (events : Events) (spot : Spot) → map.get (made_events triggers events) spot ≡ made_at triggers events spot
 
--- they stand in order of their spots (our own choice)
+-- they stand in order of their spots
 abbrev pub MadeInOrder : Type 0
 MadeInOrder = (triggers : Triggers) (events : Events) → map.entries (made_events triggers events) ≡ made_list triggers events
 
--- no two stand at one spot (our own choice)
+-- no two stand at one spot
 abbrev pub SpotsAreDistinct : Type 0
 SpotsAreDistinct = (triggers : Triggers) (events : Events) → IsStrictlySortedBy spot_cmp (keys_of (made_list triggers events))
 
 -- ---- where readings find the same
 
--- the spot of the event that is made where a trigger acts (our own choice)
+-- the spot of the event that is made where a trigger acts
 abbrev pub spot_of : At → Spot
 spot_of at = record { pos = at.pos; maker = at.trigger }
 
--- a place that keeps its event, trigger and role, and whose reading finds what it found, makes what it made (our own choice)
+-- a place that keeps its event, trigger and role, and whose reading finds what it found, makes what it made
 abbrev pub SameIsMade : Type 0
 SameIsMade = (triggers others : Triggers) (events more : Events) (at : At)
     → IsSameAct triggers others events more at → FindsTheSame triggers others events more at
     → made_at others more (spot_of at) ≡ made_at triggers events (spot_of at)
 
--- these savings are, by trigger and place, what the attached triggers' readings find (our own choice)
+-- these savings are, by trigger and place, what the attached triggers' readings find
 abbrev pub AreFound : Triggers → Events → Readings → Type 0
 AreFound triggers events found = (id : ℕ) (hist : Hist) → map.get triggers id ≡ Some hist → (pos : Pos) → found id pos ≡ saving_found triggers events id pos
 
--- such savings make the same events (our own choice)
+-- such savings make the same events
 abbrev pub FoundMakeAll : Type 0
 FoundMakeAll = (triggers : Triggers) (events : Events) (found : Readings) → AreFound triggers events found
     → (spot : Spot) → made_by triggers events found spot ≡ made_at triggers events spot
@@ -104,65 +104,65 @@ abbrev pub MadeHitsAre : Type 0
 MadeHitsAre = (triggers : Triggers) (events : Events) (hist : Hist) (mark : Mark)
     → map.get (made_hits_of triggers events hist) mark ≡ values_made triggers events hist mark
 
--- a map that holds what these hits add, by spot and key, gives the tally that replaying gives (our own choice)
+-- a map that holds what these hits add, by spot and key, gives the tally that replaying gives
 abbrev pub KeptAreTallied : Type 0
 KeptAreTallied = (triggers : Triggers) (events : Events) (id : ℕ) (hist : Hist) → map.get triggers id ≡ Some hist
     → (values : Hits) → ((mark : Mark) → map.get values mark ≡ values_made triggers events hist mark)
     → map.get (replay_making triggers events).made id ≡ Some (tally_of (table_for hist values) [])
 
--- savings that are what the attached triggers' readings find, and a map that holds what the events made of them add, give it too (our own choice)
+-- savings that are what the attached triggers' readings find, and a map that holds what the events made of them add, give it too
 abbrev pub ReadingsAreTallied : Type 0
 ReadingsAreTallied = (triggers : Triggers) (events : Events) (found : Readings) → AreFound triggers events found
     → (id : ℕ) (hist : Hist) → map.get triggers id ≡ Some hist
     → (values : Hits) → ((mark : Mark) → map.get values mark ≡ values_of_made hist mark (made_by triggers events found mark.spot))
     → map.get (replay_making triggers events).made id ≡ Some (tally_of (table_for hist values) [])
 
--- and so does a table that holds just what these events add (our own choice)
+-- and so does a table that holds just what these events add
 abbrev pub TablesAreTallied : Type 0
 TablesAreTallied = (triggers : Triggers) (events : Events) (found : Readings) → AreFound triggers events found
     → (id : ℕ) (hist : Hist) → map.get triggers id ≡ Some hist
     → (table : Tabled) → IsMadeTable triggers events found hist table
     → map.get (replay_making triggers events).made id ≡ Some (tally_of table [])
 
--- the pairs that replaying gives are those of readings, in merged order (our own choice)
+-- the pairs that replaying gives are those of readings, in merged order
 abbrev pub ReplayedAreInOrder : Type 0
 ReplayedAreInOrder = (triggers : Triggers) (events : Events) (pairs : ℕ → List Pair) → AreReplayed triggers events pairs → AreInOrder triggers pairs
 
--- and a table that is made of them has the tally that replaying with made events gives (our own choice)
+-- and a table that is made of them has the tally that replaying with made events gives
 abbrev pub ReplayedAreTallied : Type 0
 ReplayedAreTallied = (triggers : Triggers) (events : Events) (pairs : ℕ → List Pair) → AreReplayed triggers events pairs
     → (id : ℕ) (hist : Hist) → map.get triggers id ≡ Some hist
     → (table : Tabled) → ((found : ℕ → FinMap pos_cmp Pos) → ArePairsOf triggers pairs found → IsMadeTable triggers events (found_in found) hist table)
     → map.get (replay_making triggers events).made id ≡ Some (tally_of table [])
 
--- the keys of such a table fit its trigger's key items (our own choice)
+-- the keys of such a table fit its trigger's key items
 abbrev pub MadeTablesFit : Type 0
 MadeTablesFit = (triggers : Triggers) (events : Events) (found : Readings) (hist : Hist) (table : Tabled) → IsMadeTable triggers events found hist table → AllFit table hist
 
--- a table that is one stays one as what is made at one spot changes, where what it holds there is changed (our own choice)
+-- a table that is one stays one as what is made at one spot changes, where what it holds there is changed
 abbrev pub MadeTablesChange : Type 0
 MadeTablesChange = (triggers others : Triggers) (events more : Events) (found later : Readings) (hist : Hist) (spot : Spot) (before after : Tabled)
     → IsMadeTable triggers events found hist before → ChangesMade hist spot (made_by others more later spot) before after
     → ((other : Spot) → (other ≡ spot → ⊥) → made_by others more later other ≡ made_by triggers events found other)
     → IsMadeTable others more later hist after
 
--- a made event's hit that is put in where none stands changes the table at its spot alone (our own choice)
+-- a made event's hit that is put in where none stands changes the table at its spot alone
 abbrev pub PutMadeChanges : Type 0
 PutMadeChanges = (hist : Hist) (spot : Spot) (made : Option Traced) (table : Tabled) → IsFreeAt spot table → ChangesMade hist spot made table (with_made hist spot made table)
 
--- and so does one that is taken out, where a table holds at the spot just what the event adds: then no hit stands there (our own choice)
+-- and so does one that is taken out, where a table holds at the spot just what the event adds: then no hit stands there
 abbrev pub TakeMadeChanges : Type 0
 TakeMadeChanges = (hist : Hist) (spot : Spot) (made : Option Traced) (table : Tabled) → HoldsMade hist spot made table → ChangesMade hist spot None table (without_made hist spot made table)
 
 -- ---- keys of tables that are turned
 
--- what readings make by what they found, and by what they find later, makes tables that differ by hits of such keys alone (our own choice)
+-- what readings make by what they found, and by what they find later, makes tables that differ by hits of such keys alone
 abbrev pub TurnedButForKeys : Type 0
 TurnedButForKeys = (triggers : Triggers) (events : Events) (found later : Readings) (hist : Hist) (keys : List (List Part)) (before after : Tabled)
     → IsMadeTable triggers events found hist before → IsMadeTable triggers events later hist after → HaveTurned triggers events found later hist keys
     → AreTablesButFor keys before after
 
--- the keys of a turn have those of what was made at each noted place, and of what is made there now (our own choice)
+-- the keys of a turn have those of what was made at each noted place, and of what is made there now
 abbrev pub KeysAreTurned : Type 0
 KeysAreTurned = (events : Events) (hist maker : Hist) (notes : FinMap pos_cmp (Option Pos)) (readings : FinMap pos_cmp Pos) (pos : Pos) (had : Option Pos) → map.get notes pos ≡ Some had
     → HaveKey hist (made_as events maker pos had) (keys_turned events hist maker notes readings) × HaveKey hist (made_as events maker pos (map.get readings pos)) (keys_turned events hist maker notes readings)

@@ -12,7 +12,7 @@ use Rattle.ft_base.specs.Base.{Triggers}
 use Rattle.ft_replay.specs.Merged.{Events}
 use Rattle.ft_replay.specs.Found.{saving_found}
 
--- made events by spot (our own choice)
+-- made events by spot
 abbrev pub Made : Type 0
 Made = FinMap spot_cmp Traced
 
@@ -25,22 +25,22 @@ made_by triggers events found spot =
 unfoldable pub made_at : Triggers → Events → Spot → Option Traced
 made_at triggers events spot = made_by triggers events (saving_found triggers events) spot
 
--- a spot with the event that is made there, if one is (our own choice)
+-- a spot with the event that is made there, if one is
 abbrev pub made_there : Triggers → Events → Spot → Option (Spot × Traced)
 made_there triggers events spot = option_map (λ made. (spot, made)) (made_at triggers events spot)
 
--- the spots at one event, in order of the triggers' ids (our own choice)
+-- the spots at one event, in order of the triggers' ids
 abbrev pub spots_at : Triggers → Pos × Traced → List Spot
 spots_at triggers entry = list_map (λ attached. record { pos = entry.0; maker = attached.0 }) (map.entries triggers)
 
--- all spots, in merged order of the events (our own choice)
+-- all spots, in merged order of the events
 unfoldable pub spots : Triggers → Events → List Spot
 spots triggers events = flat_map (spots_at triggers) (map.entries events)
 
--- all made events, in order of their spots (our own choice)
+-- all made events, in order of their spots
 unfoldable pub made_list : Triggers → Events → List (Spot × Traced)
 made_list triggers events = filter_map (made_there triggers events) (spots triggers events)
 
--- the made events by spot (our own choice)
+-- the made events by spot
 unfoldable pub made_events : Triggers → Events → Made
 made_events triggers events = map.from_entries (made_list triggers events)

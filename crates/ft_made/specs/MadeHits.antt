@@ -25,7 +25,7 @@ made_hit_at triggers events hist spot = option_and_then (made_hit hist spot) (ma
 unfoldable pub made_hits : Triggers → Events → Hist → List TriggerHit
 made_hits triggers events hist = filter_map (made_hit_at triggers events hist) (map.keys (made_events triggers events))
 
--- the map of hits that the table of the trigger is made of (our own choice)
+-- the map of hits that the table of the trigger is made of
 unfoldable pub made_hits_of : Triggers → Events → Hist → Hits
 made_hits_of triggers events hist = map.from_entries (list_map entry_of (made_hits triggers events hist))
 

@@ -23,7 +23,7 @@ use Rattle.ft_made.specs.MadeHits.{made_hit, values_of_made}
 
 -- ---- the whole table
 
--- what is kept of readings: the place of the saving that each found, by the trigger that reads and the place of the reading (our own choice)
+-- what is kept of readings: the place of the saving that each found, by the trigger that reads and the place of the reading
 abbrev pub Readings : Type 0
 Readings = ℕ → Pos → Option Pos
 
@@ -34,25 +34,25 @@ pub record IsMadeTable (triggers : Triggers) (events : Events) (found : Readings
 
 -- ---- readings as pairs
 
--- the pairs of each attached trigger are those of some readings, in merged order (our own choice)
+-- the pairs of each attached trigger are those of some readings, in merged order
 abbrev pub AreInOrder : Triggers → (ℕ → List Pair) → Type 0
 AreInOrder triggers pairs = (id : ℕ) (hist : Hist) → map.get triggers id ≡ Some hist → (readings : FinMap pos_cmp Pos) × (pairs id ≡ pairs_in readings)
 
--- the pairs of each attached trigger are those of these readings, in merged order (our own choice)
+-- the pairs of each attached trigger are those of these readings, in merged order
 abbrev pub ArePairsOf : Triggers → (ℕ → List Pair) → (ℕ → FinMap pos_cmp Pos) → Type 0
 ArePairsOf triggers pairs readings = (id : ℕ) (hist : Hist) → map.get triggers id ≡ Some hist → pairs id ≡ pairs_in (readings id)
 
--- the pairs of each attached trigger are those that replaying gives it (our own choice)
+-- the pairs of each attached trigger are those that replaying gives it
 abbrev pub AreReplayed : Triggers → Events → (ℕ → List Pair) → Type 0
 AreReplayed triggers events pairs = (id : ℕ) (hist : Hist) → map.get triggers id ≡ Some hist → pairs id ≡ pairs_of triggers events id
 
--- the place of the saving that each reading found (our own choice)
+-- the place of the saving that each reading found
 abbrev pub found_in : (ℕ → FinMap pos_cmp Pos) → Readings
 found_in readings id pos = map.get (readings id) pos
 
 -- ---- one made event
 
--- no hit stands at a spot (our own choice)
+-- no hit stands at a spot
 abbrev pub IsFreeAt : Spot → Tabled → Type 0
 IsFreeAt spot table = (key : List Part) → map.get table.hits (record { spot = spot; key = key }) ≡ None
 
@@ -65,11 +65,11 @@ with_made hist spot made table =
 abbrev pub without_made : Hist → Spot → Option Traced → Tabled → Tabled
 without_made hist spot made table = option_map_or (λ found. without_hit table (record { spot = spot; key = found.key })) (option_and_then (made_hit hist spot) made) table
 
--- a table holds at a spot just what an event made there adds, or nothing where none is (our own choice)
+-- a table holds at a spot just what an event made there adds, or nothing where none is
 abbrev pub HoldsMade : Hist → Spot → Option Traced → Tabled → Type 0
 HoldsMade hist spot made table = (key : List Part) → map.get table.hits (record { spot = spot; key = key }) ≡ values_of_made hist (record { spot = spot; key = key }) made
 
--- a table comes to hold at a spot what the event made there adds, or nothing where none is, and stays as it was elsewhere (our own choice)
+-- a table comes to hold at a spot what the event made there adds, or nothing where none is, and stays as it was elsewhere
 pub record ChangesMade (hist : Hist) (spot : Spot) (made : Option Traced) (before after : Tabled) : Type 0 where
   pub size : after.size ≡ before.size
   pub here : HoldsMade hist spot made after

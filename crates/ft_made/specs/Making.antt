@@ -32,7 +32,7 @@ abbrev pub made_now : Triggers → (Variable → Option Pos) → Pos × Traced �
 made_now triggers found entry attached =
     option_map (λ made. (record { pos = entry.0; maker = attached.0 }, made)) (option_and_then (made_of attached.1 entry.0 entry.1) (saving_now triggers found entry attached))
 
--- no attached trigger makes events of its readings (our own choice)
+-- no attached trigger makes events of its readings
 abbrev pub MakeNone : Triggers → Type 0
 MakeNone triggers = (id : ℕ) (hist : Hist) → map.get triggers id ≡ Some hist → hist.onmatch ≡ None
 

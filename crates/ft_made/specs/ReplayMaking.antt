@@ -10,7 +10,7 @@ use Rattle.ft_replay.specs.Merged.{Events}
 use Rattle.ft_replay.specs.Replay.{Tallies, State, act_at, started}
 use Rattle.ft_made.specs.Making.{made_now, goes_past}
 
--- what replaying has come to: what the held events have, and what each trigger has counted of the made ones (our own choice)
+-- what replaying has come to: what the held events have, and what each trigger has counted of the made ones
 pub record StateMaking : Type 0 where
   pub first : State
   pub made : Tallies
@@ -22,7 +22,7 @@ act_making triggers entry state attached = record {
   made = option_map_or (goes_past triggers state.made) (made_now triggers (map.get state.first.variables) entry attached) state.made;
 }
 
--- one event: the attached triggers act in order of id (our own choice)
+-- one event: the attached triggers act in order of id
 unfoldable pub step_making : Triggers → StateMaking → Pos × Traced → StateMaking
 step_making triggers state entry = fold (act_making triggers entry) state (map.entries triggers)
 

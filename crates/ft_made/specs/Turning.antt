@@ -21,15 +21,15 @@ use Rattle.ft_made.specs.MadeTables.{Readings, IsMadeTable}
 
 -- ---- tables
 
--- notes tell what some of a trigger's readings found (our own choice)
+-- notes tell what some of a trigger's readings found
 abbrev pub AreNoted : ℕ → FinMap pos_cmp (Option Pos) → Readings → Type 0
 AreNoted id notes found = (pos : Pos) (had : Option Pos) → map.get notes pos ≡ Some had → found id pos ≡ had
 
--- the readings of one trigger of which notes tell find what these say, and all others what they found (our own choice)
+-- the readings of one trigger of which notes tell find what these say, and all others what they found
 abbrev pub turned : ℕ → FinMap pos_cmp (Option Pos) → FinMap pos_cmp Pos → Readings → Readings
 turned id notes readings found other pos = if other == id then option_map_or (λ had. map.get readings pos) (map.get notes pos) (found id pos) else found other pos
 
--- a table is made of readings of which notes tell what they found (our own choice)
+-- a table is made of readings of which notes tell what they found
 pub record CanTurn (events : Events) (id : ℕ) (maker : Hist) (notes : FinMap pos_cmp (Option Pos)) (hist : Hist) (table : Tabled) : Type 0 where
   pub triggers : Triggers
   pub found : Readings
@@ -37,7 +37,7 @@ pub record CanTurn (events : Events) (id : ℕ) (maker : Hist) (notes : FinMap p
   pub noted : AreNoted id notes found
   pub made : IsMadeTable triggers events found hist table
 
--- whatever readings it was made of, of which notes tell what they found, it is made of the turned ones (our own choice)
+-- whatever readings it was made of, of which notes tell what they found, it is made of the turned ones
 abbrev pub HasTurned : Events → ℕ → Hist → FinMap pos_cmp (Option Pos) → FinMap pos_cmp Pos → Hist → Tabled → Tabled → Type 0
 HasTurned events id maker notes readings hist old new =
     (triggers : Triggers) (found : Readings) → map.get triggers id ≡ Some maker → AreNoted id notes found
@@ -53,19 +53,19 @@ made_as events maker pos found = option_and_then (λ event. option_and_then (mad
 abbrev pub keys_of_made : Hist → Option Traced → List (List Part)
 keys_of_made hist made = cons_option (option_and_then (hit hist) made) []
 
--- the keys under which it counts what was made at a noted place, and what is made there now (our own choice)
+-- the keys under which it counts what was made at a noted place, and what is made there now
 abbrev pub keys_at : Events → Hist → Hist → FinMap pos_cmp Pos → Pos × Option Pos → List (List Part)
 keys_at events hist maker readings note = keys_of_made hist (made_as events maker note.0 note.1) ++ keys_of_made hist (made_as events maker note.0 (map.get readings note.0))
 
--- the same at all noted places (our own choice)
+-- the same at all noted places
 unfoldable pub keys_turned : Events → Hist → Hist → FinMap pos_cmp (Option Pos) → FinMap pos_cmp Pos → List (List Part)
 keys_turned events hist maker notes readings = flat_map (keys_at events hist maker readings) (map.entries notes)
 
--- the key under which a trigger counts an event, if one is made and is a hit, is one of some (our own choice)
+-- the key under which a trigger counts an event, if one is made and is a hit, is one of some
 abbrev pub HaveKey : Hist → Option Traced → List (List Part) → Type 0
 HaveKey hist made keys = (key : List Part) → option_and_then (hit hist) made ≡ Some key → is_of keys key ≡ true
 
--- keys have those under which a trigger counts what readings make by what they found, and by what they find later, wherever these make different events (our own choice)
+-- keys have those under which a trigger counts what readings make by what they found, and by what they find later, wherever these make different events
 abbrev pub HaveTurned : Triggers → Events → Readings → Readings → Hist → List (List Part) → Type 0
 HaveTurned triggers events found later hist keys =
     (spot : Spot) → (made_by triggers events later spot ≡ made_by triggers events found spot) ⊎ (HaveKey hist (made_by triggers events found spot) keys × HaveKey hist (made_by triggers events later spot) keys)

@@ -64,7 +64,7 @@ pub fn turn_made(
     Ok(())
 }
 
-/// Puts the keys behind others under which a trigger counts the events that another made of what its
+/// Puts the keys after others under which a trigger counts the events that another made of what its
 /// readings had found, and those that it makes of what they find: at each place that is noted, and as
 /// often as they are. Hits under other keys stay as the trigger's table is turned. Refused for memory.
 pub fn put_turned_keys(
@@ -89,7 +89,7 @@ pub fn put_turned_keys(
     Ok(())
 }
 
-/// Puts the key behind others under which a trigger counts an event, if one was made and is a hit.
+/// Puts the key after others under which a trigger counts an event, if one was made and is a hit.
 /// Refused for memory.
 fn put_key(
     keys: &mut Vec<Key>,

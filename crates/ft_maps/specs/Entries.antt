@@ -28,13 +28,13 @@ less Less h = refl
 less Equal h = absurd h
 less Greater h = absurd h
 
--- a comparison that ties answers `Equal` (our own choice)
+-- a comparison that ties answers `Equal`
 pub equal_from_tie : (o : Ordering) → is_eq o ≡ true → o ≡ Equal
 equal_from_tie Less e = absurd (subst T (sym e) tt)
 equal_from_tie Equal e = refl
 equal_from_tie Greater e = absurd (subst T (sym e) tt)
 
--- where only equal keys tie, keys that tie are equal (our own choice)
+-- where only equal keys tie, keys that tie are equal
 pub same_from_tie : {K : Type 0} {R : K → K → Ordering} → IsAntisymmetric R → (x y : K) → eq_by_cmp R x y ≡ true → x ≡ y
 same_from_tie {R = R} same x y e = same x y (equal_from_tie (R x y) e)
 
@@ -44,7 +44,7 @@ never false h = refl
 
 -- ---- the entries
 
--- the empty map has no entries (our own choice)
+-- the empty map has no entries
 pub entries-empty : {K X : Type 0} (R : K → K → Ordering) → finite.entries (finite.empty {X = X} {R = R}) ≡ []
 entries-empty {X = X} R =
     let none = entries-from_sorted {X = X} R [] tt in
@@ -55,7 +55,7 @@ module _ {K X : Type 0} (R : K → K → Ordering) where
   below_each k [] h = tt
   below_each k (e ∷ es) h = (less _ (first _ _ h), below_each k es (second _ _ h))
 
-  -- entries in order have keys that strictly ascend (our own choice)
+  -- entries in order have keys that strictly ascend
   pub strictly_sorted : (es : List (K × X)) → T (is_sorted R es) → IsStrictlySortedBy R (keys_of es)
   unfolding IsStrictlySortedBy
   strictly_sorted [] h = tt
@@ -66,7 +66,7 @@ module _ {K X : Type 0} {R : K → K → Ordering} (total : IsTotalOrder R) wher
   put_front e [] sorted = refl
   put_front e (x ∷ es) sorted = ap (λ o. by_order o (e ∷ x ∷ es) ((x.0, e.1) ∷ es) (x ∷ put R e.0 e.1 es)) (sorted_head R e.0 (keys_of (x ∷ es)) sorted).0
 
-  -- a map made of entries in order has these entries (our own choice)
+  -- a map made of entries in order has these entries
   pub entries-from_entries : (es : List (K × X)) → IsStrictlySortedBy R (keys_of es) → finite.entries (from_entries {R = R} es) ≡ es
   entries-from_entries [] sorted = entries-empty R
   entries-from_entries (e ∷ es) sorted =
@@ -76,20 +76,20 @@ module _ {K X : Type 0} {R : K → K → Ordering} (total : IsTotalOrder R) wher
 
   -- ---- one key
 
-  -- a key that was inserted has the value (our own choice)
+  -- a key that was inserted has the value
   pub get-insert_same : (m : FinMap R X) (k : K) (v : X) → finite.get (finite.insert m k v) k ≡ Some v
   get-insert_same m k v = get-insert total m k v k ∙ ap (λ b. cond b (Some v) (finite.get m k)) ((eq_by_cmp_equiv total).refl k)
 
-  -- a key that was removed has none (our own choice)
+  -- a key that was removed has none
   pub get-remove_same : (m : FinMap R X) (k : K) → finite.get (finite.remove m k) k ≡ None
   get-remove_same m k = get-remove total m k k ∙ ap (λ b. cond b None (finite.get m k)) ((eq_by_cmp_equiv total).refl k)
 
   module _ (same : IsAntisymmetric R) where
-    -- another key keeps what it had, after an insertion (our own choice)
+    -- another key keeps what it had, after an insertion
     pub get-insert_other : (m : FinMap R X) (k : K) (v : X) (q : K) → (q ≡ k → ⊥) → finite.get (finite.insert m k v) q ≡ finite.get m q
     get-insert_other m k v q other = get-insert total m k v q ∙ ap (λ b. cond b (Some v) (finite.get m q)) (never _ (λ e. other (same_from_tie same q k e)))
 
-    -- and after a removal (our own choice)
+    -- and after a removal
     pub get-remove_other : (m : FinMap R X) (k q : K) → (q ≡ k → ⊥) → finite.get (finite.remove m k) q ≡ finite.get m q
     get-remove_other m k q other = get-remove total m k q ∙ ap (λ b. cond b None (finite.get m q)) (never _ (λ e. other (same_from_tie same q k e)))
 
@@ -97,6 +97,6 @@ module _ {K X : Type 0} {R : K → K → Ordering} (total : IsTotalOrder R) wher
     at_key m k v is q true e = sym (ap (finite.get m) (same_from_tie same q k e) ∙ is)
     at_key m k v is q false e = refl
 
-    -- what a key has, inserted there again, changes nothing (our own choice)
+    -- what a key has, inserted there again, changes nothing
     pub insert_same : (m : FinMap R X) (k : K) (v : X) → finite.get m k ≡ Some v → finite.insert m k v ≡ m
     insert_same m k v is = same_map total same _ _ (λ q. get-insert total m k v q ∙ at_key m k v is q (eq_by_cmp R q k) refl)

@@ -11,11 +11,11 @@ use Rattle.std.proofs.Common.{cond, refl, sym, ap, subst, ◌∙◌}
 use Rattle.ft_maps.specs.Entries.{entries-empty, entries-from_entries, strictly_sorted}
 
 module _ {K X Y : Type 0} (f : X → Y) where
-  -- entries with their values seen through f (our own choice)
+  -- entries with their values seen through f
   abbrev pub entries_by : List (K × X) → List (K × Y)
   entries_by es = list_map (λ e. (e.0, f e.1)) es
 
-  -- the map with its values seen through f (our own choice)
+  -- the map with its values seen through f
   abbrev pub map_by : {R : K → K → Ordering} → FinMap R X → FinMap R Y
   map_by m = finite.from_entries (entries_by (finite.entries m))
 
@@ -24,7 +24,7 @@ module _ {K X Y : Type 0} (f : X → Y) where
   keys-entries_by (e ∷ es) = ap (λ (ks : List K). e.0 ∷ ks) (keys-entries_by es)
 
   module _ (R : K → K → Ordering) where
-    -- nothing is seen of the empty map (our own choice)
+    -- nothing is seen of the empty map
     pub map_by-empty : map_by (finite.empty {X = X} {R = R}) ≡ finite.empty
     map_by-empty = ap (λ es. finite.from_entries {R = R} (entries_by es)) (entries-empty R)
 
@@ -37,15 +37,15 @@ module _ {K X Y : Type 0} (f : X → Y) where
     find-entries_by q (e ∷ es) = ap (cond (eq_by_cmp R q e.0) (Some (f e.1))) (find-entries_by q es) ∙ found (eq_by_cmp R q e.0) e.1 (find R q es)
 
   module _ {R : K → K → Ordering} (total : IsTotalOrder R) where
-    -- its entries are those of the map, seen through f (our own choice)
+    -- its entries are those of the map, seen through f
     pub entries-map_by : (m : FinMap R X) → finite.entries (map_by m) ≡ entries_by (finite.entries m)
     entries-map_by m = entries-from_entries total _ (subst (IsStrictlySortedBy R) (sym (keys-entries_by (finite.entries m))) (strictly_sorted R (finite.entries m) (entries_sorted m)))
 
-    -- a look-up is one in the map, seen through f (our own choice)
+    -- a look-up is one in the map, seen through f
     pub get-map_by : (m : FinMap R X) (q : K) → finite.get (map_by m) q ≡ option_map f (finite.get m q)
     get-map_by m q = get-from_entries total _ q ∙ find-entries_by R q (finite.entries m) ∙ ap (option_map f) (sym (get-entries m q))
 
-    -- an insertion is one of the value, seen through f (our own choice)
+    -- an insertion is one of the value, seen through f
     pub map_by-insert : IsAntisymmetric R → (m : FinMap R X) (k : K) (v : X) → map_by (finite.insert m k v) ≡ finite.insert (map_by m) k (f v)
     map_by-insert same m k v = same_map total same _ _ (λ q.
         get-map_by (finite.insert m k v) q ∙ ap (option_map f) (get-insert total m k v q) ∙ sym (found R (eq_by_cmp R q k) v (finite.get m q))

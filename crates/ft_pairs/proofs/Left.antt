@@ -1,4 +1,4 @@
--- Behind the next operation fewer are left.
+-- After the next operation fewer are left.
 use Rattle.std.proofs.Common.{◌≡◌, ◌<◌, ◌≤◌, Bool, true, false, cond, List, [], ◌∷◌, length, refl, sym, ap, ◌∙◌, arith, Some, None, Option}
 use Rattle.std.specs.Prelude.{is_some}
 use Rattle.std.specs.List.{filter}
@@ -77,7 +77,7 @@ module _ (p q : At → Bool) (under : (x : At) → p x ≡ true → q x ≡ true
     fewer [] found = absurd (true≢false (sym (ap is_some found)))
     fewer (e ∷ es) found = by_first e es (fewer es) (same_at n e.0) refl found
 
--- the next operation isn't behind itself
+-- the next operation isn't after itself
 pub fewer_left : (ops : KeyOps) (after : Option At) (n : At) (op : Op) → IsBehind after n → map.get ops n ≡ Some op
     → length (filter (λ (e : At × Op). is_behind (Some n) e.0) (map.entries ops)) < length (filter (λ (e : At × Op). is_behind after e.0) (map.entries ops))
 fewer_left ops after n op behind there =

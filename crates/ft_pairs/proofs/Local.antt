@@ -49,7 +49,7 @@ module _ (old new : Ops) (at mid : At) (op : Op)
     | Greater ↦ λ more. absurd (there_not_none old mid op was (h.none mid (at_cmp_total.antisymm last mid ∙ ap ordering_reverse more) front))
   ] refl
 
-  -- so a change in front of an operation changes no source behind it
+  -- so a change in front of an operation changes no source after it
   pub far_source : (found : Option At) → IsSource old at found → IsSource new at found
   far_source (Some saved) h = back_last saved Save h
   far_source None (inl none) = absurd (there_not_none old mid op was (none mid front))

@@ -42,7 +42,7 @@ module _ (m : BTreeMap At Op) where
     pub none_before : part ≡ [] → HasNoneBefore (map.get (seen at_cmp m)) at
     none_before none = subst (λ (ops : Ops). HasNoneBefore ops at) same_ops (λ q before. is.5 none q (tt, before))
 
-  -- the bound of what is behind a place
+  -- the bound of what is after a place
   abbrev pub behind : Option At → Bound At
   behind None = Unbounded
   behind (Some at) = Excluded at
@@ -66,10 +66,10 @@ module _ (m : BTreeMap At Op) where
               sym (ap is_gt (at_cmp_total.antisymm first q ∙ ap ordering_reverse before)) ∙ here.2 q (start_from after q h, tt) some));
         }
 
-    -- the first of what stands behind a place
+    -- the first of what stands after a place
     pub first_behind : (first : At) (op : Op) (rest : List (At × Op)) → part ≡ (first, op) ∷ rest → IsNext (map.get (seen at_cmp m)) after (Some (first, op))
     first_behind first op rest begins = subst (λ (ops : Ops). IsNext ops after (Some (first, op))) same_ops (first_there first op rest begins)
 
-    -- nothing stands behind a place
+    -- nothing stands after a place
     pub none_behind : part ≡ [] → IsNext (map.get (seen at_cmp m)) after None
     none_behind none = subst (λ (ops : Ops). IsNext ops after None) same_ops (λ q h. is.5 none q (start_from after q h, tt))

@@ -117,7 +117,7 @@ whole_walk : (ops : KeyOps) → IsWalk (map.get ops) None (map.entries ops)
 whole_walk ops = walk_of (map.get ops) None (map.entries ops) (strictly_sorted at_cmp (map.entries ops) (entries_sorted ops)) (all_behind (keys_of (map.entries ops))) (λ q _. get-entries ops q)
 
 module _ (ops : Ops) where
-  -- the first operation behind a place finds this
+  -- the first operation after a place finds this
   abbrev Leads : Option At → Option At → Type 0
   Leads after last = (next : At × Op) → IsFirstBehind ops after next.0 next.1 → IsSource ops next.0 last
 
@@ -138,7 +138,7 @@ module _ (ops : Ops) where
       each zero d lt = is
       each (suc i) d lt = rest.each i d (omega (arith, lt))
 
-  -- one more is found behind the first of some
+  -- one more is found after the first of some
   pub found_next : (reads : List At) (found : List (Option At)) (read : At) (one : Option At) → length found < length reads → read ≡ slice_index_or reads (length found) read
       → IsSource ops read one → FindFirst ops reads found → FindFirst ops reads (found ++ one ∷ [])
   found_next reads found read one more is finds firsts = record { few = omega (arith, length_push found one, more); each = each }

@@ -41,7 +41,7 @@ module _ (old new : Ops) (at : At) (elsewhere : (q : At) → (q ≡ at → ⊥) 
       itself x = tied (at_cmp x x) (sym (at_cmp_total.antisymm x x))
 
   module _ (q : At) (op : Op) (there : new q ≡ Some op) (behind : at_cmp at q ≡ Less) where
-    -- behind the place the next operation shields those behind it
+    -- after the place the next operation shields those after it
     is_behind_next : (next : At × Op) → IsNext new (Some at) (Some next) → Some next ≡ Some (q, op) ⊎ KeepsSource old new q
     is_behind_next next is = elim (at_cmp next.0 q) as (λ o. at_cmp next.0 q ≡ o → Some next ≡ Some (q, op) ⊎ KeepsSource old new q) [
       | Less ↦ λ less. inr (far_source old new q next.0 next.1 (sym (elsewhere next.0 (not_at next.0 is.behind)) ∙ is.there) is.there less
@@ -54,7 +54,7 @@ module _ (old new : Ops) (at : At) (elsewhere : (q : At) → (q ≡ at → ⊥) 
     by_next None none = absurd (there_not_none new q op there (none q behind))
     by_next (Some next) is = is_behind_next next is
 
-  -- each operation finds what it found, but the next one behind the place
+  -- each operation finds what it found, but the next one after the place
   pub but_next : (next : Option (At × Op)) → IsNext new (Some at) next → (q : At) (op : Op) → new q ≡ Some op → next ≡ Some (q, op) ⊎ KeepsSource old new q
   but_next next is q op there = elim (at_cmp at q) as (λ o. at_cmp at q ≡ o → next ≡ Some (q, op) ⊎ KeepsSource old new q) [
     | Less ↦ λ less. by_next q op there less next is

@@ -1,4 +1,4 @@
--- A walk goes up, and has each operation behind its start once.
+-- A walk goes up, and has each operation after its start once.
 use Rattle.std.proofs.Common.{◌≡◌, ◌↔◌, List, [], ◌∷◌, map as list_map, refl, sym, ap, subst, ◌∙◌, Some, Option, Contains, unwrap_or}
 use Rattle.std.specs.List.{AllByRecursion}
 use Rattle.std.specs.List.Sorted.{IsStrictlySortedBy}
@@ -21,7 +21,7 @@ module _ (ops : Ops) where
   from_here after n h [] all = tt
   from_here after n h (e ∷ es) all = ((behind_too after n e.0 h all.0.0, all.0.1), from_here after n h es all.1)
 
-  -- each step is an operation behind the start
+  -- each step is an operation after the start
   steps : (after : Option At) (es : List (At × Op)) → IsWalk ops after es → AllByRecursion (IsStep after) es
   steps after [] h = tt
   steps after (e ∷ es) h = ((h.0.behind, h.0.there), from_here after e.0 h.0.behind es (steps (Some e.0) es h.1))
@@ -49,7 +49,7 @@ module _ (ops : Ops) where
     | Greater ↦ λ more. Contains-append_right (e ∷ []) es (at, op) (rest (at_cmp_total.antisymm e.0 at ∙ ap ordering_reverse more))
   ] refl
 
-  -- each operation behind the start is met
+  -- each operation after the start is met
   met : (at : At) (op : Op) → ops at ≡ Some op → (after : Option At) (es : List (At × Op)) → IsWalk ops after es → IsBehind after at → Contains es (at, op)
   met at op there after [] h behind = absurd (there_not_none ops at op there (h at behind))
   met at op there after (e ∷ es) h behind = met_first at op there after e es h behind (met at op there (Some e.0) es h.1)

@@ -11,35 +11,35 @@ use Rattle.ft_pairs.specs.declared.at.Op.{Op}
 use Rattle.ft_pairs.specs.Order.{at_cmp}
 use Rattle.ft_pairs.specs.Source.{Ops}
 
--- the operations on one key's variable, by place (our own choice)
+-- the operations on one key's variable, by place
 abbrev pub KeyOps : Type 0
 KeyOps = FinMap at_cmp Op
 
--- the operations of each key; a key without operations may stand there or not (our own choice)
+-- the operations of each key; a key without operations may stand there or not
 abbrev pub ByKey : Type 0
 ByKey = FinMap key_cmp KeyOps
 
--- the operations of a key (our own choice)
+-- the operations of a key
 abbrev pub ops_of : ByKey → List Part → Ops
 ops_of pairs key at = option_and_then (λ ops. map.get ops at) (map.get pairs key)
 
--- whether two keys are the same (our own choice)
+-- whether two keys are the same
 abbrev pub same_key : List Part → List Part → Bool
 same_key = eq_by_cmp key_cmp
 
--- one key's operations become what an edit makes of them, and those of other keys stay (our own choice)
+-- one key's operations become what an edit makes of them, and those of other keys stay
 abbrev pub ChangesKey : List Part → (Ops → Ops) → ByKey → ByKey → Type 0
 ChangesKey key edit old new = (k : List Part) (at : At) → ops_of new k at ≡ (if same_key k key then edit (ops_of old k) at else ops_of old k at)
 
--- each place of one key has what it had or what an edit makes of it, and those of other keys have what they had (our own choice)
+-- each place of one key has what it had or what an edit makes of it, and those of other keys have what they had
 abbrev pub PartlyChangesKey : List Part → (Ops → Ops) → ByKey → ByKey → Type 0
 PartlyChangesKey key edit old new = (k : List Part) (at : At) → (ops_of new k at ≡ ops_of old k at) ⊎ ((k ≡ key) × (ops_of new k at ≡ edit (ops_of old k) at))
 
--- whether a place is behind another, if another is given (our own choice)
+-- whether a place is after another, if another is given
 abbrev pub is_behind : Option At → At → Bool
 is_behind None q = true
 is_behind (Some after) q = is_lt (at_cmp after q)
 
--- how many operations of a key stand behind a place; how many in all, if no place is given (our own choice)
+-- how many operations of a key stand after a place; how many in all, if no place is given
 abbrev pub ops_left : ByKey → List Part → Option At → ℕ
 ops_left pairs key after = length (filter (λ e. is_behind after e.0) (map.entries (unwrap_or (map.get pairs key) map.empty)))

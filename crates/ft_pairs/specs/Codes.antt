@@ -6,10 +6,10 @@ use Rattle.ft_pairs.specs.contracts.at.At as at
 use Rattle.ft_pairs.specs.contracts.at.Op as op
 use Rattle.ft_pairs.specs.ByKey.{KeyOps, ByKey}
 
--- the operations of one key, stored as their list (our own choice)
+-- the operations of one key, stored as their list
 abbrev pub key_ops_code : Coded KeyOps
 key_ops_code = map.code at.the_row.coded op.the_row.coded
 
--- those of all keys, stored as a list by key (our own choice)
+-- those of all keys, stored as a list by key
 abbrev pub by_key_code : Coded ByKey
 by_key_code = map.code (coded_list part.the_row.coded) key_ops_code

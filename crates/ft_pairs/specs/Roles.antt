@@ -9,7 +9,7 @@ use Rattle.ft_pairs.specs.declared.role.Role.TheVariants.{Plain, Saves, Reads}
 use Rattle.ft_pairs.specs.declared.role.Variable.{Variable}
 use Rattle.ft_pairs.specs.Variables.{variable_cmp}
 
--- which keys the tables of savers have (our own choice)
+-- which keys the tables of savers have
 abbrev pub Admits : Type 0
 Admits = ℕ → List Part → Bool
 

@@ -6,15 +6,15 @@ use Rattle.ft_pairs.specs.declared.at.Op.{Op}
 use Rattle.ft_pairs.specs.declared.at.Op.TheVariants.{Save, Read}
 use Rattle.ft_pairs.specs.Order.{at_cmp}
 
--- the operations on a variable, by where they stand (our own choice)
+-- the operations on a variable, by where they stand
 abbrev pub Ops : Type 0
 Ops = At → Option Op
 
--- no operation stands before a place (our own choice)
+-- no operation stands before a place
 abbrev pub HasNoneBefore : Ops → At → Type 0
 HasNoneBefore ops at = (q : At) → at_cmp q at ≡ Less → ops q ≡ None
 
--- this operation is the last one before a place (our own choice)
+-- this operation is the last one before a place
 pub record IsLastBefore (ops : Ops) (at last : At) (op : Op) : Type 0 where
   pub there : ops last ≡ Some op
   pub before : at_cmp last at ≡ Less

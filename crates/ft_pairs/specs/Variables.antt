@@ -12,15 +12,15 @@ use Rattle.ft_keys.specs.Orders.{key_cmp_total}
 use Rattle.ft_keys.specs.Ties.{key_same}
 use Rattle.ft_pairs.specs.declared.role.Variable.{Variable}
 
--- variables in order: by the saver's id, then by key (our own choice)
+-- variables in order: by the saver's id, then by key
 abbrev pub variable_cmp : Variable → Variable → Ordering
 variable_cmp = then_cmp (on (λ v. v.saver) nat_cmp) (on (λ v. v.key) key_cmp)
 
--- the order of variables is total (our own choice)
+-- the order of variables is total
 pub variable_cmp_total : IsTotalOrder variable_cmp
 variable_cmp_total = then_total (on_total (λ v. v.saver) nat_cmp_total) (on_total (λ v. v.key) key_cmp_total)
 
--- variables that tie are equal (our own choice)
+-- variables that tie are equal
 pub variable_same : IsAntisymmetric variable_cmp
 variable_same a b h =
     ap (λ (p : ℕ × List Part). record { saver = p.0; key = p.1 })

@@ -28,8 +28,8 @@ pub fn one_source()
 {}
 
 /// A law: what a reading finds depends on no operation but those in front of it, back to the last
-/// one that stays. So where operations change, the next reading on the variable behind a change may
-/// find another saving, and none behind that one.
+/// one that stays. So where operations change, the next reading on the variable after a change may
+/// find another saving, and none after that one.
 pub fn local_sources()
     ensures front { (old new : Ops) (at : At)
         → ((q : At) → at_cmp q at ≡ Less → new q ≡ old q)
@@ -40,7 +40,7 @@ pub fn local_sources()
         → (found : Option At) → IsSource old at found → IsSource new at found }
 {}
 
-/// A law: behind a place stands one next operation or none, and not two.
+/// A law: after a place stands one next operation or none, and not two.
 pub fn one_next()
     ensures { (ops : Ops) (after : Option At) (a b : Option (At × Op))
         → IsNext ops after a → IsNext ops after b → a ≡ b }
@@ -59,7 +59,7 @@ pub fn own_operations()
 {}
 
 /// A law: where the operations on a variable change at one place, each of them finds what it found,
-/// but the next one behind that place. So an operation of a key that comes or goes changes what the
+/// but the next one after that place. So an operation of a key that comes or goes changes what the
 /// next one on that key finds at most, and no other.
 pub fn one_operation()
     ensures place { (old new : Ops) (at : At) (next : Option (At × Op))
@@ -86,7 +86,7 @@ pub fn reads_of_one_key()
         → (at : At) (found : Option At) → IsSource (ops_of new key) at found → found ≡ None }
 {}
 
-/// A law: a walk from one operation to the next goes up, and has just the operations behind the
+/// A law: a walk from one operation to the next goes up, and has just the operations after the
 /// place where it starts, each once.
 pub fn whole_walks()
     ensures order { (ops : Ops) (after : Option At) (walk : List (At × Op)) → IsWalk ops after walk

@@ -155,8 +155,8 @@ impl Pairs {
         }
     }
 
-    /// The first operation of a key behind a place, or its first of all. Behind it fewer are left
-    /// than behind that place, so that a walk ends.
+    /// The first operation of a key after a place, or its first of all. After it fewer are left
+    /// than after that place, so that a walk ends.
     pub fn next_op(&self, key: &Key, after: Option<At>) -> Option<(At, Op)>
         ensures next { IsNext (ops_of self.now key.now) after result }
         ensures fewer { IfSome result (λ next.

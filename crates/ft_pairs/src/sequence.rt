@@ -155,7 +155,7 @@ impl Sequence {
         }
     }
 
-    /// The first operation behind a place, or the first of all.
+    /// The first operation after a place, or the first of all.
     pub(crate) fn next(&self, after: Option<At>) -> Option<(At, Op)>
         ensures { IsNext (map.get self.now) after result }
     {

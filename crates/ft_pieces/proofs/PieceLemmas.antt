@@ -11,7 +11,7 @@ use Rattle.ft_pieces.specs.Words.{Piece, pieces, grown}
 abbrev is : ℕ → ℕ → Bool
 is separator byte = byte == separator
 
--- up to the first separator, and behind it
+-- up to the first separator, and after it
 cut_first : (separator place : ℕ) (text : List ℕ) → position_or_len (is separator) text < length text → pieces separator place text ≡ record { place = place; bytes = take (position_or_len (is separator) text) text } ∷ pieces separator (place + position_or_len (is separator) text + 1) (drop (position_or_len (is separator) text + 1) text)
 cut_first separator place [] inside = absurd (omega arith)
 cut_first separator place (byte ∷ text) inside = by (byte == separator) (position_or_len (is separator) text) (cut_first separator (place + 1) text) inside

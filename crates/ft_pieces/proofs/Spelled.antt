@@ -98,7 +98,7 @@ named (byte ∷ rest) h = record { first = byte; rest = rest; is = refl; begins 
 pub name_told : (text : List ℕ) → IsNamed text → IsName text
 name_told text h = subst IsName (sym h.is) (record { begins = h.begins; inside = and_from _ _ (begins_inside h.first h.begins) h.inside })
 
--- what stands behind a name is its suffix
+-- what stands after a name is its suffix
 suffix_parts : (rest : List ℕ) (suffix : Option (List ℕ)) → suffix_of rest ≡ Some suffix → (rest ≡ suffix_text suffix) × IsSuffix suffix
 suffix_parts [] suffix e = let same : None ≡ suffix = cc in subst (λ (s : Option (List ℕ)). ([] ≡ suffix_text s) × IsSuffix s) same (refl, tt)
 suffix_parts (dot ∷ []) suffix e = absurd cc
@@ -110,7 +110,7 @@ suffix_parts (dot ∷ byte ∷ rest) suffix e = from (dot == 46) refl e
         let same : Some (byte ∷ rest) ≡ suffix = cc in
         subst (λ (s : Option (List ℕ)). (dot ∷ byte ∷ rest ≡ suffix_text s) × IsSuffix s) same (ap (λ (d : ℕ). d ∷ byte ∷ rest) (eqb-true dot 46 is), tt)
 
--- the word of a text behind its `$`, or without one, is its text
+-- the word of a text after its `$`, or without one, is its text
 with_parts : (dollar : Bool) (text : List ℕ) (word : Word) → word_with dollar text ≡ Some word → (word.dollar ≡ dollar) × (text ≡ word.name ++ suffix_text word.suffix) × IsSuffix word.suffix
 unfolding word_with
 with_parts dollar text word e = from (name_at text) refl e

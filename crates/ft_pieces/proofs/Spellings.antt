@@ -117,7 +117,7 @@ name_again name rest h apart =
 
 -- ---- words
 
--- what is behind a word's name
+-- what is after a word's name
 abbrev pub suffix_text : Option (List ℕ) → List ℕ
 suffix_text None = []
 suffix_text (Some suffix) = 46 ∷ suffix
@@ -154,7 +154,7 @@ word_name item word e = from (starts_with ◌==◌ item (codes "$")) e
     from true e = word_with_name true (drop 1 item) word e
     from false e = word_with_name false item word e
 
--- what may stand behind a name
+-- what may stand after a name
 suffix_apart : (suffix : Option (List ℕ)) → Apart (suffix_text suffix)
 suffix_apart None = refl
 suffix_apart (Some suffix) = refl

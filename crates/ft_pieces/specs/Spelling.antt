@@ -6,12 +6,12 @@ use Rattle.ft_pieces.specs.Words.{Piece, Word}
 
 -- ---- pieces
 
--- pieces behind others, each behind a separator (our own choice)
+-- pieces after others, each after a separator
 abbrev pub more_pieces : ℕ → List Piece → List ℕ
 more_pieces separator [] = []
 more_pieces separator (piece ∷ pieces) = separator ∷ (piece.bytes ++ more_pieces separator pieces)
 
--- each piece begins one byte behind the end of the piece before it, and has no separator (our own choice)
+-- each piece begins one byte after the end of the piece before it, and has no separator
 abbrev pub ArePlaced : ℕ → ℕ → List Piece → Type 0
 ArePlaced separator place [] = Unit {0}
 ArePlaced separator place (piece ∷ pieces) =
@@ -35,7 +35,7 @@ pub record IsNamed (name : List ℕ) : Type 0 where
   pub begins : begins_name first ≡ true
   pub inside : list_all is_in_name rest ≡ true
 
--- how a suffix stands behind a name (kernel: histogram.rst, modifiers)
+-- how a suffix stands after a name (kernel: histogram.rst, modifiers)
 abbrev pub suffix_bytes : Option (List ℕ) → List ℕ
 suffix_bytes None = []
 suffix_bytes (Some suffix) = codes "." ++ suffix

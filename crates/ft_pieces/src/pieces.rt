@@ -74,7 +74,7 @@ impl<'a> Piece<'a> {
         self.bytes
     }
 
-    /// What is behind so many of its bytes.
+    /// What is after so many of its bytes.
     pub fn behind(&self, len: usize) -> Piece<'a>
         requires { len ≤ length self.now.bytes }
         ensures place { result.place ≡ self.now.place + len }
@@ -99,7 +99,7 @@ impl<'a> Pieces<'a> {
         }
     }
 
-    /// The next piece, or `None` behind the last.
+    /// The next piece, or `None` after the last.
     pub fn next_piece(&mut self) -> Option<Piece<'a>>
         ensures { MatchOption result ((self.old ≡ []) × (self.new ≡ []))
             (λ piece. self.old ≡ piece ∷ self.new) }

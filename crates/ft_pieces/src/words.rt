@@ -8,7 +8,7 @@ use ft_text::{is_same, number_within};
 use ft_tokens::name_at;
 use std::marker::Model;
 
-/// An item as it stands: a name, and what is in front of it and behind it.
+/// An item as it stands: a name, and what is in front of it and after it.
 ///
 /// Contracts see the same with its texts as lists of bytes.
 #[derive(Drop)]
@@ -46,7 +46,7 @@ impl<'a> Word<'a> {
         self.name
     }
 
-    /// What is behind the `.`, where one stands behind the name.
+    /// What is after the `.`, where one stands after the name.
     pub fn suffix(&self) -> Option<&'a [u8]>
         ensures { option_copied result ≡ self.now.suffix }
     {
@@ -79,7 +79,7 @@ pub fn word_of(item: &[u8]) -> Option<Word<'_>>
     }
 }
 
-/// The word of a text behind its `$`, or without one.
+/// The word of a text after its `$`, or without one.
 #[tactic(auto, unfolding(crate::specs::Words::word_with))]
 fn word_with(dollar: bool, text: &[u8]) -> Option<Word<'_>>
     ensures { result ≡ word_with dollar text.now }

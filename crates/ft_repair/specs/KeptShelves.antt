@@ -1,4 +1,4 @@
--- Shelves that are kept beside a base, so that no answer replays its events (our own choice).
+-- Shelves that are kept beside a base, so that no answer replays its events.
 use Rattle.std.specs.Prelude.{◌≡◌, ℕ, Option, Some, None}
 use Rattle.std.specs.FinMap as map
 use Rattle.ft_hist.specs.Hist.{Hist}
@@ -11,22 +11,22 @@ use Rattle.ft_base.specs.Base.{Base, Triggers}
 use Rattle.ft_replay.specs.Merged.{Events, merged}
 use Rattle.ft_base.specs.Roles.{role_of, role_at}
 
--- a shelf has the role and the size of a trigger, and hits of events of the trace alone (our own choice)
+-- a shelf has the role and the size of a trigger, and hits of events of the trace alone
 pub record IsShelfOf (triggers : Triggers) (hist : Hist) (shelf : Shelved) : Type 0 where
   pub role : shelf.role ≡ role_of triggers hist.variable
   pub size : shelf.table.size ≡ hist.size
   pub traced : AreTraced shelf.table.hits
 
--- a trigger has its shelf, and without a trigger there is none (our own choice)
+-- a trigger has its shelf, and without a trigger there is none
 abbrev pub HasItsShelf : Triggers → Option Hist → Option Shelved → Type 0
 HasItsShelf triggers None shelf = shelf ≡ None
 HasItsShelf triggers (Some hist) shelf = (its : Shelved) × ((shelf ≡ Some its) × IsShelfOf triggers hist its)
 
--- each attached trigger has its shelf, and what the shelves keep is that of the triggers' acts at all events (our own choice)
+-- each attached trigger has its shelf, and what the shelves keep is that of the triggers' acts at all events
 pub record AreKept (triggers : Triggers) (events : Events) (shelves : Shelves) : Type 0 where
   pub each : (id : ℕ) → HasItsShelf triggers (map.get triggers id) (map.get shelves id)
   pub kept : IsKept (role_at triggers) (values_by triggers) (admits_on shelves) (acts_of triggers events) (kept_on shelves)
 
--- the shelves are kept of a base's triggers and of all its events (our own choice)
+-- the shelves are kept of a base's triggers and of all its events
 abbrev pub AreKeptOf : Base → Shelves → Type 0
 AreKeptOf base shelves = AreKept base.triggers (merged base.lanes) shelves

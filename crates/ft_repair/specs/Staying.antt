@@ -1,4 +1,4 @@
--- Triggers that stay, while others come, go or get another filter (our own choice).
+-- Triggers that stay, while others come, go or get another filter.
 use Rattle.std.specs.Prelude.{◌≡◌, ℕ, true}
 use Rattle.std.specs.FinMap as map
 use Rattle.ft_base.specs.Base.{Triggers}

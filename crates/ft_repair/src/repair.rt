@@ -54,7 +54,7 @@ pub fn let_come(
 
 /// The event of a place, which is still held, goes from the tables, and the triggers that act at it
 /// are gathered. Where memory runs out, the tables are given up; an event that is a hit of triggers
-/// without a variable alone takes none but for what is gathered.
+/// without a variable alone takes none except for what is gathered.
 pub fn let_go(
     kept: &mut Option<Tables>,
     content: &Content,

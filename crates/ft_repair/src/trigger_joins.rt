@@ -101,7 +101,7 @@ fn renew_shelves(
     Ok(())
 }
 
-/// The events on their names come to a trigger and to those that read what it saves, one behind the
+/// The events on their names come to a trigger and to those that read what it saves, one after the
 /// other. Refused for memory, and then the tables are of no use any more.
 fn put_family(
     tables: &mut Tables,
@@ -206,7 +206,7 @@ fn put_at_once(
     tables.acts_come(joining.triggers, joining.trigger, joining.id, &groups, work)
 }
 
-/// The events of a list that a trigger counts come to it, one behind the other. Refused for memory,
+/// The events of a list that a trigger counts come to it, one after the other. Refused for memory,
 /// and then the tables are of no use any more.
 fn put_one_by_one(
     tables: &mut Tables,

@@ -44,7 +44,7 @@ place_by Greater ids tied less = less
 pub place_before : (p q : Pos) (i : ℕ) → at_cmp (act_of p i) (act_of q i) ≡ Less → pos_cmp p q ≡ Less
 place_before p q i less = place_by (pos_cmp p q) (nat_cmp i i) (ties nat_cmp_total i) less
 
--- what holds of all keys above one holds of the entries behind it
+-- what holds of all keys above one holds of the entries after it
 pub all_above : {K X : Type 0} (R : K → K → Ordering) (k : K) (P : K → Type 0) → ((q : K) → R k q ≡ Less → P q) → (es : List (K × X)) → AllByRecursion (λ q. R k q ≡ Less) (keys_of es) → AllByRecursion (λ e. P e.0) es
 all_above R k P f [] above = tt
 all_above R k P f (e ∷ es) above = (f e.0 above.0, all_above R k P f es above.1)

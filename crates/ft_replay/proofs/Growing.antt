@@ -1,4 +1,4 @@
--- The tally of a table, as hits come behind all others.
+-- The tally of a table, as hits come after all others.
 use Rattle.std.proofs.Common.{◌≡◌, ℕ, zero, suc, take, drop, ◌+◌, Bool, true, false, cond, List, [], ◌∷◌, length, map as list_map, refl, sym, ap, ◌∙◌, Some, None, Option, arith, nat_lt, unwrap_or}
 use Rattle.std.specs.Prelude.{ℤ, ◌||◌, ◌&&◌, if◌then◌else◌, is_some}
 use Rattle.std.specs.List.{AllByRecursion, IsDistinct, list_any, sum_by}
@@ -129,7 +129,7 @@ unfolding tally_of
 tally-pair table at None pairs = refl
 tally-pair table at (Some saved) pairs = refl
 
--- ---- a hit behind all others
+-- ---- a hit after all others
 
 same_itself : (key : List Part) → same_key key key ≡ true
 same_itself key = (eq_by_cmp_equiv key_cmp_total).refl key

@@ -33,11 +33,11 @@ use Rattle.ft_replay.proofs.Spots.{IsTraced, traced_ascend, traced_among}
 abbrev pub spot_of : TriggerHit → Spot
 spot_of found = found.spot
 
--- each hit stands before those behind it
+-- each hit stands before those after it
 abbrev pub Ascend : List TriggerHit → Type 0
 Ascend hits = IsStrictlySortedBy spot_cmp (list_map spot_of hits)
 
--- the hits stand behind a spot
+-- the hits stand after a spot
 abbrev pub AreBehind : Spot → List TriggerHit → Type 0
 AreBehind at hits = AllByRecursion (λ p. spot_cmp at p ≡ Less) (list_map spot_of hits)
 
@@ -103,7 +103,7 @@ module _ (g : Spot → Option TriggerHit) (here : (at : Spot) → IfSome (g at) 
 abbrev pub values_under : List Part → Option TriggerHit → Option (List ℤ)
 values_under key found = option_and_then (λ found. if same_key key found.key then Some found.values else None) found
 
--- one order behind another ties where both do
+-- one order after another ties where both do
 pub tied_then : (a b : Ordering) → is_eq (ordering_then a b) ≡ cond (is_eq a) (is_eq b) false
 tied_then Less b = refl
 tied_then Equal b = refl

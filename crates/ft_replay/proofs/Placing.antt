@@ -130,7 +130,7 @@ on_line a b below =
     ∙ ap (λ c. is_eq (nat_cmp a.stamp b.stamp) && c) (tied_then (nat_cmp a.cpu b.cpu) (nat_cmp a.line b.line) ∙ ap (λ o. is_eq (nat_cmp a.cpu b.cpu) && is_eq o) below ∙ never (is_eq (nat_cmp a.cpu b.cpu)))
     ∙ never (is_eq (nat_cmp a.stamp b.stamp))
 
--- each is apart from those behind it
+-- each is apart from those after it
 abbrev Differ : List (Pos × Traced) → Type 0
 Differ [] = ⊤
 Differ (e ∷ es) = AllByRecursion (λ q. IsApart e.0 q.0) es × Differ es

@@ -99,7 +99,7 @@ module _ (triggers : Triggers) (at : At) where
             ]
       ] refl
 
-  -- where all events stand behind the place, no act is before it
+  -- where all events stand after the place, no act is before it
   later_acts : (es : List (Pos × Traced)) → AllByRecursion (λ e. pos_cmp e.0 at.pos ≡ Greater) es → filter (is_before at) (flat_map (acts_at triggers) es) ≡ []
   later_acts [] h = refl
   later_acts (e ∷ es) h =
@@ -178,7 +178,7 @@ module _ (triggers : Triggers) (at : At) where
 
   -- ---- and so what is found there
 
-  -- acts in order: behind the first that isn't before the place, none is
+  -- acts in order: after the first that isn't before the place, none is
   abbrev Split : List Act → Type 0
   Split acts = (rest : List Act) × (acts ≡ filter (is_before at) acts ++ rest)
 

@@ -67,6 +67,6 @@ module _ (fits : Pos × Traced → Bool) where
 pub put_in : {X : Type 0} (xs : List X) (i : ℕ) (x : X) → IsPermutation (xs ++ x ∷ []) (insert xs i x)
 put_in xs i x = IsPermutation-trans _ _ _ (IsPermutation-to_front xs x) (IsPermutation-insert xs i x)
 
--- references with one more behind them, as entries
+-- references with one more after them, as entries
 pub pushed_entry : (old new : List (Pos × Stored)) (e : Pos × Stored) → IsPermutation (old ++ e ∷ []) new → IsPermutation (entries_by held old ++ entry_of e ∷ []) (entries_by held new)
 pushed_entry old new e moved = subst (λ (es : List (Pos × Traced)). IsPermutation es (entries_by held new)) (map-append entry_of old (e ∷ [])) (IsPermutation-map entry_of (old ++ e ∷ []) new moved)

@@ -105,7 +105,7 @@ with_all-map found up =
 
 -- ---- pairs
 
--- the pairs of a hit and of those behind it
+-- the pairs of a hit and of those after it
 more_pairs : (pairs : List Pair) (first : TriggerHit) (found : List TriggerHit) → pairs_with first.spot.pos first.saved pairs ++ filter_map pair_of found ≡ pairs ++ filter_map pair_of (first ∷ found)
 more_pairs pairs first found = from first.saved
   where
@@ -119,7 +119,7 @@ module _ (rows : RowsGrow) (totals : TotalsGrow) (members : InGrows) (size : ℕ
   abbrev tabled : Hits → Tabled
   tabled hits = record { hits = hits; size = size }
 
-  -- hits behind those of a map, counted one by one, come to the tally of all
+  -- hits after those of a map, counted one by one, come to the tally of all
   counted_behind : (hits : Hits) (pairs : List Pair) (found : List TriggerHit) → AllBefore hits found → Ascend found
       → fold (counted size) (tally_of (tabled hits) pairs) found ≡ tally_of (tabled (with_all hits found)) (pairs ++ filter_map pair_of found)
   counted_behind hits pairs [] before up = ap (tally_of (tabled hits)) (sym (append-nil pairs))

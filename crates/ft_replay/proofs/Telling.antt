@@ -104,7 +104,7 @@ module _ (size : ℕ → ℕ) (role : ℕ → Role) (growth : Act → RowGrowth)
         ∙ ap (λ (t : Tally). map.contains_key t.table a.key) (sym (fold-append (told_plain size growth a.at.trigger) empty_tally front (a ∷ rest)))
         ∙ ap (λ (xs : List Act). map.contains_key (fold (told_plain size growth a.at.trigger) empty_tally xs).table a.key) (sym whole)
 
-    -- ---- what holds behind some acts
+    -- ---- what holds after some acts
 
     abbrev pub TalliesHold : Tallies → List Act → Tallies → Type 0
     TalliesHold start front tallies = (q : ℕ) → map.get tallies q ≡ option_map (λ (t : Tally). fold (tells q) t front) (map.get start q)

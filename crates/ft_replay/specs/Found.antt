@@ -1,4 +1,4 @@
--- What maps that are kept beside the events hold: what each hit adds, by spot and key, and what each reading found, by place (our own choice).
+-- What maps that are kept beside the events hold: what each hit adds, by spot and key, and what each reading found, by place.
 use Rattle.std.specs.Prelude.{ℕ, ℤ, List, Option, Some, None, option_and_then, map as list_map, if◌then◌else◌}
 use Rattle.std.specs.FinMap as map
 use Rattle.std.specs.FinMap.{FinMap}
@@ -20,6 +20,6 @@ values_found triggers events id mark =
 unfoldable pub saving_found : Triggers → Events → ℕ → Pos → Option Pos
 saving_found triggers events id at = option_and_then (λ found. found.saved) (hit_at triggers events id at)
 
--- the pairs of a map from the places of readings to those of savings, in merged order of the reading (our own choice)
+-- the pairs of a map from the places of readings to those of savings, in merged order of the reading
 abbrev pub pairs_in : FinMap pos_cmp Pos → List Pair
 pairs_in readings = list_map (λ e. record { saved = e.1; read = e.0 }) (map.entries readings)

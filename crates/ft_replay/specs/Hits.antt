@@ -24,7 +24,7 @@ use Rattle.ft_replay.specs.Replay.{State, act_at, replay}
 use Rattle.ft_table.specs.Values.{values_at}
 use Rattle.ft_base.specs.Roles.{role_of}
 
--- what replaying has come to as a trigger comes to act at a place: all events before have gone past, and the triggers before have acted there (our own choice)
+-- what replaying has come to as a trigger comes to act at a place: all events before have gone past, and the triggers before have acted there
 unfoldable pub state_before : Triggers → Events → At → State
 state_before triggers events at =
     let reached = replay triggers (map.retain_keys events (λ place. is_lt (pos_cmp place at.pos))) in
@@ -35,7 +35,7 @@ state_before triggers events at =
 abbrev pub found_at : Triggers → Events → Variable → At → Option Pos
 found_at triggers events variable at = map.get (state_before triggers events at).variables variable
 
--- a hit of a trigger: its spot and key, the place of the saving that it read, if it read, and what it adds to the sums (our own choice)
+-- a hit of a trigger: its spot and key, the place of the saving that it read, if it read, and what it adds to the sums
 pub record TriggerHit : Type 0 where
   pub spot : Spot
   pub key : List Part
@@ -56,7 +56,7 @@ hit_at triggers events id at =
     (read_as (role_of triggers hist.variable) (λ variable. found_at triggers events variable (record { pos = at; trigger = id })) key)
     ) (hit hist event)) (map.get triggers id)) (map.get events at)
 
--- the hit of an attached trigger among held events that stands at a spot, if one does: at a spot of a made event none does (our own choice)
+-- the hit of an attached trigger among held events that stands at a spot, if one does: at a spot of a made event none does
 abbrev pub hit_on : Triggers → Events → ℕ → Spot → Option TriggerHit
 hit_on triggers events id spot = option_and_then (hit_at triggers events id) (traced_place spot)
 
@@ -64,11 +64,11 @@ hit_on triggers events id spot = option_and_then (hit_at triggers events id) (tr
 unfoldable pub trigger_hits : Triggers → Events → ℕ → List TriggerHit
 trigger_hits triggers events id = filter_map (hit_at triggers events id) (map.keys events)
 
--- a hit as a table holds it: its values by its spot and key (our own choice)
+-- a hit as a table holds it: its values by its spot and key
 abbrev pub entry_of : TriggerHit → Mark × List ℤ
 entry_of found = (record { spot = found.spot; key = found.key }, found.values)
 
--- the map of hits that the table of a trigger is made of (our own choice)
+-- the map of hits that the table of a trigger is made of
 unfoldable pub hits_of : Triggers → Events → ℕ → Hits
 hits_of triggers events id = map.from_entries (list_map entry_of (trigger_hits triggers events id))
 
@@ -76,10 +76,10 @@ hits_of triggers events id = map.from_entries (list_map entry_of (trigger_hits t
 abbrev pub table_for : Hist → Hits → Tabled
 table_for hist hits = record { hits = hits; size = hist.size }
 
--- the pair of a hit, where it read (our own choice)
+-- the pair of a hit, where it read
 abbrev pub pair_of : TriggerHit → Option Pair
 pair_of found = option_map (λ saved. record { saved = saved; read = found.spot.pos }) found.saved
 
--- the pairs that a trigger's readings make, in merged order of the reading, whether counted or dropped (our own choice)
+-- the pairs that a trigger's readings make, in merged order of the reading, whether counted or dropped
 unfoldable pub pairs_of : Triggers → Events → ℕ → List Pair
 pairs_of triggers events id = filter_map pair_of (trigger_hits triggers events id)

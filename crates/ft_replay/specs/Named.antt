@@ -18,15 +18,15 @@ is_on triggers name = list_any (λ attached. same_name attached.1.event name) (m
 abbrev pub is_named : Triggers → Traced → Bool
 is_named triggers event = is_on triggers (name_of event.body)
 
--- the events on whose name some attached trigger is (our own choice)
+-- the events on whose name some attached trigger is
 unfoldable pub named : Triggers → Events → Events
 named triggers events = map.from_entries (filter (λ entry. is_named triggers entry.1) (map.entries events))
 
--- the events of some names (our own choice)
+-- the events of some names
 unfoldable pub events_on : (Name → Bool) → Events → Events
 events_on names events = map.from_entries (filter (λ entry. names (name_of entry.1.body)) (map.entries events))
 
--- the name is one of these (our own choice)
+-- the name is one of these
 abbrev pub has_name : Names → Name → Bool
 has_name names kinds.Waking = names.waking
 has_name names kinds.Wakeup = names.wakeup

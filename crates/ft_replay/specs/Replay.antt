@@ -20,7 +20,7 @@ use Rattle.ft_replay.specs.Tally.{Tally, RowGrowth, empty_tally, has_place, tell
 use Rattle.ft_table.specs.Values.{values_at}
 use Rattle.ft_pairs.specs.Variables.{variable_cmp}
 
--- the tallies of triggers by id (our own choice)
+-- the tallies of triggers by id
 abbrev pub Tallies : Type 0
 Tallies = FinMap nat_cmp Tally
 
@@ -44,7 +44,7 @@ act_as size growth (Reads saver) state at key tally =
       variables = map.remove state.variables (record { saver = saver; key = key });
     }) (map.get state.variables (record { saver = saver; key = key })) state
 
--- a trigger acts at a hit of a key, where it has a tally (our own choice)
+-- a trigger acts at a hit of a key, where it has a tally
 unfoldable pub act : ℕ → Role → RowGrowth → State → At → List Part → State
 act size role growth state at key = option_map_or (act_as size growth role state at key) (map.get state.tallies at.trigger) state
 
@@ -63,7 +63,7 @@ act_at triggers entry state attached =
     act attached.1.size (role_of triggers attached.1.variable) (growth_by attached.1 entry.0 entry.1 key) state (record { pos = entry.0; trigger = attached.0 }) key
     ) (hit attached.1 entry.1) state
 
--- one event: the attached triggers act in order of id (our own choice)
+-- one event: the attached triggers act in order of id
 unfoldable pub step : Triggers → State → Pos × Traced → State
 step triggers state entry = fold (act_at triggers entry) state (map.entries triggers)
 

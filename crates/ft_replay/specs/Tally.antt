@@ -28,7 +28,7 @@ pub record Tally : Type 0 where
 abbrev pub empty_tally : Tally
 empty_tally = record { table = map.empty; dropped = 0; pairs = [] }
 
--- how a hit changes its key's row, if the key has one: by the place of the saving that it read, if it read (our own choice)
+-- how a hit changes its key's row, if the key has one: by the place of the saving that it read, if it read
 abbrev pub RowGrowth : Type 0
 RowGrowth = Option Pos → Option Counted → Counted
 
@@ -43,12 +43,12 @@ count size key grow tally =
     then record tally { table = map.insert tally.table key (grow (map.get tally.table key)) }
     else record tally { dropped = tally.dropped + 1 }
 
--- a tally with the pair of a reading, where the hit read something (our own choice)
+-- a tally with the pair of a reading, where the hit read something
 abbrev pub with_pair : Pos → Option Pos → Tally → Tally
 with_pair at None tally = tally
 with_pair at (Some saved) tally = record tally { pairs = tally.pairs ++ record { saved = saved; read = at } ∷ [] }
 
--- a hit at a place that read this, if it read: its pair stands, whether it is counted or dropped (our own choice)
+-- a hit at a place that read this, if it read: its pair stands, whether it is counted or dropped
 abbrev pub tell : ℕ → RowGrowth → Pos → List Part → Option Pos → Tally → Tally
 tell size growth at key saved tally = count size key (growth saved) (with_pair at saved tally)
 

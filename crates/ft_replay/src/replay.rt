@@ -70,7 +70,7 @@ fn new_counters(
     Ok(counters)
 }
 
-/// One event, whose place is behind all hits: the attached triggers act in order of id. Refused for
+/// One event, whose place is after all hits: the attached triggers act in order of id. Refused for
 /// memory.
 fn step(
     triggers: &BTreeMap<u32, Trigger>,

@@ -52,7 +52,7 @@ module _ (event : Traced) (p : ℕ → Bool) where
         by true is rest parts sum = let here = one_passing t.0 (hit t.1 event) true is in omega arith
         by false is rest parts sum = let here = one_passing t.0 (hit t.1 event) false is in omega arith
 
--- no trigger behind another has its id
+-- no trigger after another has its id
 none_behind : (id : ℕ) (ts : List (ℕ × Hist)) → T (map.Entries.below_all nat_cmp id ts) → length (filter (λ t. nat_eq id t.0) ts) ≡ 0
 none_behind id [] below = refl
 none_behind id (t ∷ ts) below = by (nat_eq id t.0) refl (none_behind id ts (below_rest id t ts below)) where

@@ -88,7 +88,7 @@ pub few_each_once : (keys : List (List Part)) → length (each_once keys) ≤ le
 unfolding each_once
 few_each_once keys = let all = few_once [] keys in omega (arith, all)
 
--- ---- lists one behind the other
+-- ---- lists one after the other
 
 module _ {K : Type 0} (e : K → K → Bool) where
   apart_of : (x : K) (ys : List K) → list_any (e x) ys ≡ false → AllByRecursion (λ y. e x y ≡ false) ys

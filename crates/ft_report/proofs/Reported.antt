@@ -97,7 +97,7 @@ module _ (shelves : Shelves) (acting : List Acting) where
 
   -- ---- the rows of all triggers
 
-  -- triggers behind an id have no row of it
+  -- triggers after an id have no row of it
   none_reported : (id : ℕ) (key : List Part) (ts : List (ℕ × Hist)) → T (map.Entries.below_all nat_cmp id ts) → is_reported (report_among ts) id key ≡ false
   none_reported id key [] below = refl
   none_reported id key (t ∷ ts) below =

@@ -22,23 +22,23 @@ use Rattle.ft_report.specs.Touched.{own_keys, is_reader_of}
 
 -- ---- the acts at an event
 
--- how many attached triggers read what a saver saves (our own choice)
+-- how many attached triggers read what a saver saves
 unfoldable pub readers_of : (ℕ → Role) → FinMap nat_cmp Hist → ℕ → ℕ
 readers_of role triggers saver = length (filter (λ t. is_reader_of saver (role t.0)) (map.entries triggers))
 
--- all triggers of which the event is a hit act, each under the hit's key (our own choice)
+-- all triggers of which the event is a hit act, each under the hit's key
 abbrev pub AllAct : FinMap nat_cmp Hist → Traced → List Acting → Type 0
 AllAct triggers event acting = (id : ℕ) (hist : Hist) (key : List Part) → map.get triggers id ≡ Some hist → hit hist event ≡ Some key → is_of (own_keys acting id) key ≡ true
 
 -- ---- acts and shelves that change at one place
 
--- acts are the same but at one place, where triggers act under these keys or not at all (our own choice)
+-- acts are the same but at one place, where triggers act under these keys or not at all
 pub record DifferAt (pos : Pos) (acting : List Acting) (before after : Acts) : Type 0 where
   pub elsewhere : (at : At) → (at.pos ≡ pos → ⊥) → after at ≡ before at
   pub was : (id : ℕ) (act : List Part × Traced) → before (record { pos = pos; trigger = id }) ≡ Some act → is_of (own_keys acting id) act.0 ≡ true
   pub is : (id : ℕ) (act : List Part × Traced) → after (record { pos = pos; trigger = id }) ≡ Some act → is_of (own_keys acting id) act.0 ≡ true
 
--- what is kept was right of acts, and is right of others that differ at one place (our own choice)
+-- what is kept was right of acts, and is right of others that differ at one place
 pub record ActsChange (values : ValuesBy) (pos : Pos) (acting : List Acting) (old new : Shelves) : Type 0 where
   pub before : Acts
   pub after : Acts
@@ -49,7 +49,7 @@ pub record ActsChange (values : ValuesBy) (pos : Pos) (acting : List Acting) (ol
 
 -- ---- an event that comes or goes
 
--- what is kept was right without an event, and is right with it: one came (our own choice)
+-- what is kept was right without an event, and is right with it: one came
 pub record EventCame (triggers : FinMap nat_cmp Hist) (pos : Pos) (event : Traced) (old new : Shelves) : Type 0 where
   pub events : FinMap pos_cmp Traced
   pub absent : map.get events pos ≡ None
@@ -57,7 +57,7 @@ pub record EventCame (triggers : FinMap nat_cmp Hist) (pos : Pos) (event : Trace
   pub was : IsKept (role_on old) (values_by triggers) (admits_on old) (acts_of triggers events) (kept_on old)
   pub is : IsKept (role_on old) (values_by triggers) (admits_on new) (acts_of triggers (map.insert events pos event)) (kept_on new)
 
--- what is kept was right with an event, and is right without it: one went (our own choice)
+-- what is kept was right with an event, and is right without it: one went
 pub record EventWent (triggers : FinMap nat_cmp Hist) (pos : Pos) (event : Traced) (old new : Shelves) : Type 0 where
   pub events : FinMap pos_cmp Traced
   pub present : map.get events pos ≡ Some event
@@ -65,6 +65,6 @@ pub record EventWent (triggers : FinMap nat_cmp Hist) (pos : Pos) (event : Trace
   pub was : IsKept (role_on old) (values_by triggers) (admits_on old) (acts_of triggers events) (kept_on old)
   pub is : IsKept (role_on old) (values_by triggers) (admits_on new) (acts_of triggers (map.remove events pos)) (kept_on new)
 
--- an event came or went (our own choice)
+-- an event came or went
 abbrev pub CameOrWent : FinMap nat_cmp Hist → Pos → Traced → Shelves → Shelves → Type 0
 CameOrWent triggers pos event old new = EventCame triggers pos event old new ⊎ EventWent triggers pos event old new

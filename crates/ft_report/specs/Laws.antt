@@ -26,7 +26,7 @@ use Rattle.ft_report.specs.Report.{row_on, counts_made, report_of}
 
 -- ---- acts that change at one place
 
--- no hits change but those of touched keys (our own choice)
+-- no hits change but those of touched keys
 abbrev pub OtherHitsStay : Type 0
 OtherHitsStay = (values : ValuesBy) (pos : Pos) (acting : List Acting) (old new : Shelves) → ActsChange values pos acting old new
     → (id : ℕ) (a b : Shelved) → map.get old id ≡ Some a → map.get new id ≡ Some b → AreTablesButFor (touched new acting id) a.table b.table
@@ -36,49 +36,49 @@ abbrev pub OtherRowsStay : Type 0
 OtherRowsStay = (values : ValuesBy) (pos : Pos) (acting : List Acting) (old new : Shelves) → ActsChange values pos acting old new
     → (id : ℕ) (key : List Part) → is_of (named new acting id) key ≡ false → row_on new id key ≡ row_on old id key
 
--- what came goes the same way back (our own choice)
+-- what came goes the same way back
 abbrev pub ChangesBack : Type 0
 ChangesBack = (values : ValuesBy) (pos : Pos) (acting : List Acting) (old new : Shelves) → ActsChange values pos acting old new → ActsChange values pos acting new old
 
--- the keys that are named are twice as many as those touched, or fewer (our own choice)
+-- the keys that are named are twice as many as those touched, or fewer
 abbrev pub FewNamed : Type 0
 FewNamed = (shelves : Shelves) (acting : List Acting) (id : ℕ) → length (named shelves acting id) ≤ 2 * length (touched shelves acting id)
 
--- a trigger that reads nothing has its own acts' keys touched (our own choice)
+-- a trigger that reads nothing has its own acts' keys touched
 abbrev pub OwnTouched : Type 0
 OwnTouched = (shelves : Shelves) (acting : List Acting) (id : ℕ) → ((saver : ℕ) → role_on shelves id ≡ Reads saver → ⊥) → touched shelves acting id ≡ own_keys acting id
 
--- a reader has at most as many keys touched as its saver's readers act under, and two for each of its saver's own (our own choice)
+-- a reader has at most as many keys touched as its saver's readers act under, and two for each of its saver's own
 abbrev pub ReadTouched : Type 0
 ReadTouched = (shelves : Shelves) (acting : List Acting) (id saver : ℕ) → role_on shelves id ≡ Reads saver
     → length (touched shelves acting id) ≤ length (readers_keys (role_on shelves) acting saver) + 2 * length (own_keys acting saver)
 
--- no key is named twice (our own choice)
+-- no key is named twice
 abbrev pub NamedOnce : Type 0
 NamedOnce = (shelves : Shelves) (acting : List Acting) (id : ℕ) → IsDistinct same_key (named shelves acting id)
 
--- an event that comes changes the acts at its place alone (our own choice)
+-- an event that comes changes the acts at its place alone
 abbrev pub ComingDiffers : Type 0
 ComingDiffers = (triggers : FinMap nat_cmp Hist) (events : FinMap pos_cmp Traced) (pos : Pos) (event : Traced) (acting : List Acting)
     → map.get events pos ≡ None → AllAct triggers event acting → DifferAt pos acting (acts_of triggers events) (acts_of triggers (map.insert events pos event))
 
--- and so does one that goes (our own choice)
+-- and so does one that goes
 abbrev pub GoingDiffers : Type 0
 GoingDiffers = (triggers : FinMap nat_cmp Hist) (events : FinMap pos_cmp Traced) (pos : Pos) (event : Traced) (acting : List Acting)
     → map.get events pos ≡ Some event → AllAct triggers event acting → DifferAt pos acting (acts_of triggers events) (acts_of triggers (map.remove events pos))
 
 -- ---- an event that comes or goes
 
--- the acts of an event are those of all triggers of which it is a hit (our own choice)
+-- the acts of an event are those of all triggers of which it is a hit
 abbrev pub ActingIsAll : Type 0
 ActingIsAll = (triggers : FinMap nat_cmp Hist) (event : Traced) → AllAct triggers event (acting_of triggers event)
 
--- where an event could come, and what is kept was repaired for it, it came (our own choice)
+-- where an event could come, and what is kept was repaired for it, it came
 abbrev pub RepairedCame : Type 0
 RepairedCame = (triggers : FinMap nat_cmp Hist) (lanes : Lanes) (pos : Pos) (event : Traced) (old new : Shelves)
     → EventCanCome triggers lanes pos event old → FormsStay old new → EventHasCome triggers lanes pos event old new → EventCame triggers pos event old new
 
--- and where one could go, it went (our own choice)
+-- and where one could go, it went
 abbrev pub RepairedWent : Type 0
 RepairedWent = (triggers : FinMap nat_cmp Hist) (lanes : Lanes) (pos : Pos) (event : Traced) (old new : Shelves)
     → EventCanGo triggers lanes pos event old → FormsStay old new → EventHasGone triggers lanes pos event old new → EventWent triggers pos event old new
@@ -89,34 +89,34 @@ EventRows = (triggers : FinMap nat_cmp Hist) (pos : Pos) (event : Traced) (old n
     → (is_of (named old (acting_of triggers event) id) key ≡ false) ⊎ (is_of (named new (acting_of triggers event) id) key ≡ false)
     → row_on new id key ≡ row_on old id key
 
--- at most two keys are named of a trigger that reads nothing (our own choice)
+-- at most two keys are named of a trigger that reads nothing
 abbrev pub TwoNamed : Type 0
 TwoNamed = (triggers : FinMap nat_cmp Hist) (event : Traced) (shelves : Shelves) (id : ℕ) → ((saver : ℕ) → role_on shelves id ≡ Reads saver → ⊥)
     → length (named shelves (acting_of triggers event) id) ≤ 2
 
--- of a reader at most four, and two for each trigger that reads what its saver saves, itself among them (our own choice)
+-- of a reader at most four, and two for each trigger that reads what its saver saves, itself among them
 abbrev pub ReaderNamed : Type 0
 ReaderNamed = (triggers : FinMap nat_cmp Hist) (event : Traced) (shelves : Shelves) (id saver : ℕ) → role_on shelves id ≡ Reads saver
     → length (named shelves (acting_of triggers event) id) ≤ 4 + 2 * readers_of (role_on shelves) triggers saver
 
 -- ---- the report
 
--- no row is reported twice (our own choice)
+-- no row is reported twice
 abbrev pub ReportedOnce : Type 0
 ReportedOnce = (triggers : FinMap nat_cmp Hist) (shelves : Shelves) (acting : List Acting) → IsDistinct same_row (report_of triggers shelves acting)
 
--- each row that differs is reported, of an attached trigger that counts held events, whether the report is made before the event or behind it (kernel: histogram.rst, the `hist` file)
+-- each row that differs is reported, of an attached trigger that counts held events, whether the report is made before the event or after it (kernel: histogram.rst, the `hist` file)
 abbrev pub DifferingReported : Type 0
 DifferingReported = (triggers : FinMap nat_cmp Hist) (pos : Pos) (event : Traced) (old new : Shelves) → CameOrWent triggers pos event old new
     → (id : ℕ) (hist : Hist) (key : List Part) → map.get triggers id ≡ Some hist → counts_made hist ≡ false → (row_on new id key ≡ row_on old id key → ⊥)
     → (is_reported (report_of triggers old (acting_of triggers event)) id key ≡ true) × (is_reported (report_of triggers new (acting_of triggers event)) id key ≡ true)
 
--- of a trigger that reads nothing at most two rows are reported (our own choice)
+-- of a trigger that reads nothing at most two rows are reported
 abbrev pub TwoReported : Type 0
 TwoReported = (triggers : FinMap nat_cmp Hist) (event : Traced) (shelves : Shelves) (id : ℕ) → ((saver : ℕ) → role_on shelves id ≡ Reads saver → ⊥)
     → reported_of (report_of triggers shelves (acting_of triggers event)) id ≤ 2
 
--- of a reader at most four, and two for each trigger that reads what its saver saves, itself among them (our own choice)
+-- of a reader at most four, and two for each trigger that reads what its saver saves, itself among them
 abbrev pub ReaderReported : Type 0
 ReaderReported = (triggers : FinMap nat_cmp Hist) (event : Traced) (shelves : Shelves) (id saver : ℕ) → role_on shelves id ≡ Reads saver
     → reported_of (report_of triggers shelves (acting_of triggers event)) id ≤ 4 + 2 * readers_of (role_on shelves) triggers saver

@@ -23,14 +23,14 @@ row_on shelves id key = option_and_then (λ shelf. row_at shelf.table key) (map.
 abbrev pub counts_made : Hist → Bool
 counts_made hist = same_name hist.event names.WakeupLatency
 
--- the rows of a trigger that may differ (our own choice)
+-- the rows of a trigger that may differ
 abbrev pub rows_named : Shelves → List Acting → ℕ → List Changed
 rows_named shelves acting id = list_map (λ key. record { id = id; key = key }) (named shelves acting id)
 
--- the rows that may differ of an attached trigger; of one that counts made events none is reported (our own choice)
+-- the rows that may differ of an attached trigger; of one that counts made events none is reported
 abbrev pub rows_of_one : Shelves → List Acting → ℕ → Hist → List Changed
 rows_of_one shelves acting id hist = if counts_made hist then [] else rows_named shelves acting id
 
--- the rows that may differ of all attached triggers that count held events, in order of id (our own choice)
+-- the rows that may differ of all attached triggers that count held events, in order of id
 unfoldable pub report_of : FinMap nat_cmp Hist → Shelves → List Acting → List Changed
 report_of triggers shelves acting = flat_map (λ t. rows_of_one shelves acting t.0 t.1) (map.entries triggers)

@@ -26,7 +26,7 @@ pub fn touched_rows()
 }
 
 /// A law: as one event comes or goes, and what is kept is repaired for it, each row that isn't
-/// named stays as it is, whether what was kept before is asked for names or what is kept behind it.
+/// named stays as it is, whether what was kept before is asked for names or what is kept after it.
 /// Few rows are named: two of a trigger that reads nothing, and of a reader four, and two for each
 /// trigger that reads the same variable, itself among them.
 pub fn event_rows()

@@ -17,7 +17,7 @@ use std::collections::BTreeMap;
 
 /// The rows that may differ with an event and without it, where these triggers act at it: of all
 /// attached triggers that count held events, in order of id. What is kept before the event comes or
-/// goes may be asked, or what is kept behind it. Refused for memory.
+/// goes may be asked, or what is kept after it. Refused for memory.
 #[tactic(auto, unfolding(crate::specs::Report::report_of))]
 pub fn changed_rows(
     alloc: Global,
@@ -35,7 +35,7 @@ pub fn changed_rows(
     Ok(rows)
 }
 
-/// Puts the rows of a trigger that may differ behind others; none of one that counts made events.
+/// Puts the rows of a trigger that may differ after others; none of one that counts made events.
 /// Refused for memory.
 fn put_trigger(
     alloc: Global,
@@ -62,7 +62,7 @@ fn counts_made(trigger: &Trigger) -> bool
     trigger.event() == Name::WakeupLatency
 }
 
-/// Puts the rows of some keys of a trigger behind others. Refused for memory.
+/// Puts the rows of some keys of a trigger after others. Refused for memory.
 pub fn put_rows(rows: &mut Vec<Changed>, id: u32, keys: &[Key]) -> Result<(), AllocError>
     ensures { OnOk result (rows.new.items
         ≡ rows.old.items ++ list_map (λ key. record { id = id; key = key }) keys.now) }

@@ -5,14 +5,14 @@ use Rattle.ft_keys.specs.declared.key.Part.{Part}
 use Rattle.ft_table.specs.Hits.{same_key}
 use Rattle.ft_rivals.specs.declared.changed.Changed.{Changed}
 
--- two rows are of one trigger and one key (our own choice)
+-- two rows are of one trigger and one key
 abbrev pub same_row : Changed → Changed → Bool
 same_row a b = nat_eq a.id b.id && same_key a.key b.key
 
--- whether a report has a trigger's row of a key (our own choice)
+-- whether a report has a trigger's row of a key
 abbrev pub is_reported : List Changed → ℕ → List Part → Bool
 is_reported report id key = list_any (same_row (record { id = id; key = key })) report
 
--- how many rows of a trigger a report has (our own choice)
+-- how many rows of a trigger a report has
 abbrev pub reported_of : List Changed → ℕ → ℕ
 reported_of report id = length (filter (λ row. nat_eq id row.id) report)

@@ -1,2 +1,2 @@
--- Words of private functions: keys in front of a table's last places, and the other keys behind.
+-- Words of private functions: keys in front of a table's last places, and the other keys after.
 pub mod Edge

@@ -38,7 +38,7 @@ fn count_among(table: &Table, keys: &[Key], place: usize) -> usize
     keys.iter().filter(|key| table.is_among(key, place)).count()
 }
 
-/// The keys of marks but for some keys: the first `few`, behind `passed` that are left out.
+/// The keys of marks except for some keys: the first `few`, after `passed` that are left out.
 fn other_keys(
     alloc: Global,
     marks: &[Mark],

@@ -6,13 +6,13 @@ use Rattle.ft_keys.specs.contracts.key.Part as part
 use Rattle.ft_rows.specs.Counted.{Counted}
 use Rattle.ft_rows.specs.Keyed.{KeyedText}
 
--- a row, stored as its key, its hitcount and its sums (our own choice)
+-- a row, stored as its key, its hitcount and its sums
 abbrev pub counted_code : Coded Counted
 counted_code = code_by
     (List Part × (ℕ × List ℕ)) (coded× (coded_list part.the_row.coded) (coded× coded_ℕ (coded_list coded_ℕ)))
     (λ row. (row.key, (row.hitcount, row.sums))) (λ p. record { key = p.0; hitcount = p.1.0; sums = p.1.1 }) (λ _. refl)
 
--- a row as its key and its text, stored as both (our own choice)
+-- a row as its key and its text, stored as both
 abbrev pub keyed_code : Coded KeyedText
 keyed_code =
     code_by (List Part × List ℕ) (coded× (coded_list part.the_row.coded) (coded_list coded_ℕ)) (λ row. (row.key, row.text)) (λ p. record { key = p.0; text = p.1 }) (λ _. refl)

@@ -18,15 +18,15 @@ use Rattle.ft_rows.specs.declared.row.Totals.{Totals}
 use Rattle.ft_rows.specs.Counted.{Counted}
 use Rattle.ft_rows.specs.Keyed.{KeyedText}
 
--- a number in decimal digits, with spaces in front up to 10 bytes (our own choice)
+-- a number in decimal digits, with spaces in front up to 10 bytes
 unfoldable pub right_in_10 : ℕ → List ℕ
 right_in_10 n = replicate (10 - length (decimal n)) 32 ++ decimal n
 
--- a text with spaces behind up to so many bytes (our own choice)
+-- a text with spaces after up to so many bytes
 unfoldable pub left_in : ℕ → List ℕ → List ℕ
 left_in width text = text ++ replicate (width - length text) 32
 
--- a number modulo 2 ^ 64 (our own choice)
+-- a number modulo 2 ^ 64
 abbrev pub unsigned : ℤ → ℕ
 unsigned z = cast_unsigned w64 z
 
@@ -47,16 +47,16 @@ part_text (modes.Buckets size) (Bucket first) = codes "~ " ++ decimal first ++ c
 part_text modes.Plain (Text bytes) = left_in 50 bytes
 part_text mode part = []
 
--- a part behind its field's name (our own choice)
+-- a part after its field's name
 abbrev pub named_part : KeyItem → Part → List ℕ
 named_part item part = text_of item.field ++ codes ": " ++ part_text item.mode part
 
--- parts, each behind a `, ` (our own choice)
+-- parts, each after a `, `
 abbrev pub more_parts : List KeyItem → List Part → List ℕ
 more_parts (item ∷ items) (part ∷ parts) = codes ", " ++ named_part item part ++ more_parts items parts
 more_parts items parts = []
 
--- parts with a `, ` between each two (our own choice)
+-- parts with a `, ` between each two
 abbrev pub listed_parts : List KeyItem → List Part → List ℕ
 listed_parts (item ∷ items) (part ∷ parts) = named_part item part ++ more_parts items parts
 listed_parts items parts = []
@@ -65,12 +65,12 @@ listed_parts items parts = []
 abbrev pub key_text : List KeyItem → List Part → List ℕ
 key_text items parts = codes "{ " ++ listed_parts items parts ++ codes " }"
 
--- how a value is called: by its field, or by the variable's own name, without a `$` (our own choice)
+-- how a value is called: by its field, or by the variable's own name, without a `$`
 abbrev pub title : Option Var → Item → List ℕ
 title variable (items.Num field) = text_of field
 title variable items.Own = name_of variable
 
--- the sums, each behind its title (kernel: histogram.rst, the `hist` file; the layout is our own choice)
+-- the sums, each after its title (kernel: histogram.rst, the `hist` file; the layout is our own choice)
 abbrev pub sums_text : Option Var → List Item → List ℕ → List ℕ
 sums_text variable (item ∷ items) (sum ∷ sums) = codes "  " ++ title variable item ++ codes ": " ++ right_in_10 sum ++ sums_text variable items sums
 sums_text variable items sums = []
@@ -79,11 +79,11 @@ sums_text variable items sums = []
 unfoldable pub row_text : Hist → Counted → List ℕ
 row_text hist row = key_text hist.keys row.key ++ codes " hitcount: " ++ right_in_10 row.hitcount ++ sums_text hist.variable hist.values row.sums
 
--- a row's line: its text and a line break (our own choice)
+-- a row's line: its text and a line break
 abbrev pub row_line : Hist → Counted → List ℕ
 row_line hist row = row_text hist row ++ codes "\n"
 
--- a row as its key and its text, which has no line break (our own choice)
+-- a row as its key and its text, which has no line break
 abbrev pub keyed_text : Hist → Counted → KeyedText
 keyed_text hist row = record { key = row.key; text = row_text hist row }
 

@@ -19,7 +19,7 @@ const TEXT_WIDTH: u8 = 50;
 /// How many bytes the exponent of a power takes at least.
 const POWER_WIDTH: u8 = 2;
 
-/// Adds a part of a key behind its field's name.
+/// Adds a part of a key after its field's name.
 pub(crate) fn write_named(item: KeyItem, part: Part, text: &mut Vec<u8>) -> Result<(), AllocError>
     requires { IsTrue (mode_suits (is_text item.field) item.mode) }
     ensures ok { OnOk result (text.new.items ≡ text.old.items ++ named_part item part) }
@@ -46,7 +46,7 @@ fn write_part(item: KeyItem, part: Part, text: &mut Vec<u8>) -> Result<(), Alloc
     }
 }
 
-/// Adds a power of 2, with spaces behind its exponent up to 2 bytes.
+/// Adds a power of 2, with spaces after its exponent up to 2 bytes.
 fn write_power(power: u8, text: &mut Vec<u8>) -> Result<(), AllocError>
     ensures ok { OnOk result (text.new.items
         ≡ text.old.items ++ (codes "~ 2^" ++ left_in 2 (decimal power))) }
@@ -80,7 +80,7 @@ fn bucket_end(size: u32, first: u64) -> u64
     first.saturating_add(u64::from(size - 1))
 }
 
-/// Adds a text, with spaces behind up to 50 bytes.
+/// Adds a text, with spaces after up to 50 bytes.
 fn write_text(name: &Comm, text: &mut Vec<u8>) -> Result<(), AllocError>
     ensures ok { OnOk result (text.new.items ≡ text.old.items ++ left_in 50 name.now) }
     ensures err { OnErr result (IsFront text.old.items text.new.items) }

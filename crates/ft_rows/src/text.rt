@@ -62,7 +62,7 @@ pub fn table_rows(
     Ok(keyed)
 }
 
-/// The text of a row as `write_rows` adds it, but for the line break. Refused for memory.
+/// The text of a row as `write_rows` adds it, except for the line break. Refused for memory.
 pub fn row_text(alloc: Global, trigger: &Trigger, row: &Row) -> Result<Vec<u8>, AllocError>
     requires { KeyFits trigger.now.keys row.now.key }
     ensures { IfOk result (λ text. text.items ≡ row_text trigger.now row.now) }
@@ -122,7 +122,7 @@ fn write_parts(trigger: &Trigger, key: &Key, text: &mut Vec<u8>) -> Result<(), A
     Ok(())
 }
 
-/// Adds the sums, each behind its title.
+/// Adds the sums, each after its title.
 fn write_sums(trigger: &Trigger, sums: &[u64; 3], text: &mut Vec<u8>) -> Result<(), AllocError>
     ensures ok { OnOk result (text.new.items ≡ text.old.items
         ++ sums_text trigger.now.variable trigger.now.values sums.now) }
@@ -160,7 +160,7 @@ fn write_totals(totals: Totals, text: &mut Vec<u8>) -> Result<(), AllocError>
     text.extend_from_slice(b"\n")
 }
 
-/// Adds a total behind what it is called.
+/// Adds a total after what it is called.
 fn write_total(name: &[u8], number: u64, text: &mut Vec<u8>) -> Result<(), AllocError>
     ensures ok { OnOk result (text.new.items ≡ text.old.items ++ (name.now ++ decimal number)) }
     ensures err { OnErr result (IsFront text.old.items text.new.items) }

@@ -24,7 +24,7 @@ by_words front text short some closes first seen apart =
 
 -- ---- one number
 
--- a number behind spaces is read
+-- a number after spaces is read
 number_left : (n : ℕ) → IsNumber n → number_in (drop_while is_space (decimal n)) ≡ Some n
 number_left n low = ap (λ (t : List ℕ). number_in (drop_while is_space t)) (sym (append-nil (decimal n))) ∙ ap number_in (word_opens (decimal n) [] (number_some n low) (number_word n low) ∙ append-nil (decimal n)) ∙ number_again n low
 
@@ -99,7 +99,7 @@ attach_asked names.Switch text fits short = attach_named names.Switch (codes "sc
 attach_asked names.WakeupLatency text fits short = attach_named names.WakeupLatency (codes "wakeup_latency") text (omega arith) refl refl fits.1 short
 attach_asked names.Other text fits short = absurd (fits.0 refl)
 
--- a trigger's id, and what is behind it
+-- a trigger's id, and what is after it
 filter_read : (id : ℕ) (text : List ℕ) (what : Asked) → IsNumber id → refilter_in id (drop_while is_space text) ≡ what → filter_in (decimal id ++ 32 ∷ text) ≡ what
 unfolding filter_in
 filter_read id text what low is = rw (word_first (decimal id) (32 ∷ text) (number_word id low) refl, number_again id low, word_after (decimal id) (32 ∷ text) (number_word id low)) is

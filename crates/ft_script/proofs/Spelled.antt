@@ -51,7 +51,7 @@ pub open_kept : (text : List ℕ) → Opens text → drop_while is_space text �
 open_kept [] opens = refl
 open_kept (byte ∷ rest) opens = let here = opens byte rest refl in rw here refl
 
--- read from behind, it is begun by none
+-- read from after, it is begun by none
 back_opens : (text : List ℕ) → Closes text → Opens (reverse text)
 back_opens text closes byte rest e = closes (reverse rest) byte (sym (reverse-reverse text) ∙ ap reverse e ∙ reverse-append (byte ∷ []) rest)
 
@@ -62,7 +62,7 @@ bare_kept text bare =
     ap (λ (t : List ℕ). reverse (drop_while is_space (reverse t))) (open_kept text bare.opens)
     ∙ ap reverse (open_kept (reverse text) (back_opens text bare.closes)) ∙ reverse-reverse text
 
--- a text behind another ends both
+-- a text after another ends both
 pub closes_behind : (front text : List ℕ) → 0 < length text → Closes text → Closes (front ++ text)
 closes_behind [] text some closes before byte e = closes before byte e
 closes_behind (first ∷ front) text some closes [] byte e = absurd (let none : front ++ text ≡ [] = ap (drop 1) e in omega (arith, length-append front text, ap length none))
@@ -93,22 +93,22 @@ pub word_first : (word rest : List ℕ) → list_all is_in_word word ≡ true �
 unfolding first_word
 word_first word rest all ends = rw (run_front is_in_word word rest all ends, take-append_seam word rest) refl
 
--- what is behind it
+-- what is after it
 pub word_after : (word rest : List ℕ) → list_all is_in_word word ≡ true → after_word (word ++ rest) ≡ drop_while is_space (drop_while is_in_word rest)
 unfolding after_word
 word_after word rest all = ap (drop_while is_space) (dropped is_in_word word rest all)
 
--- a text behind a space ends a word
+-- a text after a space ends a word
 pub spaced_ends : (text : List ℕ) → prefix_len is_in_word (spaced text) ≡ 0
 spaced_ends [] = refl
 spaced_ends (byte ∷ text) = refl
 
--- what is behind the word is the text
+-- what is after the word is the text
 spaced_left : (text : List ℕ) → IsBare text → drop_while is_space (drop_while is_in_word (spaced text)) ≡ text
 spaced_left [] bare = refl
 spaced_left (byte ∷ text) bare = open_kept (byte ∷ text) bare.opens
 
--- so it is behind a word
+-- so it is after a word
 pub text_after : (word text : List ℕ) → list_all is_in_word word ≡ true → IsBare text → after_word (word ++ spaced text) ≡ text
 text_after word text all bare = word_after word (spaced text) all ∙ spaced_left text bare
 
@@ -156,7 +156,7 @@ number_again n low =
     let within : nat_le n greatest_number ≡ true = le-leb _ _ low in
     rw (some, short, digits_all n small, (decimal_is_IsNumeral n small).1, within) refl
 
--- what is behind a colon
+-- what is after a colon
 colon_left : (a b : List ℕ) (byte : ℕ) → drop (length a + 1) (a ++ byte ∷ b) ≡ b
 colon_left [] b byte = refl
 colon_left (first ∷ a) b byte = let one : length (first ∷ a) + 1 ≡ suc (length a + 1) = omega arith in rw one (colon_left a b byte)

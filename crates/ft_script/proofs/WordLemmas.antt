@@ -28,7 +28,7 @@ first_at byte text None none = sym (prefix_len_is (λ b. not (b == byte)) text (
 first_at byte text (Some end) here =
     sym (prefix_len_is (λ b. not (b == byte)) text end 0 (omega (arith, here.0.high)) (λ k h. denied _ (here.0.before k (omega arith) h)) (λ h. ap not here.1))
 
--- what is before and behind the first colon is what is struck
+-- what is before and after the first colon is what is struck
 pub strike_at : (text : List ℕ) (colon : ℕ) → IsFirstByte (is_byte 58) text (Some colon)
     → struck (number_in (take colon text)) (number_in (take (length text - (colon + 1)) (drop (colon + 1) text))) ≡ strike_in text
 unfolding strike_in

@@ -16,7 +16,7 @@ use Rattle.ft_script.proofs.Spelled.{Opens, Closes}
 
 -- ---- spaces at the ends
 
--- what is behind a first byte ends as the whole
+-- what is after a first byte ends as the whole
 tail_closes : (byte : ℕ) (text : List ℕ) → Closes (byte ∷ text) → Closes text
 tail_closes byte text closes front last e = closes (byte ∷ front) last (ap (λ (t : List ℕ). byte ∷ t) e)
 
@@ -45,7 +45,7 @@ trimmed_closes text front byte e =
     let left : List ℕ = drop_while is_space (reverse (drop_while is_space text)) in
     left_opens (reverse (drop_while is_space text)) byte (reverse front) (sym (reverse-reverse left) ∙ ap reverse e ∙ reverse-append front (byte ∷ []))
 
--- what is behind a word
+-- what is after a word
 after_closes : (text : List ℕ) → Closes text → Closes (after_word text)
 unfolding after_word
 after_closes text closes = left_closes is_space (drop_while is_in_word text) (left_closes is_in_word text closes)

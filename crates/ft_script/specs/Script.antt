@@ -21,7 +21,7 @@ pub data Asked : Type 0 where
   About : Numbered → ℕ → Asked
   NoForm : Asked
 
--- the most bytes of a script line: twice those of a trace line, so that the longest one has room behind `insert`
+-- the most bytes of a script line: twice those of a trace line, so that the longest one has room after `insert`
 abbrev pub line_limit : ℕ
 line_limit = 8192
 
@@ -54,7 +54,7 @@ trimmed text = reverse (drop_while is_space (reverse (drop_while is_space text))
 unfoldable pub first_word : List ℕ → List ℕ
 first_word text = take_while is_in_word text
 
--- what follows the first word and the spaces behind it
+-- what follows the first word and the spaces after it
 unfoldable pub after_word : List ℕ → List ℕ
 after_word text = drop_while is_space (drop_while is_in_word text)
 
@@ -64,12 +64,12 @@ number_in text =
     if nat_lt 0 (length text) && nat_le (length text) most_digits && list_all is_ascii_digit text && nat_le (digits_value 10 text) greatest_number
     then Some (digits_value 10 text) else None
 
--- behind `load`: `@N`, the Nth trace file
+-- after `load`: `@N`, the Nth trace file
 unfoldable pub load_in : List ℕ → Asked
 load_in [] = NoForm
 load_in (byte ∷ digits) = if byte == 64 then option_map_or Load (number_in digits) NoForm else NoForm
 
--- behind `attach`: an event's name, and the trigger's text, which may be empty
+-- after `attach`: an event's name, and the trigger's text, which may be empty
 unfoldable pub attach_in : List ℕ → Asked
 attach_in text = option_map_or (λ name. Attach name (after_word text)) (name_called (first_word text)) NoForm
 
@@ -83,17 +83,17 @@ struck cpu None = NoForm
 struck None (Some line) = NoForm
 struck (Some cpu) (Some line) = Strike cpu line
 
--- behind `strike`: `C:L`, a CPU's number and a line's number
+-- after `strike`: `C:L`, a CPU's number and a line's number
 unfoldable pub strike_in : List ℕ → Asked
 strike_in text = struck (number_in (before_first is_colon text)) (number_in (after_first is_colon text))
 
--- behind a trigger's id: `if` and a filter's text, which may be empty, or `none` alone
+-- after a trigger's id: `if` and a filter's text, which may be empty, or `none` alone
 unfoldable pub refilter_in : ℕ → List ℕ → Asked
 refilter_in id text =
     if bytes_eq text (codes "none") then Refilter id None
     else (if bytes_eq (first_word text) (codes "if") then Refilter id (Some (after_word text)) else NoForm)
 
--- behind `filter`: a trigger's id, and its new filter or none
+-- after `filter`: a trigger's id, and its new filter or none
 unfoldable pub filter_in : List ℕ → Asked
 filter_in text = option_map_or (λ id. refilter_in id (after_word text)) (number_in (first_word text)) NoForm
 
@@ -113,7 +113,7 @@ about what None = NoForm
 about None (Some number) = NoForm
 about (Some what) (Some number) = About what number
 
--- the words of the other commands, each with how what is behind it is read
+-- the words of the other commands, each with how what is after it is read
 abbrev pub worded_forms : List (List ℕ × (List ℕ → Asked))
 worded_forms = (codes "load", load_in) ∷ (codes "strike", strike_in) ∷ (codes "attach", attach_in) ∷ (codes "filter", filter_in) ∷ []
 
@@ -123,12 +123,12 @@ worded text =
     option_map_or (λ form. form.1 (after_word text)) (find (λ form. bytes_eq (first_word text) form.0) worded_forms)
     (about (numbered_by (first_word text)) (number_in (after_word text)))
 
--- what stands behind one space, or an end
+-- what stands after one space, or an end
 abbrev pub behind_space : List ℕ → Option (List ℕ)
 behind_space [] = Some []
 behind_space (byte ∷ bytes) = if byte == 32 then Some bytes else None
 
--- the line of a trace behind `insert` and one space, byte for byte, where they begin the line; `insert` alone has the empty one
+-- the line of a trace after `insert` and one space, byte for byte, where they begin the line; `insert` alone has the empty one
 unfoldable pub inserted : List ℕ → Option (List ℕ)
 inserted line = if bytes_eq (take 6 line) (codes "insert") then behind_space (drop 6 line) else None
 

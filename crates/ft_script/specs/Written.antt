@@ -30,7 +30,7 @@ IsWritable NoForm = Unit {0}
 
 -- ---- how it is written
 
--- a text behind a space, where it isn't empty
+-- a text after a space, where it isn't empty
 abbrev pub spaced : List ℕ → List ℕ
 spaced [] = []
 spaced (byte ∷ text) = 32 ∷ byte ∷ text

@@ -10,7 +10,7 @@ use ft_text::{is_same, number_within};
 use memchr::memchr;
 
 /// The most bytes of a script line: twice those of a trace line, so that the longest one has room
-/// behind `insert`. A longer line has no form, so nobody has to keep it whole.
+/// after `insert`. A longer line has no form, so nobody has to keep it whole.
 pub const LINE_LIMIT: usize = 8192;
 
 /// The most digits of a number: as many as `u32::MAX` has.
@@ -71,7 +71,7 @@ pub fn read_command(line: &[u8]) -> Command<'_>
     }
 }
 
-/// The trace line behind `insert` and one space, where they begin the line: all its bytes as they
+/// The trace line after `insert` and one space, where they begin the line: all its bytes as they
 /// stand.
 #[tactic(auto, unfolding(crate::specs::Script::inserted))]
 fn inserted(line: &[u8]) -> Option<&[u8]>
@@ -167,7 +167,7 @@ fn trim_start(text: &[u8]) -> &[u8]
     rest
 }
 
-/// A text without the spaces behind.
+/// A text without the spaces after.
 fn trim_end(text: &[u8]) -> &[u8]
     ensures { result.now ≡ reverse (drop_while is_space (reverse text.now)) }
 {
@@ -178,7 +178,7 @@ fn trim_end(text: &[u8]) -> &[u8]
     rest
 }
 
-/// The first word of a text that no space begins, and what follows it and the spaces behind it.
+/// The first word of a text that no space begins, and what follows it and the spaces after it.
 #[tactic(auto, unfolding(crate::specs::Script::first_word, crate::specs::Script::after_word))]
 fn split_word(text: &[u8]) -> (&[u8], &[u8])
     ensures word { result.0.now ≡ first_word text.now }
@@ -195,7 +195,7 @@ fn word_len(text: &[u8]) -> usize
     memchr(b' ', text).unwrap_or(text.len())
 }
 
-/// Behind `load`: `@` and the number of a trace file.
+/// After `load`: `@` and the number of a trace file.
 #[tactic(auto, unfolding(crate::specs::Script::load_in))]
 fn load(text: &[u8]) -> Command<'_>
     ensures { asked result ≡ load_in text.now }
@@ -209,7 +209,7 @@ fn load(text: &[u8]) -> Command<'_>
     }
 }
 
-/// Behind `attach`: an event's name, and a trigger's text.
+/// After `attach`: an event's name, and a trigger's text.
 #[tactic(auto, unfolding(crate::specs::Script::attach_in))]
 fn attach(text: &[u8]) -> Command<'_>
     ensures { asked result ≡ attach_in text.now }
@@ -221,7 +221,7 @@ fn attach(text: &[u8]) -> Command<'_>
     }
 }
 
-/// Behind `strike`: a CPU's number, `:` and a line's number.
+/// After `strike`: a CPU's number, `:` and a line's number.
 #[tactic(auto, unfolding(crate::specs::Script::strike_in))]
 fn strike(text: &[u8]) -> Command<'_>
     ensures { asked result ≡ strike_in text.now }
@@ -242,7 +242,7 @@ fn struck<'a>(cpu: Option<u32>, line: Option<u32>) -> Command<'a>
     }
 }
 
-/// Behind `filter`: a trigger's id, and its new filter or none.
+/// After `filter`: a trigger's id, and its new filter or none.
 #[tactic(auto, unfolding(crate::specs::Script::filter_in))]
 fn filter(text: &[u8]) -> Command<'_>
     ensures { asked result ≡ filter_in text.now }
@@ -254,7 +254,7 @@ fn filter(text: &[u8]) -> Command<'_>
     }
 }
 
-/// Behind a trigger's id: `if` and a filter's text, or `none` alone.
+/// After a trigger's id: `if` and a filter's text, or `none` alone.
 #[tactic(auto, unfolding(crate::specs::Script::refilter_in))]
 fn refilter(id: u32, text: &[u8]) -> Command<'_>
     ensures { asked result ≡ refilter_in id text.now }

@@ -52,7 +52,7 @@ Edits after old before code number new =
     × IsWritten new.refused before number
     × (new ≡ record old { desk = new.desk; refused = new.refused })
 
--- the same of an edit that never wants memory
+-- the same of an edit that never needs memory
 unfoldable pub EditsInPlace : Result (Base × ℕ) Refused → Session → ℕ → ℕ → ℕ → Session → Type 0
 EditsInPlace after old before code number new = Edits after old before code number new × (new.refused ≢ Some Memory)
 
@@ -75,7 +75,7 @@ Inserts after old before code at new =
     EditsEvent after old code new
     × MatchOption new.refused (IsSomeAnd new.edited (λ edited. at ≡ line_layout edited.place)) (λ _. at ≡ before)
 
--- a strike never wants memory
+-- a strike never needs memory
 unfoldable pub Strikes : Result (Base × Place) Refused → Session → ℕ → Session → Type 0
 Strikes after old code new = EditsEvent after old code new × (new.refused ≢ Some Memory)
 
@@ -135,7 +135,7 @@ unfoldable pub ReadsTriggers : Result (List AttachedTrigger) Refused → Session
 ReadsTriggers expected old before code size new =
     IsRead (λ session. session.attached) expected old before code size new × (new ≡ record old { attached = new.attached; refused = new.refused })
 
--- one event at its line, exactly as expected: this never wants memory
+-- one event at its line, exactly as expected: this never needs memory
 unfoldable pub ReadsEvent : ℕ → Result Traced Refused → Session → EventLayout → ℕ → EventLayout → Session → Type 0
 ReadsEvent line expected old before code event new =
     (shown_as (held_in line) expected ≡ answer_told new.refused event)

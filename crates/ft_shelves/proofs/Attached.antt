@@ -18,7 +18,7 @@ all_map P Q f [] p = tt
 all_map P Q f (x ∷ xs) p = (f x p.0, all_map P Q f xs p.1)
 
 module _ {K X : Type 0} (R : K → K → Ordering) (total : IsTotalOrder R) where
-  -- an entry in front is not found at keys behind it
+  -- an entry in front is not found at keys after it
   behind : (e : K × X) (es found : List (K × X)) → AllByRecursion (λ q. R e.0 q ≡ Less) (keys_of es) → AllByRecursion (λ q. find R q.0 found ≡ Some q.1) es
       → AllByRecursion (λ q. find R q.0 (e ∷ found) ≡ Some q.1) es
   behind e [] found above each = tt

@@ -81,7 +81,7 @@ module _ (hits : Hits) (key : List Part) (after : Option Spot) where
   abbrev firsts : Option (Spot × List ℤ)
   firsts = first_entry (hits_after after (hits_of hits key))
 
-  -- behind the last hit of a key there is none
+  -- after the last hit of a key there is none
   pub next_none : hit_after hits key after ≡ None → (g : Spot) → is_after after g ≡ true → map.get hits (mark g key) ≡ None
   next_none is g behind = at_entry hits g key None (none_passes (is_after after) g (map.entries (hits_of hits key)) behind (no_entry key firsts is))
 
@@ -89,7 +89,7 @@ module _ (hits : Hits) (key : List Part) (after : Option Spot) where
     entry : firsts ≡ Some (hit.spot, hit.values)
     entry = one_entry key firsts hit is
 
-    -- the next hit is behind the spot
+    -- the next hit is after the spot
     pub next_behind : is_after after hit.spot ≡ true
     next_behind = first_passes (is_after after) (hit.spot, hit.values) (map.entries (hits_of hits key)) entry
 
@@ -101,7 +101,7 @@ module _ (hits : Hits) (key : List Part) (after : Option Spot) where
     pub next_first : (g : Spot) → is_after after g ≡ true → spot_cmp g hit.spot ≡ Less → map.get hits (mark g key) ≡ None
     next_first g behind less = at_entry hits g key None (none_before (is_after after) g (hit.spot, hit.values) (map.entries (hits_of hits key)) behind less (entries_sorted (hits_of hits key)) entry)
 
--- behind the next hit fewer are left
+-- after the next hit fewer are left
 pub next_fewer : (hits : Hits) (key : List Part) (place : Spot) (hit : Hit) → hit_after hits key (Some place) ≡ Some hit
     → length (hits_after (Some hit.spot) (hits_of hits key)) < length (hits_after (Some place) (hits_of hits key))
 next_fewer hits key place hit is =

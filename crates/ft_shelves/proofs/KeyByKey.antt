@@ -49,7 +49,7 @@ first_key ks i k within is = drop_more ks i k within ∙ ap (λ (x : List Part).
 -- ---- what is put key by key
 
 module _ {A V : Type 0} (listed : List Part → A → Option V) where
-  -- all keys have what is listed of them, but for some that have nothing yet
+  -- all keys have what is listed of them, except for some that have nothing yet
   abbrev pub IsPut : List (List Part) → (List Part → A → Option V) → Type 0
   IsPut rest look = (key : List Part) (a : A) → look key a ≡ cond (list_any (same_key key) rest) None (listed key a)
 
@@ -108,7 +108,7 @@ pub first_event : (es : List (Bor (Pos × Stored))) (i : ℕ) (e : Bor (Pos × S
     → events_of (drop i es) ≡ (e.now.0, held e.now.1) ∷ events_of (drop (i + 1) es)
 first_event es i e within is = ap events_of (drop_more es i e within ∙ ap (λ (x : Bor (Pos × Stored)). x ∷ drop (i + 1) es) (sym is))
 
--- ---- what is made of events one behind the other
+-- ---- what is made of events one after the other
 
 -- one more is made, and that much less is left
 pub made_more : {X : Type 0} (old new next rest all : List X) (x y : X) → new ≡ old ++ x ∷ [] → x ≡ y → next ≡ y ∷ rest → old ++ next ≡ all → new ++ rest ≡ all

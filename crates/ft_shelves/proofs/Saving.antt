@@ -37,7 +37,7 @@ is_till (Some hit) s = is_lt (spot_cmp s hit.spot)
 abbrev pub hits_left : Hits → List Part → Option Hit → ℕ
 hits_left hits key next = option_map_or (λ hit. suc (length (hits_after (Some hit.spot) (hits_of hits key)))) next 0
 
--- behind a hit fewer are left
+-- after a hit fewer are left
 pub fewer_left : (hits : Hits) (key : List Part) (hit : Hit) (next : Option Hit) → hit_after hits key (Some hit.spot) ≡ next → hits_left hits key next < hits_left hits key (Some hit)
 fewer_left hits key hit None is = omega arith
 fewer_left hits key hit (Some after) is = let less = next_fewer hits key hit.spot after is in omega (arith, less)
@@ -95,7 +95,7 @@ module _ (hits : Hits) (id : ℕ) (key : List Part) where
       till_itself None n = refl
       till_itself (Some after) n = next_behind hits key (Some hit.spot) after n
 
-      -- but those of hits behind it are not
+      -- but those of hits after it are not
       not_till : (o : Option Hit) → hit_after hits key (Some hit.spot) ≡ o → (s : Spot) → spot_cmp hit.spot s ≡ Less → is_some (map.get hits (mark s key)) ≡ true → is_till o s ≡ false
       not_till None n s more some = absurd (true≢false (sym some ∙ ap is_some (next_none hits key (Some hit.spot) n s (ap is_lt more))))
       not_till (Some after) n s more some = by (is_lt (spot_cmp s after.spot)) refl

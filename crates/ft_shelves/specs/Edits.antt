@@ -11,36 +11,36 @@ use Rattle.ft_table.specs.OneKey.{without_hit}
 use Rattle.ft_hits.specs.declared.mark.Mark.{Mark}
 use Rattle.ft_shelves.specs.Shelves.{Notes, Readings, Shelved}
 
--- what readings found, with what one found, if it found something (our own choice)
+-- what readings found, with what one found, if it found something
 abbrev pub readings_with : Readings → Pos → Option Pos → Readings
 readings_with readings at None = readings
 readings_with readings at (Some saved) = map.insert readings at saved
 
--- a shelf with one more hit, and with what it read, if it read (our own choice)
+-- a shelf with one more hit, and with what it read, if it read
 abbrev pub with_hit_on : Mark → List ℤ → Option Pos → Shelved → Shelved
 with_hit_on mark values saved shelf = record shelf { table = with_hit shelf.table mark values; readings = readings_with shelf.readings mark.spot.pos saved }
 
--- a shelf without a hit, and without what it read (our own choice)
+-- a shelf without a hit, and without what it read
 abbrev pub without_hit_on : Mark → Shelved → Shelved
 without_hit_on mark shelf = record shelf { table = without_hit shelf.table mark; readings = map.remove shelf.readings mark.spot.pos }
 
--- notes with what a reading found, where nothing is noted of it yet (our own choice)
+-- notes with what a reading found, where nothing is noted of it yet
 abbrev pub note_at : Pos → Option Pos → Notes → Notes
 note_at pos found notes = option_map_or (λ noted. notes) (map.get notes pos) (map.insert notes pos found)
 
--- a shelf whose notes, where it takes some, tell what the reading at a place found (our own choice)
+-- a shelf whose notes, where it takes some, tell what the reading at a place found
 abbrev pub with_note : Pos → Shelved → Shelved
 with_note pos shelf = record shelf { notes = option_map (note_at pos (map.get shelf.readings pos)) shelf.notes }
 
--- a shelf notes what the reading at a place found (our own choice)
+-- a shelf notes what the reading at a place found
 abbrev pub NotesReading : Pos → Shelved → Shelved → Type 0
 NotesReading pos old new = new ≡ with_note pos old
 
--- a hit goes from the shelf, and what it read (our own choice)
+-- a hit goes from the shelf, and what it read
 abbrev pub TakesHit : Mark → Shelved → Shelved → Type 0
 TakesHit mark old new = new ≡ without_hit_on mark old
 
--- the operations of one key change, and nothing else on the shelf (our own choice)
+-- the operations of one key change, and nothing else on the shelf
 pub record OpsChange (key : List Part) (edit : Ops → Ops) (old new : Shelved) : Type 0 where
   pub role : new.role ≡ old.role
   pub table : new.table ≡ old.table

@@ -37,7 +37,7 @@ followed old new id mark key ops =
     if same_key key mark.key then switched_with (is_in old key) (is_in new key) new.hits (record { pos = mark.spot.pos; trigger = id }) key ops
     else switched (is_in old key) (is_in new key) new.hits id key ops
 
--- a saver's shelf with one more hit, where each key's operations follow its table (our own choice)
+-- a saver's shelf with one more hit, where each key's operations follow its table
 pub record HitFollows (id : ℕ) (mark : Mark) (values : List ℤ) (old new : Shelved) : Type 0 where
   pub role : new.role ≡ old.role
   pub readings : new.readings ≡ old.readings
@@ -50,7 +50,7 @@ abbrev pub followed_less : Tabled → Tabled → ℕ → Mark → List Part → 
 followed_less old new id mark key ops =
     switched (is_in old key) (is_in new key) new.hits id key (if same_key key mark.key then without_op (record { pos = mark.spot.pos; trigger = id }) ops else ops)
 
--- a saver's shelf with one hit less, where each key's operations follow its table (our own choice)
+-- a saver's shelf with one hit less, where each key's operations follow its table
 pub record HitLessFollows (id : ℕ) (mark : Mark) (old new : Shelved) : Type 0 where
   pub role : new.role ≡ old.role
   pub readings : new.readings ≡ map.remove old.readings mark.spot.pos
@@ -58,16 +58,16 @@ pub record HitLessFollows (id : ℕ) (mark : Mark) (old new : Shelved) : Type 0 
   pub table : new.table ≡ without_hit old.table mark
   pub ops : (key : List Part) (q : At) → ops_of new.ops key q ≡ followed_less old.table new.table id mark key (ops_of old.ops key) q
 
--- which keys came in or went out, as hits of one key changed: whether the key itself did, and which other did, if one did (our own choice)
+-- which keys came in or went out, as hits of one key changed: whether the key itself did, and which other did, if one did
 pub record Moves : Type 0 where
   pub own : Bool
   pub other : Option (List Part)
 
--- moves, stored as their parts (our own choice)
+-- moves, stored as their parts
 abbrev pub moves_code : Coded Moves
 moves_code = code_by (Bool × Option (List Part)) (coded× coded_bool (coded_option (coded_list part.the_row.coded))) (λ m. (m.own, m.other)) (λ p. record { own = p.0; other = p.1 }) (λ _. refl)
 
--- of all keys, these came in or went out as hits of one key changed, and no others (our own choice)
+-- of all keys, these came in or went out as hits of one key changed, and no others
 pub record MovesKeys (key : List Part) (moves : Moves) (was now : Members) : Type 0 where
   pub itself : moves.own ≡ differ (was key) (now key)
   pub moved : (k : List Part) → moves.other ≡ Some k → differ (was k) (now k) ≡ true

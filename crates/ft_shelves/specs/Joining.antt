@@ -23,7 +23,7 @@ use Rattle.ft_hits.specs.declared.mark.Mark.{Mark}
 use Rattle.ft_hits.specs.declared.spot.Spot.{Spot}
 use Rattle.ft_shelves.specs.Shelves.{Shelved}
 
--- groups of events that a trigger counts, each of which has the stamp of its place (our own choice)
+-- groups of events that a trigger counts, each of which has the stamp of its place
 pub record AreGroupsOf (hist : Hist) (groups : Grouped) : Type 0 where
   pub events : FinMap pos_cmp Traced
   pub stamped : (pos : Pos) (event : Traced) → map.get events pos ≡ Some event → event.stamp ≡ pos.stamp
@@ -48,7 +48,7 @@ pub record HasGroups (hist : Hist) (groups : Grouped) (old new : Tabled) : Type 
 abbrev pub HasSaves : ℕ → Grouped → Tabled → ByKey → Type 0
 HasSaves id groups table ops = (key : List Part) (at : At) → ops_of ops key at ≡ (if is_in table key then map.get (map.from_entries {R = at_cmp} (saves_of_run id (run_of groups key))) at else None)
 
--- the hits of all groups are on a shelf, and all else on it stays (our own choice)
+-- the hits of all groups are on a shelf, and all else on it stays
 pub record HitsCome (hist : Hist) (groups : Grouped) (old new : Shelved) : Type 0 where
   pub role : new.role ≡ old.role
   pub table : HasGroups hist groups old.table new.table
@@ -56,7 +56,7 @@ pub record HitsCome (hist : Hist) (groups : Grouped) (old new : Shelved) : Type 
   pub readings : new.readings ≡ old.readings
   pub notes : new.notes ≡ old.notes
 
--- a saver's hits and saves are on its shelf, and all else on it stays (our own choice)
+-- a saver's hits and saves are on its shelf, and all else on it stays
 pub record SavingsCome (id : ℕ) (hist : Hist) (groups : Grouped) (old new : Shelved) : Type 0 where
   pub role : new.role ≡ old.role
   pub table : HasGroups hist groups old.table new.table
@@ -70,7 +70,7 @@ pub record SavingsCome (id : ℕ) (hist : Hist) (groups : Grouped) (old new : Sh
 abbrev pub found_last : List (Pos × Pos) → Pos → Option Pos
 found_last readings = update_all (eq_by_cmp pos_cmp) (λ _. None) readings
 
--- a shelf has the hits of a list for a key, and all else on it stays (our own choice)
+-- a shelf has the hits of a list for a key, and all else on it stays
 pub record RunComes (key : List Part) (run : List (Spot × List ℤ)) (old new : Shelved) : Type 0 where
   pub role : new.role ≡ old.role
   pub table : TakesRun key run old.table new.table
@@ -78,7 +78,7 @@ pub record RunComes (key : List Part) (run : List (Spot × List ℤ)) (old new :
   pub readings : new.readings ≡ old.readings
   pub notes : new.notes ≡ old.notes
 
--- a shelf has the readings of a list, and all else on it stays (our own choice)
+-- a shelf has the readings of a list, and all else on it stays
 pub record ReadingsSet (told : List (Pos × Pos)) (old new : Shelved) : Type 0 where
   pub role : new.role ≡ old.role
   pub table : new.table ≡ old.table

@@ -28,11 +28,11 @@ use Rattle.ft_pairs.specs.declared.role.Variable.{Variable}
 abbrev pub Readings : Type 0
 Readings = FinMap pos_cmp Pos
 
--- what readings had found before they changed: by the place of the reading, the place of the saving, or none (our own choice)
+-- what readings had found before they changed: by the place of the reading, the place of the saving, or none
 abbrev pub Notes : Type 0
 Notes = FinMap pos_cmp (Option Pos)
 
--- what is kept of one trigger: what it does with its variable, its hits, the operations on what it saves, what its readings found, and notes of what they had found, where notes are taken (our own choice)
+-- what is kept of one trigger: what it does with its variable, its hits, the operations on what it saves, what its readings found, and notes of what they had found, where notes are taken
 pub record Shelved : Type 0 where
   pub role : Role
   pub table : Tabled
@@ -40,24 +40,24 @@ pub record Shelved : Type 0 where
   pub readings : Readings
   pub notes : Option Notes
 
--- a shelf, stored as its parts (our own choice)
+-- a shelf, stored as its parts
 abbrev pub shelved_code : Coded Shelved
 shelved_code = code_by
     (Role × (Tabled × (ByKey × (Readings × Option Notes))))
     (coded× role.the_row.coded (coded× tabled_code (coded× by_key_code (coded× (map.code pos.the_row.coded pos.the_row.coded) (coded_option (map.code pos.the_row.coded (coded_option pos.the_row.coded)))))))
     (λ s. (s.role, (s.table, (s.ops, (s.readings, s.notes))))) (λ p. record { role = p.0; table = p.1.0; ops = p.1.1.0; readings = p.1.1.1.0; notes = p.1.1.1.1 }) (λ _. refl)
 
--- shelves by the trigger's id (our own choice)
+-- shelves by the trigger's id
 abbrev pub Shelves : Type 0
 Shelves = FinMap nat_cmp Shelved
 
 -- ---- what shelves tell
 
--- what the trigger with an id does with its variable (our own choice)
+-- what the trigger with an id does with its variable
 unfoldable pub role_on : Shelves → ℕ → Role
 role_on shelves id = option_map_or (λ shelf. shelf.role) (map.get shelves id) Plain
 
--- a trigger with this role saves (our own choice)
+-- a trigger with this role saves
 abbrev pub is_saver : Role → Bool
 is_saver Saves = true
 is_saver other = false
@@ -66,13 +66,13 @@ is_saver other = false
 unfoldable pub admits_on : Shelves → Admits
 admits_on shelves id key = option_map_or (λ shelf. is_saver shelf.role && is_in shelf.table key) (map.get shelves id) false
 
--- what is kept: what each hit adds, by trigger, spot and key; the operations on each variable; and the place of the saving that each reading found (our own choice)
+-- what is kept: what each hit adds, by trigger, spot and key; the operations on each variable; and the place of the saving that each reading found
 pub record Kept : Type 0 where
   pub hits : ℕ → Mark → Option (List ℤ)
   pub ops : Variable → Ops
   pub read : ℕ → Pos → Option Pos
 
--- what shelves keep (our own choice)
+-- what shelves keep
 unfoldable pub kept_on : Shelves → Kept
 kept_on shelves = record {
   hits = λ id mark. option_and_then (λ shelf. map.get shelf.table.hits mark) (map.get shelves id);
@@ -82,54 +82,54 @@ kept_on shelves = record {
 
 -- ---- what readings had found
 
--- what is noted of a trigger's readings, where notes are taken (our own choice)
+-- what is noted of a trigger's readings, where notes are taken
 abbrev pub notes_on : Shelves → ℕ → Option Notes
 notes_on shelves id = option_and_then (λ shelf. shelf.notes) (map.get shelves id)
 
--- what a reading had found: what is noted of it, or else what it finds (our own choice)
+-- what a reading had found: what is noted of it, or else what it finds
 abbrev pub had_found : Shelved → Pos → Option Pos
 had_found shelf pos = unwrap_or (option_and_then (λ notes. map.get notes pos) shelf.notes) (map.get shelf.readings pos)
 
--- notes are taken where they were, and by them readings had found the same (our own choice)
+-- notes are taken where they were, and by them readings had found the same
 pub record KeepsNotes (old new : Shelved) : Type 0 where
   pub taken : is_some new.notes ≡ is_some old.notes
   pub had : is_some old.notes ≡ true → (pos : Pos) → had_found new pos ≡ had_found old pos
 
 -- ---- what stays, while hits and operations change
 
--- the hits of events that triggers made stay (our own choice)
+-- the hits of events that triggers made stay
 abbrev pub MadeStay : Hits → Hits → Type 0
 MadeStay old new = (m : Mark) → IsMade m.spot → map.get new m ≡ map.get old m
 
--- a shelf keeps its role, its size, and the hits of events that triggers made; that of a reader tells what its readings had found (our own choice)
+-- a shelf keeps its role, its size, and the hits of events that triggers made; that of a reader tells what its readings had found
 pub record KeepsForm (old new : Shelved) : Type 0 where
   pub role : new.role ≡ old.role
   pub size : new.table.size ≡ old.table.size
   pub made : MadeStay old.table.hits new.table.hits
   pub notes : (saver : ℕ) → old.role ≡ Reads saver → KeepsNotes old new
 
--- a shelf stays, with its role and its size; where there is none, there is none afterwards (our own choice)
+-- a shelf stays, with its role and its size; where there is none, there is none afterwards
 abbrev pub FormStays : Option Shelved → Option Shelved → Type 0
 FormStays None new = new ≡ None
 FormStays (Some shelf) new = (after : Shelved) × ((new ≡ Some after) × KeepsForm shelf after)
 
--- each trigger keeps its shelf, with its role and its size (our own choice)
+-- each trigger keeps its shelf, with its role and its size
 abbrev pub FormsStay : Shelves → Shelves → Type 0
 FormsStay old new = (id : ℕ) → FormStays (map.get old id) (map.get new id)
 
--- no notes are taken or lost (our own choice)
+-- no notes are taken or lost
 abbrev pub NotesStay : Shelves → Shelves → Type 0
 NotesStay old new = (id : ℕ) → notes_on new id ≡ notes_on old id
 
--- a shelf is as it was, and takes notes from now on (our own choice)
+-- a shelf is as it was, and takes notes from now on
 abbrev pub TakesNotes : Shelved → Shelved → Type 0
 TakesNotes old new = new ≡ record old { notes = Some map.empty }
 
--- a shelf is as it was, and takes no notes any more (our own choice)
+-- a shelf is as it was, and takes no notes any more
 abbrev pub DropsNotes : Shelved → Shelved → Type 0
 DropsNotes old new = new ≡ record old { notes = None }
 
--- a shelf of this role and size has nothing on it, and takes no notes (our own choice)
+-- a shelf of this role and size has nothing on it, and takes no notes
 pub record IsNewShelf (wanted : Role) (size : ℕ) (shelf : Shelved) : Type 0 where
   pub role : shelf.role ≡ wanted
   pub table : shelf.table ≡ record { hits = map.empty; size = size }
@@ -137,11 +137,11 @@ pub record IsNewShelf (wanted : Role) (size : ℕ) (shelf : Shelved) : Type 0 wh
   pub readings : shelf.readings ≡ map.empty
   pub notes : shelf.notes ≡ None
 
--- a trigger has a new shelf, and the others keep theirs (our own choice)
+-- a trigger has a new shelf, and the others keep theirs
 abbrev pub AddsShelf : ℕ → Role → ℕ → Shelves → Shelves → Type 0
 AddsShelf id wanted size old new = (shelf : Shelved) × ((new ≡ map.insert old id shelf) × IsNewShelf wanted size shelf)
 
--- one shelf changes so, if there is one, and the others stay (our own choice)
+-- one shelf changes so, if there is one, and the others stay
 pub record ChangesShelf (id : ℕ) (Change : Shelved → Shelved → Type 0) (old new : Shelves) : Type 0 where
   pub others : (i : ℕ) → (i ≡ id → ⊥) → map.get new i ≡ map.get old i
   pub none : map.get old id ≡ None → map.get new id ≡ None

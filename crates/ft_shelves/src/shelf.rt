@@ -146,7 +146,7 @@ impl Shelf {
         self.pairs.source(key, at)
     }
 
-    /// The first operation of a key behind a place, or its first of all.
+    /// The first operation of a key after a place, or its first of all.
     pub fn next_op(&self, key: &Key, after: Option<At>) -> Option<(At, Op)>
         ensures next { IsNext (ops_of self.now.ops key.now) after result }
         ensures fewer { IfSome result (λ next.

@@ -1,4 +1,4 @@
--- A hit behind all others.
+-- A hit after all others.
 use Rattle.std.proofs.Common.{◌≡◌, ℕ, zero, suc, ◌<◌, ◌≤◌, Bool, true, false, cond, List, [], ◌∷◌, ◌++◌, length, get_or, take, map as list_map, refl, sym, ap, subst, ◌∙◌, arith, nat_lt, Some, None, Option, IsSome, inl, inr, length-append}
 use Rattle.std.specs.Prelude.{ℤ, if◌then◌else◌, is_some}
 use Rattle.std.specs.List.{insert, list_any}
@@ -57,14 +57,14 @@ first_place-insert hits m v = ap (λ (l : FinMap spot_cmp (List ℤ)). least_key
 some_has : {X : Type 0} (o : Option X) (x : X) → o ≡ Some x → IsSome o
 some_has o x is = ap is_some is
 
--- a hit behind its key's first leaves the order
+-- a hit after its key's first leaves the order
 pub order-behind : (hits : Hits) (m : Mark) (v : List ℤ) (f : Spot) → first_place hits m.key ≡ Some f → spot_cmp f m.spot ≡ Less → order_of (map.insert hits m v) ≡ order_of hits
 order-behind hits m v f is less =
     let turned : spot_cmp m.spot f ≡ Greater = spot_cmp_total.antisymm m.spot f ∙ ap ordering_reverse less in
     let first : first_place (map.insert hits m v) m.key ≡ Some f = first_place-insert hits m v ∙ first-later m.spot f v (map.entries (hits_of hits m.key)) is turned in
     order-some (map.insert hits m v) m.key f first ∙ order_before-beside hits (map.insert hits m v) m.key (Some f) (insert-beside hits m v) ∙ sym (order-some hits m.key f is)
 
--- so does a known key's hit behind all others
+-- so does a known key's hit after all others
 pub order-known : (hits : Hits) (m : Mark) (v : List ℤ) (f : Spot) → first_place hits m.key ≡ Some f → AreBefore hits m → order_of (map.insert hits m v) ≡ order_of hits
 order-known hits m v f is before =
     let at = first_is_hit hits m.key f is in
@@ -77,7 +77,7 @@ first_hits-hit hits q some = of (is_first hits q) (ap is_some (sym (get-first_hi
   of true h = h
   of false h = cc
 
--- a new key's hit behind all others comes last
+-- a new key's hit after all others comes last
 pub order-new : (hits : Hits) (m : Mark) (v : List ℤ) → first_place hits m.key ≡ None → AreBefore hits m → order_of (map.insert hits m v) ≡ order_of hits ++ m ∷ []
 order-new hits m v none before =
     let after : Hits = map.insert hits m v in

@@ -98,7 +98,7 @@ more hits m has q b same =
 pub counts-more : (hits : Hits) (m : Mark) → map.contains_key hits m ≡ true → hitcount hits ≡ with_more (hitcount (map.remove hits m)) m.key
 counts-more hits m has = λ i q. more hits m has q (same_key q m.key) refl i
 
--- ---- the order, but for one key
+-- ---- the order, except for one key
 
 pub order-before : (hits : Hits) (key : List Part) (o : Option Spot) → first_place hits key ≡ o → order_of hits ≡ order_before hits key o
 order-before hits key None is = order-none hits key is

@@ -1,4 +1,4 @@
--- What lies behind a size in a list that is edited.
+-- What lies after a size in a list that is edited.
 use Rattle.std.proofs.Common.{◌≡◌, ℕ, zero, suc, ◌+◌, ◌<◌, ◌≤◌, List, [], ◌∷◌, length, get_or, drop, refl, arith}
 use Rattle.std.specs.List.{insert, remove, sum_by}
 use Rattle.std.proofs.lemmas.List.Sums.{sum_by-cons, sum_by-insert, sum_by-remove, sum_by-take-drop}
@@ -31,11 +31,11 @@ module _ {X : Type 0} where
     sum-drop-remove [] (suc s) (suc i) d le within = absurd (omega arith)
     sum-drop-remove (y ∷ ys) (suc s) (suc i) d le within = sum-drop-remove ys s i d (omega arith) (omega arith)
 
-    -- what is behind the size is a part of the whole
+    -- what is after the size is a part of the whole
     pub sum-drop-le : (xs : List X) (s : ℕ) → sum_by f (drop s xs) ≤ sum_by f xs
     sum-drop-le xs s = omega (arith, sum_by-take-drop f xs s)
 
-    -- behind a size that the list doesn't pass is nothing
+    -- after a size that the list doesn't pass is nothing
     pub sum-drop-all : (xs : List X) (s : ℕ) → length xs ≤ s → sum_by f (drop s xs) ≡ 0
     sum-drop-all [] zero le = refl
     sum-drop-all [] (suc s) le = refl
@@ -55,7 +55,7 @@ module _ {X : Type 0} where
     all_behind [] (suc s) same = refl
     all_behind (x ∷ xs) (suc s) same = all_behind xs s (λ j d lt. same (suc j) d (omega arith))
 
-    -- one item counts for one more: before the size, and behind it
+    -- one item counts for one more: before the size, and after it
     pub one-more-before : (xs : List X) (s i : ℕ) → i < s → ((j : ℕ) (d : X) → j < length xs → (j ≡ i → ⊥) → g (get_or xs j d) ≡ f (get_or xs j d)) → sum_by g (drop s xs) ≡ sum_by f (drop s xs)
     one-more-before [] (suc s) i lt same = refl
     one-more-before xs zero i lt same = absurd (omega arith)

@@ -1,4 +1,4 @@
--- What a hit behind all others does to the keys in a table, their rows and the totals.
+-- What a hit after all others does to the keys in a table, their rows and the totals.
 use Rattle.std.proofs.Common.{◌≡◌, ℕ, ◌+◌, ◌%◌, ◌^◌, Bool, true, false, cond, List, [], ◌∷◌, ◌++◌, length, refl, sym, ap, subst, ◌∙◌, arith, Some, None, Option, unwrap_or, length-append}
 use Rattle.std.specs.Prelude.{ℤ, ◌||◌, ◌&&◌, if◌then◌else◌, is_some}
 use Rattle.std.specs.List.{list_any, sum_by}

@@ -15,7 +15,7 @@ use Rattle.ft_table.proofs.Tallies.{apart_after}
 abbrev key_of : Mark → List Part
 key_of m = m.key
 
--- the first key behind some marks is the key of the mark there
+-- the first key after some marks is the key of the mark there
 front : (ms : List Mark) (s : ℕ) (key : List Part) → slice_get (list_map key_of (drop s ms)) 0 ≡ Some key → (s < length ms) × ((d : Mark) → (get_or ms s d).key ≡ key)
 front [] zero key is = absurd (false≢true (ap is_some is))
 front [] (suc s) key is = absurd (false≢true (ap is_some is))

@@ -48,7 +48,7 @@ module _ {K : Type 0} {R : K → K → Ordering} (total : IsTotalOrder R) where
   turned : (a b : K) → R a b ≡ Greater → R b a ≡ Less
   turned a b h = total.antisymm b a ∙ ap ordering_reverse h
 
-  -- the rank among the keys behind the first
+  -- the rank among the keys after the first
   pub next_rank : (x : K) (ks : List K) (k : K) (i : ℕ) → IsRank R (x ∷ ks) k (suc i) → IsRank R ks k i
   next_rank x ks k i h = record {
     within = let w = h.within in omega arith;
@@ -115,11 +115,11 @@ module _ {K : Type 0} {R : K → K → Ordering} (total : IsTotalOrder R) where
         above = λ j d le lt less. let greater : R (get_or ks j d) k ≡ Greater = p.1 j d le lt in cc;
       }
 
--- behind all stands what all are below
+-- after all stands what all are below
 pub rank-end : {K : Type 0} (R : K → K → Ordering) (ks : List K) (k : K) → ((j : ℕ) (d : K) → j < length ks → R (get_or ks j d) k ≡ Less) → IsRank R ks k (length ks)
 rank-end R ks k all = record { within = omega arith; below = λ j d lt. all j d lt; above = λ j d le lt. absurd (omega arith) }
 
--- and behind a list in order what its last item is below
+-- and after a list in order what its last item is below
 pub rank-behind : {K : Type 0} {R : K → K → Ordering} → IsTotalOrder R → (ks : List K) (k last : K) → Rises R ks → slice_get ks (length ks - 1) ≡ Some last → R last k ≡ Less → IsRank R ks k (length ks)
 rank-behind {R = R} total ks k last rises is less =
     let n : ℕ = length ks - 1 in
@@ -130,7 +130,7 @@ rank-behind {R = R} total ks k last rises is less =
     ])
 
 module _ {K X : Type 0} (R : K → K → Ordering) where
-  -- the keys behind a key are above it
+  -- the keys after a key are above it
   below_at : (k : K) (es : List (K × X)) → T (map.Entries.below_all R k es) → (j : ℕ) (d : K) → j < length (keys_of es) → R k (get_or (keys_of es) j d) ≡ Less
   below_at k [] h j d lt = absurd (omega arith)
   below_at k (e ∷ es) h zero d lt = is_less _ (and_left _ _ h)

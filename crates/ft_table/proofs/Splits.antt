@@ -42,7 +42,7 @@ module _ (count : List Part → ℕ) where
       let old_fits = h.fits in
       record { behind = omega arith; whole = omega arith; fits = omega arith }
 
-  -- and behind them
+  -- and after them
   pub enters-behind : (size rank : ℕ) (order : List Mark) (m : Mark) (hits dropped : ℕ) → size ≤ rank → rank ≤ length order → IsSplit count size order hits dropped → hits + dropped + count m.key < 2 ^ 64
       → IsSplit count size (insert order rank m) hits (dropped + count m.key)
   enters-behind size rank order m hits dropped le within h few =
@@ -80,7 +80,7 @@ module _ (count : List Part → ℕ) where
       let old_fits = h.fits in
       (omega arith, record { behind = omega arith; whole = omega arith; fits = omega arith })
 
-  -- and behind them
+  -- and after them
   pub leaves-behind : (size rank : ℕ) (order : List Mark) (c : Mark) (hits dropped : ℕ) → size ≤ rank → rank < length order → IsSplit count size order hits dropped
       → (count (get_or order rank c).key ≤ dropped) × IsSplit count size (remove order rank) hits (dropped - count (get_or order rank c).key)
   leaves-behind size rank order c hits dropped le within h =

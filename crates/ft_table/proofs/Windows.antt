@@ -1,4 +1,4 @@
--- Which keys are among the first of the order, but for one key.
+-- Which keys are among the first of the order, except for one key.
 use Rattle.std.proofs.Common.{◌≡◌, ℕ, zero, suc, ◌-◌, ◌<◌, ◌≤◌, Bool, false, List, [], ◌∷◌, length, get_or, take, drop, map as list_map, refl, sym, ap, ◌∙◌, arith, Some, None, Option, inl, inr}
 use Rattle.std.specs.Prelude.{◌||◌, slice_get}
 use Rattle.std.specs.List.{insert, list_any}
@@ -61,7 +61,7 @@ module _ {X Y : Type 0} (f : X → Y) (p : Y → Bool) where
 
 -- ---- places
 
--- what isn't behind another stands no further behind
+-- what isn't after another stands no further on
 pub rank-le : (ks : List Mark) (a b : Mark) (i j : ℕ) → IsRank mark_cmp ks a i → IsRank mark_cmp ks b j → (mark_cmp b a ≡ Less → ⊥) → i ≤ j
 rank-le ks a b i j at there apart = elim (cases_lt j i) [
   | inr le ↦ le
@@ -76,7 +76,7 @@ rank-le ks a b i j at there apart = elim (cases_lt j i) [
       ] refl)
 ]
 
--- ---- the keys in a table, but for one key
+-- ---- the keys in a table, except for one key
 
 abbrev pub key_of : Mark → List Part
 key_of m = m.key
@@ -92,7 +92,7 @@ module _ (hits : Hits) (key q : List Part) (apart : same_key q key ≡ false) (t
   pub order-at : (p : Spot) → (i : ℕ) × (IsRank mark_cmp rest (mark p key) i × (order_with hits (mark p key) ≡ insert rest i (mark p key)))
   order-at p = let at = rank-keys mark_cmp_total (others hits key) (mark p key) in (at.0, (at.1, order-enter hits (mark p key) at.0 at.1))
 
-  -- the one behind is q's not
+  -- the one after is q's not
   abbrev pub NotAt : Type 0
   NotAt = (d : Mark) → t < length rest → same_key q (get_or rest t d).key ≡ false
 
@@ -127,7 +127,7 @@ module _ (hits : Hits) (key q : List Part) (apart : same_key q key ≡ false) (t
     | inr out ↦ stands-in b (omega arith) ∙ sym (stands-in a out)
   ]
 
-  -- one that goes, or goes to stand behind
+  -- one that goes, or goes to stand after
   pub stands-went : (a : Spot) → ((order-at a).0 ≤ t → NotAt) → stands None ≡ stands (Some a)
   stands-went a not_at = elim (cases_lt t (order-at a).0) [
     | inl lt ↦ sym (stands-out a lt)

@@ -12,16 +12,16 @@ use Rattle.ft_hits.specs.Hits.{Hits, same_key, hitcount}
 use Rattle.ft_table.specs.Tabled.{Tabled, first_hits, is_in}
 use Rattle.ft_table.specs.Rows.{totals_of}
 
--- a mark is that of its key's first hit: a hit stands there, and none of its key before (our own choice)
+-- a mark is that of its key's first hit: a hit stands there, and none of its key before
 pub record IsFirstHit (hits : Hits) (m : Mark) : Type 0 where
   pub hit : IsSome (map.get hits m)
   pub least : (p : Spot) → IsSome (map.get hits (record m { spot = p })) → spot_cmp p m.spot ≡ Less → ⊥
 
--- the first hits are these (our own choice)
+-- the first hits are these
 abbrev pub FirstsAreFirst : Type 0
 FirstsAreFirst = (hits : Hits) (m : Mark) → IsSome (map.get (first_hits hits) m) ↔ IsFirstHit hits m
 
--- the first hits of other keys before a mark, one for each of these keys (our own choice)
+-- the first hits of other keys before a mark, one for each of these keys
 abbrev pub earlier_firsts : Hits → Mark → Hits
 earlier_firsts hits m = map.retain_keys (first_hits hits) (λ first. is_lt (mark_cmp first m))
 

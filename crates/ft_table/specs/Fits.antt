@@ -9,14 +9,14 @@ use Rattle.ft_table.specs.OneKey.{without_hit}
 use Rattle.ft_table.specs.Rows.{AllFit}
 use Rattle.ft_table.specs.Tabled.{Tabled}
 
--- without hits all keys fit (our own choice)
+-- without hits all keys fit
 abbrev pub NoneFits : Type 0
 NoneFits = (size : ℕ) (hist : Hist) → AllFit (record { hits = map.empty; size = size }) hist
 
--- all keys fit as before, where a hit comes whose key fits (our own choice)
+-- all keys fit as before, where a hit comes whose key fits
 abbrev pub OneMoreFits : Type 0
 OneMoreFits = (table : Tabled) (hist : Hist) (m : Mark) (v : List ℤ) → AllFit table hist → KeyFits hist.keys m.key → AllFit (with_hit table m v) hist
 
--- all keys fit as before, where a hit goes (our own choice)
+-- all keys fit as before, where a hit goes
 abbrev pub OneLessFits : Type 0
 OneLessFits = (table : Tabled) (hist : Hist) (m : Mark) → AllFit table hist → AllFit (without_hit table m) hist

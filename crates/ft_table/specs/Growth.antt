@@ -1,4 +1,4 @@
--- A hit behind all others: what replaying events in order does, hit by hit.
+-- A hit after all others: what replaying events in order does, hit by hit.
 use Rattle.std.specs.Prelude.{◌≡◌, ℕ, ◌+◌, ◌%◌, ◌^◌, ℤ, List, [], ◌∷◌, ◌++◌, Some, None, length, Bool, ◌||◌, ◌&&◌, nat_lt, if◌then◌else◌, IsSome, unwrap_or, slice_index_or}
 use Rattle.std.specs.declared.cmp.Ordering.TheVariants.{Less}
 use Rattle.std.specs.FinMap as map
@@ -10,11 +10,11 @@ use Rattle.ft_hits.specs.Hits.{Hits, same_key, unsigned_at}
 use Rattle.ft_table.specs.Tabled.{Tabled, keys_in, is_in}
 use Rattle.ft_table.specs.Rows.{row_at, totals_of}
 
--- all hits stand before a mark (our own choice)
+-- all hits stand before a mark
 abbrev pub AreBefore : Hits → Mark → Type 0
 AreBefore hits m = (q : Mark) → IsSome (map.get hits q) → mark_cmp q m ≡ Less
 
--- a table with one more hit (our own choice)
+-- a table with one more hit
 abbrev pub with_hit : Tabled → Mark → List ℤ → Tabled
 with_hit table m v = record table { hits = map.insert table.hits m v }
 
@@ -26,7 +26,7 @@ has_room table = nat_lt (length (keys_in table)) table.size
 abbrev pub is_counted : Tabled → List Part → Bool
 is_counted table key = is_in table key || has_room table
 
--- a key's row before its first hit (our own choice)
+-- a key's row before its first hit
 abbrev pub empty_row : List Part → Counted
 empty_row key = record { key = key; hitcount = 0; sums = 0 ∷ 0 ∷ 0 ∷ [] }
 
@@ -38,7 +38,7 @@ added j sums v = (slice_index_or sums j 0 + unsigned_at j v) % 2 ^ 64
 abbrev pub grown : List ℤ → Counted → Counted
 grown v row = record row { hitcount = row.hitcount + 1; sums = added 0 row.sums v ∷ added 1 row.sums v ∷ added 2 row.sums v ∷ [] }
 
--- it comes behind all others, where none stands (our own choice)
+-- it comes after all others, where none stands
 pub record ComesLast (table : Tabled) (m : Mark) : Type 0 where
   pub absent : map.get table.hits m ≡ None
   pub last : AreBefore table.hits m

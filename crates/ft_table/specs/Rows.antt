@@ -31,7 +31,7 @@ rows_of table sort = in_order sort (list_map (row_of table.hits) (keys_in table)
 abbrev pub totals_of : Tabled → Totals
 totals_of table = record { hits = sum_by (hitcount table.hits) (keys_in table); entries = length (keys_in table); dropped = sum_by (hitcount table.hits) (keys_out table) }
 
--- the key of each hit fits the trigger's key items (our own choice)
+-- the key of each hit fits the trigger's key items
 abbrev pub AllFit : Tabled → Hist → Type 0
 AllFit table hist = (m : Mark) → IsSome (map.get table.hits m) → KeyFits hist.keys m.key
 

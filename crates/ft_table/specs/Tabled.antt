@@ -9,15 +9,15 @@ use Rattle.ft_keys.specs.declared.key.Part.{Part}
 use Rattle.ft_hits.specs.declared.mark.Mark.{Mark}
 use Rattle.ft_hits.specs.Hits.{Hits, same_key, first_place}
 
--- whether a hit is the first of its key (our own choice)
+-- whether a hit is the first of its key
 abbrev pub is_first : Hits → Mark → Bool
 is_first hits m = option_map_or (eq_by_cmp spot_cmp m.spot) (first_place hits m.key) false
 
--- the first hits of all keys (our own choice)
+-- the first hits of all keys
 unfoldable pub first_hits : Hits → Hits
 first_hits hits = map.retain_keys hits (is_first hits)
 
--- where they stand, in order (our own choice)
+-- where they stand, in order
 abbrev pub order_of : Hits → List Mark
 order_of hits = map.keys (first_hits hits)
 
@@ -42,6 +42,6 @@ is_in table key = list_any (same_key key) (keys_in table)
 abbrev pub last_in : Tabled → Option (List Part)
 last_in table = slice_get (keys_in table) (length (keys_in table) - 1)
 
--- the key outside whose first hit is first (our own choice)
+-- the key outside whose first hit is first
 abbrev pub first_out : Tabled → Option (List Part)
 first_out table = slice_get (keys_out table) 0

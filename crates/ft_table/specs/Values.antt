@@ -18,7 +18,7 @@ own_value at (Some saved) = whole (at.stamp - saved.stamp)
 abbrev pub values_at : Hist → Pos → Traced → Option Pos → List ℤ
 values_at hist at event saved = values_of hist event (own_value at saved)
 
--- what hits add to sums, by the trigger's id (our own choice)
+-- what hits add to sums, by the trigger's id
 abbrev pub ValuesBy : Type 0
 ValuesBy = ℕ → Pos → Traced → Option Pos → List ℤ
 

@@ -24,7 +24,7 @@ pub fn all_hits()
     ensures whole { WholeCount }
 {}
 
-/// A law: a hit behind all others is counted just where its key is in the table or the table has
+/// A law: a hit after all others is counted just where its key is in the table or the table has
 /// fewer keys than its size. Its key then comes last into the table, if it isn't in, and its row
 /// and the totals have one hit more; else the dropped hits are one more. All else stays.
 pub fn one_more_hit()

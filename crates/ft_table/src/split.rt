@@ -274,7 +274,7 @@ pub(crate) fn add_hit(
     if split.hits == u64::MAX - split.dropped {
         return Err(AllocError);
     }
-    // A hit behind its key's first leaves the order as it is.
+    // A hit after its key's first leaves the order as it is.
     match put_behind(alloc, by_key, hit)? {
         Some(first) => {
             count_up(order, split, by_key, size, first, &hit.key);

@@ -17,7 +17,7 @@ pub fn write_decimal(number: u64, text: &mut Vec<u8>) -> Result<(), AllocError>
     text.extend_from_slice(buffer.format(number).as_bytes())
 }
 
-/// Adds a number in decimal digits, behind a `-` where it is negative.
+/// Adds a number in decimal digits, after a `-` where it is negative.
 #[inline]
 pub fn write_signed(number: i64, text: &mut Vec<u8>) -> Result<(), AllocError>
     ensures ok { OnOk result (text.new.items ≡ text.old.items ++ signed_decimal number) }
@@ -27,7 +27,7 @@ pub fn write_signed(number: i64, text: &mut Vec<u8>) -> Result<(), AllocError>
     text.extend_from_slice(digits.format(number).as_bytes())
 }
 
-/// Adds a number in decimal digits, behind as many of the byte as fill a column of this width with
+/// Adds a number in decimal digits, after as many of the byte as fill a column of this width with
 /// it. A longer number stands as it is.
 pub fn write_right(number: u64, width: u8, fill: u8, text: &mut Vec<u8>) -> Result<(), AllocError>
     ensures ok { OnOk result (text.new.items ≡ text.old.items

@@ -6,7 +6,7 @@ use Rattle.std.specs.Prelude.{◌==◌}
 use Rattle.std.specs.List.{prefix_len}
 use Rattle.ft_tokens.specs.Tokens.{cut_at}
 
--- the byte stands behind the front, or nowhere
+-- the byte stands after the front, or nowhere
 pub cut_at-some : (mark : ℕ) (text : List ℕ) (n : ℕ) → n ≡ prefix_len (λ byte. not (byte == mark)) text → n ≤ length text → (n ≡ length text → ⊥)
     → cut_at mark text ≡ Some (take n text, drop (n + 1) text)
 cut_at-some mark text n is within before =

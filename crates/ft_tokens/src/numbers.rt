@@ -36,7 +36,7 @@ fn word_len(text: &[u8]) -> usize
     }
 }
 
-/// The number that the text begins with, and what is behind it.
+/// The number that the text begins with, and what is after it.
 #[tactic(auto, unfolding(crate::specs::Tokens::number_at))]
 pub fn number_at(text: &[u8]) -> Option<(Number, &[u8])>
     ensures { option_map (λ x. (x.0, x.1.now)) result

@@ -50,7 +50,7 @@ pub(crate) fn front_len(text: &[u8], class: Class) -> usize
     text.len()
 }
 
-/// The text behind the spaces and tabs that it begins with.
+/// The text after the spaces and tabs that it begins with.
 pub fn skip(text: &[u8]) -> &[u8]
     ensures value { result.now ≡ skip text.now }
     ensures within { length result.now ≤ length text.now }
@@ -65,7 +65,7 @@ fn begins_name(byte: u8) -> bool
     byte.is_ascii_alphabetic() || byte == b'_'
 }
 
-/// The name that the text begins with, and what is behind it.
+/// The name that the text begins with, and what is after it.
 #[tactic(auto, unfolding(crate::specs::Tokens::name_at))]
 pub fn name_at(text: &[u8]) -> Option<(&[u8], &[u8])>
     ensures { option_map (λ x. (x.0.now, x.1.now)) result ≡ name_at text.now }
@@ -83,7 +83,7 @@ pub fn is_quote(byte: u8) -> bool
     byte == b'"' || byte == b'\''
 }
 
-/// The text in the quotes that the text begins with, and what is behind the closing one.
+/// The text in the quotes that the text begins with, and what is after the closing one.
 #[tactic(auto, unfolding(crate::specs::Tokens::quoted_at))]
 pub fn quoted_at(text: &[u8]) -> Option<(&[u8], &[u8])>
     ensures { option_map (λ x. (x.0.now, x.1.now)) result ≡ quoted_at text.now }
@@ -94,7 +94,7 @@ pub fn quoted_at(text: &[u8]) -> Option<(&[u8], &[u8])>
     }
 }
 
-/// What stands before and behind the first such byte.
+/// What stands before and after the first such byte.
 fn cut_at(text: &[u8], mark: u8) -> Option<(&[u8], &[u8])>
     ensures { option_map (λ x. (x.0.now, x.1.now)) result ≡ cut_at mark text.now }
 {

@@ -122,7 +122,7 @@ action_spelled event part words action h m =
     ∙ ap (λ (t : List ℕ). (codes "onmatch(sched." ++ unwrap_or (name_text action.onmatch.event) []) ++ ((((codes ").wakeup_latency($" ++ action.own) ++ (codes "," ++ t)) ++ (codes "," ++ words.prio)) ++ codes ")")) m.pid
     ∙ ap (λ (t : List ℕ). (codes "onmatch(sched." ++ unwrap_or (name_text action.onmatch.event) []) ++ ((((codes ").wakeup_latency($" ++ action.own) ++ (codes "," ++ text_of action.onmatch.pid)) ++ (codes "," ++ t)) ++ codes ")")) m.prio
 
--- texts that can stand in a part, one behind the other
+-- texts that can stand in a part, one after the other
 inner_both : (a b : List ℕ) → list_all is_inner a ≡ true → list_all is_inner b ≡ true → list_all is_inner (a ++ b) ≡ true
 inner_both a b h k = list_all-append is_inner a b ∙ and_from _ _ h k
 

@@ -19,7 +19,7 @@ use Rattle.ft_trigger.proofs.Sorted.{SortFits, sort_steps}
 use Rattle.ft_trigger.proofs.Valued.{ValueFits, value_steps}
 use Rattle.ft_trigger.proofs.Variables.{VarFits, var_fits}
 
--- a list with an item, each of which can be read behind those before it
+-- a list with an item, each of which can be read after those before it
 pub record Listed {A : Type 0} (step : List A → A → Type 0) (list : List A) : Type 0 where
   pub first : A
   pub more : List A

@@ -40,7 +40,7 @@ pub record Edged (text : List ℕ) : Type 0 where
   pub opens : Opens text
   pub closes : Closes text
 
--- more may stand behind
+-- more may stand after
 opens_first : (a b : List ℕ) → Opens a → Opens (a ++ b)
 opens_first a b h = record { byte = h.byte; rest = h.rest ++ b; is = ap (λ (t : List ℕ). t ++ b) h.is; seen = h.seen }
 
@@ -168,7 +168,7 @@ abbrev ReadEdged : Read Tree → Type 0
 ReadEdged (Found tree rest) = Edged (canonical tree)
 ReadEdged (Stop fault) = Unit {0}
 
--- a text with operands behind it keeps such ends
+-- a text with operands after it keeps such ends
 abbrev MoreEdged : Joint → Read Trees → Type 0
 MoreEdged joint (Found trees rest) = (front : List ℕ) → Edged front → Edged (front ++ more_text joint trees)
 MoreEdged joint (Stop fault) = Unit {0}

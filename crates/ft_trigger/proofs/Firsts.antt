@@ -88,12 +88,12 @@ cut_at separator (byte ∷ whole) = from (byte == separator) refl (cut_at separa
 -- ---- readings
 
 module _ {A : Type 0} (r : Reading A) where
-  -- pieces, one behind the other
+  -- pieces, one after the other
   walk : A → List Piece → Result A TriggerFault
   walk read [] = Ok read
   walk read (piece ∷ pieces) = r.adds read piece >>= (λ more. walk more pieces)
 
-  -- where texts behind others begin
+  -- where texts after others begin
   abbrev place_behind : List (List ℕ) → ℕ
   place_behind front = r.place + length (in_front r.separator front)
 
@@ -103,7 +103,7 @@ module _ {A : Type 0} (r : Reading A) where
   front_more (first ∷ front) text =
       omega (arith, front_more front text, length-append first (r.separator ∷ in_front r.separator (front ++ text ∷ [])), length-append first (r.separator ∷ in_front r.separator front))
 
-  -- what is left is read behind what has been read
+  -- what is left is read after what has been read
   reads_from : (rest front : List (List ℕ)) (read : A) (answer : Result A TriggerFault) → AreRead r front read → walk read (placed (place_behind front) rest) ≡ answer → ReadAs r (front ++ rest) answer
   unfolding walk placed
   reads_from [] front read (Ok done) before is = let same : read ≡ done = cc in subst (λ (a : A). AreRead r (front ++ []) a) same (subst (λ (l : List (List ℕ)). AreRead r l read) (sym (append-nil front)) before)
@@ -144,7 +144,7 @@ module _ {A : Type 0} (r : Reading A) where
 
 -- ---- parts
 
--- parts are read one behind the other
+-- parts are read one after the other
 parts_walk : (event : Name) (parts : List Piece) (draft : Draft) → walk (of_parts event) draft parts ≡ parts_from event draft parts
 unfolding walk parts_from
 parts_walk event [] draft = refl
@@ -169,7 +169,7 @@ first_fault event text head gap tail end parts fault cut h fails = parts_first e
 -- ---- items
 
 module _ {A : Type 0} (add : List A → ℕ → Word → Result (List A) TriggerFault) (place : ℕ) where
-  -- items are read one behind the other
+  -- items are read one after the other
   items_walk : (items : List Piece) (list : List A) → walk (of_items add place) list items ≡ items_from add list items
   unfolding walk
   items_walk [] list = refl

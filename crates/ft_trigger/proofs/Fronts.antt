@@ -215,13 +215,13 @@ module _ (event : Name) (draft other : Draft) (alike : Alike draft other) (fault
   labelled_alike part None e = other_alike part (starts_with ◌==◌ part.bytes (codes "onmatch(")) e
   labelled_alike part (Some label) e = kind_alike label.1 (part.place + length label.0) (drop (length label.0) part.bytes) e
 
-  -- a part's fault stands behind all that is read of the same forms
+  -- a part's fault stands after all that is read of the same forms
   part_alike : (part : Piece) → with_part event draft part ≡ Err fault → with_part event other part ≡ Err fault
   unfolding with_part
   part_alike part e =
       unless_alike (is_part_left_out part.bytes) (is_part_left_out part.bytes) refl (LeftOut part.place) _ _ fault (labelled_alike part (find (λ label. starts_with ◌==◌ part.bytes label.0) labels)) e
 
--- so it stands behind all parts of the same forms
+-- so it stands after all parts of the same forms
 pub faults_alike : (event : Name) (front before : List (List ℕ)) (draft other : Draft) (part : Piece) (fault : TriggerFault) → AreRead (of_parts event) front draft → AreRead (of_parts event) before other
     → ((form : Form) → stands form front ≡ stands form before) → with_part event draft part ≡ Err fault → with_part event other part ≡ Err fault
 faults_alike event front before draft other part fault h g same =

@@ -16,7 +16,7 @@ use Rattle.ft_trigger.proofs.Tails.{skip_none}
 
 -- ---- runs
 
--- what is behind a run begins with no byte of the run
+-- what is after a run begins with no byte of the run
 pub behind_run : (test : ℕ → Bool) (text : List ℕ) (byte : ℕ) (rest : List ℕ) → drop (prefix_len test text) text ≡ byte ∷ rest → test byte ≡ false
 behind_run test [] byte rest e = absurd cc
 behind_run test (first ∷ text) byte rest e = from (test first) refl (behind_run test text byte rest) e
@@ -56,18 +56,18 @@ skip_opens (byte ∷ text) opens = skip_none byte text (opens byte text refl)
 pub skip_some : (text : List ℕ) → Opens (skip text)
 skip_some text byte rest e = behind_run is_gap text byte rest e
 
--- spaces and tabs, read from behind
+-- spaces and tabs, read from after
 blank_back : (blank : List ℕ) → list_all is_gap blank ≡ true → list_all is_gap (reverse blank) ≡ true
 blank_back [] all = refl
 blank_back (byte ∷ blank) all =
     let both = and_parts (is_gap byte) (list_all is_gap blank) all in
     ap (list_all is_gap) (reverse-append (byte ∷ []) blank) ∙ list_all-append is_gap (reverse blank) (byte ∷ []) ∙ and_from _ _ (blank_back blank both.1) (and_from _ _ both.0 refl)
 
--- a text that ends with none begins with none, read from behind
+-- a text that ends with none begins with none, read from after
 back_opens : (text : List ℕ) → Closes text → Opens (reverse text)
 back_opens text closes byte rest e = closes (reverse rest) byte (sym (reverse-reverse text) ∙ ap reverse e ∙ reverse-append (byte ∷ []) rest)
 
--- spaces and tabs behind a text are left away
+-- spaces and tabs after a text are left away
 end_off : (text end : List ℕ) → Closes text → list_all is_gap end ≡ true → without_end (text ++ end) ≡ text
 end_off text end closes blank =
     ap (λ (t : List ℕ). reverse (skip t)) (reverse-append text end) ∙ ap reverse (skip_blank (reverse end) (reverse text) (blank_back end blank))
@@ -151,7 +151,7 @@ seen_bare (byte ∷ head) all = from (is_gap byte) (and_parts (is_seen byte) (li
     from true e rest = absurd cc
     from false e rest = rest
 
--- what is behind the head is its gap, or nothing
+-- what is after the head is its gap, or nothing
 gap_some : (rest : List ℕ) → ((byte : ℕ) (more : List ℕ) → rest ≡ byte ∷ more → is_seen byte ≡ false) → take (prefix_len is_gap rest) rest ≡ [] → without_end (skip rest) ≡ []
 gap_some [] begins none = refl
 gap_some (byte ∷ rest) begins none = from (is_gap byte) (begins byte rest refl) none

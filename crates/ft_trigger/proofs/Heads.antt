@@ -25,7 +25,7 @@ use Rattle.ft_trigger.proofs.Variables.{VarFits, var_bytes}
 
 -- ---- parts, one by one
 
--- one part is read, and then those behind it
+-- one part is read, and then those after it
 part_step : (event : Name) (draft more : Draft) (part rest : List ℕ) (answer : Result Draft TriggerFault) (place : ℕ) → list_all is_inner part ≡ true
     → ((p : ℕ) → with_part event draft (record { place = p; bytes = part }) ≡ Ok more) → ((p : ℕ) → parts_from event more (pieces 58 p rest) ≡ answer)
     → parts_from event draft (pieces 58 place (part ++ 58 ∷ rest)) ≡ answer
@@ -41,19 +41,19 @@ unfolding parts_from
 part_last event draft more part place inner reads =
     ap (parts_from event draft) (pieces_last 58 place part (inner_free part inner)) ∙ ap (λ (r : Result Draft TriggerFault). r >>= (λ next. parts_from event next [])) reads
 
--- what has been read behind the keys
+-- what has been read after the keys
 abbrev keyed : List KeyItem → Draft
 keyed keys = record { keys = Some keys; values = None; sort = None; size = None; variable = None; onmatch = None }
 
--- what has been read behind the values
+-- what has been read after the values
 abbrev valued : List KeyItem → List Word → Draft
 valued keys values = record { keys = Some keys; values = Some values; sort = None; size = None; variable = None; onmatch = None }
 
--- what has been read behind the variable
+-- what has been read after the variable
 abbrev labelled : List KeyItem → List Word → Option Var → Draft
 labelled keys values variable = record { keys = Some keys; values = Some values; sort = None; size = None; variable = variable; onmatch = None }
 
--- what has been read behind the sort items
+-- what has been read after the sort items
 abbrev sorted : List KeyItem → List Word → Option Var → List Word → Draft
 sorted keys values variable sort = record { keys = Some keys; values = Some values; sort = Some sort; size = None; variable = variable; onmatch = None }
 
@@ -61,20 +61,20 @@ sorted keys values variable sort = record { keys = Some keys; values = Some valu
 abbrev pub whole : List KeyItem → List Word → Option Var → List Word → ℕ → Option Action → Draft
 whole keys values variable sort size onmatch = record { keys = Some keys; values = Some values; sort = Some sort; size = Some size; variable = variable; onmatch = onmatch }
 
--- what is behind a size: what events are made of, where that stands
+-- what is after a size: what events are made of, where that stands
 abbrev pub behind_size : Option Action → List ℕ
 behind_size None = []
 behind_size (Some action) = 58 ∷ action_bytes action
 
--- a size's part, and what is behind it
+-- a size's part, and what is after it
 abbrev size_part : ℕ → Option Action → List ℕ
 size_part size onmatch = codes "size=" ++ (decimal size ++ behind_size onmatch)
 
--- the sort items' part, and what is behind it
+-- the sort items' part, and what is after it
 abbrev sort_part : List Word → ℕ → Option Action → List ℕ
 sort_part sort size onmatch = codes "sort=" ++ (listed (map word_text (map directed sort)) ++ 58 ∷ size_part size onmatch)
 
--- a variable's part, and what is behind it
+-- a variable's part, and what is after it
 abbrev pub behind_values : Option Var → List ℕ → List ℕ
 behind_values None rest = rest
 behind_values (Some variable) rest = var_bytes variable ++ 58 ∷ rest
@@ -136,7 +136,7 @@ module _ (event : Name) where
     pub onmatch : Option Action
     pub onmatch_fits : If (ActionFits event) onmatch
 
-  -- a head behind `hist:`
+  -- a head after `hist:`
   abbrev pub body : Told → List ℕ
   body t =
       codes "keys=" ++ (listed (map key_text (t.key ∷ t.keys)) ++ 58 ∷ (codes "vals=hitcount" ++ (more_items (map word_text (besides_hitcount t.values)) ++ 58 ∷ behind_values t.variable (sort_part (t.word ∷ t.words) t.size t.onmatch))))

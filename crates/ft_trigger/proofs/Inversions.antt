@@ -1,4 +1,4 @@
--- What stands behind an answer without a fault.
+-- What stands after an answer without a fault.
 use Rattle.std.proofs.Common.{◌≡◌, Bool, true, false, List, ◌∷◌, Option, Some, None, Result, Ok, Err, refl}
 use Rattle.std.specs.Option.{option_map_or}
 use Rattle.ft_head.specs.declared.fault.TriggerFault.{TriggerFault}

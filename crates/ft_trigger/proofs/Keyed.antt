@@ -41,7 +41,7 @@ pub record ModeFits (text : Bool) (mode : Mode) : Type 0 where
   pub some : IsSuffix (mode_suffix mode)
   pub suits : mode_suits text mode ≡ true
 
--- the key is one that can be read behind others
+-- the key is one that can be read after others
 pub record KeyFits (event : Name) (keys : List KeyItem) (key : KeyItem) : Type 0 where
   pub few : nat_le 3 (length keys) ≡ false
   pub named : IsName (text_of key.field)

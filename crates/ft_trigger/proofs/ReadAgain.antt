@@ -80,15 +80,15 @@ pub record Made (event : Name) (draft : Draft) (hist : Hist) : Type 0 where
   pub filter_fits : If (TreeFits event) filter
   pub is : made event draft keys values sort filter ≡ hist
 
--- behind the sort items
+-- after the sort items
 abbrev pub behind_sort : Name → ℕ → List ℕ → Draft → List KeyItem → List Item → List SortItem → Result Hist TriggerFault
 behind_sort event place tail draft keys values sort = filter_in event place tail >>= (λ filter. Ok (made event draft keys values sort filter))
 
--- behind the values
+-- after the values
 abbrev behind_items : Name → ℕ → List ℕ → Draft → List KeyItem → List Item → Result Hist TriggerFault
 behind_items event place tail draft keys values = sort_in draft keys values >>= behind_sort event place tail draft keys values
 
--- behind the keys
+-- after the keys
 abbrev behind_keys : Name → ℕ → List ℕ → Draft → List KeyItem → Result Hist TriggerFault
 behind_keys event place tail draft keys = value_items event (own_name draft.variable) (besides_hitcount (unwrap_or draft.values [])) >>= behind_items event place tail draft keys
 
@@ -126,7 +126,7 @@ to_right : (k v m s d w f : List ℕ)
     ≡ codes "hist:" ++ (codes "keys=" ++ (k ++ 58 ∷ (codes "vals=hitcount" ++ (v ++ (m ++ 58 ∷ (codes "sort=" ++ (s ++ 58 ∷ (codes "size=" ++ (d ++ w))))))))) ++ f
 to_right k v m s d w f = simp append_assoc
 
--- a variable's part and what is behind it
+-- a variable's part and what is after it
 variable_spelled : (variable : Option Var) (rest : List ℕ) → variable_text variable ++ 58 ∷ rest ≡ 58 ∷ behind_values variable rest
 variable_spelled None rest = refl
 variable_spelled (Some (vars.Saves name)) rest = refl

@@ -1,4 +1,4 @@
--- What stands behind a trigger that some text gives.
+-- What stands after a trigger that some text gives.
 use Rattle.std.proofs.Common.{◌≡◌, ◌-◌, ℕ, true, not, List, [], length, drop, take, Ok, codes, ◌==◌}
 use Rattle.std.proofs.lemmas.Bool.{not-false}
 use Rattle.std.specs.List.{starts_with}

@@ -18,11 +18,11 @@ use Rattle.ft_pieces.specs.Words.{Word, is_word}
 use Rattle.ft_head.specs.Draft.{◌>>=◌, given_or, besides_hitcount}
 use Rattle.ft_trigger.specs.TriggerIs.{own_name, value_item, value_items, sort_by, sorts_of, is_descending}
 
--- what is still to be read, behind what is read already
+-- what is still to be read, after what is read already
 abbrev pub onto : {A : Type 0} → List A → Result (List A) TriggerFault → Result (List A) TriggerFault
 onto done rest = rest >>= (λ more. Ok (done ++ more))
 
--- behind nothing it stands for itself
+-- after nothing it stands for itself
 pub onto_none : {A : Type 0} (rest : Result (List A) TriggerFault) → onto [] rest ≡ rest
 onto_none (Ok more) = refl
 onto_none (Err fault) = refl

@@ -43,20 +43,20 @@ abbrev pub with_made : Result (Option Tree) TriggerFault → Hist → Result His
 with_made filter hist = filter >>= (λ filter. Ok (record hist { filter = filter }))
 
 module _ (event : Name) (draft : Draft) (filter : Result (Option Tree) TriggerFault) where
-  -- behind the sort items
+  -- after the sort items
   made_sort : (keys : List KeyItem) (values : List Item) (sort : Result (List SortItem) TriggerFault)
       → (sort >>= (λ sort. filter >>= (λ filter. Ok (made event draft keys values sort filter)))) ≡ ((sort >>= (λ sort. Ok (made event draft keys values sort None))) >>= with_made filter)
   made_sort keys values (Ok sort) = refl
   made_sort keys values (Err fault) = refl
 
-  -- behind the values
+  -- after the values
   made_values : (keys : List KeyItem) (values : Result (List Item) TriggerFault)
       → (values >>= (λ values. sort_in draft keys values >>= (λ sort. filter >>= (λ filter. Ok (made event draft keys values sort filter)))))
       ≡ ((values >>= (λ values. sort_in draft keys values >>= (λ sort. Ok (made event draft keys values sort None)))) >>= with_made filter)
   made_values keys (Ok values) = made_sort keys values (sort_in draft keys values)
   made_values keys (Err fault) = refl
 
-  -- behind the keys
+  -- after the keys
   made_keys : (head : ℕ) (keys : Option (List KeyItem))
       → given_or (Syntax head) keys (λ keys. value_items event (own_name draft.variable) (besides_hitcount (unwrap_or draft.values [])) >>= (λ values. sort_in draft keys values >>= (λ sort. filter >>= (λ filter. Ok (made event draft keys values sort filter)))))
       ≡ (given_or (Syntax head) keys (λ keys. value_items event (own_name draft.variable) (besides_hitcount (unwrap_or draft.values [])) >>= (λ values. sort_in draft keys values >>= (λ sort. Ok (made event draft keys values sort None)))) >>= with_made filter)
@@ -157,7 +157,7 @@ tail_next event text head gap tail end filter hist cut e is =
 
 -- ---- tails
 
--- what is behind `if`, where the tail is that
+-- what is after `if`, where the tail is that
 if_behind : (tail text : List ℕ) → IsIf tail text → behind_if tail ≡ Some text
 if_behind tail text h = ap behind_if h.is ∙ from h.gap h.gap_some h.gap_blank
   where
@@ -167,7 +167,7 @@ if_behind tail text h = ap behind_if h.is ∙ from h.gap h.gap_some h.gap_blank
         let here = (and_parts (is_gap byte) (list_all is_gap gap) blank).0 in
         cond-true (is_gap byte) (Some (skip (byte ∷ (gap ++ text)))) None here ∙ ap Some (skip_blank (byte ∷ gap) text blank ∙ skip_opens text h.text_opens)
 
--- a tail that has something behind `if` is that
+-- a tail that has something after `if` is that
 behind_is : (tail text : List ℕ) → behind_if tail ≡ Some text → IsIf tail text
 behind_is tail text e =
     let found = cond_some (starts_with ◌==◌ tail (codes "if") && is_gap (slice_index tail 2)) (skip (drop 2 tail)) text e in
@@ -188,7 +188,7 @@ behind_is tail text e =
     some [] first = absurd cc
     some (byte ∷ rest) first = rw (first, one-add) (omega arith)
 
--- a filter's answer, behind `if`
+-- a filter's answer, after `if`
 behind_read : (event : Name) (place : ℕ) (tail text : List ℕ) (answer : Result Tree FilterFault) → IsIf tail text → filter_of event text ≡ answer → filter_in event place tail ≡ filter_or_fault answer
 unfolding filter_in
 behind_read event place tail text answer h is =
@@ -238,12 +238,12 @@ module _ (laws : OneFilter) where
   pub one_tail : (event : Name) (place : ℕ) (tail : List ℕ) (answer : Result (Option Tree) TriggerFault) → TailIs event place tail answer ↔ (filter_in event place tail ≡ answer)
   one_tail event place tail answer = (tail_read event place tail answer, λ is. subst (TailIs event place tail) is (read_tail event place tail))
 
-  -- behind a head without a fault the tail decides
+  -- after a head without a fault the tail decides
   pub tail_then : (event : Name) (text head gap tail end : List ℕ) (hist : Hist) (answer : Result (Option Tree) TriggerFault) → IsCut text head gap tail end → trigger_of event head ≡ Ok hist
       → TailIs event (length head + length gap) tail answer → trigger_of event text ≡ with_tail hist answer
   tail_then event text head gap tail end hist answer cut e h = tail_next event text head gap tail end answer hist cut e (tail_read event (length head + length gap) tail answer h)
 
-  -- what stands behind a filter without a fault
+  -- what stands after a filter without a fault
   tail_parts : (filter : Result (Option Tree) TriggerFault) (first hist : Hist) → with_made filter first ≡ Ok hist → (filter ≡ Ok hist.filter) × (record first { filter = None } ≡ record hist { filter = None })
   tail_parts (Err fault) first hist e = absurd cc
   tail_parts (Ok filter) first hist e =

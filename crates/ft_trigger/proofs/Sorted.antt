@@ -29,7 +29,7 @@ use Rattle.ft_trigger.proofs.Inversions.{then_parts, unless_parts, given_parts}
 use Rattle.ft_pieces.proofs.Separators.{is_bare, is_inner, names_bare, bare_free, bare_inner}
 use Rattle.ft_pieces.proofs.Spellings.{IsName, IsSuffix, suffix_text, word_text, word_name, word_again, bytes_same}
 
--- the word is one that can be read as a sort item behind others
+-- the word is one that can be read as a sort item after others
 pub record SortFits (words : List Word) (word : Word) : Type 0 where
   pub few : nat_le 2 (length words) ≡ false
   pub way : is_direction word.suffix ≡ true
@@ -57,7 +57,7 @@ sort_steps words more place bytes word is e =
 
 -- ---- what can be read is read again
 
--- a direction stands behind a `.`
+-- a direction stands after a `.`
 direction_some : (suffix : Option (List ℕ)) → is_direction suffix ≡ true → IsSuffix suffix
 direction_some None h = tt
 direction_some (Some []) h = absurd cc

@@ -1,4 +1,4 @@
--- Faults of parts stay, whatever is behind the parts.
+-- Faults of parts stay, whatever is after the parts.
 use Rattle.std.proofs.Common.{◌≡◌, ◌+◌, ◌≤◌, ℕ, Bool, true, false, List, [], ◌∷◌, ◌++◌, length, Option, Some, None, Result, Ok, Err, refl, sym, ap, ◌∙◌, codes, cond, arith, append_assoc, le-leb, ◌==◌}
 use Rattle.std.proofs.lemmas.Bool.{or_from}
 use Rattle.std.proofs.lemmas.List.Folds.{list_any-append}
@@ -26,9 +26,9 @@ use Rattle.ft_trigger.proofs.ReadAgain.{made}
 use Rattle.ft_pieces.proofs.Separators.{pieces_append}
 use Rattle.ft_trigger.proofs.Shaped.{make_of, with_made, alone_cut, cut_by}
 
--- ---- parts behind parts
+-- ---- parts after parts
 
--- parts are read, and then those behind them
+-- parts are read, and then those after them
 parts_append : (event : Name) (draft : Draft) (parts more : List Piece) → parts_from event draft (parts ++ more) ≡ (parts_from event draft parts >>= (λ next. parts_from event next more))
 unfolding parts_from
 parts_append event draft [] more = refl
@@ -39,7 +39,7 @@ parts_append event draft (part ∷ parts) more = from (λ next. parts_append eve
     from later (Ok next) = later next
     from later (Err fault) = refl
 
--- parts behind parts
+-- parts after parts
 behind_parts : (event : Name) (parts more : List ℕ) (read : Result Draft TriggerFault) → parts_from event blank (pieces 58 5 parts) ≡ read
     → parts_from event blank (pieces 58 5 (parts ++ codes ":" ++ more)) ≡ (read >>= (λ draft. parts_from event draft (pieces 58 (5 + length parts + 1) more)))
 behind_parts event parts more read is =
@@ -58,7 +58,7 @@ parts_first event text parts gap tail end fault cut fails =
     let filter = filter_in event (length (codes "hist:" ++ parts) + length gap) tail in
     cut_by event text (codes "hist:" ++ parts) gap tail end filter cut refl ∙ ap (λ (r : Result Draft TriggerFault). (r >>= make_of event (length (codes "hist:" ++ parts))) >>= with_made filter) fails
 
--- a text with something behind its parts
+-- a text with something after its parts
 behind_cut : (parts more : List ℕ) → list_any is_gap parts ≡ false → (c : Cut more) → IsCut (codes "hist:" ++ parts ++ codes ":" ++ more) (codes "hist:" ++ (parts ++ codes ":" ++ c.head)) c.gap c.tail c.end
 behind_cut parts more bare c = record {
   is = ap (λ (t : List ℕ). codes "hist:" ++ parts ++ codes ":" ++ t) c.cut.is ∙ grouped (codes "hist:") parts (codes ":") c.head c.gap c.tail c.end;
@@ -73,7 +73,7 @@ behind_cut parts more bare c = record {
     grouped : (a p b h g t e : List ℕ) → a ++ p ++ b ++ (h ++ g ++ t ++ e) ≡ a ++ (p ++ b ++ h) ++ g ++ t ++ e
     grouped a p b h g t e = simp append_assoc
 
--- whatever is behind them
+-- whatever is after them
 parts_always : (event : Name) (parts : List ℕ) (fault : TriggerFault) → list_any is_gap parts ≡ false → PartsFail event parts fault → (more : List ℕ) → trigger_of event (codes "hist:" ++ parts ++ codes ":" ++ more) ≡ Err fault
 parts_always event parts fault bare fails more =
     let c = cut_of more in
@@ -89,7 +89,7 @@ pause_part : (event : Name) (draft : Draft) (place : ℕ) → parts_from event d
 unfolding parts_from with_part
 pause_part event draft place = refl
 
--- what is behind parts without a fault has its own
+-- what is after parts without a fault has its own
 other_fault : (event : Name) (parts more : List ℕ) (draft : Draft) (fault : TriggerFault) → list_any is_gap parts ≡ false → list_any is_gap more ≡ false → parts_from event blank (pieces 58 5 parts) ≡ Ok draft
     → parts_from event draft (pieces 58 (5 + length parts + 1) more) ≡ Err fault → trigger_of event (codes "hist:" ++ parts ++ codes ":" ++ more) ≡ Err fault
 other_fault event parts more draft fault bare clean reads fails =
@@ -101,7 +101,7 @@ other_fault event parts more draft fault bare clean reads fails =
     grouped : (a p b m : List ℕ) → a ++ p ++ b ++ m ≡ a ++ (p ++ b ++ m)
     grouped a p b m = simp append_assoc
 
--- a text has a fault, whatever is behind its parts, just where the parts have it
+-- a text has a fault, whatever is after its parts, just where the parts have it
 pub parts_just : (event : Name) (parts : List ℕ) (fault : TriggerFault) → list_any is_gap parts ≡ false
     → PartsFail event parts fault ↔ ((more : List ℕ) → trigger_of event (codes "hist:" ++ parts ++ codes ":" ++ more) ≡ Err fault)
 parts_just event parts fault bare = (parts_always event parts fault bare, from (parts_from event blank (pieces 58 5 parts)) refl)
@@ -116,7 +116,7 @@ parts_just event parts fault bare = (parts_always event parts fault bare, from (
         let pause : Err (LeftOut (5 + length parts + 1)) ≡ Err fault = sym (other_fault event parts (codes "pause") draft (LeftOut (5 + length parts + 1)) bare refl is (pause_part event draft (5 + length parts + 1))) ∙ always (codes "pause") in
         cc
 
--- ---- faults behind the parts
+-- ---- faults after the parts
 
 -- a value that names nothing
 values_late : (event : Name) (own : Option (List ℕ)) (words : List Word) (fault : TriggerFault) → value_items event own words ≡ Err fault → fault ≡ NoField

@@ -309,7 +309,7 @@ module _ (event : Name) where
         (h.2.0, record { effect = one.effect; new = done.second; is = end; adds = one.adds }, h.2.2),
       )
 
-  -- behind others
+  -- after others
   swapped : (front : List (List ℕ)) (draft more : Draft) (a b : List ℕ) (rest : List (List ℕ)) → Accepts draft (front ++ a ∷ b ∷ rest) more → Accepts draft (front ++ b ∷ a ∷ rest) more
   swapped [] draft more a b rest h = two_swapped draft more a b rest h
   swapped (first ∷ front) draft more a b rest h = (h.0, h.1, swapped front h.0 more a b rest h.2)
@@ -326,7 +326,7 @@ part_clear (byte ∷ text) h =
     let both = and_parts (is_inner byte) (list_all is_inner text) h in
     or_from (is_gap byte) (list_any is_gap text) (not-true (is_gap byte) (and_parts (is_seen byte) (not (byte == 58)) both.0).0) (part_clear text both.1)
 
--- nor in parts behind a `:`
+-- nor in parts after a `:`
 more_clear : (parts : List (List ℕ)) → list_all is_part parts ≡ true → list_any is_gap (more_parts parts) ≡ false
 more_clear [] h = refl
 more_clear (part ∷ parts) h =

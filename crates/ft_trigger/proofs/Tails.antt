@@ -70,13 +70,13 @@ if_trimmed text h =
 
 -- ---- filters
 
--- what is behind `if`
+-- what is after `if`
 behind_again : (text : List ℕ) → Opens text → behind_if (codes "if " ++ text) ≡ Some text
 behind_again text h =
     let kept : skip text ≡ text = ap skip h.is ∙ skip_none h.byte h.rest h.seen ∙ sym h.is in
     ap Some (skip_gap text ∙ kept)
 
--- a filter behind `if` is read
+-- a filter after `if` is read
 pub filter_step : (event : Name) (place : ℕ) (tail text : List ℕ) (tree : Tree) → (length tail == 0) ≡ false → behind_if tail ≡ Some text → filter_of event text ≡ Ok tree → filter_in event place tail ≡ Ok (Some tree)
 unfolding filter_in
 filter_step event place tail text tree some is gives = rw (some, is, gives) refl

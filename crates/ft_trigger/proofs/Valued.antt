@@ -30,7 +30,7 @@ use Rattle.ft_pieces.proofs.Spellings.{IsName, IsSuffix, word_text, word_name, w
 abbrev hitcount : List ℕ
 hitcount = codes "hitcount"
 
--- the word is one that can be read as a value behind others
+-- the word is one that can be read as a value after others
 pub record ValueFits (event : Name) (words : List Word) (word : Word) : Type 0 where
   pub few : (not (is_word word hitcount) && nat_le 3 (length (besides_hitcount words))) ≡ false
   pub kept : is_word word (codes "common_timestamp") ≡ false
@@ -50,7 +50,7 @@ no_suffix (Some suffix) h = absurd cc
 abbrev value_added : List Word → Word → Result (List Word) TriggerFault
 value_added words word = unless ((list_any (same_word word) words, Duplicate) ∷ []) (Ok (words ++ word ∷ []))
 
--- a value behind its tests
+-- a value after its tests
 abbrev value_sound : Name → List Word → Word → Result (List Word) TriggerFault
 value_sound event words word = option_map_or Err (value_fault event word) (value_added words word)
 
@@ -152,7 +152,7 @@ other_word word h = from word.dollar h
     from true h = and_right (bytes_eq word.name hitcount) false refl
     from false h = and_left (bytes_eq word.name hitcount) true h
 
--- another value can be read behind the count of hits
+-- another value can be read after the count of hits
 other_fits : (event : Name) (words : List Word) (word : Word) → is_word word hitcount ≡ false → ValueFits event words word → ValueFits event (hits ∷ besides_hitcount words) word
 other_fits event words word other h = record {
   few = ap (λ (l : List Word). not (is_word word hitcount) && nat_le 3 (length l)) (besides_twice words) ∙ h.few;
@@ -163,7 +163,7 @@ other_fits event words word other h = record {
   named = h.named;
 }
 
--- one more value behind the count of hits, or one more count of hits
+-- one more value after the count of hits, or one more count of hits
 others_more : (event : Name) (more words : List Word) (word : Word) (b : Bool) → is_word word hitcount ≡ b → ValueFits event words word
     → Chain (ValueFits event) (hits ∷ besides_hitcount (words ++ word ∷ [])) (besides_hitcount more) → Chain (ValueFits event) (hits ∷ besides_hitcount words) (cond (not b) (word ∷ besides_hitcount more) (besides_hitcount more))
 others_more event more words word b is h rest = from b is
@@ -179,7 +179,7 @@ others_more event more words word b is h rest = from b is
         let same : besides_hitcount (words ++ word ∷ []) ≡ besides_hitcount words ++ word ∷ [] = grown ∙ ap (λ (b : Bool). besides_hitcount words ++ cond (not b) (word ∷ []) []) is in
         (other_fits event words word is h, subst (λ (l : List Word). Chain (ValueFits event) (hits ∷ l) (besides_hitcount more)) same rest)
 
--- values can be read behind the count of hits
+-- values can be read after the count of hits
 pub others_fit : (event : Name) (more words : List Word) → Chain (ValueFits event) words more → Chain (ValueFits event) (hits ∷ besides_hitcount words) (besides_hitcount more)
 others_fit event [] words chain = tt
 others_fit event (word ∷ more) words chain = others_more event more words word (is_word word hitcount) refl chain.0 (others_fit event more (words ++ word ∷ []) chain.1)

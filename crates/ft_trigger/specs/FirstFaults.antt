@@ -9,7 +9,7 @@ use Rattle.ft_pieces.specs.Words.{Piece, Word, word_of}
 
 -- ---- cuts
 
--- texts with a separator between each two (our own choice)
+-- texts with a separator between each two
 abbrev pub joined_by : ℕ → List (List ℕ) → List ℕ
 joined_by separator [] = []
 joined_by separator (text ∷ []) = text
@@ -21,32 +21,32 @@ pub record AreBetween (separator : ℕ) (whole : List ℕ) (texts : List (List �
   pub bare : list_all (λ text. not (list_any (λ byte. byte == separator) text)) texts ≡ true
   pub is : whole ≡ joined_by separator texts
 
--- what stands in front of a text: those before it, each with a separator behind it (our own choice)
+-- what stands in front of a text: those before it, each with a separator after it
 abbrev pub in_front : ℕ → List (List ℕ) → List ℕ
 in_front separator [] = []
 in_front separator (text ∷ texts) = text ++ separator ∷ in_front separator texts
 
 -- ---- readings
 
--- what the texts are read into: what there is at the start, and what one more text makes of it, or its fault; and where the first of them begins (our own choice)
+-- what the texts are read into: what there is at the start, and what one more text makes of it, or its fault; and where the first of them begins
 pub record Reading (A : Type 0) : Type 0 where
   pub separator : ℕ
   pub place : ℕ
   pub start : A
   pub adds : A → Piece → Result A TriggerFault
 
--- one more text makes this of what was read of those in front, or has this fault; it begins behind all that stands in front, separators counted (our own choice)
+-- one more text makes this of what was read of those in front, or has this fault; it begins after all that stands in front, separators counted
 abbrev pub Adds : {A : Type 0} → Reading A → List (List ℕ) → A → List ℕ → Result A TriggerFault → Type 0
 Adds r front read text answer = r.adds read (record { place = r.place + length (in_front r.separator front); bytes = text }) ≡ answer
 
--- no text has a fault behind those in front of it, and this is read of all (kernel: histogram.rst, hist triggers)
+-- no text has a fault after those in front of it, and this is read of all (kernel: histogram.rst, hist triggers)
 pub data AreRead {A : Type 0} (r : Reading A) : List (List ℕ) → A → Type 0 where
   -- nothing has been read
   nothing : AreRead r [] r.start
-  -- one more text, behind those that are read
+  -- one more text, after those that are read
   one_more : (front : List (List ℕ)) (read : A) (text : List ℕ) (more : A) → AreRead r front read → Adds r front read text (Ok more) → AreRead r (front ++ text ∷ []) more
 
--- one of the texts has this fault, behind what is read of those in front of it; what is behind it may be anything (kernel: histogram.rst, hist triggers)
+-- one of the texts has this fault, after what is read of those in front of it; what is after it may be anything (kernel: histogram.rst, hist triggers)
 pub record FailFirst {A : Type 0} (r : Reading A) (texts : List (List ℕ)) (fault : TriggerFault) : Type 0 where
   pub front : List (List ℕ)
   pub read : A
@@ -56,12 +56,12 @@ pub record FailFirst {A : Type 0} (r : Reading A) (texts : List (List ℕ)) (fau
   pub before : AreRead r front read
   pub fails : Adds r front read text (Err fault)
 
--- what the texts are read as: all of them, or the first fault (our own choice)
+-- what the texts are read as: all of them, or the first fault
 abbrev pub ReadAs : {A : Type 0} → Reading A → List (List ℕ) → Result A TriggerFault → Type 0
 ReadAs r texts (Ok read) = AreRead r texts read
 ReadAs r texts (Err fault) = FailFirst r texts fault
 
--- the parts of a head, which stand between `:` behind `hist:` (kernel: histogram.rst, hist triggers)
+-- the parts of a head, which stand between `:` after `hist:` (kernel: histogram.rst, hist triggers)
 abbrev pub of_parts : Name → Reading Draft
 of_parts event = record { separator = 58; place = 5; start = blank; adds = with_part event }
 

@@ -16,7 +16,7 @@ pub data Form : Type 0 where
 abbrev pub form_of : List ℕ → Form
 form_of part = option_map_or (λ label. OfKind label.1) (find (λ label. starts_with ◌==◌ part label.0) labels) (if starts_with ◌==◌ part (codes "onmatch(") then OfOnmatch else OfVariable)
 
--- two forms are the same (our own choice)
+-- two forms are the same
 abbrev pub same_form : Form → Form → Bool
 same_form (OfKind Keys) (OfKind Keys) = true
 same_form (OfKind Values) (OfKind Values) = true
@@ -26,11 +26,11 @@ same_form OfOnmatch OfOnmatch = true
 same_form OfVariable OfVariable = true
 same_form form other = false
 
--- one of the parts is of this form (our own choice)
+-- one of the parts is of this form
 abbrev pub stands : Form → List (List ℕ) → Bool
 stands form parts = list_any (λ part. same_form form (form_of part)) parts
 
--- a part of this form has been read (our own choice)
+-- a part of this form has been read
 abbrev pub has_read : Form → Draft → Bool
 has_read (OfKind Keys) draft = is_some draft.keys
 has_read (OfKind Values) draft = is_some draft.values

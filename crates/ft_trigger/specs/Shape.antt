@@ -13,15 +13,15 @@ use Rattle.ft_trigger.specs.TriggerIs.{TriggerIs}
 
 -- ---- head and tail
 
--- the text begins with no space and no tab (our own choice)
+-- the text begins with no space and no tab
 abbrev pub Opens : List ℕ → Type 0
 Opens text = (byte : ℕ) (rest : List ℕ) → text ≡ byte ∷ rest → is_gap byte ≡ false
 
--- the text ends with no space and no tab (our own choice)
+-- the text ends with no space and no tab
 abbrev pub Closes : List ℕ → Type 0
 Closes text = (front : List ℕ) (byte : ℕ) → text ≡ front ++ byte ∷ [] → is_gap byte ≡ false
 
--- a text is a head, and then nothing, or a gap and a tail: no space and no tab is in the head or at an end of the tail, and the gap and what is behind the tail are spaces and tabs alone (kernel: histogram.rst, hist triggers)
+-- a text is a head, and then nothing, or a gap and a tail: no space and no tab is in the head or at an end of the tail, and the gap and what is after the tail are spaces and tabs alone (kernel: histogram.rst, hist triggers)
 pub record IsCut (text head gap tail end : List ℕ) : Type 0 where
   pub is : text ≡ head ++ gap ++ tail ++ end
   pub head_bare : list_any is_gap head ≡ false
@@ -31,7 +31,7 @@ pub record IsCut (text head gap tail end : List ℕ) : Type 0 where
   pub tail_closes : Closes tail
   pub tail_apart : gap ≡ [] → tail ≡ []
 
--- a text with such a cut (our own choice)
+-- a text with such a cut
 pub record Cut (text : List ℕ) : Type 0 where
   pub head : List ℕ
   pub gap : List ℕ
@@ -60,7 +60,7 @@ pub data TailIs (event : Name) (place : ℕ) : List ℕ → Result (Option Tree)
   -- anything else
   other : (tail : List ℕ) → tail ≢ [] → ((text : List ℕ) → IsIf tail text → ⊥) → TailIs event place tail (Err (Syntax place))
 
--- a trigger with what its tail says (our own choice)
+-- a trigger with what its tail says
 abbrev pub with_tail : Hist → Result (Option Tree) TriggerFault → Result Hist TriggerFault
 with_tail hist (Ok filter) = Ok (with_filter hist filter)
 with_tail hist (Err fault) = Err fault

@@ -27,23 +27,23 @@ use Rattle.ft_hist.specs.Hist.{Hist}
 
 -- ---- head and tail
 
--- how many bytes the head has: up to the first space or tab (our own choice)
+-- how many bytes the head has: up to the first space or tab
 abbrev pub head_len : List ℕ → ℕ
 head_len text = prefix_len (λ byte. not (is_gap byte)) text
 
--- what is behind the head, without the spaces and tabs that it begins with (our own choice)
+-- what is after the head, without the spaces and tabs that it begins with
 abbrev pub behind_head : List ℕ → List ℕ
 behind_head text = skip (drop (head_len text) text)
 
--- the text without the spaces and tabs that it ends with (our own choice)
+-- the text without the spaces and tabs that it ends with
 abbrev pub without_end : List ℕ → List ℕ
 without_end text = reverse (skip (reverse text))
 
--- the tail: what is behind the head, without spaces and tabs at both ends (our own choice)
+-- the tail: what is after the head, without spaces and tabs at both ends
 abbrev pub tail_of : List ℕ → List ℕ
 tail_of text = without_end (behind_head text)
 
--- what a tail has behind `if` and one or more spaces or tabs, where it begins so (kernel: events.rst, `if` before a filter)
+-- what a tail has after `if` and one or more spaces or tabs, where it begins so (kernel: events.rst, `if` before a filter)
 abbrev pub behind_if : List ℕ → Option (List ℕ)
 behind_if tail = if starts_with ◌==◌ tail (codes "if") && is_gap (slice_index tail 2) then Some (skip (drop 2 tail)) else None
 
@@ -58,7 +58,7 @@ filter_in event place tail =
     if length tail == 0 then Ok None
     else given_or (Syntax place) (behind_if tail) (λ text. filter_or_fault (filter_of event text))
 
--- ---- what is tested behind the parts
+-- ---- what is tested after the parts
 
 -- the trigger's own variable (kernel: histogram.rst, inter-event hist triggers)
 abbrev pub own_name : Option Var → Option (List ℕ)
@@ -78,12 +78,12 @@ value_items event own [] = Ok []
 value_items event own (word ∷ words) =
     given_or NoField (value_item event own word) (λ value. value_items event own words >>= (λ values. Ok (value ∷ values)))
 
--- the number of the first thing that passes, from 0 (our own choice)
+-- the number of the first thing that passes, from 0
 abbrev pub index_where : {A : Type 0} → (A → Bool) → ℕ → List A → Option ℕ
 index_where test n [] = None
 index_where test n (x ∷ xs) = if test x then Some n else index_where test (n + 1) xs
 
--- a value is what the word names: the own variable with its `$`, or a field (our own choice)
+-- a value is what the word names: the own variable with its `$`, or a field
 abbrev pub names_value : Option (List ℕ) → Word → Item → Bool
 names_value own word (items.Num field) = not word.dollar && bytes_eq word.name (text_of field)
 names_value own word items.Own = word.dollar && option_map_or (bytes_eq word.name) own false
@@ -125,7 +125,7 @@ abbrev pub hands_other : Option Var → Option Action → Bool
 hands_other variable None = false
 hands_other variable (Some action) = not (reads_as variable action.own)
 
--- the sort items of a draft, behind the variable that it hands on (kernel: histogram.rst, `sort`)
+-- the sort items of a draft, after the variable that it hands on (kernel: histogram.rst, `sort`)
 abbrev pub sort_in : Draft → List KeyItem → List Item → Result (List SortItem) TriggerFault
 sort_in draft keys values =
     unless ((hands_other draft.variable draft.onmatch, NoField) ∷ []) (sort_of keys values (own_name draft.variable) draft.sort)

@@ -102,9 +102,9 @@ pub fn shapes()
     ft_filter::laws::one_answer();
 }
 
-/// A law: a fault of parts stays, whatever is behind them; a text has it with every tail, and has
-/// it whatever is behind the parts just where they have it. Any other fault of the text is one that
-/// is found behind its parts.
+/// A law: a fault of parts stays, whatever is after them; a text has it with every tail, and has
+/// it whatever is after the parts just where they have it. Any other fault of the text is one that
+/// is found after its parts.
 pub fn faults_stay()
     ensures stays { (event : Name) (parts more : List ℕ) (fault : TriggerFault)
         → PartsFail event parts fault → PartsFail event (parts ++ codes ":" ++ more) fault }
@@ -137,7 +137,7 @@ pub fn one_cut()
         → AreBetween separator text texts → AreBetween separator text other → texts ≡ other }
 {}
 
-/// A law: of the parts of a head, which stand between `:`, the first that has a fault behind what is
+/// A law: of the parts of a head, which stand between `:`, the first that has a fault after what is
 /// read of those in front of it decides, and where none has one, what is read of all. A text has the
 /// first fault of its parts, whatever its tail is.
 pub fn first_parts()
@@ -167,7 +167,7 @@ pub fn first_items()
 {}
 
 /// A law: what is read of parts tells which forms stand among them, each once, and a part's fault
-/// depends on nothing else in front of it: it is the same behind all parts of the same forms. A
+/// depends on nothing else in front of it: it is the same after all parts of the same forms. A
 /// second part of a kind is told as one that stands twice.
 pub fn forms_in_front()
     ensures read { (event : Name) (front : List (List ℕ)) (draft : Draft) (form : Form)

@@ -30,7 +30,7 @@ pub fn parse(alloc: Global, event: Name, text: &[u8]) -> Result<Trigger, Trigger
     ensures meaning { GivesTrigger (TriggerIs event text.now) result }
     // Whose fields it names.
     ensures event { IfOk result (λ trigger. trigger.event ≡ event) }
-    // Want of memory is never the filter's fault.
+    // Out of memory is never the filter's fault.
     ensures memory { IfErr result (λ fault. fault ≢ TriggerFault.BadFilter FilterFault.Memory) }
 {
     let (head, behind) = text.split_at(head_len(text));

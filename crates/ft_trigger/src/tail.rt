@@ -44,7 +44,7 @@ pub(crate) fn without_end(text: &[u8]) -> &[u8]
     rest
 }
 
-/// What a tail has behind `if` and one or more spaces or tabs, where it begins so.
+/// What a tail has after `if` and one or more spaces or tabs, where it begins so.
 fn behind_if(tail: &[u8]) -> Option<&[u8]>
     ensures { option_copied result ≡ behind_if tail.now }
 {
@@ -90,7 +90,7 @@ fn filter_of(alloc: Global, event: Name, text: &[u8]) -> Result<Option<Filter>, 
     }
 }
 
-/// The fault of a trigger whose filter has this fault. Want of memory is its own.
+/// The fault of a trigger whose filter has this fault. Out of memory is its own.
 fn of_filter(fault: FilterFault) -> TriggerFault
     ensures { result ≡ of_filter fault }
 {

@@ -48,7 +48,7 @@ sorted_rest e rest sorted = second (below_all key_cmp e.0 rest) (is_sorted key_c
     second true b h = h
     second false b h = absurd h
 
--- a key doesn't stand again behind its place
+-- a key doesn't stand again after its place
 not_again : {X : Type 0} (e : List Part × X) (rest : List (List Part × X)) → T (is_sorted key_cmp (e ∷ rest)) → find key_cmp e.0 rest ≡ None
 not_again {X = X} e rest sorted = go rest (first (below_all key_cmp e.0 rest) (is_sorted key_cmp rest) sorted)
   where

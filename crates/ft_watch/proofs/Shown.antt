@@ -219,7 +219,7 @@ shown_empty base tables empty none id =
 
 -- ---- rows that are taken from the end
 
--- of these rows, those behind the ones that are left are taken
+-- of these rows, those after the ones that are left are taken
 pub record Popped (all left : List KeyedText) (table : Texts) : Type 0 where
   pub done : List KeyedText
   pub whole : all ≡ left ++ done

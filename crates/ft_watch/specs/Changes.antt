@@ -13,7 +13,7 @@ use Rattle.ft_base.specs.declared.refused.Refused.{Refused}
 
 -- ---- one row
 
--- the line of a row, if there is one: a sign, the trigger's id and the row's text, behind a space each
+-- the line of a row, if there is one: a sign, the trigger's id and the row's text, after a space each
 abbrev pub signed_line : ℕ → ℕ → Option (List ℕ) → List ℕ
 signed_line sign id None = []
 signed_line sign id (Some text) = sign ∷ 32 ∷ (decimal id ++ 32 ∷ (text ++ 10 ∷ []))

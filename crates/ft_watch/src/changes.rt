@@ -33,7 +33,7 @@ impl Model for Changes {
 }
 
 impl Changes {
-    /// No rows yet, behind a text.
+    /// No rows yet, after a text.
     pub(crate) fn behind(text: Vec<u8>) -> Changes
         ensures { result ≡ record { lines = text.items; count = 0 } }
     {
@@ -93,7 +93,7 @@ fn is_same_row(before: Option<&[u8]>, now: Option<&[u8]>) -> bool
     }
 }
 
-/// Adds a line of a row behind a sign and its trigger's id, if there is one.
+/// Adds a line of a row after a sign and its trigger's id, if there is one.
 fn add_signed(lines: &mut Vec<u8>, sign: u8, id: u32, row: Option<&[u8]>) -> Result<(), AllocError>
     ensures { OnOk result (lines.new.items ≡ lines.old.items
         ++ signed_line sign id (option_copied row.entry)) }

@@ -15,7 +15,7 @@ use std::rt::{Env, Files};
 const NAME: &str = "histwatch";
 
 /// Runs a script as `ft_desk::run` does, over a watch of a board on which nothing is held or
-/// attached: behind what an accepted insert or strike prints stand the rows that it changed.
+/// attached: after what an accepted insert or strike prints stand the rows that it changed.
 ///
 /// Fails as `ft_desk::run` does, and for memory also where rows that changed find none: the output of
 /// the commands before is then written whole. How often it asks its reader and flushes its writer is

@@ -178,7 +178,7 @@ fn looked_at<B: Board>(
     Ok(now)
 }
 
-/// The tables with the rows that they show after an edit, behind changes those of them. Refused for
+/// The tables with the rows that they show after an edit, after changes those of them. Refused for
 /// memory.
 fn told_of<B: Board>(
     old: BTreeMap<u32, Table>,

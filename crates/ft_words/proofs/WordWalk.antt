@@ -35,7 +35,7 @@ app = with_rule (with_rule (on_top (λ s. record s { disable_help_flag = true })
 abbrev top : Shape
 top = (built app).top
 
--- how far a walk is: at no path yet, behind the script, or at a trace with others before it
+-- how far a walk is: at no path yet, after the script, or at a trace with others before it
 data Stage : Type 0 where
   Fresh : Stage
   Scripted : Text → Stage
@@ -204,7 +204,7 @@ adds stage paths = fold next stage paths
 abbrev walk_of : Walk → List Text → Walk
 walk_of from words = fold (walked top.rules []) from words
 
--- behind `--` each word is a path
+-- after `--` each word is a path
 behind_faults : (stage : Stage) (words : List Text) → walk_fault top [] (walk_at true stage) words ≡ []
 unfolding walk_fault
 behind_faults stage [] = refl
@@ -259,7 +259,7 @@ unfolding walk_fault
 faults stage [] = refl
 faults stage (word ∷ words) = one_fault stage word words (faults (next stage word) words) (bytes_eq word dashes) (is_option word) refl refl
 
--- and ends behind the paths where there are some
+-- and ends after the paths where there are some
 abbrev EndsAt : Stage → List Text → Option (List Text) → Type 0
 EndsAt stage words None = ⊤
 EndsAt stage words (Some paths) = (behind : Bool) × (walk_of (walk_at false stage) words ≡ walk_at behind (adds stage paths))
@@ -281,7 +281,7 @@ ends : (stage : Stage) (words : List Text) → EndsAt stage words (paths_in word
 ends stage [] = (false, refl)
 ends stage (word ∷ words) = one_end stage word words (ends (next stage word) words) (bytes_eq word dashes) (is_option word) refl refl
 
--- what is checked behind the walk passes
+-- what is checked after the walk passes
 abbrev checks : Walk → Kinds
 checks end =
     or_else (entered_fault (built app) end.stopped)

@@ -1,5 +1,5 @@
 //! `histwatch [SCRIPT [TRACE]...]`: `histdesk`, and after the line of each accepted insert or strike
-//! the rows that it changed, as they were behind `-` and as they are behind `+`, and a line with the
+//! the rows that it changed, as they were after `-` and as they are after `+`, and a line with the
 //! number of these rows. This is `ft_watch` over the board that keeps tables.
 //!
 //! ```text

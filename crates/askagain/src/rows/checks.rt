@@ -146,7 +146,7 @@ impl Desks<KeptBoard, PlainBoard> {
 }
 
 impl<K: Board, P: Board> Desks<K, P> {
-    /// Does the lines of a script. Behind the last line's end there is an empty line more, which asks
+    /// Does the lines of a script. After the last line's end there is an empty line more, which asks
     /// for nothing.
     fn perform_script(
         &mut self,

@@ -5,6 +5,6 @@ use Rattle.std.specs.FinMap as map
 use Rattle.ft_replay.specs.declared.pair.Pair.{Pair}
 use Rattle.ft_replay.specs.Counters.{Counters}
 
--- the pairs of the counter with an id, where there is one (our own choice)
+-- the pairs of the counter with an id, where there is one
 abbrev pub pairs_by : Counters → ℕ → List Pair
 pairs_by counters id = option_map_or (λ counter. counter.pairs) (map.get counters id) []

@@ -15,54 +15,54 @@ use Rattle.ft_board.specs.inner.Readings.{readings_on}
 
 -- ---- notes
 
--- what readings had found, as notes tell it (our own choice)
+-- what readings had found, as notes tell it
 abbrev pub had_by : Shelves → Readings
 had_by shelves id pos = option_and_then (λ shelf. had_found shelf pos) (map.get shelves id)
 
--- a shelf is the same but for its notes; where there is none, there is none afterwards (our own choice)
+-- a shelf is the same except for its notes; where there is none, there is none afterwards
 abbrev pub IsAlike : Option Shelved → Option Shelved → Type 0
 IsAlike None new = new ≡ None
 IsAlike (Some shelf) new = (notes : Option Notes) × (new ≡ Some (record shelf { notes = notes }))
 
--- shelves are the same but for their notes (our own choice)
+-- shelves are the same except for their notes
 abbrev pub AreAlike : Shelves → Shelves → Type 0
 AreAlike old new = (id : ℕ) → IsAlike (map.get old id) (map.get new id)
 
--- the shelf of each attached trigger that makes events takes notes, and has none yet (our own choice)
+-- the shelf of each attached trigger that makes events takes notes, and has none yet
 abbrev pub NothingNoted : Triggers → Shelves → Type 0
 NothingNoted triggers shelves =
     (id : ℕ) (hist : Hist) (shelf : Shelved) → map.get triggers id ≡ Some hist → is_some hist.onmatch ≡ true → map.get shelves id ≡ Some shelf → shelf.notes ≡ Some map.empty
 
--- each attached trigger that makes events reads (our own choice)
+-- each attached trigger that makes events reads
 abbrev pub MakersRead : Triggers → Type 0
 MakersRead triggers = (id : ℕ) (hist : Hist) → map.get triggers id ≡ Some hist → is_some hist.onmatch ≡ true → is_reader hist.variable ≡ true
 
--- something is noted of a trigger's readings (our own choice)
+-- something is noted of a trigger's readings
 abbrev pub is_noted_on : Shelves → ℕ → Bool
 is_noted_on shelves id = option_map_or (λ notes. not (map.len notes == 0)) (notes_on shelves id) false
 
 -- ---- tables
 
--- tables of made events can be mended: they are those of what readings had found (our own choice)
+-- tables of made events can be mended: they are those of what readings had found
 abbrev pub CanMend : Triggers → Events → Shelves → MadeTables → Type 0
 CanMend triggers events shelves made = AreMadeBy triggers events (had_by shelves) made
 
--- one table may change, and the others stay (our own choice)
+-- one table may change, and the others stay
 abbrev pub OthersStay : ℕ → MadeTables → MadeTables → Type 0
 OthersStay id old new = (other : ℕ) → (other ≡ id → ⊥) → map.get new other ≡ map.get old other
 
--- the attached triggers that make events find by their readings what they had found (our own choice)
+-- the attached triggers that make events find by their readings what they had found
 abbrev pub FindTheSame : Triggers → Shelves → Type 0
 FindTheSame triggers shelves =
     (id : ℕ) (hist : Hist) → map.get triggers id ≡ Some hist → is_some hist.onmatch ≡ true → (pos : Pos) → found_in (readings_on shelves) id pos ≡ had_by shelves id pos
 
 -- ---- one trigger's readings after the other
 
--- what is found, where one trigger's readings find what their shelf says, and all others what they found (our own choice)
+-- what is found, where one trigger's readings find what their shelf says, and all others what they found
 abbrev pub turned_on : Shelves → ℕ → Readings → Readings
 turned_on shelves id found other pos = if other == id then found_in (readings_on shelves) id pos else found other pos
 
--- a table is made of readings, among them those of a trigger, that found what they had found by their shelf (our own choice)
+-- a table is made of readings, among them those of a trigger, that found what they had found by their shelf
 pub record CanTurnOn (events : Events) (id : ℕ) (maker : Hist) (shelves : Shelves) (hist : Hist) (table : Tabled) : Type 0 where
   pub triggers : Triggers
   pub found : Readings
@@ -70,7 +70,7 @@ pub record CanTurnOn (events : Events) (id : ℕ) (maker : Hist) (shelves : Shel
   pub had : (pos : Pos) → found id pos ≡ had_by shelves id pos
   pub made : IsMadeTable triggers events found hist table
 
--- whatever such readings it was made of, it is made of those of which the trigger's find what their shelf says (our own choice)
+-- whatever such readings it was made of, it is made of those of which the trigger's find what their shelf says
 abbrev pub HasTurnedOn : Events → ℕ → Hist → Shelves → Hist → Tabled → Tabled → Type 0
 HasTurnedOn events id maker shelves hist old new =
     (triggers : Triggers) (found : Readings) → map.get triggers id ≡ Some maker → ((pos : Pos) → found id pos ≡ had_by shelves id pos)

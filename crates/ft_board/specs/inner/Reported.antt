@@ -13,7 +13,7 @@ use Rattle.ft_base.specs.Base.{Base, Triggers}
 use Rattle.ft_answers.specs.Reporting.{IsReport}
 use Rattle.ft_repair.specs.KeptShelves.{AreKeptOf}
 
--- rows are the report of what was gathered, by shelves that are kept (our own choice)
+-- rows are the report of what was gathered, by shelves that are kept
 pub record IsReportBy (triggers : Triggers) (kept : Option Shelves) (acted : Gathered) (rows : List Changed) : Type 0 where
   pub shelves : Shelves
   pub acting : List Acting
@@ -21,11 +21,11 @@ pub record IsReportBy (triggers : Triggers) (kept : Option Shelves) (acted : Gat
   pub gathered : acted ≡ Some acting
   pub are : rows ≡ report_of triggers shelves acting
 
--- a base with other lanes (our own choice)
+-- a base with other lanes
 abbrev pub base_with : Base → Lanes → Base
 base_with base lanes = record base { lanes = lanes }
 
--- where shelves are kept before one event comes or goes and behind it, the report by those behind it is one of the bases (our own choice)
+-- where shelves are kept before one event comes or goes and after it, the report by those after it is one of the bases
 abbrev pub RepairsReported : Type 0
 RepairsReported = (base : Base) (lanes : Lanes) (pos : Pos) (event : Traced) (before behind : Shelves)
     → AreKeptOf base before → AreKeptOf (base_with base lanes) behind → CameOrWent base.triggers pos event before behind

@@ -1,7 +1,7 @@
--- What structs of the code point to (our own choice).
+-- What structs of the code point to.
 use Rattle.ft_fields.specs.Fields.{Row}
 use Rattle.ft_fields.specs.declared.field.Row as declared_row
 
--- the row that a `Row` of the code says (our own choice)
+-- the row that a `Row` of the code says
 abbrev pub row_text : declared_row.Row → Row
 row_text r = record { name = r.name.now; owner = r.owner; kind = r.kind }

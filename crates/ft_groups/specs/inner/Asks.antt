@@ -3,7 +3,7 @@ use Rattle.std.specs.Prelude.{◌≡◌}
 use Rattle.ft_groups.specs.declared.groups.Asks.{Asks}
 use Rattle.ft_groups.specs.inner.Numbers.{asks_numbers, number_field}
 
--- what is kept is what the trigger asks for (our own choice)
+-- what is kept is what the trigger asks for
 pub record IsAskedRight (asks : Asks) : Type 0 where
   pub bare : asks.bare ≡ asks_numbers asks.trigger.now
   pub field : asks.field ≡ number_field asks.trigger.now

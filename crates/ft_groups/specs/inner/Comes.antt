@@ -6,7 +6,7 @@ use Rattle.ft_keys.specs.declared.key.Part.{Part}
 use Rattle.ft_groups.specs.Grouped.{Grouped}
 use Rattle.ft_groups.specs.inner.Adding.{Adds}
 
--- an event comes to the key that it is counted under, if it is counted (our own choice)
+-- an event comes to the key that it is counted under, if it is counted
 abbrev pub Comes : Option (List Part) → Pos × Traced → Grouped → Grouped → Type 0
 Comes None event old new = new ≡ old
 Comes (Some key) event old new = Adds key event old new

@@ -7,21 +7,21 @@ use Rattle.ft_keys.specs.declared.key.Part.{Part}
 use Rattle.ft_groups.specs.declared.met.Slot.{Slot}
 use Rattle.ft_groups.specs.inner.Numbers.{counted_by}
 
--- the slot that holds a number and the place of its key (our own choice)
+-- the slot that holds a number and the place of its key
 abbrev pub noted : ℤ → ℕ → Slot
 noted number place = record { number = number; place = Some place }
 
--- a slot stands among others (our own choice)
+-- a slot stands among others
 pub record IsIn (slots : List Slot) (slot : Slot) : Type 0 where
   pub at : ℕ
   pub is : slice_get slots at ≡ Some slot
 
--- all events that a trigger counts by a number come under the key at a place (our own choice)
+-- all events that a trigger counts by a number come under the key at a place
 pub record IsKeyOf (hist : Hist) (keys : List (List Part)) (number : ℤ) (place : ℕ) : Type 0 where
   pub key : List Part
   pub stands : slice_get keys place ≡ Some key
   pub hits : (event : Traced) → counted_by hist event ≡ Some number → hit hist event ≡ Some key
 
--- each number that is known has the place of its key (our own choice)
+-- each number that is known has the place of its key
 abbrev pub AreMet : Hist → List (List Part) → List Slot → Type 0
 AreMet hist keys slots = (number : ℤ) (place : ℕ) → IsIn slots (noted number place) → IsKeyOf hist keys number place

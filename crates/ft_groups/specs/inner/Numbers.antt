@@ -10,28 +10,28 @@ use Rattle.ft_hist.specs.Hist.{Hist}
 use Rattle.ft_hist.specs.Hit.{same_name}
 use Rattle.ft_store.specs.Stored.{bare, number_of}
 
--- the key item is of a field that holds a text (our own choice)
+-- the key item is of a field that holds a text
 abbrev pub asks_text : KeyItem → Bool
 asks_text item = is_text item.field
 
--- the trigger has no filter, and no key of a text (our own choice)
+-- the trigger has no filter, and no key of a text
 abbrev pub asks_numbers : Hist → Bool
 asks_numbers hist = is_none hist.filter && not (list_any asks_text hist.keys)
 
--- the event, without its names where numbers alone are asked for (our own choice)
+-- the event, without its names where numbers alone are asked for
 abbrev pub asked_part : Bool → Traced → Traced
 asked_part numbers event = if numbers then bare event else event
 
--- the field of the only key item (our own choice)
+-- the field of the only key item
 abbrev pub only_field : List KeyItem → Option Field
 only_field [] = None
 only_field (item ∷ []) = Some item.field
 only_field (item ∷ other ∷ items) = None
 
--- the field whose number alone tells the key of each of the trigger's events: it has no filter, and no other key (our own choice)
+-- the field whose number alone tells the key of each of the trigger's events: it has no filter, and no other key
 abbrev pub number_field : Hist → Option Field
 number_field hist = if asks_numbers hist then only_field hist.keys else None
 
--- the number that alone tells the key of an event, where the trigger is on its name (our own choice)
+-- the number that alone tells the key of an event, where the trigger is on its name
 abbrev pub counted_by : Hist → Traced → Option ℤ
 counted_by hist event = if same_name hist.event (name_of event.body) then option_and_then (number_of event) (number_field hist) else None

@@ -9,15 +9,15 @@ use Rattle.ft_keys.specs.Parts.{key_cmp}
 use Rattle.ft_maps.specs.Mapped.{map_by}
 use Rattle.ft_groups.specs.Grouped.{Grouped}
 
--- the run at a place, none behind the last (our own choice)
+-- the run at a place, none after the last
 abbrev pub run_at : List (List (Pos × Traced)) → ℕ → List (Pos × Traced)
 run_at runs place = slice_index_or runs place []
 
--- the groups of keys whose runs stand at these places (our own choice)
+-- the groups of keys whose runs stand at these places
 abbrev pub listed : List (List Part) → List (List (Pos × Traced)) → FinMap key_cmp ℕ → Grouped
 listed keys runs places = record { keys = keys; runs = map_by (run_at runs) places }
 
--- each key's place is where it stands, and a run stands there too (our own choice)
+-- each key's place is where it stands, and a run stands there too
 pub record ArePlaced (keys : List (List Part)) (runs : List (List (Pos × Traced))) (places : FinMap key_cmp ℕ) : Type 0 where
   pub many : length runs ≡ length keys
   pub stands : (key : List Part) (place : ℕ) → map.get places key ≡ Some place → slice_get keys place ≡ Some key

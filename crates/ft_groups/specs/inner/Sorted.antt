@@ -5,10 +5,10 @@ use Rattle.ft_groups.specs.declared.sorted.Sorted.{Sorted}
 use Rattle.ft_groups.specs.Grouped.{Grouped}
 use Rattle.ft_groups.specs.inner.Placed.{ArePlaced, listed}
 
--- the groups that stand there (our own choice)
+-- the groups that stand there
 abbrev pub groups_of : Sorted → Grouped
 groups_of sorted = listed sorted.keys.items sorted.runs.items (seen key_cmp sorted.places)
 
--- each key stands where its place says, with its run (our own choice)
+-- each key stands where its place says, with its run
 abbrev pub IsSorted : Sorted → Type 0
 IsSorted sorted = ArePlaced sorted.keys.items sorted.runs.items (seen key_cmp sorted.places)

@@ -6,11 +6,11 @@ use Rattle.ft_hits.specs.declared.entry.Held.{Held}
 use Rattle.ft_hits.specs.declared.entry.Held.TheVariants.{Nothing, One, Many}
 use Rattle.ft_hits.specs.Hits.{EntryHits}
 
--- one hit: a spot and values (our own choice)
+-- one hit: a spot and values
 abbrev pub only : Spot × List ℤ → EntryHits
 only hit = map.insert map.empty hit.0 hit.1
 
--- none, one, or those of a tree (our own choice)
+-- none, one, or those of a tree
 abbrev pub hits_held : Held → EntryHits
 hits_held Nothing = map.empty
 hits_held (One hit) = only hit

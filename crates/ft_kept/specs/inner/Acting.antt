@@ -21,50 +21,50 @@ use Rattle.ft_kept.specs.inner.Settling.{Owed, IsPartly, Pays, HasComeOwing, Has
 use Rattle.ft_kept.specs.declared.act.Scene.{Scene}
 use Rattle.ft_kept.specs.declared.act.Act.{Act}
 
--- the triggers of a scene (our own choice)
+-- the triggers of a scene
 abbrev pub triggers_of : Scene → FinMap nat_cmp Hist
 triggers_of scene = seen nat_cmp scene.triggers.now
 
--- what an act counts: an event, under a key (our own choice)
+-- what an act counts: an event, under a key
 abbrev pub counted : Act → Option (List Part × Traced)
 counted act = Some (act.key, act.event.now)
 
--- the variable that a saver's act is about (our own choice)
+-- the variable that a saver's act is about
 abbrev pub own_variable : Act → Variable
 own_variable act = record { saver = act.at.trigger; key = act.key }
 
--- a saver's table with an act's hit (our own choice)
+-- a saver's table with an act's hit
 abbrev pub with_act : Act → Tabled → Tabled
 with_act act table = with_hit table (record { spot = traced act.at.pos; key = act.key }) (values_at act.trigger.now act.at.pos act.event.now None)
 
--- a table without an act's hit (our own choice)
+-- a table without an act's hit
 abbrev pub without_act : Act → Tabled → Tabled
 without_act act table = without_hit table (record { spot = traced act.at.pos; key = act.key })
 
--- readings can be settled: each trigger has its shelf, and what is kept is right but for what is owed (our own choice)
+-- readings can be settled: each trigger has its shelf, and what is kept is right except for what is owed
 pub record CanSettle (scene : Scene) (shelves : Shelves) : Type 0 where
   pub shelved : AreShelved (triggers_of scene) shelves
   pub partly : IsPartly (triggers_of scene) scene.lanes.now shelves
 
--- whatever is owed, less is owed afterwards (our own choice)
+-- whatever is owed, less is owed afterwards
 abbrev pub Paid : Scene → Shelves → Shelves → (Owed → Owed) → Type 0
 Paid scene old new rest = Pays (triggers_of scene) scene.lanes.now old new rest
 
 -- ---- acts that come
 
--- an attached trigger's act can come (our own choice)
+-- an attached trigger's act can come
 pub record MayCome (scene : Scene) (act : Act) (shelves : Shelves) : Type 0 where
   pub shelved : AreShelved (triggers_of scene) shelves
   pub attached : map.get (triggers_of scene) act.at.trigger ≡ Some act.trigger.now
   pub can : CanCome (triggers_of scene) scene.lanes.now act.at (counted act) shelves
 
--- an act came, and what is kept is right with it; shelves keep their forms, and other savers their tables (our own choice)
+-- an act came, and what is kept is right with it; shelves keep their forms, and other savers their tables
 pub record Came (scene : Scene) (act : Act) (old new : Shelves) : Type 0 where
   pub forms : FormsStay old new
   pub savers : OtherSaversStay act.at.trigger old new
   pub right : HasCome (triggers_of scene) scene.lanes.now act.at (counted act) old new
 
--- a saver's act came to its shelf, these keys moved, and what follows of it is owed (our own choice)
+-- a saver's act came to its shelf, these keys moved, and what follows of it is owed
 pub record CameOwing (scene : Scene) (act : Act) (moves : Moves) (old new : Shelves) : Type 0 where
   pub forms : FormsStay old new
   pub others : (id : ℕ) → (id ≡ act.at.trigger → ⊥) → map.get new id ≡ map.get old id
@@ -74,18 +74,18 @@ pub record CameOwing (scene : Scene) (act : Act) (moves : Moves) (old new : Shel
 
 -- ---- acts that go
 
--- a trigger's act can go (our own choice)
+-- a trigger's act can go
 pub record MayGo (scene : Scene) (act : Act) (shelves : Shelves) : Type 0 where
   pub shelved : AreShelved (triggers_of scene) shelves
   pub can : CanGo (triggers_of scene) scene.lanes.now act.at (counted act) shelves
 
--- an act went, and what is kept is right without it; shelves keep their forms, and other savers their tables (our own choice)
+-- an act went, and what is kept is right without it; shelves keep their forms, and other savers their tables
 pub record Went (scene : Scene) (act : Act) (old new : Shelves) : Type 0 where
   pub forms : FormsStay old new
   pub savers : OtherSaversStay act.at.trigger old new
   pub right : HasGone (triggers_of scene) scene.lanes.now act.at (counted act) old new
 
--- a saver's act went from its shelf, these keys moved, and what follows of it is owed (our own choice)
+-- a saver's act went from its shelf, these keys moved, and what follows of it is owed
 pub record WentOwing (scene : Scene) (act : Act) (moves : Moves) (old new : Shelves) : Type 0 where
   pub forms : FormsStay old new
   pub others : (id : ℕ) → (id ≡ act.at.trigger → ⊥) → map.get new id ≡ map.get old id

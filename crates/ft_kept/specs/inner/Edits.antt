@@ -10,7 +10,7 @@ use Rattle.ft_pairs.specs.declared.role.Variable.{Variable}
 use Rattle.ft_shelves.specs.Shelves.{Shelved, Shelves, Kept, KeepsForm}
 use Rattle.ft_kept.specs.Entries.{hits_here, read_here}
 
--- a shelf of a reader keeps its role, its size and its operations, and any other shelf stays as it is (our own choice)
+-- a shelf of a reader keeps its role, its size and its operations, and any other shelf stays as it is
 abbrev pub ReaderChanges : Option Shelved → Option Shelved → Type 0
 ReaderChanges None new = new ≡ None
 ReaderChanges (Some shelf) new =
@@ -19,18 +19,18 @@ ReaderChanges (Some shelf) new =
     × (KeepsForm shelf after
     × ((after.ops ≡ shelf.ops) × (((saver : ℕ) → shelf.role ≡ Reads saver → ⊥) → after ≡ shelf))))
 
--- only what readers counted and read changes (our own choice)
+-- only what readers counted and read changes
 abbrev pub ReadersChange : Shelves → Shelves → Type 0
 ReadersChange old new = (id : ℕ) → ReaderChanges (map.get old id) (map.get new id)
 
--- hits and readings stay as they were but at one place (our own choice)
+-- hits and readings stay as they were but at one place
 abbrev pub StaysBut : At → Kept → Kept → Type 0
 StaysBut at old new = (q : At) → (q ≡ at → ⊥) → ((key : List Part) → hits_here new q key ≡ hits_here old q key) × (read_here new q ≡ read_here old q)
 
--- operations stay as they were (our own choice)
+-- operations stay as they were
 abbrev pub OpsStay : Kept → Kept → Type 0
 OpsStay old new = (variable : Variable) (q : At) → new.ops variable q ≡ old.ops variable q
 
--- how many operations on a variable stand behind a place; how many in all, if no place is given (our own choice)
+-- how many operations on a variable stand after a place; how many in all, if no place is given
 abbrev pub left_on : Shelves → Variable → Option At → ℕ
 left_on shelves variable after = option_map_or (λ shelf. ops_left shelf.ops variable.key after) (map.get shelves variable.saver) 0

@@ -16,23 +16,23 @@ use Rattle.ft_kept.specs.Repairs.{AreShelved}
 use Rattle.ft_shelves.specs.Shelves.{Shelves, FormsStay}
 use Rattle.ft_shelves.specs.declared.joining.Joining.{Joining}
 
--- the triggers among which one joins (our own choice)
+-- the triggers among which one joins
 abbrev pub triggers_with : Joining → FinMap nat_cmp Hist
 triggers_with joining = seen nat_cmp joining.triggers.now
 
--- a trigger with a role is another than one with an id, and reads what a saver saves (our own choice)
+-- a trigger with a role is another than one with an id, and reads what a saver saves
 abbrev pub is_other_reader : ℕ → ℕ → ℕ → Role → Bool
 is_other_reader id saver other (Reads read) = read == saver && not (other == id)
 is_other_reader id saver other role = false
 
--- an attached trigger of which nothing is kept yet can join, with groups of what it counts (our own choice)
+-- an attached trigger of which nothing is kept yet can join, with groups of what it counts
 pub record MayJoin (joining : Joining) (shelves : Shelves) : Type 0 where
   pub shelved : AreShelved (triggers_with joining) shelves
   pub attached : map.get (triggers_with joining) joining.id ≡ Some joining.trigger.now
   pub bare : IsBare joining.id shelves
   pub grouped : AreGroupsOf joining.trigger.now joining.groups.now
 
--- it joined: all its acts came, and shelves keep their forms (our own choice)
+-- it joined: all its acts came, and shelves keep their forms
 pub record Joined (joining : Joining) (old new : Shelves) : Type 0 where
   pub forms : FormsStay old new
   pub right : (events : FinMap pos_cmp Traced) → AreGrouped joining.trigger.now (map.entries events) joining.groups.now

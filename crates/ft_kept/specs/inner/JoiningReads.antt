@@ -45,7 +45,7 @@ readings_found (e ∷ run) (f ∷ found) = reading_found e f ++ readings_found r
 
 -- ---- shelves
 
--- the readings of a key's run came: first their reads, of which each found something or not, then the hits of those that did, and their readings behind others (our own choice)
+-- the readings of a key's run came: first their reads, of which each found something or not, then the hits of those that did, and their readings after others
 pub record KeyComes (joining : Joining) (saver : ℕ) (key : List Part) (old new : Shelves) (told more : List (Pos × Pos)) : Type 0 where
   pub mid : Shelves
   pub found : List (Option At)

@@ -16,7 +16,7 @@ use Rattle.ft_replay.specs.declared.pair.Pair.{Pair}
 use Rattle.ft_replay.specs.Merged.{held_at}
 use Rattle.ft_made.specs.MadeTables.{IsFreeAt, with_made}
 
--- the spot of the event that a trigger makes of a reading (our own choice)
+-- the spot of the event that a trigger makes of a reading
 abbrev pub spot_by : ℕ → Pair → Spot
 spot_by id pair = record { pos = pair.read; maker = id }
 
@@ -36,11 +36,11 @@ with_pairs lanes hist id maker table pairs = fold (with_pair lanes hist id maker
 abbrev pub with_maker : Lanes → Hist → (ℕ → List Pair) → Tabled → ℕ × Hist → Tabled
 with_maker lanes hist pairs table attached = option_map_or (λ onmatch. with_pairs lanes hist attached.0 attached.1 table (pairs attached.0)) attached.1.onmatch table
 
--- readings stand in order, and a table has no hit where an event is made of one (our own choice)
+-- readings stand in order, and a table has no hit where an event is made of one
 abbrev pub AreFree : ℕ → List Pair → Tabled → Type 0
 AreFree id [] table = ⊤
 AreFree id (pair ∷ pairs) table = IsFreeAt (spot_by id pair) table × (AllByRecursion (λ other. pos_cmp pair.read other.read ≡ Less) pairs × AreFree id pairs table)
 
--- a table has no hit of an event that a trigger made (our own choice)
+-- a table has no hit of an event that a trigger made
 abbrev pub IsIdle : ℕ → Tabled → Type 0
 IsIdle id table = (mark : Mark) → mark.spot.maker ≡ id → map.get table.hits mark ≡ None

@@ -30,30 +30,30 @@ use Rattle.ft_pairs.specs.declared.role.Role.TheVariants.{Plain, Saves, Reads}
 abbrev pub Saved : Type 0
 Saved = FinMap variable_cmp Pos
 
--- how far replaying has come, by counters and variables (our own choice)
+-- how far replaying has come, by counters and variables
 abbrev pub state_in : Counters × Saved → State
 state_in (counters, saved) = record { tallies = map_by tally_in counters; variables = saved }
 
--- the counter of a trigger without hits (our own choice)
+-- the counter of a trigger without hits
 abbrev pub new_counter : Triggers → Hist → Counting
 new_counter triggers hist = record { role = role_of triggers hist.variable; table = record { hits = map.empty; size = hist.size }; pairs = [] }
 
--- counters, and a new one for a trigger (our own choice)
+-- counters, and a new one for a trigger
 abbrev pub with_counter : Triggers → Counters → ℕ × Hist → Counters
 with_counter triggers counters attached = map.insert counters attached.0 (new_counter triggers attached.1)
 
--- a counter without hits for each attached trigger (our own choice)
+-- a counter without hits for each attached trigger
 unfoldable pub new_counters : Triggers → Counters
 new_counters triggers = fold (with_counter triggers) map.empty (map.entries triggers)
 
 -- ---- a hit
 
--- pairs, and one more where the hit at a place read (our own choice)
+-- pairs, and one more where the hit at a place read
 abbrev pub pairs_with : Pos → Option Pos → List Pair → List Pair
 pairs_with at None pairs = pairs
 pairs_with at (Some saved) pairs = pairs ++ record { saved = saved; read = at } ∷ []
 
--- a counter with one more hit, and its pair where it read (our own choice)
+-- a counter with one more hit, and its pair where it read
 abbrev pub counter_with : Mark → Option Pos → List ℤ → Counting → Counting
 counter_with mark read values counter = record counter { table = with_hit counter.table mark values; pairs = pairs_with mark.spot.pos read counter.pairs }
 
@@ -69,7 +69,7 @@ after_hit values (Reads saver) at key (counter, saved) =
       map.remove saved (record { saver = saver; key = key }),
     )) (map.get saved (record { saver = saver; key = key })) (counter, saved)
 
--- counters and variables after a hit of a key, where the trigger has a counter (our own choice)
+-- counters and variables after a hit of a key, where the trigger has a counter
 abbrev pub after_key : Hist → Traced → At → Counters × Saved → List Part → Counters × Saved
 after_key hist event at (counters, saved) key =
     option_map_or (λ counter.
@@ -77,24 +77,24 @@ after_key hist event at (counters, saved) key =
     (map.insert counters at.trigger after.0, after.1)
     ) (map.get counters at.trigger) (counters, saved)
 
--- counters and variables after an event at one attached trigger (our own choice)
+-- counters and variables after an event at one attached trigger
 unfoldable pub after_act : Hist → Traced → At → Counters × Saved → Counters × Saved
 after_act hist event at held = option_map_or (after_key hist event at held) (hit hist event) held
 
 -- ---- what holds along a replay
 
--- no hit stands at an act's place in the trigger's counter (our own choice)
+-- no hit stands at an act's place in the trigger's counter
 abbrev pub IsFree : At → Counters → Type 0
 IsFree at counters = (counter : Counting) (key : List Part) → map.get counters at.trigger ≡ Some counter → map.get counter.table.hits (record { spot = traced at.pos; key = key }) ≡ None
 
--- all hits of a counter stand before an act (our own choice)
+-- all hits of a counter stand before an act
 abbrev pub StandBefore : At → ℕ → Counting → Type 0
 StandBefore at id counter = (m : Mark) → IsSome (map.get counter.table.hits m) → at_cmp (record { pos = m.spot.pos; trigger = id }) at ≡ Less
 
--- all hits of all counters stand before an act (our own choice)
+-- all hits of all counters stand before an act
 abbrev pub AllBefore : At → Counters → Type 0
 AllBefore at counters = (id : ℕ) (counter : Counting) → map.get counters id ≡ Some counter → StandBefore at id counter
 
--- all hits of all counters stand before all acts at a place (our own choice)
+-- all hits of all counters stand before all acts at a place
 abbrev pub AllBeforePlace : Pos → Counters → Type 0
 AllBeforePlace pos counters = (id : ℕ) → AllBefore (record { pos = pos; trigger = id }) counters

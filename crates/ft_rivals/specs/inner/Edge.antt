@@ -5,10 +5,10 @@ use Rattle.ft_keys.specs.declared.key.Part.{Part}
 use Rattle.ft_hits.specs.declared.mark.Mark.{Mark}
 use Rattle.ft_rivals.specs.Rivals.{is_of}
 
--- the keys of so many first marks (our own choice)
+-- the keys of so many first marks
 abbrev pub inside : List Mark → ℕ → List (List Part)
 inside order place = list_map (λ m. m.key) (take place order)
 
--- the marks whose keys are none of some (our own choice)
+-- the marks whose keys are none of some
 abbrev pub others_of : List (List Part) → List Mark → List Mark
 others_of keys = filter (λ m. not (is_of keys m.key))

@@ -17,6 +17,6 @@ with_save id spot ops = if spot.maker == 0 then with_op (record { pos = spot.pos
 abbrev pub last_is_out : Tabled → List Part → Option (List Part) → Bool
 last_is_out table key last = option_map_or (λ other. not (same_key other key) && not (is_in table other)) last false
 
--- the first key outside of before is another than this one, and in now (our own choice)
+-- the first key outside of before is another than this one, and in now
 abbrev pub first_is_in : Tabled → List Part → Option (List Part) → Bool
 first_is_in table key first = option_map_or (λ other. not (same_key other key) && is_in table other) first false

@@ -4,7 +4,7 @@ use Rattle.ft_groups.specs.Grouped.{Grouped}
 use Rattle.ft_shelves.specs.Joining.{HasSaves}
 use Rattle.ft_shelves.specs.Shelves.{Shelved}
 
--- the saves of all groups are on a shelf, and all else on it stays (our own choice)
+-- the saves of all groups are on a shelf, and all else on it stays
 pub record SavesCome (id : ℕ) (groups : Grouped) (old new : Shelved) : Type 0 where
   pub role : new.role ≡ old.role
   pub table : new.table ≡ old.table

@@ -6,11 +6,11 @@ use Rattle.ft_table.specs.Tabled.{Tabled, order_of}
 use Rattle.ft_hits.specs.ByKey.{hits_in}
 use Rattle.ft_table.specs.inner.Split.{IsSplit}
 
--- what contracts see of a table's fields (our own choice)
+-- what contracts see of a table's fields
 abbrev pub table_of : Inside → Tabled
 table_of t = record { hits = hits_in t.by_key; size = t.size }
 
--- there is room for a key, the order is that of the first hits, and the counts are those of the keys in the table and outside (our own choice)
+-- there is room for a key, the order is that of the first hits, and the counts are those of the keys in the table and outside
 pub record IsInStep (t : Inside) : Type 0 where
   pub room : 0 < t.size
   pub order : t.order.items ≡ order_of (hits_in t.by_key)

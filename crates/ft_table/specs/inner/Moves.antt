@@ -8,32 +8,32 @@ use Rattle.ft_hits.specs.Hits.{Hits, EntryHits, same_key}
 use Rattle.ft_table.specs.OneKey.{AreSameBut}
 use Rattle.ft_table.specs.Tabled.{first_hits}
 
--- the first hits of all keys but one (our own choice)
+-- the first hits of all keys but one
 unfoldable pub others : Hits → List Part → Hits
 others hits key = map.retain_keys (first_hits hits) (λ m. not (same_key m.key key))
 
--- where they stand, in order (our own choice)
+-- where they stand, in order
 abbrev pub order_without : Hits → List Part → List Mark
 order_without hits key = map.keys (others hits key)
 
--- the same with a mark of that key (our own choice)
+-- the same with a mark of that key
 abbrev pub order_with : Hits → Mark → List Mark
 order_with hits m = map.keys (map.insert (others hits m.key) m [])
 
--- the same with that key at a spot, if it has one (our own choice)
+-- the same with that key at a spot, if it has one
 abbrev pub order_before : Hits → List Part → Option Spot → List Mark
 order_before hits key None = order_without hits key
 order_before hits key (Some spot) = order_with hits (record { spot = spot; key = key })
 
--- a key has these hits, and all other hits stay (our own choice)
+-- a key has these hits, and all other hits stay
 pub record TakesHits (key : List Part) (entry : EntryHits) (old new : Hits) : Type 0 where
   pub here : (spot : Spot) → map.get new (record { spot = spot; key = key }) ≡ map.get entry spot
   pub others : AreSameBut key old new
 
--- counts of hits with one more at a key (our own choice)
+-- counts of hits with one more at a key
 abbrev pub with_more : (List Part → ℕ) → List Part → List Part → ℕ
 with_more count key q = cond (same_key q key) (count q + 1) (count q)
 
--- counts of hits with one less at a key (our own choice)
+-- counts of hits with one less at a key
 abbrev pub with_less : (List Part → ℕ) → List Part → List Part → ℕ
 with_less count key q = cond (same_key q key) (count q - 1) (count q)

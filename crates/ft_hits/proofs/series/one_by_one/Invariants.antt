@@ -1,4 +1,4 @@
--- The hits so far, and behind them the first of those left, are the first of the run.
+-- The hits so far, and after them the first of those left, are the first of the run.
 use Rattle.std.proofs.Common.{◌≡◌, drop}
 use Rattle.std.specs.Option.{option_or}
 use Rattle.std.specs.FinMap as map

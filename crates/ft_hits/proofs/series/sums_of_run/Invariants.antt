@@ -1,4 +1,4 @@
--- What is left of the run rises from the last spot, and has the sums behind those so far.
+-- What is left of the run rises from the last spot, and has the sums after those so far.
 use Rattle.std.proofs.Common.{◌≡◌, [], ◌∷◌, drop, None}
 use Rattle.ft_hits.proofs.Runs.{rises, sums_behind}
 use Rattle.ft_hits.proofs.series.sums_of_run.Given as goal

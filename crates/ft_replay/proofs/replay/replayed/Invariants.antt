@@ -18,7 +18,7 @@ use Rattle.ft_hist.specs.Steps.{StepsGrow}
 use Rattle.ft_pairs.specs.Variables.{variable_cmp}
 use Rattle.ft_replay.proofs.replay.replayed.Given as goal
 
--- the events that are left lead where all events lead; their places have their stamps, ascend, and stand behind all hits; each trigger has its counter; no count of steps fell
+-- the events that are left lead where all events lead; their places have their stamps, ascend, and stand after all hits; each trigger has its counter; no count of steps fell
 abbrev pub invariant-loop-pos : goal.invariant-loop-pos
 invariant-loop-pos l = record {
   rest : fold (step (seen nat_cmp l.triggers)) (state_in (seen nat_cmp l.counters, seen variable_cmp l.saved)) (entries_by held (drop l.pos-index l.pos-items))

@@ -1,4 +1,4 @@
--- A hit behind its key's first leaves the order as it is, and its key has one more.
+-- A hit after its key's first leaves the order as it is, and its key has one more.
 use Rattle.std.proofs.Common.{◌≡◌, ℕ, List, sym, ap, subst, ◌∙◌, arith, Some, Option}
 use Rattle.std.specs.Prelude.{IfSome, MatchOption}
 use Rattle.std.specs.declared.cmp.Ordering.TheVariants.{Less}

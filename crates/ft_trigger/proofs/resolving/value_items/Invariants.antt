@@ -5,7 +5,7 @@ use Rattle.ft_trigger.specs.TriggerIs.{value_items}
 use Rattle.ft_trigger.proofs.ResolveLemmas.{onto}
 use Rattle.ft_trigger.proofs.resolving.value_items.Given as goal
 
--- what the words that are left name, behind what is read already, is what all name
+-- what the words that are left name, after what is read already, is what all name
 abbrev pub invariant-loop-word : goal.invariant-loop-word
 invariant-loop-word l = record {
   same : onto l.values.items (value_items l.event (option_copied l.own) (besides_hitcount (drop l.word-index l.words))) ≡ value_items l.event (option_copied l.own) (besides_hitcount l.words);

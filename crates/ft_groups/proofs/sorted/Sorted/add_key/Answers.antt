@@ -1,4 +1,4 @@
--- A new key stands behind the others, with its event.
+-- A new key stands after the others, with its event.
 use Rattle.std.proofs.Common.{◌≡◌, ◌++◌, ◌∷◌, ℕ, List, [], ap, ◌∙◌}
 use Rattle.std.specs.FinMap as map
 use Rattle.std.specs.FinMap.{FinMap}

@@ -1,4 +1,4 @@
--- The first of the tree's range is the first behind the place.
+-- The first of the tree's range is the first after the place.
 use Rattle.std.proofs.Common.{◌≡◌, Bool, List, [], ◌∷◌, sym, ap, ◌∙◌, Some, None, Option}
 use Rattle.std.specs.Prelude.{ℤ}
 use Rattle.std.specs.List.{filter}

@@ -1,4 +1,4 @@
--- The first of the tree's range is the first operation behind the place.
+-- The first of the tree's range is the first operation after the place.
 use Rattle.std.proofs.Common.{◌≡◌, sym, ap, subst, ◌∙◌, Some, None}
 use Rattle.std.specs.FinMap as map
 use Rattle.std.specs.declared.ops.Bound.TheVariants.{Unbounded}

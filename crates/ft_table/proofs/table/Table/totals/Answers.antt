@@ -1,4 +1,4 @@
--- What is not behind the size is before it.
+-- What is not after the size is before it.
 use Rattle.std.proofs.Common.{◌≡◌, ℕ, ◌+◌, List, length, take, drop, map as list_map, sym, ap, ◌∙◌, arith}
 use Rattle.std.specs.List.{sum_by}
 use Rattle.std.proofs.lemmas.List.{length-map, length-take}
