@@ -22,7 +22,7 @@ It needs qemu-system-x86, busybox-static, cpio, python3, and gcc with the static
 apt-get, dpkg-deb and a network. The package of the kernel is unpacked in $KERNEL_CACHE, or else
 ~/.cache/histdesk-kernel, and is found there by the next run.'
 
-here=$(dirname -- "$(realpath -- "${BASH_SOURCE[0]}")")
+tests=$(dirname -- "$(realpath -- "${BASH_SOURCE[0]}")")
 cpus=1
 seed=1
 count=0
@@ -110,16 +110,16 @@ initrd() {
     if ! "$root/bin/busybox" --list | grep -x base64 >/dev/null || ldd "$root/bin/busybox" >/dev/null 2>&1; then
         stop "busybox is not the static one: apt-get install busybox-static"
     fi
-    cp -- "$here/kernel_init.sh" "$root/init"
+    cp -- "$tests/kernel/init.sh" "$root/init"
     chmod +x -- "$root/init"
-    gcc -O2 -static -o "$root/workload" "$here/kernel_workload.c" || stop "gcc cannot link the workload statically"
+    gcc -O2 -static -o "$root/workload" "$tests/kernel/workload.c" || stop "gcc cannot link the workload statically"
     cp -- "$folder/cases" "$root/cases"
     (cd -- "$root" && find . | cpio -o -H newc --quiet) >"$folder/initrd"
 }
 
 # Boots the guest, and unpacks what it wrote on its second serial line.
 boot() {
-    # On one processor the clock is that of a trigger that names none; kernel_triggers.py says why not on several.
+    # On one processor the clock is that of a trigger that names none; kernel/triggers.py says why not on several.
     local clock=global words
     ((cpus == 1)) || clock=mono
     words="console=ttyS0 panic=-1 hd_seed=$seed hd_clock=$clock"
@@ -142,10 +142,10 @@ kept() {
 
 [[ -n $vmlinuz ]] || vmlinuz=$(debian_kernel)
 [[ -r $vmlinuz ]] || stop "cannot read the kernel: $vmlinuz"
-python3 "$here/kernel_triggers.py" "$cpus" "$seed" "$count" "$folder"
+python3 "$tests/kernel/triggers.py" "$cpus" "$seed" "$count" "$folder"
 initrd
 boot "$vmlinuz"
 status=0
-python3 "$here/kernel_compare.py" "$cpus" "$folder" "$program" || status=$?
+python3 "$tests/kernel/compare.py" "$cpus" "$folder" "$program" || status=$?
 kept
 exit "$status"

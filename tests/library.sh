@@ -1,18 +1,18 @@
 #!/usr/bin/env bash
 # library.sh LIBRARY HISTDESK HISTWATCH: tests the library, libhistdesk.so.0 with the libhistdesk.a beside it, as its users
-# have it: from C (c_library.sh); from Python with the tools over it, by the python3 on the PATH and by the system's, which may
-# have numpy and pandas; the page of tools/view in a browser (page.py); and installed with the programs (install.sh). The
+# have it: from C (library/c_library.sh); from Python with the tools over it, by the python3 on the PATH and by the system's, which may
+# have numpy and pandas; the page of tools/view in a browser (page/page.py); and installed with the programs (tools/install.sh). The
 # scripts that all of this stands on are looked through too (lint.sh). It prints what went wrong, what was not tried and
 # why, and a last line with the counts.
 # shellcheck disable=SC2154 # what counts.sh assigns
 set -uo pipefail
 
-here=$(dirname -- "$(realpath -- "${BASH_SOURCE[0]}")")
+tests=$(dirname -- "$(realpath -- "${BASH_SOURCE[0]}")")
 library=$(realpath -- "$1")
 histdesk=$(realpath -- "$2")
 histwatch=$(realpath -- "$3")
 export HISTDESK_LIBRARY=$library
-. "$here/counts.sh"
+. "$tests/counts.sh"
 : >"$folder/untried"
 
 # part NAME COMMAND..: a test whose last line has counts, as `7 passed, 0 failed` or `7 of 7 rows hold`.
@@ -41,30 +41,30 @@ part() {
 for ((seed = 41; seed <= 50; seed++)); do
     row=$folder/rows/mixed_$seed
     mkdir -p -- "$row"
-    python3 "$here/random_script.py" 60 60 "$seed" "$row"
+    python3 "$tests/model/random_script.py" 60 60 "$seed" "$row"
     "$histdesk" "$row/script" "$row"/trace? >"$row/expected" </dev/null
     echo $? >"$row/status"
 done
 
-part "from C" "$here/c_library.sh" "$library" "$histdesk"
+part "from C" "$tests/library/c_library.sh" "$library" "$histdesk"
 pythons=(python3)
 if [[ -x /usr/bin/python3 && ! /usr/bin/python3 -ef $(command -v python3) ]]; then
     pythons+=(/usr/bin/python3)
 fi
 for python in "${pythons[@]}"; do
-    part "from $python" "$python" "$here/python_package.py"
-    part "rows from $python" "$python" "$here/python_rows.py" "$here"/rows/* "$folder"/rows/*
+    part "from $python" "$python" "$tests/library/python_package.py"
+    part "rows from $python" "$python" "$tests/library/python_rows.py" "$tests"/rows/* "$folder"/rows/*
     for one in losses waits why export diff many; do
-        part "$one from $python" "$python" "$here/python_$one.py"
+        part "$one from $python" "$python" "$tests/library/python_$one.py"
     done
-    part "view from $python" "$python" "$here/python_view.py" "$histdesk"
-    part "server from $python" "$python" "$here/python_serve.py"
-    part "recipes from $python" "$python" "$here/recipes.py" "$histdesk"
+    part "view from $python" "$python" "$tests/library/python_view.py" "$histdesk"
+    part "server from $python" "$python" "$tests/library/python_serve.py"
+    part "recipes from $python" "$python" "$tests/documents/recipes.py" "$histdesk"
 done
-part "the page" "${pythons[-1]}" "$here/page.py" "$histdesk"
-part scripts "$here/lint.sh"
-part recorded "$here/recorded.sh" "$here/../tools"
-part installed "$here/install.sh" "$histdesk" "$histwatch" "$library"
+part "the page" "${pythons[-1]}" "$tests/page/page.py" "$histdesk"
+part scripts "$tests/lint.sh"
+part recorded "$tests/tools/recorded.sh" "$tests/../tools"
+part installed "$tests/tools/install.sh" "$histdesk" "$histwatch" "$library"
 
 cat -- "$folder/untried"
 echo "$passed passed, $failed failed"

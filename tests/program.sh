@@ -1,16 +1,16 @@
 #!/usr/bin/env bash
 # program.sh [HISTDESK [PLAINDESK [ASKAGAIN [HISTWATCH]]]]: runs a program as a user would, by scripts of one subject each,
-# program_*.sh, which take the same words and can be run by themselves: the rows, the examples, words and files, streams,
+# program/*.sh, which take the same words and can be run by themselves: the rows, the examples, words and files, streams,
 # limits, hostile bytes, growths of memory that are refused, and which rows edits change; then the launchers
-# (launchers.sh), how they build (building.sh), the tools around it (tools.sh) and the documents. Where PLAINDESK is given,
+# (tools/launchers.sh), how they build (tools/building.sh), the tools around it (tools/tools.sh) and the documents. Where PLAINDESK is given,
 # it runs the rows, the full desks and the hostile bytes too; ASKAGAIN runs the rows in memory, and asks a second time for
 # what found no memory, in some of them; HISTWATCH prints which rows edits change. Without words, it runs the launcher and
 # those of the other three that are built. It prints what went wrong, and a last line with the counts.
 set -uo pipefail
 
-here=$(dirname -- "$(realpath -- "${BASH_SOURCE[0]}")")
-. "$here/counts.sh"
-. "$here/program_common.sh"
+tests=$(dirname -- "$(realpath -- "${BASH_SOURCE[0]}")")
+. "$tests/counts.sh"
+. "$tests/program/common.sh"
 
 # counted COMMAND..: a script of tests, each of which is a test here.
 counted() {
@@ -28,12 +28,12 @@ counted() {
 }
 
 for subject in rows examples words streams limits hostile growths changes; do
-    counted "$here/program_$subject.sh" "$histdesk" "$plaindesk" "$askagain" "$histwatch"
+    counted "$tests/program/$subject.sh" "$histdesk" "$plaindesk" "$askagain" "$histwatch"
 done
-counted "$here/launchers.sh" "$program" ${histwatch:+"$histwatch"}
-counted "$here/building.sh"
-counted "$here/tools.sh" "$program" ${histwatch:+"$histwatch"}
-holds "$here/documents.py"
+counted "$tests/tools/launchers.sh" "$program" ${histwatch:+"$histwatch"}
+counted "$tests/tools/building.sh"
+counted "$tests/tools/tools.sh" "$program" ${histwatch:+"$histwatch"}
+holds "$tests/documents/documents.py"
 
 echo "$passed passed, $failed failed"
 ((failed == 0))

@@ -1,6 +1,6 @@
 #!/usr/bin/env bash
 # real.sh [OPTION].. PROGRAM: records five seconds of a workload that it starts itself, by tools/record, and compares what
-# PROGRAM, a built histdesk, answers over that trace with what the plain model in Python answers (model.py): tables,
+# PROGRAM, a built histdesk, answers over that trace with what the plain model in Python answers (model/model.py): tables,
 # totals, latencies and lists, before and after twenty edits. By hand, never in CI: it needs root and tracefs, and takes
 # some minutes, since the model replays at each answer. It prints what differs, and a last line with the counts. The
 # status is 0, or 1 where an answer differs, or 2 where it could not run.
@@ -15,7 +15,7 @@ usage='usage: tests/real.sh [OPTION].. PROGRAM
 
 It needs root, tracefs, cc and python3. Of the trace it takes the first 60,000 lines.'
 
-here=$(dirname -- "$(realpath -- "${BASH_SOURCE[0]}")")
+tests=$(dirname -- "$(realpath -- "${BASH_SOURCE[0]}")")
 tracefs=/sys/kernel/tracing
 seconds=5
 seed=1
@@ -169,11 +169,11 @@ sys.exit(failed > 0)
 PY
 }
 
-cc -O2 -o "$folder/workload" "$here/kernel_workload.c" || stop "cc cannot make the workload"
+cc -O2 -o "$folder/workload" "$tests/kernel/workload.c" || stop "cc cannot make the workload"
 : >"$folder/go"
 rounds &
 work=$!
-"$here/../tools/record" --tracefs "$tracefs" "$seconds" >"$folder/whole" || stop "tools/record could not record; see above"
+"$tests/../tools/record" --tracefs "$tracefs" "$seconds" >"$folder/whole" || stop "tools/record could not record; see above"
 rm -- "$folder/go"
 wait "$work"
 work=
@@ -183,7 +183,7 @@ write_script
 status=0
 "$program" "$folder/script" "$folder/trace" >"$folder/desk" || status=$?
 ((status < 2)) || stop "the program ended with status $status"
-python3 "$here/model.py" "$folder/script" "$folder/trace" >"$folder/model"
+python3 "$tests/model/model.py" "$folder/script" "$folder/trace" >"$folder/model"
 printf '%d lines of trace, %d commands\n' "$(wc -l <"$folder/trace")" "$(grep -cx told "$folder/script")"
 status=0
 compare || status=1

@@ -7,7 +7,7 @@
 //! strike stands its report: `-- rows` with ` ID:PART,..` for each row, or `-- no report`.
 //!
 //! One byte goes to standard error before each first call and one after it, so that who refuses
-//! growths, as `tests/refuse_growth.c` does, knows which are those of the call.
+//! growths, as `tests/program/refuse_growth.c` does, knows which are those of the call.
 //!
 //! `askagain watch-plain SCRIPT [TRACE]..` is another program: `histwatch` over the board that keeps no
 //! tables, and whose edits have no report. And `askagain rows FOLDER..` says whether worked examples

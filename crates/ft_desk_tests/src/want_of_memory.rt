@@ -1,5 +1,5 @@
 //! Edits and answers where memory runs out once: what was asked in vain is done when it is asked
-//! again. Each test passes whichever allocation is refused: `tests/each_allocation.py`.
+//! again. Each test passes whichever allocation is refused: `tests/program/each_allocation.py`.
 
 use crate::kept_now::{LANE, SESSION, Step, TABLE, ask, is_measured, totals_of};
 use ft_board::KeptBoard;

@@ -1,0 +1,478 @@
+#!/usr/bin/env python3
+"""Holds the Python package: each public call on small traces, by values written down by hand (python_answers.py), how a desk
+ends, threads, texts that aren't UTF-8, want of memory, how things are shown, and where the library is looked for.
+
+    python_package.py [TEST]...
+
+The library is found as the package finds it. What needs numpy or pandas is skipped where they are missing; lines at the end say
+how many tests of what were skipped, and the last one how many hold.
+"""
+
+import copy
+import ctypes.util
+import doctest
+import gc
+import inspect
+import os
+import pickle
+import re
+import shutil
+import subprocess
+import sys
+import tempfile
+import threading
+import unittest
+
+# Nothing is written beside the sources.
+sys.dont_write_bytecode = True
+
+HERE = os.path.dirname(os.path.realpath(__file__))
+PYTHON = os.path.realpath(os.path.join(HERE, "..", "..", "python"))
+sys.path.insert(0, PYTHON)
+
+import histdesk
+import python_answers
+from histdesk import _layout, _library
+from python_answers import LINE, MAKER, MERGED, TRACE, WAITS, desk_of, with_numpy, with_pandas, with_waits
+from python_runner import main
+
+HEADER = os.path.realpath(os.path.join(HERE, "..", "..", "include", "histdesk.h"))
+
+
+def python(program, **environment):
+    """What a program prints that another Python runs, on both of its streams."""
+    ran = subprocess.run(
+        [sys.executable, "-B", "-c", program],
+        stdout=subprocess.PIPE,
+        stderr=subprocess.STDOUT,
+        env={**os.environ, "PYTHONPATH": f"{PYTHON}:{HERE}", "PYTHONWARNINGS": "ignore", **environment},
+        check=False,
+    )
+    return ran.stdout.decode()
+
+
+def elsewhere(call):
+    """What a call answers or raises in another thread."""
+    told = []
+
+    def run():
+        try:
+            told.append(call())
+        except Exception as error:
+            told.append(error)
+
+    thread = threading.Thread(target=run)
+    thread.start()
+    thread.join()
+    return told[0]
+
+
+class Life(unittest.TestCase):
+    def test_closed(self):
+        desk, saver, reader = with_waits()
+        self.assertIs(desk.closed, False)
+        desk.close()
+        self.assertIs(desk.closed, True)
+        desk.close()
+        calls = [
+            lambda: desk.load(TRACE),
+            lambda: desk.unload(1),
+            lambda: desk.insert(LINE),
+            lambda: desk.strike(0, 1),
+            lambda: desk.attach("sched_waking", "hist:keys=pid"),
+            lambda: desk.trigger(1),
+            desk.triggers,
+            desk.cpus,
+            lambda: desk.list(0),
+            desk.events,
+            lambda: desk.event(0, 1),
+            lambda: desk.matching("sched_waking", "pid > 0"),
+            lambda: desk.events_matching("sched_waking", "pid > 0"),
+            lambda: desk.is_deferred,
+            desk.__enter__,
+            reader.text,
+            reader.rows,
+            reader.totals,
+            reader.latencies,
+            reader.remove,
+            lambda: saver.canonical,
+            lambda: saver.filter,
+            lambda: setattr(saver, "filter", None),
+            lambda: setattr(saver, "filter", "pid > 0"),
+        ]
+        for call in calls:
+            with self.assertRaisesRegex(ValueError, "the desk is closed"):
+                call()
+
+    def test_with(self):
+        with histdesk.Desk() as desk:
+            self.assertEqual(desk.load(TRACE), 5)
+        self.assertIs(desk.closed, True)
+        with self.assertRaises(KeyError), histdesk.Desk() as desk:
+            raise KeyError
+        self.assertIs(desk.closed, True)
+
+    def test_other_threads(self):
+        desk, _, reader = with_waits()
+        calls = [desk.events, desk.close, desk.cpus, reader.rows, reader.remove]
+        calls += [lambda: desk.load(TRACE), lambda: desk.insert(LINE)]
+        for call in calls:
+            self.assertIn("thread", str(elsewhere(call)))
+            self.assertIsInstance(elsewhere(call), RuntimeError)
+        self.assertEqual(list(desk.events()), MERGED)
+        self.assertEqual(elsewhere(lambda: list(desk_of().events())), MERGED)
+        self.assertIn("thread", elsewhere(lambda: repr(desk)))
+        self.assertIn("thread", elsewhere(lambda: repr(reader)))
+
+    def test_collected_in_another_thread(self):
+        desks = [desk_of() for _ in range(50)]
+        cycle = [desks, with_waits()]
+        cycle.append(cycle)
+        del desks, cycle
+        elsewhere(gc.collect)
+        self.assertEqual(list(desk_of().events()), MERGED)
+
+    def test_its_thread_has_ended(self):
+        desk = elsewhere(desk_of)
+        with self.assertRaises(RuntimeError):
+            desk.cpus()
+        del desk
+        gc.collect()
+
+    def test_many_desks(self):
+        for _ in range(2000):
+            desk = desk_of(TRACE)
+        self.assertEqual(len(desk.events()), 5)
+
+    def test_copies(self):
+        desk = desk_of()
+        for call in [copy.copy, copy.deepcopy, pickle.dumps]:
+            with self.assertRaises(TypeError):
+                call(desk)
+
+    def test_values_are_copied(self):
+        desk, _, reader = with_waits(MAKER)
+        made = desk.attach("wakeup_latency", "hist:keys=lat.log2,pid.buckets=16")
+        key = tuple(made.rows()[0][:2])
+        for value in [*MERGED, *WAITS, reader.totals(), desk.strike(0, 1), *key]:
+            for again in [pickle.loads(pickle.dumps(value)), copy.copy(value), copy.deepcopy(value)]:
+                self.assertEqual((again, type(again), str(again)), (value, type(value), str(value)))
+
+    def test_end_of_the_program(self):
+        cycle = "cycle = [desk]; cycle.append(cycle)"
+        told = python(f"import histdesk; desk = histdesk.Desk(); desk.load(b'a-1 [000] 1.000000:'); {cycle}")
+        self.assertEqual(told, "")
+
+
+class Texts(unittest.TestCase):
+    """Bytes that aren't UTF-8, which go in and out as they are."""
+
+    NAME = b"\xff\xc3\xa4\xe2"
+    TEXT = "\udcffä\udce2"
+
+    def setUp(self):
+        self.desk = histdesk.Desk()
+        self.desk.insert(self.NAME + b"-1 [000] 1.000000: sched_waking: comm=" + self.NAME + b" pid=1 prio=2 target_cpu=000")
+
+    def test_out(self):
+        self.assertEqual((self.desk.event(0, 1).task, self.desk.event(0, 1).comm), (self.TEXT, self.TEXT))
+        self.assertEqual(self.desk.events()["task"], [self.TEXT])
+        self.assertIn(self.NAME, self.desk.list(0).encode("utf-8", "surrogateescape"))
+        trigger = self.desk.attach("sched_waking", "hist:keys=comm")
+        self.assertEqual(trigger.rows(), [(self.TEXT, 1)])
+        self.assertIn("{ comm: " + self.TEXT, trigger.text())
+        self.assertEqual([changed.key for changed in self.desk.strike(0, 1).changed], [(self.TEXT,)])
+
+    def test_in(self):
+        text = f"{self.TEXT}-1 [001] 1.000000: sched_waking: comm={self.TEXT} pid=1 prio=2 target_cpu=000"
+        self.assertEqual(self.desk.insert(text)[:2], (1, 1))
+        self.assertEqual(self.desk.event(1, 1).comm, self.TEXT)
+        trigger = self.desk.attach("sched_waking", f"hist:keys=pid if comm == '{self.TEXT}'")
+        self.assertEqual(trigger.totals().hits, 2)
+        self.assertEqual(trigger.filter, f'comm == "{self.TEXT}"')
+        trigger.filter = b"comm ~ '" + self.NAME[:1] + b"*'"
+        self.assertEqual(trigger.totals().hits, 2)
+        self.assertEqual(len(self.desk.matching("sched_waking", f"comm != '{self.TEXT}'")), 0)
+
+    @with_pandas
+    def test_in_pandas(self):
+        self.assertEqual(self.desk.to_pandas().task.tolist(), [self.TEXT])
+        self.assertEqual(self.desk.attach("sched_waking", "hist:keys=comm").to_pandas().comm.tolist(), [self.TEXT])
+
+    def test_shown(self):
+        trigger = self.desk.attach("sched_waking", "hist:keys=comm")
+        for text in [repr(trigger), trigger._repr_html_(), repr(self.desk.events())]:
+            self.assertIn("\\xffä\\xe2", text)
+            text.encode()
+
+    def test_zero_bytes(self):
+        self.desk.insert(b"a\0b\0-1 [002] 1.000000: sched_waking: comm=\0 pid=1 prio=2 target_cpu=000")
+        self.assertEqual((self.desk.event(2, 1).task, self.desk.event(2, 1).comm), ("a\0b\0", "\0"))
+        self.assertEqual(len(self.desk.matching("sched_waking", "comm == '\0'")), 1)
+
+    def test_text_that_is_no_bytes(self):
+        with self.assertRaises(UnicodeEncodeError):
+            self.desk.insert("\ud800-1 [000] 1.000000:")
+
+
+class Shown(unittest.TestCase):
+    def test_trigger(self):
+        _, saver, reader = with_waits()
+        self.assertEqual(
+            repr(reader),
+            """\
+histdesk.Trigger 2 on sched_switch: hist:keys=next_pid:vals=hitcount,$lat:lat=common_timestamp.usecs-$ts0:sort=hitcount:size=2048
+next_pid  hitcount  lat
+       7         1   30
+      42         1   50
+hits 2, entries 2, dropped 0""",
+        )
+        told = reader._repr_html_()
+        self.assertIn("<th>next_pid</th><th>hitcount</th><th>lat</th>", told)
+        self.assertIn("<tr><td>42</td><td>1</td><td>50</td></tr>", told)
+        self.assertIn("hits 2, entries 2, dropped 0", told)
+        reader.remove()
+        self.assertEqual(repr(reader), "<histdesk.Trigger 2 on sched_switch: no such trigger is attached>")
+        self.assertIn("no such trigger is attached", reader._repr_html_())
+
+    def test_texts_and_buckets(self):
+        desk = desk_of()
+        trigger = desk.attach("sched_waking", "hist:keys=comm,pid.buckets=16,prio.log2 if comm != '<b>'")
+        told = ["comm    pid  prio  hitcount", "w     32-47   2^7         1", "x      0-15  2^64         1"]
+        self.assertEqual(repr(trigger).split("\n")[1:4], told)
+        self.assertIn("&lt;b&gt;", trigger._repr_html_())
+        self.assertIn("<td>32-47</td><td>2^7</td>", trigger._repr_html_())
+
+    def test_long_table(self):
+        desk = histdesk.Desk()
+        for pid in range(30):
+            desk.insert(f"a-1 [000] 1.{pid:06}: sched_waking: comm=w pid={pid} prio=1 target_cpu=000")
+        lines = repr(desk.attach("sched_waking", "hist:keys=pid")).split("\n")
+        self.assertEqual(len(lines), 1 + 1 + 21 + 1)
+        told = ["pid  hitcount", "  0         1", "  9         1", " ..        ..", " 20         1", " 29         1"]
+        self.assertEqual([lines[at] for at in (1, 2, 11, 12, 13, 22)], told)
+        self.assertEqual(len(repr(desk.events()).split("\n")), 1 + 1 + 21)
+        self.assertIn("30 events", desk.events()._repr_html_())
+
+    def test_desk(self):
+        desk, _, _ = with_waits()
+        self.assertEqual(
+            repr(desk),
+            """\
+histdesk.Desk: 5 events
+CPU  events
+  0       3
+  1       2
+id  event         trigger
+ 1  sched_waking  hist:keys=pid:vals=hitcount:ts0=common_timestamp.usecs:sort=hitcount:size=2048
+ 2  sched_switch  hist:keys=next_pid:vals=hitcount,$lat:lat=common_timestamp.usecs-$ts0:sort=hitcount:size=2048""",
+        )
+        self.assertIn("<th>CPU</th><th>events</th>", desk._repr_html_())
+        self.assertEqual(repr(histdesk.Desk()), "histdesk.Desk: 0 events")
+        desk.close()
+        self.assertEqual(repr(desk), "<histdesk.Desk: the desk is closed>")
+
+    def test_events(self):
+        self.assertEqual(
+            repr(desk_of().events()[:2]),
+            """\
+<histdesk.Events: 2>
+  stamp  cpu  line  name          task    common_pid  comm  pid  prio
+1000050    0     2  other         my app           9
+1000100    1     1  sched_waking  sim              1  w      42   120""",
+        )
+
+
+# Sets a limit of so many bytes of memory above what is used, tells what a call raises, and takes the limit away.
+LIMITED = """
+import resource
+from python_answers import *
+
+def limited(room, call):
+    with open("/proc/self/statm") as file:
+        used = int(file.read().split()[0]) * resource.getpagesize()
+    resource.setrlimit(resource.RLIMIT_AS, (used + room, resource.RLIM_INFINITY))
+    try:
+        told = call()
+    except BaseException as error:
+        told = type(error).__name__
+    resource.setrlimit(resource.RLIMIT_AS, (resource.RLIM_INFINITY, resource.RLIM_INFINITY))
+    print(told)
+
+def waits(count):
+    for n in range(count):
+        yield f"a-1 [000] {n}.000000: sched_waking: comm=w pid=42 prio=1 target_cpu=000\\n"
+        yield f"a-1 [000] {n}.000007: sched_switch: prev_comm=a prev_pid=1 prev_prio=1 prev_state=S ==> next_comm=w next_pid=42 next_prio=1\\n"
+"""
+
+
+@unittest.skipUnless(sys.platform == "linux", "the limit is one of Linux")
+class Memory(unittest.TestCase):
+    def told(self, program):
+        # What is freed is given back at once, so that a limit leaves the room that it says.
+        return python(LIMITED + program, MALLOC_MMAP_THRESHOLD_="65536", MALLOC_TRIM_THRESHOLD_="65536")
+
+    def test_load(self):
+        program = """
+trace = "".join(waits(200000)).replace("[000]", "[002]").encode()
+desk, saver, reader = with_waits()
+limited(1 << 20, lambda: desk.load(trace))
+print(desk.cpus(), reader.totals(), desk.is_deferred)
+print(desk.load(trace), reader.totals().hits)
+"""
+        told = self.told(program)
+        self.assertEqual(told, "MemoryError\n{0: 3, 1: 2} Totals(hits=2, entries=2, dropped=0) False\n400000 200002\n")
+
+    def test_answers(self):
+        program = """
+desk = desk_of("".join(waits(200000)).encode())
+saver, reader = desk.attach("sched_waking", SAVER), desk.attach("sched_switch", READER)
+print(reader.totals().hits)
+limited(1 << 20, lambda: reader.latencies())
+limited(1 << 20, lambda: desk.events())
+limited(1 << 20, lambda: desk.list(0))
+print(len(reader.latencies()), len(desk.events()), reader.totals())
+"""
+        told = self.told(program)
+        self.assertEqual(told, "200000\n" + "MemoryError\n" * 3 + "200000 400000 Totals(hits=200000, entries=1, dropped=0)\n")
+
+    def test_deferred(self):
+        program = """
+desk = desk_of("".join(waits(40000)).encode())
+saver = desk.attach("sched_waking", SAVER)
+reader = limited(1 << 20, lambda: desk.attach("sched_switch", READER).id)
+print(desk.is_deferred)
+limited(1 << 20, lambda: desk.trigger(2).totals())
+limited(1 << 20, lambda: desk.strike(0, 1))
+print(desk.is_deferred, desk.trigger(2).totals().hits, desk.is_deferred)
+print(desk.strike(0, 3))
+"""
+        told = self.told(program)
+        edit = "Edit(cpu=0, line={}, changed={}, deferred={})\n"
+        changed = "[Changed(trigger=1, key=(42,)), Changed(trigger=2, key=(42,))]"
+        self.assertEqual(
+            told, "2\nTrue\nMemoryError\n" + edit.format(1, None, True) + "True 39999 False\n" + edit.format(3, changed, False)
+        )
+
+
+class Library(unittest.TestCase):
+    """Where the library is looked for."""
+
+    PROGRAM = "import histdesk; print(histdesk._library.library._name)"
+
+    def setUp(self):
+        folder = tempfile.TemporaryDirectory()
+        self.addCleanup(folder.cleanup)
+        self.folder = os.path.realpath(folder.name)
+
+    def put(self, package, library):
+        """A copy of the package in a folder, and the library in another one. Answers the library's path."""
+        shutil.copytree(os.path.join(PYTHON, "histdesk"), os.path.join(self.folder, package, "histdesk"))
+        place = os.path.join(self.folder, library, _library.NAME)
+        os.makedirs(os.path.dirname(place), exist_ok=True)
+        shutil.copy(os.path.realpath(_library.library._name), place)
+        return place
+
+    def test_installed(self):
+        places = [("a/lib/python3/dist-packages", "a/lib"), ("b/python", "b/lib"), ("c", "c/histdesk")]
+        for package, library in [*places, ("d/python", "d/crates/ft_c/out")]:
+            place = self.put(package, library)
+            told = python(self.PROGRAM, PYTHONPATH=os.path.join(self.folder, package), HISTDESK_LIBRARY="")
+            self.assertEqual(told, place + "\n")
+
+    def test_loader(self):
+        place = self.put("python", "elsewhere")
+        packages = os.path.join(self.folder, "python")
+        told = python(self.PROGRAM, PYTHONPATH=packages, HISTDESK_LIBRARY="", LD_LIBRARY_PATH=os.path.dirname(place))
+        self.assertEqual(told, _library.NAME + "\n")
+
+    def test_named(self):
+        place = self.put("python", "named")
+        self.assertEqual(python(self.PROGRAM, HISTDESK_LIBRARY=place), place + "\n")
+
+    def test_missing(self):
+        told = python("import histdesk", HISTDESK_LIBRARY=os.path.join(self.folder, "none"))
+        self.assertIn("ImportError: histdesk needs the library libhistdesk.so.0, which can't be loaded", told)
+        self.assertIn(self.folder, told)
+        self.assertIn("tools/install", told)
+
+    def test_of_another_version(self):
+        told = python("import histdesk", HISTDESK_LIBRARY=ctypes.util.find_library("c"))
+        self.assertIn("has no call histdesk_new: it is of another version than this package", told)
+
+
+@unittest.skipUnless(os.path.exists(HEADER), "include/histdesk.h is missing")
+class Header(unittest.TestCase):
+    """The package knows the library as histdesk.h has it."""
+
+    # What the package calls each struct, and how it reads it.
+    STRUCTS = {
+        "line": _layout.Line,
+        "totals": _layout.Totals,
+        "report": _layout.Report,
+        "refusal": _layout.Refusal,
+        "place": _layout.PLACE,
+        "row": _layout.ROW,
+        "latency": _layout.LATENCY,
+        "event": _layout.EVENT,
+        "trigger": _layout.TRIGGER,
+        "changed": _layout.CHANGED,
+    }
+
+    def setUp(self):
+        with open(HEADER, encoding="utf-8") as file:
+            self.text = file.read()
+
+    def test_calls(self):
+        declared = set(re.findall(r"^\w+ (histdesk_\w+)\(", self.text, re.MULTILINE))
+        self.assertEqual(declared, {*_library.CALLS, *_library.REFUSAL_CALLS})
+
+    def test_numbers_of_arguments(self):
+        for name, arguments in re.findall(r"^\w+ (histdesk_\w+)\((.*?)\);", self.text, re.MULTILINE):
+            self.assertEqual(len(getattr(_library.library, name).argtypes), len(arguments.split(",")), name)
+
+    def test_sizes(self):
+        sizes = dict(re.findall(r"sizeof\(histdesk_(\w+)\) == ([0-9]+)", self.text))
+        for name, struct in self.STRUCTS.items():
+            size = ctypes.sizeof(struct) if isinstance(struct, type) else struct.size
+            self.assertEqual(size, int(sizes[name]), name)
+
+    def test_offsets(self):
+        for name, field, offset in re.findall(r"AT_\(histdesk_(\w+), (\w+), ([0-9]+)\)", self.text):
+            struct = self.STRUCTS.get(name)
+            if isinstance(struct, type):
+                self.assertEqual(getattr(struct, field).offset, int(offset), (name, field))
+            elif name == "event" and field in _layout.TEXTS_AT:
+                self.assertEqual(_layout.TEXTS_AT[field], int(offset), field)
+
+    @with_numpy
+    def test_offsets_in_numpy(self):
+        fields = _layout.event_type().fields
+        found = re.findall(r"AT_\(histdesk_event, (\w+), ([0-9]+)\)", self.text)
+        self.assertEqual([fields[field][1] for field, _ in found], [int(offset) for _, offset in found])
+        self.assertEqual(_layout.event_type().itemsize, _layout.EVENT.size)
+        self.assertEqual(_layout.latency_type().itemsize, _layout.LATENCY.size)
+        self.assertEqual(_layout.place_type().itemsize, _layout.PLACE.size)
+
+
+class Documents(unittest.TestCase):
+    def test_examples(self):
+        tried = doctest.testmod(histdesk)
+        self.assertEqual(tried.failed, 0)
+        self.assertGreater(tried.attempted, 20)
+
+    def test_each_name_has_words(self):
+        for name in histdesk.__all__:
+            thing = getattr(histdesk, name)
+            self.assertTrue(inspect.getdoc(thing), name)
+            public = {member: value for member, value in vars(thing).items() if not member.startswith("_")}
+            for member, value in public.items():
+                if callable(value) or isinstance(value, property):
+                    self.assertTrue(inspect.getdoc(value), f"{name}.{member}")
+
+    def test_typed(self):
+        self.assertTrue(os.path.exists(os.path.join(PYTHON, "histdesk", "py.typed")))
+
+
+if __name__ == "__main__":
+    sys.exit(main(python_answers))

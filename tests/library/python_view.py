@@ -1,0 +1,798 @@
+#!/usr/bin/env python3
+"""Holds what tools/view answers a browser: the waits beside a plain reckoning and beside the other tools, filters, triggers and
+strikes beside what the program prints; and whom its server answers.
+
+    python_view.py [HISTDESK [TEST]...]
+
+HISTDESK is the program; without it, or where numpy is missing, a line says what was not tried. The last line says how many
+tests hold."""
+
+import base64
+import gzip
+import json
+import os
+import random
+import re
+import shlex
+import struct
+import subprocess
+import sys
+import tempfile
+import unittest
+import unittest.mock
+import warnings
+
+# Nothing is written beside the sources.
+sys.dont_write_bytecode = True
+
+HERE = os.path.dirname(os.path.realpath(__file__))
+PYTHON = os.path.realpath(os.path.join(HERE, "..", "..", "python"))
+TOOLS = os.path.realpath(os.path.join(HERE, "..", "..", "tools"))
+EXAMPLES = os.path.realpath(os.path.join(HERE, "..", "..", "examples"))
+sys.path[:0] = [PYTHON, HERE, os.path.join(HERE, "..", "model")]
+HISTDESK = os.path.realpath(sys.argv.pop(1)) if len(sys.argv) > 1 and os.path.isfile(sys.argv[1]) else None
+
+import histdesk
+import plain_waits
+import recordings
+from histdesk import _recording, _serve, _view, _waits
+from python_answers import with_numpy
+from python_runner import main
+from recordings import Place, switch, text_of, waking
+
+with_program = unittest.skipUnless(HISTDESK, "no program was named")
+
+COLUMNS = [
+    ("begin", "d"),
+    ("micros", "I"),
+    ("end_line", "I"),
+    ("pid", "i"),
+    ("name", "I"),
+    ("prio", "i"),
+    ("begin_line", "I"),
+    ("begin_cpu", "H"),
+    ("end_cpu", "H"),
+    ("kind", "B"),
+    ("doubtful", "B"),
+]
+KINDS = ["woken", "new", "preempted"]
+# Filters, by their event, and the lines that they mean.
+FILTERS = {
+    ("sched_waking", "pid < 110"): rb"sched_waking: .* pid=10[0-9] ",
+    ("sched_waking", "pid == 104 || pid > 110"): rb"sched_waking: .* pid=(104|11[1-9]|1[2-9][0-9]) ",
+    ("sched_wakeup_new", ""): rb"sched_wakeup_new: ",
+    ("sched_switch", 'prev_state == "R+"'): rb"sched_switch: .* prev_state=R\+ ",
+    ("sched_switch", "next_pid & 1"): rb"sched_switch: .* next_pid=[0-9]*[13579] ",
+}
+
+
+def recording_of(text, **choice):
+    """A text as the package has read it, without warnings."""
+    with warnings.catch_warnings():
+        warnings.simplefilter("ignore", histdesk.LossWarning)
+        return _recording.read(text, spare=_waits.SPARE, **choice)
+
+
+def view_of(*texts):
+    """What a page shows of texts."""
+    return _view.View([_view.Side(recording_of(text)) for text in texts], "tools/view")
+
+
+def example(name):
+    with open(os.path.join(EXAMPLES, name), "rb") as file:
+        return file.read()
+
+
+def unpacked(content, count):
+    """Waits of the binary form, as dictionaries."""
+    columns, at = {}, 0
+    for name, code in COLUMNS:
+        columns[name] = struct.unpack_from(f"<{count}{code}", content, at)
+        at += -(-count * struct.calcsize(code) // 8) * 8
+    assert at == len(content), (at, len(content))
+    return [dict(zip(columns, row)) for row in zip(*columns.values())]
+
+
+def told(rows, about):
+    """Waits of the binary form as the reckoning has them."""
+    return [
+        recordings.Wait(
+            KINDS[row["kind"]],
+            row["pid"],
+            about["tasks"][row["name"]],
+            row["prio"],
+            Place(about["first"] + int(row["begin"]), row["begin_cpu"], row["begin_line"]),
+            Place(about["first"] + int(row["begin"]) + row["micros"], row["end_cpu"], row["end_line"]),
+            bool(row["doubtful"]),
+        )
+        for row in rows
+    ]
+
+
+def waits_in(view, recording=0):
+    """The waits of a view's recording."""
+    about = view.about()["recordings"][recording]
+    return told(unpacked(view.waits(recording), about["waits"]), about)
+
+
+def bits_of(text, count):
+    """The mask of that text."""
+    content = base64.b64decode(text)
+    assert len(content) == (count + 7) // 8
+    return [bool(content[at // 8] >> at % 8 & 1) for at in range(count)]
+
+
+def behind(view, answer):
+    """The waits behind strikes, of their answer: those before that are left, and the new ones."""
+    about = view.about()["recordings"][0]
+    taken = base64.b64decode(answer["changed"]["taken"])
+    places = struct.unpack(f"<{len(taken) // 4}I", taken)
+    assert list(places) == sorted(set(places))
+    left = [wait for at, wait in enumerate(waits_in(view)) if at not in set(places)]
+    new = told(unpacked(base64.b64decode(answer["changed"]["new"]), answer["changed"]["count"]), about)
+    return left, new
+
+
+def without(text, strikes):
+    """A text of which the lines of events are comments that some filters mean, and how many lines each means. So lines keep
+    their order, but not their number on a CPU."""
+    patterns = [re.compile(FILTERS[one]) for one in strikes]
+    lines = text.split(b"\n")
+    counts = [sum(bool(pattern.search(line)) for line in lines) for pattern in patterns]
+    return b"\n".join(b"# " if any(pattern.search(line) for pattern in patterns) else line for line in lines), counts
+
+
+def renumbered(waits, text, stripped):
+    """Waits of a stripped text with the lines of the whole one."""
+    lines, known = {}, {}
+    for whole, left in zip(text.split(b"\n"), stripped.split(b"\n")):
+        event = plain_waits.LINE.fullmatch(whole.decode("utf-8", "surrogateescape"))
+        if event:
+            cpu = int(event["cpu"])
+            lines[cpu] = lines.get(cpu, 0) + 1
+            if left == whole:
+                known.setdefault(cpu, []).append(lines[cpu])
+    return [
+        wait._replace(
+            begin=wait.begin._replace(line=known[wait.begin.cpu][wait.begin.line - 1]),
+            end=wait.end._replace(line=known[wait.end.cpu][wait.end.line - 1]),
+        )
+        for wait in waits
+    ]
+
+
+def reckoned(text, strikes):
+    """The waits without the events that some filters mean, by the plain reckoning; where events were lost is known."""
+    stripped, counts = without(text, strikes)
+    gaps = plain_waits.gaps_of(text)
+    with unittest.mock.patch.object(plain_waits, "gaps_of", lambda text: list(gaps)):
+        return renumbered(plain_waits.waits_of(stripped), text, stripped), counts
+
+
+def program(*lines, trace):
+    """What the program prints of a script over a trace."""
+    with tempfile.TemporaryDirectory() as folder:
+        paths = [os.path.join(folder, name) for name in ("script", "trace")]
+        for path, content in zip(paths, ("".join(f"{line}\n" for line in lines).encode(), trace)):
+            with open(path, "wb") as file:
+                file.write(content)
+        return subprocess.run([HISTDESK, *paths], capture_output=True, check=False).stdout.decode("utf-8", "surrogateescape")
+
+
+def crowded(seed, count=400):
+    """Lines by chance with few stamps, so that many events of a CPU have the same one; none are lost."""
+    chance, lines = random.Random(seed), []
+    for at in range(count):
+        cpu, micros, pid = chance.randrange(3), 1000 + at // 9, 100 + chance.randrange(8)
+        if chance.random() < 0.5:
+            event = chance.choice(["sched_waking", "sched_waking", "sched_wakeup_new"])
+            lines.append(waking(cpu, micros, pid, event=event))
+        else:
+            before = f"p-{100 + chance.randrange(8)}"
+            lines.append(switch(cpu, micros, before, f"w-{pid}", state=chance.choice(["R", "R+", "S"])))
+    return text_of(lines)
+
+
+@with_numpy
+class Shown(unittest.TestCase):
+    """What a view knows of recordings."""
+
+    def test_waits(self):
+        texts = {name: known.text for name, known in recordings.all_known().items()}
+        texts.update(
+            {name: example(name) for name in ("recipes.trace", "who-wakes.trace", "wakeups.trace", "full-table.trace")}
+        )
+        for name, text in texts.items():
+            with self.subTest(name):
+                self.assertEqual(waits_in(view_of(text)), plain_waits.waits_of(text))
+
+    def test_waits_known_by_hand(self):
+        known = recordings.hole_at_start()
+        view = view_of(known.text)
+        self.assertEqual(waits_in(view), list(known.waits))
+        about = view.about()["recordings"][0]
+        self.assertEqual([about[name] for name in ("events", "first", "last", "cpus")], [12, 1000000, 2620761, [0, 1, 2]])
+        self.assertEqual(about["holes"], [{"cpu": 2, "after": None, "before": 2250000}])
+        self.assertEqual(about["warning"], recording_of(known.text).warning)
+        self.assertEqual((about["path"], about["remarks"], about["waits"]), (None, [], 5))
+        first = unpacked(view.waits(0), 5)[0]
+        wanted = [100.0, 1130399, 3, 42, about["tasks"].index("victim"), 120, 2, 0, 0, 0, 1]
+        self.assertEqual(list(first.values()), wanted)
+
+    def test_long_waits(self):
+        """A wait of more than 71 minutes is shown as of that."""
+        view = view_of(text_of([waking(0, 1000, 2), switch(0, 2**33, "<idle>-0", "w-2", state="R")]))
+        self.assertEqual([row["micros"] for row in unpacked(view.waits(0), 1)], [4294967295])
+
+    def test_odd_names(self):
+        known = recordings.odd_names()
+        tasks = view_of(known.text).about()["recordings"][0]["tasks"]
+        self.assertLessEqual({wait.name for wait in known.waits}, set(tasks))
+        sent = json.loads(_serve.json_of(tasks).content.decode("ascii"))
+        self.assertEqual(sent, tasks)
+
+    def test_nothing(self):
+        for text in (b"", b"# tracer: nop\n", text_of([waking(0, 5, 7)]), text_of([switch(3, 5, "a-1", "b-2")])):
+            view = view_of(text)
+            about = view.about()["recordings"][0]
+            self.assertEqual((about["waits"], view.waits(0), about["events"]), (0, b"", text.count(b": sched_")))
+            self.assertEqual(view.filter(0, "sched_switch", ""), {"count": 0, "chosen": ""})
+            answer = view.strike([("sched_waking", ""), ("sched_switch", "")])
+            self.assertEqual((answer["changed"]["count"], answer["rows"]), (0, []))
+            self.assertEqual(answer["struck"], [text.count(b": sched_waking"), text.count(b": sched_switch")])
+        self.assertEqual(about["cpus"], [3])
+        self.assertEqual(view_of(b"").about()["recordings"][0]["first"], None)
+
+    def test_differences(self):
+        """What differs between two recordings is what the package says, while something is struck too; of one there is none."""
+        texts = [example("recipes-before.trace"), example("recipes.trace")]
+        self.assertEqual(view_of(texts[0]).differences(), {"rows": []})
+        self.assertEqual(view_of(texts[0], texts[0]).differences(), {"rows": []})
+        for before, behind in (texts, texts[::-1], (texts[0], b""), (b"", texts[1])):
+            view = view_of(before, behind)
+            view.strike([("sched_waking", "pid > 0")])
+            rows = [
+                (row.key, *((side.count, side.p50, side.p99, side.max) if side.count else None for side in row[1:]))
+                for row in histdesk.diff(before, behind).table("name")
+            ]
+            told = [
+                ((row["task"], row["kind"]), *(row[side] and tuple(row[side].values()) for side in ("before", "behind")))
+                for row in view.differences()["rows"]
+            ]
+            self.assertEqual(told, rows)
+            self.assertTrue(rows)
+
+    def test_remarks(self):
+        text = text_of([waking(0, 5, 7)])
+        self.assertEqual(
+            view_of(text).about()["recordings"][0]["remarks"],
+            ["there is no sched_switch of a task, so nothing is known of preempted ones"],
+        )
+        side = _view.Side(recording_of(text, until=7), ["a line"])
+        self.assertEqual(side.about()["remarks"][0], "a line")
+
+    def test_two(self):
+        names = ("recipes-before.trace", "recipes.trace")
+        view = view_of(*map(example, names))
+        for at, name in enumerate(names):
+            self.assertEqual(waits_in(view, at), plain_waits.waits_of(example(name)))
+        for number in (-1, 2):
+            for ask in (view.waits, lambda at: view.filter(at, "sched_switch", "")):
+                with self.assertRaisesRegex(ValueError, f"there is no recording {number}"):
+                    ask(number)
+
+    def test_part(self):
+        """Lines are those of the whole recording where a part of it was taken."""
+        text = recordings.simulated(3).text
+        stamps = sorted(event.place.stamp for event in plain_waits.events_of(text))
+        start, until = stamps[len(stamps) // 4], stamps[-20]
+        side = _view.Side(recording_of(text, start=start, until=until))
+        view = _view.View([side])
+        kept = [wait for wait in plain_waits.waits_of(text) if wait.begin.stamp >= start and wait.end.stamp < until]
+        found = [wait for wait in waits_in(view) if wait.begin.stamp >= start]
+        self.assertEqual([wait for wait in found if wait in kept], kept)
+        strikes = [("sched_waking", "pid < 110")]
+        answer = view.strike(strikes)
+        left, new = behind(view, answer)
+        lines = [line for line in text.split(b"\n") if b": sched_waking:" in line and re.search(FILTERS[strikes[0]], line)]
+        self.assertEqual(answer["struck"], [sum(start <= stamp_of(line) < until for line in lines)])
+        self.assertGreater(len(waits_in(view)), len(left))
+        answer = view.strike([])
+        self.assertEqual((answer["changed"]["count"], answer["changed"]["taken"]), (0, ""))
+        self.assertIn("part of one", view.script(0, _view.Asked("sched_waking", "", "hist:keys=pid"), [])["refused"])
+
+    def test_long_parts(self):
+        """Of a trace with more events than a desk holds those are left out that no wait needs; one wait is told with them."""
+        lines, limit = [], 25
+        for at in range(1000, 2000, 100):
+            lines += [waking(0, at, 7, target=1), waking(0, at + 3, 7, target=1, event="sched_wakeup")]
+            lines.append(switch(1, at + 9, "<idle>-0", "w-7", state="R"))
+        with tempfile.TemporaryDirectory() as folder:
+            path = os.path.join(folder, "my.trace")
+            with open(path, "wb") as file:
+                file.write(text_of(lines))
+            with unittest.mock.patch.object(_recording, "LIMIT", limit), unittest.mock.patch("histdesk._part.LIMIT", limit):
+                view = view_of(path)
+                about = view.about()["recordings"][0]
+                answer = view.wait(0, (1, 9))
+        self.assertEqual((about["events"], about["path"], about["waits"]), (20, path, 10))
+        # The lines are those of the whole file.
+        self.assertEqual([wait.begin.line for wait in waits_in(view)], list(range(1, 20, 2)))
+        marks = [(mark["what"], mark["cpu"], mark["stamp"]) for mark in answer["marks"]]
+        self.assertEqual(marks, [("woken", 0, 1800), ("queued", 1, 1803), ("ran", 1, 1809)])
+
+
+def stamp_of(line):
+    """The stamp of a line."""
+    found = re.search(rb" ([0-9]+)\.([0-9]{6}): ", line)
+    return int(found[1]) * 1000000 + int(found[2])
+
+
+@with_numpy
+class Filters(unittest.TestCase):
+    def test_chosen(self):
+        """A mask of the waits whose event a filter means."""
+        for seed in range(3):
+            text = recordings.simulated(seed).text
+            view, waits = view_of(text), plain_waits.waits_of(text)
+            for (event, condition), pattern in FILTERS.items():
+                answer = view.filter(0, event, condition)
+                places = places_of(text, pattern)
+                end = "end" if event == "sched_switch" else "begin"
+                wanted = [getattr(wait, end) in places and is_of(wait, event) for wait in waits]
+                self.assertEqual(bits_of(answer["chosen"], len(waits)), wanted)
+                self.assertEqual(answer["count"], sum(wanted))
+                self.assertNotIn("new", answer)
+
+    def test_empty(self):
+        text = example("recipes.trace")
+        view, waits = view_of(text), plain_waits.waits_of(text)
+        for blank in ("", "  "):
+            self.assertEqual(view.filter(0, "sched_switch", blank)["count"], len(waits))
+            self.assertEqual(view.filter(0, "sched_waking", blank)["count"], sum(wait.kind == "woken" for wait in waits))
+            self.assertEqual(view.filter(0, "sched_wakeup", blank)["count"], 0)
+
+    def test_refused(self):
+        view = view_of(example("recipes.trace"))
+        # An umlaut is one character of a browser's, and what lies beyond the first plane two.
+        words = {
+            "pid >> 100": ("no such thing may stand here", 5),
+            'comm == "\u00fc\U0001f600" && nope': ("the event has no such field", 17),
+            "nope": ("the event has no such field", 0),
+        }
+        for text, (why, at) in words.items():
+            answer = view.filter(0, "sched_waking", text)
+            self.assertEqual(answer, {"refused": f"the filter can't be read: {why}", "at": at})
+        self.assertEqual(view.filter(0, "no_event", "pid > 1"), {"refused": "there is no such command or event", "at": None})
+
+
+def places_of(text, pattern):
+    """Where the events of a text stand that a pattern means."""
+    counts, found = {}, set()
+    for line in text.split(b"\n"):
+        event = plain_waits.LINE.fullmatch(line.decode("utf-8", "surrogateescape"))
+        if event:
+            cpu = int(event["cpu"])
+            counts[cpu] = counts.get(cpu, 0) + 1
+            if re.search(pattern, line):
+                found.add(Place(stamp_of(line), cpu, counts[cpu]))
+    return found
+
+
+def is_of(wait, event):
+    """Whether an event of that name may begin or end a wait."""
+    return event == "sched_switch" or {"sched_waking": "woken", "sched_wakeup_new": "new"}[event] == wait.kind
+
+
+@with_numpy
+class Triggers(unittest.TestCase):
+    """Tables beside those that the program prints."""
+
+    TRIGGERS = [
+        ("sched_waking", "hist:keys=pid"),
+        ("sched_waking", "hist:keys=comm,prio:vals=target_cpu:sort=hitcount.descending if pid > 100"),
+        ("sched_switch", "hist:keys=next_pid.log2,prev_state:size=128"),
+        ("sched_switch", "hist:keys=prev_pid.buckets=1000,next_comm:vals=next_prio:sort=next_prio"),
+    ]
+
+    @with_program
+    def test_tables(self):
+        text = example("recipes.trace")
+        view = view_of(text)
+        for event, trigger in self.TRIGGERS:
+            answer = view.trigger(0, event, trigger)
+            printed = program("load @1", f"attach {event} {trigger}", "hist 1", "totals 1", trace=text)
+            self.assertEqual(shown(answer), rows_of(printed), trigger)
+            self.assertEqual(f"# trigger info: {answer['trigger']} [active]", printed.split("\n")[4])
+            self.assertEqual(
+                list(answer["totals"].values()), list(map(int, re.findall("[a-z]+ ([0-9]+)", printed.split("\n")[-2])))
+            )
+            self.assertEqual(answer["more"], 0)
+        # Nothing stays attached but what measures waits.
+        self.assertEqual(len(view.sides[0].ended.desk.triggers()), 6)
+
+    def test_many_rows(self):
+        lines = [waking(0, 1000 + at, 100 + at) for at in range(1500)]
+        answer = view_of(text_of(lines)).trigger(0, "sched_waking", "hist:keys=pid")
+        self.assertEqual((answer["rows"][999], len(answer["rows"]), answer["more"]), ([1099, 1], 1000, 500))
+        self.assertEqual(answer["columns"], ["pid", "hitcount"])
+        self.assertEqual(answer["totals"], {"hits": 1500, "entries": 1500, "dropped": 0})
+
+    def test_refused(self):
+        view = view_of(example("recipes.trace"))
+        # What measures waits isn't there for others to read.
+        answers = {
+            "": ("the trigger can't be read", None),
+            "hist:keys=pid if pid >> 1": ("the trigger can't be read: its filter: no such thing may stand here", 22),
+            "hist:keys=next_pid:a=common_timestamp.usecs-$begin0": (
+                "no attached trigger saves the variable that it reads",
+                None,
+            ),
+        }
+        for text, (why, at) in answers.items():
+            answer = view.trigger(0, "sched_switch" if "next" in text else "sched_waking", text)
+            self.assertTrue(answer["refused"].startswith(why), answer)
+            if at is not None:
+                self.assertEqual(answer["at"], at)
+        self.assertIn("refused", view.trigger(0, "no_event", "hist:keys=pid"))
+
+
+def shown(answer):
+    """The rows of a table, as the program prints them, by the parts of a key and the sums: texts without spaces at their
+    ends."""
+    return [[str(part).strip() for part in row] for row in answer["rows"]]
+
+
+def rows_of(printed):
+    """The same of what the program prints."""
+    rows = []
+    for row in re.findall(r"^\{ (.*) \} (hitcount: .*)$", printed, re.MULTILINE):
+        parts = [part.partition(":")[2].strip() for part in row[0].split(", ")]
+        rows.append([re.sub(r"^~ ", "", part) for part in parts] + re.findall(r"[^ ]+: +([0-9]+)", row[1]))
+    return rows
+
+
+@with_numpy
+class OneWait(unittest.TestCase):
+    """The strip of a wait."""
+
+    def test_by_hand(self):
+        lines = [
+            switch(0, 1000, "<idle>-0", "a-1", state="R"),
+            switch(1, 1100, "<idle>-0", "c-3", state="R"),
+            waking(1, 2000, 2, name="b"),
+            switch(0, 2100, "a-1", "d-4", state="S"),
+            switch(0, 2250, "d-4", "b-2", state="R+", prio=98),
+            switch(1, 2290, "c-3", "<idle>-0", state="D"),
+            switch(0, 5000, "b-2", "<idle>-0", state="S"),
+        ]
+        answer = view_of(text_of(lines)).wait(0, (0, 3))
+        about = {
+            name: answer[name] for name in ("kind", "task", "pid", "prio", "begin", "end", "cpu", "doubtful", "is_over", "cut")
+        }
+        wanted = {"kind": "woken", "task": "b", "pid": 2, "prio": 98, "begin": 2000, "end": 2250, "cpu": 0, "doubtful": False}
+        self.assertEqual(about, {**wanted, "is_over": True, "cut": False})
+        self.assertEqual((answer["from"], answer["until"]), (1950, 2300))
+        self.assertEqual(answer["who"], {"task": "<idle>", "pid": 0, "prio": None, "cpu": 1, "context": "hardirq"})
+        self.assertEqual([lane["cpu"] for lane in answer["cpus"]], [0, 1])
+        self.assertEqual(
+            [list(stretch.values()) for stretch in answer["cpus"][0]["stretches"]],
+            [
+                ["a", 1, 120, 1950, 2100, "S", False],
+                ["d", 4, 120, 2100, 2250, "R+", False],
+                ["b", 2, 98, 2250, 2300, None, False],
+            ],
+        )
+        self.assertEqual(list(answer["cpus"][0]["stretches"][0]), ["task", "pid", "prio", "begin", "end", "state", "lost"])
+        self.assertEqual(
+            answer["marks"],
+            [{"cpu": 1, "stamp": 2000, "what": "woken"}, {"cpu": 0, "stamp": 2250, "what": "ran"}],
+        )
+
+    def test_windows(self):
+        view = view_of(example("recipes.trace"))
+        about = view.about()["recordings"][0]
+        window = _view.Window(about["first"] - 500, about["last"] + 500)
+        answer = view.wait(0, (0, 24), window)
+        self.assertEqual((answer["from"], answer["until"]), (about["first"], about["last"]))
+        for lane in answer["cpus"]:
+            times = [(stretch["begin"], stretch["end"]) for stretch in lane["stretches"]]
+            self.assertEqual((times[0][0], times[-1][1]), (about["first"], about["last"]))
+            self.assertEqual([end for _, end in times[:-1]], [begin for begin, _ in times[1:]])
+        with self.assertRaisesRegex(ValueError, "until is to be behind from"):
+            view.wait(0, (0, 24), _view.Window(7, 7))
+
+    def test_words(self):
+        """The text is that of tools/why; of what belongs to no wait its reason."""
+        path = os.path.join(EXAMPLES, "recipes.trace")
+        view = view_of(path)
+        for place in ((0, 24), (1, 49), (3, 3), (2, 5), (0, 1), (9, 1), (1, 1000)):
+            said = subprocess.run(
+                [sys.executable, os.path.join(TOOLS, "why"), path, "%d:%d" % place], capture_output=True, text=True, check=False
+            )
+            answer = view.wait(0, place)
+            if said.returncode:
+                self.assertEqual(said.stderr, f"why: {answer['refused']}\n")
+            else:
+                self.assertEqual(said.stdout, answer["text"] + "\n")
+
+    def test_holes(self):
+        answer = view_of(recordings.lost_in_middle().text).wait(0, (3, 4))
+        self.assertTrue(answer["doubtful"])
+        self.assertEqual(answer["holes"], [{"cpu": 3, "after": 5000100, "before": 5600000}])
+        lost = [stretch for stretch in answer["cpus"][-1]["stretches"] if stretch["lost"]]
+        self.assertEqual([(stretch["begin"], stretch["end"], stretch["pid"]) for stretch in lost], [(5000100, 5600000, None)])
+
+    def test_cut(self):
+        lines = [waking(0, 1000000, 7, name="w"), switch(1, 1000001, "<idle>-0", "a-1", state="R")]
+        for at in range(6000):
+            before, after = f"t-{100 + at % 50}", f"t-{100 + (at + 1) % 50}"
+            lines.append(switch(0, 1000010 + 10 * at, before, after, state="R"))
+        lines.append(switch(1, 1070000, "a-1", "w-7", state="S"))
+        answer = view_of(text_of(lines)).wait(0, (1, 2))
+        self.assertTrue(answer["cut"])
+        self.assertLessEqual(sum(len(lane["stretches"]) for lane in answer["cpus"]), 5000)
+        self.assertLess(answer["until"], 1070000)
+
+
+@with_numpy
+class Strikes(unittest.TestCase):
+    """Waits behind strikes, beside the plain reckoning over the text without these lines."""
+
+    def check(self, view, text, strikes):
+        """Strikes, and compares."""
+        answer = view.strike(strikes)
+        waits, counts = reckoned(text, strikes)
+        left, new = behind(view, answer)
+        self.assertEqual(sorted([*left, *new], key=lambda wait: wait.end), waits)
+        self.assertEqual(answer["struck"], counts)
+        before, gone, ends = waits_in(view), [], {wait.end for wait in waits}
+        gone = sum(wait.end not in ends for wait in before)
+        known = {wait.end: wait.begin for wait in before}
+        moved = sum(wait.end in known and known[wait.end] != wait.begin for wait in waits)
+        fresh = sum(wait.end not in known for wait in waits)
+        self.assertEqual(answer["report"][-1], f"{gone} waits are gone, {moved} begin with another event, and {fresh} are new")
+        self.assertEqual(rows_told(answer), rows_reckoned(before, waits))
+        return answer
+
+    def test_simulated(self):
+        for seed in range(4):
+            text = recordings.simulated(seed, holes=seed).text
+            view = view_of(text)
+            for strikes in [[one] for one in FILTERS] + [list(FILTERS)[:2], list(FILTERS)[1:], list(FILTERS), []]:
+                with self.subTest(f"{seed} {strikes}"):
+                    self.check(view, text, strikes)
+
+    def test_crowded(self):
+        """Events of one CPU with one stamp come back in their order."""
+        chance = random.Random(7)
+        for seed in range(6):
+            text = crowded(seed)
+            view = view_of(text)
+            for _ in range(8):
+                self.check(view, text, chance.sample(list(FILTERS), chance.randrange(4)))
+            answer = self.check(view, text, [])
+            self.assertEqual((answer["changed"]["count"], answer["changed"]["taken"], answer["rows"]), (0, "", []))
+
+    def test_filters_of_struck(self):
+        """Filters choose struck events too, and the waits that are new."""
+        text = recordings.simulated(1).text
+        view = view_of(text)
+        masks = {one: view.filter(0, *one) for one in FILTERS}
+        for strikes in ([("sched_waking", "pid < 110")], [("sched_switch", "next_pid & 1"), ("sched_wakeup_new", "")]):
+            answer = self.check(view, text, strikes)
+            _, new = behind(view, answer)
+            for (event, condition), pattern in FILTERS.items():
+                found, places = view.filter(0, event, condition), places_of(text, pattern)
+                self.assertEqual({name: found[name] for name in ("count", "chosen")}, masks[event, condition])
+                end = "end" if event == "sched_switch" else "begin"
+                wanted = [getattr(wait, end) in places and is_of(wait, event) for wait in new]
+                self.assertEqual(bits_of(found["new"], len(new)), wanted)
+
+    def test_report(self):
+        view = view_of(example("recipes.trace"))
+        answer = view.strike([("sched_waking", "common_pid == 24659")])
+        wanted = [
+            "without 6 of 68 sched_waking if common_pid == 24659",
+            "2 waits are gone, 0 begin with another event, and 0 are new",
+        ]
+        said = subprocess.run(
+            [sys.executable, os.path.join(TOOLS, "diff"), os.path.join(EXAMPLES, "recipes.trace")]
+            + ["--without", "sched_waking if common_pid == 24659", "--json"],
+            capture_output=True,
+            text=True,
+            check=False,
+        )
+        self.assertEqual(answer["report"], wanted)
+        rows = json.loads(said.stdout)["rows"]
+        self.assertEqual(len(rows), len(answer["rows"]))
+        for row in rows:
+            mine = next(one for one in answer["rows"] if (one["pid"], one["kind"]) == (row["pid"], row["kind"]))
+            self.assertEqual(mine["task"], row["task"])
+            for side in ("before", "behind"):
+                figures = mine[side] or {"count": 0, "p50": None, "p99": None, "max": None}
+                self.assertEqual(
+                    *(
+                        [one[name] for name in ("count", "p50", "p99", "max")]
+                        for one in (figures, {name: row[f"{name}_{side}"] for name in ("count", "p50", "p99", "max")})
+                    )
+                )
+
+    def test_waits_told(self):
+        """A wait that begins elsewhere without struck events is told as it is then, where that is asked for."""
+        lines = [waking(0, 1000, 2), waking(0, 1100, 2, target=1), switch(0, 1200, "<idle>-0", "w-2", state="R")]
+        view = view_of(text_of(lines))
+        self.assertEqual(view.wait(0, (0, 3), behind=True)["begin"], 1100)
+        self.assertEqual(view.strike([("sched_waking", "target_cpu == 1")])["struck"], [1])
+        told = [view.wait(0, (0, 3), behind=one) for one in (False, True)]
+        self.assertEqual([one["begin"] for one in told], [1100, 1000])
+        self.assertIn(" waited 200 us for CPU 0, ", told[1]["text"])
+        self.assertEqual(told[1]["marks"][0], {"cpu": 0, "stamp": 1000, "what": "woken"})
+        # Where it ends no wait then, it is told as it was.
+        self.assertEqual(view.strike([("sched_waking", "pid == 2")])["struck"], [2])
+        self.assertEqual(view.wait(0, (0, 3), behind=True)["begin"], 1100)
+
+    def test_tables(self):
+        """A trigger's table is that without the struck events."""
+        text = example("recipes.trace")
+        view = view_of(text)
+        view.strike([("sched_waking", "pid < 60")])
+        self.assertEqual(view.trigger(0, "sched_waking", "hist:keys=pid")["totals"]["hits"], 64)
+        view.strike([])
+        self.assertEqual(view.trigger(0, "sched_waking", "hist:keys=pid")["totals"]["hits"], 68)
+
+    def test_refused(self):
+        text = recordings.simulated(2).text
+        view = view_of(text)
+        kept = [("sched_waking", "pid < 110")]
+        self.check(view, text, kept)
+        answer = view.strike([*kept, ("sched_switch", "next_pid ==> 3")])
+        self.assertEqual(answer, {"refused": "the filter can't be read: no such thing may stand here", "at": 11, "strike": 1})
+        self.assertEqual(view.filter(0, "sched_waking", "pid < 110")["new"], "")
+        self.check(view, text, kept)
+        for event in ("sched_wakeup", "other", ""):
+            with self.assertRaisesRegex(ValueError, "waits begin and end with sched_waking, sched_wakeup_new, sched_switch"):
+                view.strike([(event, "")])
+
+    def test_no_memory(self):
+        """Where memory runs out between two strikes, the next one begins from the whole recording."""
+        text = recordings.simulated(2).text
+        view = view_of(text)
+        self.check(view, text, [("sched_waking", "pid < 110")])
+        with unittest.mock.patch("histdesk._struck.Struck._put_back", side_effect=MemoryError):
+            with self.assertRaises(MemoryError):
+                view.strike([])
+        self.check(view, text, [("sched_waking", "pid == 104 || pid > 110")])
+        self.check(view, text, [])
+
+    def test_many(self):
+        """After thousands of strikes nothing is lost: the last answers are those of a new desk."""
+        text = recordings.simulated(5).text
+        view, chance, struck = view_of(text), random.Random(5), 0
+        pids = sorted({wait.pid for wait in plain_waits.waits_of(text)})
+        while struck < 10000:
+            strikes = [("sched_waking", f"pid == {pid}") for pid in chance.sample(pids, 6)]
+            struck += sum(view.strike(strikes)["struck"])
+        other = view_of(text)
+        answers = [one.strike(strikes) for one in (view, other)]
+        for name in ("changed", "rows", "report", "struck"):
+            self.assertEqual(answers[0][name], answers[1][name])
+        for event, trigger in Triggers.TRIGGERS:
+            self.assertEqual(view.trigger(0, event, trigger), other.trigger(0, event, trigger))
+
+
+def rows_told(answer):
+    """The figures of each task and kind that changed."""
+    names = ("count", "total", "p50", "p99", "max")
+    return {
+        (row["pid"], row["kind"]): [row[side] and tuple(row[side][name] for name in names) for side in ("before", "behind")]
+        for row in answer["rows"]
+    }
+
+
+def rows_reckoned(before, behind):
+    """The same by the plain reckoning, of tasks of which some wait is another one."""
+    sides = [plain_waits.keys_of(waits, "task") for waits in (before, behind)]
+    found = {}
+    for key in {**sides[0], **sides[1]}:
+        if sides[0].get(key) != sides[1].get(key):
+            found[key] = [figures_of(side.get(key, [])) for side in sides]
+    return found
+
+
+def figures_of(waits):
+    figures = plain_waits.figures_of(waits, False)
+    return tuple(figures[name] for name in ("count", "total", "p50", "p99", "max")) if figures["count"] else None
+
+
+@with_numpy
+class Scripts(unittest.TestCase):
+    """Scripts that the program runs, with the tables and the totals that the page shows."""
+
+    def tables(self, view, path, asked, strikes):
+        """What the program prints: the rows and the totals of each table."""
+        answer = view.script(0, asked, strikes)
+        self.assertEqual(answer["command"], f"./histdesk view.script {path}")
+        with open(path, "rb") as file:
+            printed = program(*answer["script"].split("\n")[:-1], trace=file.read())
+        self.assertNotIn("refused", printed)
+        totals = [
+            tuple(map(int, found)) for found in re.findall("^hits (.*) entries (.*) dropped (.*)$", printed, re.MULTILINE)
+        ]
+        return [(rows_of(part), one) for part, one in zip(printed.split("# event histogram\n")[1:], totals)]
+
+    @with_program
+    def test_run(self):
+        path = os.path.join(EXAMPLES, "recipes.trace")
+        view = view_of(path)
+        strikes = [("sched_waking", "pid < 60"), ("sched_switch", 'prev_state == "D"')]
+        view.strike(strikes)
+        for event, trigger in Triggers.TRIGGERS:
+            text, _, condition = trigger.partition(" if ")
+            _, printed = self.tables(view, path, _view.Asked(event, condition, f" {text} "), strikes)
+            table = view.trigger(0, event, trigger)
+            self.assertEqual((shown(table), tuple(table["totals"].values())), printed)
+
+    @with_program
+    def test_waits(self):
+        """The first table has the waits that the page shows, of woken tasks or of new ones; with a filter, with strikes."""
+        path = os.path.join(EXAMPLES, "recipes.trace")
+        view, text = view_of(path), example("recipes.trace")
+        filters = {
+            ("sched_switch", ""): rb"",
+            ("sched_waking", ""): rb"",
+            ("sched_waking", "pid == 24651 || pid > 24656"): rb"sched_waking: .* pid=(24651|2465[7-9]|246[6-9].|2[5-9]...) ",
+            ("sched_switch", "next_pid & 1"): rb"sched_switch: .* next_pid=[0-9]*[13579] ",
+            ("sched_wakeup_new", "pid > 1"): rb"sched_wakeup_new: ",
+            ("sched_wakeup_new", "pid < 1"): rb"none",
+        }
+        for (event, condition), pattern in filters.items():
+            found = self.tables(view, path, _view.Asked(event, condition, ""), [])
+            kind, places = "new" if "new" in event else "woken", places_of(text, pattern)
+            end = "end" if event == "sched_switch" else "begin"
+            waits = [wait for wait in plain_waits.waits_of(text) if wait.kind == kind and getattr(wait, end) in places]
+            sums = [[int(part) for part in row] for row in found[0][0]]
+            wanted = plain_waits.keys_of(waits, "task")
+            self.assertEqual(
+                sorted(sums), sorted([pid, len(some), sum(wait.micros for wait in some)] for (pid, _), some in wanted.items())
+            )
+            self.assertEqual((found[0][1][:2], len(found)), ((len(waits), len(wanted)), 1))
+        struck = [("sched_waking", "common_pid == 24659")]
+        rows, _ = self.tables(view, path, _view.Asked("sched_switch", "", ""), struck)[0]
+        # As docs/RECIPES.md has it.
+        self.assertIn(["24651", "7", "271"], rows)
+
+    @with_program
+    def test_names(self):
+        """A trigger that saves a variable of the same name as the waits' doesn't meet it."""
+        path = os.path.join(EXAMPLES, "wakeups.trace")
+        for name in ("begin", "begin0"):
+            trigger = f"hist:keys=pid:{name}=common_timestamp.usecs"
+            self.assertEqual(len(self.tables(view_of(path), path, _view.Asked("sched_waking", "", trigger), [])), 2)
+
+    def test_commands(self):
+        with tempfile.TemporaryDirectory() as folder:
+            path = os.path.join(folder, "my trace.gz")
+            with gzip.open(path, "wb") as file:
+                file.write(example("wakeups.trace"))
+            answer = view_of(path).script(0, _view.Asked("sched_waking", "", "hist:keys=pid"), [])
+            self.assertEqual(answer["command"], f"./histdesk view.script <(zcat {shlex.quote(path)})")
+            self.assertTrue(answer["script"].endswith("\n# the trigger\nattach sched_waking hist:keys=pid\nhist 4\ntotals 4\n"))
+        answer = view_of(example("wakeups.trace")).script(0, _view.Asked("sched_waking", "", ""), [])
+        self.assertEqual(answer["command"], "./histdesk view.script TRACE")
+
+    def test_refused(self):
+        view = view_of(example("wakeups.trace"))
+        asked = _view.Asked("sched_waking", "pid\n> 1", "hist:keys=pid")
+        self.assertEqual(view.script(0, asked, [])["refused"], "a line of a script holds no line break")
+        asked = _view.Asked("sched_waking", "", "")
+        self.assertIn("the filter can't be read", view.script(0, asked, [("sched_waking", "pid >")])["refused"])
+        with warnings.catch_warnings():
+            warnings.simplefilter("ignore")
+            lenient = histdesk.read(example("torn.trace"), lenient=True)
+        view = _view.View([_view.Side(lenient)])
+        self.assertIn("lines which can't be read", view.script(0, asked, [])["refused"])
+
+
+if __name__ == "__main__":
+    sys.exit(main())

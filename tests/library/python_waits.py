@@ -1,0 +1,729 @@
+#!/usr/bin/env python3
+"""Holds histdesk.waits and tools/waits: what waits there are, of which kind, which are doubtful, and all figures of the tables.
+
+    python_waits.py [TEST]...
+
+The expected values are known by hand or from a simulated scheduler (recordings.py), or come from a plain reckoning that reads
+the text by itself (plain_waits.py). The last line says how many of the tests hold."""
+
+import csv
+import doctest
+import io
+import json
+import os
+import pickle
+import random
+import re
+import subprocess
+import sys
+import tempfile
+import unittest
+import warnings
+from unittest import mock
+
+# Nothing is written beside the sources.
+sys.dont_write_bytecode = True
+
+HERE = os.path.dirname(os.path.realpath(__file__))
+PYTHON = os.path.realpath(os.path.join(HERE, "..", "..", "python"))
+TOOL = os.path.realpath(os.path.join(HERE, "..", "..", "tools", "waits"))
+sys.path[:0] = [PYTHON, os.path.join(HERE, "..", "model")]
+
+import histdesk
+import plain_waits
+import recordings
+from histdesk import Counts, LossWarning, Refused, _part, _recording, _waits
+from python_answers import with_numpy, with_pandas, without_numpy
+from python_runner import main
+from recordings import Known, Place, Wait, switch, text_of, waking
+
+BYS = ("task", "name", "cpu", "prio", "kind")
+
+
+def waits_of(trace):
+    """The waits of a trace, without warnings."""
+    with warnings.catch_warnings():
+        warnings.simplefilter("ignore", LossWarning)
+        return histdesk.waits(trace)
+
+
+def told(found):
+    """Waits as the tests have them."""
+    places = {end: zip(*(found.array[f"{end}_{field}"].tolist() for field in Place._fields)) for end in ("begin", "end")}
+    columns = [found.array[field].tolist() for field in ("kind", "pid", "prio", "doubtful")]
+    rows = zip(*columns, found.names.tolist(), places["begin"], places["end"])
+    return [Wait(kind, pid, name, prio, Place(*begin), Place(*end), doubt) for kind, pid, prio, doubt, name, begin, end in rows]
+
+
+def gaps(found):
+    """Where events were lost, as the tests have it."""
+    return sorted((recordings.Gap(*hole[:4]) for hole in found.holes), key=str)
+
+
+def noise(seed, count=300):
+    """Lines by chance: few tasks and few stamps, so that events meet in every order, switches from a task to itself, any
+    states, other events between, and lines of lost events."""
+    chance, lines = random.Random(seed), []
+    for _ in range(count):
+        cpu, at, pid = chance.randrange(3), 1000 + chance.randrange(200), chance.randrange(6)
+        name = chance.choice(["a", "b c", "\udcff", "x=1"])
+        event = chance.choice(["sched_waking", "sched_waking", "sched_wakeup", "sched_wakeup_new", "switch", "switch", "lost"])
+        if event == "lost":
+            told = chance.choice([f"CPU:{cpu} [LOST {pid + 1} EVENTS]", f"CPU:{cpu} [LOST EVENTS]", "# comment", ""])
+            lines.append(told if chance.random() < 0.2 else recordings.line("a-1", cpu, at, "console: x"))
+        elif event == "switch":
+            state = chance.choice(["R", "R+", "S", "D", "X", "R|W"])
+            lines.append(switch(cpu, at, f"p-{chance.randrange(6)}", f"{name}-{pid}", state=state, prio=pid - 1))
+        else:
+            lines.append(waking(cpu, at, pid, name=name, event=event))
+    return text_of(lines)
+
+
+@with_numpy
+class Waits(unittest.TestCase):
+    def test_known_by_hand(self):
+        for make in (recordings.hole_at_start, recordings.lost_in_middle, recordings.odd_names, recordings.kinds):
+            with self.subTest(make.__name__):
+                known = make()
+                found = waits_of(known.text)
+                self.assertEqual(told(found), list(known.waits))
+                self.assertEqual(gaps(found), sorted(known.gaps, key=str))
+
+    def test_of_two_holes(self):
+        # The greatest sure wait, and the one across the hole.
+        found = waits_of(recordings.hole_at_start().text)
+        self.assertEqual(found.array.micros.tolist(), [1130399, 1149800, 1159700, 60000, 320761])
+        self.assertEqual((found.doubtful, found.table()[0].max, found.table(doubtful=True)[0].max), (3, 320761, 1159700))
+        self.assertEqual(found.table("kind")[0][:2], ("woken", 2))
+        lost = waits_of(recordings.lost_in_middle().text)
+        self.assertEqual([row.max for row in lost.table()], [135938, None, None])
+        self.assertEqual([row.max for row in lost.table(doubtful=True)], [644589, 299940, 135938])
+
+    def test_simulated(self):
+        for seed in range(20):
+            known = recordings.simulated(seed)
+            self.assertEqual(told(waits_of(known.text)), list(known.waits), seed)
+
+    def test_damaged(self):
+        """A wait that isn't doubtful is one that its task had, or the end of one across a gap; and none that spans no gap is
+        missing. Lines are other ones where events before are lost."""
+        sure = 0
+        for seed in range(30):
+            known = recordings.simulated(seed, holes=1 + seed % 4)
+            found = [wait for wait in told(waits_of(known.text)) if not wait.doubtful]
+            had = {(wait.pid, wait.end[:2]): wait for wait in known.waits}
+            for wait in found:
+                true = had[wait.pid, wait.end[:2]]
+                is_same = (wait.kind, wait.begin[:2], true.doubtful) == (true.kind, true.begin[:2], False)
+                self.assertTrue(is_same or (true.doubtful and true.begin < wait.begin), (seed, wait, true))
+            ends = {(wait.pid, wait.end[:2]) for wait in found}
+            self.assertEqual([wait for wait in known.waits if not wait.doubtful and (wait.pid, wait.end[:2]) not in ends], [])
+            sure += len(found)
+        self.assertGreater(sure, 2000)
+
+    def test_by_chance(self):
+        for seed in range(60):
+            text = noise(seed)
+            found = waits_of(text)
+            self.assertEqual(told(found), plain_waits.waits_of(text), seed)
+            self.assertEqual(found.array.micros.tolist(), [wait.micros for wait in told(found)])
+
+    def test_nothing(self):
+        for text in (b"", b"# tracer: nop\n", text_of([waking(0, 5, 7)])):
+            found = waits_of(text)
+            self.assertEqual((len(found), found.table(), found.names.tolist(), found.doubtful), (0, [], [], 0))
+            self.assertEqual([len(found.table(by)) for by in BYS], [0] * 5)
+
+    def test_chosen(self):
+        found = waits_of(recordings.kinds().text)
+        all_of_them = told(found)
+        self.assertEqual(told(found.only(kinds=["new"])), [wait for wait in all_of_them if wait.kind == "new"])
+        self.assertEqual(told(found.only(cpus=[2])), [wait for wait in all_of_them if wait.end.cpu == 2])
+        self.assertEqual(told(found.only(kinds=["woken", "new"], cpus=[0, 3])), [all_of_them[at] for at in (3, 4, 5, 7)])
+        self.assertEqual(told(found[found.array.micros > 29]), [wait for wait in all_of_them if wait.micros > 29])
+        self.assertEqual((told(found[2:4]), found.name(7), len(found.only(kinds=[]))), (all_of_them[2:4], "renamed", 0))
+        with self.assertRaises(ValueError):
+            found.only(kinds=["old"])
+        with self.assertRaises(TypeError):
+            found[3]
+        with self.assertRaises(IndexError):
+            found.name(8)
+
+    def test_warns_once(self):
+        text = recordings.lost_in_middle().text
+        with warnings.catch_warnings(record=True) as warned:
+            warnings.simplefilter("always")
+            found = histdesk.waits(text)
+        self.assertEqual([(one.category, str(one.message)) for one in warned], [(LossWarning, found.warning)])
+        self.assertEqual(warned[0].filename, __file__)
+        recording = _recording.read
+        with warnings.catch_warnings(record=True) as warned:
+            warnings.simplefilter("always")
+            histdesk.waits(recording(text))
+        self.assertEqual(len(warned), 1)
+
+
+@with_numpy
+class Parts(unittest.TestCase):
+    def test_time(self):
+        known = recordings.kinds()
+        found = waits_of(histdesk.read(known.text, start=1000300, until=1000500))
+        # What began before isn't known; places are those of the whole text.
+        self.assertEqual(told(found), [wait for wait in known.waits if wait.kind == "new"])
+        self.assertEqual((found.held.events, found.held.first, found.held.last, found.held.cpus), (7, 1000300, 1000407, (0, 3)))
+
+    def test_cpus(self):
+        with self.assertRaisesRegex(ValueError, "all CPUs"):
+            histdesk.waits(histdesk.read(recordings.kinds().text, cpus=[1]))
+
+    def test_more_than_a_desk_holds(self):
+        known = recordings.kinds()
+        with mock.patch.object(_part, "LIMIT", 25), mock.patch.object(_recording, "LIMIT", 25):
+            found = waits_of(known.text)
+        # The one sched_wakeup is left out, and its line is still counted.
+        self.assertEqual((found.held.events, found.remarks(), told(found)), (25, [], list(known.waits)))
+        with mock.patch.object(_part, "LIMIT", 20), mock.patch.object(_recording, "LIMIT", 20):
+            found = waits_of(known.text)
+        self.assertEqual((found.held.events, told(found)), (20, list(known.waits[:7])))
+        self.assertEqual(found.remarks(), ["this is a part of the recording; the next one begins at 1.000600"])
+
+    def test_no_wakings(self):
+        lines = [line for line in recordings.kinds().text.decode().split("\n") if "sched_waking" not in line]
+        found = waits_of("\n".join(lines).encode())
+        self.assertEqual(found.remarks(), ["there is no sched_waking of a task, so nothing is known of woken ones"])
+        self.assertEqual({wait.kind for wait in told(found)}, {"new", "preempted"})
+        found = waits_of(text_of([waking(0, 5, 7)]))
+        self.assertEqual(found.remarks(), ["there is no sched_switch of a task, so nothing is known of preempted ones"])
+
+
+@with_numpy
+class Tables(unittest.TestCase):
+    def check(self, found, waits, with_doubtful):
+        """Holds each table against the plain figures."""
+        for by in BYS:
+            rows = found.table(by, with_doubtful)
+            groups = plain_waits.keys_of(waits, by)
+            self.assertEqual(len(rows), len(groups))
+            for row in rows:
+                key = tuple(getattr(row, field) for field in (*(["pid"] if by == "task" else [by][: by != "kind"]), "kind"))
+                want = plain_waits.figures_of(groups.pop(key), with_doubtful)
+                name, pid = want.pop("greatest_name", None), want.pop("greatest_pid", None)
+                self.assertEqual({field: getattr(row, field) for field in want}, want)
+                if row.count:
+                    self.assertEqual((getattr(row, "task", name), getattr(row, "pid", pid)), (name, pid))
+                else:
+                    self.assertEqual((row.mean, row.p50, row.p90, row.p99, row.max, row.end_stamp), (None,) * 6)
+            most = [-1 if row.max is None else row.max for row in rows]
+            self.assertEqual(most, sorted(most, reverse=True))
+
+    def test_figures(self):
+        texts = [known.text for known in recordings.all_known().values()] + [noise(seed) for seed in range(100, 110)]
+        for text in texts:
+            found, waits = waits_of(text), plain_waits.waits_of(text)
+            self.check(found, waits, False)
+            self.check(found, waits, True)
+
+    def test_percentiles_by_hand(self):
+        row = waits_of(recordings.many_waits(1000).text).table()[0]
+        figures = (row.task, row.pid, row.kind, row.count, row.total, row.mean, row.p50, row.p90, row.p99, row.max)
+        self.assertEqual(figures, ("a", 7, "woken", 1000, 500500, 500.5, 500, 900, 990, 1000))
+        row = waits_of(recordings.many_waits(7).text).table("name")[0]
+        self.assertEqual((row.p50, row.p90, row.p99, row.mean), (4, 7, 7, 4.0))
+
+    def test_a_task_is_named_as_at_its_greatest_wait(self):
+        rows = {(row.pid, row.kind): row.task for row in waits_of(recordings.kinds().text).table()}
+        self.assertEqual((rows[10, "woken"], rows[13, "new"]), ("a", "d"))
+        # Of a task whose waits are all doubtful it is the last one.
+        rows = waits_of(recordings.hole_at_start().text).table()
+        self.assertEqual([row.task for row in rows], ["true", "edge", "victim", "child", "thrown"])
+
+    def test_other_words(self):
+        found = waits_of(recordings.kinds().text)
+        for call in (found.table, found.counts, found.to_pandas):
+            with self.assertRaisesRegex(ValueError, "'comm'"):
+                call("comm")
+
+    @with_pandas
+    def test_pandas(self):
+        known = recordings.hole_at_start()
+        frame = waits_of(known.text).to_pandas()
+        self.assertEqual(list(zip(frame.task, frame.pid, frame.micros, frame.doubtful)), [
+            (wait.name, wait.pid, wait.micros, wait.doubtful) for wait in known.waits
+        ])  # fmt: skip
+        for by in BYS:
+            found = waits_of(known.text)
+            rows, frame = found.table(by), found.to_pandas(by)
+            self.assertEqual((list(frame.columns), len(frame)), (list(rows[0]._fields), len(rows)))
+            self.assertEqual(frame["max"].max(), 320761)
+            self.assertEqual(frame["count"].tolist(), [row.count for row in rows])
+        self.assertEqual(waits_of(b"").to_pandas("task").shape, (0, 14))
+
+
+@with_numpy
+class Counted(unittest.TestCase):
+    """Counts that are added up."""
+
+    def counts(self, text, by="name", source=""):
+        return waits_of(text).counts(by).named(source)
+
+    def test_merged(self):
+        texts = [noise(seed) for seed in range(8)]
+        for by in BYS:
+            parts = [self.counts(text, by) for text in texts]
+            whole = Counts.merged(parts)
+            groups = plain_waits.keys_of([wait for text in texts for wait in plain_waits.waits_of(text)], by)
+            self.assertEqual(set(whole.keys), set(groups))
+            for row in whole.rows():
+                values = [wait.micros for wait in groups[row.key] if not wait.doubtful]
+                self.assertEqual((row.count, row.total, row.doubtful), (
+                    len(values), sum(values), len(groups[row.key]) - len(values)
+                ))  # fmt: skip
+                if values:
+                    want = [plain_waits.percentile(values, percent) for percent in (50, 90, 99)]
+                    self.assertEqual([row.p50, row.p90, row.p99, row.max], [*want, max(values)])
+                self.assertEqual(whole.row(row.key), row)
+            # In whatever order, and in whatever steps.
+            self.assertEqual(Counts.merged(parts[::-1]), whole)
+            self.assertEqual(parts[0].merge(*parts[1:5]).merge(Counts.merged(parts[5:])), whole)
+            self.assertEqual(pickle.loads(pickle.dumps(whole)), whole)
+            self.assertNotEqual(parts[0], whole)
+
+    def test_whole(self):
+        text = recordings.many_waits(1000).text
+        counts = self.counts(text, source="one")
+        whole = counts.whole()
+        self.assertEqual((whole.count, whole.total, whole.p50, whole.p99, whole.max), (1001, 500505, 500, 990, 1000))
+        self.assertEqual((whole.greatest.source, whole.greatest.pid, whole.greatest.name), ("one", 7, "a"))
+        self.assertEqual((counts.count, counts.doubtful, len(counts)), (1001, 0, 2))
+        self.assertEqual(counts.by("kind").row(("woken",)).count, 1001)
+        self.assertEqual(counts.by().whole(), whole)
+        self.assertIsNone(counts.row(("nobody", "woken")))
+        self.assertEqual((counts.percentile(99.9), counts.percentile(0.1), counts.percentile(100)), (999, 2, 1000))
+        self.assertEqual((counts.percentile(50, ("b", "woken")), counts.percentile(50, ("c", "woken"))), (5, None))
+        for percent in (0, 101, -1):
+            with self.assertRaises(ValueError):
+                counts.percentile(percent)
+
+    def test_equal_waits(self):
+        """Of waits that are equally long the first one counts as the greatest, and of recordings the first by name."""
+        lines = [waking(0, 100, 7), switch(0, 110, "a-1", "w-7"), waking(0, 200, 7), switch(1, 210, "a-1", "w-7")]
+        one, other = self.counts(text_of(lines), source="b"), self.counts(text_of(lines[:2]), source="a")
+        self.assertEqual((one.whole().greatest.stamp, one.whole().greatest.source), (110, "b"))
+        self.assertEqual(one.merge(other).whole().greatest, other.merge(one).whole().greatest)
+        self.assertEqual(one.merge(other).whole().greatest.source, "a")
+
+    def test_refused(self):
+        with self.assertRaises(ValueError):
+            Counts.merged([])
+        with self.assertRaises(ValueError):
+            self.counts(b"", "name").merge(self.counts(b"", "cpu"))
+        with self.assertRaises(ValueError):
+            self.counts(b"").by("pid")
+
+    def test_empty(self):
+        empty = Counts.empty(("name", "kind"))
+        self.assertEqual((empty.count, empty.rows(), empty.histogram(), empty.percentile(50)), (0, [], [], None))
+        self.assertEqual((empty.whole().count, empty.whole().max), (0, None))
+        full = self.counts(recordings.kinds().text)
+        self.assertEqual((empty.merge(full), full.merge(empty)), (full, full))
+
+    def test_long_waits(self):
+        """Sums beyond 64 bits, and stamps of the greatest size."""
+        most, lines = 4294967295999999, []
+        for pid in range(1, 3000):
+            lines += [waking(0, 0, pid), switch(0, most, "a-1", f"w-{pid}")]
+        whole = self.counts(text_of(lines)).whole()
+        self.assertEqual((whole.count, whole.total, whole.p50), (2999, 2999 * most, most))
+        self.assertEqual(whole.mean, float(most))
+        self.assertEqual(self.counts(text_of(lines)).histogram(), [(52, 2999)])
+
+    def test_histogram(self):
+        for text in (recordings.many_waits(300).text, recordings.kinds().text, noise(3)):
+            counts, groups = self.counts(text), plain_waits.keys_of(plain_waits.waits_of(text), "name")
+            for key, waits in groups.items():
+                values = [wait.micros for wait in waits if not wait.doubtful]
+                found = [(power.low, power.high, count) for power, count in counts.histogram(key)]
+                self.assertEqual(found, plain_waits.histogram_of(values))
+        self.assertEqual(counts.histogram(("nobody", "woken")), [])
+
+
+@with_numpy
+class OnADesk(unittest.TestCase):
+    """A desk of the user's is asked, and left as it was."""
+
+    def setUp(self):
+        self.desk = histdesk.Desk()
+        self.desk.load(recordings.kinds().text)
+        # Names that the triggers might want for themselves.
+        self.desk.attach("sched_waking", "hist:keys=pid:begin0=common_timestamp.usecs")
+        reader = self.desk.attach("sched_switch", "hist:keys=next_pid:begin1=common_timestamp.usecs-$begin0")
+        self.desk.attach("sched_waking", "hist:keys=prio")
+        self.latencies = reader.latencies().tolist()
+        self.triggers = self.state()
+
+    def state(self):
+        return [(trigger.id, trigger.event, trigger.canonical, trigger.text()) for trigger in self.desk.triggers()]
+
+    def unchanged(self):
+        self.assertEqual(self.state(), self.triggers)
+        self.assertEqual(self.desk.trigger(2).latencies().tolist(), self.latencies)
+
+    def test_asked(self):
+        found = histdesk.waits(self.desk)
+        self.assertEqual(told(found), list(recordings.kinds().waits))
+        self.assertEqual((found.path, found.held.events), (None, 26))
+        self.unchanged()
+
+    def test_struck(self):
+        # The waking that begins the wait of c, and the switch that ends a preempted one.
+        self.desk.strike(0, 6)
+        self.assertIn(Wait("woken", 12, "c", 120, Place(1000200, 0, 5), Place(1000215, 0, 7)), told(histdesk.waits(self.desk)))
+        self.desk.strike(0, 3)
+        kinds = [wait.kind for wait in told(histdesk.waits(self.desk))]
+        self.assertEqual(kinds.count("preempted"), 0)
+
+    def test_holes_of_a_desk(self):
+        known = recordings.lost_in_middle()
+        desk = histdesk.Desk()
+        with warnings.catch_warnings():
+            warnings.simplefilter("ignore", LossWarning)
+            desk.load(known.text)
+        self.assertEqual(told(histdesk.waits(desk)), list(known.waits))
+
+    def test_no_room(self):
+        while len(self.desk.triggers()) < 63:
+            self.desk.attach("sched_waking", "hist:keys=pid")
+        self.triggers = self.state()
+        with self.assertRaises(Refused) as refused:
+            histdesk.waits(self.desk)
+        self.assertEqual(refused.exception.number, 15)
+        self.unchanged()
+
+    def test_interrupted(self):
+        """Whichever call is the one in which it is interrupted."""
+        attach, calls = histdesk.Desk.attach, 0
+
+        def interrupted(desk, event, text):
+            nonlocal left
+            trigger = attach(desk, event, text)
+            left -= 1
+            if left < 0:
+                raise KeyboardInterrupt
+            return trigger
+
+        for calls in range(6):
+            left = calls
+            with mock.patch.object(histdesk.Desk, "attach", interrupted), self.assertRaises(KeyboardInterrupt):
+                histdesk.waits(self.desk)
+            self.unchanged()
+        self.assertEqual(calls, 5)
+
+    def test_out_of_memory(self):
+        ask, left = histdesk.Desk.triggers, 0
+
+        def wanting(desk):
+            nonlocal left
+            left -= 1
+            if left < 0:
+                raise MemoryError
+            return ask(desk)
+
+        for count in (0, 1, 2, 3):
+            left = count
+            with mock.patch.object(histdesk.Trigger, "latencies", side_effect=MemoryError), self.assertRaises(MemoryError):
+                with mock.patch.object(histdesk.Desk, "triggers", wanting):
+                    histdesk.waits(self.desk)
+            self.unchanged()
+
+    def test_more_tasks_than_a_table_holds(self):
+        count = _waits.SIZE + 3
+        lines = [waking(0, at, at + 1) for at in range(count)]
+        lines += [switch(0, count + pid, "a-0", f"w-{pid}") for pid in (1, count)]
+        found = waits_of(text_of(lines))
+        self.assertEqual(([wait.pid for wait in told(found)], found.dropped), ([1], 3))
+        self.assertIn("3 waits are missing", found.remarks()[0])
+        self.assertIn("3 waits are missing", repr(found))
+
+
+@with_numpy
+class Shown(unittest.TestCase):
+    def test_text(self):
+        text = repr(waits_of(recordings.hole_at_start().text)).split("\n")
+        self.assertEqual(text[0], "histdesk.Waits of 12 events from 1.000000 to 2.620761 (1.620761 s) on CPUs 0-2")
+        self.assertEqual(text[1], "2 waits: 2 woken, 0 new, 0 preempted; times in microseconds")
+        self.assertEqual(text[2].split()[:2], ["3", "doubtful"])
+        self.assertEqual(text[3].split(), "task pid kind count mean p50 p90 p99 max at where doubtful".split())
+        self.assertEqual(text[4].split(), "true 46 woken 1 320761.0 320761 320761 320761 320761 2.620761 2:2 0".split())
+        self.assertEqual(text[6].split(), "victim 42 woken 0 1".split())
+        self.assertTrue(text[9].startswith("events were lost: "))
+        self.assertEqual(len(text), 10)
+
+    def test_odd_names(self):
+        found = waits_of(recordings.odd_names().text)
+        for shown in (repr(found), found._repr_html_()):
+            self.assertNotIn("\x1b", shown)
+            self.assertIn("\\x1b[31mred", shown)
+            self.assertIn("bad\\xff\\xfe", shown)
+        self.assertIn("&quot;q&quot;,", found._repr_html_())
+
+    def test_long_table(self):
+        lines = [line for pid in range(1, 31) for line in (waking(0, pid * 100, pid), switch(0, pid * 101, "a-1", f"w-{pid}"))]
+        text = repr(waits_of(text_of(lines))).split("\n")
+        self.assertEqual((len(text), text[-2].split()[1], text[-1].split()[0]), (2 + 1 + 20 + 1, "11", ".."))
+
+    def test_cpus(self):
+        self.assertEqual(_waits.ranges((0, 1, 2, 3, 6, 8, 9)), "0-3,6,8-9")
+        self.assertEqual(_waits.ranges(()), "")
+
+    def test_example(self):
+        """That of the documentation, which is skipped where numpy isn't there."""
+        text = histdesk.waits.__doc__.replace("# doctest: +SKIP", "")
+        example = doctest.DocTestParser().get_doctest(text, {"waits": histdesk.waits}, "waits", None, None)
+        tried = doctest.DocTestRunner().run(example)
+        self.assertEqual((tried.failed, tried.attempted > 1), (0, True))
+
+
+@with_numpy
+class Tool(unittest.TestCase):
+    """tools/waits, run as users run it."""
+
+    @classmethod
+    def setUpClass(cls):
+        cls.folder = tempfile.TemporaryDirectory()
+        cls.known = {**recordings.all_known(), "noise": Known(noise(7), ())}
+        for name, known in cls.known.items():
+            with open(cls.path(name), "wb") as file:
+                file.write(known.text)
+
+    @classmethod
+    def tearDownClass(cls):
+        cls.folder.cleanup()
+
+    @classmethod
+    def path(cls, name):
+        return os.path.join(cls.folder.name, f"{name}.trace")
+
+    def run_tool(self, *words, status=0, **options):
+        pipes = {"stdout": subprocess.PIPE, "stderr": subprocess.PIPE}
+        ran = subprocess.run([sys.executable, "-B", TOOL, *words], check=False, **pipes, **options)
+        self.assertEqual(ran.returncode, status, ran.stderr)
+        return ran.stdout.decode(), ran.stderr.decode()
+
+    def expected(self, name, by, with_doubtful=False):
+        """The rows by key, as a plain reckoning has them; what isn't there is empty."""
+        groups = plain_waits.keys_of(plain_waits.waits_of(self.known[name].text), by)
+        return {tuple(map(str, key)): plain_waits.figures_of(waits, with_doubtful) for key, waits in groups.items()}
+
+    def check_rows(self, rows, want, by, read):
+        """Holds rows by name, with what reads a figure's text."""
+        self.assertEqual(len(rows), len(want))
+        for row in rows:
+            fields = [*(["pid"] if by == "task" else [by][: by != "kind"]), "kind"]
+            key = tuple(histdesk.unescaped(row[field]) if read is float else str(row[field]) for field in fields)
+            figures = {name: value for name, value in want[key].items() if not name.startswith("greatest_")}
+            self.assertEqual({name: read(row[name]) for name in figures}, figures)
+            if "greatest_name" in want[key] and "task" in row:
+                self.assertEqual(histdesk.unescaped(row["task"]) if read is float else row["task"], want[key]["greatest_name"])
+
+    def test_csv(self):
+        asked = {"odd_names": "task", "damaged_1": "name", "noise": "cpu", "kinds": "prio", "simulated_0": "kind"}
+        for name, by in asked.items():
+            text, _ = self.run_tool(self.path(name), "--by", by, "--csv")
+            self.check_rows(list(csv.DictReader(io.StringIO(text))), self.expected(name, by), by, float)
+
+    def test_json(self):
+        for name, by in (("odd_names", "name"), ("damaged_2", "task"), ("noise", "prio"), ("hole_at_start", "cpu")):
+            text, told_of = self.run_tool(self.path(name), "--by", by, "--json", "--doubtful")
+            answer = json.loads(text)
+            self.check_rows(answer["rows"], self.expected(name, by, True), by, lambda value: value)
+            waits = plain_waits.waits_of(self.known[name].text)
+            self.assertEqual((answer["waits"], answer["doubtful"]), (len(waits), sum(wait.doubtful for wait in waits)))
+            gaps = [tuple(hole[field] for field in ("cpu", "after", "before", "lost")) for hole in answer["holes"]]
+            self.assertEqual(sorted(gaps, key=str), sorted(map(tuple, plain_waits.gaps_of(self.known[name].text)), key=str))
+            self.assertEqual(told_of, f"waits: {self.path(name)}: {answer['warning']}\n" if gaps else "")
+
+    def test_histogram(self):
+        text, _ = self.run_tool(self.path("damaged_1"), "--histogram", "--csv")
+        values = [wait.micros for wait in plain_waits.waits_of(self.known["damaged_1"].text) if not wait.doubtful]
+        want = plain_waits.histogram_of(values)
+        self.assertEqual([tuple(map(int, row)) for row in list(csv.reader(io.StringIO(text)))[1:]], want)
+        text, _ = self.run_tool(self.path("damaged_1"), "--histogram")
+        bars = re.findall(r"^ *([0-9]+)(?:-([0-9]+))? us +([0-9]+)(?:  (@+))?$", text, re.MULTILINE)
+        most = max(int(count) for *_, count, _ in bars)
+        self.assertEqual([(int(low), int(high or low), int(count)) for low, high, count, _ in bars], want)
+        for *_, count, bar in bars:
+            self.assertTrue(int(count) * 40 <= len(bar) * most < int(count) * 40 + most)
+        text, _ = self.run_tool(self.path("kinds"), "--histogram", "--by", "task", "--csv")
+        self.assertEqual(text.split("\n")[:3], ["task,pid,kind,low,high,count", "b,11,preempted,33,64,1", "d,13,new,5,8,1"])
+        text, _ = self.run_tool(self.path("kinds"), "--histogram", "--by", "kind", "--json")
+        rows = json.loads(text)["rows"]
+        self.assertEqual([(row["low"], row["high"], row["count"]) for row in rows if row["kind"] == "new"], [
+            (5, 8, 1), (9, 16, 0), (17, 32, 0), (33, 64, 1)
+        ])  # fmt: skip
+
+    def test_text(self):
+        text, told_of = self.run_tool(self.path("hole_at_start"))
+        lines = text.split("\n")
+        of = "12 events from 1.000000 to 2.620761 (1.620761 s) on CPUs 0-2"
+        self.assertEqual(lines[0], f"{self.path('hole_at_start')}: {of}")
+        self.assertTrue(lines[2].startswith("3 doubtful waits are left out"))
+        self.assertEqual(lines[5].split()[:4], ["true", "46", "woken", "1"])
+        self.assertEqual(told_of.count("\n"), 1)
+        self.assertIn("events were lost: 474361 of 474373", told_of)
+        self.assertIn("CPU 2 (at 2.250000)", told_of)
+        text, _ = self.run_tool(self.path("hole_at_start"), "--doubtful")
+        self.assertEqual(text.split("\n")[5].split()[:4], ["thrown", "44", "preempted", "1"])
+
+    def test_top(self):
+        everything, _ = self.run_tool(self.path("simulated_1"))
+        rows = everything.split("\n")[4:]
+        text, _ = self.run_tool(self.path("simulated_1"), "--top", "3")
+        count = len(rows) - 1
+        self.assertEqual([line.split() for line in text.split("\n")[4:7]], [line.split() for line in rows[:3]])
+        self.assertEqual(text.split("\n")[7:], [f"{count - 3} more are not shown; --top all shows them", ""])
+        self.assertEqual(self.run_tool(self.path("simulated_1"), "--top", "all"), (everything, ""))
+        text, _ = self.run_tool(self.path("simulated_1"), "--top", "2", "--csv")
+        self.assertEqual(text.count("\n"), 3)
+
+    def test_terminal(self):
+        """There it is the first 30 rows, and what to ask next."""
+        here, there = os.openpty()
+        with open(here, "rb") as screen:
+            subprocess.run([sys.executable, "-B", TOOL, self.path("simulated_1")], stdout=there, check=True)
+            os.close(there)
+            lines = b"".join(iter(lambda: self.piece_of(screen), b"")).decode().split("\r\n")
+        rows = waits_of(self.known["simulated_1"].text).table()
+        self.assertEqual([line.split()[2] for line in lines[4:34]], [str(row.pid) for row in rows[:30]])
+        told_of = [
+            f"{len(rows) - 30} more are not shown; --top all shows them",
+            f"tools/why {self.path('simulated_1')} {rows[0].end_cpu}:{rows[0].end_line} tells of the greatest",
+        ]
+        self.assertEqual(lines[34:], [*told_of, ""])
+
+    @staticmethod
+    def piece_of(screen):
+        """What a terminal shows next; nothing at its end."""
+        try:
+            return os.read(screen.fileno(), 65536)
+        except OSError:
+            return b""
+
+    def test_chosen(self):
+        text, _ = self.run_tool(self.path("kinds"), "--kind", "new,woken", "--cpu", "2-3", "--csv")
+        rows = [(row["pid"], row["kind"], row["count"]) for row in csv.DictReader(io.StringIO(text))]
+        self.assertEqual(rows, [("13", "new", "2"), ("10", "woken", "1"), ("14", "woken", "1")])
+        text, _ = self.run_tool(self.path("kinds"), "--from", "1.0003", "--until", "1.0005", "--csv")
+        self.assertEqual([row["max"] for row in csv.DictReader(io.StringIO(text))], ["40"])
+
+    def test_standard_input_and_lenient(self):
+        text = self.known["kinds"].text + b"a torn li\n"
+        _, told_of = self.run_tool("-", input=text, status=2)
+        self.assertIn("line 39", told_of)
+        shown, told_of = self.run_tool("-", "--lenient", input=text)
+        self.assertIn("8 waits", shown)
+        self.assertIn("1 lines can't be read and are left out: 39", told_of)
+
+    def test_what_goes_wrong_is_a_line(self):
+        wrong = [["--by", "comm"], ["--kind", "old"], ["--top", "0"], ["--csv", "--json"], ["--no-such"], []]
+        for words in wrong:
+            path = [self.path("kinds")] if words else []
+            shown, told_of = self.run_tool(*path, *words, status=2)
+            self.assertEqual((shown, told_of.count("\n")), ("", 1), words)
+        _, told_of = self.run_tool(self.path("nowhere"), status=2)
+        self.assertEqual(told_of, f"waits: {self.path('nowhere')}: No such file or directory\n")
+
+    def test_closed_pipe(self):
+        words = [sys.executable, "-B", TOOL, self.path("many_waits"), "--json"]
+        with subprocess.Popen(words, stdout=subprocess.PIPE, stderr=subprocess.PIPE) as tool:
+            tool.stdout.close()
+            self.assertEqual(tool.stderr.read(), b"")
+        self.assertEqual(tool.returncode, -13)
+
+    def test_without_numpy_or_library(self):
+        with open(os.path.join(self.folder.name, "numpy.py"), "w", encoding="ascii") as file:
+            file.write("raise ImportError('none here')\n")
+        environment = {**os.environ, "PYTHONPATH": self.folder.name}
+        _, told_of = self.run_tool(self.path("kinds"), status=2, env=environment)
+        how = "apt-get install python3-numpy gives it to Debian's own python3, pip install numpy to any"
+        self.assertEqual(told_of, f"waits: {sys.executable} has no numpy, which is needed here: {how}\n")
+        environment = {**os.environ, "HISTDESK_LIBRARY": os.path.join(self.folder.name, "none.so")}
+        _, told_of = self.run_tool(self.path("kinds"), status=2, env=environment)
+        self.assertEqual((told_of.count("\n"), told_of[:27]), (1, "waits: histdesk needs the l"))
+
+    def test_ascii_terminal(self):
+        shown, _ = self.run_tool(self.path("odd_names"), env={**os.environ, "PYTHONIOENCODING": "ascii"})
+        self.assertIn("\\xfcmlaut", shown)
+        self.assertNotIn("\x1b", shown)
+
+
+def tracing():
+    """Whether this machine's own scheduler can be recorded here."""
+    return os.geteuid() == 0 and os.path.isdir("/sys/kernel/tracing/instances")
+
+
+@with_numpy
+@unittest.skipUnless(tracing(), "not root, or no tracefs at /sys/kernel/tracing")
+class ThisMachine(unittest.TestCase):
+    """A recording of the machine that runs the test, whose buffer is too small on purpose."""
+
+    # Two processes that wake each other by turns, until an alarm ends each.
+    BUSY = """import os, signal
+a, b = os.pipe(), os.pipe()
+is_first = os.fork() > 0
+mine, other = (a, b) if is_first else (b, a)
+signal.setitimer(signal.ITIMER_REAL, 0.8)
+if is_first:
+    os.write(mine[1], b"x")
+while True:
+    os.read(other[0], 1)
+    os.write(mine[1], b"x")
+"""
+
+    def test_losses_are_told(self):
+        with tempfile.TemporaryDirectory() as folder:
+            path = os.path.join(folder, "my.trace")
+            with subprocess.Popen([sys.executable, "-c", self.BUSY]), open(path, "wb") as file:
+                words = [os.path.join(os.path.dirname(TOOL), "record"), "--buffer", "64", "0.3"]
+                subprocess.run(words, stdout=file, stderr=subprocess.PIPE, check=True)
+            ran = subprocess.run(
+                [sys.executable, "-B", TOOL, path, "--json"], stdout=subprocess.PIPE, stderr=subprocess.PIPE, check=True
+            )
+            with open(path, "rb") as file:
+                text = file.read()
+        answer = json.loads(ran.stdout)
+        self.assertIn("events were overwritten before it begins", answer["warning"])
+        self.assertIn(answer["warning"], ran.stderr.decode())
+        waits = plain_waits.waits_of(text)
+        if plain_waits.gaps_of(text):
+            # No row counts a wait that spans a hole, and each says how many it leaves out.
+            groups = plain_waits.keys_of(waits, "task")
+            self.assertEqual(len(answer["rows"]), len(groups))
+            for row in answer["rows"]:
+                sure = [wait.micros for wait in groups[row["pid"], row["kind"]] if not wait.doubtful]
+                doubtful = len(groups[row["pid"], row["kind"]]) - len(sure)
+                self.assertEqual((row["max"], row["count"], row["doubtful"]), (max(sure, default=None), len(sure), doubtful))
+
+
+class WithoutNumpy(unittest.TestCase):
+    @without_numpy
+    def test_one_line(self):
+        for call in (lambda: histdesk.waits(b""), lambda: Counts.empty(("kind",))):
+            with self.assertRaisesRegex(ImportError, "python3-numpy"):
+                call()
+
+
+class Written(unittest.TestCase):
+    def test_unescaped(self):
+        from histdesk._written import escaped
+
+        chance = random.Random(1)
+        for _ in range(2000):
+            raw = bytes(chance.choice([chance.randrange(256), *b'\\x4\n\r,"0']) for _ in range(chance.randrange(12)))
+            name = raw.decode("utf-8", "surrogateescape")
+            self.assertEqual(histdesk.unescaped(escaped(name)), name)
+            self.assertNotRegex(escaped(name), "[\x00-\x1f\x7f-\x9f\ud800-\udfff]")
+        self.assertEqual(escaped("a\tb\udcff\\"), "a\\x09b\\xff\\\\")
+
+
+if __name__ == "__main__":
+    sys.exit(main())

@@ -1,0 +1,119 @@
+# shellcheck shell=bash disable=SC2154,SC2034 # what counts.sh and the parts assign, and what the parts read
+# What program.sh and its parts, program/*.sh, test with, read by them after counts.sh: their words, which are program.sh's,
+# and checks of what a program does. `tests` is the folder of the tests.
+
+launcher=$(realpath -- "$tests/../histdesk")
+histdesk=$(realpath -- "${1:-$launcher}")
+plaindesk=${2:+$(realpath -- "$2")}
+askagain=${3:+$(realpath -- "$3")}
+histwatch=${4:+$(realpath -- "$4")}
+rows=("$tests"/rows/*)
+examples=$tests/../examples
+
+# gives WHAT STATUS ERROR COMMAND..: the command's status, and all that it says on standard error.
+gives() {
+    local what=$1 want=$2 error=$3 status told
+    shift 3
+    timeout "$limit" "$@" >"$folder/out" 2>"$folder/err" </dev/null
+    status=$?
+    told=$(<"$folder/err")
+    # The launcher says more behind the program's line.
+    [[ $histdesk != "$launcher" ]] || told=${told%%$'\n'*}
+    if [[ $status == "$want" && $told == "$error" ]]; then
+        pass
+    else
+        fail "$what: status $status, $told"
+    fi
+}
+
+# prints WHAT FILE: the last command's output is that file.
+prints() {
+    if cmp -s -- "$folder/out" "$2"; then
+        pass
+    else
+        fail "$1: other output"
+    fi
+}
+
+# row PROGRAM FOLDER: the program prints the row's whole output, ends with its status and says nothing else.
+row() {
+    local number=1 status traces=()
+    while [[ -e $2/trace$number ]]; do
+        traces+=("$2/trace$number")
+        number=$((number + 1))
+    done
+    timeout "$limit" "$1" "$2/script" "${traces[@]}" >"$folder/out" 2>"$folder/err" </dev/null
+    status=$?
+    if [[ $status != "$(<"$2/status")" || -s $folder/err ]]; then
+        fail "row ${2##*/}, ${1##*/}: status $status, $(<"$folder/err")"
+    elif cmp -s -- "$folder/out" "$2/expected"; then
+        pass
+    else
+        fail "row ${2##*/}, ${1##*/}: other output"
+    fi
+}
+
+# mixed_row NAME COMMANDS EVENTS SEED: a folder with a random script of edits and answers is made a row, by a plain
+# model in Python.
+mixed_row() {
+    local row=$folder/$1
+    mkdir -p -- "$row"
+    python3 "$tests/model/random_script.py" "$2" "$3" "$4" "$row"
+    python3 "$tests/model/model.py" "$row/script" "$row"/trace? >"$row/expected"
+    echo 0 >"$row/status"
+    if grep -q '^refused ' "$row/expected"; then
+        echo 1 >"$row/status"
+    fi
+}
+
+# short_rows: ten short ones.
+short_rows() {
+    local seed
+    for ((seed = 1; seed <= 10; seed++)); do
+        mixed_row "short/mixed_$seed" 60 60 "$seed"
+    done
+}
+
+# refused SCRIPT PROGRAM ROW..: the script refuses growths of the program's memory, in each row. Each row is
+# a test.
+refused() {
+    local library=$folder/refuse_growth.so
+    if ! cc -O2 -shared -fPIC -o "$library" "$tests/program/refuse_growth.c" -ldl; then
+        fail "growths refused: not compiled"
+        return
+    fi
+    holds "$tests/program/$1" "$2" "$library" "${@:3}"
+}
+
+# growths PROGRAM ROW..: with each growth of its memory refused in turn, the program prints a row's whole
+# output, or that of its first commands and that memory ran out.
+growths() {
+    refused growths.py "$@"
+}
+
+# built NAME: where the program of that crate is, if it is built.
+built() {
+    local program=$tests/../crates/$1/out/$1
+    if [[ -x $program ]]; then
+        realpath -- "$program"
+    fi
+}
+
+if (($# == 0)); then
+    plaindesk=$(built plaindesk)
+    askagain=$(built askagain)
+    histwatch=$(built histwatch)
+fi
+# The launcher builds the program where it is stale, which no limit holds for.
+if ! "$histdesk" - </dev/null >/dev/null; then
+    echo "not run: $histdesk"
+    echo "0 passed, 1 failed"
+    exit 1
+fi
+# The launcher itself is a script that bash runs, whose growths are none of the program's.
+program=$histdesk
+if [[ $histdesk == "$launcher" ]]; then
+    program=$(built histdesk)
+fi
+: >"$folder/empty"
+printf 'load @1\n' >"$folder/load"

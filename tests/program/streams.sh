@@ -1,0 +1,48 @@
+#!/usr/bin/env bash
+# streams.sh [HISTDESK [PLAINDESK [ASKAGAIN [HISTWATCH]]]]: what HISTDESK does where the disk is full, and that a
+# script which is typed is answered as it comes. program.sh says more of these words.
+set -uo pipefail
+
+tests=$(dirname -- "$(dirname -- "$(realpath -- "${BASH_SOURCE[0]}")")")
+. "$tests/counts.sh"
+. "$tests/program/common.sh"
+
+# comes FILE LINE: whether the file holds that line alone, now or some seconds later.
+comes() {
+    local end=$((SECONDS + 10))
+    until [[ $(<"$1") == "$2" ]]; do
+        ((SECONDS < end)) || return 1
+        sleep 0.02
+    done
+}
+
+# Who types a script sees a command's output before the next one, and its end ends the program.
+types() {
+    local run status
+    mkfifo "$folder/typed"
+    : >"$folder/seen"
+    timeout "$limit" "$histdesk" - <"$folder/typed" >"$folder/seen" &
+    run=$!
+    # Open for reading too, so that no writing ends this script where the program has ended.
+    exec 3<>"$folder/typed"
+    echo 'hist 1' >&3
+    if comes "$folder/seen" "refused 10"; then
+        pass
+    else
+        fail "typed: not seen"
+    fi
+    exec 3>&-
+    wait "$run"
+    status=$?
+    if [[ $status == 1 ]]; then
+        pass
+    else
+        fail "typed: status $status"
+    fi
+}
+
+gives full_disk 2 "histdesk: write failed" bash -c 'exec "$@" >/dev/full' - "$histdesk" "$folder/load"
+types
+
+echo "$passed passed, $failed failed"
+((failed == 0))

@@ -1,0 +1,55 @@
+# shellcheck shell=bash disable=SC2154 # what counts.sh assigns
+# What the scripts of this folder test with, read by them after counts.sh: checks, programs that stand for others. HISTDESK is the desk.
+
+# gives WHAT STATUS ERROR COMMAND..: the command's status, and a pattern of all that it says on standard error.
+gives() {
+    local what=$1 want=$2 error=$3 status told
+    shift 3
+    timeout "$limit" "$@" >"$folder/out" 2>"$folder/err"
+    status=$?
+    told=$(<"$folder/err")
+    # shellcheck disable=SC2053 # it is a pattern
+    if [[ $status == "$want" && $told == $error ]]; then
+        pass
+    else
+        fail "$what: status $status, $told"
+    fi
+}
+
+# prints WHAT TEXT: the last command's output is that text and an end of line, or nothing.
+prints() {
+    if [[ $(<"$folder/out") == "$2" ]]; then
+        pass
+    else
+        fail "$1: other output: $(<"$folder/out")"
+    fi
+}
+
+# has WHAT FILE PATTERN..: among the lines of the file is one of each.
+has() {
+    local pattern
+    for pattern in "${@:3}"; do
+        if grep -qx -- "$pattern" "$2"; then
+            pass
+        else
+            fail "$1: no line $pattern"
+        fi
+    done
+}
+
+# script NAME LINE..: a program of that name in bash.
+script() {
+    printf '%s\n' '#!/usr/bin/env bash' "${@:2}" >"$folder/bin/$1"
+    chmod +x "$folder/bin/$1"
+}
+
+# loads WHAT STATUS ERROR TEXT COMMAND..: the command's status and standard error; and the desk, which is given its
+# output, lists the lanes of CPU 0 to 3 as that text.
+loads() {
+    gives "${@:1:3}" "${@:5}"
+    mv -- "$folder/out" "$folder/trace"
+    printf '%s\n' 'insert a-1 [000] 0.000000:' 'strike 0:1' 'unload 0' 'load @1' 'list 0' 'list 1' 'list 2' 'list 3' \
+        >"$folder/lanes"
+    "$HISTDESK" "$folder/lanes" "$folder/trace" </dev/null 2>&1 | tail -n +4 >"$folder/out"
+    prints "$1, loaded" "$4"
+}

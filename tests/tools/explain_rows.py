@@ -1,0 +1,137 @@
+#!/usr/bin/env python3
+"""Holds that `explain` tells each refusal of the rows at its place.
+
+    explain_rows.py [--watched] EXPLAIN ROW... > WHAT WENT WRONG
+
+The plain model, asked command by command, says which line of the script each output belongs to. Behind each refused
+line of it, and nowhere else, stands an explanation: with that line's number and, where the refusal has a place, a caret
+under that byte of the command; of a refused trace with its line. With --watched the program is histwatch, and behind
+each accepted insert and strike stand rows that it changed and how many they are. The last line says how many rows hold.
+HISTDESK names the program, as for explain.
+"""
+
+import os
+import re
+import subprocess
+import sys
+
+sys.dont_write_bytecode = True
+words = sys.argv[1:]
+is_watched = words[:1] == ["--watched"]
+# The model is a program, which runs as it is taken in: here with no commands.
+sys.argv[1:] = [os.devnull]
+sys.path.insert(0, os.path.join(os.path.dirname(os.path.realpath(__file__)), "..", "model"))
+import model
+
+
+def escaped(text):
+    return re.sub("[^ -~]", lambda byte: {"\t": "\\t", "\r": "\\r"}.get(byte[0], f"\\x{ord(byte[0]):02x}"), text)
+
+
+def placed_text(line, refused):
+    """The text in which a refusal's place counts, which is always the end of the command."""
+    text = line.strip(" ")
+    for _ in range(2 if text.startswith("attach") else 3):
+        text = model.split(text)[1]
+    if refused.startswith("refused 8: fault 11"):
+        text = re.sub("^[^ \t]*[ \t]*if[ \t]*", "", text)
+    return text
+
+
+def answers(script, traces):
+    """For each command that prints something: its line number, the line and what it prints."""
+    desk = model.Desk()
+    for number, line in enumerate(model.lines_of(script), 1):
+        try:
+            text = desk.perform(line, traces)
+        except model.Refused as refused:
+            text = f"refused {refused}"
+        if text:
+            yield number, line, text
+
+
+def shows(told, front, text):
+    """Whether a line shows the text behind `front`: whole, or where it is long a part of it, which dots may stand before."""
+    if not told.startswith(front):
+        return False
+    told = told[len(front) :]
+    return told.startswith(text) if len(text) <= 300 else told.removeprefix("..")[:100] in text
+
+
+def behind_rows(told, at):
+    """Where the rows that changed end, with the line behind them that says how many they are; None where it does not."""
+    start = at
+    while told[at : at + 1] and re.match("[-+] [0-9]+ { ", told[at]):
+        at += 1
+    # A row that has changed has two lines, which differ behind its key.
+    rows = {line[2:].rpartition(" } hitcount: ")[0] for line in told[start:at]}
+    return at + 1 if told[at : at + 1] == [f"changed {len(rows)}"] else None
+
+
+def first_wrong(row, told):
+    """What is wrong first in what explain told of a row, or None."""
+    traces = [os.path.join(row, f"trace{number}") for number in range(1, 10)]
+    lines_of_traces = [model.lines_of(path) for path in traces if os.path.exists(path)]
+    at = 0
+    for number, line, text in answers(os.path.join(row, "script"), lines_of_traces):
+        wanted = text.split("\n")
+        if told[at : at + len(wanted)] != wanted:
+            return f"line {number}: other output"
+        at += len(wanted)
+        if is_watched and re.match("inserted |struck ", text):
+            at = behind_rows(told, at)
+            if at is None:
+                return f"line {number}: not how many rows changed"
+        if not text.startswith("refused "):
+            continue
+        front = f"  line {number}: "
+        command = escaped(line.strip(" "))
+        if not told[at : at + 1] or not shows(told[at], front, command):
+            return f"line {number}: not explained: {told[at : at + 1]}"
+        at += 1
+        if " at " in text and len(line) <= 300:
+            tail = escaped(placed_text(line, text)[int(text.split(" at ")[1]) :])
+            wanted = " " * (len(front) + len(command) - len(tail)) + "^"
+            if told[at : at + 1] != [wanted]:
+                return f"line {number}: no caret at its place: {told[at : at + 1]}"
+        # Where the desk names no place, explain may have found one.
+        at += bool(re.fullmatch(" +\\^", "".join(told[at : at + 1])))
+        bad = re.fullmatch("refused 3: line ([0-9]+) fault [0-9]", text)
+        if bad and line.strip(" ").startswith("load"):
+            trace = lines_of_traces[int(line.partition("@")[2]) - 1]
+            shown = escaped(trace[int(bad[1]) - 1])
+            is_long = len(shown) > 300 and told[at : at + 1] and shows(told[at], "    ", shown)
+            if not is_long and told[at : at + 1] != ["    " + shown]:
+                return f"line {number}: not the trace's line: {told[at : at + 1]}"
+            at += 1
+    return None if at == len(told) else f"more is told: {told[at]}"
+
+
+def wrong_with(explain, row):
+    words = [os.path.join(row, "script")]
+    while os.path.exists(os.path.join(row, f"trace{len(words)}")):
+        words.append(os.path.join(row, f"trace{len(words)}"))
+    done = subprocess.run([explain, *words], capture_output=True, stdin=subprocess.DEVNULL)
+    with open(os.path.join(row, "status")) as status:
+        if done.returncode != int(status.read()) or done.stderr:
+            return f"status {done.returncode}, {done.stderr.decode('latin-1')}"
+    told = done.stdout.decode("latin-1").split("\n")
+    return first_wrong(row, told[:-1])
+
+
+def main():
+    # The launcher would start a build.
+    if not os.environ.get("HISTDESK"):
+        raise SystemExit("explain_rows: HISTDESK names no program")
+    explain, *paths = words[is_watched:]
+    good = 0
+    for row in paths:
+        wrong = wrong_with(explain, row)
+        if wrong:
+            print(f"{os.path.basename(row)}: {wrong}")
+        else:
+            good += 1
+    print(f"{good} of {len(paths)} rows hold")
+
+
+main()

@@ -1,0 +1,221 @@
+#!/usr/bin/env bash
+# install.sh HISTDESK HISTWATCH LIBRARY: puts these programs, and this libhistdesk.so.0 with the libhistdesk.a beside it,
+# below empty prefixes by tools/install and tools/package, and uses what stands there as one does who has neither the
+# repository nor the Rattle kit. It prints what went wrong, and a last line with the counts.
+# shellcheck disable=SC2154 # what counts.sh assigns
+set -uo pipefail
+
+tests=$(dirname -- "$(dirname -- "$(realpath -- "${BASH_SOURCE[0]}")")")
+BUILT_HISTDESK=$(realpath -- "$1")
+BUILT_HISTWATCH=$(realpath -- "$2")
+BUILT_LIBRARY=$(realpath -- "$3")
+export BUILT_HISTDESK BUILT_HISTWATCH BUILT_LIBRARY
+unset DESTDIR
+root=$(realpath -- "$tests/..")
+tools=$root/tools
+examples=$root/examples
+. "$tests/counts.sh"
+. "$tests/tools/common.sh"
+
+# below PREFIX: what is used next is installed there. "${alone[@]}" COMMAND.. has this, and what the system has.
+below() {
+    prefix=$1
+    alone=(env -i "PATH=$prefix/bin:/usr/bin:/bin" "PYTHONPATH=$prefix/lib/python3/dist-packages"
+        "LD_LIBRARY_PATH=$prefix/lib" "PKG_CONFIG_PATH=$prefix/lib/pkgconfig")
+}
+
+# same WHAT GOT WANTED
+same() {
+    if [[ $2 == "$3" ]]; then
+        pass
+    else
+        fail "$1: $2"
+    fi
+}
+
+# The program in C that histdesk(3) shows.
+sed -n '/^#include/,/^\.Ed/p' "$root/man/histdesk.3" | sed '/^\./d; s/\\en/\\n/g' >"$folder/wakings.c"
+cat >"$folder/wakings.py" <<'END_OF_PYTHON'
+import histdesk
+
+desk = histdesk.Desk()
+with open("two-wakings.trace", "rb") as trace:
+    print(desk.load(trace), desk.attach("sched_waking", "hist:keys=pid").totals())
+END_OF_PYTHON
+
+# The programs and the tools, in a folder with nothing but examples.
+used_programs() {
+    cp -- "$examples"/*.{script,trace} "$work"
+    printf 'hits 1\n' >"$work/bad.script"
+    gives "$1, histdesk" 0 "" "${alone[@]}" histdesk wakeups.script wakeups.trace
+    prints "$1, histdesk" "$(<"$examples/wakeups.expected")"
+    gives "$1, histwatch" 0 "" "${alone[@]}" histwatch changes.script wakeups.trace
+    prints "$1, histwatch" "$(<"$examples/changes.expected")"
+    gives "$1, words" 2 "histdesk: bad words*Examples and documents: $prefix/share/doc/histdesk.*" "${alone[@]}" histdesk --help
+    # It finds the package and the library by itself.
+    gives "$1, explain" 1 "" env -i "PATH=$prefix/bin:/usr/bin:/bin" histdesk-explain bad.script
+    prints "$1, explain" $'refused 16\n  line 1: hits 1: there is no such command or event; did you mean hist?\n          ^'
+    gives "$1, bars" 0 "" "${alone[@]}" bash -c 'histdesk latencies.script wakeups.trace | histdesk-bars | grep -c @@@'
+    prints "$1, bars" 7
+    gives "$1, desk" 0 "" "${alone[@]}" histdesk-desk wakeups.trace <wakeups.script
+    prints "$1, desk" "$(<"$examples/wakeups.expected")"
+    for tool in waits why diff view export desk explain record from-perf from-trace-cmd; do
+        gives "$1, $tool --help" 0 "" "${alone[@]}" "histdesk-$tool" --help
+        same "$1, $tool --help" "$(grep -o "^usage: [^ ]*" "$folder/out")" "usage: histdesk-$tool"
+        same "$1, $tool of the repository" "$(grep -c 'tools/' "$folder/out")" 0
+    done
+}
+
+# The tools whose reports need numpy, or what they say where there is none.
+used_reports() {
+    local tool
+    if ! "${alone[@]}" python3 -c 'import numpy' 2>"$folder/err"; then
+        for tool in waits why; do
+            gives "$1, $tool" 2 "$tool: *numpy*apt-get install python3-numpy*" "${alone[@]}" "histdesk-$tool" wakeups.trace
+        done
+        return
+    fi
+    gives "$1, waits" 0 "" "${alone[@]}" histdesk-waits wakeups.trace --kind woken --by kind --csv
+    prints "$1, waits" "kind,count,total,mean,p50,p90,p99,max,end_stamp,end_cpu,end_line,task,pid,doubtful
+woken,10,263,26.3,7,12,204,204,6012001581,0,11,kworker/0:2,7105,0"
+    gives "$1, why" 0 "" "${alone[@]}" histdesk-why wakeups.trace 0:11
+    same "$1, why" "$(head -n 1 "$folder/out")" \
+        "kworker/0:2-7105 (prio 120) waited 204 us for CPU 0, from 6012.001377 to 6012.001581, after it was woken."
+    gives "$1, diff" 0 "" "${alone[@]}" histdesk-diff wakeups.trace --without 'sched_waking if pid == 7105'
+    same "$1, diff" "$(sed -n 2p "$folder/out")" "without 2 of 11 sched_waking if pid == 7105"
+    gives "$1, view" 0 "" "${alone[@]}" histdesk-view wakeups.trace --save page.html
+    same "$1, view" "$(grep -o '"command":"[^"]*view[^"]*"' page.html | LC_ALL=C sort -u)" '"command":"histdesk view.script wakeups.trace"
+"command":"histdesk-view wakeups.trace"'
+    gives "$1, export" 0 "" "${alone[@]}" histdesk-export wakeups.trace rows sched_waking hist:keys=prio
+    prints "$1, export" $'prio,hitcount\n19,3\n120,8'
+}
+
+# The library: compiled by pkg-config's words, with the shared library and with the static one.
+used_library() {
+    local flags
+    flags=$("${alone[@]}" pkg-config --cflags --libs histdesk)
+    # shellcheck disable=SC2086 # these are words
+    gives "$1, cc" 0 "" "${alone[@]}" cc -Wall -Werror -o shared "$folder/wakings.c" $flags
+    gives "$1, shared" 0 "" "${alone[@]}" ./shared
+    prints "$1, shared" "pid 42: 2"
+    # shellcheck disable=SC2086
+    gives "$1, cc -static" 0 "" "${alone[@]}" cc -static -o static "$folder/wakings.c" $flags
+    # shellcheck disable=SC2086
+    gives "$1, cc -l:" 0 "" "${alone[@]}" cc -o linked "$folder/wakings.c" ${flags/-lhistdesk/-l:libhistdesk.a}
+    for program in static linked; do
+        gives "$1, $program" 0 "" env -i "./$program"
+        prints "$1, $program" "pid 42: 2"
+    done
+    gives "$1, Python" 0 "" "${alone[@]}" python3 "$folder/wakings.py"
+    prints "$1, Python" "2 Totals(hits=2, entries=1, dropped=0)"
+}
+
+# The man pages: of each program and of the library, without a warning, and their examples print what they show.
+used_pages() {
+    local page program
+    for page in "$prefix"/share/man/man?/*; do
+        gives "$1, ${page##*/}" 0 "" env -C "$prefix/share/man" mandoc "${page#"$prefix/share/man/"}"
+    done
+    for program in "$prefix"/bin/*; do
+        same "$1, man ${program##*/}" "$(compgen -G "$prefix/share/man/man1/${program##*/}.1*" | wc -l)" 1
+    done
+}
+
+# used WHAT: all that stands below $prefix.
+used() {
+    work=$(mktemp -d -- "$folder/work.XXXXXX")
+    cd -- "$work" || exit
+    used_programs "$1"
+    used_reports "$1"
+    used_library "$1"
+    used_pages "$1"
+    cd -- "$folder" || exit
+    same "$1, BUILT" "$(sed -n 's/^Commit \([0-9a-f]*\).*/\1/p' "$prefix/share/doc/histdesk/BUILT")" \
+        "$(git -C "$root" rev-parse HEAD)"
+}
+
+# installed WHAT WORD..: tools/install with these words ends well, and says nothing.
+installed() {
+    gives "$1" 0 "" "$tools/install" "${@:2}"
+    prints "$1" ""
+}
+
+# ---- A prefix of its own.
+
+below "$folder/own"
+installed install "$prefix"
+used install
+PATH=$prefix/bin:$PATH holds "$tests/documents/man_examples.py" "$examples" "$root"/man/*.[17]
+gives "pages without warnings" 0 "" mandoc -Tlint -W warning "$root"/man/*.[1-8]
+# Once more, in place of what stands there; then what another has put there stays.
+echo mine >"$prefix/bin/other"
+rm -- "$prefix/bin/histwatch"
+installed "install again" "$prefix"
+gives "histwatch again" 0 "" "${alone[@]}" histwatch
+installed uninstall --uninstall "$prefix"
+same uninstall "$(cd -- "$prefix" && find . | sort | tr '\n' ' ')" '. ./bin ./bin/other '
+rm -r -- "$prefix"
+
+# The whole may be moved, and a program's script hands large pages on.
+installed "to be moved" "$folder/before"
+below "$folder/moved"
+mv -- "$folder/before" "$prefix"
+ln -s -- "$prefix/bin/histdesk" "$folder/linked"
+gives moved 0 "" "$folder/linked" "$examples/wakeups.script" "$examples/wakeups.trace"
+prints moved "$(<"$examples/wakeups.expected")"
+# shellcheck disable=SC2016 # for the program that stands for it
+printf '%s\n' '#!/bin/sh' 'echo "$GLIBC_TUNABLES" "$@"' >"$prefix/lib/histdesk/programs/histdesk"
+GLIBC_TUNABLES=glibc.a=b gives pages 0 "" "$folder/linked" 'a b' ''
+prints pages 'glibc.a=b:glibc.malloc.hugetlb=1 a b '
+installed "uninstall what was moved" --uninstall "$prefix"
+same "uninstall what was moved" "$(find "$prefix")" "$prefix"
+
+# ---- Below another root, and in packages.
+
+DESTDIR=$folder/root installed DESTDIR /usr
+same DESTDIR "$(cd -- "$folder/root" && find . -maxdepth 2 | sort | tr '\n' ' ')" \
+    '. ./usr ./usr/bin ./usr/include ./usr/lib ./usr/share '
+below "$folder/root/usr"
+used DESTDIR
+DESTDIR=$folder/root installed "DESTDIR --uninstall" --uninstall /usr
+same "DESTDIR --uninstall" "$(find "$folder/root/usr")" "$folder/root/usr"
+# Where the system's Python looks below /usr/local.
+DESTDIR=$folder/root installed "below /usr/local" /usr/local
+package=$(find "$folder/root/usr/local" -name __init__.py -path '*/histdesk/*')
+package=${package#"$folder/root"}
+gives "Python below /usr/local" 0 "" /usr/bin/python3 -c 'import sys; print(sys.argv[1] in sys.path)' \
+    "${package%/histdesk/*}"
+prints "Python below /usr/local" True
+
+gives package 0 "" "$tools/package" "$folder/packages"
+version=$(sed -n 's/.*_\(.*\)_amd64\.deb$/\1/p' "$folder/out")
+prints package "$folder/packages/histdesk_${version}_amd64.deb"$'\n'"$folder/packages/histdesk-$version-linux-x86_64.tar.gz"
+gives "deb's fields" 0 "" dpkg-deb -f "$folder/packages/histdesk_${version}_amd64.deb" Package Version Architecture
+prints "deb's fields" "Package: histdesk"$'\n'"Version: $version"$'\n'"Architecture: amd64"
+gives "dpkg-deb -x" 0 "" dpkg-deb -x "$folder/packages/histdesk_${version}_amd64.deb" "$folder/deb"
+below "$folder/deb/usr"
+used deb
+gives tar 0 "" tar -C "$folder" -xf "$folder/packages/histdesk-$version-linux-x86_64.tar.gz"
+below "$folder/histdesk-$version-linux-x86_64"
+used tarball
+
+# ---- Words and files that are wrong.
+
+gives "install --help" 0 "" "$tools/install" --help
+gives "install's words" 2 "install: no such option: --what; --help says more" "$tools/install" --what
+gives "install's prefixes" 2 "install: takes one word, PREFIX; --help says more" "$tools/install" /a /b
+gives "nothing to uninstall" 1 "install: nothing is installed in $folder/none: *" "$tools/install" --uninstall "$folder/none"
+BUILT_HISTDESK=$folder/none gives "no program" 1 "install: cannot read $folder/none" "$tools/install" "$folder/never"
+gives "no folder" 1 "install: cannot make $folder/wakings.c/in" "$tools/install" "$folder/wakings.c/in"
+same "nothing is put there" "$(find "$folder/never" 2>&1)" "find: ‘$folder/never’: No such file or directory"
+gives "package --help" 0 "" "$tools/package" --help
+gives "build --help" 0 "" "$tools/build" --help
+gives "build's words" 2 "build: takes no words; --help says more" "$tools/build" all
+gives "link --help" 0 "" "$tools/link" --help
+gives "needs --help" 0 "" "$tools/needs" --help
+gives "needs' words" 2 "needs: takes --missing or nothing; --help says more" "$tools/needs" all
+gives needs 0 "" "$tools/needs"
+same needs "$(wc -l <"$folder/out") $(cut -d ' ' -f 1-4 "$folder/out")" "1 apt-get install bash git"
+
+echo "$passed passed, $failed failed"
+((failed == 0))

@@ -1,0 +1,355 @@
+#!/usr/bin/env python3
+"""Gives from-perf, from-trace-cmd and record's kernel_text.py texts whose truth is known, and what they print to the program.
+
+    turned.py TOOLS [SEED]
+
+TOOLS is the folder of the scripts; the program is the one that HISTDESK names. Another SEED gives other texts. What they
+print has to be loaded, line for line, and what isn't printed has to be counted. The texts hold over 10,000 torn lines,
+names made to mislead, several buffers, and foreign bytes. The truth is the events that the texts were written from, and
+tests/model/model_line.py, which reads lines by the documents. The last line says how many of how many things hold."""
+
+import importlib.machinery
+import importlib.util
+import io
+import os
+import random
+import re
+import subprocess
+import sys
+import tempfile
+from typing import Any, Callable, Dict, List, NamedTuple, Tuple
+
+# Nothing is written beside the sources.
+sys.dont_write_bytecode = True
+
+sys.path.insert(0, os.path.join(os.path.dirname(os.path.realpath(__file__)), "..", "model"))
+from model_line import LineFault, read_line
+
+TOOLS = os.path.realpath(sys.argv[1])
+sys.path.insert(0, TOOLS)
+PROGRAM = os.environ["HISTDESK"]
+TORN, ODD = 4000, 1500
+# What misleads where it stands in a name, a line or between two.
+BITS = ["-12 [003] ", "-1 [000] 1.0: ", "\n", "\n\n", " ", "#", " ==> next_comm=", "[", "] ", ":", " pid=7", " prio=1"]
+BITS += [" next_pid=5", " prev_state=R", "=", "-", "7", " 12 [0", "CPU:1 [LOST ", "one: ", "a", "xyz", "(  -9) ", "\t", "\r"]
+BITS += ["5 ", "\x1b[m", "\xe9\xff"]
+PLAIN = ["bash", "my app 2", "kworker/u8:1", "a-b", "<idle>", "x: y", "swapper"]
+EVENTS = ["sched_waking", "sched_wakeup", "sched_wakeup_new", "sched_switch", "irq_handler_entry"]
+passed, failed = 0, 0
+
+
+def check(is_good: Any, what: str) -> None:
+    """Counts a thing that has to hold."""
+    global passed, failed
+    if is_good:
+        passed += 1
+    else:
+        failed += 1
+        print(what)
+
+
+class Happened(NamedTuple):
+    """An event, as a text is written from it."""
+
+    task: str
+    pid: int
+    cpu: int
+    nanos: int
+    name: str
+    names: Tuple[str, ...]
+    numbers: Tuple[int, ...]
+
+    @property
+    def fields(self) -> str:
+        """The kernel's text of its fields."""
+        if self.name == "sched_switch":
+            text = "prev_comm={} prev_pid={} prev_prio={} prev_state=S ==> next_comm={} next_pid={} next_prio={}"
+            return text.format(self.names[0], *self.numbers[:2], self.names[1], *self.numbers[2:])
+        if self.name.startswith("sched_"):
+            return "comm={} pid={} prio={} target_cpu={:03}".format(*self.names, *self.numbers[:3])
+        return "irq=1 name=x"
+
+    @property
+    def micros(self) -> int:
+        """The stamp as the kernel rounds it."""
+        return (self.nanos + 500) // 1000
+
+
+def some_events(draw: random.Random, count: int, name: Callable[[], str]) -> List[Happened]:
+    """Events in the order of time, with names that `name` makes."""
+    nanos, events = 3_000_000_000 * draw.randint(1, 99), []
+    for _ in range(count):
+        nanos += draw.choice([1, 499, 500, 501, 999, 999_999, 10_000_500])
+        kind = draw.choice(EVENTS)
+        numbers = tuple(draw.choice([0, 1, 7, 120, 4194304]) for _ in range(4))
+        events.append(Happened(name(), draw.randint(0, 99999), draw.randint(0, 3), nanos, kind, (name(), name()), numbers))
+    return [event._replace(names=event.names[: 1 + (event.name == "sched_switch")]) for event in events]
+
+
+def nanos(event: Happened) -> str:
+    return "{}.{:09}".format(*divmod(event.nanos, 10**9))
+
+
+def perf_text(event: Happened) -> str:
+    """What `perf script` prints of an event."""
+    name = ("sched:" if event.name.startswith("sched_") else "irq:") + event.name
+    return f"{event.task:>16} {event.pid:5} [{event.cpu:03}] {nanos(event):>15}: {name:>24}: {event.fields}"
+
+
+def report_text(event: Happened) -> str:
+    """What `trace-cmd report` prints of an event."""
+    return f"{event.task:>16}-{event.pid:<5} [{event.cpu:03}] {nanos(event):>16}: {event.name + ':':<21} {event.fields}"
+
+
+def kernel_text(event: Happened) -> str:
+    """What the kernel prints of an event."""
+    stamp = "{:>5}.{:06}".format(*divmod(event.micros, 10**6))
+    return f"{event.task:>16}-{event.pid:<7} [{event.cpu:03}] d..2. {stamp}: {event.name}: {event.fields}"
+
+
+FORMS: Dict[str, Tuple[Callable[[Happened], str], List[str]]] = {
+    "from-perf": (perf_text, [os.path.join(TOOLS, "from-perf")]),
+    "from-trace-cmd": (report_text, [os.path.join(TOOLS, "from-trace-cmd")]),
+    "record": (kernel_text, [os.path.join(TOOLS, "kernel_text.py"), "record"]),
+}
+
+
+def converted(words: List[str], text: bytes) -> Tuple[int, bytes, List[str]]:
+    """The status of a script that is given a text in a file, and what it says on both streams."""
+    with tempfile.NamedTemporaryFile() as file:
+        file.write(text)
+        file.flush()
+        ran = subprocess.run([sys.executable, *words, file.name], capture_output=True, timeout=100, check=False)
+    return ran.returncode, ran.stdout, ran.stderr.decode("ascii").splitlines()
+
+
+def loaded(trace: bytes) -> str:
+    """What the program prints as it loads a trace."""
+    with tempfile.NamedTemporaryFile() as file:
+        file.write(trace)
+        file.flush()
+        ran = subprocess.run([PROGRAM, "-", file.name], input=b"load @1\n", stdout=subprocess.PIPE, timeout=100, check=False)
+    return ran.stdout.decode().strip()
+
+
+def lines_of(trace: bytes) -> List[str]:
+    """The lines that are no comments and tell of no losses, one by one."""
+    lines = trace.decode("latin-1").split("\n")
+    return [line for line in lines if line.strip(" ") and not re.match(r"#|CPU:[0-9]+ \[LOST ([0-9]+ )?EVENTS\]\Z", line)]
+
+
+def left_out(said: List[str]) -> int:
+    """How many lines were left out, as standard error says."""
+    shown = sum(bool(re.fullmatch("[a-z-]+: line [0-9]+: .*", line)) for line in said)
+    more = [int(found[1]) for found in map(re.compile(".*: ([0-9]+) more lines can't be turned.*").fullmatch, said) if found]
+    return shown + sum(more)
+
+
+def meaning(line: str) -> Any:
+    """What a line means, by the documents."""
+    try:
+        return read_line(line)
+    except LineFault as fault:
+        return f"fault {fault}"
+
+
+def is_name(read: str, true: str, is_task: bool = False) -> bool:
+    """Whether a name is the true one, but for bytes that are masked; blanks before a task's name are lost in every text."""
+    true = true.lstrip(" ") if is_task else true
+    return len(read) == len(true) and all(one in (other, "?") for one, other in zip(read, true))
+
+
+def is_true(read: Any, event: Happened) -> bool:
+    """Whether a line was read as the event that it was written from."""
+    if isinstance(read, str) or not is_name(read["task"], event.task, True):
+        return False
+    if (read["line_pid"], read["cpu"], read["stamp"]) != (event.pid, event.cpu, event.micros):
+        return False
+    if event.name not in EVENTS[:4]:
+        return read["name"] == "other"
+    texts = [value for field, value in read["said"].items() if field.endswith("comm")]
+    numbers = [value for field, value in read["said"].items() if isinstance(value, int)]
+    wanted = event.numbers if event.name == "sched_switch" else event.numbers[:3]
+    return read["name"] == event.name and numbers == list(wanted) and all(map(is_name, texts, event.names))
+
+
+# ---- torn lines
+
+
+def torn(draw: random.Random, line: str, other: str) -> str:
+    """A line that lacks some bytes, or has some of its own or of another one's too many."""
+    at, kind = draw.randint(0, len(line)), draw.randint(0, 5)
+    if kind == 0:
+        return line[:at]
+    if kind == 1:
+        return line[at:]
+    if kind == 2:
+        return line[:at] + line[at + draw.randint(1, 30) :]
+    if kind == 3:
+        return line[:at] + other[draw.randint(0, len(other)) :]
+    if kind == 4:
+        return line[:at] + draw.choice(BITS).replace("\n", "") + line[at:]
+    return line[: line.find(draw.choice(["comm=", "pid=", "prio=", "==>", "next_comm=", ": ", "["])) + draw.randint(0, 9)]
+
+
+def check_torn(name: str, seed: int) -> int:
+    """Torn lines, a whole one behind each, so that none is a piece of another one. How many weren't printed."""
+    draw, (text_of, words) = random.Random(seed), FORMS[name]
+    events = some_events(draw, TORN + 1, lambda: draw.choice(PLAIN))
+    whole = [text_of(event) for event in events]
+    lines = [line for at in range(TORN) for line in (torn(draw, whole[at], whole[at + 1]), whole[at])]
+    status, trace, said = converted(words, "\n".join(lines).encode("latin-1") + b"\n")
+    printed, blank = lines_of(trace), sum(not line.strip() or line.startswith("#") for line in lines)
+    answer = loaded(trace)
+    if answer.startswith("refused"):
+        print(repr(trace.decode("latin-1").split("\n")[int(answer.split()[3]) - 1]))
+    check(answer == f"loaded {len(printed)}", f"{name}: {len(printed)} lines are printed, and the program says {answer}")
+    gone = left_out(said)
+    told = f"{gone} are left out, {blank} blank: {said[-1:]}"
+    check(len(lines) == len(printed) + gone + blank, f"{name}: of {len(lines)} lines {told}")
+    check(status == 1 and len(said) < 10, f"{name}: status {status}, {len(said)} lines on standard error")
+    read = iter([meaning(line) for line in printed])
+    kept = sum(any(is_true(one, event) for one in read) for event in events[:TORN])
+    check_sure(lines)
+    check(kept == TORN, f"{name}: {kept} of {TORN} whole lines are turned as they should be")
+    return gone
+
+
+def check_sure(lines: List[str]) -> None:
+    """Lines that the package takes for sure are read by the documents, too, and those that it skips are skipped."""
+    from turning_lines import desk
+
+    sure = [line for line in lines if desk.SURE.fullmatch(line.encode("latin-1"))]
+    wrong = [line for line in sure if not isinstance(meaning(line), dict)]
+    wrong += [line for line in lines if desk.SKIPPED.fullmatch(line.encode("latin-1")) and meaning(line) is not None]
+    check(not wrong, f"{len(wrong)} lines are no sure ones, such as {wrong[:1]}")
+
+
+# ---- names
+
+
+def odd_name(draw: random.Random) -> str:
+    """A name of up to 15 bytes that is made to mislead."""
+    if draw.random() < 0.3:
+        return draw.choice(["bash", "a b", "kworker/u8:1"])
+    return "".join(draw.choices(BITS, k=draw.randint(0, 4)))[:15]
+
+
+def check_names(name: str, seed: int) -> None:
+    """Whole lines with odd names: each is turned, and means what it should."""
+    draw, (text_of, words) = random.Random(seed), FORMS[name]
+    events = some_events(draw, ODD, lambda: odd_name(draw))
+    status, trace, said = converted(words, "".join(text_of(event) + "\n" for event in events).encode("latin-1"))
+    printed, answer = lines_of(trace), loaded(trace)
+    check(answer == f"loaded {ODD}", f"{name}: odd names: {len(printed)} lines, and the program says {answer}: {said}")
+    wrong = [event for line, event in zip(printed, events) if not is_true(meaning(line), event)]
+    check(not wrong, f"{name}: {len(wrong)} lines with odd names are turned wrongly, such as {wrong[:1]}")
+    check(status == 0 and len(said) == 1 and " would mislead the desk" in said[0], f"{name}: status {status}, {said}")
+
+
+def script_of(name: str) -> Any:
+    """A script as a module."""
+    loader = importlib.machinery.SourceFileLoader(name.replace("-", "_"), os.path.join(TOOLS, name))
+    module = importlib.util.module_from_spec(importlib.util.spec_from_loader(loader.name, loader))
+    loader.exec_module(module)
+    return module
+
+
+class Drip(io.RawIOBase):
+    """A file that gives few bytes at a time."""
+
+    def __init__(self, content: bytes, draw: random.Random) -> None:
+        super().__init__()
+        self.content = content
+        self.draw = draw
+
+    def read(self, _: int = -1) -> bytes:
+        count = self.draw.choice([1, 2, 30, 200, 3000])
+        given, self.content = self.content[:count], self.content[count:]
+        return given
+
+
+def check_pieces(seed: int) -> None:
+    """A text that comes in small pieces is turned as one that comes at once."""
+    from turning import turn_text
+    from turning_told import Told
+
+    draw = random.Random(seed)
+    text = "".join(perf_text(event) + "\n" for event in some_events(draw, 300, lambda: odd_name(draw))).encode("latin-1")
+    traces = []
+    for source in (io.BytesIO(text), Drip(text, draw)):
+        sink, sys.stdout = sys.stdout, io.TextIOWrapper(io.BytesIO())
+        sys.stdout, sink = sink, sys.stdout
+        real, sys.stdout = sys.stdout, sink
+        try:
+            told = Told("test", "perf script", "text")
+            told.say = lambda text: None
+            turn_text(script_of("from-perf").Perf(), told, source.read(1), source)
+            traces.append(sink.buffer.getvalue())
+        finally:
+            sys.stdout = real
+    check(traces[0] == traces[1] and traces[0].count(b"\n") == 300, "a text in small pieces is turned otherwise")
+
+
+# ---- buffers
+
+
+def check_buffers(seed: int, names: List[str]) -> None:
+    """Of several buffers each is taken by its name, as if it were alone. The top one has no name here. No name of a task has a
+    buffer's columns behind a line break: such a line is left out."""
+    draw, width = random.Random(seed), max(map(len, names)) + 2
+    words = FORMS["from-trace-cmd"][1]
+    mixed, alone = "cpus=4\n", {name: "cpus=4\n" for name in names}
+    for event in some_events(draw, 600, lambda: odd_name(draw).replace("\none: ", "one: ")):
+        name = draw.choice(names)
+        front = f"{name + ': ' if name else '':>{width}}"
+        if draw.random() < 0.05:
+            lost = f"CPU:{event.cpu} [{draw.choice(['', '7 '])}EVENTS DROPPED]\n"
+            mixed, front = mixed + front + lost, ""
+            alone[name] += lost
+        mixed += front + report_text(event) + "\n"
+        alone[name] += report_text(event) + "\n"
+    for name in names:
+        wanted = converted(words, alone[name].encode("latin-1"))
+        taken = converted([*words, "--buffer", name or "/"], mixed.encode("latin-1"))
+        check(taken[:2] == wanted[:2], f"buffer {name or '/'} of {names}: status {taken[0]}, {taken[2][:2]}")
+    status, trace, said = converted(words, mixed.encode("latin-1"))
+    if len(names) > 1:
+        is_refused = len(said) == 1 and all(f" {name or '/'} (" in said[0] for name in names)
+        check((status, trace) == (1, b"") and is_refused, f"buffers {names} are mixed: status {status}, {said[:2]}")
+    else:
+        check((status, trace) == wanted[:2], f"the only buffer {names} isn't taken: status {status}, {said[:2]}")
+
+
+# ---- other bytes
+
+
+def check_foreign(name: str, seed: int) -> None:
+    """What is no such text ends at once, in one line and with status 1."""
+    draw, words = random.Random(seed), FORMS[name][1]
+    line = bytes(range(1, 256)).replace(b"\n", b"")
+    texts = {
+        "bytes": draw.getrandbits(8 << 20).to_bytes(1 << 20, "big"),
+        "bytes but no zero": bytes(draw.choices(range(1, 256), k=1 << 20)),
+        "one long line": line * 10000,
+        "many lines": (line + b"\n") * 50000,
+        "blanks before a line": b" " * 14 + b"\n" + b" " * 9 + b"\nx\n",
+        "shell": b"#!/bin/sh\necho\n" * 300,
+    }
+    for what, text in texts.items():
+        status, trace, said = converted(words, text)
+        check(status == 1 and len(said) == 1, f"{name}: {what}: status {status}, {said[:2]}")
+        check(not lines_of(trace), f"{name}: {what}: it prints {trace[:50]!r}")
+
+
+first = 100 * int(sys.argv[2]) if len(sys.argv) > 2 else 0
+gone = sum(check_torn(name, seed) for seed, name in enumerate(FORMS, first))
+check(gone > 5000, f"only {gone} lines were left out")
+for seed, name in enumerate(FORMS, first):
+    check_names(name, seed)
+    check_foreign(name, seed)
+check_pieces(first)
+for seed, names in enumerate([["", "one"], ["one", "two", ""], ["a", "longer name: "], ["one"]], first):
+    check_buffers(seed, names)
+print(f"{passed} of {passed + failed} things hold")
+sys.exit(failed > 0)
