@@ -34,6 +34,7 @@ counted "$tests/tools/launchers.sh" "$program" ${histwatch:+"$histwatch"}
 counted "$tests/tools/building.sh"
 counted "$tests/tools/tools.sh" "$program" ${histwatch:+"$histwatch"}
 holds "$tests/documents/documents.py"
+holds "$tests/documents/crates.py"
 
 echo "$passed passed, $failed failed"
 ((failed == 0))

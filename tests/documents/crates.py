@@ -1,0 +1,107 @@
+#!/usr/bin/env python3
+"""Holds that the pages on the crates say what there is.
+
+    crates.py > WHAT WENT WRONG
+
+docs/CRATES.md is what tools/crates prints, and each file of sources and definitions begins with a sentence. docs/HACKING.md
+has each crate in its figure of layers, but those of tests, and each on no lower layer than what it stands on; and it names
+files, functions and definitions that are there. The last line says how many of these hold.
+"""
+
+import importlib.machinery
+import importlib.util
+import re
+import sys
+from pathlib import Path
+from types import ModuleType
+from typing import Dict, Iterator, List, Tuple
+
+# Nothing is written beside the sources.
+sys.dont_write_bytecode = True
+
+ROOT = Path(__file__).resolve().parents[2]
+# What is one only where somebody fills in a name.
+OPEN = re.compile(r"NAME|FILE|FUNCTION|PATH|\*")
+PATH = re.compile(r"[\w.{},-]+(?:/[\w.{},-]+)+")
+WORD = re.compile(r"\w+")
+# A path, and names of what stands in its file.
+WITHIN = re.compile(r"`([\w.-]+/[\w./-]+)` \(((?:`\w+`(?:, )?)+)")
+Told = Iterator[Tuple[str, bool]]
+
+
+def tool() -> ModuleType:
+    """tools/crates, as a module."""
+    loader = importlib.machinery.SourceFileLoader("crates", str(ROOT / "tools" / "crates"))
+    spec = importlib.util.spec_from_loader("crates", loader)
+    assert spec
+    module = importlib.util.module_from_spec(spec)
+    loader.exec_module(module)
+    return module
+
+
+CRATES = tool()
+BELOW: Dict[str, List[str]] = CRATES.crates()
+
+
+def text_of(path: str) -> str:
+    return (ROOT / path).read_text(encoding="utf-8")
+
+
+def table() -> Told:
+    """The generated page, and the sentences that it and the listings are made of."""
+    same = text_of("docs/CRATES.md") == CRATES.table()
+    yield "docs/CRATES.md is not what tools/crates prints", same
+    for file in (file for crate in BELOW for file in CRATES.files_of(crate)):
+        yield f"{file.relative_to(ROOT)} does not begin with a sentence", bool(CRATES.first_sentence(file))
+
+
+def layers(page: str) -> Told:
+    """The figure of layers, the highest first."""
+    figure = page.partition("\n## Layers\n")[2].split("```")[1]
+    rows = [line for line in figure.split("\n") if line[:1].strip()]
+    layer = {crate: len(rows) - at for at, row in enumerate(rows) for crate in re.findall(r"\w+", row) if crate in BELOW}
+    for crate in (crate for crate in BELOW if not crate.endswith("_tests")):
+        yield f"HACKING.md: no layer has {crate}", crate in layer
+        too_low = [other for other in BELOW[crate] if layer.get(other, 0) > layer.get(crate, 0)]
+        yield f"HACKING.md: {crate} stands below {', '.join(too_low)}, on which it stands", not too_low
+
+
+def spelled(path: str) -> List[str]:
+    """The paths of a name: `a/{b,c}.rt` is two."""
+    form = re.fullmatch(r"(.*)\{([^}]*)\}(.*)", path)
+    return [form[1] + part + form[3] for part in form[2].split(",")] if form else [path]
+
+
+def place(path: str) -> Path:
+    """Where a path leads: from the repository on, from its folder of crates, or from a crate."""
+    places = [ROOT / path, ROOT / "crates" / path, *ROOT.glob(f"crates/*/{path}")]
+    return next((found for found in places if found.exists()), ROOT / path)
+
+
+def names(page: str) -> Told:
+    """What stands in backquotes: paths, and the names of functions, types and definitions."""
+    words = {crate: {word for file in CRATES.files_of(crate) for word in WORD.findall(text_of(str(file)))} for crate in BELOW}
+    known = set(BELOW).union(*words.values())
+    quoted = sorted(set(re.findall(r"`([^`\n]+)`", page)))
+    for path in (path for name in quoted if PATH.fullmatch(name) and not OPEN.search(name) for path in spelled(name)):
+        yield f"HACKING.md names {path}, which is not there", place(path).exists()
+    # The last sections speak of other programs too.
+    for name in sorted(set(re.findall(r"`(\w+(?:::\w+)*)`", page.partition("\n## Conventions\n")[0]))):
+        first, last = name.split("::")[0], name.split("::")[-1]
+        yield f"HACKING.md names {name}, which no crate has", last in words.get(first, known) or name in BELOW
+    for path, inside in WITHIN.findall(page):
+        found = place(path)
+        text = found.read_text(encoding="utf-8") if found.is_file() else ""
+        for name in re.findall(r"\w+", inside):
+            yield f"HACKING.md names {name} of {path}, which has none", re.search(rf"\b{name}\b", text) is not None
+
+
+def main() -> int:
+    page = text_of("docs/HACKING.md")
+    told = [*table(), *layers(page), *names(page)]
+    wrong = [line for line, holds in told if not holds]
+    print("\n".join([*wrong, f"{len(told) - len(wrong)} of {len(told)} things hold"]))
+    return 1 if wrong else 0
+
+
+sys.exit(main())
