@@ -35,6 +35,7 @@ counted "$tests/tools/building.sh"
 counted "$tests/tools/tools.sh" "$program" ${histwatch:+"$histwatch"}
 holds "$tests/documents/documents.py"
 holds "$tests/documents/crates.py"
+holds "$tests/documents/proof.py"
 
 echo "$passed passed, $failed failed"
 ((failed == 0))
