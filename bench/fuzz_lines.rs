@@ -1,4 +1,4 @@
-//! Lines changed at random, as the library reads them and as a plain model of FORMAT.md, section 1, does. Not part of the gate.
+//! Lines changed at random, as the library reads them and as a plain model of REFERENCE.md, Trace lines, does. Not part of the gate.
 //!
 //! `fuzz_lines SECONDS SEED FILE..`: the lines of the files, also with compact columns and with a column of thread groups, are
 //! changed at some places each. Those that the model calls good or skipped are loaded as one text, whose events must be the

@@ -8,8 +8,8 @@
 //! right; events stand in one vector in the order of lines, from which a trigger's are taken in merged order by a walk;
 //! tables are hash maps, whose hash is one multiplication. It proves nothing, has triggers of these forms alone, and keeps
 //! nothing for edits, listings or latencies: of each key a table has the count, and what was saved last. A line with a
-//! fault ends it, without a word on which line or fault, and it takes more lines for good or skipped ones than FORMAT.md
-//! does.
+//! fault ends it, without a word on which line or fault, and it takes more lines for good or skipped ones than
+//! REFERENCE.md does.
 
 // What an event has is held, as the desk holds it, also where nothing here reads it.
 #![allow(dead_code)]

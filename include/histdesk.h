@@ -2,7 +2,7 @@
  *
  * A desk holds the events of texts of the kernel's tracefs `trace` file, by CPU and line number, and the hist triggers
  * that are attached to them. It answers what replaying the events that it holds now gives for the triggers that are
- * attached now. The forms of texts are those of FORMAT.md, what they mean is in MEANING.md, both of histdesk's documents.
+ * attached now. The forms of texts, and what they mean, are in REFERENCE.md, one of histdesk's documents.
  *
  *     histdesk desk = {0};
  *     uint64_t events;
@@ -193,8 +193,8 @@ typedef struct histdesk_report {
 /* Why a call was refused. number is its code, 0 where it was accepted. What the number doesn't have is 0. */
 typedef struct histdesk_refusal {
     uint32_t number;
-    uint32_t fault;        /* of 3: the line's, as in FORMAT.md, 1.4; of 8: the trigger's, 3.2 */
-    uint32_t filter_fault; /* of 8 with fault 11, and of 9: the filter's, 2.3 */
+    uint32_t fault;        /* of 3: the line's; of 8: the trigger's; both as in REFERENCE.md, Line faults and Trigger faults */
+    uint32_t filter_fault; /* of 8 with fault 11, and of 9: the filter's, as in Filter faults */
     uint32_t cpu;          /* of 4 and 5 */
     uint32_t trigger;      /* of 11 and 12 */
     bool has_place;        /* of 8 and 9: whether the fault has a place */

@@ -36,6 +36,7 @@ counted "$tests/tools/tools.sh" "$program" ${histwatch:+"$histwatch"}
 holds "$tests/documents/documents.py"
 holds "$tests/documents/crates.py"
 holds "$tests/documents/proof.py"
+holds "$tests/documents/reference.py" "$histdesk" ${histwatch:+"$histwatch"}
 
 echo "$passed passed, $failed failed"
 ((failed == 0))

@@ -1,4 +1,4 @@
-"""Which lines of a trace the desk reads. The grammar is that of docs/FORMAT.md, part 1."""
+"""Which lines of a trace the desk reads. The grammar is that of docs/REFERENCE.md, Trace lines."""
 
 from __future__ import annotations
 

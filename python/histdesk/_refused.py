@@ -44,7 +44,8 @@ class Refused(Exception):
     | `text` | what a script prints, as `refused 8: fault 3` | all |
     | `path` | the file that holds the line, where a file was loaded | 3 |
 
-    What doesn't belong to the number is None. The numbers are those of docs/FORMAT.md, 7.3, 1.4, 3.2 and 2.3.
+    What doesn't belong to the number is None. The numbers are those of docs/REFERENCE.md, in Refusals and in the
+    three sections of faults.
 
     >>> desk = Desk()
     >>> try:

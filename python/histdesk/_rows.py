@@ -121,7 +121,7 @@ def add(sums: Sums, others: Sums) -> None:
 
 
 def in_order(shape: Shape, canonical: str, sums: Sums) -> List[Tuple[Any, ...]]:
-    """The keys in the order of their rows (docs/FORMAT.md, 4): by the trigger's sort items, and else by key."""
+    """The keys in the order of their rows (docs/REFERENCE.md, Order of rows): by the trigger's sort items, and else by key."""
     head = canonical.partition(" ")[0]
     items = next(part for part in head.split(":") if part.startswith("sort="))[len("sort=") :].split(",")
     keys = sorted(sums, key=comparable)

@@ -1,4 +1,4 @@
-"""What a trigger counts by and sums, from its canonical text (docs/FORMAT.md, 3.4)."""
+"""What a trigger counts by and sums, from its canonical text (docs/REFERENCE.md, Canonical triggers)."""
 
 from __future__ import annotations
 

@@ -222,7 +222,7 @@ def key_of(trigger, row):
 
 
 def row_text(names, modes, row):
-    """A row as the text of the table has it (docs/FORMAT.md, 4 and 5)."""
+    """A row as the text of the table has it (docs/REFERENCE.md, Keys and Table text)."""
     parts = [f"{name}: {part_text(mode, value)}" for name, mode, value in zip(names, modes, row)]
     titles = [name[: -len("_sum")] if name.endswith("_sum") and name[: -len("_sum")] in names else name for name in names]
     sums = zip(titles[len(modes) + 1 :], row[len(modes) + 1 :])
@@ -251,7 +251,7 @@ def latency_text(latency, stamps):
 
 
 def event_text(event):
-    """An event's line (docs/FORMAT.md, 6)."""
+    """An event's line (docs/REFERENCE.md, List lines)."""
     stamp = f"{event.stamp // 10**6}.{event.stamp % 10**6:06}"
     front = f"{event.cpu}:{event.line} {event.task}-{event.common_pid} [{event.cpu:03}] {stamp}:"
     if event.name == "other":

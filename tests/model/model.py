@@ -3,7 +3,7 @@
 
     model.py SCRIPT [TRACE]... > OUTPUT
 
-It was written from docs/FORMAT.md and docs/MEANING.md, and shares nothing with the program. Its other parts are
+It was written from the rules of docs/REFERENCE.md, and shares nothing with the program. Its other parts are
 model_line.py, model_filter.py and model_trigger.py.
 """
 

@@ -1,4 +1,4 @@
-"""Filters, for model.py: docs/FORMAT.md, section 2. A filter is a tree of tuples, by the word in front."""
+"""Filters, for model.py: docs/REFERENCE.md, Filters. A filter is a tree of tuples, by the word in front."""
 
 import functools
 import re

@@ -1,4 +1,4 @@
-"""Trace lines, for model.py: docs/FORMAT.md, section 1. Texts are Latin-1, a character for each byte."""
+"""Trace lines, for model.py: docs/REFERENCE.md, Trace lines. Texts are Latin-1, a character for each byte."""
 
 import re
 

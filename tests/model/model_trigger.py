@@ -1,4 +1,4 @@
-"""Triggers, for model.py: docs/FORMAT.md, sections 3 and 4."""
+"""Triggers, for model.py: docs/REFERENCE.md, Triggers and What triggers count."""
 
 import re
 

@@ -1,4 +1,4 @@
-"""Random texts of filters and triggers, for random_script.py: every form that docs/FORMAT.md has in sections 2 and 3, and
+"""Random texts of filters and triggers, for random_script.py: every form that docs/REFERENCE.md has of them, and
 now and then one that is spoilt, so that faults and their places are compared too."""
 
 WAKE = ["pid", "prio", "target_cpu"], ["comm"]

@@ -3,7 +3,7 @@
 
     explained.py EXPLAIN FOLDER > WHAT WENT WRONG
 
-A row is a command, the refusal that docs/FORMAT.md gives it, what is said beside the library's words, and the text from the
+A row is a command, the refusal that docs/REFERENCE.md gives it, what is said beside the library's words, and the text from the
 byte above the caret to the command's end, or None where no caret stands. All rows are one script, whose first commands are
 not refused. Each refusal and each fault that the library knows is in some row. The last line says how many rows hold. FOLDER
 is for the script and its traces; HISTDESK names the program, as for explain, which may be histwatch.

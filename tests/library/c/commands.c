@@ -1,4 +1,4 @@
-/* What a script line asks for: docs/FORMAT.md, 7. */
+/* What a script line asks for: docs/REFERENCE.md, Commands. */
 #include "script.h"
 
 #include <string.h>

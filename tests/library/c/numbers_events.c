@@ -28,7 +28,7 @@ static void put_target(bytes *to, int64_t cpu) {
     put_form(to, " target_cpu=%s%03" PRId64, cpu < 0 ? "-" : "", cpu < 0 ? -cpu : cpu);
 }
 
-/* The event's line, as docs/FORMAT.md, 6 has it. `own` becomes the event with no more than its name has. */
+/* The event's line, as docs/REFERENCE.md, List lines has it. `own` becomes the event with no more than its name has. */
 static void put_event(bytes *to, const histdesk_event *event, histdesk_event *own) {
     const histdesk_place *place = &event->place;
     own->name = event->name;
