@@ -241,6 +241,16 @@ def sessions():
     return len(tried), wrong
 
 
+def parsed():
+    """The pattern for rows reads the parts of one whose task has a name like the rest of a row."""
+    pattern, name = re.search(r"^```row\n(.*)$", REFERENCE, re.MULTILINE)[1], "w } hitcount: 7  prio: 8"
+    line = f"insert a-1 [0] 1.000000: sched_waking: comm={name} pid=9 prio=5 target_cpu=0"
+    row = next(line for line in answers(line, "attach sched_waking hist:keys=comm,pid:vals=prio", "hist 1") if line[:1] == "{")
+    read = re.fullmatch(pattern, f"+ 1 {row}")
+    wanted = ("+", "1", f"comm: {name:50}, pid:          9", "1", "  prio:          5")
+    return 1, [] if read and read.groups() == wanted else [f"row: {row} is read as {read and read.groups()}"]
+
+
 def deepest():
     """As many open levels as the table allows are a filter, and no more."""
     most = value(*LIMITS["open `(` and `!` in a filter"])
@@ -251,7 +261,7 @@ def deepest():
 
 def main():
     told = [fault_table(name) for name in FAULTS]
-    told += [standard_error(), limits(), fields(), left_out(), patterns(), deepest(), sessions()]
+    told += [standard_error(), limits(), fields(), left_out(), patterns(), deepest(), parsed(), sessions()]
     asked = {"lines": of_line, "filters": of_filter, "canonical": of_filter, "triggers": of_trigger, "parts": of_part}
     told += [answered(kind, ask) for kind, ask in asked.items()]
     count, wrong = sum(count for count, _ in told), [line for _, lines in told for line in lines]
