@@ -1,5 +1,5 @@
-"""Where a fault of a trigger lies of which the desk names no place, for explain: the first part or item that has it, in
-the order of docs/REFERENCE.md, Trigger faults. Each test asks for its own fault alone: what comes before is known to be good."""
+"""Where a fault of a trigger lies of which the desk names no place, for explain: the first part or item that has it, in the
+order of docs/REFERENCE.md, Trigger faults. Each test asks for its own fault alone: what comes before is known to be good."""
 
 import re
 from typing import Any, Dict, List, Optional, Tuple
