@@ -1,4 +1,4 @@
-//! Held: where held events stand.
+//! Where held events stand: all of them, those of a lane, and those that pass a filter.
 //!
 //! The place of an event is its stamp, its CPU and its line there (`Pos`). Those of all held events
 //! stand in merged order, and so do those of the events that pass a filter; those of one CPU's lane
