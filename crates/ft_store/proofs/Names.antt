@@ -1,6 +1,7 @@
 -- What is packed comes back from its names.
 use Rattle.std.proofs.Common.{◌≡◌, ◌+◌, ◌≤◌, ◌++◌, ℕ, List, length, take, drop, refl, sym, ap, ◌∙◌, arith, length-append, length-drop}
-use Rattle.std.proofs.lemmas.List.{take_all, take_at, drop_at, take-append-le, drop-append-le}
+use Rattle.std.proofs.lemmas.List.{take_all, take_at, drop_at, take-take, take-append-le, drop-append-le}
+use Rattle.std.proofs.Math.Seq.{take-append-add}
 use Rattle.ft_fields.specs.declared.event.Body.{Body}
 use Rattle.ft_fields.specs.declared.event.Body.TheVariants as bodies
 use Rattle.ft_fields.specs.declared.event.Turn.{Turn}
@@ -72,3 +73,18 @@ pub names_stay : (text more : List ℕ) (event : Packed) → event.begins + widt
 names_stay text more event within =
     ap (take (width event)) (drop-append-le event.begins text more (omega arith))
     ∙ take-append-le (width event) (drop event.begins text) more (omega (arith, length-drop event.begins text))
+
+-- a name comes behind a text where the first 16 bytes of what it begins are added, and cut behind it
+pub added_in_one_step : (text begun chunk name : List ℕ) (begins len : ℕ) → begins ≡ length text → chunk ≡ take 16 begun → len ≤ 16 → len ≡ length name
+    → take (length name) begun ≡ name → take (begins + len) (text ++ chunk) ≡ text ++ name
+added_in_one_step text begun chunk name begins len at is short long told =
+    ap (λ (n : ℕ). take (n + len) (text ++ chunk)) at
+    ∙ take-append-add text chunk len
+    ∙ ap (λ (bytes : List ℕ). text ++ bytes) (ap (take len) is ∙ take-take len 16 begun short ∙ ap (λ (n : ℕ). take n begun) long ∙ told)
+
+-- what begins with a text and more begins with the text
+pub begins_with_less : (text more all : List ℕ) → take (length (text ++ more)) all ≡ text ++ more → take (length text) all ≡ text
+begins_with_less text more all begins =
+    sym (take-take (length text) (length (text ++ more)) all (omega (arith, length-append text more)))
+    ∙ ap (take (length text)) begins
+    ∙ take_at text more (length text) refl

@@ -2,6 +2,7 @@
 
 ghost use Rattle.std.specs.Prelude.{◌≡◌, ◌+◌, ◌≤◌, ◌++◌, ℕ, List, [], length, take, OnOk, OnErr, IfOk};
 ghost use Rattle.std.specs.Option.{option_map};
+ghost use Rattle.ft_fields.specs.Borrowed.{named, waked, turned, told, event_told};
 ghost use Rattle.ft_fields.specs.Fields as fields;
 ghost use Rattle.ft_fields.specs.Fields.{matched_of, task_of};
 ghost use Rattle.ft_store.specs.inner.Packing.{turn_names, body_names, event_names, packed_wake, packed_turn, packed_body, packed};
@@ -9,7 +10,10 @@ ghost use Rattle.ft_store.specs.inner.Packing.{turn_width, body_width, width, wa
 ghost use Rattle.ft_store.specs.inner.Packing.{IsShortTurn, IsShortBody, IsSound, placed, moved};
 ghost use Rattle.ft_store.specs.Stored.{bare_wake, bare_turn, bare_body, bare, number_of};
 
-use ft_fields::{Body, Comm, Event, Field, Matched, Name, Turn, Wake};
+use ft_fields::{
+    Body, BodyRef, Comm, Event, EventRef, Field, Matched, Name, NameRef, Turn, TurnRef, Wake,
+    WakeRef,
+};
 use std::alloc::AllocError;
 use std::mem::size_of;
 
@@ -63,14 +67,6 @@ const _: () = prove!(size_of::<Packed>() == 56);
 /// The last place of a text where the names of an event can begin.
 pub(crate) const LAST_PLACE: usize = 4_294_967_295;
 
-/// How many bytes a name has.
-fn len_of(name: &Comm) -> u8
-    ensures value { result ≡ length name.now }
-    ensures short { result ≤ 31 }
-{
-    name.bytes().len() as u8
-}
-
 /// The name that these bytes begin with.
 #[inline(always)]
 fn name_in(names: &[u8], len: u8) -> Comm
@@ -91,15 +87,16 @@ fn no_name() -> Comm
 
 impl PackedWake {
     /// A wake event without its name.
-    fn of(wake: &Wake) -> PackedWake
-        ensures value { result ≡ packed_wake wake.now }
+    #[inline(always)]
+    fn of(wake: &WakeRef<'_>) -> PackedWake
+        ensures value { result ≡ packed_wake (waked wake.now) }
         ensures short { result.comm ≤ 31 }
     {
         PackedWake {
             pid: wake.pid,
             prio: wake.prio,
             target_cpu: wake.target_cpu,
-            comm: len_of(&wake.comm),
+            comm: wake.comm.len(),
         }
     }
 
@@ -134,8 +131,9 @@ impl PackedWake {
 
 impl PackedTurn {
     /// A switch without its names.
-    fn of(turn: &Turn) -> PackedTurn
-        ensures value { result ≡ packed_turn turn.now }
+    #[inline(always)]
+    fn of(turn: &TurnRef<'_>) -> PackedTurn
+        ensures value { result ≡ packed_turn (turned turn.now) }
         ensures short { IsShortTurn result }
     {
         PackedTurn {
@@ -143,9 +141,9 @@ impl PackedTurn {
             prev_prio: turn.prev_prio,
             next_pid: turn.next_pid,
             next_prio: turn.next_prio,
-            prev_comm: len_of(&turn.prev_comm),
-            prev_state: len_of(&turn.prev_state),
-            next_comm: len_of(&turn.next_comm),
+            prev_comm: turn.prev_comm.len(),
+            prev_state: turn.prev_state.len(),
+            next_comm: turn.next_comm.len(),
         }
     }
 
@@ -188,17 +186,18 @@ impl PackedTurn {
 
 impl PackedBody {
     /// What was traced, without its names.
-    fn of(body: &Body) -> PackedBody
-        ensures value { result ≡ packed_body body.now }
+    #[inline(always)]
+    fn of(body: &BodyRef<'_>) -> PackedBody
+        ensures value { result ≡ packed_body (told body.now) }
         ensures short { IsShortBody result }
     {
         match body {
-            Body::Waking(wake) => PackedBody::Waking(PackedWake::of(wake)),
-            Body::Wakeup(wake) => PackedBody::Wakeup(PackedWake::of(wake)),
-            Body::WakeupNew(wake) => PackedBody::WakeupNew(PackedWake::of(wake)),
-            Body::Switch(turn) => PackedBody::Switch(PackedTurn::of(turn)),
-            Body::WakeupLatency(matched) => PackedBody::WakeupLatency(*matched),
-            Body::Other => PackedBody::Other,
+            BodyRef::Waking(wake) => PackedBody::Waking(PackedWake::of(wake)),
+            BodyRef::Wakeup(wake) => PackedBody::Wakeup(PackedWake::of(wake)),
+            BodyRef::WakeupNew(wake) => PackedBody::WakeupNew(PackedWake::of(wake)),
+            BodyRef::Switch(turn) => PackedBody::Switch(PackedTurn::of(turn)),
+            BodyRef::WakeupLatency(matched) => PackedBody::WakeupLatency(*matched),
+            BodyRef::Other => PackedBody::Other,
         }
     }
 
@@ -337,8 +336,9 @@ impl PackedBody {
 
 impl Packed {
     /// An event without its names, which begin at a place.
-    pub(crate) fn of(event: &Event, begins: u32) -> Packed
-        ensures value { result ≡ packed begins event.now }
+    #[inline(always)]
+    pub(crate) fn of(event: &EventRef<'_>, begins: u32) -> Packed
+        ensures value { result ≡ packed begins (event_told event.now) }
         ensures sound { IsSound result }
     {
         Packed {
@@ -346,7 +346,7 @@ impl Packed {
             begins,
             pid: event.pid,
             cpu: event.cpu,
-            task: len_of(&event.task),
+            task: event.task.len(),
             body: PackedBody::of(&event.body),
         }
     }
@@ -449,36 +449,58 @@ impl Packed {
     }
 }
 
+/// Adds a name to a text. A name of at most 16 bytes is copied in one step, with what follows it in
+/// its own text, where there is room for 16.
+#[inline(always)]
+fn push_name(text: &mut Vec<u8>, name: &NameRef<'_>) -> Result<(), AllocError>
+    ensures ok { OnOk result (text.new.items ≡ text.old.items ++ named name.now) }
+    ensures err { OnErr result (text.new.items ≡ text.old.items) }
+{
+    let len = name.len() as usize;
+    let begins = text.len();
+    if len <= 16 && text.capacity() - begins >= 16 {
+        if let Some(chunk) = name.text().first_chunk::<16>() {
+            text.extend_from_slice(chunk)?;
+            text.truncate(begins + len);
+            return Ok(());
+        }
+    }
+    text.extend_from_slice(name.bytes())
+}
+
 /// Adds the names of a switch to a text. After a refusal for memory some of them may be there.
-fn push_turn(text: &mut Vec<u8>, turn: &Turn) -> Result<(), AllocError>
-    ensures ok { OnOk result (text.new.items ≡ text.old.items ++ turn_names turn.now) }
+#[inline(always)]
+fn push_turn(text: &mut Vec<u8>, turn: &TurnRef<'_>) -> Result<(), AllocError>
+    ensures ok { OnOk result (text.new.items ≡ text.old.items ++ turn_names (turned turn.now)) }
     ensures err { OnErr result (take (length text.old.items) text.new.items ≡ text.old.items) }
 {
-    text.extend_from_slice(turn.prev_comm.bytes())?;
-    text.extend_from_slice(turn.prev_state.bytes())?;
-    text.extend_from_slice(turn.next_comm.bytes())
+    push_name(text, &turn.prev_comm)?;
+    push_name(text, &turn.prev_state)?;
+    push_name(text, &turn.next_comm)
 }
 
 /// Adds the names of what was traced to a text. After a refusal for memory some of them may be
 /// there.
-fn push_body(text: &mut Vec<u8>, body: &Body) -> Result<(), AllocError>
-    ensures ok { OnOk result (text.new.items ≡ text.old.items ++ body_names body.now) }
+#[inline(always)]
+fn push_body(text: &mut Vec<u8>, body: &BodyRef<'_>) -> Result<(), AllocError>
+    ensures ok { OnOk result (text.new.items ≡ text.old.items ++ body_names (told body.now)) }
     ensures err { OnErr result (take (length text.old.items) text.new.items ≡ text.old.items) }
 {
     match body {
-        Body::Waking(wake) | Body::Wakeup(wake) | Body::WakeupNew(wake) => {
-            text.extend_from_slice(wake.comm.bytes())
+        BodyRef::Waking(wake) | BodyRef::Wakeup(wake) | BodyRef::WakeupNew(wake) => {
+            push_name(text, &wake.comm)
         }
-        Body::Switch(turn) => push_turn(text, turn),
-        Body::WakeupLatency(_) | Body::Other => Ok(()),
+        BodyRef::Switch(turn) => push_turn(text, turn),
+        BodyRef::WakeupLatency(_) | BodyRef::Other => Ok(()),
     }
 }
 
 /// Adds the names of an event to a text. After a refusal for memory some of them may be there.
-pub(crate) fn push_names(text: &mut Vec<u8>, event: &Event) -> Result<(), AllocError>
-    ensures ok { OnOk result (text.new.items ≡ text.old.items ++ event_names event.now) }
+#[inline(always)]
+pub(crate) fn push_names(text: &mut Vec<u8>, event: &EventRef<'_>) -> Result<(), AllocError>
+    ensures ok { OnOk result (text.new.items ≡ text.old.items ++ event_names (event_told event.now)) }
     ensures err { OnErr result (take (length text.old.items) text.new.items ≡ text.old.items) }
 {
-    text.extend_from_slice(event.task.bytes())?;
+    push_name(text, &event.task)?;
     push_body(text, &event.body)
 }

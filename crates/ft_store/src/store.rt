@@ -1,11 +1,12 @@
 //! `Store` and its calls: events packed one after the other.
 
 ghost use Rattle.std.specs.Prelude.{◌≡◌, ◌≤◌, ◌++◌, ◌∷◌, [], length, map, take, OnOk, OnErr, IfOk};
+ghost use Rattle.ft_fields.specs.Borrowed.{event_told};
 ghost use Rattle.ft_store.specs.inner.Packing.{event_names, event_of, packed, moved, width, IsSound};
 
 use crate::packed::{LAST_PLACE, Packed, push_names};
 use crate::stored::Stored;
-use ft_fields::{Event, Field, Name};
+use ft_fields::{Event, EventRef, Field, Name};
 use std::alloc::{AllocError, Global};
 use std::marker::Model;
 
@@ -36,15 +37,17 @@ impl Model for Store {
 
 /// Adds an event to those that are packed, and its names to their text. After a refusal some of
 /// the names may be there.
+#[inline(always)]
 fn push_packed(
     names: &mut Vec<u8>,
     events: &mut Vec<Packed>,
-    event: &Event,
+    event: &EventRef<'_>,
 ) -> Result<(), AllocError>
-    ensures names { OnOk result (names.new.items ≡ names.old.items ++ event_names event.now) }
-    ensures events { OnOk result
-        (events.new.items ≡ events.old.items ++ packed (length names.old.items) event.now ∷ []) }
-    ensures sound { OnOk result (IsSound (packed (length names.old.items) event.now)) }
+    ensures names { OnOk result
+        (names.new.items ≡ names.old.items ++ event_names (event_told event.now)) }
+    ensures events { OnOk result (events.new.items
+        ≡ events.old.items ++ packed (length names.old.items) (event_told event.now) ∷ []) }
+    ensures sound { OnOk result (IsSound (packed (length names.old.items) (event_told event.now))) }
     ensures err { OnErr result (take (length names.old.items) names.new.items ≡ names.old.items) }
     ensures same { OnErr result (events.new.items ≡ events.old.items) }
 {
@@ -52,8 +55,9 @@ fn push_packed(
     if begins > LAST_PLACE {
         return Err(AllocError);
     }
+    events.reserve(1)?;
     push_names(names, event)?;
-    events.push(Packed::of(event, begins as u32))?;
+    events.push_reserved(Packed::of(event, begins as u32));
     Ok(())
 }
 
@@ -142,6 +146,15 @@ impl Store {
     /// then all is as it was.
     pub fn push(&mut self, event: &Event) -> Result<(), AllocError>
         ensures ok { OnOk result (self.new ≡ self.old ++ event.now ∷ []) }
+        ensures err { OnErr result (self.new ≡ self.old) }
+    {
+        self.push_ref(&event.borrowed())
+    }
+
+    /// Adds an event whose names are borrowed behind the others. Refused for memory, or where their
+    /// names take 4 GiB, and then all is as it was.
+    pub fn push_ref(&mut self, event: &EventRef<'_>) -> Result<(), AllocError>
+        ensures ok { OnOk result (self.new ≡ self.old ++ event_told event.now ∷ []) }
         ensures err { OnErr result (self.new ≡ self.old) }
     {
         let begins = self.names.len();
