@@ -16,10 +16,11 @@
 //!
 //! # Contracts
 //!
-//! - `Desk`, over every board: the clauses of `Board`, of texts: `after_load_text`,
-//!   `after_insert_text`, `after_attach_text`, `after_refilter_text` (`specs/Edits.antt`). The
-//!   first line that can't be read is named; `refilter` looks the id up before it reads the filter.
-//!   The board's counts and reports are the desk's. Lets through: what the board does.
+//! - `Desk`, over every board: says of texts what the clauses of `Board` say of events, triggers and
+//!   filters: `after_load_text`, `after_insert_text`, `after_attach_text`, `after_refilter_text`
+//!   (`specs/Edits.antt`). The first line that can't be read is named; `refilter` looks the id up
+//!   before it reads the filter. The board's counts and reports are the desk's. Lets through: what
+//!   the board does.
 //! - `Desk::event`, `events`, `lane`, `matching`, `attached`, `trigger_text`: functions of the base
 //!   (`specs/Found.antt`, `ft_held/specs/Places.antt`), which they leave as it is. All except
 //!   `event` let through: running out of memory at any time.

@@ -22,8 +22,8 @@
 //!   events are packed; whether the bytes of names that were taken off are ever used again, which a
 //!   test shows.
 //! - `Store::get`, `bare`, `len`, `cpu`, and `Stored::event`, `bare`, `name`, `stamp`, `number`,
-//!   `place`: exact (`specs/Stored.antt`). After the last event stands the blank one. A bare event
-//!   is the event without its names.
+//!   `place`: exact (`specs/Stored.antt`). A place past the last event gives the blank event. A bare
+//!   event is the event without its names.
 //! - `Store::room`: no clause. It only tells lanes when to copy what is held.
 #![tactic(auto)]
 
