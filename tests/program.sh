@@ -37,6 +37,7 @@ holds "$tests/documents/documents.py"
 holds "$tests/documents/crates.py"
 holds "$tests/documents/proof.py"
 holds "$tests/documents/reference.py" "$histdesk" ${histwatch:+"$histwatch"}
+holds "$tests/documents/pages.py"
 
 echo "$passed passed, $failed failed"
 ((failed == 0))

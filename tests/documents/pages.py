@@ -1,0 +1,225 @@
+#!/usr/bin/env python3
+"""Holds that the documents name what there is, and have the form that they should have.
+
+    pages.py > WHAT WENT WRONG
+
+Of each document: a link leads to a file that is there, and to a heading of it; each file and folder of the repository that it
+names is there; a line has at most 120 characters, except in tables and blocks; no word of AVOIDED stands in it. Each page of
+WORDS has as many words as stand there, to a quarter, and docs/ has no other page; one that is not written yet is told, and may
+be linked to. docs/TESTING.md counts what there is. The last line says how many things hold.
+"""
+
+import ast
+import glob
+import os
+import re
+import sys
+import unicodedata
+from collections import Counter
+
+ROOT = os.path.realpath(os.path.join(os.path.dirname(os.path.realpath(__file__)), "..", ".."))
+# How many words each page has, as `wc -w` counts them.
+WORDS = {
+    "README.md": 700,
+    "docs/GUIDE.md": 3000,
+    "docs/REFERENCE.md": 7000,
+    "docs/LIBRARY.md": 1500,
+    "docs/PROOF.md": 3000,
+    "docs/TESTING.md": 1500,
+    "docs/HACKING.md": 1800,
+    "docs/DECISIONS.md": 1300,
+    "bench/README.md": 500,
+}
+# Documents without a length of their own: one that tells of the past, one that a program writes, and what points elsewhere.
+PAST = "CHANGELOG.md"
+OTHERS = [PAST, "docs/CRATES.md", "examples/README.md", "tools/README.md", "python/README.md"]
+MOST = 120
+AVOIDED = [
+    r"wants? of memory",
+    r"but for",
+    r"our own choice",
+    r"(?:comes?|stands?|came|stood) behind",
+    r"behind (?:an?|each|every) ",
+    r"as yet|formerly|previously|used to be|until now",
+    r"/work/|/root/|/home/",
+]
+# Files of these folders are made.
+MADE = re.compile(r"/out(/|$)|^dist(/|$)")
+NAME = re.compile(r"(?:\./)?[\w.*{},+-]+(?:/[\w.*{},+-]+)*/?")
+
+
+def text_of(path):
+    with open(os.path.join(ROOT, path), encoding="utf-8") as file:
+        return file.read()
+
+
+def is_there(path):
+    return os.path.exists(os.path.join(ROOT, path))
+
+
+# ---- a document's parts
+
+
+def without_blocks(text):
+    """The text without what stands in blocks, line by line."""
+    lines, fence = [], None
+    for line in text.split("\n"):
+        mark = re.match(r" *(```+|~~~+)", line)
+        if fence:
+            fence = None if mark and mark[1].startswith(fence) and not line.strip("`~ ") else fence
+            lines.append("")
+        elif mark:
+            fence = mark[1]
+            lines.append("")
+        else:
+            lines.append(line)
+    return lines
+
+
+def slug(heading):
+    """What a heading is called in a link."""
+    plain = re.sub(r"!?\[([^]]*)\]\([^)]*\)", r"\1", heading).replace("`", "")
+    kept = [byte for byte in plain.strip().lower() if byte in "-_ " or unicodedata.category(byte)[0] in "LN"]
+    return "".join(kept).replace(" ", "-")
+
+
+def anchors(path):
+    """The names of a document's headings: of those that are alike, the second one has -1 at its end, and so on."""
+    found, seen = set(), Counter()
+    for line in without_blocks(text_of(path)):
+        heading = re.match(r"#+ +(.*?) *#*$", line)
+        if heading:
+            name = slug(heading[1])
+            found.add(f"{name}-{seen[name]}" if seen[name] else name)
+            seen[name] += 1
+        found.update(re.findall(r'<a (?:id|name)="([^"]*)"', line))
+    return found
+
+
+# ---- links and names
+
+
+def links(path):
+    """The links of a document, and what is wrong with them."""
+    text = re.sub(r"`[^`\n]*`", "``", "\n".join(without_blocks(text_of(path))))
+    targets = re.findall(r"\]\(\s*<?([^)\s>]+)", text) + re.findall(r"^\[[^]]+\]: +(\S+)", text, re.MULTILINE)
+    targets = [target for target in targets if not re.match(r"[a-z]+:", target)]
+    wrong = []
+    for target in targets:
+        file, _, anchor = target.partition("#")
+        there = os.path.normpath(os.path.join(os.path.dirname(path), file)) if file else path
+        if not is_there(there) and there not in WORDS:
+            wrong.append(f"{path}: no file for the link {target}")
+        elif anchor and is_there(there) and there.endswith(".md") and anchor not in anchors(there):
+            wrong.append(f"{path}: no heading for the link {target}")
+    return targets, wrong
+
+
+def spelled(name):
+    """The paths of a name: `a/{b,c}.rt` is two."""
+    form = re.fullmatch(r"(.*?)\{([^{}]*)\}(.*)", name)
+    return [path for part in form[2].split(",") for path in spelled(form[1] + part + form[3])] if form else [name]
+
+
+def names(path):
+    """The files and folders that a document names in code, and those that aren't there. A name begins with a folder or file
+    at the top, or with a crate."""
+    tops = {name for name in os.listdir(ROOT) if name not in (".git", "README.md")}
+    crates = set(os.listdir(os.path.join(ROOT, "crates")))
+    text = text_of(path)
+    words = [code.split() for code in re.findall(r"(?<!`)`([^`\n]+)`(?!`)", "\n".join(without_blocks(text)))]
+    # Of a block with commands, the first word of each line.
+    blocks = re.findall(r"^```(?:sh|console)\n(.*?)^```", text, re.MULTILINE | re.DOTALL)
+    words += [re.sub(r"^(\$ |> )?(sudo |time )?", "", line).split()[:1] for block in blocks for line in block.split("\n")]
+    found, wrong = [], []
+    for word in (word.rstrip(",.:;") for code in words for word in code[:2]):
+        if not NAME.fullmatch(word) or "/" not in word.rstrip("/"):
+            continue
+        for one in spelled(word):
+            first = one[2:].split("/")[0] if one.startswith("./") else one.split("/")[0]
+            if first not in tops and first not in crates or MADE.search(one):
+                continue
+            found.append(one)
+            # NAME stands for any name.
+            form = re.sub(r"\b[A-Z]+(?=/|$)", "*", one)
+            places = [os.path.join(ROOT, form), os.path.join(ROOT, "crates", form)]
+            if not any(glob.glob(place) for place in places):
+                wrong.append(f"{path}: {one} isn't there")
+    return found, wrong
+
+
+# ---- form
+
+
+def form(path):
+    """The lines of a document, and which are too long or have words that should not stand there."""
+    lines, wrong = without_blocks(text_of(path)), []
+    for number, line in enumerate(lines, 1):
+        if len(line) > MOST and not line.startswith("|") and not re.fullmatch(r"\S+", line):
+            wrong.append(f"{path}:{number}: {len(line)} characters")
+    # A word may go over the end of a line.
+    text = "\n".join(lines)
+    for words in AVOIDED:
+        for found in re.finditer(rf"(?<![\w`])(?:{words})".replace(" ", r"\s"), text, re.IGNORECASE):
+            number = text.count("\n", 0, found.start()) + 1
+            wrong.append(f"{path}:{number}: {' '.join(found[0].split())!r} should not stand there")
+    return lines, wrong
+
+
+def length(path):
+    count, wanted = len(text_of(path).split()), WORDS[path]
+    right = wanted * 3 / 4 <= count <= wanted * 5 / 4
+    return [path], [] if right else [f"{path}: {count} words, where about {wanted} should stand"]
+
+
+def pages():
+    """The pages of docs/, and which of them has no place."""
+    there = [os.path.relpath(path, ROOT) for path in glob.glob(os.path.join(ROOT, "docs", "*.md"))]
+    return there, [f"{path} has no place among the documents" for path in there if path not in [*WORDS, *OTHERS]]
+
+
+# ---- what is counted
+
+
+def tests_in(*names):
+    """How many tests these files of Python have."""
+    paths = (os.path.join(ROOT, "tests", name) for name in names)
+    trees = (ast.walk(ast.parse(text_of(path))) for form in paths for path in glob.glob(form))
+    return sum(isinstance(node, ast.FunctionDef) and node.name.startswith("test") for tree in trees for node in tree)
+
+
+def files(*parts):
+    return glob.glob(os.path.join(ROOT, *parts), recursive=True)
+
+
+def counted():
+    """The counts that docs/TESTING.md has in its table, and those that are others here."""
+    crates = [path for path in files("crates", "*", "src", "**", "*.rt")]
+    counts = {
+        "Edits that must fail": len(files("crates", "*", "must-fail", "*.edit")),
+        "Tests in crates": sum(text_of(path).count("\n#[test]") for path in crates),
+        "Rows": len(files("tests", "rows", "*", "script")),
+        "Tests in Python of package and tools": tests_in("library/*.py"),
+        "Tests of the page in a browser": tests_in("page/*.py"),
+    }
+    rows = dict(re.findall(r"^\| ([^|]*?) \| ([0-9,]+) \|", text_of("docs/TESTING.md"), re.MULTILINE))
+    wrong = [f"docs/TESTING.md: {what}: {count}" for what, count in counts.items() if rows.get(what) != f"{count:,}"]
+    return list(counts), wrong
+
+
+def main():
+    documents = [path for path in [*WORDS, *OTHERS] if is_there(path)]
+    told = [links(path) for path in documents]
+    told += [check(path) for path in documents if path != PAST for check in (names, form)]
+    told += [length(path) for path in documents if path in WORDS]
+    told += [pages(), counted()]
+    for path in WORDS:
+        if not is_there(path):
+            print(f"not tried: {path}, which is not there")
+    count, wrong = sum(len(things) for things, _ in told), [line for _, lines in told for line in lines]
+    print("\n".join([*wrong, f"{max(count - len(wrong), 0)} of {count} things hold"]))
+    return 1 if wrong else 0
+
+
+if __name__ == "__main__":
+    sys.exit(main())

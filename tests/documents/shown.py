@@ -1,0 +1,233 @@
+#!/usr/bin/env python3
+"""Holds that documents show what their commands print.
+
+    shown.py HISTDESK HISTWATCH [PAGE]..
+
+The pages are all that pages.py knows, except those of OWN, whose scripts hold them. By the kind of a block:
+
+- `console` is a session: `$ ` begins a command, `> ` goes on with one, and its output follows, where a line `...` stands for
+  lines that are left out. Lines after `desk> ` are typed on a terminal. Bash runs each command, in a folder with links to the
+  programs, the tools, the examples and the package; it ends with status 0, or prints what was refused.
+- `pycon` is a session of Python; those of a page are one session.
+- `python` is a program, which ends well and prints the block of no kind that stands right after it, or nothing.
+- `c` is compiled, with warnings as faults.
+- `sh` has commands that need root, the reader's own files or long: they are not run, and no output stands after them. Bash
+  has to read them.
+- A block of no kind is a form or a picture, which is not run.
+
+A block after a line `<!-- not run: WHY -->` is not run. What needs the library or numpy isn't tried where these are missing.
+The last lines say how many blocks were not run, and how many commands and blocks hold.
+"""
+
+import fcntl
+import functools
+import os
+import pty
+import re
+import select
+import shlex
+import struct
+import subprocess
+import sys
+import tempfile
+import termios
+from collections import Counter
+
+# Nothing is written beside the sources.
+sys.dont_write_bytecode = True
+
+from pages import ROOT, WORDS, is_there, text_of
+
+# Pages with a script of their own, which runs their commands.
+OWN = {"docs/GUIDE.md": "guide.py"}
+# Kinds of blocks that the script of a page reads.
+OTHER_KINDS = {"docs/REFERENCE.md": None, "docs/PROOF.md": ["rattle"]}
+PROMPT = "desk> "
+# Runs the word after it as a session of Python.
+DOCTEST = """
+import doctest, sys
+test = doctest.DocTestParser().get_doctest(sys.argv[1], {}, "the page", None, 0)
+sys.exit(not test.examples or doctest.DocTestRunner().run(test).failed)
+"""
+COMPILE = ["cc", "-std=c11", "-Wall", "-Wextra", "-Werror", "-Iinclude", "-fsyntax-only", "-xc", "-"]
+# A command that takes more seconds fails.
+LIMIT = 120
+
+# ---- the document
+
+BLOCK = re.compile(r"(?:^<!-- not run: (.+) -->\n)?^```(\w*)\n(.*?)^```$", re.MULTILINE | re.DOTALL)
+STEP = re.compile(r"^\$ (.*\n(?:> .*\n)*)((?:(?!\$ ).*\n)*)", re.MULTILINE)
+
+
+def steps(block):
+    """The commands of a session, with what they print."""
+    return [(command.replace("\n> ", "\n"), output) for command, output in STEP.findall(block)]
+
+
+def shows(wanted, output):
+    """Whether the output is what the document shows: pieces of whole lines, in order, `...` for what is left out."""
+    pieces = re.split(r"^\.\.\.\n", wanted, flags=re.MULTILINE)
+    form = r"(?:.*\n)*?".join(map(re.escape, pieces))
+    return re.fullmatch(form, output) is not None
+
+
+def blocks(text):
+    """Each block of a document: the line on which it begins, why it isn't run, its kind, its text, and whether it stands
+    right after the one before it, with one line of words between them at most."""
+    end = 0
+    for found in BLOCK.finditer(text):
+        between = [line for line in text[end : found.start()].split("\n") if line.strip()]
+        yield text.count("\n", 0, found.start()) + 1, found[1], found[2], found[3], end > 0 and len(between) < 2
+        end = found.end()
+
+
+# ---- what it prints
+
+
+class Place:
+    """A folder in which the commands are run, as in the top folder of the repository."""
+
+    def __init__(self, folder, histdesk, histwatch):
+        self.folder = folder
+        for name in ("tools", "examples", "python", "include", "docs"):
+            os.symlink(os.path.join(ROOT, name), os.path.join(folder, name))
+        os.symlink(histdesk, os.path.join(folder, "histdesk"))
+        os.symlink(histwatch, os.path.join(folder, "histwatch"))
+        os.mkdir(os.path.join(folder, "bin"))
+        # The tools are run by the Python that runs this.
+        os.symlink(sys.executable, os.path.join(folder, "bin", "python3"))
+        path = os.path.join(folder, "bin") + ":" + os.environ["PATH"]
+        state = {"XDG_STATE_HOME": folder, "PAGER": "cat", "TERM": "dumb", "PYTHONDONTWRITEBYTECODE": "1"}
+        self.environment = {**os.environ, "PATH": path, "PYTHONPATH": "python", "HISTDESK": histdesk, **state}
+
+    def printed(self, *words, given=""):
+        """What a command prints, and its status."""
+        streams = {"input": given.encode(), "stdout": subprocess.PIPE, "stderr": subprocess.STDOUT}
+        done = subprocess.run(words, cwd=self.folder, env=self.environment, timeout=LIMIT, check=False, **streams)
+        return done.stdout.decode(), done.returncode
+
+    def typed(self, command, lines):
+        """What a terminal shows of a prompt at which lines are typed, and the status after Ctrl-D."""
+        master, slave = pty.openpty()
+        fcntl.ioctl(slave, termios.TIOCSWINSZ, struct.pack("4H", 1000, 9000, 0, 0))
+        words = ["setsid", "-c", *shlex.split(command)]
+        process = subprocess.Popen(words, cwd=self.folder, env=self.environment, stdin=slave, stdout=slave, stderr=slave)
+        os.close(slave)
+        shown = up_to_prompt(master)
+        for line in lines:
+            os.write(master, f"{line}\n".encode())
+            shown += up_to_prompt(master)
+        os.write(master, b"\x04")
+        status = process.wait(LIMIT)
+        os.close(master)
+        return shown.replace("\r\n", "\n").removesuffix(PROMPT), status
+
+
+def up_to_prompt(terminal):
+    """What a terminal shows up to the next prompt, or to its end."""
+    text = b""
+    while not text.endswith(PROMPT.encode()) and select.select([terminal], [], [], LIMIT)[0]:
+        try:
+            text += os.read(terminal, 65536)
+        except OSError:
+            break
+    return text.decode()
+
+
+@functools.lru_cache(maxsize=None)
+def is_here(code):
+    """Whether these lines of Python run."""
+    words = [sys.executable, "-B", "-c", code]
+    return not subprocess.run(words, cwd=ROOT, env={**os.environ, "PYTHONPATH": "python"}, stderr=subprocess.DEVNULL).returncode
+
+
+def lacking(kind, text):
+    """What a command needs that isn't here; None where it can be tried."""
+    reports = kind in ("pycon", "python") or re.search(r"\btools/(waits|why|diff|view|export|desk)\b", text)
+    if (reports or "tools/explain" in text) and not is_here("import histdesk"):
+        return "the library"
+    return "numpy" if reports and not is_here("import numpy") else None
+
+
+class Count:
+    """How many things hold, and what is told of the others."""
+
+    def __init__(self):
+        self.things, self.wrong, self.missing, self.left = 0, [], Counter(), Counter()
+
+    def hold(self, good, told):
+        self.things += 1
+        if not good:
+            self.wrong.append(told)
+
+    def can_try(self, kind, text):
+        missing = lacking(kind, text)
+        if missing:
+            self.missing[missing] += 1
+        return not missing
+
+
+def try_command(place, title, command, wanted, count):
+    """Whether a command of a session prints what it should; what it prints."""
+    lines = [line[len(PROMPT) :] for line in wanted.splitlines() if line.startswith(PROMPT)]
+    told, status = place.typed(command, lines) if lines else place.printed("bash", "-c", command)
+    good = shows(wanted, told) and (status == 0 or "refused" in told)
+    count.hold(good, f"{title}: {command}ends with {status} and prints\n{told}")
+    return told
+
+
+def try_ended(place, title, wanted, count, words, given=""):
+    """Whether a command ends well and prints just that."""
+    told, status = place.printed(*words, given=given)
+    count.hold(status == 0 and shows(wanted, told), f"{title}: ends with {status} and prints\n{told}")
+
+
+def try_page(place, page, count):
+    """Runs the blocks of a page."""
+    kinds, session, found = OTHER_KINDS.get(page, []), "", list(blocks(text_of(page)))
+    for at, (line, why, kind, text, is_next) in enumerate(found):
+        title, before = f"{page}:{line}", found[at - 1] if at and is_next else (0, None, None, "", False)
+        if why:
+            count.left[why] += 1
+        elif kind == "console":
+            for command, wanted in steps(text):
+                if count.can_try(kind, command):
+                    try_command(place, title, command, wanted, count)
+        elif kind == "pycon":
+            session += text + "\n"
+        elif kind == "python":
+            follows = found[at + 1 : at + 2]
+            wanted = follows[0][3] if follows and follows[0][2] == "" and follows[0][4] else ""
+            if count.can_try(kind, text):
+                try_ended(place, title, wanted, count, [sys.executable, "-B", "-c", text])
+        elif kind == "c":
+            try_ended(place, title, "", count, COMPILE, text)
+        elif kind == "sh":
+            count.left["sh"] += 1
+            try_ended(place, title, "", count, ["bash", "-n", "-c", text])
+        elif kind == "":
+            told = f"{title}: stands after commands that are not run, and looks like their output"
+            count.hold(before[2] != "sh" or before[1] is not None, told)
+        else:
+            count.hold(kinds is None or kind in kinds, f"{title}: a block of the kind {kind}")
+    if session and count.can_try("pycon", session):
+        try_ended(place, page, "", count, [sys.executable, "-B", "-c", DOCTEST, session])
+
+
+def main():
+    histdesk, histwatch = map(os.path.realpath, sys.argv[1:3])
+    count = Count()
+    with tempfile.TemporaryDirectory() as folder:
+        place = Place(folder, histdesk, histwatch)
+        for page in sys.argv[3:] or [page for page in WORDS if page not in OWN and is_there(page)]:
+            try_page(place, page, count)
+    for why, number in count.left.items():
+        print(f"not run: {number} blocks" + ("" if why == "sh" else f": {why}"))
+    for missing, number in count.missing.items():
+        print(f"not tried: {number} commands and blocks, since {missing} is missing")
+    print("\n".join([*count.wrong, f"{count.things - len(count.wrong)} of {count.things} blocks hold"]))
+    return 1 if count.wrong else 0
+
+
+if __name__ == "__main__":
+    sys.exit(main())
