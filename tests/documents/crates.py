@@ -4,8 +4,8 @@
     crates.py > WHAT WENT WRONG
 
 docs/CRATES.md is what tools/crates prints, and each file of sources and definitions begins with a sentence. docs/HACKING.md
-has each crate in its figure of layers, but those of tests, and each on no lower layer than what it stands on; and it names
-files, functions and definitions that are there. The last line says how many of these hold.
+has each crate in its figure of layers, except those of tests, and each on no lower layer than what it stands on; and the
+functions, types and definitions that it names are there. The last line says how many of these hold.
 """
 
 import importlib.machinery
@@ -20,9 +20,6 @@ from typing import Dict, Iterator, List, Tuple
 sys.dont_write_bytecode = True
 
 ROOT = Path(__file__).resolve().parents[2]
-# What is one only where somebody fills in a name.
-OPEN = re.compile(r"NAME|FILE|FUNCTION|PATH|\*")
-PATH = re.compile(r"[\w.{},-]+(?:/[\w.{},-]+)+")
 WORD = re.compile(r"\w+")
 # A path, and names of what stands in its file.
 WITHIN = re.compile(r"`([\w.-]+/[\w./-]+)` \(((?:`\w+`(?:, )?)+)")
@@ -66,34 +63,18 @@ def layers(page: str) -> Told:
         yield f"HACKING.md: {crate} stands below {', '.join(too_low)}, on which it stands", not too_low
 
 
-def spelled(path: str) -> List[str]:
-    """The paths of a name: `a/{b,c}.rt` is two."""
-    form = re.fullmatch(r"(.*)\{([^}]*)\}(.*)", path)
-    return [form[1] + part + form[3] for part in form[2].split(",")] if form else [path]
-
-
-def place(path: str) -> Path:
-    """Where a path leads: from the repository on, from its folder of crates, or from a crate."""
-    places = [ROOT / path, ROOT / "crates" / path, *ROOT.glob(f"crates/*/{path}")]
-    return next((found for found in places if found.exists()), ROOT / path)
-
-
 def names(page: str) -> Told:
-    """What stands in backquotes: paths, and the names of functions, types and definitions."""
+    """What stands in backquotes as the name of a function, a type or a definition."""
     words = {crate: {word for file in CRATES.files_of(crate) for word in WORD.findall(text_of(str(file)))} for crate in BELOW}
     known = set(BELOW).union(*words.values())
-    quoted = sorted(set(re.findall(r"`([^`\n]+)`", page)))
-    for path in (path for name in quoted if PATH.fullmatch(name) and not OPEN.search(name) for path in spelled(name)):
-        yield f"HACKING.md names {path}, which is not there", place(path).exists()
     # The last sections speak of other programs too.
     for name in sorted(set(re.findall(r"`(\w+(?:::\w+)*)`", page.partition("\n## Conventions\n")[0]))):
         first, last = name.split("::")[0], name.split("::")[-1]
         yield f"HACKING.md names {name}, which no crate has", last in words.get(first, known) or name in BELOW
     for path, inside in WITHIN.findall(page):
-        found = place(path)
-        text = found.read_text(encoding="utf-8") if found.is_file() else ""
-        for name in re.findall(r"\w+", inside):
-            yield f"HACKING.md names {name} of {path}, which has none", re.search(rf"\b{name}\b", text) is not None
+        found = set(WORD.findall(text_of(f"crates/{path}")))
+        for name in WORD.findall(inside):
+            yield f"HACKING.md names {name} of {path}, which has none", name in found
 
 
 def main() -> int:
