@@ -5,7 +5,8 @@
 
 docs/CRATES.md is what tools/crates prints, and each file of sources and definitions begins with a sentence. docs/HACKING.md
 has each crate in its figure of layers, except those of tests, and each on no lower layer than what it stands on; and the
-functions, types and definitions that it names are there. The last line says how many of these hold.
+functions, types and definitions that it names are there, and the edit that it shows. The last line says how many of these
+hold.
 """
 
 import importlib.machinery
@@ -75,6 +76,9 @@ def names(page: str) -> Told:
         found = set(WORD.findall(text_of(f"crates/{path}")))
         for name in WORD.findall(inside):
             yield f"HACKING.md names {name} of {path}, which has none", name in found
+    edits = {file.read_text(encoding="utf-8") for file in ROOT.glob("crates/*/must-fail/*.edit")}
+    for block in re.findall(r"^```\n(file: .*?)^```", page, re.MULTILINE | re.DOTALL):
+        yield "HACKING.md shows an edit that no crate has", block in edits
 
 
 def main() -> int:
