@@ -36,7 +36,7 @@ counted "$tests/tools/tools.sh" "$program" ${histwatch:+"$histwatch"}
 holds "$tests/documents/documents.py"
 holds "$tests/documents/crates.py"
 holds "$tests/documents/proof.py"
-holds "$tests/documents/reference.py" "$histdesk" ${histwatch:+"$histwatch"}
+holds "$tests/documents/reference.py" "$histdesk"
 holds "$tests/documents/pages.py"
 
 echo "$passed passed, $failed failed"

@@ -1,22 +1,21 @@
 #!/usr/bin/env python3
 """Holds that docs/REFERENCE.md says what the sources say and what the program answers.
 
-    reference.py [HISTDESK [HISTWATCH]] > WHAT WENT WRONG
+    reference.py [HISTDESK] > WHAT WENT WRONG
 
 From the sources: the number, the name and the words of each fault and each refusal, what the program says on standard
-error, each limit, each field, and the words of the kernel's language that are left out. From the programs: their answers
-to the examples of lines, patterns, filters and triggers, and the sessions in console blocks. Without HISTDESK, the launchers
-are asked; with it alone, no session of histwatch is tried. The last line says how many things hold.
+error, each limit, each field, and the words of the kernel's language that are left out. From the program: its answers to
+the examples of lines, patterns, filters and triggers; without HISTDESK, the launcher is asked. Sessions in console blocks
+are shown.py's. The last line says how many things hold.
 """
 
 import os
 import re
 import subprocess
 import sys
-import tempfile
 
 ROOT = os.path.join(os.path.dirname(os.path.realpath(__file__)), "..", "..")
-PROGRAMS = list(map(os.path.realpath, sys.argv[1:] or [os.path.join(ROOT, name) for name in ("histdesk", "histwatch")]))
+HISTDESK = os.path.realpath(sys.argv[1] if len(sys.argv) > 1 else os.path.join(ROOT, "histdesk"))
 
 # The tables of faults and refusals, and the file of each.
 FAULTS = {
@@ -155,7 +154,7 @@ def left_out():
 def answers(*commands):
     """What the program prints, line by line."""
     script = "".join(f"{command}\n" for command in commands).encode()
-    ran = subprocess.run(PROGRAMS[:1], input=script, stdout=subprocess.PIPE, check=False)
+    ran = subprocess.run([HISTDESK], input=script, stdout=subprocess.PIPE, check=False)
     return ran.stdout.decode().split("\n")[:-1]
 
 
@@ -226,21 +225,6 @@ def patterns():
     return len(found), [f"patterns: {of} {told}" for of, answer, told in found if told != answer]
 
 
-def sessions():
-    """What the commands of console blocks print, each asked in a folder with links to the programs and the examples."""
-    blocks = re.findall(r"^```console\n\$ (.*\n(?:> .*\n)*)((?:(?!```).*\n)*)", REFERENCE, re.MULTILINE)
-    with tempfile.TemporaryDirectory() as folder:
-        for target in [*PROGRAMS, os.path.join(ROOT, "examples")]:
-            os.symlink(os.path.realpath(target), os.path.join(folder, os.path.basename(target)))
-        wrong, tried = [], [block for block in blocks if os.path.exists(os.path.join(folder, block[0].split()[0]))]
-        for command, wanted in tried:
-            script = command.replace("\n> ", "\n")
-            ran = subprocess.run(["bash", "-c", script], cwd=folder, stdout=subprocess.PIPE, check=False)
-            if ran.stdout.decode() != wanted:
-                wrong.append(f"{command}prints\n{ran.stdout.decode()}")
-    return len(tried), wrong
-
-
 def parsed():
     """The pattern for rows reads the parts of one whose task has a name like the rest of a row."""
     pattern, name = re.search(r"^```row\n(.*)$", REFERENCE, re.MULTILINE)[1], "w } hitcount: 7  prio: 8"
@@ -261,7 +245,7 @@ def deepest():
 
 def main():
     told = [fault_table(name) for name in FAULTS]
-    told += [standard_error(), limits(), fields(), left_out(), patterns(), deepest(), parsed(), sessions()]
+    told += [standard_error(), limits(), fields(), left_out(), patterns(), deepest(), parsed()]
     asked = {"lines": of_line, "filters": of_filter, "canonical": of_filter, "triggers": of_trigger, "parts": of_part}
     told += [answered(kind, ask) for kind, ask in asked.items()]
     count, wrong = sum(count for count, _ in told), [line for _, lines in told for line in lines]
