@@ -449,6 +449,16 @@ impl Packed {
     }
 }
 
+/// Adds bytes to a text, however many.
+#[cold]
+#[inline(never)]
+fn push_bytes(text: &mut Vec<u8>, bytes: &[u8]) -> Result<(), AllocError>
+    ensures ok { OnOk result (text.new.items ≡ text.old.items ++ bytes.now) }
+    ensures err { OnErr result (text.new.items ≡ text.old.items) }
+{
+    text.extend_from_slice(bytes)
+}
+
 /// Adds a name to a text. A name of at most 16 bytes is copied in one step, with what follows it in
 /// its own text, where there is room for 16.
 #[inline(always)]
@@ -460,12 +470,13 @@ fn push_name(text: &mut Vec<u8>, name: &NameRef<'_>) -> Result<(), AllocError>
     let begins = text.len();
     if len <= 16 && text.capacity() - begins >= 16 {
         if let Some(chunk) = name.text().first_chunk::<16>() {
-            text.extend_from_slice(chunk)?;
+            let bytes = *chunk;
+            text.extend_from_slice(&bytes)?;
             text.truncate(begins + len);
             return Ok(());
         }
     }
-    text.extend_from_slice(name.bytes())
+    push_bytes(text, name.bytes())
 }
 
 /// Adds the names of a switch to a text. After a refusal for memory some of them may be there.
