@@ -1,5 +1,5 @@
 -- What stands behind STAMP, cut from the left: the body of an event.
-use Rattle.std.proofs.Common.{◌≡◌, ℕ, inl, inr, List, [], ◌++◌, reverse, refl, sym, ap, ◌∙◌, arith, Ok, Option, Some, None, true, false}
+use Rattle.std.proofs.Common.{◌≡◌, ℕ, inl, inr, List, [], ◌++◌, reverse, drop, refl, sym, ap, subst, ◌∙◌, arith, Ok, Option, Some, None, true, false}
 use Rattle.std.proofs.lemmas.List.{append-nil}
 use Rattle.std.specs.Prelude.{codes}
 use Rattle.std.specs.Option.{is_some}
@@ -11,10 +11,11 @@ use Rattle.ft_fields.specs.Traced.{Traced}
 use Rattle.ft_event.specs.Bytes.{is_space}
 use Rattle.ft_event.specs.Labels.{text_of, label_of}
 use Rattle.ft_event.specs.Spans.{behind}
-use Rattle.ft_event.specs.LineIs.{IsNamed, BodyIs, WakeGives, TurnGives, Stops}
+use Rattle.ft_event.specs.LineIs.{IsNamed, BodyIs, LineIs, WakeGives, TurnGives, Stops}
+use Rattle.ft_event.specs.declared.fault.Line.TheVariants as lines
 use Rattle.ft_quick.specs.declared.front.Front.{Front}
 use Rattle.ft_quick.specs.declared.payload.WakeName.TheVariants as wakes
-use Rattle.ft_quick.specs.inner.Lines.{IsPutWake, IsPutTurn, IsPut}
+use Rattle.ft_quick.specs.inner.Lines.{IsFront, IsPutWake, IsPutTurn, IsPut}
 use Rattle.ft_quick.specs.inner.Payloads.{IsFairWake, IsFairTurn}
 
 nothing_found : false ≡ true → ⊥
@@ -90,6 +91,10 @@ wakeup_new_found : (rest text payload : List ℕ) (wake : Wake) → rest ≡ cod
 unfolding label_of behind
 wakeup_new_found rest text payload wake cut label fair =
     inl (((the (label_of (codes "sched_wakeup_new:")) refl).0, payload), is_named rest (the (label_of (codes "sched_wakeup_new:")) refl).0 payload (cut ∙ ap (λ (x : List ℕ). codes " sched_" ++ x) label) fair.first fair.last, wake_gives bodies.WakeupNew payload wake fair)
+
+-- the event of the whole line
+pub put_found : (line : List ℕ) (front : Front) (event : Traced) → IsFront line front → IsPut (drop front.rest line) front event → LineIs line (Ok (lines.Event event))
+put_found line front event is put = subst (λ (t : Traced). LineIs line (Ok (lines.Event t))) (sym put.put) (is put.body put.is)
 
 -- the events that are put
 pub switch_put : (rest text payload : List ℕ) (front : Front) (event : Traced) → rest ≡ codes " sched_" ++ text

@@ -1,15 +1,19 @@
 -- Labels that are found, and texts that are the same.
-use Rattle.std.proofs.Common.{◌≡◌, ◌<◌, ◌≤◌, ℕ, ◌+◌, ◌-◌, false, arith, length, List, ◌++◌, sym, ap, ap₂, ◌∙◌, eqb, take, drop}
-use Rattle.std.proofs.lemmas.Bool.{eqb-false}
-use Rattle.std.proofs.lemmas.List.{take-append-drop, drop-drop}
+use Rattle.std.proofs.Common.{◌≡◌, ◌<◌, ◌≤◌, ℕ, zero, suc, ◌+◌, ◌-◌, arith, length, List, ◌++◌, refl, sym, ap, ap₂, ◌∙◌, take, drop}
+use Rattle.std.proofs.lemmas.List.{take-append-drop, drop-drop, length-take}
 
 -- a text that is cut where its last label begins
 pub last_cut : (text label front rest : List ℕ) (n : ℕ) → front ≡ take n text → rest ≡ drop n text → rest ≡ label → text ≡ front ++ label
 last_cut text label front rest n f r same = sym (take-append-drop n text) ∙ ap₂ (λ (x y : List ℕ). x ++ y) (sym f) (sym r ∙ same)
 
--- a text whose length is not 0
-pub some : (xs : List ℕ) → eqb (length xs) 0 ≡ false → 0 < length xs
-some xs other = let h = eqb-false (length xs) 0 other in omega arith
+-- a text that is taken is as short as it was to be
+pub taken_short : (n : ℕ) (text : List ℕ) → n ≤ 31 → length (take n text) ≤ 31
+taken_short n text few = let whole = length-take n text in omega arith
+
+-- and not empty
+pub taken_some : (n : ℕ) (text : List ℕ) → (n ≡ 0 → ⊥) → n ≤ length text → 0 < length (take n text)
+taken_some zero text other within = absurd (other refl)
+taken_some (suc n) text other within = let whole = length-take (suc n) text in omega arith
 
 -- texts of one length with the same beginnings and the same ends, which meet, are one
 pub ends_same : (a b a_first b_first a_last b_last : List ℕ) (n len : ℕ) → length a ≡ len → length b ≡ len → a_first ≡ take n a → b_first ≡ take n b → a_first ≡ b_first

@@ -1,15 +1,15 @@
 //! What the columns of a line say of its event.
 
-ghost use Rattle.std.specs.Prelude.{◌≤◌, length};
+ghost use Rattle.std.specs.Prelude.{◌≤◌};
 ghost use Rattle.ft_fields.specs.Traced.{last_cpu, last_stamp};
 
-use ft_fields::{Body, Comm, Event};
+use ft_fields::{BodyRef, EventRef, NameRef};
 
-/// What the columns of a line say. TASK is a text yet: it is copied once, into the event.
+/// What the columns of a line say.
 #[derive(Clone, Copy)]
 pub(crate) struct Front<'a> {
-    /// TASK, of at most 31 bytes.
-    pub(crate) task: &'a [u8],
+    /// TASK.
+    pub(crate) task: NameRef<'a>,
     /// PID.
     pub(crate) pid: i32,
     /// CPU.
@@ -18,26 +18,26 @@ pub(crate) struct Front<'a> {
     pub(crate) stamp: u64,
     /// The place behind STAMP.
     pub(crate) rest: usize,
-    ghost task_short: { length task.now ≤ 31 },
     ghost cpu_within: { cpu ≤ last_cpu },
     ghost stamp_within: { stamp ≤ last_stamp },
 }
 
-impl Front<'_> {
+impl<'a> Front<'a> {
     ghost use Rattle.std.specs.Prelude.{◌≡◌};
+    ghost use Rattle.ft_fields.specs.Borrowed.{told, event_told};
     ghost use Rattle.ft_quick.specs.inner.Lines.{traced_with};
 
-    /// Makes it the line's event, where this was traced.
+    /// The line's event, where this was traced.
     #[inline(always)]
-    pub(crate) fn put(&self, event: &mut Event, body: Body)
-        ensures { event.new ≡ traced_with self.now body }
+    pub(crate) fn with(&self, body: BodyRef<'a>) -> EventRef<'a>
+        ensures { event_told result ≡ traced_with self.now (told body.entry) }
     {
-        *event = Event {
-            task: Comm::filled(self.task),
+        EventRef {
+            task: self.task,
             pid: self.pid,
             cpu: self.cpu,
             stamp: self.stamp,
             body,
-        };
+        }
     }
 }

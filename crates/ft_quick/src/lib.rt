@@ -3,15 +3,18 @@
 //! That is the form that the kernel gives the lines of events, with columns of any width within the first
 //! 64 bytes and no thread groups: TASK, PID and CPU, perhaps LETTERS, STAMP, one space, and a named event
 //! whose names hold no `=` or an event without a name. Nothing in it is out of range. The bytes that tell
-//! such a line's columns apart are found all at once, and what follows is cut from the left. Any other
-//! line, and so each that has a fault, goes to the reader of `ft_event`, whose contract this one has.
+//! such a line's columns apart are found all at once, and what follows is cut from the left. The names
+//! of its event stay where they lie in the line. Any other line, and so each that has a fault, is left to
+//! the reader of `ft_event`.
 //!
 //! ```ignore
-//! let mut event = Event::blank();
 //! let line = b"sim-1 [001] 6.000100: sched_waking: comm=w pid=42 prio=120 target_cpu=000";
-//! assert_eq!(rt; read_cut_line(line, &mut event), Ok(true));
+//! let Some(event) = cut_line(line) else {
+//!     panic!(rt; "a line of the usual form");
+//! };
+//! assert_eq!(rt; event.task.bytes(), b"sim");
 //! assert_eq!(rt; event.stamp, 6_000_100);
-//! assert_eq!(rt; read_cut_line(b"# a comment", &mut event), Ok(false));
+//! assert!(rt; cut_line(b"# a comment").is_none());
 //! ```
 //!
 //! # Contracts
@@ -35,4 +38,4 @@ mod same;
 #[cfg(test)]
 mod tests;
 
-pub use line::read_cut_line;
+pub use line::cut_line;

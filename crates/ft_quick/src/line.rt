@@ -1,17 +1,18 @@
 //! One line of a trace, fast where it is of the usual form.
 
-ghost use Rattle.std.specs.Prelude.{◌≡◌, ◌==◌, ◌≤◌, true, false, length, Ok, IfSome};
+ghost use Rattle.std.specs.Prelude.{◌≡◌, ◌==◌, ◌≤◌, false, length, Ok, IfSome};
 ghost use Rattle.std.specs.List.{list_any};
 ghost use Rattle.ft_event.specs.declared.fault.Line.TheVariants as lines;
-ghost use Rattle.ft_event.specs.Line.{line_of, line_given};
+ghost use Rattle.ft_event.specs.Line.{line_of};
 ghost use Rattle.ft_event.specs.LineIs.{LineIs};
+ghost use Rattle.ft_fields.specs.Borrowed.{event_told};
 ghost use Rattle.ft_quick.specs.inner.Lines.{IsFront};
 
 use crate::columns::{Columns, is_plain};
 use crate::front::Front;
-use crate::payload::put_body;
-use ft_event::{LineFault, one_answer};
-use ft_fields::Event;
+use crate::payload::event_of;
+use ft_event::one_answer;
+use ft_fields::{EventRef, NameRef};
 
 /// The columns of a line, where they are of the usual form.
 #[inline(never)]
@@ -26,14 +27,14 @@ fn front_of(line: &[u8]) -> Option<Front<'_>>
     let columns = Columns::of(line);
     let begin = columns.behind_spaces(0)?;
     let end = columns.task_end(begin)?;
-    let task = &line[begin..end];
-    if task.len() > 31 {
+    let len = end - begin;
+    if len > 31 {
         return None;
     }
     let (pid, cpu, at) = columns.tail(end + 1)?;
     let (stamp, rest) = columns.stamp(at)?;
     Some(Front {
-        task,
+        task: NameRef::new(&line[begin..], len),
         pid: pid as i32,
         cpu: cpu as u16,
         stamp,
@@ -41,32 +42,17 @@ fn front_of(line: &[u8]) -> Option<Front<'_>>
     })
 }
 
-/// Puts the event of a line of the usual form: whether the line is one. `event` may be any where it
-/// isn't.
-#[inline(always)]
-pub(crate) fn put_usual(line: &[u8], event: &mut Event) -> bool
-    requires { list_any (λ b. b == 10) line.now ≡ false }
-    ensures { result ≡ true → LineIs line.now (Ok (lines.Event event.new)) }
-{
-    match front_of(line) {
-        Some(front) => put_body(&front, line, event),
-        None => false,
-    }
-}
-
-/// Reads one line that was cut at its line break, in place, as `ft_event::read_cut_line` does: whether
-/// it holds an event, which `event` then is. Where it holds none, `event` may be any.
-pub fn read_cut_line(line: &[u8], event: &mut Event) -> Result<bool, LineFault>
+/// The event of a line that was cut at its line break, its names where they lie in the line: where the
+/// line is of the usual form, and else none, also where it holds an event.
+pub fn cut_line(line: &[u8]) -> Option<EventRef<'_>>
     requires { list_any (λ b. b == 10) line.now ≡ false }
     // The line's answer, as the function that the definitions compute.
-    ensures exact { line_given result event.new ≡ line_of line.now }
+    ensures exact { IfSome result (λ event. line_of line.now ≡ Ok (lines.Event (event_told event))) }
     // What the answer says of the whole line's bytes.
-    ensures meaning { LineIs line.now (line_given result event.new) }
+    ensures meaning { IfSome result (λ event. LineIs line.now (Ok (lines.Event (event_told event)))) }
 {
-    if put_usual(line, event) {
-        // Its one answer, so the general reader's too.
-        one_answer();
-        return Ok(true);
-    }
-    ft_event::read_cut_line(line, event)
+    let front = front_of(line)?;
+    // Its one answer, so the general reader's too.
+    one_answer();
+    event_of(&front, line)
 }

@@ -2,13 +2,14 @@
 
 ghost use Rattle.std.specs.Prelude.{◌≡◌, ◌≤◌, true, length, drop, Ok, IfSome};
 ghost use Rattle.ft_fields.specs.declared.event.Body.TheVariants as bodies;
+ghost use Rattle.ft_fields.specs.Borrowed.{named, waked, turned, told, event_told};
 ghost use Rattle.ft_event.specs.LineIs.{BodyIs};
 ghost use Rattle.ft_quick.specs.inner.Payloads.{IsName, IsTask, IsFairWake, IsFairTurn, IsUnlabelled};
 ghost use Rattle.ft_quick.specs.inner.Lines.{body_named, IsPutWake, IsPutTurn, IsPut};
 
 use crate::cuts::{before, behind, number, signed, until};
 use crate::front::Front;
-use ft_fields::{Body, Comm, Event, Turn, Wake};
+use ft_fields::{BodyRef, EventRef, NameRef, TurnRef, WakeRef};
 
 /// Which wake event it is.
 #[derive(Clone, Copy)]
@@ -24,13 +25,13 @@ enum WakeName {
 impl WakeName {
     /// What was traced, where the event says this.
     #[inline(always)]
-    fn body(self, wake: Wake) -> Body
-        ensures { result ≡ body_named self wake }
+    fn body<'a>(self, wake: WakeRef<'a>) -> BodyRef<'a>
+        ensures { told result ≡ body_named self (waked wake.entry) }
     {
         match self {
-            WakeName::Waking => Body::Waking(wake),
-            WakeName::Wakeup => Body::Wakeup(wake),
-            WakeName::WakeupNew => Body::WakeupNew(wake),
+            WakeName::Waking => BodyRef::Waking(wake),
+            WakeName::Wakeup => BodyRef::Wakeup(wake),
+            WakeName::WakeupNew => BodyRef::WakeupNew(wake),
         }
     }
 }
@@ -42,18 +43,18 @@ fn name_of<'a, const N: usize>(
     label: &[u8; N],
     line: &'a [u8],
     at: usize,
-) -> Option<(&'a [u8], usize)>
+) -> Option<(NameRef<'a>, usize)>
     requires { at ≤ length line.now }
     ensures name { IfSome result (λ x.
-        IsName label.now (drop at line.now) x.0.now (drop x.1 line.now)) }
+        IsName label.now (drop at line.now) (named x.0) (drop x.1 line.now)) }
     ensures within { IfSome result (λ x. x.1 ≤ length line.now) }
 {
     let end = until(b'=', line, at)?;
-    let name = before(label, &line[at..end])?;
-    if name.len() > 31 {
+    let len = before(label, &line[at..end])?.len();
+    if len > 31 {
         return None;
     }
-    Some((name, end + 1))
+    Some((NameRef::new(&line[at..], len), end + 1))
 }
 
 /// A task's name that stands here, its PID and its priority, and the place behind it.
@@ -63,10 +64,10 @@ fn task_of<'a, const N: usize, const M: usize>(
     prio_label: &[u8; M],
     line: &'a [u8],
     at: usize,
-) -> Option<(&'a [u8], i32, i32, usize)>
+) -> Option<(NameRef<'a>, i32, i32, usize)>
     requires { at ≤ length line.now }
     ensures task { IfSome result (λ x. IsTask pid_label.now prio_label.now
-        (drop at line.now) x.0.now x.1 x.2 (drop x.3 line.now)) }
+        (drop at line.now) (named x.0) x.1 x.2 (drop x.3 line.now)) }
     ensures within { IfSome result (λ x. x.3 ≤ length line.now) }
 {
     let (comm, at) = name_of(pid_label, line, at)?;
@@ -77,9 +78,9 @@ fn task_of<'a, const N: usize, const M: usize>(
 
 /// What the payload of a wake event says, where one stands here and ends the line.
 #[inline(always)]
-fn wake_of(line: &[u8], at: usize) -> Option<Wake>
+fn wake_of(line: &[u8], at: usize) -> Option<WakeRef<'_>>
     requires { at ≤ length line.now }
-    ensures { IfSome result (IsFairWake (drop at line.now)) }
+    ensures { IfSome result (λ wake. IsFairWake (drop at line.now) (waked wake)) }
 {
     let name = behind(b"comm=", line, at)?;
     let (comm, pid, prio, at) = task_of(b" pid", b" prio=", line, name)?;
@@ -87,8 +88,8 @@ fn wake_of(line: &[u8], at: usize) -> Option<Wake>
     if at != line.len() {
         return None;
     }
-    Some(Wake {
-        comm: Comm::filled(comm),
+    Some(WakeRef {
+        comm,
         pid,
         prio,
         target_cpu: target_cpu as i32,
@@ -97,68 +98,64 @@ fn wake_of(line: &[u8], at: usize) -> Option<Wake>
 
 /// What the payload of a switch says, where one stands here and ends the line.
 #[inline(always)]
-fn turn_of(line: &[u8], at: usize) -> Option<Turn>
+fn turn_of(line: &[u8], at: usize) -> Option<TurnRef<'_>>
     requires { at ≤ length line.now }
-    ensures { IfSome result (IsFairTurn (drop at line.now)) }
+    ensures { IfSome result (λ turn. IsFairTurn (drop at line.now) (turned turn)) }
 {
     let name = behind(b"prev_comm=", line, at)?;
     let (prev_comm, prev_pid, prev_prio, at) = task_of(b" prev_pid", b" prev_prio=", line, name)?;
     let state = behind(b" prev_state=", line, at)?;
     let end = until(b' ', line, state)?;
-    let prev_state = &line[state..end];
-    if prev_state.is_empty() {
+    let len = end - state;
+    if len == 0 {
         return None;
     }
-    if prev_state.len() > 31 {
+    if len > 31 {
         return None;
     }
+    let prev_state = NameRef::new(&line[state..], len);
     let at = behind(b"==> next_comm=", line, end + 1)?;
     let (next_comm, next_pid, next_prio, at) = task_of(b" next_pid", b" next_prio=", line, at)?;
     if at != line.len() {
         return None;
     }
-    Some(Turn {
-        prev_comm: Comm::filled(prev_comm),
+    Some(TurnRef {
+        prev_comm,
         prev_pid,
         prev_prio,
-        prev_state: Comm::filled(prev_state),
-        next_comm: Comm::filled(next_comm),
+        prev_state,
+        next_comm,
         next_pid,
         next_prio,
     })
 }
 
-/// Puts the wake event of this name: whether its payload is of the usual form.
+/// The wake event of this name, where its payload is of the usual form.
 // Apart from the columns, each keeps its registers.
 #[inline(never)]
-fn put_wake(front: &Front<'_>, name: WakeName, line: &[u8], at: usize, event: &mut Event) -> bool
+fn wake_event<'a>(
+    front: &Front<'a>,
+    name: WakeName,
+    line: &'a [u8],
+    at: usize,
+) -> Option<EventRef<'a>>
     requires { at ≤ length line.now }
-    ensures { result ≡ true
-        → IsPutWake name (drop at line.now) front.now event.new }
+    ensures { IfSome result (λ event.
+        IsPutWake name (drop at line.now) front.now (event_told event)) }
 {
-    match wake_of(line, at) {
-        Some(wake) => {
-            front.put(event, name.body(wake));
-            true
-        }
-        None => false,
-    }
+    let wake = wake_of(line, at)?;
+    Some(front.with(name.body(wake)))
 }
 
-/// Puts the switch: whether its payload is of the usual form.
+/// The switch, where its payload is of the usual form.
 #[inline(never)]
-fn put_turn(front: &Front<'_>, line: &[u8], at: usize, event: &mut Event) -> bool
+fn turn_event<'a>(front: &Front<'a>, line: &'a [u8], at: usize) -> Option<EventRef<'a>>
     requires { at ≤ length line.now }
-    ensures { result ≡ true
-        → IsPutTurn (drop at line.now) front.now event.new }
+    ensures { IfSome result (λ event.
+        IsPutTurn (drop at line.now) front.now (event_told event)) }
 {
-    match turn_of(line, at) {
-        Some(turn) => {
-            front.put(event, Body::Switch(turn));
-            true
-        }
-        None => false,
-    }
+    let turn = turn_of(line, at)?;
+    Some(front.with(BodyRef::Switch(turn)))
 }
 
 /// Whether an event without a name surely begins here: `wakeup_latency`, which no line names, is asked
@@ -194,43 +191,39 @@ fn is_other(line: &[u8], at: usize) -> bool
     }
 }
 
-/// Puts the event of a line with these columns, where it is a named one: whether it is of the usual
-/// form.
+/// The event of a line with these columns, where it surely is one without a name.
 #[inline(always)]
-fn put_named(front: &Front<'_>, line: &[u8], event: &mut Event) -> bool
+fn other_event<'a>(front: &Front<'a>, line: &'a [u8]) -> Option<EventRef<'a>>
     requires { front.now.rest ≤ length line.now }
-    ensures { result ≡ true → IsPut (drop front.now.rest line.now) front.now event.new }
+    ensures { IfSome result (λ event.
+        IsPut (drop front.now.rest line.now) front.now (event_told event)) }
 {
-    let Some(label) = behind(b" sched_", line, front.rest) else {
-        return false;
-    };
-    if let Some(at) = behind(b"switch: ", line, label) {
-        return put_turn(front, line, at, event);
+    if !is_other(line, front.rest) {
+        return None;
     }
-    if let Some(at) = behind(b"waking: ", line, label) {
-        return put_wake(front, WakeName::Waking, line, at, event);
-    }
-    if let Some(at) = behind(b"wakeup: ", line, label) {
-        return put_wake(front, WakeName::Wakeup, line, at, event);
-    }
-    if let Some(at) = behind(b"wakeup_new: ", line, label) {
-        return put_wake(front, WakeName::WakeupNew, line, at, event);
-    }
-    false
+    Some(front.with(BodyRef::Other))
 }
 
-/// Puts the event of a line with these columns: whether it is of the usual form.
+/// The event of a line with these columns, where it is of the usual form.
 #[inline(always)]
-pub(crate) fn put_body(front: &Front<'_>, line: &[u8], event: &mut Event) -> bool
+pub(crate) fn event_of<'a>(front: &Front<'a>, line: &'a [u8]) -> Option<EventRef<'a>>
     requires { front.now.rest ≤ length line.now }
-    ensures { result ≡ true → IsPut (drop front.now.rest line.now) front.now event.new }
+    ensures { IfSome result (λ event.
+        IsPut (drop front.now.rest line.now) front.now (event_told event)) }
 {
-    if put_named(front, line, event) {
-        return true;
+    if let Some(label) = behind(b" sched_", line, front.rest) {
+        if let Some(at) = behind(b"switch: ", line, label) {
+            return turn_event(front, line, at);
+        }
+        if let Some(at) = behind(b"waking: ", line, label) {
+            return wake_event(front, WakeName::Waking, line, at);
+        }
+        if let Some(at) = behind(b"wakeup: ", line, label) {
+            return wake_event(front, WakeName::Wakeup, line, at);
+        }
+        if let Some(at) = behind(b"wakeup_new: ", line, label) {
+            return wake_event(front, WakeName::WakeupNew, line, at);
+        }
     }
-    if is_other(line, front.rest) {
-        front.put(event, Body::Other);
-        return true;
-    }
-    false
+    other_event(front, line)
 }

@@ -6,6 +6,7 @@ use Rattle.ft_fields.specs.declared.event.Body.{Body}
 use Rattle.ft_fields.specs.declared.event.Body.TheVariants as bodies
 use Rattle.ft_fields.specs.declared.event.Turn.{Turn}
 use Rattle.ft_fields.specs.declared.event.Wake.{Wake}
+use Rattle.ft_fields.specs.Borrowed.{named}
 use Rattle.ft_fields.specs.Traced.{Traced}
 use Rattle.ft_quick.specs.declared.front.Front.{Front}
 use Rattle.ft_quick.specs.declared.payload.WakeName.{WakeName}
@@ -14,7 +15,7 @@ use Rattle.ft_quick.specs.inner.Payloads.{IsFairTurn, IsFairWake}
 
 -- the event of these columns, where this was traced (our own choice)
 abbrev pub traced_with : Front → Body → Traced
-traced_with front body = record { task = front.task.now; pid = front.pid; cpu = front.cpu; stamp = front.stamp; body = body }
+traced_with front body = record { task = named front.task; pid = front.pid; cpu = front.cpu; stamp = front.stamp; body = body }
 
 -- whatever stands behind the columns, the line gives its event (our own choice)
 abbrev pub IsFront : List ℕ → Front → Type 0
