@@ -3,14 +3,16 @@
 ghost use Rattle.std.specs.Prelude.{◌≡◌, ◌==◌, false, ◌⊎◌, List, ◌++◌, ◌∷◌, [], Result, Err, OnOk, IfErr};
 ghost use Rattle.std.specs.List.{list_any};
 ghost use Rattle.ft_event.specs.Line.{line_of};
+ghost use Rattle.ft_fields.specs.Borrowed.{event_told};
 ghost use Rattle.ft_fields.specs.Traced.{Traced};
 ghost use Rattle.ft_answers.specs.Edited.{AnswerIs};
 ghost use Rattle.ft_desk.specs.Edits.{events_of, line_in_front, event_or_refused};
 ghost use Rattle.ft_desk.specs.inner.Reading.{in_front};
 
 use ft_answers::Refused;
-use ft_event::{Event, Line, read_line};
-use ft_quick::read_cut_line;
+use ft_event::{Event, Line, read_cut_line, read_line};
+use ft_fields::EventRef;
+use ft_quick::cut_line;
 use ft_script::next_line;
 use ft_store::Store;
 use std::alloc::Global;
@@ -41,7 +43,7 @@ pub(crate) fn events_in(alloc: Global, text: &[u8]) -> Result<Store, Refused>
     ensures { AnswerIs (λ events. events) (events_of text.now) result }
 {
     let mut events = store_for(alloc, text.len());
-    // Each line's event is put here, and stored from here alone.
+    // The event of a line that is not of the usual form is put here, and stored from here.
     let mut event = Event::blank();
     let mut rest = text;
     let mut number = 1;
@@ -53,7 +55,7 @@ pub(crate) fn events_in(alloc: Global, text: &[u8]) -> Result<Store, Refused>
     Ok(events)
 }
 
-/// Adds the event of the line of this number, if the line is not skipped. `event` is overwritten.
+/// Adds the event of the line of this number, if the line is not skipped. `event` may be overwritten.
 fn add_line(events: &mut Store, event: &mut Event, number: u64, line: &[u8]) -> Result<(), Refused>
     requires { list_any (λ b. b == 10) line.now ≡ false }
     ensures ok { OnOk result ((behind : Result (List Traced) Refused) →
@@ -63,8 +65,26 @@ fn add_line(events: &mut Store, event: &mut Event, number: u64, line: &[u8]) -> 
         ⊎ ((behind : Result (List Traced) Refused) →
         line_in_front number (line_of line.now) behind ≡ Err refused)) }
 {
+    match cut_line(line) {
+        Some(told) => keep(events, &told),
+        None => add_other(events, event, number, line),
+    }
+}
+
+/// Adds the event of a line that may be of any form, if the line is not skipped. `event` is
+/// overwritten.
+#[inline(never)]
+fn add_other(events: &mut Store, event: &mut Event, number: u64, line: &[u8]) -> Result<(), Refused>
+    requires { list_any (λ b. b == 10) line.now ≡ false }
+    ensures ok { OnOk result ((behind : Result (List Traced) Refused) →
+        in_front events.old (line_in_front number (line_of line.now) behind)
+        ≡ in_front events.new behind) }
+    ensures err { IfErr result (λ refused. (refused ≡ Refused.Memory)
+        ⊎ ((behind : Result (List Traced) Refused) →
+        line_in_front number (line_of line.now) behind ≡ Err refused)) }
+{
     match read_cut_line(line, event) {
-        Ok(true) => keep(events, event),
+        Ok(true) => keep(events, &event.borrowed()),
         Ok(false) => Ok(()),
         Err(fault) => Err(Refused::BadLine(number, fault)),
     }
@@ -84,9 +104,10 @@ pub(crate) fn event_in(line: &[u8]) -> Result<Event, Refused>
 }
 
 /// Adds an event.
-fn keep(events: &mut Store, event: &Event) -> Result<(), Refused>
-    ensures ok { OnOk result (events.new ≡ events.old ++ event.now ∷ []) }
+#[inline(always)]
+fn keep(events: &mut Store, event: &EventRef<'_>) -> Result<(), Refused>
+    ensures ok { OnOk result (events.new ≡ events.old ++ event_told event.now ∷ []) }
     ensures err { IfErr result (λ refused. refused ≡ Refused.Memory) }
 {
-    events.push(event).map_err(|_| Refused::Memory)
+    events.push_ref(event).map_err(|_| Refused::Memory)
 }
