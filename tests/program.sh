@@ -33,7 +33,6 @@ done
 counted "$tests/tools/launchers.sh" "$program" ${histwatch:+"$histwatch"}
 counted "$tests/tools/building.sh"
 counted "$tests/tools/tools.sh" "$program" ${histwatch:+"$histwatch"}
-holds "$tests/documents/documents.py"
 holds "$tests/documents/crates.py"
 holds "$tests/documents/proof.py"
 holds "$tests/documents/reference.py" "$histdesk"

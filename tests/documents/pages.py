@@ -1,18 +1,20 @@
 #!/usr/bin/env python3
 """Holds that the documents name what there is, and have the form that they should have.
 
-    pages.py > WHAT WENT WRONG
+    pages.py [--write] > WHAT WENT WRONG
 
 Of each document: a link leads to a file that is there, and to a heading of it; each file and folder of the repository that it
 names is there; a line has at most 120 characters, except in tables and blocks; no word of AVOIDED stands in it. Each page of
 WORDS has as many words as stand there, to a quarter, and docs/ has no other page; one that is not written yet is told, and may
-be linked to. docs/TESTING.md counts what there is. The last line says how many things hold.
+be linked to. README.md has the line that tools/needs prints, and docs/TESTING.md counts what there is; --write has these counts
+written there first. The last line says how many things hold.
 """
 
 import ast
 import glob
 import os
 import re
+import subprocess
 import sys
 import unicodedata
 from collections import Counter
@@ -33,6 +35,7 @@ WORDS = {
 # Documents without a length of their own: one that tells of the past, one that a program writes, and what points elsewhere.
 PAST = "CHANGELOG.md"
 OTHERS = [PAST, "docs/CRATES.md", "examples/README.md", "tools/README.md", "python/README.md"]
+COUNTING = "docs/TESTING.md"
 MOST = 120
 AVOIDED = [
     r"wants? of memory",
@@ -178,7 +181,15 @@ def pages():
     return there, [f"{path} has no place among the documents" for path in there if path not in [*WORDS, *OTHERS]]
 
 
-# ---- what is counted
+# ---- what is printed and counted
+
+
+def needed():
+    """The line that installs what is needed of Debian, which README has in some lines."""
+    ran = subprocess.run([os.path.join(ROOT, "tools", "needs")], stdout=subprocess.PIPE, check=True, universal_newlines=True)
+    line, readme = ran.stdout.split(), re.sub(r"\\\n", " ", text_of("README.md"))
+    there = line in [text.split()[1:] for text in readme.split("\n")]
+    return [line], [] if there else ["README.md lacks what tools/needs prints"]
 
 
 def tests_in(*names):
@@ -192,27 +203,41 @@ def files(*parts):
     return glob.glob(os.path.join(ROOT, *parts), recursive=True)
 
 
-def counted():
-    """The counts that docs/TESTING.md has in its table, and those that are others here."""
-    crates = [path for path in files("crates", "*", "src", "**", "*.rt")]
-    counts = {
+def counts():
+    """What docs/TESTING.md counts, and how much there is of it."""
+    crates = files("crates", "*", "src", "**", "*.rt")
+    return {
         "Edits that must fail": len(files("crates", "*", "must-fail", "*.edit")),
         "Tests in crates": sum(text_of(path).count("\n#[test]") for path in crates),
         "Rows": len(files("tests", "rows", "*", "script")),
         "Tests in Python of package and tools": tests_in("library/*.py"),
         "Tests of the page in a browser": tests_in("page/*.py"),
     }
-    rows = dict(re.findall(r"^\| ([^|]*?) \| ([0-9,]+) \|", text_of("docs/TESTING.md"), re.MULTILINE))
-    wrong = [f"docs/TESTING.md: {what}: {count}" for what, count in counts.items() if rows.get(what) != f"{count:,}"]
-    return list(counts), wrong
+
+
+def write_counts(path):
+    text = text_of(path)
+    for what, count in counts().items():
+        text = re.sub(rf"^(\| {what} \| )[0-9,]+ \|", rf"\g<1>{count:,} |", text, flags=re.MULTILINE)
+    with open(os.path.join(ROOT, path), "w", encoding="utf-8") as file:
+        file.write(text)
+
+
+def counted(path):
+    """The counts of a page's table, and those that are others here."""
+    rows = dict(re.findall(r"^\| ([^|]*?) \| ([0-9,]+) \|", text_of(path), re.MULTILINE))
+    wrong = [f"{path}: {what}: {count} (--write)" for what, count in counts().items() if rows.get(what) != f"{count:,}"]
+    return list(counts()), wrong
 
 
 def main():
+    if sys.argv[1:] == ["--write"]:
+        write_counts(COUNTING)
     documents = [path for path in [*WORDS, *OTHERS] if is_there(path)]
     told = [links(path) for path in documents]
     told += [check(path) for path in documents if path != PAST for check in (names, form)]
     told += [length(path) for path in documents if path in WORDS]
-    told += [pages(), counted()]
+    told += [pages(), needed(), counted(COUNTING)]
     for path in WORDS:
         if not is_there(path):
             print(f"not tried: {path}, which is not there")

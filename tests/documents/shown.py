@@ -7,7 +7,8 @@ The pages are all that pages.py knows, except those of OWN, whose scripts hold t
 
 - `console` is a session: `$ ` begins a command, `> ` goes on with one, and its output follows, where a line `...` stands for
   lines that are left out. Lines after `desk> ` are typed on a terminal. Bash runs each command, in a folder with links to the
-  programs, the tools, the examples and the package; it ends with status 0, or prints what was refused.
+  programs, the tools, the examples and the package, where `my.trace` is examples/recipes.trace; it ends with status 0, or
+  prints what was refused.
 - `pycon` is a session of Python; those of a page are one session.
 - `python` is a program, which ends well and prints the block of no kind that stands right after it, or nothing.
 - `c` is compiled, with warnings as faults.
@@ -91,6 +92,7 @@ class Place:
         self.folder = folder
         for name in ("tools", "examples", "python", "include", "docs"):
             os.symlink(os.path.join(ROOT, name), os.path.join(folder, name))
+        os.symlink("examples/recipes.trace", os.path.join(folder, "my.trace"))
         os.symlink(histdesk, os.path.join(folder, "histdesk"))
         os.symlink(histwatch, os.path.join(folder, "histwatch"))
         os.mkdir(os.path.join(folder, "bin"))
