@@ -3,7 +3,8 @@
 
     shown.py HISTDESK HISTWATCH [PAGE]..
 
-The pages are all that pages.py knows, except those of OWN, whose scripts hold them. By the kind of a block:
+The pages are all that pages.py knows, except those of OWN, whose scripts hold them; the script of a page of READ reads its
+other blocks. By the kind of a block:
 
 - `console` is a session: `$ ` begins a command, `> ` goes on with one, and its output follows, where a line `...` stands for
   lines that are left out. Lines after `desk> ` are typed on a terminal. Bash runs each command, in a folder with links to the
@@ -14,7 +15,7 @@ The pages are all that pages.py knows, except those of OWN, whose scripts hold t
 - `c` is compiled, with warnings as faults.
 - `sh` has commands that need root, the reader's own files or long: they are not run, and no output stands after them. Bash
   has to read them.
-- A block of no kind is a form or a picture, which is not run.
+- A block of no kind is a form or a picture, and `rust` and `rattle` are code of this repository, which is not run here.
 
 A block after a line `<!-- not run: WHY -->` is not run. What needs the library or numpy isn't tried where these are missing.
 The last lines say how many blocks were not run, and how many commands and blocks hold.
@@ -41,8 +42,8 @@ from pages import ROOT, WORDS, is_there, text_of
 
 # Pages with a script of their own, which runs their commands.
 OWN = {"docs/GUIDE.md": "guide.py"}
-# Kinds of blocks that the script of a page reads.
-OTHER_KINDS = {"docs/REFERENCE.md": None, "docs/PROOF.md": ["rattle"]}
+# Kinds of blocks that no script runs here, and those that the script of a page reads, whatever they are.
+CODE, READ = ["rust", "rattle"], ["docs/REFERENCE.md"]
 PROMPT = "desk> "
 # Runs the word after it as a session of Python.
 DOCTEST = """
@@ -186,7 +187,7 @@ def try_ended(place, title, wanted, count, words, given=""):
 
 def try_page(place, page, count):
     """Runs the blocks of a page."""
-    kinds, session, found = OTHER_KINDS.get(page, []), "", list(blocks(text_of(page)))
+    session, found = "", list(blocks(text_of(page)))
     for at, (line, why, kind, text, is_next) in enumerate(found):
         title, before = f"{page}:{line}", found[at - 1] if at and is_next else (0, None, None, "", False)
         if why:
@@ -211,7 +212,8 @@ def try_page(place, page, count):
             told = f"{title}: stands after commands that are not run, and looks like their output"
             count.hold(before[2] != "sh" or before[1] is not None, told)
         else:
-            count.hold(kinds is None or kind in kinds, f"{title}: a block of the kind {kind}")
+            count.left[kind] += 1
+            count.hold(kind in CODE or page in READ, f"{title}: a block of the kind {kind}")
     if session and count.can_try("pycon", session):
         try_ended(place, page, "", count, [sys.executable, "-B", "-c", DOCTEST, session])
 
@@ -224,7 +226,7 @@ def main():
         for page in sys.argv[3:] or [page for page in WORDS if page not in OWN and is_there(page)]:
             try_page(place, page, count)
     for why, number in count.left.items():
-        print(f"not run: {number} blocks" + ("" if why == "sh" else f": {why}"))
+        print(f"not run: {number} blocks: {why}")
     for missing, number in count.missing.items():
         print(f"not tried: {number} commands and blocks, since {missing} is missing")
     print("\n".join([*count.wrong, f"{count.things - len(count.wrong)} of {count.things} blocks hold"]))
