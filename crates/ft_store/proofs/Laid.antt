@@ -1,4 +1,4 @@
--- Packed events whose names stand one behind the other in a text.
+-- Packed events whose names stand one after the other in a text.
 use Rattle.std.proofs.Common.{◌≡◌, ◌+◌, ◌<◌, ◌≤◌, ◌++◌, ℕ, zero, suc, List, [], ◌∷◌, length, get_or, take, drop, map, refl, sym, ap, subst, ◌∙◌, arith, length-append}
 use Rattle.std.proofs.lemmas.List.{take-append-drop, length-take-le, take-map, map-append}
 use Rattle.std.proofs.Math.Seq.{drop-append-add}
@@ -17,7 +17,7 @@ of_same P text names events packs t e h = subst (λ (bytes : List ℕ). P bytes 
 
 -- ---- where names end
 
--- the names of events end at or behind where they begin
+-- the names of events end at or after where they begin
 laid_forward : (begins : ℕ) (events : List Packed) (ends : ℕ) → AreLaid begins events ends → begins ≤ ends
 laid_forward begins [] ends laid = omega arith
 laid_forward begins (event ∷ events) ends laid = omega (arith, laid_forward (begins + width event) events ends laid.2)
@@ -40,7 +40,7 @@ laid_front begins (first ∷ events) ends (suc n) event laid at =
 
 -- ---- more events
 
--- events that are laid where others end are laid behind them
+-- events that are laid where others end are laid after them
 laid_join : (begins : ℕ) (events : List Packed) (mid : ℕ) (more : List Packed) (ends : ℕ) → AreLaid begins events mid → AreLaid mid more ends
     → AreLaid begins (events ++ more) ends
 laid_join begins [] mid more ends laid behind = subst (λ (n : ℕ). AreLaid n more ends) (sym laid) behind
@@ -57,13 +57,13 @@ all_stay text more begins (event ∷ events) ends laid within =
 
 -- ---- one event more
 
--- an event whose names are added to the text is laid behind the others
+-- an event whose names are added to the text is laid after the others
 pub laid_more : (text names : List ℕ) (events : List Packed) (event : Packed) → AreLaid 0 events (length text) → IsSound event → event.begins ≡ length text
     → width event ≡ length names → AreLaid 0 (events ++ event ∷ []) (length (text ++ names))
 laid_more text names events event laid sound at long =
     laid_join 0 events (length text) (event ∷ []) (length (text ++ names)) laid (sound, at, omega (arith, long, length-append text names))
 
--- and it comes back behind them
+-- and it comes back after them
 pub unpacked_more : (text names : List ℕ) (events : List Packed) (event : Packed) → AreLaid 0 events (length text) → event.begins ≡ length text
     → width event ≡ length names → all_unpacked (text ++ names) (events ++ event ∷ []) ≡ all_unpacked text events ++ event_of names event ∷ []
 unpacked_more text names events event laid at long =
@@ -73,7 +73,7 @@ unpacked_more text names events event laid at long =
 
 -- ---- a store more
 
--- events stay laid where all their names stand further behind
+-- events stay laid where all their names stand further on
 laid_moved : (by begins : ℕ) (events : List Packed) (ends : ℕ) → AreLaid begins events ends → AreLaid (by + begins) (map (moved by) events) (by + ends)
 laid_moved by begins [] ends laid = ap (λ (n : ℕ). by + n) laid
 laid_moved by begins (event ∷ events) ends laid = (
@@ -82,14 +82,14 @@ laid_moved by begins (event ∷ events) ends laid = (
   subst (λ (n : ℕ). AreLaid n (map (moved by) events) (by + ends)) (omega arith) (laid_moved by (begins + width event) events ends laid.2),
 )
 
--- events come back as before where their names stand behind a text
+-- events come back as before where their names stand after a text
 all_moved : (text more : List ℕ) (events : List Packed) → all_unpacked (text ++ more) (map (moved (length text)) events) ≡ all_unpacked more events
 all_moved text more [] = refl
 all_moved text more (event ∷ events) =
     ap (λ (names : List ℕ). event_of (take (width event) names) event ∷ all_unpacked (text ++ more) (map (moved (length text)) events)) (drop-append-add text more event.begins)
     ∙ ap (λ (rest : List Traced). unpacked more event ∷ rest) (all_moved text more events)
 
--- the events of a store, with their names behind the others', are laid behind the others
+-- the events of a store, with their names after the others', are laid after the others
 pub laid_all : (text more : List ℕ) (events others : List Packed) → AreLaid 0 events (length text) → AreLaid 0 others (length more)
     → AreLaid 0 (events ++ map (moved (length text)) others) (length (text ++ more))
 laid_all text more events others laid behind =
@@ -97,7 +97,7 @@ laid_all text more events others laid behind =
     (subst (AreLaid (length text) (map (moved (length text)) others)) (sym (length-append text more))
     (subst (λ (n : ℕ). AreLaid n (map (moved (length text)) others) (length text + length more)) (omega arith) (laid_moved (length text) 0 others (length more) behind)))
 
--- and they come back behind them
+-- and they come back after them
 pub unpacked_all : (text more : List ℕ) (events others : List Packed) → AreLaid 0 events (length text)
     → all_unpacked (text ++ more) (events ++ map (moved (length text)) others) ≡ all_unpacked text events ++ all_unpacked more others
 unpacked_all text more events others laid =

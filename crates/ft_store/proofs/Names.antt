@@ -74,7 +74,7 @@ names_stay text more event within =
     ap (take (width event)) (drop-append-le event.begins text more (omega arith))
     ∙ take-append-le (width event) (drop event.begins text) more (omega (arith, length-drop event.begins text))
 
--- a name comes behind a text where the first 16 bytes of what it begins are added, and cut behind it
+-- a name comes after a text where the first 16 bytes of what it begins are added, and cut after it
 pub added_in_one_step : (text begun chunk name : List ℕ) (begins len : ℕ) → begins ≡ length text → chunk ≡ take 16 begun → len ≤ 16 → len ≡ length name
     → take (length name) begun ≡ name → take (begins + len) (text ++ chunk) ≡ text ++ name
 added_in_one_step text begun chunk name begins len at is short long told =

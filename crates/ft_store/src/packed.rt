@@ -51,7 +51,7 @@ pub(crate) enum PackedBody {
 
 /// An event, with the place in the text where its names begin, and with their lengths.
 ///
-/// The task's name is first. Those of the body are behind it, in the order of its fields.
+/// The task's name is first. Those of the body are after it, in the order of its fields.
 #[derive(Clone, Copy)]
 pub(crate) struct Packed {
     pub(crate) stamp: u64,
@@ -351,7 +351,7 @@ impl Packed {
         }
     }
 
-    /// The same with its names at another place of the text. Refused behind the last place.
+    /// The same with its names at another place of the text. Refused past the last place.
     #[inline(always)]
     pub(crate) fn placed(&self, begins: usize) -> Result<Packed, AllocError>
         ensures { IfOk result (λ packed. packed ≡ placed begins self.now) }
@@ -365,7 +365,7 @@ impl Packed {
         })
     }
 
-    /// The same with its names so many bytes further behind. Refused behind the last place.
+    /// The same with its names so many bytes further on. Refused past the last place.
     #[inline(always)]
     pub(crate) fn moved(&self, by: usize) -> Result<Packed, AllocError>
         ensures { IfOk result (λ packed. packed ≡ moved by self.now) }

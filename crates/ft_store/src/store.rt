@@ -10,7 +10,7 @@ use ft_fields::{Event, EventRef, Field, Name};
 use std::alloc::{AllocError, Global};
 use std::marker::Model;
 
-/// Events one behind the other.
+/// Events one after the other.
 ///
 /// The bytes of all names stand in one text, and the rest of each event in 56 bytes beside it.
 /// Contracts see the list of the events.
@@ -61,7 +61,7 @@ fn push_packed(
     Ok(())
 }
 
-/// Adds packed events behind others, their names so many bytes further behind. After a refusal
+/// Adds packed events after others, their names so many bytes further on. After a refusal
 /// some of them may be there.
 fn push_moved(events: &mut Vec<Packed>, more: &[Packed], by: usize) -> Result<(), AllocError>
     ensures ok { OnOk result (events.new.items ≡ events.old.items ++ map (moved by) more.now) }
@@ -74,7 +74,7 @@ fn push_moved(events: &mut Vec<Packed>, more: &[Packed], by: usize) -> Result<()
     Ok(())
 }
 
-/// Adds packed events behind others, and the text of their names behind theirs. After a refusal
+/// Adds packed events after others, and the text of their names after theirs. After a refusal
 /// some of both may be there.
 fn append_packed(
     names: &mut Vec<u8>,
@@ -142,7 +142,7 @@ impl Store {
         self.events.capacity().saturating_sub(self.events.len())
     }
 
-    /// Adds an event behind the others. Refused for memory, or where their names take 4 GiB, and
+    /// Adds an event after the others. Refused for memory, or where their names take 4 GiB, and
     /// then all is as it was.
     pub fn push(&mut self, event: &Event) -> Result<(), AllocError>
         ensures ok { OnOk result (self.new ≡ self.old ++ event.now ∷ []) }
@@ -151,7 +151,7 @@ impl Store {
         self.push_ref(&event.borrowed())
     }
 
-    /// Adds an event whose names are borrowed behind the others. Refused for memory, or where their
+    /// Adds an event whose names are borrowed after the others. Refused for memory, or where their
     /// names take 4 GiB, and then all is as it was.
     pub fn push_ref(&mut self, event: &EventRef<'_>) -> Result<(), AllocError>
         ensures ok { OnOk result (self.new ≡ self.old ++ event_told event.now ∷ []) }
@@ -165,7 +165,7 @@ impl Store {
         Ok(())
     }
 
-    /// Adds an event of another store behind the others, without unpacking it. Refused for memory,
+    /// Adds an event of another store after the others, without unpacking it. Refused for memory,
     /// or where their names take 4 GiB, and then all is as it was.
     pub fn push_from(&mut self, stored: &Stored<'_>) -> Result<(), AllocError>
         ensures ok { OnOk result (self.new ≡ self.old ++ held stored.now ∷ []) }
@@ -178,7 +178,7 @@ impl Store {
         }
     }
 
-    /// Adds a packed event with its names behind the others. Refused for memory, or where their
+    /// Adds a packed event with its names after the others. Refused for memory, or where their
     /// names take 4 GiB, and then all is as it was.
     fn push_behind(&mut self, packed: &Packed, names: &[u8]) -> Result<(), AllocError>
         requires sound { IsSound packed.now }
@@ -193,7 +193,7 @@ impl Store {
         Ok(())
     }
 
-    /// Adds events behind the others. An empty store takes them over. Refused for memory, and then
+    /// Adds events after the others. An empty store takes them over. Refused for memory, and then
     /// all is as it was.
     pub fn append(&mut self, events: Store) -> Result<(), AllocError>
         ensures ok { OnOk result (self.new ≡ self.old ++ events) }
@@ -219,7 +219,7 @@ impl Store {
         Ok(())
     }
 
-    /// Takes the events behind the first so many away.
+    /// Takes the events after the first so many away.
     pub fn truncate(&mut self, len: usize)
         ensures { self.new ≡ take len self.old }
     {
@@ -241,7 +241,7 @@ impl Store {
         self.events.clear();
     }
 
-    /// The event at a place, the blank one behind the last.
+    /// The event at a place, the blank one after the last.
     pub fn get(&self, place: usize) -> Event
         ensures { result ≡ stored_at self.now place }
     {
@@ -251,7 +251,7 @@ impl Store {
         }
     }
 
-    /// The event at a place without its names, the blank one behind the last. No name is read.
+    /// The event at a place without its names, the blank one after the last. No name is read.
     pub fn bare(&self, place: usize) -> Event
         ensures { result ≡ bare (stored_at self.now place) }
     {

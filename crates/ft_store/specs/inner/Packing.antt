@@ -13,11 +13,11 @@ use Rattle.ft_store.specs.declared.packed.PackedBody.TheVariants as packs
 use Rattle.ft_store.specs.declared.packed.PackedTurn.{PackedTurn}
 use Rattle.ft_store.specs.declared.packed.PackedWake.{PackedWake}
 
--- the names of a switch, one behind the other (our own choice)
+-- the names of a switch, one after the other
 abbrev pub turn_names : Turn → List ℕ
 turn_names turn = turn.prev_comm ++ (turn.prev_state ++ turn.next_comm)
 
--- the names of what was traced, one behind the other (our own choice)
+-- the names of what was traced, one after the other
 abbrev pub body_names : Body → List ℕ
 body_names (bodies.Waking wake) = wake.comm
 body_names (bodies.Wakeup wake) = wake.comm
@@ -26,15 +26,15 @@ body_names (bodies.Switch turn) = turn_names turn
 body_names (bodies.WakeupLatency matched) = []
 body_names bodies.Other = []
 
--- the names of an event: its task, then those of what was traced (our own choice)
+-- the names of an event: its task, then those of what was traced
 abbrev pub event_names : Traced → List ℕ
 event_names event = event.task ++ body_names event.body
 
--- a wake event without its name (our own choice)
+-- a wake event without its name
 abbrev pub packed_wake : Wake → PackedWake
 packed_wake wake = record { comm = length wake.comm; pid = wake.pid; prio = wake.prio; target_cpu = wake.target_cpu }
 
--- a switch without its names (our own choice)
+-- a switch without its names
 abbrev pub packed_turn : Turn → PackedTurn
 packed_turn turn = record {
   prev_comm = length turn.prev_comm;
@@ -46,7 +46,7 @@ packed_turn turn = record {
   next_prio = turn.next_prio;
 }
 
--- what was traced, without its names (our own choice)
+-- what was traced, without its names
 abbrev pub packed_body : Body → PackedBody
 packed_body (bodies.Waking wake) = packs.Waking (packed_wake wake)
 packed_body (bodies.Wakeup wake) = packs.Wakeup (packed_wake wake)
@@ -55,7 +55,7 @@ packed_body (bodies.Switch turn) = packs.Switch (packed_turn turn)
 packed_body (bodies.WakeupLatency matched) = packs.WakeupLatency matched
 packed_body bodies.Other = packs.Other
 
--- an event without its names, which begin at a place of the text (our own choice)
+-- an event without its names, which begin at a place of the text
 abbrev pub packed : ℕ → Traced → Packed
 packed begins event = record {
   stamp = event.stamp;
@@ -66,19 +66,19 @@ packed begins event = record {
   body = packed_body event.body;
 }
 
--- an event whose names begin at a place of the text (our own choice)
+-- an event whose names begin at a place of the text
 abbrev pub placed : ℕ → Packed → Packed
 placed begins event = record event { begins = begins }
 
--- an event whose names begin so many bytes further behind (our own choice)
+-- an event whose names begin so many bytes further on
 abbrev pub moved : ℕ → Packed → Packed
 moved by event = placed (by + event.begins) event
 
--- how many bytes the names of a switch take (our own choice)
+-- how many bytes the names of a switch take
 abbrev pub turn_width : PackedTurn → ℕ
 turn_width turn = turn.prev_comm + (turn.prev_state + turn.next_comm)
 
--- how many bytes the names of what was traced take (our own choice)
+-- how many bytes the names of what was traced take
 abbrev pub body_width : PackedBody → ℕ
 body_width (packs.Waking wake) = wake.comm
 body_width (packs.Wakeup wake) = wake.comm
@@ -87,15 +87,15 @@ body_width (packs.Switch turn) = turn_width turn
 body_width (packs.WakeupLatency matched) = 0
 body_width packs.Other = 0
 
--- how many bytes the names of an event take (our own choice)
+-- how many bytes the names of an event take
 abbrev pub width : Packed → ℕ
 width event = event.task + body_width event.body
 
--- a wake event with its name, which these bytes begin with (our own choice)
+-- a wake event with its name, which these bytes begin with
 abbrev pub wake_of : List ℕ → PackedWake → Wake
 wake_of names wake = record { comm = take wake.comm names; pid = wake.pid; prio = wake.prio; target_cpu = wake.target_cpu }
 
--- a switch with its names, which these bytes begin with (our own choice)
+-- a switch with its names, which these bytes begin with
 abbrev pub turn_of : List ℕ → PackedTurn → Turn
 turn_of names turn = record {
   prev_comm = take turn.prev_comm names;
@@ -107,7 +107,7 @@ turn_of names turn = record {
   next_prio = turn.next_prio;
 }
 
--- what was traced, with its names, which these bytes begin with (our own choice)
+-- what was traced, with its names, which these bytes begin with
 abbrev pub body_of : List ℕ → PackedBody → Body
 body_of names (packs.Waking wake) = bodies.Waking (wake_of names wake)
 body_of names (packs.Wakeup wake) = bodies.Wakeup (wake_of names wake)
@@ -116,7 +116,7 @@ body_of names (packs.Switch turn) = bodies.Switch (turn_of names turn)
 body_of names (packs.WakeupLatency matched) = bodies.WakeupLatency matched
 body_of names packs.Other = bodies.Other
 
--- an event with its names, which these bytes begin with (our own choice)
+-- an event with its names, which these bytes begin with
 abbrev pub event_of : List ℕ → Packed → Traced
 event_of names event = record {
   task = take event.task names;
@@ -126,19 +126,19 @@ event_of names event = record {
   body = body_of (drop event.task names) event.body;
 }
 
--- the names of an event in the text of all names (our own choice)
+-- the names of an event in the text of all names
 abbrev pub own_names : List ℕ → Packed → List ℕ
 own_names text event = take (width event) (drop event.begins text)
 
--- an event with its names, from the text of all names (our own choice)
+-- an event with its names, from the text of all names
 abbrev pub unpacked : List ℕ → Packed → Traced
 unpacked text event = event_of (own_names text event) event
 
--- all events with their names (our own choice)
+-- all events with their names
 abbrev pub all_unpacked : List ℕ → List Packed → List Traced
 all_unpacked text events = map (unpacked text) events
 
--- which event it is (our own choice)
+-- which event it is
 abbrev pub kind_of : PackedBody → Name
 kind_of (packs.Waking wake) = kinds.Waking
 kind_of (packs.Wakeup wake) = kinds.Wakeup
@@ -147,11 +147,11 @@ kind_of (packs.Switch turn) = kinds.Switch
 kind_of (packs.WakeupLatency matched) = kinds.WakeupLatency
 kind_of packs.Other = kinds.Other
 
--- the names of a switch have at most 31 bytes each (our own choice)
+-- the names of a switch have at most 31 bytes each
 abbrev pub IsShortTurn : PackedTurn → Type 0
 IsShortTurn turn = (turn.prev_comm ≤ 31) × (turn.prev_state ≤ 31) × (turn.next_comm ≤ 31)
 
--- the names of what was traced have at most 31 bytes each (our own choice)
+-- the names of what was traced have at most 31 bytes each
 abbrev pub IsShortBody : PackedBody → Type 0
 IsShortBody (packs.Waking wake) = wake.comm ≤ 31
 IsShortBody (packs.Wakeup wake) = wake.comm ≤ 31
@@ -160,14 +160,14 @@ IsShortBody (packs.Switch turn) = IsShortTurn turn
 IsShortBody (packs.WakeupLatency matched) = Unit {0}
 IsShortBody packs.Other = Unit {0}
 
--- an event's names have at most 31 bytes each, and its stamp and CPU are those of an event (our own choice)
+-- an event's names have at most 31 bytes each, and its stamp and CPU are those of an event
 pub record IsSound (event : Packed) : Type 0 where
   pub task : event.task ≤ 31
   pub body : IsShortBody event.body
   pub stamp : event.stamp ≤ last_stamp
   pub cpu : event.cpu ≤ last_cpu
 
--- events are sound, and the names of each begin where those before it end, from one place of the text to another (our own choice)
+-- events are sound, and the names of each begin where those before it end, from one place of the text to another
 abbrev pub AreLaid : ℕ → List Packed → ℕ → Type 0
 AreLaid begins [] ends = begins ≡ ends
 AreLaid begins (event ∷ events) ends = IsSound event × (event.begins ≡ begins) × AreLaid (begins + width event) events ends

@@ -1,4 +1,4 @@
--- What a refused body left behind the task's name stands behind the old bytes too.
+-- What a refused body left after the task's name stands after the old bytes too.
 use Rattle.std.proofs.Common.{◌≡◌, List, ℕ, length, take, subst}
 use Rattle.std.proofs.lemmas.Result.{on_err_weaker}
 use Rattle.ft_fields.specs.Borrowed.{named}

@@ -1,4 +1,4 @@
--- The events of a store come back behind the others.
+-- The events of a store come back after the others.
 use Rattle.std.proofs.Common.{◌≡◌, ◌++◌, List, length, ap, ◌∙◌}
 use Rattle.ft_fields.specs.Traced.{Traced}
 use Rattle.ft_store.specs.inner.Packing.{all_unpacked, AreLaid}

@@ -1,4 +1,4 @@
--- A packed event comes back behind the others.
+-- A packed event comes back after the others.
 use Rattle.std.proofs.Common.{rules, ◌≡◌, ◌++◌, List, [], ◌∷◌, length, sym, ap, ◌∙◌}
 use Rattle.ft_fields.specs.Traced.{Traced}
 use Rattle.ft_store.specs.declared.packed.Packed.{Packed}

@@ -1,4 +1,4 @@
--- An event that is packed behind the others comes back behind them.
+-- An event that is packed after the others comes back after them.
 use Rattle.std.proofs.Common.{◌≡◌, ◌++◌, List, [], ◌∷◌, length, refl, ap, ◌∙◌}
 use Rattle.ft_fields.specs.Borrowed.{event_told}
 use Rattle.ft_fields.specs.Traced.{Traced}
