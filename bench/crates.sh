@@ -1,5 +1,5 @@
 # shellcheck shell=bash disable=SC2154 # what common.sh and the scripts set
-# crates.sh: what the benches of one crate share, pairs.sh and tables.sh, which read it behind common.sh.
+# crates.sh: what the benches of one crate share, pairs.sh and tables.sh, which read it after common.sh.
 
 # copy_crates CRATE..: copies crates and all that they stand on to a repository in FOLDER.
 copy_crates() {
@@ -37,7 +37,7 @@ build_crate() {
     }
 }
 
-# least_columns COMMAND..: the least of some runs' numbers, column by column, and behind them the memory of the run in KB.
+# least_columns COMMAND..: the least of some runs' numbers, column by column, and after them the memory of the run in KB.
 least_columns() {
     local run
     for ((run = 0; run < times; run++)); do

@@ -174,7 +174,7 @@ fn last<'a, T>(text: &'a [u8], label: &str, form: impl Fn(&'a [u8]) -> Option<T>
     Some((&text[..at], form(text[at + 1..].strip_prefix(label.as_bytes())?)?))
 }
 
-/// The text behind one or more digits and some other text.
+/// The text after one or more digits and some other text.
 fn behind_count<'a>(text: &'a [u8], other: &str) -> Option<&'a [u8]> {
     some(span(text, is_digit))?.1.strip_prefix(other.as_bytes())
 }
@@ -191,7 +191,7 @@ fn behind_group(text: &[u8]) -> Option<&[u8]> {
     Some(some(spaces(text.strip_prefix(b")")?))?.1)
 }
 
-/// PID, CPU and what stands behind, if a TASK's `-` stands in front.
+/// PID, CPU and what stands after, if a TASK's `-` stands in front.
 fn tail(text: &[u8]) -> Option<(i64, i64, &[u8])> {
     let (pid, text) = some(span(text, is_digit))?;
     let (_, text) = some(spaces(text))?;
@@ -242,7 +242,7 @@ fn switch(text: &[u8], event: &mut Event) -> Result<(), u32> {
     Ok(())
 }
 
-/// The common part of a line's event, and what stands behind its stamp; `None` where the line is skipped.
+/// The common part of a line's event, and what stands after its stamp; `None` where the line is skipped.
 fn columns(line: &[u8]) -> Result<Option<(Event, &[u8])>, u32> {
     if line.len() > 4096 {
         return Err(7);

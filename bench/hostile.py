@@ -88,7 +88,7 @@ def first_of_many(keys, edits=500):
 
 CASES = [
     ("stars of a pattern, then b, against 31 bytes", 1000, lambda n: filtered(f'comm ~ "{"*" * n}b"')),
-    ("bytes of a class behind a star, against 31 bytes", 1000, lambda n: filtered(f'comm ~ "*[{"x" * n}]"')),
+    ("bytes of a class after a star, against 31 bytes", 1000, lambda n: filtered(f'comm ~ "*[{"x" * n}]"')),
     ("`*a` again and again, against 31 times a", 1000, lambda n: filtered(f'comm ~ "{"*a" * n}"', again=1000)),
     ("operands of a filter of 32 levels", 288, lambda n: filtered(operands(n), again=20)),
     ("events at a filter of 32 levels and 1,152 operands", 2000, lambda n: filtered(operands(1152), n, 10)),

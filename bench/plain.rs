@@ -65,7 +65,7 @@ fn is_digit(byte: u8) -> bool {
     byte.is_ascii_digit()
 }
 
-/// The text behind its spaces.
+/// The text after its spaces.
 fn stripped(text: &[u8]) -> &[u8] {
     span(text, |byte| byte == b' ').1
 }
@@ -121,7 +121,7 @@ fn wake(text: &[u8]) -> Option<Wake<'_>> {
     })
 }
 
-/// The text in front of the last arrow, and the name behind it.
+/// The text in front of the last arrow, and the name after it.
 fn arrow(text: &[u8]) -> Option<(&[u8], &[u8])> {
     let mut end = text.len();
     loop {
@@ -167,7 +167,7 @@ fn body(text: &[u8]) -> Option<Body<'_>> {
     })
 }
 
-/// What stands behind a task and its `-`: its pid, perhaps its thread group, the CPU, and the rest of the line.
+/// What stands after a task and its `-`: its pid, perhaps its thread group, the CPU, and the rest of the line.
 fn place(text: &[u8]) -> Option<(i32, u16, &[u8])> {
     let (pid, text) = span(text, is_digit);
     let mut text = stripped(text.strip_prefix(b" ")?);
@@ -227,7 +227,7 @@ struct Act {
 }
 
 impl Act {
-    /// The act's place in merged order, but for its line.
+    /// The act's place in merged order, except for its line.
     fn place(&self) -> (u64, u16) {
         (self.stamp, self.cpu)
     }

@@ -1,5 +1,5 @@
 # shellcheck shell=bash disable=SC2154 # what common.sh sets
-# recordings.sh: what the benches over recordings share, turn.sh and waits.sh, which read it behind common.sh.
+# recordings.sh: what the benches over recordings share, turn.sh and waits.sh, which read it after common.sh.
 
 # What keeps a machine busy while it is recorded.
 busy='perf bench sched messaging -l 900; perf bench sched pipe -l 60000'

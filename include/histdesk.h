@@ -21,7 +21,7 @@
  * The desk keeps one answer of each kind (a text, rows, latencies, places, triggers) as it was when it was asked for, also
  * over edits, until the next of its kind is asked for, or histdesk_forget. It is copied a part at a time: a .._copy call
  * takes the items from number `from` on, counted from 0, writes as many as there are and as `room` allows to `to`, and
- * answers how many that was. It answers 0 from the end on, where nothing was asked for, and without a desk. What is behind
+ * answers how many that was. It answers 0 from the end on, where nothing was asked for, and without a desk. What is after
  * the items in `to` stays as it was. It needs no memory and changes nothing.
  *
  *     for (uint64_t from = 0; (count = histdesk_rows_copy(&desk, from, rows, 64)) > 0; from += count)
@@ -33,7 +33,7 @@
  *
  * What the caller owes.
  * - A handle is all zero before its first call. Then only the library writes it, and no copy of it is used.
- * - One call at a time has a handle: it is used by the thread that made the desk, or behind one lock. Desks have nothing
+ * - One call at a time has a handle: it is used by the thread that made the desk, or after one lock. Desks have nothing
  *   in common, so each thread may have its own.
  * - No pointer is null, also where its length or room is 0: any other pointer does then. Each points to as much as is
  *   said, and what a call reads and what it writes don't overlap. Lengths are at most PTRDIFF_MAX.
@@ -55,7 +55,7 @@ typedef struct histdesk {
     void *at;
 } histdesk;
 
-/* Codes of calls. 1 to 17 are the numbers behind `refused` in the output of scripts. */
+/* Codes of calls. 1 to 17 are the numbers after `refused` in the output of scripts. */
 enum {
     HISTDESK_OK = 0,
     HISTDESK_MEMORY = 1,             /* memory ran out */
@@ -97,7 +97,7 @@ enum {
     HISTDESK_TEXT = 3    /* text is the field's text */
 };
 
-/* The name of a task, or a state: `length` bytes; those behind them are zero, of which there may be none. */
+/* The name of a task, or a state: `length` bytes; those after them are zero, of which there may be none. */
 typedef struct histdesk_name {
     uint8_t bytes[31];
     uint8_t length;
@@ -311,7 +311,7 @@ void histdesk_forget(histdesk *desk);
 
 /* ---- Refusals. */
 
-/* Why the last edit or question was refused: the last call with a code, but for histdesk_new, histdesk_report_of and this
+/* Why the last edit or question was refused: the last call with a code, except for histdesk_new, histdesk_report_of and this
  * one. Never HISTDESK_MEMORY. */
 uint32_t histdesk_refused(histdesk *desk, histdesk_refusal *refusal);
 

@@ -59,7 +59,7 @@ while (($# > 0)); do
         shift 3
         ;;
     --vmlinuz | --keep)
-        [[ -n ${2-} ]] || stop "$1 needs a word behind it; --help says more"
+        [[ -n ${2-} ]] || stop "$1 needs a word after it; --help says more"
         [[ $1 == --keep ]] && keep=$2 || vmlinuz=$2
         shift 2
         ;;

@@ -34,7 +34,7 @@ while (($# > 0)); do
         exit 0
         ;;
     --tracefs | --seconds | --seed | --keep)
-        [[ -n ${2-} ]] || stop "$1 needs a word behind it; --help says more"
+        [[ -n ${2-} ]] || stop "$1 needs a word after it; --help says more"
         declare "${1#--}=$2"
         shift 2
         ;;
@@ -69,7 +69,7 @@ rounds() {
     done
 }
 
-# Writes a script over the trace: triggers, answers, twenty edits, the same answers. Behind each command stands one that
+# Writes a script over the trace: triggers, answers, twenty edits, the same answers. After each command stands one that
 # is refused, so that each command's output can be told.
 write_script() {
     python3 - "$folder/trace" "$seed" >"$folder/script" <<'PY'

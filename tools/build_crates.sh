@@ -4,7 +4,7 @@
 
 # What each crate of the repository stands on, its own crates and libraries of the kit.
 declare -A below=()
-# The crates of what is built, each behind those that it stands on.
+# The crates of what is built, each after those that it stands on.
 crates=()
 # The crates that are to be proved.
 declare -A stale=()
@@ -29,7 +29,7 @@ is_own() {
     [[ -n ${below[$1]+listed} ]]
 }
 
-# Adds a crate to `crates`, behind those that it stands on.
+# Adds a crate to `crates`, after those that it stands on.
 add_crate() {
     local dep
     if [[ " ${crates[*]} " == *" $1 "* ]] || ! is_own "$1"; then

@@ -1,6 +1,6 @@
 # shellcheck shell=bash disable=SC2154 # what tools/build and build_crates.sh set
 # build_jobs.sh: how tools/build proves and builds crates side by side, what it says meanwhile, and how it ends. It reads this
-# file behind build_crates.sh, and sets `root`, `out`, `took`, `log`, `kit`, `called` and `work`, a folder of this build's own.
+# file after build_crates.sh, and sets `root`, `out`, `took`, `log`, `kit`, `called` and `work`, a folder of this build's own.
 
 # The crates that are being proved, by their group of processes; and since when.
 declare -A running=() since=()

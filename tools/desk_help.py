@@ -53,9 +53,9 @@ attach EVENT TRIGGER
   EVENT is one of {', '.join(ATTACHED)}.
   TRIGGER is hist: and parts with : between, and perhaps `if` and a filter (help filter):
 
-    keys=FIELD,..           one to three; behind a number .hex, .log2 or .buckets=N
+    keys=FIELD,..           one to three; after a number .hex, .log2 or .buckets=N
     vals=FIELD,..           what is summed, at most three: numbers, or $NAME of the trigger's own variable
-    sort=NAME,..            one or two: hitcount, a key or a value; .descending behind it
+    sort=NAME,..            one or two: hitcount, a key or a value; .descending after it
     size=N                  how many keys have room: 2048, or up to 131072
     NAME=common_timestamp.usecs           saves the stamp under the key
     NAME=common_timestamp.usecs-$OTHER    reads what another trigger saves: the difference is a latency
@@ -130,7 +130,7 @@ MORE: Dict[str, str] = {
     "unload": "unload C\n\n  Takes all events of CPU C away. Its line numbers begin at 1 again.\n",
     "insert": INSERT,
     "strike": "strike C:L\n\n  Takes line L of CPU C away. All tables are then as if it had never been there.\n",
-    "list": "list C\n\n  Shows the events of CPU C, each behind its place C:L.\n",
+    "list": "list C\n\n  Shows the events of CPU C, each after its place C:L.\n",
     "attach": ATTACH,
     "filter": FILTER,
     "remove": "remove ID\n\n  Removes a trigger. One whose variable another trigger reads is refused.\n",

@@ -113,7 +113,7 @@ class Prompt:
                 history.keep()
 
     def next_line(self) -> Optional[bytes]:
-        """The next line, without its end; None behind the last one. Ctrl-C drops what was typed of it."""
+        """The next line, without its end; None after the last one. Ctrl-C drops what was typed of it."""
         if not self.is_typed:
             line = sys.stdin.buffer.readline()
             return line.removesuffix(b"\n") if line else None
@@ -152,7 +152,7 @@ class Prompt:
             note(f"{TYPED}interrupted")
         except (OSError, ImportError, MemoryError, ValueError) as error:
             # What can't be written ends all. Whoever typed it may try something else; of a script no answer is to be believed
-            # behind a line that failed.
+            # after a line that failed.
             if isinstance(error, OSError) and not error.filename:
                 raise
             if not self.is_typed:
@@ -253,7 +253,7 @@ class Prompt:
 
 
 def bare(rest: str) -> None:
-    """Nothing stands behind the command. Raises `Refusal`."""
+    """Nothing stands after the command. Raises `Refusal`."""
     if rest:
         raise Refusal("refused 16")
 
@@ -288,7 +288,7 @@ def told_of(error: BaseException) -> str:
 
 
 def check_readable(path: str) -> None:
-    """Raises `OSError` where a trace can't be read, but for a pipe, which is opened once."""
+    """Raises `OSError` where a trace can't be read, except for a pipe, which is opened once."""
     if stat.S_ISREG(os.stat(path).st_mode) or os.path.isdir(path):
         with open(path, "rb"):
             pass

@@ -15,7 +15,7 @@ except ImportError:
     readline = None  # type: ignore[assignment]
 
 KEPT = 1000
-# Behind these a word of a trigger or a filter begins.
+# After these a word of a trigger or a filter begins.
 DELIMITERS = " \t,:=(.$!&|<>-@/"
 PARTS = ["keys=", "vals=", "sort=", "size=", "onmatch(sched."]
 MODIFIERS = ["hex", "log2", "buckets="]
@@ -90,18 +90,18 @@ def complete_by(known: Callable[[], Known]) -> None:
 
 
 def completions(before: str, begun: str, known: Known) -> List[str]:
-    """What the word that has begun may become, behind the line before it. A word that nothing follows has a space behind it."""
+    """What the word that has begun may become, after the line before it. A word that nothing follows has a space after it."""
     words = before.split()
     if not words:
         return [f"{word} " for word in known.commands if word.startswith(begun)]
-    word, behind = words[0], before.lstrip()[len(words[0]) :].lstrip()
+    word, after = words[0], before.lstrip()[len(words[0]) :].lstrip()
     if word == "load":
-        return loads(behind, begun, known)
+        return loads(after, begun, known)
     if word == "attach":
-        choices = of_attach(behind, known)
+        choices = of_attach(after, known)
     elif word == "filter" and len(words) > 1:
-        choices = of_filter(words, behind, known)
-    elif behind:
+        choices = of_filter(words, after, known)
+    elif after:
         return []
     elif word in ("hist", "lat", "totals", "remove", "filter"):
         choices = [str(id) for id in known.triggers]
@@ -112,20 +112,20 @@ def completions(before: str, begun: str, known: Known) -> List[str]:
     return [choice for choice in choices if choice.startswith(begun) and choice != begun]
 
 
-def loads(behind: str, begun: str, known: Known) -> List[str]:
+def loads(after: str, begun: str, known: Known) -> List[str]:
     """Numbers of traces, and paths."""
-    if behind.startswith("@") or not behind and not begun and known.traces:
-        front = "" if behind else "@"
+    if after.startswith("@") or not after and not begun and known.traces:
+        front = "" if after else "@"
         return [f"{front}{number}" for number in range(1, known.traces + 1) if str(number).startswith(begun)]
     # The word that has begun is the end of the path alone.
-    typed = os.path.expanduser(behind) + begun
+    typed = os.path.expanduser(after) + begun
     paths = [f"{path}/" if os.path.isdir(path) else path for path in glob.glob(glob.escape(typed) + "*")]
     return sorted(path[len(typed) - len(begun) :] for path in paths)
 
 
-def of_attach(behind: str, known: Known) -> List[str]:
+def of_attach(after: str, known: Known) -> List[str]:
     """The event, then the trigger."""
-    event, gap, trigger = behind.partition(" ")
+    event, gap, trigger = after.partition(" ")
     if not gap:
         return [f"{name} " for name in ATTACHED]
     trigger = trigger.lstrip(" ")
@@ -137,7 +137,7 @@ def of_attach(behind: str, known: Known) -> List[str]:
 
 
 def of_trigger(event: str, trigger: str, known: Known) -> List[str]:
-    """What may stand behind the beginning of a trigger's head."""
+    """What may stand after the beginning of a trigger's head."""
     part = trigger.rpartition(":")[2]
     kind, sign, rest = part.partition("=")
     if part.startswith("onmatch("):
@@ -165,9 +165,9 @@ def of_onmatch(event: str, part: str, own: Optional[str]) -> List[str]:
     return [name for name in fields_of(event) if name not in TEXT_FIELDS] if "," in part else []
 
 
-def of_filter(words: Sequence[str], behind: str, known: Known) -> List[str]:
+def of_filter(words: Sequence[str], after: str, known: Known) -> List[str]:
     """`if` or `none`, then the fields of the trigger's event."""
-    if len(words) == 2 and behind.endswith(" "):
+    if len(words) == 2 and after.endswith(" "):
         return ["if ", "none"]
     if len(words) < 3 or words[2] != "if" or not words[1].isdigit():
         return []

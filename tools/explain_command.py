@@ -29,7 +29,7 @@ ONMATCH_FORM = "onmatch(sched.EVENT).wakeup_latency($OWN,F,G)"
 
 
 def split_command(text: str) -> Tuple[str, str]:
-    """The first word, and the rest behind the gap."""
+    """The first word, and the rest after the gap."""
     word, _, rest = text.strip(" ").partition(" ")
     return word, rest.lstrip(" ")
 
@@ -40,7 +40,7 @@ def numbers_of(text: str) -> List[int]:
 
 
 def start_of_rest(text: str, words: int) -> int:
-    """Where the rest behind so many words begins, in a command without the spaces at its ends."""
+    """Where the rest after so many words begins, in a command without the spaces at its ends."""
     return len(beginning("[^ ]* *" * words, text.strip(" ")))
 
 
@@ -71,7 +71,7 @@ def matched_event(trigger: str) -> Optional[str]:
 
 
 def bad_command(asked: str, traces: Sequence[str], more: Iterable[str] = ()) -> Hint:
-    """Why the line is no command, behind a sign, and the place of the part that is wrong, if it is known. `more` are words of
+    """Why the line is no command, after a sign, and the place of the part that is wrong, if it is known. `more` are words of
     commands that a script doesn't have."""
     if len(asked) > 8192:
         return ": the line has more than 8,192 bytes", None
@@ -108,7 +108,7 @@ def bad_event(rest: str, at: int) -> Hint:
 
 
 def bad_load(rest: str, at: int, traces: Sequence[str]) -> Hint:
-    form = ": the form is load @N, with N the number of a TRACE behind the script"
+    form = ": the form is load @N, with N the number of a TRACE after the script"
     if re.fullmatch("@?[0-9]+", rest):
         if numbers_of(rest.lstrip("@")):
             return f"{form}; did you mean load @{rest}?", at
@@ -144,7 +144,7 @@ def bad_filter(form: str, rest: str, at: int) -> Hint:
     if not how:
         return form, at
     if re.match("none[^A-Za-z0-9_]", how):
-        return f"{form}, and nothing stands behind none", at
+        return f"{form}, and nothing stands after none", at
     meant = nearest(how, ["none"])
     if re.search("[=<>&~]", how):
         how = re.sub(r"^if\b[ \t]*", "", how)

@@ -1,4 +1,4 @@
-"""What explain says of the faults of trace lines, filters and triggers behind the library's words: what was meant, what may
+"""What explain says of the faults of trace lines, filters and triggers after the library's words: what was meant, what may
 stand there, and which tool turns the text. Each hint begins with a sign. Texts are Latin-1, a character a byte."""
 
 import re
@@ -124,7 +124,7 @@ def bad_form(text: str, place: int) -> str:
     if not head.startswith("hist:"):
         return "a trigger begins with hist:" + wrong_begin(text, head)
     if place > len(head):
-        return "behind the head stands if and a filter, or nothing; the head itself holds no spaces"
+        return "after the head stands if and a filter, or nothing; the head itself holds no spaces"
     if place == len(head) and not re.search(":keys?=", head):
         return "it has no keys"
     before = head[:place]

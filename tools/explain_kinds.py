@@ -47,7 +47,7 @@ def kind_of(path: str, data: bytes, unpacks: bool = False) -> Optional[str]:
 
 def is_trace(data: bytes) -> bool:
     """Whether a text that begins so looks like a trace: it has the header's first line, or its first line that is no comment is
-    an event's. `insert` has a trace line behind it."""
+    an event's. `insert` has a trace line after it."""
     for line in data.split(b"\n"):
         if line.startswith(b"# tracer: "):
             return True

@@ -46,7 +46,7 @@ class Refusals:
             self.triggers.pop(int(text.split()[1]), None)
 
     def explained(self, front: str, asked: str, text: str, path: Optional[str] = None) -> List[str]:
-        """The lines that say what a refusal means: behind `front` the command with the library's words and a hint, and more
+        """The lines that say what a refusal means: after `front` the command with the library's words and a hint, and more
         lines that show the place. `path` is the trace that the command loads, where it isn't named by its number."""
         command = asked.strip(" ")
         try:
@@ -62,7 +62,7 @@ class Refusals:
             meaning, *line = self.bad_trace(path, words, told)
             return [*self.told(front, command, None, meaning), *line]
         if told["refused"] in UNREADABLE:
-            # What is wrong with the command's text stands behind what it is.
+            # What is wrong with the command's text stands after what it is.
             words = words.partition(": ")[2]
         hint, place = self.hint(asked, told)
         return self.told(front, command, place, words + hint)
@@ -126,7 +126,7 @@ class Refusals:
     def traces_named(self) -> str:
         """How many traces there are."""
         if not self.traces:
-            return "no trace is named behind the script"
+            return "no trace is named after the script"
         count = len(self.traces)
         return "the only trace is @1" if count == 1 else f"the traces are @1 to @{count}"
 

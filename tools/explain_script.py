@@ -11,10 +11,10 @@ from explain_refusals import Refusals
 LONGEST = 8192
 LATENCY = re.compile(r"[0-9]+:[0-9]+ -> [0-9]+:[0-9]+: [0-9]+ us")
 LISTED = re.compile(r"([0-9]+):([0-9]+) .*", re.DOTALL)
-# What histwatch prints of a row behind an accepted insert or strike, and last of how many rows.
+# What histwatch prints of a row after an accepted insert or strike, and last of how many rows.
 ROW = re.compile(r"[-+] [0-9]+ \{ .*")
 CHANGED = re.compile(r"changed [0-9]+")
-# How the accepted answer of a command begins, but for `list`.
+# How the accepted answer of a command begins, except for `list`.
 BEGINS = {
     "load": "loaded ",
     "attach": "attached ",
@@ -71,7 +71,7 @@ class Walk:
         self.count = 0
 
     def take(self, line: bytes) -> List[str]:
-        """The texts to be printed behind a line of the output."""
+        """The texts to be printed after a line of the output."""
         self.count += 1
         text = line.removesuffix(b"\n").decode("latin-1")
         if self.lost or self.goes_on(text):
@@ -122,7 +122,7 @@ class Walk:
         return True
 
     def answers(self, asked: str, text: str) -> bool:
-        """Whether the line answers the command, as an accepted one; what goes on behind it is then expected."""
+        """Whether the line answers the command, as an accepted one; what goes on after it is then expected."""
         word, _ = split_command(asked)
         if word == "list":
             return self.listed is not None

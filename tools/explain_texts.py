@@ -65,13 +65,13 @@ def nearest(word: str, choices: Sequence[str]) -> Optional[str]:
 
 
 def near(word: str, choices: Iterable[str]) -> str:
-    """The question behind a meaning, whether that choice was meant; nothing where none is close."""
+    """The question after a meaning, whether that choice was meant; nothing where none is close."""
     found = nearest(word, list(choices))
     return f"; did you mean {found}?" if found and found != word else ""
 
 
 def field_meant(word: str, event: Optional[str]) -> str:
-    """What is said behind an unknown field of an event: who has it, and which was meant or which there are."""
+    """What is said after an unknown field of an event: who has it, and which was meant or which there are."""
     if event is None:
         return ""
     # All wake events have the same fields.

@@ -57,7 +57,7 @@ def in_part(event: str, part: str, fault: int, seen: Dict[str, List[str]]) -> Op
 
 
 def in_onmatch(event: str, words: Any, fault: int, seen: Dict[str, List[str]]) -> Optional[Found]:
-    """The place in an onmatch part, and what is said of it, or None; its variable is tested behind all parts."""
+    """The place in an onmatch part, and what is said of it, or None; its variable is tested after all parts."""
     if fault == 6 and "onmatch" in seen:
         return 0, ": this is the second part of its form"
     seen["onmatch"] = []
@@ -81,7 +81,7 @@ def in_item(event: str, kind: str, item: str, fault: int, before: List[str]) -> 
         return "" if (name in names if kind != "vals" else item in before) else None
     if kind == "sort":
         if fault == 8 and modifier not in ("", "ascending", "descending"):
-            return f": behind the name stands .ascending or .descending{near(modifier, ['ascending', 'descending'])}"
+            return f": after the name stands .ascending or .descending{near(modifier, ['ascending', 'descending'])}"
         return None
     is_unknown = not name.startswith("$") and name not in fields_of(event) and name != "hitcount" * (kind == "vals")
     if fault == 3 and is_unknown:

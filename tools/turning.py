@@ -38,7 +38,7 @@ class Form:
     pattern = None
     # What prints the text, and what to do where it has another layout.
     name = advice = ""
-    # The tool that reads a recording, and the words that make it print the text of one, but for its path.
+    # The tool that reads a recording, and the words that make it print the text of one, except for its path.
     tool, command = "", ()
     # Whether nothing may be printed before the end is known.
     holds_back = False
@@ -61,7 +61,7 @@ class Form:
         raise NotImplementedError
 
     def may_follow(self, text, piece):
-        """Whether a piece may stand behind a line break in a name of `text`, which begins a line; with None whether `text` may
+        """Whether a piece may stand after a line break in a name of `text`, which begins a line; with None whether `text` may
         begin such a line."""
         raise NotImplementedError
 
@@ -101,11 +101,11 @@ class Turner:
         odd = [at for at, line in enumerate(turned) if line == self.odd] if self.odd in turned else []
         if len(odd) < len(turned):
             self.told.has_turned = True
-        end, behind = len(turned), 0
+        end, after = len(turned), 0
         for at in odd:
             try:
-                if at >= behind:
-                    behind = at + self.turn_odd(found, turned, at, is_last)
+                if at >= after:
+                    after = at + self.turn_odd(found, turned, at, is_last)
             except Waiting:
                 end = at
                 break
@@ -318,7 +318,7 @@ def main(own, usage, form, options=()):
         if word not in values:
             raise SystemExit(f"{own}: no such option: {word}; --help says more")
         if not words:
-            raise SystemExit(f"{own}: {word} needs a word behind it; --help says more")
+            raise SystemExit(f"{own}: {word} needs a word after it; --help says more")
         values[word] = words.pop(0)
     if len(words) > 1:
         raise SystemExit(f"{own}: wants one FILE at most; --help says more")

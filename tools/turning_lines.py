@@ -12,24 +12,24 @@ _SPEC = importlib.util.spec_from_file_location("histdesk_lines", _PATH)
 desk = importlib.util.module_from_spec(_SPEC)
 _SPEC.loader.exec_module(desk)
 
-# What stands behind a stamp and its blanks, with the line break, as one group. What is torn of the four events doesn't match.
+# What stands after a stamp and its blanks, with the line break, as one group. What is torn of the four events doesn't match.
 REST = rb"((?:sched_(?:switch:[ ]{1,64}%b|wak(?:ing|eup(?:_new)?):[ ]{1,64}%b)|(?!sched:|%b:)[^ \n]{1,64}:[^\n]{0,2048})\n)" % (
     desk.SWITCH,
     desk.WAKE,
     desk.LABELS,
 )
-# A stamp of six or nine digits, as two groups: all digits but the sixth behind the point, then that one, and the next one too
+# A stamp of six or nine digits, as two groups: all digits but the sixth after the point, then that one, and the next one too
 # where there are nine.
 STAMP = rb"([0-9]{1,9}\.[0-9]{5})([0-9](?=:)|[0-9]{2}(?=[0-9]{2}:))[0-9]*:"
 # An odd line, as one group: one that isn't plain.
 ODD = rb"|^([^\n]*)\n"
 # What stands for the second group of a stamp, rounded as the kernel rounds; from 95 on `carried` is asked.
-ROUNDED = {b"%d%d" % (digit, behind): b"%d" % (digit + (behind >= 5)) for digit in range(10) for behind in range(10)}
+ROUNDED = {b"%d%d" % (digit, after): b"%d" % (digit + (after >= 5)) for digit in range(10) for after in range(10)}
 ROUNDED.update({b"": b"", **{b"%d" % digit: b"%d" % digit for digit in range(10)}})
 CARRIED = b"95"
 
 OWN = re.compile(desk.LABELS)
-# As the desk cuts a line: the task ends at the first dash behind which the rest has its form.
+# As the desk cuts a line: the task ends at the first dash after which the rest has its form.
 TASK = re.compile(rb"(.*?)-[0-9]+ +(?:\( *[0-9-]+\) +)?\[[0-9]+\] ", re.DOTALL)
 WAKE = re.compile(rb"(comm=)(.*)( pid=-?[0-9]+ prio=-?[0-9]+(?: success=-?[0-9]+)? target_cpu=[0-9]+ *)", re.DOTALL)
 SWITCH = re.compile(

@@ -23,14 +23,14 @@ class Counted(NamedTuple):
 
 
 class Row(NamedTuple):
-    """A task and a kind of waits of which one has changed, and what is counted of them, before and behind; None where there are
+    """A task and a kind of waits of which one has changed, and what is counted of them, before and after; None where there are
     none."""
 
     task: str
     pid: int
     kind: str
     before: Optional[Counted]
-    behind: Optional[Counted]
+    after: Optional[Counted]
 
 
 def fate_of(ended: Ended, at: Any) -> Fate:
@@ -47,8 +47,8 @@ def rows_of(ended: Ended, at: Any) -> List[Row]:
     keys = numpy.unique(numpy.concatenate([keys_of(ended, side, at[side.begin[at] >= 0]) for side in sides]))
     ends = numpy.flatnonzero(numpy.isin(ended.pid, keys >> 2))
     names = last_names(ended, ends)
-    before, behind = (counted(ended, side, ends) for side in sides)
-    return [Row(names[key >> 2], key >> 2, KINDS[key & 3], before.get(key), behind.get(key)) for key in keys.tolist()]
+    before, after = (counted(ended, side, ends) for side in sides)
+    return [Row(names[key >> 2], key >> 2, KINDS[key & 3], before.get(key), after.get(key)) for key in keys.tolist()]
 
 
 def keys_of(ended: Ended, found: Found, at: Any) -> Any:

@@ -194,7 +194,7 @@ class Counts:
     def _sums(self, numbers: Any) -> Any:
         """The sums of some numbers, one for each pair of the columns, by key."""
         numpy = needed()
-        # Where the columns of each key begin, and behind them their length.
+        # Where the columns of each key begin, and after them their length.
         bounds = self._columns.key.searchsorted(numpy.arange(len(self.keys) + 1))
         return numpy.diff(numpy.concatenate([[0], numbers.cumsum()])[bounds])
 

@@ -25,7 +25,7 @@ ALWAYS = "common_cpu >= 0"
 # What rows may be sorted by, and the title of its changes.
 TITLES = {"waited": "change of waited/s", "max": "change of max"}
 SORTS = tuple(TITLES)
-SIDES = ("before", "behind")
+SIDES = ("before", "after")
 # So many rows are shown in a notebook or at a prompt.
 SHOWN = 20
 MICROS = 1_000_000
@@ -51,16 +51,16 @@ class Figures(NamedTuple):
 
 
 class DifferenceRow(NamedTuple):
-    """What is counted under a key, before and behind."""
+    """What is counted under a key, before and after."""
 
     key: Key
     before: Figures
-    behind: Figures
+    after: Figures
 
     def change(self, figure: str) -> float:
         """By how much a figure grew; one that is None counts as 0."""
-        before, behind = (getattr(side, figure) or 0 for side in (self.before, self.behind))
-        grown: float = behind - before
+        before, after = (getattr(side, figure) or 0 for side in (self.before, self.after))
+        grown: float = after - before
         return grown
 
 
@@ -94,7 +94,7 @@ class Difference:
 
     | Form | What it gives |
     |---|---|
-    | `difference.before`, `difference.behind` | the `Waits` of both sides |
+    | `difference.before`, `difference.after` | the `Waits` of both sides |
     | `difference.struck` | what was taken away, a `Struck` for each of `without`; None for two recordings |
     | `difference.fate` | what became of the waits then, as a `Fate`; None for two recordings |
     | `difference.whole()` | a `DifferenceRow` of all waits together |
@@ -103,8 +103,8 @@ class Difference:
     | `difference.to_pandas("name")` | a DataFrame of that table |
     """
 
-    def __init__(self, before: Waits, behind: Waits, struck: Optional[Sequence[Struck]] = None) -> None:
-        self.before, self.behind = before, behind
+    def __init__(self, before: Waits, after: Waits, struck: Optional[Sequence[Struck]] = None) -> None:
+        self.before, self.after = before, after
         self.struck = None if struck is None else tuple(struck)
 
     @property
@@ -117,14 +117,14 @@ class Difference:
     def seconds(self) -> Tuple[float, float]:
         """How long both recordings are, from the first event that was taken to the last one. Without some events, a recording
         is as long as with them."""
-        before, behind = (((side.held.last or 0) - (side.held.first or 0)) / MICROS for side in (self.before, self.behind))
-        return before, before if self.struck is not None else behind
+        before, after = (((side.held.last or 0) - (side.held.first or 0)) / MICROS for side in (self.before, self.after))
+        return before, before if self.struck is not None else after
 
     def only(self, *, kinds: Optional[Collection[str]] = None, cpus: Optional[Collection[int]] = None) -> Difference:
         """That of the waits of these kinds, and of those that ended on these CPUs; None is all. Raises `ValueError` of another
         kind."""
-        before, behind = (side.only(kinds=kinds, cpus=cpus) for side in (self.before, self.behind))
-        return Difference(before, behind, self.struck)
+        before, after = (side.only(kinds=kinds, cpus=cpus) for side in (self.before, self.after))
+        return Difference(before, after, self.struck)
 
     # ---- the answers
 
@@ -133,16 +133,16 @@ class Difference:
         """What became of the waits, where some events were taken away."""
         if self.struck is None:
             return None
-        before, behind = self.before.array, self.behind.array
-        ends = [numbered(side.end_cpu, side.end_line) for side in (before, behind)]
+        before, after = self.before.array, self.after.array
+        ends = [numbered(side.end_cpu, side.end_line) for side in (before, after)]
         _, old, new = needed().intersect1d(*ends, assume_unique=True, return_indices=True)
-        begins = [numbered(side.begin_cpu, side.begin_line) for side in (before[old], behind[new])]
-        return Fate(len(before) - len(old), int((begins[0] != begins[1]).sum()), len(behind) - len(new))
+        begins = [numbered(side.begin_cpu, side.begin_line) for side in (before[old], after[new])]
+        return Fate(len(before) - len(old), int((begins[0] != begins[1]).sum()), len(after) - len(new))
 
     def whole(self, *, above: Optional[int] = None) -> DifferenceRow:
         """What is counted of all waits together. `above` is that of `table`."""
-        before, behind = self._sides("kind", above, together=True)
-        return DifferenceRow((), before.figures(()), behind.figures(()))
+        before, after = self._sides("kind", above, together=True)
+        return DifferenceRow((), before.figures(()), after.figures(()))
 
     def table(self, by: Optional[str] = None, *, sort: str = "waited", above: Optional[int] = None) -> List[DifferenceRow]:
         """What is counted under each key for which something changed; `names` says what a key's parts are.
@@ -154,13 +154,13 @@ class Difference:
         if sort not in SORTS:
             raise ValueError(f"rows aren't sorted by {sort!r}; they are by {' or '.join(SORTS)}")
         by = by or self.by
-        before, behind = self._sides(by, above)
-        rows = [DifferenceRow(key, before.figures(key), behind.figures(key)) for key in {**before.rows, **behind.rows}]
-        changed = [row for row in rows if row.before[:-1] != row.behind[:-1]]
+        before, after = self._sides(by, above)
+        rows = [DifferenceRow(key, before.figures(key), after.figures(key)) for key in {**before.rows, **after.rows}]
+        changed = [row for row in rows if row.before[:-1] != row.after[:-1]]
         changed.sort(key=lambda row: (-abs(row.change(sort)), row.key))
         if by != "task":
             return changed
-        names = {**self.behind._last_names(), **self.before._last_names()}
+        names = {**self.after._last_names(), **self.before._last_names()}
         return [row._replace(key=(names[int(row.key[0])], *row.key)) for row in changed]
 
     def names(self, by: Optional[str] = None) -> Tuple[str, ...]:
@@ -169,7 +169,7 @@ class Difference:
 
     def _sides(self, by: str, above: Optional[int], together: bool = False) -> List[Counted]:
         """What is counted on both sides."""
-        counts = [side.counts(by) for side in (self.before, self.behind)]
+        counts = [side.counts(by) for side in (self.before, self.after)]
         return [Counted(one.by() if together else one, length, above) for one, length in zip(counts, self.seconds)]
 
     def to_pandas(self, by: Optional[str] = None, *, sort: str = "waited", above: Optional[int] = None) -> Any:
@@ -187,25 +187,25 @@ class Difference:
 
     def lines(self) -> List[str]:
         """What is compared, and what is to be known before the numbers are believed, a line each."""
-        before, behind = (
+        before, after = (
             [f"{side.path}: {of(side.held)}" if side.path else of(side.held), *side.remarks()]
-            for side in (self.before, self.behind)
+            for side in (self.before, self.after)
         )
         if self.struck is None:
-            told = [*(f"before: {line}" for line in before), *(f"behind: {line}" for line in behind)]
+            told = [*(f"before: {line}" for line in before), *(f"after: {line}" for line in after)]
         else:
             told = [*before, *(f"without {one}" for one in self.struck), str(self.fate)]
-        doubts = [side.doubtful for side in (self.before, self.behind)]
+        doubts = [side.doubtful for side in (self.before, self.after)]
         if any(doubts):
             told.append(
-                f"doubtful waits are left out, {doubts[0]} before and {doubts[1]} behind: events were lost in their time"
+                f"doubtful waits are left out, {doubts[0]} before and {doubts[1]} after: events were lost in their time"
             )
         return list(map(_shown.shown, told))
 
     def _told(self) -> Tuple[List[str], _shown.Table, List[str]]:
         """What is shown: lines, the table, and what was lost."""
         table = table_of(self, self.table(), most=SHOWN)
-        sides = [("before: ", self.before), ("behind: ", self.behind)] if self.struck is None else [("", self.before)]
+        sides = [("before: ", self.before), ("after: ", self.after)] if self.struck is None else [("", self.before)]
         return self.lines(), table, [f"{name}{side.warning}" for name, side in sides if side.warning]
 
     def __repr__(self) -> str:
@@ -237,7 +237,7 @@ COLUMNS = [f"{name}_{side}" for name in Figures._fields for side in SIDES]
 
 def flat(row: DifferenceRow) -> List[Any]:
     """A row's key, and its figures in the order of `COLUMNS`."""
-    return [*row.key, *(figure for pair in zip(row.before, row.behind) for figure in pair)]
+    return [*row.key, *(figure for pair in zip(row.before, row.after) for figure in pair)]
 
 
 # ---- as people read it
@@ -262,7 +262,7 @@ def percent(share: float) -> str:
 
 
 def columns_of(difference: Difference, above: Optional[int]) -> List[Column]:
-    """The columns behind the key."""
+    """The columns after the key."""
     is_one = difference.struck is not None
     counted = Column("waits", "count") if is_one else Column("waits/s", "per_second", rate)
     share = [] if above is None else [Column(f"above {above}", "above", "{:.3%}".format)]
@@ -298,25 +298,25 @@ def changes_of(rows: Sequence[DifferenceRow], sort: str) -> List[str]:
 
 
 def figures_of(row: DifferenceRow, column: Column) -> Tuple[str, str]:
-    """A figure before and behind, as it is shown."""
-    figures = [getattr(side, column.figure) for side in (row.before, row.behind)]
-    before, behind = ("-" if figure is None else column.form(figure) for figure in figures)
-    return before, behind
+    """A figure before and after, as it is shown."""
+    figures = [getattr(side, column.figure) for side in (row.before, row.after)]
+    before, after = ("-" if figure is None else column.form(figure) for figure in figures)
+    return before, after
 
 
 def paired(pairs: Sequence[Tuple[str, str]]) -> List[str]:
     """The cells of a column: both sides below each other, and one number where they are the same."""
     left, right = (max(map(len, side)) for side in zip(*pairs))
     return [
-        f"{behind:>{left + 4 + right}}" if before == behind else f"{before:>{left}} -> {behind:>{right}}"
-        for before, behind in pairs
+        f"{after:>{left + 4 + right}}" if before == after else f"{before:>{left}} -> {after:>{right}}"
+        for before, after in pairs
     ]
 
 
 # ---- how it is found
 
 
-def diff(before: Side, behind: Optional[Side] = None, *, without: Union[str, Iterable[str]] = ()) -> Difference:
+def diff(before: Side, after: Optional[Side] = None, *, without: Union[str, Iterable[str]] = ()) -> Difference:
     """How waits changed from one recording to another: `diff("old.trace", "new.trace")`; or in one recording without some of
     its events: `diff("my.trace", without="sched_waking if common_pid == 0")`.
 
@@ -328,10 +328,10 @@ def diff(before: Side, behind: Optional[Side] = None, *, without: Union[str, Ite
     Raises what `waits` raises; `ValueError` where there is neither another side nor `without`, or both, and where `without`
     names an event with which no wait begins or ends; and `Refused` with number 9 where a filter can't be read."""
     filters = [without] if isinstance(without, str) else list(without)
-    if (behind is None) == (not filters):
+    if (after is None) == (not filters):
         raise ValueError("a difference is one between two recordings, or of one without some events")
-    if behind is not None:
-        return Difference(waits_on(before), waits_on(behind))
+    if after is not None:
+        return Difference(waits_on(before), waits_on(after))
     if isinstance(before, (Desk, Waits)):
         raise TypeError("events are taken away from a recording: a trace, or what read() has read")
     return diff_without(before, [parsed(text) for text in filters])
@@ -371,8 +371,8 @@ def diff_without(trace: Union[Trace, Recording], chosen: Sequence[Tuple[str, Opt
         places = [desk.matching(event, condition or ALWAYS) for event, condition in chosen]
         counts = [len(desk.matching(event, ALWAYS)) for event, _ in chosen]
         strike(desk, places)
-        behind = waits_of(desk, recording)
-    return Difference(before, behind, [Struck(*one, len(found), count) for one, found, count in zip(chosen, places, counts)])
+        after = waits_of(desk, recording)
+    return Difference(before, after, [Struck(*one, len(found), count) for one, found, count in zip(chosen, places, counts)])
 
 
 def strike(desk: Desk, places: Sequence[Any]) -> None:

@@ -16,7 +16,7 @@ from ._waits import FIELDS, KINDS, About, Held, Waits, chosen, doubts, places_of
 
 
 class Places:
-    """A number for each event that a desk holds, in order of CPUs and lines; `total` is behind the last one. `stamps` has the
+    """A number for each event that a desk holds, in order of CPUs and lines; `total` is after the last one. `stamps` has the
     stamp of each.
 
     An event that was struck and is put back has another line on the desk, and its old number."""
@@ -77,7 +77,7 @@ class Places:
         return [(cpu, self._lines.get(number, line)) for number, cpu, line in rows]
 
     def put_back(self, number: int, cpu: int) -> None:
-        """Takes note that an event was put back, and stands on a new line of its CPU, behind all others."""
+        """Takes note that an event was put back, and stands on a new line of its CPU, after all others."""
         again = self._again.setdefault(cpu, [])
         again.append(number)
         self._lines[number] = int(self._counts[cpu]) + len(again)

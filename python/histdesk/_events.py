@@ -13,7 +13,7 @@ COMMON_NUMBERS = ("stamp", "cpu", "line", "common_pid")
 NAMES = ("task", "comm", "prev_comm", "prev_state")
 # What a table of events shows of each.
 SHOWN = ("stamp", "cpu", "line", "name", "task", "common_pid", "comm", "pid", "prio")
-# The last field of the common part; the fields behind it are of some names alone.
+# The last field of the common part; the fields after it are of some names alone.
 COMMON = Event._fields.index("common_pid")
 # Odd numbers, by which the parts of a name are mixed.
 MIX = (0x9E3779B97F4A7C15, 0xC2B2AE3D27D4EB4F, 0x165667B19E3779F9, 0x27D4EB2F165667C5)
@@ -28,7 +28,7 @@ class Events(Sequence[Event]):
     | `events[2:9]` | `Events` |
     | `events["pid"]` | one field of all: a numpy array of numbers where numpy is there, else a list; names as a list of `str` |
     | `events.array` | a numpy record array over the same memory: numbers as they are held, 0 where an event has no such \
-field; names as bytes, behind each its length |
+field; names as bytes, after each its length |
     | `events.to_pandas()` | a DataFrame |
 
     >>> desk = Desk()
@@ -170,7 +170,7 @@ def coded(array: Any, field: str) -> Tuple[Any, Any]:
     """The different texts of a name of all events, as an array, and which one each event has. Each is decoded once."""
     numpy = _layout.numpy()
     count, at = len(array), array.dtype.fields[field][1]
-    # The 31 bytes and the length behind them, as four numbers; names are the same where all four are.
+    # The 31 bytes and the length after them, as four numbers; names are the same where all four are.
     structs = numpy.ascontiguousarray(array).view("u1").reshape(count, _layout.EVENT.size)
     names = numpy.ascontiguousarray(structs[:, at : at + 32])
     numbers = names.view("u8")

@@ -129,13 +129,13 @@ def latency_type() -> Any:
 
 @functools.lru_cache(maxsize=None)
 def event_type() -> Any:
-    """An event, for numpy: the names as 31 bytes with their lengths behind them, and the end filled up as in C."""
+    """An event, for numpy: the names as 31 bytes with their lengths after them, and the end filled up as in C."""
     return numpy().dtype(EVENT_FIELDS, align=True)
 
 
 @functools.lru_cache(maxsize=None)
 def name_struct(field: str) -> struct.Struct:
-    """An event's name and one of its texts, with the length behind it."""
+    """An event's name and one of its texts, with the length after it."""
     at = TEXTS_AT[field]
     return struct.Struct(f"={NAME_AT}xI{at - NAME_AT - 4}x{NAME_CODE}{EVENT.size - at - 32}x")
 

@@ -18,7 +18,7 @@ Count = ctypes.POINTER(Wide)
 TEXT = [ctypes.c_char_p, Size]
 ROOM = [Wide, ctypes.c_void_p, Size]
 
-# What each call answers, and what it takes behind the desk.
+# What each call answers, and what it takes after the desk.
 CALLS: Dict[str, Tuple[Any, List[Any]]] = {
     "histdesk_new": (Code, []),
     "histdesk_free": (None, []),

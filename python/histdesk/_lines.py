@@ -15,14 +15,14 @@ WAKE = rb"comm=%(name)b[ ]pid=%(number)b[ ]prio=%(number)b(?:[ ]success=%(number
     b"name": _NAME,
     b"number": _NUMBER,
 }
-"""The fields of a waking, behind their label and its colon."""
-# The name behind the arrow holds no `>`, so the arrow is the last one.
+"""The fields of a waking, after their label and its colon."""
+# The name after the arrow holds no `>`, so the arrow is the last one.
 SWITCH = (
     rb"prev_comm=%(name)b[ ]prev_pid=%(number)b[ ]prev_prio=%(number)b[ ]prev_state=[^ \n]{1,31}"
     rb"[ ]==>[ ]next_comm=[^>\n]{0,31}[ ]next_pid=%(number)b[ ]next_prio=%(number)b[ ]{0,64}"
 ) % {b"name": _NAME, b"number": _NUMBER}
 """The fields of a switch."""
-# The first `[` is that of the CPU, so the dash before it is the only one with the form of a task's end behind it. A first word
+# The first `[` is that of the CPU, so the dash before it is the only one with the form of a task's end after it. A first word
 # without `:` is that of the flags.
 _FRONT = (
     rb"(?!\#)[ ]{0,32}[^\[\n]{0,31}-[0-9]{1,9}[ ]{1,64}(?:\([ ]{0,32}[0-9-]{1,16}\)[ ]{1,64})?"

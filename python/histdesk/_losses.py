@@ -14,7 +14,7 @@ Text = Union[bytes, bytearray, mmap.mmap]
 # The kernel's header, which stands at the top.
 HEADER = re.compile(rb"^# entries-in-buffer/entries-written: *([0-9]+)/([0-9]+)", re.MULTILINE)
 HEADER_ROOM = 65536
-# What tools/record writes behind the kernel's text of each CPU, where some have lost events by it.
+# What tools/record writes after the kernel's text of each CPU, where some have lost events by it.
 OVERWRITTEN = re.compile(rb"^# CPU ([0-9]+): ([0-9]+) events overwritten$", re.MULTILINE)
 # The two lines that tell of a loss; what each begins with or holds, and a byte of it that other lines seldom have.
 STARTED = re.compile(rb"##### CPU ([0-9]+) buffer started ####")
@@ -25,7 +25,7 @@ ROOM = 4096
 NEWLINE = 10
 # So many bytes the processor's caches hold.
 PIECE = 1 << 18
-# An event's CPU and its stamp. What stands in brackets and has a stamp behind it is the CPU: no name has room for both.
+# An event's CPU and its stamp. What stands in brackets and has a stamp after it is the CPU: no name has room for both.
 EVENT = rb"\[0*(%s)\] +(?:[^ :\n]+ +)?([0-9]{1,10})\.([0-9]{6}):"
 
 
@@ -37,7 +37,7 @@ class Hole(NamedTuple):
     """A stretch of time in which events of a CPU were lost. Stamps are in microseconds.
 
     `after` is the stamp of the CPU's last event before it, or None where it begins with the recording; `before` that of the
-    first event behind it, or None where it lasts to the end. `lost` says how many events they were, where the text tells it,
+    first event after it, or None where it lasts to the end. `lost` says how many events they were, where the text tells it,
     and `line` which line of the text, from 1, tells of it."""
 
     cpu: int
@@ -103,7 +103,7 @@ def few_lost(torn: Dict[int, List[Hole]]) -> List[str]:
 
 
 class Mark(NamedTuple):
-    """A line that tells of a loss: its first byte and the one behind it, its number, the CPU, how many events they are, and
+    """A line that tells of a loss: its first byte and the one after it, its number, the CPU, how many events they are, and
     whether it says that a buffer begins."""
 
     start: int
@@ -171,7 +171,7 @@ def losses_of(text: Text) -> Losses:
 
 
 def counted(text: Text, holes: List[Hole]) -> Iterator[Hole]:
-    """The holes, but for those before the first event of a CPU of which the text says that it has overwritten none."""
+    """The holes, except for those before the first event of a CPU of which the text says that it has overwritten none."""
     end = bytes(text[max(len(text) - HEADER_ROOM, 0) :])
     known = {int(cpu): int(count) for cpu, count in OVERWRITTEN.findall(end)}
     for hole in holes:
@@ -218,7 +218,7 @@ class Near:
         self.text = text
         # So many bytes may be looked at.
         self.left = 2 * len(text) + 64 * ROOM
-        # Of each CPU the last hole, and where the event behind it begins; the text's end where there is none.
+        # Of each CPU the last hole, and where the event after it begins; the text's end where there is none.
         self.known: Dict[int, Tuple[Hole, int]] = {}
 
     def holes(self, marks: List[Mark]) -> List[Hole]:
@@ -226,15 +226,15 @@ class Near:
         return [self.hole(mark) for mark in marks]
 
     def hole(self, mark: Mark) -> Hole:
-        """The hole of a line, which stands behind those that were asked for before."""
+        """The hole of a line, which stands after those that were asked for before."""
         last, at = self.known.get(mark.cpu, (None, 0))
         if last and mark.start < at:
             return last._replace(lost=mark.lost, line=mark.line)
         pattern = event_of(b"%d" % mark.cpu)
         before = self.last(pattern, at, mark.start)
-        behind = self.first(pattern, mark.end)
-        hole = Hole(mark.cpu, stamp_of(before) if before else None, stamp_of(behind) if behind else None, mark.lost, mark.line)
-        self.known[mark.cpu] = hole, behind.start() if behind else len(self.text)
+        after = self.first(pattern, mark.end)
+        hole = Hole(mark.cpu, stamp_of(before) if before else None, stamp_of(after) if after else None, mark.lost, mark.line)
+        self.known[mark.cpu] = hole, after.start() if after else len(self.text)
         return hole
 
     def spend(self, count: int) -> None:
@@ -285,7 +285,7 @@ def searched_holes(text: Text, marks: List[Mark]) -> List[Hole]:
 
 
 def opened(holes: List[Hole], marks: List[Mark], at: int, last: Dict[int, int], open_at: Dict[int, List[int]]) -> int:
-    """Begins the hole of a line behind the last event of its CPU; the next line's index."""
+    """Begins the hole of a line after the last event of its CPU; the next line's index."""
     cpu = marks[at].cpu
     holes[at] = holes[at]._replace(after=last.get(cpu))
     open_at.setdefault(cpu, []).append(at)

@@ -228,7 +228,7 @@ def warn(found: Many) -> None:
     ]
     for kind, lines in told:
         if lines:
-            # The recordings behind the number of them stand on lines of their own.
+            # The recordings after the number of them stand on lines of their own.
             text = "; ".join(line.strip() for line in lines).replace("out:; ", "out: ")
             warnings.warn(_shown.shown(text), kind, stacklevel=3)
 

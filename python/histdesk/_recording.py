@@ -18,7 +18,7 @@ LIMIT = 1_048_576
 
 class Part(NamedTuple):
     """What was taken of a trace: how many events, the least and the greatest stamp among them in microseconds (None where there
-    are no events), and the stamp from which the next part begins, or None where nothing is left behind this one."""
+    are no events), and the stamp from which the next part begins, or None where nothing is left after this one."""
 
     events: int
     first: Optional[int]

@@ -65,9 +65,9 @@ def page_of(view: View) -> str:
     """The page, and before its first script the data."""
     data = json.dumps(data_of(view), separators=(",", ":")).replace("<", "\\u003c")
     page = STYLE.sub(lambda found: f"<style>\n{text(found)}</style>", page_text(PAGE))
-    before, script, behind = page.partition("<script")
+    before, script, after = page.partition("<script")
     return f"{before}<script>window.SAVED = {data}</script>\n" + SCRIPT.sub(
-        lambda found: f"<script>\n{text(found)}</script>", script + behind
+        lambda found: f"<script>\n{text(found)}</script>", script + after
     )
 
 

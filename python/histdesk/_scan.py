@@ -20,7 +20,7 @@ NONE = -1
 # So many line breaks are put around a text, so that what is looked for around a place ends there.
 PAD = 32
 SPACE, DASH, DOT, COLON, OPEN, CLOSE, ZERO = (ord(sign) for sign in " -.:[]0")
-# The labels by the numbers of events: eight bytes, and those behind.
+# The labels by the numbers of events: eight bytes, and those after.
 LABELS = {
     0: (b"sched_wa", b"king:"),
     1: (b"sched_wa", b"keup:"),
@@ -30,7 +30,7 @@ LABELS = {
 
 
 class Lines(NamedTuple):
-    """Of each line of a text where it ends, behind its line break, and its event's CPU (-1 where there is none), stamp in
+    """Of each line of a text where it ends, after its line break, and its event's CPU (-1 where there is none), stamp in
     microseconds and name (by its number)."""
 
     ends: Any
@@ -112,7 +112,7 @@ class Plain:
         self.keep(self.colon < self.ends)
 
     def first(self, places: Any, low: Any) -> Any:
-        """The first place that isn't before another one; behind the text where there is none."""
+        """The first place that isn't before another one; after the text where there is none."""
         numpy = needed()
         return numpy.append(places, len(self.bytes) - PAD)[places.searchsorted(low)]
 
@@ -162,7 +162,7 @@ class Plain:
         return (last > pid) & (pid > dash) & (dash >= self.starts) & (self.bytes[dash] == DASH)
 
     def stamps(self) -> Tuple[Any, Any]:
-        """The stamps, and which are some: behind the CPU stand spaces, perhaps one word and spaces, and the stamp up to the
+        """The stamps, and which are some: after the CPU stand spaces, perhaps one word and spaces, and the stamp up to the
         first colon."""
         numpy = needed()
         micros = self.words(self.colon - 7)
@@ -183,11 +183,11 @@ class Plain:
         numpy = needed()
         first, second = (self.words(at).view("<u8").ravel() for at in (label, label + 8))
         codes = numpy.full(len(label), _layout.OTHER, "u1")
-        for code, (front, behind) in LABELS.items():
-            mask = numpy.uint64(256 ** len(behind) - 1)
-            is_label = (first == word_of(front)) & (second & mask == word_of(behind))
-            if not behind.endswith(b":"):
-                is_label &= self.bytes[label + 8 + len(behind)] == COLON
+        for code, (front, after) in LABELS.items():
+            mask = numpy.uint64(256 ** len(after) - 1)
+            is_label = (first == word_of(front)) & (second & mask == word_of(after))
+            if not after.endswith(b":"):
+                is_label &= self.bytes[label + 8 + len(after)] == COLON
             codes[is_label] = code
         return codes
 

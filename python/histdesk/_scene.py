@@ -21,7 +21,7 @@ WOKEN, FORKED, PREEMPTED = "woken", "new", "preempted"
 NO_NAME = "<...>"
 # Letters of the kernel's flags that say in which context an event was, and how the context is called here.
 CONTEXTS = (("zZ", "nmi"), ("hH", "hardirq"), ("s", "softirq"))
-# Stamps before all others and behind them.
+# Stamps before all others and after them.
 NEVER, FOREVER = -1, 1 << 62
 # The states of a task that could run on, and their lengths.
 RUNNABLE = ((b"R", 1), (b"R+", 2))
@@ -172,7 +172,7 @@ class Scene:
         return runner_of(self.name_of(event.task, event.common_pid), event.common_pid, None)
 
     def next_of(self, at: int) -> Runner:
-        """The task that ran on its CPU behind an event."""
+        """The task that ran on its CPU after an event."""
         event = self.events[at]
         if event.name != "sched_switch":
             return self.running(at)
@@ -199,16 +199,16 @@ class Scene:
     def ran(self, cpu: int, events: range, start: int, stop: int) -> List[Stretch]:
         """What ran on a CPU between two stamps, in order; the events there are these."""
         places = self.places_of(cpu)
-        first, behind = places.searchsorted([events.start, events.stop]).tolist()
+        first, after = places.searchsorted([events.start, events.stop]).tolist()
         walk = Walk(self, cpu, start, stop)
         if first:
             walk.begin(int(places[first - 1]))
-        inside = places[first:behind]
+        inside = places[first:after]
         for at, stamp, pid in zip(inside.tolist(), *(column[inside].tolist() for column in self.seen)):
             walk.see(at, stamp, pid)
             if self.name[at] == SWITCH:
                 walk.switch(at)
-        for at in places[behind : behind + 1].tolist():
+        for at in places[after : after + 1].tolist():
             walk.see(at, int(self.stamp[at]), int(self.common_pid[at]))
         return walk.ended()
 
@@ -333,7 +333,7 @@ def spanned(holes: Tuple[Hole, ...], begin: int, end: int) -> Tuple[Hole, ...]:
 
 
 def last_before(stamps: List[int], stretch: Stretch) -> Optional[int]:
-    """The last of some ascending stamps that isn't behind the beginning of a stretch."""
+    """The last of some ascending stamps that isn't after the beginning of a stretch."""
     at = bisect.bisect_right(stamps, stretch.begin)
     return stamps[at - 1] if at and stretch.pid else None
 

@@ -54,7 +54,7 @@ def kind_of(asked: Asked) -> str:
 
 
 def waits_of(asked: Asked) -> List[str]:
-    """The triggers that measure waits of a kind, each behind its event; the last one has the table. A stamp of a waking that
+    """The triggers that measure waits of a kind, each after its event; the last one has the table. A stamp of a waking that
     is no wait's begin, or isn't wanted, is read by another one, so that none reads it later."""
     begins, key, condition = BEGINS[kind_of(asked)]
     name = next(name for name in map("begin{}".format, itertools.count()) if name not in asked.trigger)

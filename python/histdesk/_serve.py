@@ -191,7 +191,7 @@ class Handler(http.server.BaseHTTPRequestHandler):
         self.send(status, found)
 
     def checked(self) -> str:
-        """The path behind the token. Refuses whoever doesn't know that, or asks from another page."""
+        """The path after the token. Refuses whoever doesn't know that, or asks from another page."""
         token, slash, path = self.path[1:].partition("/")
         if not self.path.startswith("/") or not same(token, self.server.token):
             self.close_connection = True
@@ -216,7 +216,7 @@ class Handler(http.server.BaseHTTPRequestHandler):
         try:
             words = {key: int(value) for key, value in parse_qsl(query, strict_parsing=bool(query), max_num_fields=9)}
         except ValueError:
-            raise Bad(400, "the words behind ? can't be read") from None
+            raise Bad(400, "the words after ? can't be read") from None
         return self.answer(ask, words)
 
     def post(self, path: str) -> Answer:
@@ -291,8 +291,8 @@ def server_of(view: View, port: int) -> Server:
     """The server of a view, on a port, or on one that is free where it is 0."""
     optional = int, type(None)
 
-    def wait(recording: int, cpu: int, line: int, behind: Optional[bool] = None, **window: Optional[int]) -> Json:
-        return view.wait(recording, (cpu, line), Window(window.get("from"), window.get("until")), bool(behind))
+    def wait(recording: int, cpu: int, line: int, after: Optional[bool] = None, **window: Optional[int]) -> Json:
+        return view.wait(recording, (cpu, line), Window(window.get("from"), window.get("until")), bool(after))
 
     def script(recording: int, event: str, filter: str, trigger: str, strikes: List[Any]) -> Json:
         return view.script(recording, Asked(event, filter, trigger), strikes_of(strikes))
@@ -315,7 +315,7 @@ def server_of(view: View, port: int) -> Server:
                 "line": (int,),
                 "from": optional,
                 "until": optional,
-                "behind": (bool, type(None)),
+                "after": (bool, type(None)),
             },
         ),
     }

@@ -70,7 +70,7 @@ def filter_of(canonical: str) -> Optional[str]:
 
 
 def distinct(keys: List[str], values: List[str]) -> Tuple[str, ...]:
-    """The names of a row's parts. A value that is a key too has `_sum` behind its name."""
+    """The names of a row's parts. A value that is a key too has `_sum` after its name."""
     names = [*keys, *(f"{name}_sum" if name in keys else name for name in values)]
     for at, name in enumerate(names):
         while names[at] in names[:at]:
@@ -79,7 +79,7 @@ def distinct(keys: List[str], values: List[str]) -> Tuple[str, ...]:
 
 
 def row_type(names: Sequence[str]) -> Any:
-    """Named tuples of these names, as Python takes them for attributes: a keyword gets a `_` behind it, and what begins with
+    """Named tuples of these names, as Python takes them for attributes: a keyword gets a `_` after it, and what begins with
     one is called by its place."""
     attributes = [f"{name}_" if keyword.iskeyword(name) else name for name in names]
     return namedtuple("Row", attributes, rename=True)

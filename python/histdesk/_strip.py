@@ -11,7 +11,7 @@ from ._why import Why
 
 Json = Dict[str, Any]
 
-# What is shown before and behind a wait: a part of its length, and at least so many microseconds.
+# What is shown before and after a wait: a part of its length, and at least so many microseconds.
 PART, LEAST = 5, 50
 # At most so many stretches are told.
 MOST = 5000
@@ -19,7 +19,7 @@ BEGINS = {WOKEN: "woken", FORKED: "forked", PREEMPTED: "preempted"}
 
 
 class Window(NamedTuple):
-    """From when to when something is shown, in microseconds, both ends in it; None is some time before the wait, or behind
+    """From when to when something is shown, in microseconds, both ends in it; None is some time before the wait, or after
     it."""
 
     start: Optional[int] = None
@@ -64,7 +64,7 @@ def shown_of(scene: Scene, why: Why, window: Window) -> Shown:
     start = why.begin.stamp - margin if window.start is None else window.start
     stop = why.until + margin if window.stop is None else window.stop
     if start >= stop:
-        raise ValueError("until is to be behind from")
+        raise ValueError("until must be after from")
     first, last = int(scene.stamp[0]), int(scene.stamp[-1])
     return Shown(min(max(start, first), last), max(min(stop, last), first))
 
@@ -76,8 +76,8 @@ def narrowed(scene: Scene, why: Why, shown: Shown, most: int) -> Shown:
     room = max(most - len(cpus_of(scene)), 1)
     if len(switches) <= room:
         return shown
-    first, behind = switches.searchsorted(why.begin.stamp), switches.searchsorted(why.until, "right")
-    spare = max(room - (behind - first), 0) // 2
+    first, after = switches.searchsorted(why.begin.stamp), switches.searchsorted(why.until, "right")
+    spare = max(room - (after - first), 0) // 2
     start = max(min(first - spare, len(switches) - room), 0)
     found = switches[start : start + room]
     return Shown(int(found[0]), int(found[-1]), True)

@@ -133,7 +133,7 @@ class Struck:
             session.call(call, cpu, line)
 
     def _put_back(self, numbers: Any) -> None:
-        """Puts events back, in their old order: those of the same CPU and stamp behind one are struck and put back too."""
+        """Puts events back, in their old order: those of the same CPU and stamp after one are struck and put back too."""
         if not len(numbers):
             return
         comes = self.ended.places.mask(numbers)
@@ -146,7 +146,7 @@ class Struck:
             self.ended.places.put_back(number, at.cpu)
 
     def _behind(self, numbers: Any) -> Any:
-        """Some events, and those of the same CPU and stamp behind each, in order."""
+        """Some events, and those of the same CPU and stamp after each, in order."""
         numpy, places = needed(), self.ended.places
         if self._order is None:
             order = numpy.lexsort((places.stamps, places.cpus(numpy.arange(places.total))))
@@ -154,10 +154,10 @@ class Struck:
         order, at = self._order
         found = [at[numbers]]
         while len(found[-1]):
-            behind = found[-1][found[-1] < places.total - 1] + 1
-            one, other = order[behind - 1], order[behind]
+            after = found[-1][found[-1] < places.total - 1] + 1
+            one, other = order[after - 1], order[after]
             is_same = (places.cpus(one) == places.cpus(other)) & (places.stamps[one] == places.stamps[other])
-            found.append(behind[is_same])
+            found.append(after[is_same])
         return order[numpy.unique(numpy.concatenate(found))]
 
 

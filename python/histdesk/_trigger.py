@@ -50,7 +50,7 @@ class Trigger:
     @property
     def names(self) -> Tuple[str, ...]:
         """The names of a row's parts: the fields of its keys, `hitcount`, and the fields or variables that it sums. A value
-        that is a key too has `_sum` behind its name."""
+        that is a key too has `_sum` after its name."""
         return self._session.shape(self._id).names
 
     @property
@@ -76,7 +76,7 @@ class Trigger:
 
         Numbers are `int`, with their sign; under `.log2` they are `Log2`, under `.buckets` `Bucket`; names are `str`. Sums
         are modulo 2^64, of stamps and latencies in microseconds. A variable that Python doesn't take for a name has another
-        one in the tuple (`_2` by its place, or a `_` behind a keyword); `names` has them as they are."""
+        one in the tuple (`_2` by its place, or a `_` after a keyword); `names` has them as they are."""
         shape = self._session.shape(self._id)
         return [shape.row_of(fields) for fields in _layout.ROW.iter_unpack(self._rows())]
 

@@ -80,19 +80,19 @@ class View:
         side = self.side(recording)
         return answered(text, lambda: side.trigger(event, text))
 
-    def wait(self, recording: int, place: Tuple[int, int], window: Window = Window(), behind: bool = False) -> Json:
-        """The wait of the event of a CPU at a line, and what ran around it; `behind` asks for the wait that the event ends
+    def wait(self, recording: int, place: Tuple[int, int], window: Window = Window(), after: bool = False) -> Json:
+        """The wait of the event of a CPU at a line, and what ran around it; `after` asks for the wait that the event ends
         without those that are struck."""
         side = self.side(recording)
-        return answered("", lambda: side.wait(place, window, behind))
+        return answered("", lambda: side.wait(place, window, after))
 
     def differences(self) -> Json:
         """The names and kinds of which something differs between two recordings, and what is counted of them in both, as
         `Difference.table` has it; of one recording there are none."""
         if len(self.sides) < 2:
             return {"rows": []}
-        before, behind = (side.waits for side in self.sides)
-        return {"rows": [difference_told(row) for row in Difference(before, behind).table("name")]}
+        before, after = (side.waits for side in self.sides)
+        return {"rows": [difference_told(row) for row in Difference(before, after).table("name")]}
 
     def strike(self, strikes: Sequence[Tuple[str, str]]) -> Json:
         """The waits of the first recording without the events that some filters choose, each with the name of its event: what
@@ -271,11 +271,11 @@ class Side:
         report = [*(f"without {one}" for one in strikes_told), str(fate_of(self.ended, at))]
         return {"changed": found, "rows": [row_told(row) for row in rows_of(self.ended, at)], "report": report}
 
-    def wait(self, place: Tuple[int, int], window: Window = Window(), behind: bool = False, most: int = MOST) -> Json:
+    def wait(self, place: Tuple[int, int], window: Window = Window(), after: bool = False, most: int = MOST) -> Json:
         """A wait, and what ran around it, in about so many stretches at most; see `View.wait`."""
         found = self.ended.begins(*place)
         scene = self.scene_with(place, found and found[1])
-        if found is None or not (behind and self.struck.is_any):
+        if found is None or not (after and self.struck.is_any):
             return strip_of(scene, told_at(scene, *place), window, most)
         kind, begin = found
         return strip_of(scene, told(scene, Pair(kind, scene.at(*begin) or 0, scene.at(*place))), window, most)
@@ -310,7 +310,7 @@ def filters_of(strikes: Sequence[Tuple[str, str]]) -> List[Tuple[str, str]]:
 
 
 def packed(columns: Json) -> bytes:
-    """Columns of numbers, one behind the other."""
+    """Columns of numbers, one after the other."""
     parts = (columns[name].astype(form).tobytes() for name, form in COLUMNS)
     return b"".join(part + bytes(-len(part) % ALIGNED) for part in parts)
 
@@ -338,7 +338,7 @@ def difference_told(row: DifferenceRow) -> Json:
         return {name: getattr(figures, name) for name in SHOWN} if figures.count else None
 
     task, kind = row.key
-    return {"task": task, "pid": None, "kind": kind, **dict(zip(SIDES, map(side, (row.before, row.behind))))}
+    return {"task": task, "pid": None, "kind": kind, **dict(zip(SIDES, map(side, (row.before, row.after))))}
 
 
 def cell(value: Any) -> Any:

@@ -52,7 +52,7 @@ FIELDS = [
 # The fields of a place that begins or ends a wait.
 PLACE = [name for name, _ in _layout.PLACE_FIELDS]
 
-# By what waits can be counted: the names of the first columns, and what is told of the greatest wait behind its place.
+# By what waits can be counted: the names of the first columns, and what is told of the greatest wait after its place.
 BY = {
     "task": (("task", "pid"), ()),
     "name": (("name",), ("pid",)),
@@ -67,7 +67,7 @@ FRAMED = {"task": "object", "name": "object", "kind": "object", "mean": "float64
 # So many rows are shown in a notebook or at a prompt.
 SHOWN = 20
 
-NAMES = {by: (*keys, "kind", *FIGURES, *ENDED, *behind, "doubtful") for by, (keys, behind) in BY.items()}
+NAMES = {by: (*keys, "kind", *FIGURES, *ENDED, *after, "doubtful") for by, (keys, after) in BY.items()}
 TaskRow, NameRow, CpuRow, PrioRow, KindRow = (namedtuple(f"{by.title()}Row", names) for by, names in NAMES.items())
 ROWS: Dict[str, Any] = dict(zip(BY, (TaskRow, NameRow, CpuRow, PrioRow, KindRow)))
 
@@ -289,9 +289,9 @@ class Waits:
         key: Sequence[Any] = row.key
         if by == "task":
             key = (wait.name if wait else names[key[0]], *key)
-        behind = [whose.get(field) for field in BY[by][1]]
+        after = [whose.get(field) for field in BY[by][1]]
         figures = (getattr(row, name) for name in FIGURES)
-        return ROWS[by](*key, *figures, *ended, *behind, row.doubtful)
+        return ROWS[by](*key, *figures, *ended, *after, row.doubtful)
 
     def to_pandas(self, by: Optional[str] = None, doubtful: bool = False) -> Any:
         """A DataFrame of the waits one by one, with the names of the tasks in a column `task`; with a word for `by`, of that
@@ -363,20 +363,20 @@ def ranges(numbers: Sequence[int]) -> str:
 
 def table_of(by: str, rows: Sequence[Any], most: Optional[int]) -> _shown.Table:
     """The first rows of a table as people read them; the column of doubtful waits is there where some are."""
-    keys, behind = BY[by]
+    keys, after = BY[by]
     is_doubtful = any(row.doubtful for row in rows)
-    names = [*keys, "kind", "count", "mean", "p50", "p90", "p99", "max", "at", "where", *behind, *["doubtful"] * is_doubtful]
-    front: List[Sequence[Any]] = [shown_row(row, behind, is_doubtful) for row in rows[:most]]
+    names = [*keys, "kind", "count", "mean", "p50", "p90", "p99", "max", "at", "where", *after, *["doubtful"] * is_doubtful]
+    front: List[Sequence[Any]] = [shown_row(row, after, is_doubtful) for row in rows[:most]]
     return _shown.Table(names, front, [], len(rows) - len(front))
 
 
-def shown_row(row: Any, behind: Sequence[str], is_doubtful: bool) -> List[Any]:
+def shown_row(row: Any, after: Sequence[str], is_doubtful: bool) -> List[Any]:
     """A row, as it is shown."""
     at = None if row.end_stamp is None else Stamp(row.end_stamp)
     where = None if row.end_stamp is None else f"{row.end_cpu}:{row.end_line}"
     mean = None if row.mean is None else round(row.mean, 1)
     key = row[: row._fields.index("count")]
-    last = [getattr(row, name) for name in behind] + [row.doubtful] * is_doubtful
+    last = [getattr(row, name) for name in after] + [row.doubtful] * is_doubtful
     return [*key, row.count, mean, row.p50, row.p90, row.p99, row.max, at, where, *last]
 
 
@@ -540,7 +540,7 @@ def numbered(cpus: Any, lines: Any) -> Any:
 
 
 def later(one: Any, other: Any) -> Any:
-    """Where one place is behind another in the order in which events go past triggers."""
+    """Where one place is after another in the order in which events go past triggers."""
     is_later = one.line > other.line
     for field in ("cpu", "stamp"):
         is_later = (one[field] > other[field]) | (one[field] == other[field]) & is_later
@@ -550,7 +550,7 @@ def later(one: Any, other: Any) -> Any:
 def chosen(places: Dict[str, Any], ends: Any, holes: Collection[Hole]) -> Tuple[Any, Any]:
     """Which wait each switch ends: its kind's number, and where it began.
 
-    A task that was preempted waits since then: a waking that came before, while it ran, or behind, while it was queued, began
+    A task that was preempted waits since then: a waking that came before, while it ran, or after, while it was queued, began
     nothing. But where its number was given to a new task the later one of both counts, and so of a waking and a new task. And
     where events were lost since it was preempted, and none since it was woken, it waits at least since it was woken."""
     numpy, (woken, new, preempted) = needed(), (places[kind] for kind in KINDS)

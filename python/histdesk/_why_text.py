@@ -100,7 +100,7 @@ def busy(why: Why, stretches: Sequence[Stretch]) -> List[str]:
     idle, own, unknown = (sum_of(shares, pid) for pid in (0, why.pid, None))
     told = [several(why, cpu, others)] if others else []
     if len(stretches) == 1 and others:
-        told = [f"{named(others[0].task, others[0].pid)} ran on CPU {cpu} all the while{behind(stretches[0])}."]
+        told = [f"{named(others[0].task, others[0].pid)} ran on CPU {cpu} all the while{after(stretches[0])}."]
     if idle == why.micros:
         told = [idle_told(why, cpu)]
     elif idle:
@@ -138,7 +138,7 @@ def several(why: Why, cpu: int, others: Sequence[Share]) -> str:
     return f"{len(others)} tasks ran on CPU {cpu} meanwhile, in {runs} stretches; {name} the longest, {part}."
 
 
-def behind(stretch: Stretch) -> str:
+def after(stretch: Stretch) -> str:
     """How the only task that ran left."""
     return "" if stretch.left is None else f", and then {left_told(stretch.left)}"
 

@@ -91,7 +91,7 @@ KNOWN = [
     ("desk refuses", "two parts of one kind", WAKING, "hist:keys=pid:keys=prio" + JOB),
     ("rows", "a glob of one star in front asks for the end of 16 bytes", WAKING, 'hist:keys=comm if comm ~ "*b"'),
     ("rows", "a glob with a digit in front is compared as it stands", WAKING, 'hist:keys=comm if comm ~ "7*"'),
-    ("rows", "a class with `!` takes the byte 0 behind the name", WAKING, 'hist:keys=comm if comm ~ "job kid 1[!x]"'),
+    ("rows", "a class with `!` takes the byte 0 after the name", WAKING, 'hist:keys=comm if comm ~ "job kid 1[!x]"'),
     ("rows", "a number is cut to the 32 bits of the field", WAKING, "hist:keys=comm" + JOB + " && pid < 4294967296"),
     ("rows", "the end of the bucket of -1 is modulo 2^64", WAKING, 'hist:keys=prio.buckets=10 if comm == "dline"'),
     ("rows", "prev_state is a number", SWITCH, "hist:keys=prev_state" + FROM),

@@ -40,7 +40,7 @@ done </cases
 echo 1 >tracing_on
 /workload "$seed"
 echo "$?" >/out/status
-# What ends a task comes behind the end that its parent sees.
+# What ends a task comes after the end that its parent sees.
 sleep 1
 echo 0 >tracing_on
 

@@ -8,7 +8,7 @@ writes FOLDER/cases, the lines that the guest writes to tracefs, and FOLDER/case
 dictionary:
 
     event, text      what the desk is given
-    kernel           what the kernel is given: the same, but for a reader of a variable, see reader()
+    kernel           what the kernel is given: the same, except for a reader of a variable, see reader()
     synthetic        the name of a reader's synthetic event
     group            savers and their readers have one group, and go to one desk
     known, why       how the two sides are known to differ, and why; see fixed.py
@@ -38,7 +38,7 @@ NAMES += ["job 15 bytes ab", "job fifo", "swapper/0"]
 # None is read otherwise by the kernel: not `*x`, no digit in front, and no class `[!x]` at which a name may have ended.
 GLOBS = ["job*", "job k*", "*kid*", "job ?id*", "job-b*", "job [a-m]*", "job[ -]*p*", "*o*g*", "job kid [0-9]", "*", "j*b*"]
 GLOBS += ["job kid [0-9][0-9]", "job [!a-m]*", "job [[]c] nap?", "?????????*", "job 15*ab", "job c pid=[5-9] x", "job boss"]
-# From an event to another that comes behind it on whatever CPU: its tracepoint waits for a lock that the first one's has.
+# From an event to another that comes after it on whatever CPU: its tracepoint waits for a lock that the first one's has.
 BEHIND = [("sched_waking", ""), ("sched_wakeup", ""), ("sched_wakeup_new", ""), ("sched_switch", "prev_")]
 
 
@@ -115,22 +115,22 @@ def pair(draw, cpus, count):
     """A saver and its reader, with matching keys."""
     if cpus == 1:
         ends = [(name, "") for name in WAKES] + [("sched_switch", "prev_"), ("sched_switch", "next_")]
-        (saver, front), (reader, behind) = draw.choice(ends), draw.choice(ends)
+        (saver, front), (reader, after) = draw.choice(ends), draw.choice(ends)
         keys = draw.choice(["pid", "comm", "prio", "prio,pid", "comm,pid", "prio.log2", "pid.buckets=16", "comm,prio.log2"])
     else:
-        (saver, front), (reader, behind) = draw.choice(BEHIND), ("sched_switch", "next_")
+        (saver, front), (reader, after) = draw.choice(BEHIND), ("sched_switch", "next_")
         if saver == "sched_waking" and draw.random() < 0.3:
-            reader, behind = "sched_wakeup", ""
+            reader, after = "sched_wakeup", ""
         keys = draw.choice(["pid", "pid", "comm,pid", "pid,prio", "pid.hex", "prio.log2,pid"])
     name, own = f"v{count}", f"w{count}"
-    left, right = (",".join(side + item for item in keys.split(",")) for side in (front, behind))
+    left, right = (",".join(side + item for item in keys.split(",")) for side in (front, after))
     fields = [item.split(".")[0] for item in right.split(",")]
     order = draw.choice(["", f"${own}.descending", "hitcount.descending", fields[0], f"hitcount,${own}"])
-    more = "".join(f",{behind}{field}" for field in draw.choice([[], ["prio"], ["pid"]]) if behind + field not in fields)
+    more = "".join(f",{after}{field}" for field in draw.choice([[], ["prio"], ["pid"]]) if after + field not in fields)
     first = f"hist:keys={left}{size(draw, cpus)}{draw.choice(['', f':vals=${name}'])}:{name}=common_timestamp.usecs"
     second = f"hist:keys={right}:vals=${own}{more}:{own}=common_timestamp.usecs-${name}"
     second += (f":sort={order}" if order else "") + size(draw, cpus)
-    first, second = first + tail(draw, saver, front), second + tail(draw, reader, behind)
+    first, second = first + tail(draw, saver, front), second + tail(draw, reader, after)
     return [{"event": saver, "text": first}, {"event": reader, "text": second, "saver": saver}]
 
 
@@ -162,7 +162,7 @@ def reader(case, name):
 
 def with_clock(cpus, text):
     """A trigger with a stamp sets the clock: to `global`, if it names none. On several CPUs that one stands still where a
-    CPU's clock is behind, so that many events have one stamp."""
+    CPU's clock is after, so that many events have one stamp."""
     head, _, rest = text.partition(" if ")
     return f"{head}:clock=mono if {rest}" if cpus > 1 and "=common_timestamp" in head else text
 

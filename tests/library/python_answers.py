@@ -148,7 +148,7 @@ class Loading(unittest.TestCase):
         self.assertEqual(len(self.desk.events()), 0)
 
     def test_not_packed(self):
-        # A task's name may begin as what is packed does, but for the third byte.
+        # A task's name may begin as what is packed does, except for the third byte.
         self.assertEqual(self.desk.load(b"\x1f\x8b-1 [000] 1.000000:"), 1)
         self.assertEqual(self.desk.event(0, 1).task, "\x1f\udc8b")
 

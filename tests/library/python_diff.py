@@ -109,8 +109,8 @@ class Reckoned:
 
     def rows(self, by, above=None):
         """Of each key that changed the figures of both sides."""
-        before, behind = (sides_of(waits, by, length, above) for waits, length in zip(self.waits, self.lengths))
-        rows = {key: (before.get(key, NOTHING), behind.get(key, NOTHING)) for key in {**before, **behind}}
+        before, after = (sides_of(waits, by, length, above) for waits, length in zip(self.waits, self.lengths))
+        rows = {key: (before.get(key, NOTHING), after.get(key, NOTHING)) for key in {**before, **after}}
         return {key: sides for key, sides in rows.items() if without_doubts(sides[0]) != without_doubts(sides[1])}
 
 
@@ -141,7 +141,7 @@ class Case(unittest.TestCase):
             self.assertEqual(sorted(keys), sorted(expected))
             for key, row in zip(keys, rows):
                 self.row_holds(row, expected[key])
-            changes = [abs(row.behind.waited - row.before.waited) for row in rows]
+            changes = [abs(row.after.waited - row.before.waited) for row in rows]
             self.assertEqual(changes, sorted(changes, reverse=True))
         whole = [sides_of(waits, None, length, above)[()] for waits, length in zip(reckoned.waits, reckoned.lengths)]
         self.row_holds(found.whole(above=above), whole)
@@ -171,7 +171,7 @@ class TwoRecordings(Case):
 
     def test_sorted_by_the_greatest(self):
         found = diff(*(recordings.simulated(seed, 300).text for seed in (4, 5)))
-        changes = [abs((row.behind.max or 0) - (row.before.max or 0)) for row in found.table(sort="max")]
+        changes = [abs((row.after.max or 0) - (row.before.max or 0)) for row in found.table(sort="max")]
         self.assertEqual(changes, sorted(changes, reverse=True))
         self.assertGreater(changes[0], changes[-1])
         for wrong in ({"sort": "p99"}, {"by": "colour"}):
@@ -194,7 +194,7 @@ class TwoRecordings(Case):
         self.assertEqual(list(frame.columns[:4]), ["cpu", "kind", "count_before", "count_behind"])
         self.assertEqual(list(zip(frame.cpu, frame.kind)), [row.key for row in rows])
         self.assertEqual(
-            list(frame.max_behind.astype(object).where(frame.max_behind.notna(), None)), [row.behind.max for row in rows]
+            list(frame.max_behind.astype(object).where(frame.max_behind.notna(), None)), [row.after.max for row in rows]
         )
         self.assertEqual(len(diff(b"", b"").to_pandas()), 0)
 
@@ -213,9 +213,9 @@ class Without(Case):
 
     def fate_holds(self, fate, waits):
         """Lines are counted anew in the text that is left, so events are told apart by stamp, CPU and kind of wait alone."""
-        before, behind = ({wait.end[:2]: wait.begin[:2] for wait in side} for side in waits)
-        moved = sum(before[end] != behind[end] for end in set(before) & set(behind))
-        self.assertEqual(fate, (len(set(before) - set(behind)), moved, len(set(behind) - set(before))))
+        before, after = ({wait.end[:2]: wait.begin[:2] for wait in side} for side in waits)
+        moved = sum(before[end] != after[end] for end in set(before) & set(after))
+        self.assertEqual(fate, (len(set(before) - set(after)), moved, len(set(after) - set(before))))
 
     def test_tables(self):
         for seed, holes in [(10, 0), (11, 0), (12, 3), (13, 3)]:
@@ -228,7 +228,7 @@ class Without(Case):
         found = diff(recordings.kinds().text, without="sched_waking if pid == 10")
         self.assertEqual(found.struck, (("sched_waking", "pid == 10", 4, 9),))
         self.assertEqual(
-            [(row.key, row.before.count, row.behind.count) for row in found.table()], [(("renamed", 10, "woken"), 2, 0)]
+            [(row.key, row.before.count, row.after.count) for row in found.table()], [(("renamed", 10, "woken"), 2, 0)]
         )
         self.assertEqual(found.fate, (2, 0, 0))
         found = diff(recordings.kinds().text, without=" sched_waking  if  pid == 12 && common_cpu == 0 ")
@@ -239,7 +239,7 @@ class Without(Case):
         lines[second] = lines[second].replace(b"prio=120", b"prio=99")
         found = diff(b"\n".join(lines), without="sched_waking if prio == 99")
         (row,) = found.table()
-        self.assertEqual((row.key, row.before.max, row.behind.max, found.fate), (("c", 12, "woken"), 5, 15, (0, 1, 0)))
+        self.assertEqual((row.key, row.before.max, row.after.max, found.fate), (("c", 12, "woken"), 5, 15, (0, 1, 0)))
 
     def test_places_are_those_of_the_recording(self):
         known = recordings.simulated(14, 200)
@@ -247,7 +247,7 @@ class Without(Case):
         half = known.waits[len(known.waits) // 2].end.stamp
         found = diff(histdesk.read(path, start=half), without="sched_wakeup_new")
         places = {tuple(wait.end) for wait in known.waits}
-        ends = [(int(wait.end_stamp), int(wait.end_cpu), int(wait.end_line)) for wait in found.behind.array]
+        ends = [(int(wait.end_stamp), int(wait.end_cpu), int(wait.end_line)) for wait in found.after.array]
         self.assertTrue(ends and set(ends) <= places)
 
     def test_refused(self):
@@ -273,7 +273,7 @@ class Without(Case):
                 found = histdesk.diff(*words, without=["sched_switch"] * (len(words) == 1))
             self.assertEqual([one.category for one in told], [histdesk.LossWarning])
             self.assertIn("CPU 2", repr(found))
-            self.assertIn("doubtful waits are left out, 3 before and 0 behind", repr(found))
+            self.assertIn("doubtful waits are left out, 3 before and 0 after", repr(found))
             self.assertIn("CPU 2", found._repr_html_())
 
 
@@ -310,7 +310,7 @@ class Tool(Case):
         told, _ = self.run_tool("1.trace", "2.trace", "--top", "3", "--sort", "max", "--by", "cpu", "--kind", "woken")
         lines = told.rstrip("\n").split("\n")
         self.assertRegex(lines[0], "^before: 1.trace: [0-9]+ events")
-        self.assertRegex(lines[1], "^behind: 2.trace: [0-9]+ events")
+        self.assertRegex(lines[1], "^after: 2.trace: [0-9]+ events")
         self.assertEqual(lines[3].split()[:3], ["cpu", "kind", "waits/s"])
         self.assertEqual(lines[4].split()[0], "all")
         self.assertEqual([line.split()[1] for line in lines[5:8]], ["woken"] * 3)
@@ -321,17 +321,17 @@ class Tool(Case):
     def test_csv_and_json(self):
         paths = [self.put(f"{seed}.trace", recordings.simulated(seed, 200).text) for seed in (1, 2)]
         rows = diff(*paths).table("task", above=100)
-        told = [[*row.key, *(figure for pair in zip(row.before, row.behind) for figure in pair)] for row in rows]
+        told = [[*row.key, *(figure for pair in zip(row.before, row.after) for figure in pair)] for row in rows]
         names = ["task", "pid", "kind"] + [
-            f"{name}_{side}" for name in histdesk.Figures._fields for side in ("before", "behind")
+            f"{name}_{side}" for name in histdesk.Figures._fields for side in ("before", "after")
         ]
         words = (*paths, "--by", "task", "--above", "100")
         lines = list(csv.reader(io.StringIO(self.run_tool(*words, "--csv")[0])))
         self.assertEqual(lines, [names, *([str("" if cell is None else cell) for cell in row] for row in told)])
         whole = json.loads(self.run_tool(*words, "--json")[0])
         self.assertEqual(whole["rows"], [dict(zip(names, row)) for row in told])
-        self.assertEqual(whole["all"]["p99_behind"], diff(*paths).whole().behind.p99)
-        self.assertEqual([whole[side]["trace"] for side in ("before", "behind")], paths)
+        self.assertEqual(whole["all"]["p99_behind"], diff(*paths).whole().after.p99)
+        self.assertEqual([whole[side]["trace"] for side in ("before", "after")], paths)
 
     def test_refused(self):
         good, bad = self.put("good", recordings.kinds().text), self.put("bad", recordings.kinds().text + b"hello\n")
@@ -351,7 +351,7 @@ class Tool(Case):
         path = self.put("hole", recordings.hole_at_start().text)
         told, errors = self.run_tool(path, "--without", "sched_waking if pid == 46")
         self.assertRegex(errors, f"^diff: {path}: events were lost: .*CPU 2")
-        self.assertIn("doubtful waits are left out, 3 before and 3 behind", told)
+        self.assertIn("doubtful waits are left out, 3 before and 3 after", told)
         self.assertIn("2 -> 1", told)
 
 

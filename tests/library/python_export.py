@@ -36,7 +36,7 @@ READER = ["sched_switch", "hist:keys=next_pid:lat=common_timestamp.usecs-$ts0"]
 
 
 def switch(front, *fields):
-    """A switch, behind what stands at the line's front."""
+    """A switch, after what stands at the line's front."""
     names = "prev_comm={} prev_pid={} prev_prio={} prev_state={} ==> next_comm={} next_pid={} next_prio={}"
     return f"{front}: sched_switch: {names.format(*fields)}"
 
@@ -367,11 +367,11 @@ class Words(Tool):
 
     def test_words(self):
         self.assertIn("invalid choice: 'nothing'", self.refused("nothing"))
-        self.assertEqual(self.refused("rows"), "export: rows wants EVENT and TRIGGER behind it; --help says more\n")
+        self.assertEqual(self.refused("rows"), "export: rows wants EVENT and TRIGGER after it; --help says more\n")
         self.assertEqual(
-            self.refused("rows", "sched_waking"), "export: rows wants EVENT and TRIGGER behind it; --help says more\n"
+            self.refused("rows", "sched_waking"), "export: rows wants EVENT and TRIGGER after it; --help says more\n"
         )
-        self.assertEqual(self.refused("events", "a", "b"), "export: events wants nothing behind it; --help says more\n")
+        self.assertEqual(self.refused("events", "a", "b"), "export: events wants nothing after it; --help says more\n")
         self.assertIn("not allowed with argument", self.refused("events", "--csv", "--json"))
 
     def test_triggers(self):

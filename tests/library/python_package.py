@@ -1,6 +1,6 @@
 #!/usr/bin/env python3
 """Holds the Python package: each public call on small traces, by values written down by hand (python_answers.py), how a desk
-ends, threads, texts that aren't UTF-8, want of memory, how things are shown, and where the library is looked for.
+ends, threads, texts that aren't UTF-8, out of memory, how things are shown, and where the library is looked for.
 
     python_package.py [TEST]...
 

@@ -36,7 +36,7 @@ except ImportError:
 
 EVENTS = {b"sched_waking", b"sched_wakeup", b"sched_wakeup_new", b"sched_switch", b"wakeup_latency"}
 MASK = 2**64 - 1
-# Tables of more rows together are not compared before and behind each edit.
+# Tables of more rows together are not compared before and after each edit.
 MOST_ROWS = 300
 
 
@@ -194,13 +194,13 @@ def encoded(text):
 
 
 def split(text):
-    """The first word, and the rest behind the gap."""
+    """The first word, and the rest after the gap."""
     word, _, rest = text.partition(b" ")
     return word, rest.lstrip(b" ")
 
 
 def numbers(front, *texts):
-    """The numbers of a command, each behind the same front."""
+    """The numbers of a command, each after the same front."""
     for text in texts:
         if not re.fullmatch(front + b"[0-9]{1,10}", text) or int(text[len(front) :]) >= 2**32:
             raise ScriptRefused(16)

@@ -269,7 +269,7 @@ class What(Asked):
             self.assertEqual((status, headers["Content-Type"]), (200, "application/json"))
             self.assertEqual({name: answer.get(name) for name in wanted}, wanted)
         self.assertEqual(json.loads(self.running.post("strike", {"strikes": []})[2])["rows"], [])
-        window = {"recording": 0, "cpu": 0, "line": 24, "from": 1404968400, "until": 1404968800, "behind": True}
+        window = {"recording": 0, "cpu": 0, "line": 24, "from": 1404968400, "until": 1404968800, "after": True}
         answer = json.loads(self.running.post("wait", window)[2])
         self.assertEqual((answer["from"], answer["until"]), (1404968400, 1404968800))
 
@@ -325,7 +325,7 @@ class What(Asked):
         told = self.running.error("POST", f"/{self.running.token}/strike", {"strikes": [{"event": "other", "text": ""}]})
         self.assertEqual(told[0], 400)
         window = {"recording": 0, "cpu": 0, "line": 24, "from": 5, "until": 5}
-        self.assertEqual(self.running.error("POST", f"/{self.running.token}/wait", window), (400, "until is to be behind from"))
+        self.assertEqual(self.running.error("POST", f"/{self.running.token}/wait", window), (400, "until is to be after from"))
         for query in ("", "?", "?recording=x", "?recording", "?recording=0&more=1", "?recording=7", "?recording=" + "1" * 5000):
             self.assertEqual(self.running.get(f"waits.bin{query}")[0], 400, query)
         self.assertEqual(self.running.get("about?x=1")[0], 400)
@@ -390,7 +390,7 @@ class What(Asked):
         self.assertEqual(self.running.raw(outer + inner).count(b"HTTP/1.1 "), 1)
 
     def test_kept(self):
-        """Several requests by one connection, also behind each other without waiting."""
+        """Several requests by one connection, also one after the other without waiting."""
         path = f"/{self.running.token}/"
         connection = http.client.HTTPConnection("127.0.0.1", self.running.port, timeout=LIMIT)
         with contextlib.closing(connection):

@@ -122,8 +122,8 @@ def bits_of(text, count):
     return [bool(content[at // 8] >> at % 8 & 1) for at in range(count)]
 
 
-def behind(view, answer):
-    """The waits behind strikes, of their answer: those before that are left, and the new ones."""
+def after(view, answer):
+    """The waits after strikes, of their answer: those before that are left, and the new ones."""
     about = view.about()["recordings"][0]
     taken = base64.b64decode(answer["changed"]["taken"])
     places = struct.unpack(f"<{len(taken) // 4}I", taken)
@@ -248,15 +248,15 @@ class Shown(unittest.TestCase):
         texts = [example("recipes-before.trace"), example("recipes.trace")]
         self.assertEqual(view_of(texts[0]).differences(), {"rows": []})
         self.assertEqual(view_of(texts[0], texts[0]).differences(), {"rows": []})
-        for before, behind in (texts, texts[::-1], (texts[0], b""), (b"", texts[1])):
-            view = view_of(before, behind)
+        for before, after in (texts, texts[::-1], (texts[0], b""), (b"", texts[1])):
+            view = view_of(before, after)
             view.strike([("sched_waking", "pid > 0")])
             rows = [
                 (row.key, *((side.count, side.p50, side.p99, side.max) if side.count else None for side in row[1:]))
-                for row in histdesk.diff(before, behind).table("name")
+                for row in histdesk.diff(before, after).table("name")
             ]
             told = [
-                ((row["task"], row["kind"]), *(row[side] and tuple(row[side].values()) for side in ("before", "behind")))
+                ((row["task"], row["kind"]), *(row[side] and tuple(row[side].values()) for side in ("before", "after")))
                 for row in view.differences()["rows"]
             ]
             self.assertEqual(told, rows)
@@ -293,7 +293,7 @@ class Shown(unittest.TestCase):
         self.assertEqual([wait for wait in found if wait in kept], kept)
         strikes = [("sched_waking", "pid < 110")]
         answer = view.strike(strikes)
-        left, new = behind(view, answer)
+        left, new = after(view, answer)
         lines = [line for line in text.split(b"\n") if b": sched_waking:" in line and re.search(FILTERS[strikes[0]], line)]
         self.assertEqual(answer["struck"], [sum(start <= stamp_of(line) < until for line in lines)])
         self.assertGreater(len(waits_in(view)), len(left))
@@ -499,7 +499,7 @@ class OneWait(unittest.TestCase):
             times = [(stretch["begin"], stretch["end"]) for stretch in lane["stretches"]]
             self.assertEqual((times[0][0], times[-1][1]), (about["first"], about["last"]))
             self.assertEqual([end for _, end in times[:-1]], [begin for begin, _ in times[1:]])
-        with self.assertRaisesRegex(ValueError, "until is to be behind from"):
+        with self.assertRaisesRegex(ValueError, "until must be after from"):
             view.wait(0, (0, 24), _view.Window(7, 7))
 
     def test_words(self):
@@ -537,13 +537,13 @@ class OneWait(unittest.TestCase):
 
 @with_numpy
 class Strikes(unittest.TestCase):
-    """Waits behind strikes, beside the plain reckoning over the text without these lines."""
+    """Waits after strikes, beside the plain reckoning over the text without these lines."""
 
     def check(self, view, text, strikes):
         """Strikes, and compares."""
         answer = view.strike(strikes)
         waits, counts = reckoned(text, strikes)
-        left, new = behind(view, answer)
+        left, new = after(view, answer)
         self.assertEqual(sorted([*left, *new], key=lambda wait: wait.end), waits)
         self.assertEqual(answer["struck"], counts)
         before, gone, ends = waits_in(view), [], {wait.end for wait in waits}
@@ -581,7 +581,7 @@ class Strikes(unittest.TestCase):
         masks = {one: view.filter(0, *one) for one in FILTERS}
         for strikes in ([("sched_waking", "pid < 110")], [("sched_switch", "next_pid & 1"), ("sched_wakeup_new", "")]):
             answer = self.check(view, text, strikes)
-            _, new = behind(view, answer)
+            _, new = after(view, answer)
             for (event, condition), pattern in FILTERS.items():
                 found, places = view.filter(0, event, condition), places_of(text, pattern)
                 self.assertEqual({name: found[name] for name in ("count", "chosen")}, masks[event, condition])
@@ -609,7 +609,7 @@ class Strikes(unittest.TestCase):
         for row in rows:
             mine = next(one for one in answer["rows"] if (one["pid"], one["kind"]) == (row["pid"], row["kind"]))
             self.assertEqual(mine["task"], row["task"])
-            for side in ("before", "behind"):
+            for side in ("before", "after"):
                 figures = mine[side] or {"count": 0, "p50": None, "p99": None, "max": None}
                 self.assertEqual(
                     *(
@@ -622,15 +622,15 @@ class Strikes(unittest.TestCase):
         """A wait that begins elsewhere without struck events is told as it is then, where that is asked for."""
         lines = [waking(0, 1000, 2), waking(0, 1100, 2, target=1), switch(0, 1200, "<idle>-0", "w-2", state="R")]
         view = view_of(text_of(lines))
-        self.assertEqual(view.wait(0, (0, 3), behind=True)["begin"], 1100)
+        self.assertEqual(view.wait(0, (0, 3), after=True)["begin"], 1100)
         self.assertEqual(view.strike([("sched_waking", "target_cpu == 1")])["struck"], [1])
-        told = [view.wait(0, (0, 3), behind=one) for one in (False, True)]
+        told = [view.wait(0, (0, 3), after=one) for one in (False, True)]
         self.assertEqual([one["begin"] for one in told], [1100, 1000])
         self.assertIn(" waited 200 us for CPU 0, ", told[1]["text"])
         self.assertEqual(told[1]["marks"][0], {"cpu": 0, "stamp": 1000, "what": "woken"})
         # Where it ends no wait then, it is told as it was.
         self.assertEqual(view.strike([("sched_waking", "pid == 2")])["struck"], [2])
-        self.assertEqual(view.wait(0, (0, 3), behind=True)["begin"], 1100)
+        self.assertEqual(view.wait(0, (0, 3), after=True)["begin"], 1100)
 
     def test_tables(self):
         """A trigger's table is that without the struck events."""
@@ -685,14 +685,14 @@ def rows_told(answer):
     """The figures of each task and kind that changed."""
     names = ("count", "total", "p50", "p99", "max")
     return {
-        (row["pid"], row["kind"]): [row[side] and tuple(row[side][name] for name in names) for side in ("before", "behind")]
+        (row["pid"], row["kind"]): [row[side] and tuple(row[side][name] for name in names) for side in ("before", "after")]
         for row in answer["rows"]
     }
 
 
-def rows_reckoned(before, behind):
+def rows_reckoned(before, after):
     """The same by the plain reckoning, of tasks of which some wait is another one."""
-    sides = [plain_waits.keys_of(waits, "task") for waits in (before, behind)]
+    sides = [plain_waits.keys_of(waits, "task") for waits in (before, after)]
     found = {}
     for key in {**sides[0], **sides[1]}:
         if sides[0].get(key) != sides[1].get(key):

@@ -155,7 +155,7 @@ class Kinds(unittest.TestCase):
         self.assertIn("CPU 0, where it was before:", lines_of(why))
 
     def test_queued_elsewhere(self):
-        """It was queued on CPU 1, behind a, and ran on CPU 3, which had been idle for a while."""
+        """It was queued on CPU 1, after a, and ran on CPU 3, which had been idle for a while."""
         text = trace(
             switch(1, 1000000, "swapper/1-0", "R", "a-10", task="<idle>-0"),
             switch(3, 1000000, "swapper/3-0", "R", "b-11", task="<idle>-0"),
@@ -578,8 +578,8 @@ def ran(events, cpu, begin, end):
     stamps = [event[0] for event in switches]
     micros = {}
     for now in range(begin, end):
-        behind = bisect.bisect_right(stamps, now)
-        pid = switches[behind - 1][3] if behind else switches[0][2]
+        after = bisect.bisect_right(stamps, now)
+        pid = switches[after - 1][3] if after else switches[0][2]
         micros[pid] = micros.get(pid, 0) + 1
     return micros
 

@@ -5,7 +5,7 @@
 
 writes FOLDER/script, FOLDER/trace1 and on, one for each CPU, FOLDER/expected and FOLDER/status. More keys are held
 than the tables have room for, savers and readers among them, some of which make events that are counted, and events
-come and go about where the tables are full, so that keys of savers are taken in and out. Behind each edit all
+come and go about where the tables are full, so that keys of savers are taken in and out. After each edit all
 attached triggers' totals are asked, and one table or list of latencies. The one line that is printed says how many
 edits were accepted, how many keys were held at the most and how many of the edits switched a key of some saver.
 """
@@ -73,7 +73,7 @@ class Script:
         return {number: frozenset(state[number]["table"]) for number, trigger in self.desk.triggers.items() if trigger.saves}
 
     def edit(self, text):
-        """Adds an edit, and the answers behind it."""
+        """Adds an edit, and the answers after it."""
         before = self.keys_of_savers()
         self.edits += 1
         self.accepted += self.perform(text)

@@ -31,7 +31,7 @@ class Refused(Exception):
 class Desk:
     def __init__(self):
         self.lanes, self.triggers, self.next_id = {}, {}, 1
-        # What replaying told, where no edit came behind.
+        # What replaying told, where no edit came after.
         self.told = None
 
     # ---- edits
@@ -256,13 +256,13 @@ class Desk:
 
 
 def split(text):
-    """The first word, and the rest behind the gap."""
+    """The first word, and the rest after the gap."""
     word, _, rest = text.partition(" ")
     return word, rest.lstrip(" ")
 
 
 def numbers(front, *texts):
-    """The numbers of a command, each behind the same front."""
+    """The numbers of a command, each after the same front."""
     for text in texts:
         if not re.fullmatch(front + "[0-9]{1,10}", text) or int(text[len(front) :]) >= 2**32:
             raise Refused("16")

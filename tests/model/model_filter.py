@@ -154,7 +154,7 @@ def read_pattern(pattern):
 
 
 def read_class(pattern, at):
-    """The bytes of a class, or None, and the place behind it; `at` is behind the `[`."""
+    """The bytes of a class, or None, and the place after it; `at` is after the `[`."""
     turned = pattern.startswith("!", at)
     at += turned
     members = set()
@@ -173,7 +173,7 @@ def read_class(pattern, at):
 
 
 def matches(items, text):
-    """Whether the items, each behind the one before it, are the whole text: by the places at which the items so far may end."""
+    """Whether the items, each after the one before it, are the whole text: by the places at which the items so far may end."""
     ends = {0}
     for item in items:
         if item is None:

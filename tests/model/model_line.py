@@ -54,7 +54,7 @@ def read_line(line):
 
 
 def read_stamp(text):
-    """The stamp in microseconds, and what stands behind it."""
+    """The stamp in microseconds, and what stands after it."""
     word, _, rest = text.lstrip(" ").partition(" ")
     if ":" not in word:
         fail_if(len(word) > 16, 3)
@@ -106,7 +106,7 @@ def read_part(field, part):
 
 
 def line_text(event):
-    """The event's text in `list`, behind its place."""
+    """The event's text in `list`, after its place."""
     said, stamp = event["said"], event["stamp"]
     head = f"{event['task']}-{event['line_pid']} [{event['cpu']:03}] {stamp // 10**6}.{stamp % 10**6:06}:"
     if event["name"] == "other":

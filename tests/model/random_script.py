@@ -84,7 +84,7 @@ def command(draw, lines, ids):
         return f"remove {number}"
     if kind < 75:
         cpu = draw.randrange(CPUS)
-        # An insert makes the lane anew, so a load is accepted only soon behind.
+        # An insert makes the lane anew, so a load is accepted only soon after.
         return f"unload {cpu}" + draw.choice(["", f"\nload @{cpu + 1}"])
     if kind < 77:
         return f"load @{draw.randrange(1, CPUS + 1)}"

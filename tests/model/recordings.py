@@ -136,7 +136,7 @@ def hole_at_start() -> Known:
 
 def lost_in_middle() -> Known:
     """CPU 3 lost 5,948 events, in which task 51 ran and slept: its wait of 644,589 us is none. What began and ended before the
-    hole, or behind it, or began at its last moment, is true."""
+    hole, or after it, or began at its last moment, is true."""
     lines = [
         waking(0, 5000000, 50, name="before", target=3),
         switch(3, 5000040, "<idle>-0", "before-50", state="R"),
@@ -344,7 +344,7 @@ class Machine:
             place = self.switch(cpu, self.chance.choice(["R", "R+"]))
             self.queue(task, "preempted", place)
         elif what < 0.7:
-            # The waking comes first, and the switch behind it still says that it sleeps.
+            # The waking comes first, and the switch after it still says that it sleeps.
             place = self.wake(task)
             self.switch(cpu, "S")
             self.queue(task, "woken", place)
@@ -378,22 +378,22 @@ def simulated(seed: int, steps: int = 400, *, holes: int = 0) -> Known:
 
 
 def damaged(chance: random.Random, events: List[Tuple[Place, str]], lines: List[str]) -> Optional[Gap]:
-    """Takes some events of a CPU away that stand side by side there, and has the line behind them say so; lines that are taken
+    """Takes some events of a CPU away that stand side by side there, and has the line after them say so; lines that are taken
     are empty. Where that would meet another gap nothing is taken."""
     cpu, count = chance.randrange(4), chance.randrange(1, 30)
     lane = [at for at, (place, _) in enumerate(events) if place.cpu == cpu]
     if len(lane) < count + 3:
         return None
     first = chance.choice([0, chance.randrange(1, len(lane) - count - 1)])
-    behind = lane[first + count]
+    following = lane[first + count]
     if any(not lines[at] or lines[at].startswith(("CPU:", "#")) for at in lane[max(first - 1, 0) : first + count + 1]):
         return None
     for at in lane[first : first + count]:
         lines[at] = ""
     told = f"CPU:{cpu} [LOST {count} EVENTS]" if first else f"##### CPU {cpu} buffer started ####"
-    lines[behind] = f"{told}\n{lines[behind]}"
+    lines[following] = f"{told}\n{lines[following]}"
     after = events[lane[first - 1]][0].stamp if first else None
-    return Gap(cpu, after, events[behind][0].stamp, count if first else None)
+    return Gap(cpu, after, events[following][0].stamp, count if first else None)
 
 
 def spans(wait: Wait, gap: Gap) -> bool:

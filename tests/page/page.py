@@ -503,14 +503,14 @@ class Strikes(Page):
     def assert_struck(self, *texts):
         """The page shows what the package says of a recording without these events."""
         difference = quietly(histdesk.diff, TRACE, without=list(texts))
-        self.until_equal([figures_of(difference.before), figures_of(difference.behind)], self.figures)
+        self.until_equal([figures_of(difference.before), figures_of(difference.after)], self.figures)
         rows = {f"{row.key[0]} {row.key[1]} {row.key[2]}": row for row in difference.table("task")}
         pair = lambda was, now: shown(was) if was == now else f"{shown(was)} → {shown(now)}"
         wanted = {}
         for key, row in rows.items():
             sides = [
                 [getattr(side, name) if side.count else None for name in ("count", "p50", "p99", "max")]
-                for side in (row.before, row.behind)
+                for side in (row.before, row.after)
             ]
             wanted[key] = [pair(*both) for both in zip(*sides)]
         self.until_equal(wanted, lambda: {row[0]: row[1:] for row in self.rows("#rows")})
@@ -539,10 +539,10 @@ class Strikes(Page):
         # A filter chooses on both sides; the other side is listed by a key.
         self.typed("#filter", "next_pid == 24650")
         difference = quietly(histdesk.diff, TRACE, without="sched_waking if common_pid == 0 || pid == 24650")
-        wanted = [figures_of(side[side.array.pid == 24650]) for side in (difference.before, difference.behind)]
+        wanted = [figures_of(side[side.array.pid == 24650]) for side in (difference.before, difference.after)]
         self.until_equal(wanted, self.figures)
         self.find("[data-side='1']").click()
-        self.until_equal(int((difference.behind.array.pid == 24650).sum()), self.count_listed)
+        self.until_equal(int((difference.after.array.pid == 24650).sum()), self.count_listed)
 
     def test_a_wait_behind_is_told_as_it_is_there(self):
         texts = [
@@ -570,8 +570,8 @@ class Strikes(Page):
         self.tick(other)
         self.assert_struck(one, other)
         flash = self.js("return [...document.querySelectorAll('#rows .flash')].map((row) => row.dataset.row)")
-        before, behind = (quietly(histdesk.diff, TRACE, without=list(texts)) for texts in ((one,), (one, other)))
-        rows = [{row.key[1:]: row for row in difference.table("task")} for difference in (before, behind)]
+        before, after = (quietly(histdesk.diff, TRACE, without=list(texts)) for texts in ((one,), (one, other)))
+        rows = [{row.key[1:]: row for row in difference.table("task")} for difference in (before, after)]
         changed = {f"{key[0]} {key[1]}" for key, row in rows[1].items() if rows[0].get(key) != row}
         self.assertEqual(set(flash), changed)
 
@@ -622,9 +622,9 @@ class Two(Page):
         """What differs, as the package has it: the rows first of which a figure changed most."""
         table = histdesk.diff(OTHER, TRACE).table("name")
         told = lambda side, name: getattr(side, name) if side.count else None
-        table.sort(key=lambda row: -abs((told(row.behind, figure) or 0) - (told(row.before, figure) or 0)))
+        table.sort(key=lambda row: -abs((told(row.after, figure) or 0) - (told(row.before, figure) or 0)))
         pairs = (
-            [(shown(told(row.before, name)), shown(told(row.behind, name))) for name in ("count", "p50", "p99", "max")]
+            [(shown(told(row.before, name)), shown(told(row.after, name))) for name in ("count", "p50", "p99", "max")]
             for row in table
         )
         cells = ([was if was == now else f"{was} → {now}" for was, now in row] for row in pairs)
@@ -641,7 +641,7 @@ class Two(Page):
         self.assertEqual(self.rows("#rows")[0][0], "cyclictest  woken")
         told = self.text("#side-told")
         self.assertEqual(told, f"{len(wanted)} rows differ")
-        # What is struck is struck from the first one; behind it the rows come again.
+        # What is struck is struck from the first one; after it the rows come again.
         self.js("document.querySelector('#ticks input').click()")
         self.until(lambda: "recipes-before.trace struck" in self.text("#side-told"))
         self.press("u")

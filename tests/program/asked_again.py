@@ -5,12 +5,12 @@
 
 ASKAGAIN is the program of that crate, LIBRARY is built from refuse_growth.c, and ROW is a folder with `script`,
 `trace1`.. and `expected`. Of the growths in the calls that the script's commands make, the Nth is refused, and then in
-other runs each from the Nth on; N goes from 1 to the first that no run reaches. A call that answers want of memory is
+other runs each from the Nth on; N goes from 1 to the first that no run reaches. A call that answers out of memory is
 made once more at once, with memory. Of each run is held:
 
-- a call answers what the row says or want of memory, and then, made again, what the row says;
-- `strike`, `unload` and `remove` never answer want of memory;
-- behind an accepted edit the desk is deferred just where the edit answered `Later`, which it never does on a desk that
+- a call answers what the row says or out of memory, and then, made again, what the row says;
+- `strike`, `unload` and `remove` never answer out of memory;
+- after an accepted edit the desk is deferred just where the edit answered `Later`, which it never does on a desk that
   isn't deferred: a `strike` where no attached trigger has a variable, a `remove` of a trigger that reads none;
 - the rows that an accepted insert or strike names are those that it names with memory, or there is no report, as on a
   deferred desk;
@@ -18,7 +18,7 @@ made once more at once, with memory. Of each run is held:
   costs it the report alone: it answers `Now`;
 - what is refused, or wants memory, leaves the desk deferred or not as it was; but where tables are asked for and the
   text of the answer wants memory, the desk may be no more deferred;
-- behind a table, totals or latencies that were answered the desk isn't deferred, and a `list` leaves it as it was.
+- after a table, totals or latencies that were answered the desk isn't deferred, and a `list` leaves it as it was.
 
 Of a refusal its number alone is compared. A row fails in which no edit ever answered `Later`. There is a line for each
 row, and a last one with the counts.
@@ -76,7 +76,7 @@ class Desk:
         word = command.split()[0]
         is_memory = answer.text == MEMORY
         demand(answer.text == want.text or is_memory and not again, "another answer")
-        demand(not (is_memory and word in NEVER_IN_WANT), "want of memory")
+        demand(not (is_memory and word in NEVER_IN_WANT), "out of memory")
         is_accepted = word in EDITS and not answer.is_refused and not is_memory
         demand((answer.kept != "none") == is_accepted, "no word of the kept tables, or one too many")
         if is_accepted:
@@ -86,7 +86,7 @@ class Desk:
             demand(answer.report in [None, NO_REPORT] or not answer.is_deferred, "a report, and deferred")
             self.follow(command, answer)
         elif word in TABLES and not answer.is_refused and not is_memory:
-            demand(not answer.is_deferred, "deferred behind an answer")
+            demand(not answer.is_deferred, "deferred after an answer")
         elif word in ["hist", "lat"] and is_memory:
             demand(self.is_deferred or not answer.is_deferred, "deferred by an answer")
         else:

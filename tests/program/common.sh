@@ -17,7 +17,7 @@ gives() {
     timeout "$limit" "$@" >"$folder/out" 2>"$folder/err" </dev/null
     status=$?
     told=$(<"$folder/err")
-    # The launcher says more behind the program's line.
+    # The launcher says more after the program's line.
     [[ $histdesk != "$launcher" ]] || told=${told%%$'\n'*}
     if [[ $status == "$want" && $told == "$error" ]]; then
         pass

@@ -66,7 +66,7 @@ class Row:
         return ran, count
 
     def cuts(self):
-        """How long the output is behind each of the first lines of the script."""
+        """How long the output is after each of the first lines of the script."""
         lines, lengths = re.findall(rb"[^\n]*\n|[^\n]+", self.script), set()
         path = os.path.join(self.folder, "script")
         for number in range(len(lines) + 1):

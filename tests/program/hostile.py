@@ -5,10 +5,10 @@
 
 All is drawn from a fixed start (hostile_texts.py), so that each run is the same; another word gives other bytes. 20,000
 trace lines, inserted and in traces, 5,000 filters, 5,000 triggers and 2,000 scripts come in a hundred parts; with
-`--part N`, from 1 to 100, that one alone. Lines, filters and triggers stand many in one script, which asks behind each
+`--part N`, from 1 to 100, that one alone. Lines, filters and triggers stand many in one script, which asks after each
 accepted filter and trigger what the desk made of it, and at its end for all that is there.
 
-Where a program prints something else, a line says in which part, and behind it stand the first command whose output
+Where a program prints something else, a line says in which part, and after it stand the first command whose output
 differs and both outputs. A whole run ends with how often the model answered what. The last line counts the programs'
 runs.
 """
@@ -225,7 +225,7 @@ def first_difference(printed, session):
             break
         at += len(wanted)
     else:
-        return f"more behind its last line: {printed[at:]}"
+        return f"more after its last line: {printed[at:]}"
     return f"line {number}\n  {line.encode('latin-1')}\n  prints {printed[at : at + SHOWN]}\n  not {wanted[:SHOWN]}"
 
 

@@ -4,7 +4,7 @@
    room for. Growths are counted from 1.
 
      REFUSE_AT=N     the growth of that number is refused
-     REFUSE_FROM=N   this one and all behind it are refused
+     REFUSE_FROM=N   this one and all after it are refused
      REFUSE_COUNT=F  the count is written to the file F when the program exits
      REFUSE_SWITCH=1 growths are counted and refused between the first byte that the program writes to standard error
                      and the second, the third and the fourth, and so on: each write there turns a switch, off at first

@@ -1,10 +1,10 @@
 #!/usr/bin/env python3
-"""Holds the reports of a desk's inserts and strikes against the tables before and behind each.
+"""Holds the reports of a desk's inserts and strikes against the tables before and after each.
 
     reports.py ASKAGAIN [EDITS]
 
-ASKAGAIN is the program of that crate, which prints behind an accepted insert or strike `-- rows ID:KEY ..`, the rows that
-may have changed, or `-- no report`. Of each report is held, by the tables that are asked for behind each edit:
+ASKAGAIN is the program of that crate, which prints after an accepted insert or strike `-- rows ID:KEY ..`, the rows that
+may have changed, or `-- no report`. Of each report is held, by the tables that are asked for after each edit:
 
 - each row that came, went or changed of a trigger on an event of the trace is in it, and no row is twice;
 - it has at most 2 rows of a trigger that reads no variable, and 4 and two for each trigger that reads the same variable of
@@ -72,7 +72,7 @@ def report_of(text):
 
 
 def rows_of(text):
-    """The rows of a table by key: what stands behind it."""
+    """The rows of a table by key: what stands after it."""
     rows = re.findall(r"^\{ (.*?) \} (.*)$", text, re.MULTILINE)
     return {tuple(map(int, re.findall(r": *(-?\d+)", key))): rest for key, rest in rows}
 
@@ -87,7 +87,7 @@ def most(number, readers=READERS, reads=READS):
 
 
 def hold(command, report, before, after):
-    """Holds a report against the tables by trigger, before an edit and behind it: how many rows changed."""
+    """Holds a report against the tables by trigger, before an edit and after it: how many rows changed."""
     demand(report is not None, f"{command}: no report")
     demand(len(set(report)) == len(report), f"{command}: a row twice")
     changed = {

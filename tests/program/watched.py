@@ -1,11 +1,11 @@
 #!/usr/bin/env python3
-"""Holds what `histwatch` prints of rows that changed against the tables before and behind each edit, by `histdesk`.
+"""Holds what `histwatch` prints of rows that changed against the tables before and after each edit, by `histdesk`.
 
     watched.py HISTDESK HISTWATCH [ASKAGAIN]
 
 First come three scripts whose changes are written here by hand. Then edits by chance of all kinds (random_script.py) and
 over full tables (crowded_script.py), some hundreds accepted. Of each script `histdesk` runs another one that has `hist` of
-each attached trigger before and behind each accepted insert and strike. By these tables, the `-` and `+` lines behind each
+each attached trigger before and after each accepted insert and strike. By these tables, the `-` and `+` lines after each
 such edit are told, in order of trigger id, then key, and how many rows changed; `histwatch` must print the output of
 `histdesk` with these lines, byte for byte, end with its status and say nothing on standard error. ASKAGAIN, if it is given,
 watches over the board that keeps no tables, where no edit has a report: of the shorter scripts it must print the same.
@@ -137,7 +137,7 @@ def component(modifier, text):
     if modifier == b"hex" or re.fullmatch(rb" *\d+", text):
         value = int(text, 16 if modifier == b"hex" else 10)
         return value - 2**64 if value >= 2**63 else value
-    # A text, behind which spaces stand.
+    # A text, after which spaces stand.
     return text.rstrip(b" ")
 
 

@@ -92,7 +92,7 @@ echo ft_desk >"$folder/faulty"
 touch -- "$root/crates/ft_low/src/lib.rt"
 builds "a fault" 2 $'build: building *\nnot so\nbuild: not built: ft_desk is not proved' ft_desk ft_low
 rm -- "$folder/faulty"
-builds "behind a fault" 0 "$building, 4 of 5 crates; see *" "${above[@]}"
+builds "after a fault" 0 "$building, 4 of 5 crates; see *" "${above[@]}"
 touch -- "$root/crates/ft_low/src/lib.rt"
 : >"$folder/slow"
 ends TERM

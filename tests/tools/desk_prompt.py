@@ -166,7 +166,7 @@ class Typed:
         return self.shown().partition(b"\n")[2].removesuffix(PROMPT)
 
     def interrupted(self):
-        """Ctrl-C, and what the terminal shows behind it. Of one that comes just before it waits, Python learns by the next."""
+        """Ctrl-C, and what the terminal shows after it. Of one that comes just before it waits, Python learns by the next."""
         self.types(b"\x03")
         return self.shown(again=b"\x03")
 
@@ -178,7 +178,7 @@ class Typed:
         return text.decode("utf-8", "surrogateescape")
 
     def ends(self, key=b"\x04"):
-        """Its status, behind Ctrl-D."""
+        """Its status, after Ctrl-D."""
         self.types(key)
         status = self.process.wait(LIMIT)
         os.close(self.master)
@@ -288,7 +288,7 @@ def lists_triggers(folder):
         " 1  sched_waking  hist:keys=pid:vals=hitcount:ts0=common_timestamp.usecs:sort=hitcount:size=2048",
         f" 2  sched_switch  {front}:sort=hitcount:size=2048",
     ])  # fmt: skip
-    same("behind quit", (lines[7:], said, status), ([""], "", 0))
+    same("after quit", (lines[7:], said, status), ([""], "", 0))
     output, said, status = fed(["help", "help lat", "help attahc"], folder=folder)
     for word in ("load @N, load PATH", "attach EVENT TRIGGER", "triggers", "cpus", "quit", "0:9 -> 1:4: 204 us"):
         has("help", output.decode(), word)
@@ -369,7 +369,7 @@ def opened_by_both(fifo):
 
 
 def knows_completions(_):
-    """What Tab may put behind the beginnings of words."""
+    """What Tab may put after the beginnings of words."""
     sys.path.insert(0, os.path.dirname(DESK[1]))
     from desk_typed import Known, completions
 

@@ -3,9 +3,9 @@
 
     explain_rows.py [--watched] EXPLAIN ROW... > WHAT WENT WRONG
 
-The plain model, asked command by command, says which line of the script each output belongs to. Behind each refused
+The plain model, asked command by command, says which line of the script each output belongs to. After each refused
 line of it, and nowhere else, stands an explanation: with that line's number and, where the refusal has a place, a caret
-under that byte of the command; of a refused trace with its line. With --watched the program is histwatch, and behind
+under that byte of the command; of a refused trace with its line. With --watched the program is histwatch, and after
 each accepted insert and strike stand rows that it changed and how many they are. The last line says how many rows hold.
 HISTDESK names the program, as for explain.
 """
@@ -51,7 +51,7 @@ def answers(script, traces):
 
 
 def shows(told, front, text):
-    """Whether a line shows the text behind `front`: whole, or where it is long a part of it, which dots may stand before."""
+    """Whether a line shows the text after `front`: whole, or where it is long a part of it, which dots may stand before."""
     if not told.startswith(front):
         return False
     told = told[len(front) :]
@@ -59,11 +59,11 @@ def shows(told, front, text):
 
 
 def behind_rows(told, at):
-    """Where the rows that changed end, with the line behind them that says how many they are; None where it does not."""
+    """Where the rows that changed end, with the line after them that says how many they are; None where it does not."""
     start = at
     while told[at : at + 1] and re.match("[-+] [0-9]+ { ", told[at]):
         at += 1
-    # A row that has changed has two lines, which differ behind its key.
+    # A row that has changed has two lines, which differ after its key.
     rows = {line[2:].rpartition(" } hitcount: ")[0] for line in told[start:at]}
     return at + 1 if told[at : at + 1] == [f"changed {len(rows)}"] else None
 

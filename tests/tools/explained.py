@@ -21,7 +21,7 @@ from histdesk import refusal_words
 WAKE, TURN, MADE = "attach sched_waking hist:", "attach sched_switch hist:", "attach wakeup_latency hist:"
 FIRST = ["load @1", "# one saver, one reader, one without", WAKE + "keys=pid:ts0=common_timestamp.usecs", ""]
 FIRST += [TURN + "keys=next_pid:lat=common_timestamp.usecs-$ts0", "   ", WAKE + "keys=comm"]
-# Behind these histwatch prints rows.
+# After these histwatch prints rows.
 FIRST += ["insert a-1 [003] 1.000000: sched_waking: comm=x pid=7 prio=1 target_cpu=000", "strike 3:1"]
 TRACES = {"good.trace": "a-1 [001] 1.000000:\n", "bad.trace": "# tracer: nop\na-1 [001] 1.000000:\nb-2 [001] 1.00\n"}
 # How the recordings of perf and of trace-cmd begin, and what gzip packs.
@@ -86,7 +86,7 @@ LINES = [
     ("insert " + "a" * 32 + "-1 [000] 1.000000:", "3: line 1 fault 6", "", None),
     (LINE + " " * 4096, "3: line 1 fault 7", "", None),
 ]
-# The filter, its fault and the rest, each tried behind `filter 1 if` and in a trigger.
+# The filter, its fault and the rest, each tried after `filter 1 if` and in a trigger.
 FILTERS = [
     ("", "2 at 0", "the filter is empty", ""),
     ("nope $", "3 at 0", "sched_waking has comm, pid", "nope $"),
@@ -120,7 +120,7 @@ TRIGGERS = [
     (WAKE + "vals=prio", "2 at 14", "it has no keys", ""),
     (TURN + "keys=next_pid:vals=:lat=common_timestamp.usecs-$ts0", "2 at 24", "a shell takes", EATEN),
     (TURN + "keys=next_pid:sort=.descending", "2 at 24", "a $NAME is wanting", ".descending"),
-    (WAKE + "keys=pid  if", "2 at 15", "behind the head stands if and a filter", "if"),
+    (WAKE + "keys=pid  if", "2 at 15", "after the head stands if and a filter", "if"),
     (WAKE + "keys=comm,pids", "3", "did you mean pid?", "pids"),
     (WAKE + "keys=next_pid", "3", "sched_switch has it", "next_pid"),
     (WAKE + "keys=pid:vals=$lat", "3", "the trigger's own variable", "$lat"),
@@ -158,7 +158,7 @@ TRIGGERS = [
 ]
 
 
-# What no command here is refused for: want of memory, a full desk, a 65th trigger.
+# What no command here is refused for: out of memory, a full desk, a 65th trigger.
 UNMET = {"1", "7", "15", "8: fault 1", "8: fault 11 filter 1", "9: filter 1"}
 
 

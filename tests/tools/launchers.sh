@@ -53,7 +53,7 @@ prints "an option on a terminal" "histdesk: bad words"$'\n'"$usage"$'\n2'
 if [[ -e $folder/built ]]; then
     fail "words that are refused start a build"
 fi
-tells "behind --" 2 $'histdesk: cannot read -x\nhistdesk: -x: there is no such file' "" -- load -x
+tells "after --" 2 $'histdesk: cannot read -x\nhistdesk: -x: there is no such file' "" -- load -x
 
 # ---- words that it takes
 
@@ -108,7 +108,7 @@ tail -n +12 wakeups.trace >headless
 gives "a trace without a header" 1 'histdesk: headless looks like a trace, *' "$launcher" headless
 printf '%s\n' '# tracing' 'insert a-1 [000] 1.000000: sched_waking: comm=w pid=42 prio=120 target_cpu=000' >inserts
 gives "a script of trace lines" 0 "" "$launcher" inserts
-# Told before anything is printed, and on a terminal once more behind all of it.
+# Told before anything is printed, and on a terminal once more after all of it.
 "$launcher" wakeups.trace 2>&1 </dev/null | head -n 1 >"$folder/out"
 prints "told first" "$looks: $launcher SCRIPT wakeups.trace"
 on_terminal "$launcher wakeups.trace"

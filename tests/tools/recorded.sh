@@ -75,7 +75,7 @@ python=/usr/bin/python3
 [[ -x $python ]] || python=python3
 export PYTHONPATH=$tests/../python PYTHONDONTWRITEBYTECODE=1
 "$python" -c 'import histdesk' 2>"$folder/said" || not_tried "the package: $(tail -n 1 "$folder/said")"
-# Of each CPU that has overwritten some, but for the one that begins first, there is a hole before its first event.
+# Of each CPU that has overwritten some, except for the one that begins first, there is a hole before its first event.
 cat >"$folder/holes.py" <<'END'
 import re
 import sys

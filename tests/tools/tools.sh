@@ -46,7 +46,7 @@ inserted 1:2
 refused 10
   line 10: totals 5: no such trigger is attached; none is'
 
-# With --strict nothing is printed behind the first refused line, so no table of a trace that was not loaded.
+# With --strict nothing is printed after the first refused line, so no table of a trace that was not loaded.
 printf '%s\n' 'load @1' 'attach sched_waking hist:keys=pid' 'hist 1' >"$folder/strict"
 told="refused 3: line 15 fault 3
   line 1: load @1: $examples/torn.trace, line 15: no stamp SECONDS.MICROSECONDS: stands where one is due, or the flags \
@@ -93,10 +93,10 @@ refused 1
 refused 99
   line 5: load @2: no refusal that the library knows'
 script other 'echo "removed 2"; echo "refused 10"'
-lost='explain: line 1 of the output is no answer to the command on line 2; nothing behind it is explained'
+lost='explain: line 1 of the output is no answer to the command on line 2; nothing after it is explained'
 HISTDESK=$folder/bin/other gives other_output 0 "$lost" "$tools/explain" "$folder/asked"
 prints other_output $'removed 2\nrefused 10'
-# Programs that stand for histwatch. Rows that changed stand behind an accepted insert or strike alone.
+# Programs that stand for histwatch. Rows that changed stand after an accepted insert or strike alone.
 printf '%s\n' 'insert a-1 [000] 1.000000:' 'strike 0:1' 'list 0' 'insert x' 'hist 9' >"$folder/asked"
 cat >"$folder/changed" <<'END'
 inserted 0:1
@@ -115,10 +115,10 @@ prints changed_rows "$(<"$folder/changed")
 refused 10
   line 5: hist 9: no such trigger is attached; none is"
 script watch_twice 'echo "inserted 0:1"' 'echo "changed 0"' 'echo "changed 0"' 'echo "refused 10"'
-lost='explain: line 3 of the output is no answer to the command on line 2; nothing behind it is explained'
+lost='explain: line 3 of the output is no answer to the command on line 2; nothing after it is explained'
 HISTDESK=$folder/bin/watch_twice gives changed_twice 0 "$lost" "$tools/explain" "$folder/asked"
 script watch_refused 'echo "refused 3: line 1 fault 1"' 'echo "+ 1 { pid:          7 } hitcount:          1"'
-lost='explain: line 2 of the output is no answer to the command on line 2; nothing behind it is explained'
+lost='explain: line 2 of the output is no answer to the command on line 2; nothing after it is explained'
 HISTDESK=$folder/bin/watch_refused gives changed_by_nothing 0 "$lost" "$tools/explain" "$folder/asked"
 script killed 'kill -KILL $$'
 HISTDESK=$folder/bin/killed gives killed 137 "" "$tools/explain" "$folder/asked"
@@ -292,7 +292,7 @@ refused 5: cpu 2
 refused 5: cpu 3'
 printf '%s\n' 'a 1 [000] 1.000000: x:' 'hello' >"$folder/bad"
 loads bad_perf 1 'from-perf: line 2: *: hello' "$kept" "$tools/from-perf" "$folder/bad"
-# perf's own line of lost events stands behind them, with the stamp of the next one of its CPU.
+# perf's own line of lost events stands after them, with the stamp of the next one of its CPU.
 cat >"$folder/lost" <<'END'
                a     1 [000]     1.000000000: sched:sched_wakeup_new: comm=w pid=3 prio=120 target_cpu=001
             perf     1 [003]     1.000001000: PERF_RECORD_LOST lost 5948
@@ -368,7 +368,7 @@ gives from_perf_usage 0 "" "$tools/from-perf" --help
 gives from_trace_cmd_usage 0 "" "$tools/from-trace-cmd" --help
 gives no_text 1 'from-perf: /none: No such file or directory' "$tools/from-perf" /none
 
-# Two buffers, as trace-cmd prints them: a line behind one of lost events has no columns for the buffer.
+# Two buffers, as trace-cmd prints them: a line after one of lost events has no columns for the buffer.
 cat >"$folder/buffers" <<'END'
 cpus=4
                     a-1     [000]     1.000000: x: top
@@ -399,7 +399,7 @@ grep -v '^ ' "$folder/buffers" | head -n 3 >"$folder/one_buffer"
 gives sole_buffer 0 'from-trace-cmd: 7 events *' "$tools/from-trace-cmd" "$folder/one_buffer"
 prints sole_buffer $'# cpus=4\na-1     [000]     1.000000: x: one\nCPU:1 [LOST 7 EVENTS]'
 gives sole_top 0 "$lost" "$tools/from-trace-cmd" --buffer / "$folder/trace-cmd"
-gives no_word 1 'from-trace-cmd: --buffer needs a word behind it; *' "$tools/from-trace-cmd" --buffer
+gives no_word 1 'from-trace-cmd: --buffer needs a word after it; *' "$tools/from-trace-cmd" --buffer
 gives no_option 1 'from-perf: no such option: --buffer; *' "$tools/from-perf" --buffer one
 
 # Files that neither of them turns, in one line.
@@ -560,7 +560,7 @@ gives record_usage 0 "" "$tools/record" --help
 records no_number 2 'record: SECONDS is not a number above 0: x' x
 records no_time 2 'record: SECONDS is not a number above 0: 0.0' 0.0
 records no_seconds 2 'record: wants one word, SECONDS, *'
-records no_command 2 'record: wants a COMMAND behind --; *' --
+records no_command 2 'record: wants a COMMAND after --; *' --
 records no_such_command 2 'record: there is no command none' -- none
 records bad_room 2 'record: KIB is not a number above 0: 1M' --buffer 1M 1
 records bad_option 2 'record: no such option: --all; *' --all 1

@@ -154,7 +154,7 @@ def meaning(line: str) -> Any:
 
 
 def is_name(read: str, true: str, is_task: bool = False) -> bool:
-    """Whether a name is the true one, but for bytes that are masked; blanks before a task's name are lost in every text."""
+    """Whether a name is the true one, except for bytes that are masked; blanks before a task's name are lost in every text."""
     true = true.lstrip(" ") if is_task else true
     return len(read) == len(true) and all(one in (other, "?") for one, other in zip(read, true))
 
@@ -193,7 +193,7 @@ def torn(draw: random.Random, line: str, other: str) -> str:
 
 
 def check_torn(name: str, seed: int) -> int:
-    """Torn lines, a whole one behind each, so that none is a piece of another one. How many weren't printed."""
+    """Torn lines, a whole one after each, so that none is a piece of another one. How many weren't printed."""
     draw, (text_of, words) = random.Random(seed), FORMS[name]
     events = some_events(draw, TORN + 1, lambda: draw.choice(PLAIN))
     whole = [text_of(event) for event in events]
@@ -296,7 +296,7 @@ def check_pieces(seed: int) -> None:
 
 def check_buffers(seed: int, names: List[str]) -> None:
     """Of several buffers each is taken by its name, as if it were alone. The top one has no name here. No name of a task has a
-    buffer's columns behind a line break: such a line is left out."""
+    buffer's columns after a line break: such a line is left out."""
     draw, width = random.Random(seed), max(map(len, names)) + 2
     words = FORMS["from-trace-cmd"][1]
     mixed, alone = "cpus=4\n", {name: "cpus=4\n" for name in names}

@@ -8,9 +8,9 @@ const PERCENTILES = { p50: 500, p90: 900, p99: 990, "p99.9": 999 }; // In thousa
 const COLOURED = 6; // So many groups have a colour of their own; one more is all others.
 const SHORT = 65536; // Waits of so many microseconds are long.
 
-// The waits of a recording in the order in which they ended, or those that are new behind strikes.
+// The waits of a recording in the order in which they ended, or those that are new after strikes.
 class Waits {
-  // Of the server's bytes: columns one behind the other, each aligned to 8 bytes.
+  // Of the server's bytes: columns one after the other, each aligned to 8 bytes.
   constructor(bytes, count) {
     let at = 0;
     for (const [name, Kind] of Object.entries(COLUMNS)) {
@@ -153,7 +153,7 @@ class Spread {
   }
 }
 
-// The numbers of the waits of one or two parts from the shortest to the longest; in the second they go on behind the first.
+// The numbers of the waits of one or two parts from the shortest to the longest; in the second they go on after the first.
 function merged([first, fresh]) {
   if (!fresh) return first.order;
   const all = new Uint32Array(first.count + fresh.count);
@@ -164,7 +164,7 @@ function merged([first, fresh]) {
   return all;
 }
 
-// Waits that are told together: those of a recording, or behind strikes what is left of them and new ones. Each has a number.
+// Waits that are told together: those of a recording, or after strikes what is left of them and new ones. Each has a number.
 class Side {
   constructor(title, recording, about, parts, isBehind = false) {
     Object.assign(this, { title, recording, about, parts, isBehind, order: merged(parts) });

@@ -23,7 +23,7 @@ const lanes = {
     byId("wait-text").replaceChildren(...reasons.split("\n").map((text) => made("p", {}, text)), made("pre", {}, others.join("\n\n")));
     this.canvas.setAttribute("aria-label", `what ran on each CPU. ${reasons}`);
   },
-  // Asks for what ran before and behind, where that is seen and isn't there.
+  // Asks for what ran before and after, where that is seen and isn't there.
   async more() {
     const { scene, view } = this, size = view.high - view.low, [from, until] = [view.low, view.high].map((at) => scene?.begin + at);
     if (!scene || (from >= scene.from && until <= scene.until)) return;

@@ -38,7 +38,7 @@ function group() {
 // Sides and bars, of what there is.
 function arrange() {
   const { recordings, fresh, scale: before } = state, [{ waits, about }] = recordings;
-  state.sides = fresh ? [new Side("before", 0, about, [waits]), new Side("behind", 0, about, [waits, fresh], true)]
+  state.sides = fresh ? [new Side("before", 0, about, [waits]), new Side("after", 0, about, [waits, fresh], true)]
     : recordings.map((one, at) => new Side(recordings.length > 1 ? nameOf(one.about.path) : "waits", at, one.about, [one.waits]));
   if (fresh) state.groups.mark(fresh, about);
   state.scale = new Scale(byId("scale").value === "linear", [...recordings.map((one) => one.waits), ...fresh ? [fresh] : []]);
@@ -58,7 +58,7 @@ function show(at) {
   triggered();
 }
 
-// Shows the waits behind strikes, as the server tells them: which are taken, and which are new. Of these, too, the filter chooses.
+// Shows the waits after strikes, as the server tells them: which are taken, and which are new. Of these, too, the filter chooses.
 async function struckBy({ struck, changed }) {
   const [{ waits }] = state.recordings, { filter: text, event } = state;
   const fresh = struck.length ? new Waits(unpacked(changed.new).buffer, changed.count) : null;
@@ -83,7 +83,7 @@ function chooseWait(at) {
   const side = state.sides[state.shown], value = (column) => side.value(column, at);
   state.wait = {
     recording: side.recording, cpu: value("endCpu"), line: value("endLine"), from: value("beginCpu"), pid: value("pid"),
-    task: side.task(at), kind: KINDS[value("kind")], micros: value("micros"), end: ended(side, at), behind: at >= side.parts[0].count,
+    task: side.task(at), kind: KINDS[value("kind")], micros: value("micros"), end: ended(side, at), after: at >= side.parts[0].count,
   };
   tab("wait");
   byId("wait-empty").textContent = "asking what ran meanwhile …";

@@ -13,8 +13,8 @@ async function asked(path, body) {
 const unzipped = (text) => new Response(new Blob([unpacked(text)]).stream().pipeThrough(new DecompressionStream("gzip"))).arrayBuffer();
 
 // What ran during a wait; `stretch` has the stamps `from` and `until` where other times are asked for than around it.
-async function sceneOf({ recording, cpu, line: at, behind }, stretch) {
-  if (!SAVED) return asked("wait", { recording, cpu, line: at, ...stretch, ...behind && { behind } });
+async function sceneOf({ recording, cpu, line: at, after }, stretch) {
+  if (!SAVED) return asked("wait", { recording, cpu, line: at, ...stretch, ...after && { after } });
   (SAVED.read ??= [])[recording] ??= JSON.parse(new TextDecoder().decode(await unzipped(SAVED.scenes[recording])));
   return SAVED.read[recording][`${cpu}:${at}`]
     || { refused: `This file tells what ran during the longest waits alone. Of all others tells: ${SAVED.about.command}` };

@@ -83,14 +83,14 @@ const strikes = {
   },
   // The rows that differ, those first of which a figure changed most, or how many waits there are; what the last strike changed flashes.
   rows(rows, by = "count") {
-    const before = this.shown, change = (row) => Math.abs((row.before?.[by] || 0) - (row.behind?.[by] || 0));
+    const before = this.shown, change = (row) => Math.abs((row.before?.[by] || 0) - (row.after?.[by] || 0));
     for (const head of document.querySelectorAll("[data-change]")) head.ariaSort = head.dataset.change === by ? "descending" : "none";
     const all = (this.all = rows).sort((one, other) => change(other) - change(one)).slice(0, ROWS);
     const cell = (row, name) => {
-      const [was, is] = [row.before, row.behind].map((side) => number(side && side[name]));
+      const [was, is] = [row.before, row.after].map((side) => number(side && side[name]));
       return made("td", { class: `n${was === is ? "" : " changed"}` }, was === is ? was : `${was} → ${is}`);
     };
-    this.shown = new Map(rows.map((row) => [`${row.pid ?? row.task} ${row.kind}`, JSON.stringify([row.before, row.behind])]));
+    this.shown = new Map(rows.map((row) => [`${row.pid ?? row.task} ${row.kind}`, JSON.stringify([row.before, row.after])]));
     byId("rows").tBodies[0].replaceChildren(...all.map((row) => {
       const key = `${row.pid ?? row.task} ${row.kind}`, name = made("td", {}, `${row.task} ${row.pid ?? ""} `, made("i", {}, row.kind));
       const isSame = !state.strikes.length || before.get(key) === this.shown.get(key);

@@ -9,13 +9,13 @@ static bool is_word(text word, const char *own) {
     return word.length == strlen(own) && memcmp(word.at, own, word.length) == 0;
 }
 
-static text behind(text whole, size_t length) {
+static text after(text whole, size_t length) {
     return (text){whole.at + length, whole.length - length};
 }
 
 static text trim_start(text whole) {
     while (whole.length && whole.at[0] == ' ')
-        whole = behind(whole, 1);
+        whole = after(whole, 1);
     return whole;
 }
 
@@ -25,12 +25,12 @@ static text trim(text whole) {
     return trim_start(whole);
 }
 
-/* The first word of a text that no space begins; `rest` becomes what follows it and the spaces behind it. */
+/* The first word of a text that no space begins; `rest` becomes what follows it and the spaces after it. */
 static text first_word(text whole, text *rest) {
     size_t length = 0;
     while (length < whole.length && whole.at[length] != ' ')
         length++;
-    *rest = trim_start(behind(whole, length));
+    *rest = trim_start(after(whole, length));
     return (text){whole.at, length};
 }
 
@@ -48,7 +48,7 @@ static bool read_number(text digits, uint32_t *number) {
 }
 
 static bool read_load(text rest, command *asked) {
-    return rest.length && rest.at[0] == '@' && read_number(behind(rest, 1), &asked->number);
+    return rest.length && rest.at[0] == '@' && read_number(after(rest, 1), &asked->number);
 }
 
 static bool read_strike(text rest, command *asked) {
@@ -56,7 +56,7 @@ static bool read_strike(text rest, command *asked) {
     if (!colon)
         return false;
     size_t length = (size_t)(colon - rest.at);
-    return read_number((text){rest.at, length}, &asked->number) && read_number(behind(rest, length + 1), &asked->line);
+    return read_number((text){rest.at, length}, &asked->number) && read_number(after(rest, length + 1), &asked->line);
 }
 
 static bool read_attach(text rest, command *asked) {
@@ -101,7 +101,7 @@ command read_command(text line) {
         return (command){.kind = NOTHING};
     size_t insert = strlen("insert");
     if (line.length >= insert && memcmp(line.at, "insert", insert) == 0 && (line.length == insert || line.at[insert] == ' '))
-        return (command){INSERT, 0, 0, behind(line, line.length == insert ? insert : insert + 1)};
+        return (command){INSERT, 0, 0, after(line, line.length == insert ? insert : insert + 1)};
     text rest, word = first_word(trim(line), &rest);
     for (size_t at = 0; at < sizeof forms / sizeof *forms; at++)
         if (is_word(word, forms[at].word)) {

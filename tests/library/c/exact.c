@@ -1,6 +1,6 @@
 /* exact: each text that is handed in and each buffer that is copied to has just its size on the heap, so that valgrind sees
  * each byte read or written beside it: copies with no room, too little, enough and too much, from each place on and from
- * behind the end; handles without a desk; each refusal and its words. What is wrong is printed, by the line of this file;
+ * after the end; handles without a desk; each refusal and its words. What is wrong is printed, by the line of this file;
  * last stands how many of the tests hold. */
 #include "histdesk.h"
 
@@ -70,7 +70,7 @@ static uint32_t matching(uint32_t event, const char *filter, uint64_t *count) {
 
 /* ---- Copies. */
 
-/* Each copy from each place on, to each room: just what is there, and nothing behind it. */
+/* Each copy from each place on, to each room: just what is there, and nothing after it. */
 #define COPIES(type, copy, count)                                                                          \
     static bool type##_##copy(void) {                                                                      \
         uint64_t all = (count), froms[] = {0, 1, 2, all / 2, all - 1, all, all + 1, 1ull << 32, UINT64_MAX - 1, UINT64_MAX}; \
@@ -94,7 +94,7 @@ static uint32_t matching(uint32_t event, const char *filter, uint64_t *count) {
         return holds;                                                                                      \
     }
 
-/* What is behind an event's last field is nobody's. */
+/* What is after an event's last field is nobody's. */
 static bool is_same(const void *one, const void *other, size_t size) {
     if (size == sizeof(histdesk_event))
         size = offsetof(histdesk_event, prev_state) + sizeof(histdesk_name);

@@ -1,4 +1,4 @@
-/* fail: a session that makes each call, with each growth of the library's memory refused in turn: alone, or with all behind
+/* fail: a session that makes each call, with each growth of the library's memory refused in turn: alone, or with all after
  * it. Where a call answers that memory ran out, it is given memory and asked again, and answers what it should. In the end
  * nothing is held of the heap. What is wrong is printed, by the line of this file; last stands how many sessions held. */
 #include "heap.h"
@@ -20,7 +20,7 @@ static bool refuses(void) {
 
 static histdesk desk;
 static uint64_t wants; /* how often a call wanted memory */
-static char wrongs[4096]; /* what is wrong, printed behind the session */
+static char wrongs[4096]; /* what is wrong, printed after the session */
 static size_t wrongs_length;
 
 static void wrong(int line, const char *form, ...) {
@@ -233,7 +233,7 @@ static void ask_all(uint64_t wakings, uint32_t line, uint64_t stamp, int64_t pow
     HOLDS(!histdesk_is_deferred(&desk));
 }
 
-/* The report of an edit that changes one row of each trigger, or takes one away and brings one; want of memory may leave it
+/* The report of an edit that changes one row of each trigger, or takes one away and brings one; out of memory may leave it
  * out. */
 static void ask_report(bool had_memory) {
     histdesk_report report;
@@ -353,7 +353,7 @@ int main(void) {
             sessions++;
             good += wrongs_length == 0;
             if (wrongs_length)
-                printf("growth %" PRIu64 " refused%s:\n%.*s", at, for_good ? ", and all behind it" : "", (int)wrongs_length,
+                printf("growth %" PRIu64 " refused%s:\n%.*s", at, for_good ? ", and all after it" : "", (int)wrongs_length,
                        wrongs);
         }
     if (last == 0 || wants == 0)

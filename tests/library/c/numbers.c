@@ -18,7 +18,7 @@ typedef struct {
     size_t key_count, title_count;
 } trigger_text;
 
-/* What stands before the byte, or all; `rest` becomes what stands behind it. */
+/* What stands before the byte, or all; `rest` becomes what stands after it. */
 static text cut(text *rest, char at) {
     const uint8_t *end = rest->length ? memchr(rest->at, at, rest->length) : NULL;
     text first = {rest->at, end ? (size_t)(end - rest->at) : rest->length};
@@ -98,7 +98,7 @@ static void put_part(bytes *to, const key_item *item, const histdesk_part *part)
         put(to, part->text.bytes, part->text.length);
         put_form(to, "%*s", 50 - part->text.length, "");
         if (!is_zero(part->text.bytes + part->text.length, sizeof part->text.bytes - part->text.length))
-            fault("a text with bytes behind its end");
+            fault("a text with bytes after its end");
     } else {
         fault("a part of another kind than its key: %" PRIu64, part->kind);
     }

@@ -1,4 +1,4 @@
-/* The report of an insert or strike: each row that changed is named, by the rows of all triggers before and behind it. */
+/* The report of an insert or strike: each row that changed is named, by the rows of all triggers before and after it. */
 #include "script.h"
 
 #include <inttypes.h>
@@ -98,7 +98,7 @@ void before_edit(histdesk *desk) {
     read_base(desk, &before);
 }
 
-/* Also behind an edit that was refused, of which no row changed. */
+/* Also after an edit that was refused, of which no row changed. */
 void after_edit(histdesk *desk) {
     named names = {0};
     histdesk_refusal refusal;

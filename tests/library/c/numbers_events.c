@@ -21,7 +21,7 @@ static void put_name(bytes *to, const char *title, const histdesk_name *name) {
     put(to, name->bytes, name->length);
     for (size_t at = name->length; at < sizeof name->bytes; at++)
         if (name->bytes[at])
-            fault("a name with bytes behind its end");
+            fault("a name with bytes after its end");
 }
 
 static void put_target(bytes *to, int64_t cpu) {
@@ -65,7 +65,7 @@ static void put_event(bytes *to, const histdesk_event *event, histdesk_event *ow
     put_form(to, "\n");
 }
 
-/* Whether they are the same in all but the four bytes behind their last field. */
+/* Whether they are the same in all but the four bytes after their last field. */
 static bool is_same_event(const histdesk_event *one, const histdesk_event *other) {
     return memcmp(one, other, offsetof(histdesk_event, prev_state) + sizeof one->prev_state) == 0;
 }
@@ -99,16 +99,16 @@ static uint64_t put_lane(histdesk *desk, uint32_t cpu, uint32_t line, bytes *to)
 }
 
 void check_list(histdesk *desk, uint32_t cpu, const bytes *list) {
-    bytes anew = {0}, behind = {0};
+    bytes anew = {0}, after = {0};
     put_lane(desk, cpu, 0, &anew);
     if (!is_same(&anew, list))
         fault("CPU %" PRIu32 ": the events don't give the list:\n%.*s", cpu, (int)anew.length, (char *)anew.at);
-    put_lane(desk, cpu, 3, &behind);
-    if (behind.length > anew.length ||
-        (behind.length && memcmp(anew.at + anew.length - behind.length, behind.at, behind.length) != 0))
+    put_lane(desk, cpu, 3, &after);
+    if (after.length > anew.length ||
+        (after.length && memcmp(anew.at + anew.length - after.length, after.at, after.length) != 0))
         fault("CPU %" PRIu32 ": the events from line 3 on don't end the list", cpu);
     free(anew.at);
-    free(behind.at);
+    free(after.at);
 }
 
 void check_events(histdesk *desk) {
@@ -138,7 +138,7 @@ void check_events(histdesk *desk) {
     free(events);
 }
 
-/* The reading events are in merged order, each stands behind the one that saved, and all are held. */
+/* The reading events are in merged order, each stands after the one that saved, and all are held. */
 void check_latencies(histdesk *desk, uint32_t id) {
     uint64_t count, events;
     if (histdesk_latencies(desk, id, &count) != HISTDESK_OK || histdesk_events(desk, &events) != HISTDESK_OK)

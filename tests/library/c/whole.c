@@ -18,8 +18,8 @@ static size_t part_of(uint64_t from) {
                 fault(#copy ": not as much as there is");                              \
             from += room;                                                              \
         }                                                                              \
-        type behind;                                                                   \
-        if (copy(desk, count, &behind, 1) != 0)                                        \
+        type after;                                                                   \
+        if (copy(desk, count, &after, 1) != 0)                                        \
             fault(#copy ": more than there is");                                       \
         return whole;                                                                  \
     }
