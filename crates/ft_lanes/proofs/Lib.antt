@@ -6,5 +6,6 @@ pub mod Counts
 pub mod Views
 pub mod RowLines
 pub mod Loads
+pub mod Merges
 pub mod Puts
 pub mod Copies

@@ -17,7 +17,7 @@ use Rattle.ft_lanes.specs.Held.{Lane, Lanes, number_limit, event_limit}
 use Rattle.ft_lanes.specs.Loaded.{lane_of, with_lanes, first_held}
 use Rattle.ft_lanes.specs.Edits.{new_lane, lane_with, lanes_with}
 use Rattle.ft_store.specs.Stored.{stored_at}
-use Rattle.ft_lanes.specs.inner.Slots.{SlotsOf, AllSlots, no_slots, slots_with, all_with, all_from, slots_in, lane_by, lanes_by, first_cpu, has_cpu, AgreeBeside, HasRoom, AreWithin, AreStored}
+use Rattle.ft_lanes.specs.inner.Slots.{SlotsOf, AllSlots, no_slots, slots_with, all_with, all_from, slots_in, lane_by, lanes_by, first_cpu, has_cpu, AgreeBeside, HasRoom, IsFreeOf, AreWithin, AreStored}
 use Rattle.ft_lanes.proofs.Each.{within-longer, within-with}
 use Rattle.ft_lanes.proofs.Views.{held-slots_of, lanes-with, lanes-appended, lane-found}
 use Rattle.ft_maps.specs.Entries.{get-insert_same, get-insert_other, get-remove_same, get-remove_other}
@@ -212,9 +212,6 @@ free-step true cpu rest none = cc
 free-step false cpu rest none = (refl, none)
 
 -- where no event's lane is held, the CPUs are free
-abbrev pub IsFreeOf : AllSlots → List Traced → Type 0
-IsFreeOf all es = (q : ℕ) → has_cpu es q ≡ true → map.get all q ≡ None
-
 pub free-from : (all : AllSlots) (es : List Traced) → first_cpu (map.contains_key all) es ≡ None → IsFreeOf all es
 free-from all [] none q is = cc
 free-from all (e ∷ es) none q is =

@@ -1,5 +1,5 @@
 -- Lanes as places in a store of events, and the lanes of events that they stand for.
-use Rattle.std.specs.Prelude.{◌≡◌, ℕ, ◌+◌, ◌<◌, ◌≤◌, Bool, true, false, ◌==◌, List, [], ◌∷◌, length, Option, option_map, Some, unwrap_or}
+use Rattle.std.specs.Prelude.{◌≡◌, ℕ, ◌+◌, ◌<◌, ◌≤◌, Bool, true, false, ◌==◌, if◌then◌else◌, List, [], ◌∷◌, length, get_or, Option, None, option_map, Some, unwrap_or}
 use Rattle.std.specs.List.{sum_by, find, list_any}
 use Rattle.std.specs.Map.{keys_of}
 use Rattle.std.specs.Option.{option_map_or}
@@ -14,6 +14,10 @@ use Rattle.ft_lanes.specs.Held.{Lane, Lanes, number_limit}
 pub record SlotsOf : Type 0 where
   pub places : FinMap nat_cmp ℕ
   pub next : ℕ
+
+-- how many CPUs a number of 16 bits can tell apart (our own choice)
+abbrev pub cpu_limit : ℕ
+cpu_limit = 65536
 
 -- slots by CPU (our own choice)
 abbrev pub AllSlots : Type 0
@@ -57,6 +61,19 @@ abbrev pub all_from : AllSlots → ℕ → List Traced → AllSlots
 all_from all place [] = all
 all_from all place (e ∷ es) = all_from (all_with all e.cpu place) (place + 1) es
 
+-- the slots of a CPU put in, where there are any (our own choice)
+abbrev pub all_put : AllSlots → ℕ → SlotsOf → AllSlots
+all_put all cpu slots = if slots.next == 1 then all else map.insert all cpu slots
+
+-- slots by CPU, from a CPU on, put in (our own choice)
+abbrev pub all_merged : AllSlots → ℕ → List SlotsOf → AllSlots
+all_merged all cpu [] = all
+all_merged all cpu (slots ∷ by_cpu) = all_merged (all_put all cpu slots) (cpu + 1) by_cpu
+
+-- the slots of a CPU in a list by CPU, none past its end (our own choice)
+abbrev pub slots_at : List SlotsOf → ℕ → SlotsOf
+slots_at by_cpu cpu = get_or by_cpu cpu no_slots
+
 -- the CPU of the first event that has one of these CPUs (our own choice)
 abbrev pub first_cpu : (ℕ → Bool) → List Traced → Option ℕ
 first_cpu has events = option_map (λ e. e.cpu) (find (λ e. has e.cpu) events)
@@ -65,9 +82,17 @@ first_cpu has events = option_map (λ e. e.cpu) (find (λ e. has e.cpu) events)
 abbrev pub has_cpu : List Traced → ℕ → Bool
 has_cpu events cpu = list_any (λ e. e.cpu == cpu) events
 
+-- no event's CPU has slots (our own choice)
+abbrev pub IsFreeOf : AllSlots → List Traced → Type 0
+IsFreeOf all events = (cpu : ℕ) → has_cpu events cpu ≡ true → map.get all cpu ≡ None
+
 -- two sets of slots are the same but for the CPUs of the events (our own choice)
 abbrev pub AgreeBeside : List Traced → AllSlots → AllSlots → Type 0
 AgreeBeside events old new = (cpu : ℕ) → has_cpu events cpu ≡ false → map.get new cpu ≡ map.get old cpu
+
+-- where slots that are put in change nothing, all is as it was (our own choice)
+abbrev pub AgreeUnmoved : List SlotsOf → AllSlots → AllSlots → Type 0
+AgreeUnmoved by_cpu old new = (cpu : ℕ) → map.get (all_merged old 0 by_cpu) cpu ≡ map.get old cpu → map.get new cpu ≡ map.get old cpu
 
 -- the lanes of the events' CPUs have numbers left for all of them (our own choice)
 abbrev pub HasRoom : AllSlots → List Traced → Type 0

@@ -1,16 +1,13 @@
--- Event by event, and what was half done is undone.
+-- What was half done is undone.
 use Rattle.std.proofs.Common.{◌∙◌, drop}
 use Rattle.std.specs.Ordering.{nat_cmp}
 use Rattle.std.proofs.lemmas.Result.{on_err_weaker}
 use Rattle.ft_maps.specs.Seen.{seen}
-use Rattle.ft_lanes.proofs.Loads.{free-from, room-from, removed-back}
+use Rattle.ft_lanes.proofs.Loads.{free-from, removed-back}
 use Rattle.ft_lanes.proofs.load.push_load.Goals as goal
 
-pub push_all-pushed-requires-clause-room : goal.push_all-pushed-requires-clause-room
-push_all-pushed-requires-clause-room c =
-    let old = seen nat_cmp c.args.lanes.now in
-    let es = drop c.args.first c.args.store.now in
-    room-from old es (free-from old es c.requires.apart) c.requires.few
+pub push_all-pushed-requires-clause-apart : goal.push_all-pushed-requires-clause-apart
+push_all-pushed-requires-clause-apart c = free-from (seen nat_cmp c.args.lanes.now) (drop c.args.first c.args.store.now) c.requires.apart
 
 pub returns-then-is_err-clause-err : goal.returns-then-is_err-clause-err
 returns-then-is_err-clause-err c =
