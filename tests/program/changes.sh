@@ -22,6 +22,8 @@ watched_row() {
 watches() {
     gives watched 0 "" "$1" "$examples/changes.script" "$examples/wakeups.trace"
     prints watched "$examples/changes.expected"
+    gives struck 0 "" "$1" "$examples/strike.script" "$examples/wakeups.trace"
+    prints struck "$examples/strike.expected"
     gives watched_words 2 "histwatch: bad words" "$1" --help
     gives watched_trace 2 "histwatch: cannot read $folder/gone" "$1" "$folder/empty" "$folder/gone"
     gives watched_disk 2 "histwatch: write failed" bash -c 'exec "$@" >/dev/full' - "$1" "$folder/load"
