@@ -79,13 +79,6 @@ pub(crate) fn strike(rows: &mut [(u32, u32)], line: u32) -> Option<u32>
     Some(place)
 }
 
-/// Takes the struck rows away.
-pub(crate) fn drop_struck(rows: &mut Vec<(u32, u32)>)
-    ensures { rows.new.items ≡ held_rows rows.old.items }
-{
-    rows.retain(|row| row.1 != STRUCK);
-}
-
 /// Takes the first row that is not struck from the front, with those before it.
 pub(crate) fn next_held<'a>(rows: &mut &'a [(u32, u32)]) -> Option<(u32, u32)>
     ensures { TakesFirst itself (held_rows rows.old.now) result (held_rows rows.new.now) }

@@ -3,7 +3,7 @@
 ghost use Rattle.std.specs.Prelude.{◌≡◌, ◌+◌, ◌≤◌, ◌<◌, ◌^◌, length, OnOk, OnErr, IfOk};
 ghost use Rattle.std.specs.FinMap as map;
 
-use crate::rows::{drop_struck, place_of, strike};
+use crate::rows::{STRUCK, place_of, strike};
 use std::alloc::{AllocError, Global};
 use std::marker::Model;
 
@@ -101,7 +101,7 @@ impl Slots {
         ensures { self.new ≡ self.old }
     {
         if self.struck >= self.len() {
-            drop_struck(&mut self.rows);
+            self.rows.retain(|row| row.1 != STRUCK);
             self.struck = 0;
         }
     }
