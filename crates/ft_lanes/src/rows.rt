@@ -16,38 +16,26 @@ pub(crate) const STRUCK: u32 = u32::MAX;
 
 const _: () = prove!(STRUCK == 4_294_967_295);
 
-/// Where a line's row stands if the lines from the first row's on have no gap.
-fn guess(rows: &[(u32, u32)], line: u32) -> usize {
-    match rows.first() {
-        Some((first, _)) => line.saturating_sub(*first) as usize,
-        None => 0,
-    }
-}
-
-/// Where a line's row stands, found by halving.
-fn search(rows: &[(u32, u32)], line: u32) -> Option<usize>
-    requires { Rise rows.now }
-    ensures within { IfSome result (λ i. i < length rows.now) }
-    ensures found { IfSome result (λ i. HoldsAt (λ row. row.0 ≡ line) rows.now i) }
-    ensures none { result ≡ None → lookup (is_at (nat_cmp line)) rows.now ≡ None }
-{
-    match rows.binary_search_by_key(&line, |row| row.0) {
-        Ok(i) => Some(i),
-        Err(_) => None,
-    }
-}
-
-/// Where a line's row stands.
+/// Where a line's row stands: where it would if the lines from the first row's on had no gap, or
+/// else found by halving.
 fn index_of(rows: &[(u32, u32)], line: u32) -> Option<usize>
     requires { Rise rows.now }
     ensures within { IfSome result (λ i. i < length rows.now) }
     ensures found { IfSome result (λ i. HoldsAt (λ row. row.0 ≡ line) rows.now i) }
     ensures none { result ≡ None → lookup (is_at (nat_cmp line)) rows.now ≡ None }
 {
-    let guess = guess(rows, line);
-    match rows.get(guess) {
-        Some((there, _)) if *there == line => Some(guess),
-        _ => search(rows, line),
+    let guess = match rows.first() {
+        Some((first, _)) => line.saturating_sub(*first) as usize,
+        None => 0,
+    };
+    if let Some((there, _)) = rows.get(guess)
+        && *there == line
+    {
+        return Some(guess);
+    }
+    match rows.binary_search_by_key(&line, |row| row.0) {
+        Ok(i) => Some(i),
+        Err(_) => None,
     }
 }
 
