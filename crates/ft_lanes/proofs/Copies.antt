@@ -1,4 +1,4 @@
--- Lanes copied behind a store one after another.
+-- Lanes copied after a store one after another.
 use Rattle.std.proofs.Common.{◌≡◌, ℕ, ◌+◌, ◌<◌, List, [], ◌∷◌, ◌++◌, length, fold, refl, sym, ap, ◌∙◌, subst, Some, ⊎_elim, unwrap_or, arith}
 use Rattle.std.specs.List.{sum_by, AllByRecursion}
 use Rattle.std.specs.List.Sorted.{IsStrictlySortedBy}

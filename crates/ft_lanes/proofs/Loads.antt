@@ -301,7 +301,7 @@ stored-mid : (store : List Traced) (e : Traced) (es : List Traced) → stored_at
 stored-mid [] e es = refl
 stored-mid (x ∷ store) e es = stored-mid store e es
 
--- events behind a store stand from its end on
+-- events after a store stand from its end on
 pub stands : (store es : List Traced) → Stands (stored_at (store ++ es)) (length store) es
 stands store [] = tt
 stands store (e ∷ es) = (
@@ -331,6 +331,6 @@ stored-all n held first count es all new are at is e more = record {
   few = omega (arith, are.few);
 }
 
--- what stands behind a front
+-- what stands after a front
 pub behind : (front rest whole : List Traced) (start : ℕ) → whole ≡ front ++ rest → start ≡ length front → drop start whole ≡ rest
 behind front rest whole start e s = (λ i. drop (s i) (e i)) ∙ drop-append_seam front rest

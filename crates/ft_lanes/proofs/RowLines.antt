@@ -56,7 +56,7 @@ rise-held (row ∷ rows) rise = rise-kept (is_held row.1) row (held_rows rows) (
 less : (a b : ℕ) → a < b → nat_cmp a b ≡ Less
 less a b lt = sym (nat_cmp_is a b Less lt)
 
--- and so do the lines with a greater one behind them
+-- and so do the lines with a greater one after them
 pub rise-push : (rows : List (ℕ × ℕ)) (row : ℕ × ℕ) → Rise rows → AreBelow row.0 rows → Rise (rows ++ row ∷ [])
 unfolding IsStrictlySortedBy
 rise-push [] row rise below = (tt, tt)

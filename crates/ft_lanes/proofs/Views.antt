@@ -72,7 +72,7 @@ module _ (f : ℕ → Traced) where
       at None = refl
       at (Some slots) = get-map_by f nat_cmp_total slots.places line
 
--- what stands behind the slots doesn't matter
+-- what stands after the slots doesn't matter
 pub lanes-agree : (f g : ℕ → Traced) (n : ℕ) → ((place : ℕ) → place < n → f place ≡ g place) → (all : AllSlots) → AreWithin n all → lanes_by f all ≡ lanes_by g all
 lanes-agree f g n agree all within =
     map_by-agree nat_cmp_total nat_cmp-IsAntisymmetric (lane_by f) (lane_by g) all (λ cpu slots is.
@@ -86,7 +86,7 @@ front [] ys i lt = absurd (omega arith)
 front (x ∷ xs) ys zero lt = refl
 front (x ∷ xs) ys (suc i) lt = front xs ys i (omega arith)
 
--- a store with more behind it holds the same lanes
+-- a store with more after it holds the same lanes
 pub lanes-appended : (store more : List Traced) (all : AllSlots) → AreWithin (length store) all → lanes_by (stored_at (store ++ more)) all ≡ lanes_by (stored_at store) all
 lanes-appended store more all within = lanes-agree _ _ (length store) (λ place lt. front store more place lt) all within
 

@@ -8,16 +8,16 @@ use Rattle.ft_fields.specs.Traced.{Traced}
 use Rattle.ft_fields.specs.Codes.{traced_code}
 use Rattle.ft_lanes.specs.Held.{Lane, Lanes}
 
--- a lane, stored as its events and its next number (our own choice)
+-- a lane, stored as its events and its next number
 abbrev pub lane_code : Coded Lane
 lane_code = code_by
     (FinMap nat_cmp Traced × ℕ) (coded× (map.code coded_ℕ traced_code) coded_ℕ)
     (λ lane. (lane.events, lane.next)) (λ p. record { events = p.0; next = p.1 }) (λ _. refl)
 
--- lanes, stored as a map of such (our own choice)
+-- lanes, stored as a map of such
 abbrev pub lanes_code : Coded Lanes
 lanes_code = map.code coded_ℕ lane_code
 
--- what a walk over lanes has left, stored as a list (our own choice)
+-- what a walk over lanes has left, stored as a list
 abbrev pub walk_code : Coded (List (ℕ × Lane))
 walk_code = coded_list (coded× coded_ℕ lane_code)

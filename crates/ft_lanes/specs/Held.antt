@@ -7,12 +7,12 @@ use Rattle.std.specs.FinMap as map
 use Rattle.std.specs.FinMap.{FinMap}
 use Rattle.ft_fields.specs.Traced.{Traced, last_cpu}
 
--- one CPU's events by line number, and the next number (our own choice)
+-- one CPU's events by line number, and the next number
 pub record Lane : Type 0 where
   pub events : FinMap nat_cmp Traced
   pub next : ℕ
 
--- lanes by CPU (our own choice)
+-- lanes by CPU
 abbrev pub Lanes : Type 0
 Lanes = FinMap nat_cmp Lane
 
@@ -24,22 +24,22 @@ event_limit = 1048576
 abbrev pub number_limit : ℕ
 number_limit = 4294967295
 
--- how many events the lanes hold together (our own choice)
+-- how many events the lanes hold together
 abbrev pub held_in : Lanes → ℕ
 held_in lanes = sum_by (λ lane. map.len lane.events) (map.values lanes)
 
--- how many events a CPU's lane holds: none where there is no lane (our own choice)
+-- how many events a CPU's lane holds: none where there is no lane
 abbrev pub held_on : Lanes → ℕ → ℕ
 held_on lanes cpu = option_map_or (λ lane. map.len lane.events) (map.get lanes cpu) 0
 
--- a CPU's lane holds fewer events than all other lanes together (our own choice)
+-- a CPU's lane holds fewer events than all other lanes together
 abbrev pub is_small : Lanes → ℕ → Bool
 is_small lanes cpu = nat_lt (held_on lanes cpu) (held_in (map.remove lanes cpu))
 
--- the event of a lane's line, where there is one (our own choice)
+-- the event of a lane's line, where there is one
 abbrev pub event_at : Lanes → ℕ → ℕ → Option Traced
 event_at lanes cpu line = option_and_then (λ lane. map.get lane.events line) (map.get lanes cpu)
 
--- an event's CPU is at most the last one (our own choice)
+-- an event's CPU is at most the last one
 abbrev pub HasCpu : Traced → Type 0
 HasCpu event = event.cpu ≤ last_cpu

@@ -1,4 +1,4 @@
--- The text of a lane (our own choice).
+-- The text of a lane.
 use Rattle.std.specs.Prelude.{ℕ, ◌-◌, ◌/◌, ◌%◌, ℤ, pos, negsuc, suc, List, [], ◌++◌, length, replicate, Option, None, if◌then◌else◌, codes, decimal}
 use Rattle.std.specs.Fmt.{signed_decimal}
 use Rattle.std.specs.List.{flat_map}
@@ -13,11 +13,11 @@ use Rattle.ft_fields.specs.Names.{name_text, is_traced}
 use Rattle.ft_fields.specs.Traced.{Traced, name_of}
 use Rattle.ft_lanes.specs.Held.{Lane}
 
--- a number in decimal digits, with zeros in front up to a width (our own choice)
+-- a number in decimal digits, with zeros in front up to a width
 unfoldable pub zero_filled : ℕ → ℕ → List ℕ
 zero_filled width n = replicate (width - length (decimal n)) 48 ++ decimal n
 
--- a CPU that a payload names: at least three digits, behind a `-` where it is negative (kernel: events.rst, the format of sched_wakeup; the sign is our own choice)
+-- a CPU that a payload names: at least three digits, after a `-` where it is negative (kernel: events.rst, the format of sched_wakeup; the sign is our own choice)
 abbrev pub target_text : ℤ → List ℕ
 target_text (pos n) = zero_filled 3 n
 target_text (negsuc n) = codes "-" ++ zero_filled 3 (suc n)
@@ -75,10 +75,10 @@ event_text event =
     event.task ++ codes "-" ++ signed_decimal event.pid ++ codes " [" ++ zero_filled 3 event.cpu ++ codes "] "
     ++ stamp_text event.stamp ++ codes ":" ++ body_text event.body
 
--- an event's line, behind its CPU and line number (our own choice)
+-- an event's line, after its CPU and line number
 unfoldable pub event_line : ℕ → ℕ → Traced → List ℕ
 event_line cpu line event = decimal cpu ++ codes ":" ++ decimal line ++ codes " " ++ event_text event ++ codes "\n"
 
--- the lines of a CPU's lane, by line number (our own choice)
+-- the lines of a CPU's lane, by line number
 abbrev pub lane_text : ℕ → Lane → List ℕ
 lane_text cpu lane = flat_map (λ e. event_line cpu e.0 e.1) (map.entries lane.events)

@@ -4,10 +4,10 @@ use Rattle.ft_fields.specs.Traced.{Traced}
 use Rattle.ft_store.specs.Stored.{held}
 use Rattle.ft_store.specs.declared.stored.Stored.{Stored}
 
--- a line number, and the event that a reference into a store points to (our own choice)
+-- a line number, and the event that a reference into a store points to
 abbrev pub shown : ℕ × Stored → ℕ × Traced
 shown p = (p.0, held p.1)
 
--- what is given by value (our own choice)
+-- what is given by value
 abbrev pub itself : {X : Type 0} → X → X
 itself x = x

@@ -85,7 +85,7 @@ impl Lanes {
         self.push_behind(event)
     }
 
-    /// The same, with the event behind the store as it is.
+    /// The same, with the event after the store as it is.
     fn push_behind(&mut self, event: Event) -> Result<u32, AllocError>
         requires { (unwrap_or (map.get self.old event.cpu) new_lane).next ≤ number_limit }
         ensures ok { OnOk result (self.new ≡ lanes_with self.old event) }
@@ -117,7 +117,7 @@ impl Lanes {
         self.load_behind(events)
     }
 
-    /// The same, with the events behind the store as it is.
+    /// The same, with the events after the store as it is.
     fn load_behind(&mut self, events: Store) -> Result<(), AllocError>
         requires apart { first_held self.old events ≡ None }
         requires few { length events ≤ event_limit }
@@ -222,7 +222,7 @@ impl Lanes {
     }
 
     /// The CPU of the event that stands at a place, also where that event is no longer held; 0
-    /// behind the last place.
+    /// after the last place.
     pub fn cpu_at(&self, place: u32) -> u16
         ensures { result ≤ last_cpu }
     {

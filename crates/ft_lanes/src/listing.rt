@@ -14,7 +14,7 @@ use ft_fields::{Body, Comm, Event, Name, Turn, Wake};
 use ft_text::{write_decimal, write_right, write_signed};
 use std::alloc::{AllocError, Global};
 
-/// How many digits a CPU takes at least, but for the one in front of a line.
+/// How many digits a CPU takes at least, except for the one in front of a line.
 const CPU_WIDTH: u8 = 3;
 
 /// How many digits the microseconds of a stamp take.
@@ -51,7 +51,7 @@ fn lines_text(alloc: Global, cpu: u16, lines: Lines<'_>) -> Result<Vec<u8>, Allo
     Ok(text)
 }
 
-/// Adds an event's line, behind its CPU and line number.
+/// Adds an event's line, after its CPU and line number.
 #[tactic(auto, unfolding(crate::specs::Listing::event_line))]
 fn add_line(text: &mut Vec<u8>, cpu: u16, line: u32, event: &Event) -> Result<(), AllocError>
     ensures { OnOk result (text.new.items ≡ text.old.items ++ event_line cpu line event.now) }
@@ -89,7 +89,7 @@ fn add_stamp(text: &mut Vec<u8>, micros: u64) -> Result<(), AllocError>
     add_zero_filled(text, micros % MICROS_PER_SECOND, MICROS_WIDTH)
 }
 
-/// Adds the name that is shown of an event and what it says, behind a space.
+/// Adds the name that is shown of an event and what it says, after a space.
 fn add_body(text: &mut Vec<u8>, event: &Event) -> Result<(), AllocError>
     ensures { OnOk result (text.new.items ≡ text.old.items ++ body_text event.now.body) }
 {
@@ -172,7 +172,7 @@ fn add_next(text: &mut Vec<u8>, turn: &Turn) -> Result<(), AllocError>
     add_number(text, b" next_prio=", turn.next_prio)
 }
 
-/// Adds a CPU that a payload names: at least three digits, behind a `-` where it is negative.
+/// Adds a CPU that a payload names: at least three digits, after a `-` where it is negative.
 fn add_target(text: &mut Vec<u8>, cpu: i32) -> Result<(), AllocError>
     ensures { OnOk result (text.new.items ≡ text.old.items ++ target_text cpu) }
 {

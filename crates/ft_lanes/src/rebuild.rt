@@ -1,4 +1,4 @@
-//! Lanes copied behind another store.
+//! Lanes copied after another store.
 
 ghost use Rattle.std.specs.Prelude.{◌≡◌, ◌++◌, length, OnOk, IfOk};
 ghost use Rattle.std.specs.Ordering.{nat_cmp};
@@ -16,7 +16,7 @@ use ft_store::Store;
 use std::alloc::{AllocError, Global};
 use std::collections::BTreeMap;
 
-/// Adds the events of a lane behind a store, by line: their lines with their places there. After a
+/// Adds the events of a lane after a store, by line: their lines with their places there. After a
 /// refusal for memory some are added.
 #[tactic(auto, using(crate::proofs::RowLines::held_more))]
 fn append_lane(
@@ -39,7 +39,7 @@ fn append_lane(
     Ok(lines)
 }
 
-/// Adds the events of a lane behind a store, and its slots there, as those of the CPU. After a
+/// Adds the events of a lane after a store, and its slots there, as those of the CPU. After a
 /// refusal for memory some of it is done.
 pub(crate) fn copy_lane(
     alloc: Global,

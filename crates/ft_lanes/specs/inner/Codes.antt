@@ -6,7 +6,7 @@ use Rattle.std.specs.FinMap as map
 use Rattle.std.specs.FinMap.{FinMap}
 use Rattle.ft_lanes.specs.inner.Slots.{SlotsOf}
 
--- a lane's slots, stored as their places and the next number (our own choice)
+-- a lane's slots, stored as their places and the next number
 abbrev pub slots_code : Coded SlotsOf
 slots_code = code_by
     (FinMap nat_cmp ℕ × ℕ) (coded× (map.code coded_ℕ coded_ℕ) coded_ℕ)

@@ -1,4 +1,4 @@
--- Three labels with their values, and the CPU behind a fourth.
+-- Three labels with their values, and the CPU after a fourth.
 use Rattle.std.proofs.Common.{rules}
 use Rattle.std.proofs.lemmas.Int.{to_z-of_z}
 use Rattle.std.proofs.lemmas.Result.{on_ok_weaker}

@@ -1,4 +1,4 @@
--- The lane's own lines, at places behind the store.
+-- The lane's own lines, at places after the store.
 use Rattle.std.proofs.Common.{sym, subst, length}
 use Rattle.ft_lanes.specs.inner.Rows.{Rise, AreBelow}
 use Rattle.ft_lanes.proofs.Copies.{copy-rises, copy-below}

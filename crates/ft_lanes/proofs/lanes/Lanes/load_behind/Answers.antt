@@ -1,4 +1,4 @@
--- The events behind the old store have slots of their own.
+-- The events after the old store have slots of their own.
 use Rattle.std.proofs.Common.{◌≡◌, ◌+◌, ◌++◌, List, sym, ap, ◌∙◌, subst, length, None, arith}
 use Rattle.std.specs.Ordering.{nat_cmp}
 use Rattle.std.specs.FinMap as map

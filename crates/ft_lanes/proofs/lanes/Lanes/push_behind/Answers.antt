@@ -1,4 +1,4 @@
--- The event goes behind the store, and its place to its lane.
+-- The event goes after the store, and its place to its lane.
 use Rattle.std.proofs.Common.{◌≡◌, ◌≤◌, ◌+◌, sym, ap, ◌∙◌, subst, length, unwrap_or}
 use Rattle.std.specs.Ordering.{nat_cmp}
 use Rattle.std.specs.FinMap as map
