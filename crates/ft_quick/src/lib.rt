@@ -19,8 +19,9 @@
 //!
 //! # Contracts
 //!
-//! - `read_cut_line`: both clauses of `ft_event::read_cut_line`. Lets through: which lines are read
-//!   the quick way; a body that gave each line to the general reader would meet it.
+//! - `cut_line`: where it gives an event, that is the line's, by both clauses of
+//!   `ft_event::read_cut_line`. Lets through: for which lines it gives none; a body that gave none for
+//!   any would meet it. A test has lines of the usual form.
 //!
 //! A line of the usual form is cut from the left, and each cut is an equation of texts. Together
 //! they are a cut as the line relation asks for; by `ft_event`'s law `one_answer` its answer is
