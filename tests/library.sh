@@ -59,7 +59,7 @@ for python in "${pythons[@]}"; do
     done
     part "view from $python" "$python" "$tests/library/python_view.py" "$histdesk"
     part "server from $python" "$python" "$tests/library/python_serve.py"
-    part "recipes from $python" "$python" "$tests/documents/recipes.py" "$histdesk"
+    part "recipes from $python" "$python" "$tests/documents/recipes.py" "$histdesk" "$histwatch"
     part "documents by $python" "$python" "$tests/documents/shown.py" "$histdesk" "$histwatch"
 done
 part "the page" "${pythons[-1]}" "$tests/page/page.py" "$histdesk"

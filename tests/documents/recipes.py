@@ -1,103 +1,37 @@
 #!/usr/bin/env python3
-"""Holds that each recipe of docs/RECIPES.md, and each example of tools/README.md, prints what stands under it.
+"""Holds the tables of the guide's recipes against a reckoning that knows nothing of triggers.
 
-    recipes.py PROGRAM
+    recipes.py HISTDESK HISTWATCH
 
-A block that begins with `load @1` is a script, which PROGRAM runs over examples/recipes.trace, or over both traces of the
-recipes where it loads two. A block of sh or python is run beside links to the program, the tools and the examples; those
-that need the library or numpy are not tried where these are missing. The block behind is what it prints, where `...` stands
-for lines that are left out. The tables of recipes are held, with all their rows, against a reckoning over the lines of the
-trace, which knows nothing of triggers: of each task what happened to it, one thing behind the other. The last line says how
-many blocks and tables hold.
+The recipes are the sections of docs/GUIDE.md that have a number; shown.py holds that they show what their commands print.
+Here all rows of each table that a command prints are held against a reckoning over the lines of the trace: of each task what
+happened to it, in order. Each script of examples/recipes stands in the guide. The last line says how many things hold.
 """
 
-import functools
 import os
 import re
-import subprocess
 import sys
 import tempfile
 from collections import Counter, defaultdict, namedtuple
 
 # Nothing is written beside the sources.
 sys.dont_write_bytecode = True
-ROOT = os.path.join(os.path.dirname(os.path.realpath(__file__)), "..", "..")
+
+from pages import ROOT, text_of
+from shown import Count, Place, blocks, lacking, steps
+
+GUIDE = "docs/GUIDE.md"
 BEFORE, AFTER = "recipes-before.trace", "recipes.trace"
 
-# ---- the document
+# ---- what the recipes print
 
 
-BLOCK = re.compile(r"^```(\w*)\n(.*?)^```$", re.MULTILINE | re.DOTALL)
-
-
-def sections(path):
-    """Of each section of a document its number, or else its title, and its examples."""
-    with open(os.path.join(ROOT, path), encoding="utf-8") as file:
-        parts = re.split(r"^## ", file.read(), flags=re.MULTILINE)[1:]
-    return [(re.match("[0-9]+|.*", part)[0], list(examples(BLOCK.findall(part)))) for part in parts]
-
-
-def examples(blocks):
-    """What is run, of which kind it is, and what it prints: blocks with the one behind each."""
-    kinds = ["script" if text.startswith("load @1\n") else kind for kind, text in blocks]
-    for at in range(len(blocks) - 1):
-        if kinds[at] and not kinds[at + 1]:
-            yield kinds[at], blocks[at][1], blocks[at + 1][1]
-
-
-def shows(wanted, output):
-    """Whether the output is what the document shows: pieces of whole lines, in order, `...` for what is left out."""
-    pieces = re.split(r"^\.\.\.\n", wanted, flags=re.MULTILINE)
-    form = r"(?:.*\n)*?".join(map(re.escape, pieces))
-    return re.fullmatch(form, output) is not None
-
-
-# ---- what it prints
-
-
-class Place:
-    """A folder in which the blocks are run, as in the top folder of the repository."""
-
-    def __init__(self, folder, program):
-        self.folder, self.program = folder, program
-        for name in ("tools", "examples", "python"):
-            os.symlink(os.path.join(ROOT, name), os.path.join(folder, name))
-        os.symlink(program, os.path.join(folder, "histdesk"))
-        os.mkdir(os.path.join(folder, "bin"))
-        # The tools are run by the Python that runs this.
-        os.symlink(sys.executable, os.path.join(folder, "bin", "python3"))
-        path = os.path.join(folder, "bin") + ":" + os.environ["PATH"]
-        self.environment = {**os.environ, "PATH": path, "PYTHONPATH": "python", "HISTDESK": program}
-
-    def printed(self, kind, text):
-        if kind == "script":
-            with open(os.path.join(self.folder, "asked"), "w", encoding="utf-8") as file:
-                file.write(text)
-            names = [BEFORE, AFTER] if "load @2" in text else [AFTER]
-            words = [self.program, "asked", *(os.path.join("examples", name) for name in names)]
-        elif kind == "python":
-            words = [sys.executable, "-c", text]
-        else:
-            words = ["bash", "-c", "set -o pipefail\n" + text]
-        done = subprocess.run(words, cwd=self.folder, env=self.environment, stdout=subprocess.PIPE, stderr=subprocess.STDOUT)
-        # That of other things than scripts is what the last of several commands says.
-        status = f"status {done.returncode}\n" if done.returncode and kind == "script" else ""
-        return done.stdout.decode() + status
-
-
-@functools.lru_cache(maxsize=None)
-def is_here(code):
-    """Whether these lines of Python run."""
-    words = [sys.executable, "-c", code]
-    return not subprocess.run(words, cwd=ROOT, env={**os.environ, "PYTHONPATH": "python"}, stderr=subprocess.DEVNULL).returncode
-
-
-def lacking(kind, text):
-    """What a block needs that isn't here; None where it can be tried."""
-    reports = re.search(r"\btools/(waits|why|diff|view|export)\b", text)
-    if (reports or kind == "python" or "tools/explain" in text) and not is_here("import histdesk"):
-        return "the library"
-    return "numpy" if reports and not is_here("import numpy") else None
+def recipes(text):
+    """The number of each recipe, and the commands of its sessions."""
+    for part in re.split(r"^##+ ", text, flags=re.MULTILINE):
+        number = re.match(r"[0-9]+(?=\.)", part)
+        if number:
+            yield number[0], [step for _, _, kind, block, _ in blocks(part) if kind == "console" for step, _ in steps(block)]
 
 
 def tables(output):
@@ -229,7 +163,7 @@ def takers(things):
 
 
 def reckoned():
-    """Of each recipe and each of its examples that print tables, the tables."""
+    """Of each recipe, and of each of its commands that prints tables, the tables."""
     all_of = read(AFTER)
     on_one = [(one, two) for one, two in waits(all_of) if two.cpu == "001"]
     waker = lambda thing: (thing.by, thing.name)
@@ -238,65 +172,41 @@ def reckoned():
     soft_runs = [pair for pair in runs(all_of) if pair[1].name == "ksoftirqd/3"]
     name = lambda _, two: (two.name,)
     pid = lambda _, two: (two.pid,)
-    threads = [pair for pair in waits(all_of) if pair[1].pid in ("24650", "24652", "24654")]
     cleared = [(one, two) for one, two in neighbours(all_of, "woken", "out", ("in", "out", "woken")) if two.state[0] == "R"]
+    of_group = lambda pairs: [pair for pair in pairs if pair[1].pid in ("24650", "24652", "24654")]
+    waits_and_cleared = lambda some: [summed(some(waits(all_of)), task), counted(task(*pair) for pair in some(cleared))]
     return {
         "1": [[summed(runs(all_of), pid)], [summed(runs_by_name(all_of), name)]],
         "2": [[summed(sleeps(all_of, "S"), task), summed(sleeps(all_of, "D"), task)]],
         "3": [[summed(preemptions(all_of), task), takers(all_of)]],
         "4": [[summed(neighbours(all_of, "new", "in", ("new", "in")), task)]],
-        "5": [[summed(waits(all_of), task), counted(task(*pair) for pair in cleared)], [summed(careless_waits(all_of), task)]],
+        "5": [waits_and_cleared(list), [summed(careless_waits(all_of), task)]],
         "6": [[wakings(all_of, waker)], [wakings(all_of, waker, ".")]],
         "7": [
             [summed(soft, name), summed(soft_runs, name)],
-            [wakings(all_of, lambda thing: (thing.name, str(int(thing.cpu))), "sH")],
+            [wakings(all_of, lambda thing: (str(int(thing.cpu)), thing.name), "sH")],
         ],
         "8": [[powers(on_one), summed(on_one, pid)], [summed(careless_waits(all_of, "001"), task)]],
-        "9": [[summed(threads, task)]],
+        "9": [waits_and_cleared(of_group)],
         "10": [cyclic],
     }
 
 
-class Count:
-    """How many things hold, and what is told of the others."""
-
-    def __init__(self):
-        self.things, self.wrong, self.missing = 0, [], Counter()
-
-    def hold(self, good, told):
-        self.things += 1
-        if not good:
-            self.wrong.append(told)
-
-
-def try_section(place, title, found, wanted, count):
-    """Runs the examples of a section; their tables are those that are wanted, in order, where some are."""
-    left = list(wanted or ())
-    for kind, text, output in found:
-        missing = lacking(kind, text)
-        if missing:
-            count.missing[missing] += 1
-            continue
-        told = place.printed(kind, text)
-        count.hold(shows(output, told), f"{title} prints\n{told}")
-        if wanted and tables(told):
-            count.hold(left and tables(told) == left.pop(0), f"{title}: other rows than reckoned in\n{told}")
-    if wanted:
-        count.hold(not left, f"{title}: {len(left)} tables are missing")
-
-
-def main(program):
-    wanted, count = reckoned(), Count()
+def main():
+    histdesk, histwatch = map(os.path.realpath, sys.argv[1:3])
+    wanted, count, text = reckoned(), Count(), text_of(GUIDE)
     with tempfile.TemporaryDirectory() as folder:
-        place = Place(folder, os.path.realpath(program))
-        for title, found in sections("docs/RECIPES.md"):
-            try_section(place, f"recipe {title}", found, wanted.pop(title, None), count)
-        for title, found in sections("tools/README.md"):
-            try_section(place, f"tools/README.md, {title}", found, None, count)
-    count.hold(not wanted, f"RECIPES.md lacks recipe {', '.join(wanted)}")
-    skipped = [f"{number} skipped: {what} is missing" for what, number in count.missing.items()]
-    print("\n".join([*count.wrong, *skipped, f"{count.things - len(count.wrong)} of {count.things} recipes hold"]))
+        place = Place(folder, histdesk, histwatch)
+        for number, commands in recipes(text):
+            outputs = [place.printed("bash", "-c", command)[0] for command in commands if not lacking("console", command)]
+            found = [tables(output) for output in outputs if tables(output)]
+            if number in wanted:
+                count.hold(found == wanted.pop(number), f"recipe {number}: other rows than reckoned: {found}")
+    count.hold(not wanted, f"{GUIDE} lacks recipe {', '.join(wanted)}")
+    for name in os.listdir(os.path.join(ROOT, "examples", "recipes")):
+        count.hold(f"examples/recipes/{name}" in text, f"{GUIDE} lacks examples/recipes/{name}")
+    print("\n".join([*count.wrong, f"{count.things - len(count.wrong)} of {count.things} recipes hold"]))
     return 1 if count.wrong else 0
 
 
-sys.exit(main(*sys.argv[1:]))
+sys.exit(main())

@@ -3,8 +3,7 @@
 
     shown.py HISTDESK HISTWATCH [PAGE]..
 
-The pages are all that pages.py knows, except those of OWN, whose scripts hold them; the script of a page of READ reads its
-other blocks. By the kind of a block:
+The pages are all that pages.py knows; the script of a page of READ reads its other blocks. By the kind of a block:
 
 - `console` is a session: `$ ` begins a command, `> ` goes on with one, and its output follows, where a line `...` stands for
   lines that are left out. Lines after `desk> ` are typed on a terminal. Bash runs each command, in a folder with links to the
@@ -40,8 +39,6 @@ sys.dont_write_bytecode = True
 
 from pages import ROOT, WORDS, is_there, text_of
 
-# Pages with a script of their own, which runs their commands.
-OWN = {"docs/GUIDE.md": "guide.py"}
 # Kinds of blocks that no script runs here, and those that the script of a page reads, whatever they are.
 CODE, READ = ["rust", "rattle"], ["docs/REFERENCE.md"]
 PROMPT = "desk> "
@@ -223,7 +220,7 @@ def main():
     count = Count()
     with tempfile.TemporaryDirectory() as folder:
         place = Place(folder, histdesk, histwatch)
-        for page in sys.argv[3:] or [page for page in WORDS if page not in OWN and is_there(page)]:
+        for page in sys.argv[3:] or [page for page in WORDS if is_there(page)]:
             try_page(place, page, count)
     for why, number in count.left.items():
         print(f"not run: {number} blocks: {why}")

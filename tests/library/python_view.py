@@ -759,7 +759,7 @@ class Scripts(unittest.TestCase):
             self.assertEqual((found[0][1][:2], len(found)), ((len(waits), len(wanted)), 1))
         struck = [("sched_waking", "common_pid == 24659")]
         rows, _ = self.tables(view, path, _view.Asked("sched_switch", "", ""), struck)[0]
-        # As docs/RECIPES.md has it.
+        # As recipe 11 of docs/GUIDE.md has it.
         self.assertIn(["24651", "7", "271"], rows)
 
     @with_program
