@@ -5,9 +5,10 @@
 
 Of each document: a link leads to a file that is there, and to a heading of it; each file and folder of the repository that it
 names is there; a line has at most 120 characters, except in tables and blocks; no word of AVOIDED stands in it. Each page of
-WORDS has as many words as stand there, to a quarter, and docs/ has no other page; one that is not written yet is told, and may
-be linked to. README.md has the line that tools/needs prints, and docs/TESTING.md counts what there is; --write has these counts
-written there first. The last line says how many things hold.
+WORDS has as many words as stand there, to a quarter, and docs/ has no other page; one that is not written yet is told, and
+may be linked to. A document or script that sources and scripts name is there. README.md has the line that tools/needs prints,
+and docs/TESTING.md counts what there is; --write has these counts written there first. The last line says how many things
+hold.
 """
 
 import ast
@@ -151,6 +152,29 @@ def names(path):
     return found, wrong
 
 
+def mentions():
+    """The documents and scripts that sources and scripts name, and those that aren't there."""
+    own = ["*.md", "tests/rows", "examples/*.trace", "examples/*.expected", "*.edit"]
+    words = ["git", "-C", ROOT, "ls-files", "-z", "--cached", "--others", "--exclude-standard", "--", "."]
+    ran = subprocess.run([*words, *(f":!{form}" for form in own)], stdout=subprocess.PIPE, check=True)
+    written = {os.path.basename(path) for path in files("**", "*.md")} | {os.path.basename(path) for path in WORDS}
+    found, wrong = [], []
+    for path in ran.stdout.decode().split("\0")[:-1]:
+        try:
+            text = text_of(path) if is_there(path) else ""
+        except UnicodeDecodeError:
+            continue
+        for name in re.findall(r"(?<![\w/.-])(?:docs|tests|bench|tools|examples|include)/[\w/-]+\.(?:py|sh|md|c|h|rs)\b", text):
+            found.append(name)
+            if name not in WORDS and not is_there(name) and not is_there(os.path.join(os.path.dirname(path), name)):
+                wrong.append(f"{path}: {name} isn't there")
+        for name in re.findall(r"(?<![\w/.-])[A-Z]{4,}\.md\b", text):
+            found.append(name)
+            if name not in written:
+                wrong.append(f"{path}: {name} isn't there")
+    return found, wrong
+
+
 # ---- form
 
 
@@ -237,7 +261,7 @@ def main():
     told = [links(path) for path in documents]
     told += [check(path) for path in documents if path != PAST for check in (names, form)]
     told += [length(path) for path in documents if path in WORDS]
-    told += [pages(), needed(), counted(COUNTING)]
+    told += [mentions(), pages(), needed(), counted(COUNTING)]
     for path in WORDS:
         if not is_there(path):
             print(f"not tried: {path}, which is not there")
