@@ -19,7 +19,7 @@ use Rattle.ft_desk.proofs.OutputLemmas.{output_from-push, asked_by-kept}
 use Rattle.ft_desk.proofs.Progress.{Progress, Next, all_read, front_read, last_lines, whole_lines, kept-some, kept-none, line_kept}
 
 module _ (means : Meaning) where
-  -- a flush that failed or not, behind an answer
+  -- a flush that failed or not, after an answer
   pub flush_ends : (answer result : Result Status RunFault) (flushed : Counts) (reader rest before after later : Option (List ℕ)) → RunEnds means answer reader rest before after → Keeps after later
       → FlushGives answer result flushed → RunEnds means result reader rest before later
   flush_ends (Ok status) result flushed reader rest before after later ends kept gives = elim gives.1 [
@@ -84,7 +84,7 @@ module _ (means : Meaning) where
         ap (λ b. (means b (asked_by next)).text) p.held ∙ ap (λ a. (means (output_of_lines means lines).base a).text) is.asked in
         inl (lines, is.line, is.reads, (breaks.0, breaks.1, Appends-trans before after later _ breaks.0 p.written breaks.2, sym same ∙ breaks.3, breaks.4))
 
-    -- the script's end behind a line's end
+    -- the script's end after a line's end
     pub ends : turns < asking_limit → TakingGives (Ok takes.End) left rest piece next → next ≡ [] → RunEnds means (Ok (status_of refused)) reader rest before after
     ends turn took none =
         let lines = whole_lines p.read (kept-none (last_piece p.read) next (took.2 ∙ p.kept) none) in (
@@ -94,7 +94,7 @@ module _ (means : Meaning) where
           rw lines (ap status_of p.told),
         )
 
-    -- the script's end behind a last line without an end, which is done
+    -- the script's end after a last line without an end, which is done
     pub ends_with : turns < asking_limit → TakingGives (Ok takes.End) left rest piece next → next ≢ [] → (later : Option (List ℕ)) (held : Base) (told : Bool)
         → LineGives (means base (asked_by next)) held after later (Ok told) → RunEnds means (Ok (status_of (refused || told))) reader rest before later
     ends_with turn took some later held told gives =

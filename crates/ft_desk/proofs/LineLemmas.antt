@@ -9,7 +9,7 @@ abbrev pub onto_piece : ℕ → List (List ℕ) → List ℕ → List ℕ
 onto_piece byte [] piece = byte ∷ piece
 onto_piece byte (line ∷ lines) piece = piece
 
--- the bytes of a text behind its last byte 10
+-- the bytes of a text after its last byte 10
 abbrev pub last_piece : List ℕ → List ℕ
 last_piece [] = []
 last_piece (byte ∷ bytes) = if byte == 10 then last_piece bytes else onto_piece byte (ended_lines bytes) (last_piece bytes)
@@ -71,7 +71,7 @@ ended_lines-end (byte ∷ bytes) =
     none [] piece = refl
     none (line ∷ lines) piece = refl
 
--- a part and a byte 10 behind it end the last piece and the part
+-- a part and a byte 10 after it end the last piece and the part
 pub ended_lines-line : (read part : List ℕ) → All (λ byte. byte ≢ 10) part
     → (ended_lines (read ++ (part ++ 10 ∷ [])) ≡ ended_lines read ++ (last_piece read ++ part) ∷ []) × (last_piece (read ++ (part ++ 10 ∷ [])) ≡ [])
 ended_lines-line read part plain =

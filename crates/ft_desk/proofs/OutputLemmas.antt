@@ -39,7 +39,7 @@ output_from-push means base lines line =
       h.2 ∙ ap (λ r. done.refused || r) (or-false next.refused),
     )
 
--- what a line prints stands behind what the lines before it print
+-- what a line prints stands after what the lines before it print
 pub output_from-line : (means : Meaning) (base : Base) (lines : List (List ℕ)) (line : List ℕ) (more : List (List ℕ))
     → let done = output_from means base lines in
     let next = means done.base (asked_by line) in

@@ -62,7 +62,7 @@ pub whole_lines : (read : List ℕ) → last_piece read ≡ [] → lines_of read
 whole_lines read none =
     ap lines_of (sym (append-nil read)) ∙ lines_of-split read [] ∙ ap (λ l. ended_lines read ++ lines_of (l ++ [])) none ∙ append-nil (ended_lines read)
 
--- the line behind those that are done: its piece asks for what it asks for, and it was read
+-- the line after those that are done: its piece asks for what it asks for, and it was read
 pub record Next (reader rest : Option (List ℕ)) (read piece : List ℕ) : Type 0 where
   pub line : List ℕ
   pub reads : ReadsTo reader rest (ended_lines read) line

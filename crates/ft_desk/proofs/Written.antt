@@ -30,7 +30,7 @@ all_to reader rest lines last reads = elim reads.1 [
   | inr whole ↦ (reads.0, inr (whole.0, sym whole.1))
 ]
 
--- a beginning of the last line's text behind what the lines before it print is a beginning of what they all print
+-- a beginning of the last line's text after what the lines before it print is a beginning of what they all print
 last_front : (means : Meaning) (lines : List (List ℕ)) (last front left : List ℕ) → text_behind means lines last ≡ front ++ left
     → StartsWith (output_of_lines means (lines ++ last ∷ [])).text ((output_of_lines means lines).text ++ front)
 last_front means lines last front left text =

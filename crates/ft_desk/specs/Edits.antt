@@ -24,7 +24,7 @@ use Rattle.ft_base.specs.declared.refused.Refused.{Refused}
 use Rattle.ft_base.specs.declared.refused.Refused.TheVariants.{Memory, BadLine, NoEvent, BadTrigger, BadFilter, NoTrigger, BadCommand}
 use Rattle.ft_script.specs.Lines.{lines_of}
 
--- a line's event in front of those of the lines behind it; a line that cannot be read is the fault of all
+-- a line's event in front of those of the lines after it; a line that cannot be read is the fault of all
 abbrev pub line_in_front : ℕ → Result Line LineFault → Result (List Traced) Refused → Result (List Traced) Refused
 line_in_front number (Err fault) rest = Err (BadLine number fault)
 line_in_front number (Ok lines.Skip) rest = rest
@@ -60,7 +60,7 @@ event_or_refused (Ok (lines.Event event)) = Ok event
 unfoldable pub after_insert_text : Base → List ℕ → Result (Base × Place) Refused
 after_insert_text base line = event_or_refused (line_of line) >>= after_insert base
 
--- a trigger's fault as a refusal; want of memory is a refusal of its own
+-- a trigger's fault as a refusal; out of memory is a refusal of its own
 abbrev pub refused_for : TriggerFault → Refused
 refused_for faults.Memory = Memory
 refused_for fault = BadTrigger fault
@@ -83,7 +83,7 @@ trigger_for names.Other text = Err BadCommand
 unfoldable pub after_attach_text : Base → Name → List ℕ → Result (Base × ℕ) Refused
 after_attach_text base name text = trigger_for name text >>= after_attach base
 
--- a filter's fault as a refusal; want of memory is a refusal of its own
+-- a filter's fault as a refusal; out of memory is a refusal of its own
 abbrev pub filter_refused : FilterFault → Refused
 filter_refused filter_faults.Memory = Memory
 filter_refused fault = BadFilter fault

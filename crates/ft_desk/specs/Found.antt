@@ -15,20 +15,20 @@ use Rattle.ft_base.specs.declared.refused.Refused.{Refused}
 use Rattle.ft_base.specs.declared.refused.Refused.TheVariants.{NoLane, NoEvent, BadCommand}
 use Rattle.ft_desk.specs.Edits.{◌>>=◌, filter_refused}
 
--- the event of a CPU's line; no such lane is held, or it has no such line: refused (our own choice)
+-- the event of a CPU's line; no such lane is held, or it has no such line: refused
 unfoldable pub event_found : Base → ℕ → ℕ → Result Traced Refused
 event_found base cpu line = option_map_or (λ lane. option_map_or (λ event. Ok event) (map.get lane.events line) (Err NoEvent)) (map.get base.lanes cpu) (Err (NoLane cpu))
 
--- the places of a CPU's events from a line on; no such lane is held: refused (our own choice)
+-- the places of a CPU's events from a line on; no such lane is held: refused
 unfoldable pub lane_found : Base → ℕ → ℕ → Result (List Pos) Refused
 lane_found base cpu line = option_map_or (λ _. Ok (lane_places base.lanes cpu line)) (map.get base.lanes cpu) (Err (NoLane cpu))
 
--- a filter as read, or refused (our own choice)
+-- a filter as read, or refused
 abbrev pub tree_or_refused : Result Tree FilterFault → Result Tree Refused
 tree_or_refused (Ok tree) = Ok tree
 tree_or_refused (Err fault) = Err (filter_refused fault)
 
--- a filter's text on a name; an event without a name has no filters (our own choice)
+-- a filter's text on a name; an event without a name has no filters
 abbrev pub tree_for : Name → List ℕ → Result Tree Refused
 tree_for names.Other text = Err BadCommand
 tree_for name text = tree_or_refused (filter_of name text)

@@ -31,11 +31,11 @@ ReadsWhole reader rest script = Reads reader rest script × IfSome reader (λ _.
 abbrev pub ReadsFront : Option (List ℕ) → Option (List ℕ) → List ℕ → Type 0
 ReadsFront reader rest read = Reads reader rest read × IfSome reader (λ _. IsAtEnd rest → ⊥)
 
--- these lines were read, then this one, and nothing behind it: a byte 10 ended it, or the script's end
+-- these lines were read, then this one, and nothing after it: a byte 10 ended it, or the script's end
 abbrev pub ReadsTo : Option (List ℕ) → Option (List ℕ) → List (List ℕ) → List ℕ → Type 0
 ReadsTo reader rest lines last = (read : List ℕ) × ((Reads reader rest (read ++ 10 ∷ []) × (ended_lines (read ++ 10 ∷ []) ≡ lines ++ last ∷ [])) ⊎ (ReadsWhole reader rest read × (lines_of read ≡ lines ++ last ∷ [])))
 
--- the done bytes were written, and behind them a beginning of the text, of which something is left
+-- the done bytes were written, and after them a beginning of the text, of which something is left
 abbrev pub BreaksOff : Option (List ℕ) → Option (List ℕ) → List ℕ → List ℕ → Type 0
 BreaksOff before after done text = (front : List ℕ) × (left : List ℕ) × Appends before after (done ++ front) × (text ≡ front ++ left) × (left ≢ [])
 
@@ -55,7 +55,7 @@ EndsInLine means reader rest before after = (read : List ℕ) × ReadsFront read
 abbrev pub EndsAtReader : Meaning → Option (List ℕ) → Option (List ℕ) → Option (List ℕ) → Option (List ℕ) → Type 0
 EndsAtReader means reader rest before after = (read : List ℕ) × Reads reader rest read × Appends before after (output_of_lines means (ended_lines read)).text
 
--- what a line prints, behind lines that are done
+-- what a line prints, after lines that are done
 abbrev pub text_behind : Meaning → List (List ℕ) → List ℕ → List ℕ
 text_behind means lines line = (means (output_of_lines means lines).base (asked_by line)).text
 

@@ -19,7 +19,7 @@ CutsAt takes.Part shown place = place ≡ length shown
 CutsAt takes.Line shown place = (place < length shown) × (slice_index shown place ≡ 10)
 CutsAt takes.End shown place = ⊥
 
--- the part behind the piece, of which as many bytes are kept as a command may have, and one more
+-- the part after the piece, of which as many bytes are kept as a command may have, and one more
 abbrev pub AddsPart : List ℕ → List ℕ → List ℕ → Type 0
 AddsPart before after part = All (λ byte. byte ≢ 10) part × (after ≡ take (line_limit + 1) (before ++ part))
 
@@ -58,7 +58,7 @@ abbrev pub failures_of : {T E : Type 0} → Result T E → ℕ
 failures_of (Ok done) = 0
 failures_of (Err error) = 1
 
--- what the flush at the end makes of an answer: there is one, but none behind a failed write, and where it fails it spoils an `Ok` alone
+-- what the flush at the end makes of an answer: there is one, but none after a failed write, and where it fails it spoils an `Ok` alone
 abbrev pub FlushGives : Result Status RunFault → Result Status RunFault → Counts → Type 0
 FlushGives (Ok status) result flushed = (flushed.made ≡ 1) × (((result ≡ Ok status) × (flushed.failed ≡ 0)) ⊎ ((result ≡ Err faults.Write) × (flushed.failed ≡ 1)))
 FlushGives (Err faults.Memory) result flushed = (flushed.made ≡ 1) × (result ≡ Err faults.Memory)

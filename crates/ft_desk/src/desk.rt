@@ -362,7 +362,7 @@ fn named_trigger(alloc: Global, event: Name, text: &[u8]) -> Result<Trigger, Ref
     }
 }
 
-/// A trigger's fault as a refusal. Want of memory is a refusal of its own.
+/// A trigger's fault as a refusal. Out of memory is a refusal of its own.
 fn refused_for(fault: TriggerFault) -> Refused
     ensures { result ≡ refused_for fault }
 {
@@ -401,7 +401,7 @@ fn given_filter(alloc: Global, event: Name, text: &[u8]) -> Result<Filter, Refus
     }
 }
 
-/// A filter's fault as a refusal. Want of memory is a refusal of its own.
+/// A filter's fault as a refusal. Out of memory is a refusal of its own.
 fn filter_refused(fault: FilterFault) -> Refused
     ensures { result ≡ filter_refused fault }
 {

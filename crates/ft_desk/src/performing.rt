@@ -157,7 +157,7 @@ fn answered<A: Answer>(alloc: Global, answer: Result<A, Refused>) -> Result<Perf
     }
 }
 
-/// What a refusal prints. Want of memory has no line: it is a failure, as it is where the text finds
+/// What a refusal prints. Out of memory has no line: it is a failure, as it is where the text finds
 /// no memory.
 pub fn refused(alloc: Global, reason: Refused) -> Result<Performed, AllocError>
     ensures text { IfOk result (λ done. done.text.items ≡ refused_text reason) }

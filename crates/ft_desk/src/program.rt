@@ -140,7 +140,7 @@ fn arguments<P: Env + AllocGlobal>(rt: &P) -> io::Result<Vec<String>> {
     Ok(env::args(rt)?.collect(rt.alloc())?)
 }
 
-/// The exit status of a run of the program of a name. A fault is printed behind the name.
+/// The exit status of a run of the program of a name. A fault is printed after the name.
 fn exit_status<P: Eprint>(rt: &P, name: &str, ended: Result<Status, Fault<'_>>) -> u8
     ensures { result ≡ exit_status_of ended.entry }
 {

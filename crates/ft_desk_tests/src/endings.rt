@@ -22,7 +22,7 @@ fn printed_by(bytes: usize) -> &'static [u8] {
     }
 }
 
-/// What is printed of a script that ends behind the first bytes of this one.
+/// What is printed of a script that ends after the first bytes of this one.
 fn printed_of(bytes: usize) -> &'static [u8] {
     match bytes {
         0 => b"",
@@ -65,7 +65,7 @@ fn ends_reading(
     matches!(ran(alloc, script, &mut out), Err(RunFault::Read)) && out.has(printed, 1)
 }
 
-/// Whether a run ends where its reader fails behind the bytes that it shows.
+/// Whether a run ends where its reader fails after the bytes that it shows.
 fn ends_behind(alloc: Global, shown: &[u8], kind: ErrorKind, broken_flush: bool) -> bool {
     let mut script = Source::new(shown, 2);
     script.end = Some(kind);
@@ -82,7 +82,7 @@ fn ends_where_the_reader_fails(rt: HostRuntime) {
     }
 }
 
-/// Whether a run ends where its reader fails behind the bytes that it shows, and doesn't take what
+/// Whether a run ends where its reader fails after the bytes that it shows, and doesn't take what
 /// the reader would show then.
 fn leaves_more<'a>(alloc: Global, shown: &'a [u8], kind: ErrorKind, more: &'a [u8]) -> bool {
     let mut script = Source::new(shown, 3);
@@ -118,7 +118,7 @@ fn asks_no_reader_again_that_failed(rt: HostRuntime) {
     }
 }
 
-/// Whether a run ends behind the bytes that its reader shows, and doesn't take what the reader
+/// Whether a run ends after the bytes that its reader shows, and doesn't take what the reader
 /// would show then.
 fn ends_well<'a>(alloc: Global, shown: &'a [u8], more: &'a [u8]) -> bool {
     let mut script = Source::new(shown, 3);
@@ -141,7 +141,7 @@ fn ends_writing(alloc: Global, script: &mut Source<'_>, out: &mut Sink) -> bool 
     matches!(ran(alloc, script, out), Err(RunFault::Write))
 }
 
-/// Whether a run ends where its writer fails behind the bytes that it has taken, for good or once.
+/// Whether a run ends where its writer fails after the bytes that it has taken, for good or once.
 fn ends_full(alloc: Global, taken: &[u8], full: Option<ErrorKind>, once: bool) -> bool {
     let mut out = Sink::new(alloc, 4);
     out.room = taken.len();

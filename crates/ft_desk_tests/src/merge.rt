@@ -10,7 +10,7 @@ use std::alloc::Global;
 use std::collections::BTreeMap;
 use std::test::*;
 
-/// Adds a waking, or another event, behind those of a CPU: its line. None where there is no such
+/// Adds a waking, or another event, after those of a CPU: its line. None where there is no such
 /// event, or no room.
 fn pushed(lanes: &mut Lanes, cpu: u16, stamp: u64, wakes: bool) -> Option<u32> {
     if cpu > 8191 || stamp > 4_294_967_295_999_999 || lanes.next_line(cpu) > 4_294_967_295 {
@@ -72,7 +72,7 @@ fn stand_at(merged: &[(Pos, Stored<'_>)], places: &[(u64, u16, u32)]) -> bool {
     merged.len() == places.len()
 }
 
-/// Whether the lanes' events on wakings stand in merged order. None for want of memory.
+/// Whether the lanes' events on wakings stand in merged order. None where memory runs out.
 fn are_merged(alloc: Global, lanes: &Lanes) -> Option<bool> {
     let triggers = on_wakings(alloc)?;
     let merged = merged_events(alloc, lanes, &triggers).ok()?;

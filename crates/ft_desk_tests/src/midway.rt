@@ -40,7 +40,7 @@ fn traces(alloc: Global) -> Result<Vec<Vec<u8>>, AllocError> {
     Ok(vec![in alloc; Vec::from_slice(alloc, TRACE)?]?)
 }
 
-/// Whether a run over a board ends where its writer fails behind the bytes that it has taken.
+/// Whether a run over a board ends where its writer fails after the bytes that it has taken.
 fn ends_full<B: Board>(
     alloc: Global,
     board: B,
@@ -109,7 +109,7 @@ fn fails_where_the_flush_does(rt: HostRuntime) -> Result<(), Fail> {
     Ok(())
 }
 
-/// Whether a run over a board ends where its reader fails behind two commands, with what these print
+/// Whether a run over a board ends where its reader fails after two commands, with what these print
 /// written.
 fn ends_reading<B: Board>(alloc: Global, board: B, traces: &[Vec<u8>], shown: &[u8]) -> bool
     requires { (B.shown board).base ≡ empty_base }

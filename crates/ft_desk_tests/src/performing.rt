@@ -1,4 +1,4 @@
-//! What lines of a script print, and that want of memory has no line.
+//! What lines of a script print, and that out of memory has no line.
 
 use crate::no_room::NoRoom;
 use ft_desk::{Board, Desk, PlainBoard, perform};

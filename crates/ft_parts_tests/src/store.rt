@@ -155,7 +155,7 @@ fn a_reference_tells_its_event(rt: HostRuntime) {
     assert!(rt; holds(store_of_all(rt.alloc()), tells_all));
 }
 
-/// Whether a reference behind the six events tells of nothing.
+/// Whether a reference after the six events tells of nothing.
 fn tells_nothing_behind(store: &Store) -> bool {
     let behind = Stored::new(store, 6);
     behind.name() == Name::Other && behind.stamp() == 0 && behind.event() == Event::blank()

@@ -1,4 +1,4 @@
--- What stands behind STAMP, cut from the left: the body of an event.
+-- What stands after STAMP, cut from the left: the body of an event.
 use Rattle.std.proofs.Common.{◌≡◌, ℕ, inl, inr, List, [], ◌++◌, reverse, drop, refl, sym, ap, subst, ◌∙◌, arith, Ok, Option, Some, None, true, false}
 use Rattle.std.proofs.lemmas.List.{append-nil}
 use Rattle.std.specs.Prelude.{codes}
@@ -67,7 +67,7 @@ turn_gives payload turn fair = inl (
   ),
 )
 
--- the events, by what stands behind ` sched_`
+-- the events, by what stands after ` sched_`
 switch_found : (rest text payload : List ℕ) (turn : Turn) → rest ≡ codes " sched_" ++ text → text ≡ codes "switch: " ++ payload
     → IsFairTurn payload turn → BodyIs rest (Ok (bodies.Switch turn))
 unfolding label_of behind

@@ -28,7 +28,7 @@ run_len p (x ∷ run) rest passes stops =
 rest_is : (p : ℕ → Bool) (run rest : List ℕ) → list_all p run ≡ true → Stops p rest → drop (prefix_len p (run ++ rest)) (run ++ rest) ≡ rest
 rest_is p run rest passes stops = rw (run_len p run rest passes stops) (drop_at run rest (length run) refl)
 
--- what stands behind spaces has one place
+-- what stands after spaces has one place
 pub rest_same : (p : ℕ → Bool) (line run rest run' rest' : List ℕ) → line ≡ run ++ rest → line ≡ run' ++ rest' → list_all p run ≡ true
     → list_all p run' ≡ true → Stops p rest → Stops p rest' → rest ≡ rest'
 rest_same p line run rest run' rest' cut cut' passes passes' stops stops' =

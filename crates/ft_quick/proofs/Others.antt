@@ -1,4 +1,4 @@
--- Events without a name: no label begins what stands behind STAMP.
+-- Events without a name: no label begins what stands after STAMP.
 use Rattle.std.proofs.Common.{◌≡◌, ℕ, inr, List, [], ◌∷◌, ◌++◌, take, get_or, refl, ap, ◌∙◌, append_assoc, Ok}
 use Rattle.std.proofs.lemmas.Bool.{ne_eqb}
 use Rattle.std.specs.Prelude.{codes, unwrap_or}
@@ -12,7 +12,7 @@ use Rattle.ft_event.specs.LineIs.{BodyIs, Stops}
 use Rattle.ft_quick.specs.inner.Payloads.{IsUnlabelled}
 use Rattle.ft_quick.proofs.Fronts.{rest_same}
 
--- the text of an event's label, and what stands behind it
+-- the text of an event's label, and what stands after it
 abbrev label_then : Name → List ℕ → List ℕ
 label_then n more = (unwrap_or (name_text n) [] ++ codes ":") ++ more
 

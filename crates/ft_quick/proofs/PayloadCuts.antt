@@ -46,7 +46,7 @@ last_number front number z h =
 
 -- ---- a task's part
 
--- a name, and behind its labels a PID and a priority
+-- a name, and after its labels a PID and a priority
 pub task_cut : (pid_label prio_label text comm from_pid from_label from_prio rest : List ℕ) (pid prio p q : ℤ) → IsName pid_label text comm from_pid
     → IsSigned from_pid pid from_label → from_label ≡ prio_label ++ from_prio → IsSigned from_prio prio rest
     → p ≡ pid → q ≡ prio → IsTask pid_label prio_label text comm p q rest
@@ -62,7 +62,7 @@ task_cut pid_label prio_label text comm from_pid from_label from_prio rest pid p
   prio_fits = subst (FitsSigned w32) (sym same_prio) b.fits;
 }
 
--- nothing stands behind the line's end
+-- nothing stands after the line's end
 pub nothing_left : (line : List ℕ) (at : ℕ) → at ≡ length line → drop at line ≡ []
 nothing_left line at ends = drop_all at line (omega arith)
 
@@ -147,7 +147,7 @@ arrow_at before behind front back bare cut later =
     let here : get_or text at 0 ≡ get_or behind place 0 = get_or-append_right (before ++ codes " ==> next_comm=") behind _ at 0 refl (omega arith) in
     bare (place, within, get_or_default behind place 61 0 within ∙ sym here ∙ there)
 
--- the arrow stands at its last place, where no `=` stands behind it
+-- the arrow stands at its last place, where no `=` stands after it
 last_arrow : (before behind : List ℕ) → (Contains behind 61 → ⊥) → IsLastArrow (before ++ codes " ==> next_comm=" ++ behind) before behind
 last_arrow before behind bare = record {
   joined = refl;

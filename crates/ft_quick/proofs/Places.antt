@@ -68,7 +68,7 @@ pub no_run_at : (p : ℕ → Bool) (line : List ℕ) (from at : ℕ) → at ≤ 
     → list_any p (take (at - from) (drop from line)) ≡ false
 no_run_at p line from at within each = let len = length-drop from line in run_fails p (drop from line) (at - from) (omega arith) (seen_from p false line from at each)
 
--- a run ends within the line, where a 0, as a read behind the line gives, does not pass
+-- a run ends within the line, where a 0, as a read after the line gives, does not pass
 pub run_within : (p : ℕ → Bool) (line : List ℕ) (from at : ℕ) → p 0 ≡ false → from ≤ length line → ((k : ℕ) → from ≤ k → k < at → p (get_or line k 0) ≡ true) → at ≤ length line
 run_within p line from at none begins each = elim (cases_lt (length line) at) [
   | inl past ↦ let hit : p 0 ≡ true = ap p (sym (get_or_past line (length line) 0 (omega arith))) ∙ each (length line) begins past in absurd (differ (sym hit ∙ none))
@@ -91,7 +91,7 @@ stops_at p line at here = elim (cases_lt at (length line)) [
   | inr past ↦ subst (Stops p) (sym (drop_all at line past)) tt
 ]
 
--- the rest behind spaces, which begins with none
+-- the rest after spaces, which begins with none
 pub skip_at : (line : List ℕ) (from at : ℕ) → from ≤ length line → IsEnded (λ k. is_space (get_or line k 0)) from at → IsSkip (drop from line) (drop at line)
 skip_at line from at begins run =
     let within = run_within is_space line from at refl begins run.before in

@@ -4,7 +4,7 @@ use Rattle.std.proofs.lemmas.Int.{ints}
 use Rattle.std.specs.Prelude.{codes, neg_ℤ}
 use Rattle.ft_quick.specs.inner.Cuts.{IsNumbered, IsSigned}
 
--- digits behind a `-`
+-- digits after a `-`
 pub signed_minus : (text behind rest : List ℕ) (n : ℕ) (z : ℤ) → text ≡ codes "-" ++ behind → IsNumbered behind n rest → z ≡ neg_ℤ (pos n) → IsSigned text z rest
 signed_minus text behind rest n z cut read value = record {
   number = codes "-" ++ read.digits;

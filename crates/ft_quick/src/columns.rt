@@ -20,7 +20,7 @@ pub(crate) fn is_plain(line: &[u8]) -> bool
     if line.len() < 4 || line.len() > 4096 {
         return false;
     }
-    // Lost events are told behind `CPU:`.
+    // Lost events are told after `CPU:`.
     line[0] != b'#' && line[3] != b':'
 }
 
@@ -63,7 +63,7 @@ impl<'a> Columns<'a> {
         }
     }
 
-    /// The place behind the spaces that stand here.
+    /// The place after the spaces that stand here.
     #[inline(always)]
     pub(crate) fn behind_spaces(&self, from: usize) -> Option<usize>
         requires marked { AreMarked self.now }
@@ -76,7 +76,7 @@ impl<'a> Columns<'a> {
         Some(at)
     }
 
-    /// The place of the `-` behind TASK: the first that a digit follows.
+    /// The place of the `-` after TASK: the first that a digit follows.
     #[inline(always)]
     pub(crate) fn task_end(&self, from: usize) -> Option<usize>
         requires marked { AreMarked self.now }
@@ -90,7 +90,7 @@ impl<'a> Columns<'a> {
         Some(end)
     }
 
-    /// The number that stands here, of one to nine digits, and the place behind it.
+    /// The number that stands here, of one to nine digits, and the place after it.
     #[inline(always)]
     fn number(&self, from: usize) -> Option<(u32, usize)>
         requires marked { AreMarked self.now }
@@ -104,7 +104,7 @@ impl<'a> Columns<'a> {
         Some((number, end))
     }
 
-    /// PID, CPU, and the place behind `] `.
+    /// PID, CPU, and the place after `] `.
     #[inline(always)]
     pub(crate) fn tail(&self, at: usize) -> Option<(u32, u32, usize)>
         requires marked { AreMarked self.now }
@@ -122,7 +122,7 @@ impl<'a> Columns<'a> {
         Some((pid, cpu, at))
     }
 
-    /// The place behind spaces and LETTERS, where these stand here.
+    /// The place after spaces and LETTERS, where these stand here.
     #[inline(always)]
     fn behind_letters(&self, at: usize) -> Option<usize>
         requires marked { AreMarked self.now }
@@ -146,7 +146,7 @@ impl<'a> Columns<'a> {
         Some(next_word)
     }
 
-    /// The event's stamp in microseconds, and the place behind STAMP.
+    /// The event's stamp in microseconds, and the place after STAMP.
     #[inline(always)]
     pub(crate) fn stamp(&self, at: usize) -> Option<(u64, usize)>
         requires marked { AreMarked self.now }

@@ -1,4 +1,4 @@
-//! Cuts of a line from the left: what stands at a place, and the place behind it.
+//! Cuts of a line from the left: what stands at a place, and the place after it.
 //!
 //! A line stays one slice and places in it are numbers, so that few registers hold all that a loop needs.
 
@@ -10,7 +10,7 @@ use crate::numbers::number_of;
 use crate::same::is_same;
 use memchr::memchr;
 
-/// The place behind a label that stands here.
+/// The place after a label that stands here.
 #[inline(always)]
 pub(crate) fn behind<const N: usize>(label: &[u8; N], line: &[u8], at: usize) -> Option<usize>
     requires { at ≤ length line.now }
@@ -38,7 +38,7 @@ pub(crate) fn before<'a, const N: usize>(label: &[u8; N], text: &'a [u8]) -> Opt
     }
 }
 
-/// The number that stands here, of one to nine digits, and the place behind it, byte by byte.
+/// The number that stands here, of one to nine digits, and the place after it, byte by byte.
 #[inline(always)]
 fn number_by_bytes(line: &[u8], from: usize) -> Option<(u32, usize)>
     requires { from ≤ length line.now }
@@ -63,7 +63,7 @@ fn number_by_bytes(line: &[u8], from: usize) -> Option<(u32, usize)>
     Some((number, stop))
 }
 
-/// The number that stands here, of one to seven digits, and the place behind it, where this is not near
+/// The number that stands here, of one to seven digits, and the place after it, where this is not near
 /// the line's end.
 #[inline(always)]
 fn number_at_once(line: &[u8], from: usize) -> Option<(u32, usize)>
@@ -76,7 +76,7 @@ fn number_at_once(line: &[u8], from: usize) -> Option<(u32, usize)>
     Some((number, end))
 }
 
-/// The number that stands here, of one to nine digits, and the place behind it.
+/// The number that stands here, of one to nine digits, and the place after it.
 #[inline(always)]
 pub(crate) fn number(line: &[u8], from: usize) -> Option<(u32, usize)>
     requires { from ≤ length line.now }
@@ -89,7 +89,7 @@ pub(crate) fn number(line: &[u8], from: usize) -> Option<(u32, usize)>
     }
 }
 
-/// The number that stands here, perhaps a `-` and one to nine digits, and the place behind it.
+/// The number that stands here, perhaps a `-` and one to nine digits, and the place after it.
 #[inline(always)]
 pub(crate) fn signed(line: &[u8], at: usize) -> Option<(i32, usize)>
     requires { at ≤ length line.now }

@@ -16,7 +16,7 @@ pub(crate) struct Front<'a> {
     pub(crate) cpu: u16,
     /// STAMP, in microseconds.
     pub(crate) stamp: u64,
-    /// The place behind STAMP.
+    /// The place after STAMP.
     pub(crate) rest: usize,
     ghost cpu_within: { cpu ≤ last_cpu },
     ghost stamp_within: { stamp ≤ last_stamp },

@@ -8,7 +8,7 @@ ghost use Rattle.ft_quick.specs.inner.Marks.{IsFirst, IsMarks, IsNext, IsNextOth
 
 use std::simd::prelude::*;
 
-/// The bytes of a line that has fewer than 64, and zeros behind them.
+/// The bytes of a line that has fewer than 64, and zeros after them.
 #[inline(never)]
 fn padded(line: &[u8]) -> u8x64
     requires { length line.now < 64 }
@@ -19,7 +19,7 @@ fn padded(line: &[u8]) -> u8x64
     u8x64::from_slice(&bytes)
 }
 
-/// A line's first 64 bytes, with zeros behind them where it has fewer.
+/// A line's first 64 bytes, with zeros after them where it has fewer.
 #[inline(always)]
 pub(crate) fn first_bytes(line: &[u8]) -> u8x64
     ensures { IsFirst line.now result }
@@ -146,7 +146,7 @@ pub(crate) fn next_other(marks: u64, from: usize) -> Option<usize>
     Some(at)
 }
 
-/// The next place from here on that is marked as a first one, with the one behind it as a second.
+/// The next place from here on that is marked as a first one, with the one after it as a second.
 #[inline(always)]
 pub(crate) fn next_pair(firsts: u64, seconds: u64, from: usize) -> Option<usize>
     ensures { IfSome result (IsNextPair firsts seconds from) }

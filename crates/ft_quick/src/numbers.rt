@@ -23,7 +23,7 @@ fn at_once(line: &[u8], from: usize, end: usize) -> Option<u32>
         return None;
     }
     let (bytes, _) = line[from..].split_first_chunk::<8>()?;
-    // The digits' values, moved up to the word's end: the bytes behind the digits fall out.
+    // The digits' values, moved up to the word's end: the bytes after the digits fall out.
     let values = u64::from_le_bytes(*bytes).wrapping_sub(ZEROS) << (64 - 8 * count);
     // Pairs of digits in every other byte, which two products sum up.
     let pairs = values.wrapping_mul(10).wrapping_add(values >> 8);

@@ -36,7 +36,7 @@ impl WakeName {
     }
 }
 
-/// A name of at most 31 bytes that stands here, and the place behind the label that follows it and
+/// A name of at most 31 bytes that stands here, and the place after the label that follows it and
 /// `=`, the first from here on.
 #[inline(always)]
 fn name_of<'a, const N: usize>(
@@ -57,7 +57,7 @@ fn name_of<'a, const N: usize>(
     Some((NameRef::new(&line[at..], len), end + 1))
 }
 
-/// A task's name that stands here, its PID and its priority, and the place behind it.
+/// A task's name that stands here, its PID and its priority, and the place after it.
 #[inline(always)]
 fn task_of<'a, const N: usize, const M: usize>(
     pid_label: &[u8; N],

@@ -134,7 +134,7 @@ fn other_lines(rt: HostRuntime) {
         b"sim-7 [000] 6.000100: wakeup_latency: lat=1 pid=1 prio=120",
         b"sim-7 [9000] 6.000100: sched_waking: comm=w pid=1 prio=120 target_cpu=000",
         b"sim-7 [000] 6.00010: sched_waking: comm=w pid=1 prio=120 target_cpu=000",
-        // STAMP stands behind the first 64 bytes.
+        // STAMP stands after the first 64 bytes.
         b"sim-7                 [000]                                   6.000100: sched_waking: comm=w pid=1 prio=120 target_cpu=000",
     ] {
         assert!(rt; !is_usual(line));

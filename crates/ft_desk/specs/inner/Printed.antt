@@ -11,7 +11,7 @@ use Rattle.ft_answers.specs.Shown.{Shown}
 use Rattle.ft_desk.specs.declared.performing.Performed.{Performed}
 use Rattle.ft_desk.specs.Output.{Outcome, edit_outcome, answer_outcome}
 
--- what was printed, whether it was refused, and the base that was left are the outcome; want of memory prints nothing
+-- what was printed, whether it was refused, and the base that was left are the outcome; out of memory prints nothing
 pub record Prints (outcome : Outcome) (left : Base) (result : Result Performed AllocError) : Type 0 where
   pub text : IfOk result (λ done. done.text.items ≡ outcome.text)
   pub refused : IfOk result (λ done. done.refused ≡ outcome.refused)

@@ -22,13 +22,13 @@ fn joined_at_last(alloc: Global) -> Result<Filter, FilterFault> {
     }
 }
 
-/// Whether a filter is written behind these bytes, asked again where memory ran out, which has to
+/// Whether a filter is written after these bytes, asked again where memory ran out, which has to
 /// leave them.
 fn is_written_at_last(filter: &Filter, line: &mut Vec<u8>, before: &[u8]) -> bool {
     filter.write(line).is_ok() || line.as_slice() == before && filter.write(line).is_ok()
 }
 
-/// Whether a filter is written so behind these bytes.
+/// Whether a filter is written so after these bytes.
 fn is_written_behind(alloc: Global, filter: &Filter, before: &[u8], want: &[u8]) -> bool {
     let Ok(mut line) = copy_at_last(alloc, before) else {
         return false;

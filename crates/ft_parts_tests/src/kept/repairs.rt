@@ -68,7 +68,7 @@ fn a_key_that_comes_in_saves(rt: HostRuntime) -> Result<(), Fail> {
     Ok(())
 }
 
-/// A reading finds the last saving before it, and unsets the variable for the reading behind it.
+/// A reading finds the last saving before it, and unsets the variable for the reading after it.
 #[test]
 fn a_saving_comes_between(rt: HostRuntime) -> Result<(), Fail> {
     let steps = [

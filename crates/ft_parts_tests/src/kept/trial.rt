@@ -135,7 +135,7 @@ impl Trial {
         Ok(None)
     }
 
-    /// What is there behind a step.
+    /// What is there after a step.
     fn behind(self, step: &Step) -> Result<Trial, Fail> {
         match step {
             Step::Comes(line) => self.comes(*line),

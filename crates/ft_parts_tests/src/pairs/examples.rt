@@ -2,7 +2,7 @@
 
 use super::*;
 
-/// A save of trigger 1, and two reads of trigger 2 behind it.
+/// A save of trigger 1, and two reads of trigger 2 after it.
 fn operations() -> [(At, Op); 3] {
     [
         (at(100, 1), Op::Save),
@@ -38,7 +38,7 @@ fn found(pairs: &Pairs, at: At) -> Option<At> {
 }
 
 /// Whether the first of the three operations stand there, so many of them, and reads find the save
-/// accordingly: a read unsets the variable for the one behind it, and a save finds nothing.
+/// accordingly: a read unsets the variable for the one after it, and a save finds nothing.
 fn has_first(pairs: &Pairs, count: usize) -> bool {
     let (first, second) = match count {
         0 => (None, None),
@@ -113,7 +113,7 @@ fn places_stand_by_stamp_then_trigger(rt: HostRuntime) {
     assert!(rt; at(100, 2) < at(100, 10) && at(100, 10) < at(101, 1));
 }
 
-/// Whether an operation is put behind the first so many, asked again where memory ran out, which has
+/// Whether an operation is put after the first so many, asked again where memory ran out, which has
 /// to leave them.
 fn is_put(pairs: &mut Pairs, count: usize, at: At, op: Op) -> bool {
     put(pairs, 5, at, op).is_ok() || has_first(pairs, count) && put(pairs, 5, at, op).is_ok()

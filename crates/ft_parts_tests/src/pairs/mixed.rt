@@ -1,4 +1,4 @@
-//! What readings find behind mixed calls, as a plain search finds it.
+//! What readings find after mixed calls, as a plain search finds it.
 
 mod dice;
 mod plain;
@@ -61,7 +61,7 @@ impl Both {
         true
     }
 
-    /// Does what the dice show, to the PID that they show: whether readings agree behind each call.
+    /// Does what the dice show, to the PID that they show: whether readings agree after each call.
     fn turn(&mut self, dice: &mut Dice) -> Result<bool, AllocError> {
         let number = i64::from(dice.below(PIDS));
         match dice.below(32) {

@@ -52,7 +52,7 @@ fn has_four_hits(table: &Table) -> bool {
         && is_row(table, pid(6), None)
 }
 
-/// Where the hit of a PID behind a spot stands, and its values.
+/// Where the hit of a PID after a spot stands, and its values.
 fn next(table: &Table, number: i64, after: Option<Spot>) -> Option<(Spot, [i64; 3])> {
     let hit = table.hit_after(&pid(number), after)?;
     let values = hit.values;
@@ -140,7 +140,7 @@ fn has_first(table: &Table, count: usize) -> bool {
     }
 }
 
-/// Whether a hit is put in behind the first so many, asked again where memory ran out, which has to
+/// Whether a hit is put in after the first so many, asked again where memory ran out, which has to
 /// leave the table.
 fn is_put(table: &mut Table, count: usize, hit: &Hit) -> bool {
     put(table, *hit).is_ok() || has_first(table, count) && put(table, *hit).is_ok()

@@ -16,7 +16,7 @@ const MAKER_WRITTEN: &str = "hist:keys=next_pid:vals=hitcount:lat=common_timesta
 
 /// Texts on switches with an onmatch part, and their first faults.
 const FAULTS: [(&str, TriggerFault); 12] = [
-    // Another event is made, the stamp is saved at no event of the kernel, something stands behind.
+    // Another event is made, the stamp is saved at no event of the kernel, something stands after.
     (
         "hist:keys=next_pid:onmatch(sched.sched_waking).other($lat,next_pid,next_prio)",
         TriggerFault::LeftOut(19),
@@ -120,7 +120,7 @@ fn triggers_on_made_events(rt: HostRuntime) {
     }
 }
 
-/// A switch to the task 42, of priority 120, 50 microseconds behind the first second.
+/// A switch to the task 42, of priority 120, 50 microseconds after the first second.
 fn switch() -> Result<Event, &'static str> {
     let body = Body::Switch(Turn {
         prev_comm: comm_of("idle")?,

@@ -194,13 +194,13 @@ fn rich_at_last(alloc: Global) -> Result<Trigger, TriggerFault> {
     }
 }
 
-/// Whether a trigger is written behind these bytes, asked again where memory ran out, which has to
+/// Whether a trigger is written after these bytes, asked again where memory ran out, which has to
 /// leave them.
 fn is_written_at_last(trigger: &Trigger, line: &mut Vec<u8>, before: &[u8]) -> bool {
     trigger.write(line).is_ok() || line.as_slice() == before && trigger.write(line).is_ok()
 }
 
-/// Whether a trigger is written so behind these bytes.
+/// Whether a trigger is written so after these bytes.
 fn is_written_behind(alloc: Global, trigger: &Trigger, before: &[u8], want: &[u8]) -> bool {
     let Ok(mut line) = copy_at_last(alloc, before) else {
         return false;

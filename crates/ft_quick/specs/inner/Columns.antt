@@ -10,13 +10,13 @@ use Rattle.ft_quick.specs.inner.Marks.{IsMarks}
 abbrev pub ends_task : List ℕ → ℕ → Bool
 ends_task text at = slice_index text at == 45 && is_digit (slice_index text (at + 1))
 
--- the line is short enough, and neither a comment nor one of lost events (our own choice)
+-- the line is short enough, and neither a comment nor one of lost events
 pub record IsPlain (line : List ℕ) : Type 0 where
   pub short : length line ≤ 4096
   pub comment : slice_index line 0 ≡ 35 → ⊥
   pub lost : IsLost line → ⊥
 
--- TASK, a `-`, and the rest; no `-` in TASK has a digit behind it (our own choice: a task's name may hold `-`)
+-- TASK, a `-`, and the rest; no `-` in TASK has a digit after it (our own choice: a task's name may hold `-`)
 pub record IsTask (text task rest : List ℕ) : Type 0 where
   pub joined : text ≡ task ++ 45 ∷ rest
   pub first : (at : ℕ) → at < length task → ends_task text at ≡ false
@@ -42,7 +42,7 @@ pub record IsLettered (text rest : List ℕ) : Type 0 where
   pub before : IsSpaces gap
   pub letters : (column ≡ []) ⊎ IsLetters column
 
--- each kind of byte is marked where it stands in the line's first 64 bytes (our own choice)
+-- each kind of byte is marked where it stands in the line's first 64 bytes
 pub record AreMarked (columns : Columns) : Type 0 where
   pub spaces : IsMarks (λ k. is_space (slice_index columns.line.now k)) columns.spaces
   pub digits : IsMarks (λ k. is_digit (slice_index columns.line.now k)) columns.digits

@@ -13,11 +13,11 @@ use Rattle.ft_quick.specs.declared.payload.WakeName.{WakeName}
 use Rattle.ft_quick.specs.declared.payload.WakeName.TheVariants as wakes
 use Rattle.ft_quick.specs.inner.Payloads.{IsFairTurn, IsFairWake}
 
--- the event of these columns, where this was traced (our own choice)
+-- the event of these columns, where this was traced
 abbrev pub traced_with : Front → Body → Traced
 traced_with front body = record { task = named front.task; pid = front.pid; cpu = front.cpu; stamp = front.stamp; body = body }
 
--- whatever stands behind the columns, the line gives its event (our own choice)
+-- whatever stands after the columns, the line gives its event
 abbrev pub IsFront : List ℕ → Front → Type 0
 IsFront line front = (body : Body) → BodyIs (drop front.rest line) (Ok body) → LineIs line (Ok (lines.Event (traced_with front body)))
 
@@ -27,19 +27,19 @@ body_named wakes.Waking wake = bodies.Waking wake
 body_named wakes.Wakeup wake = bodies.Wakeup wake
 body_named wakes.WakeupNew wake = bodies.WakeupNew wake
 
--- the event is that of these columns and of a wake event with this payload (our own choice)
+-- the event is that of these columns and of a wake event with this payload
 pub record IsPutWake (name : WakeName) (payload : List ℕ) (front : Front) (event : Traced) : Type 0 where
   pub wake : Wake
   pub fair : IsFairWake payload wake
   pub put : event ≡ traced_with front (body_named name wake)
 
--- the event is that of these columns and of a switch with this payload (our own choice)
+-- the event is that of these columns and of a switch with this payload
 pub record IsPutTurn (payload : List ℕ) (front : Front) (event : Traced) : Type 0 where
   pub turn : Turn
   pub fair : IsFairTurn payload turn
   pub put : event ≡ traced_with front (bodies.Switch turn)
 
--- the event is that of these columns and of what stands behind them (our own choice)
+-- the event is that of these columns and of what stands after them
 pub record IsPut (rest : List ℕ) (front : Front) (event : Traced) : Type 0 where
   pub body : Body
   pub is : BodyIs rest (Ok body)

@@ -6,13 +6,13 @@ use Rattle.ft_fields.specs.declared.event.Wake.{Wake}
 use Rattle.ft_event.specs.Bytes.{is_space}
 use Rattle.ft_event.specs.LineIs.{IsTurn, IsWake, NumberIs, Stops}
 
--- a name of at most 31 bytes, a label, `=` and the rest; no other `=` stands before this one (our own choice)
+-- a name of at most 31 bytes, a label, `=` and the rest; no other `=` stands before this one
 pub record IsName (label text name rest : List ℕ) : Type 0 where
   pub joined : text ≡ name ++ (label ++ 61 ∷ rest)
   pub short : length name ≤ 31
   pub bare : Contains name 61 → ⊥
 
--- a task's name, and behind its labels its PID and its priority, and the rest (our own choice)
+-- a task's name, and after its labels its PID and its priority, and the rest
 pub record IsTask (pid_label prio_label text comm : List ℕ) (pid prio : ℤ) (rest : List ℕ) : Type 0 where
   pub pid_text : List ℕ
   pub prio_text : List ℕ
@@ -24,7 +24,7 @@ pub record IsTask (pid_label prio_label text comm : List ℕ) (pid prio : ℤ) (
   pub prio_is : NumberIs prio_text prio
   pub prio_fits : FitsSigned w32 prio
 
--- the payload of a wake event, of which nothing is too long or out of range (our own choice)
+-- the payload of a wake event, of which nothing is too long or out of range
 pub record IsFairWake (payload : List ℕ) (wake : Wake) : Type 0 where
   pub is : IsWake payload wake None
   pub short : length wake.comm ≤ 31
@@ -34,7 +34,7 @@ pub record IsFairWake (payload : List ℕ) (wake : Wake) : Type 0 where
   pub first : Stops is_space payload
   pub last : Stops is_space (reverse payload)
 
--- the payload of a switch, of which nothing is too long or out of range (our own choice)
+-- the payload of a switch, of which nothing is too long or out of range
 pub record IsFairTurn (payload : List ℕ) (turn : Turn) : Type 0 where
   pub is : IsTurn payload turn
   pub prev_short : length turn.prev_comm ≤ 31
@@ -47,7 +47,7 @@ pub record IsFairTurn (payload : List ℕ) (turn : Turn) : Type 0 where
   pub first : Stops is_space payload
   pub last : Stops is_space (reverse payload)
 
--- what tells a text from all labels: its first byte, and its first eight (our own choice)
+-- what tells a text from all labels: its first byte, and its first eight
 pub record IsUnlabelled (text : List ℕ) : Type 0 where
   pub space : slice_index text 0 ≡ 32 → ⊥
   pub colon : slice_index text 0 ≡ 58 → ⊥

@@ -51,7 +51,7 @@ impl Dice {
         Ok(run)
     }
 
-    /// Places that rise, and begin anew behind the last one: mostly up to three, else ten.
+    /// Places that rise, and begin anew after the last one: mostly up to three, else ten.
     pub(super) fn places(&mut self, alloc: Global) -> Result<Vec<At>, AllocError> {
         let mut places = Vec::new(alloc);
         let mut number = self.below(PLACES);
