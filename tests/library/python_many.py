@@ -441,7 +441,7 @@ def is_alive(pid):
         return False
 
 
-def until(holds, seconds=10):
+def until(holds, seconds=30):
     """Whether something comes to hold."""
     end = time.monotonic() + seconds
     while not holds() and time.monotonic() < end:
