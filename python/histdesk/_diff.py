@@ -173,7 +173,7 @@ class Difference:
         return [Counted(one.by() if together else one, length, above) for one, length in zip(counts, self.seconds)]
 
     def to_pandas(self, by: Optional[str] = None, *, sort: str = "waited", above: Optional[int] = None) -> Any:
-        """A DataFrame of `table`: the key's parts, and each figure of both sides, as `count_before` and `count_behind`. Raises
+        """A DataFrame of `table`: the key's parts, and each figure of both sides, as `count_before` and `count_after`. Raises
         `ImportError` where pandas isn't there."""
         import pandas  # type: ignore[import]
 

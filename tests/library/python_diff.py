@@ -191,10 +191,10 @@ class TwoRecordings(Case):
     def test_to_pandas(self):
         found = diff(*(recordings.simulated(seed, 100).text for seed in (8, 9)))
         frame, rows = found.to_pandas("cpu"), found.table("cpu")
-        self.assertEqual(list(frame.columns[:4]), ["cpu", "kind", "count_before", "count_behind"])
+        self.assertEqual(list(frame.columns[:4]), ["cpu", "kind", "count_before", "count_after"])
         self.assertEqual(list(zip(frame.cpu, frame.kind)), [row.key for row in rows])
         self.assertEqual(
-            list(frame.max_behind.astype(object).where(frame.max_behind.notna(), None)), [row.after.max for row in rows]
+            list(frame.max_after.astype(object).where(frame.max_after.notna(), None)), [row.after.max for row in rows]
         )
         self.assertEqual(len(diff(b"", b"").to_pandas()), 0)
 
@@ -330,7 +330,7 @@ class Tool(Case):
         self.assertEqual(lines, [names, *([str("" if cell is None else cell) for cell in row] for row in told)])
         whole = json.loads(self.run_tool(*words, "--json")[0])
         self.assertEqual(whole["rows"], [dict(zip(names, row)) for row in told])
-        self.assertEqual(whole["all"]["p99_behind"], diff(*paths).whole().after.p99)
+        self.assertEqual(whole["all"]["p99_after"], diff(*paths).whole().after.p99)
         self.assertEqual([whole[side]["trace"] for side in ("before", "after")], paths)
 
     def test_refused(self):
