@@ -683,7 +683,7 @@ while True:
         with tempfile.TemporaryDirectory() as folder:
             path = os.path.join(folder, "my.trace")
             with subprocess.Popen([sys.executable, "-c", self.BUSY]), open(path, "wb") as file:
-                words = [os.path.join(os.path.dirname(TOOL), "record"), "--buffer", "64", "0.3"]
+                words = [os.path.join(os.path.dirname(TOOL), "record"), "--buffer", "16", "0.3"]
                 subprocess.run(words, stdout=file, stderr=subprocess.PIPE, check=True)
             ran = subprocess.run(
                 [sys.executable, "-B", TOOL, path, "--json"], stdout=subprocess.PIPE, stderr=subprocess.PIPE, check=True
