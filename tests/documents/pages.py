@@ -5,10 +5,9 @@
 
 Of each document: a link leads to a file that is there, and to a heading of it; each file and folder of the repository that it
 names is there; a line has at most 120 characters, except in tables and blocks; no word of AVOIDED stands in it. Each page of
-WORDS has as many words as stand there, to a quarter, and docs/ has no other page; one that is not written yet is told, and
-may be linked to. A document or script that sources and scripts name is there. README.md has the line that tools/needs prints,
-and docs/TESTING.md counts what there is; --write has these counts written there first. The last line says how many things
-hold.
+WORDS has as many words as stand there, to a quarter, and docs/ has no other page. A document or script that sources and
+scripts name is there. README.md has the line that tools/needs prints, and docs/TESTING.md counts what there is; --write has
+these counts written there first. The last line says how many things hold.
 """
 
 import ast
@@ -112,9 +111,9 @@ def links(path):
     for target in targets:
         file, _, anchor = target.partition("#")
         there = os.path.normpath(os.path.join(os.path.dirname(path), file)) if file else path
-        if not is_there(there) and there not in WORDS:
+        if not is_there(there):
             wrong.append(f"{path}: no file for the link {target}")
-        elif anchor and is_there(there) and there.endswith(".md") and anchor not in anchors(there):
+        elif anchor and there.endswith(".md") and anchor not in anchors(there):
             wrong.append(f"{path}: no heading for the link {target}")
     return targets, wrong
 
@@ -157,7 +156,7 @@ def mentions():
     own = ["*.md", "tests/rows", "examples/*.trace", "examples/*.expected", "*.edit"]
     words = ["git", "-C", ROOT, "ls-files", "-z", "--cached", "--others", "--exclude-standard", "--", "."]
     ran = subprocess.run([*words, *(f":!{form}" for form in own)], stdout=subprocess.PIPE, check=True)
-    written = {os.path.basename(path) for path in files("**", "*.md")} | {os.path.basename(path) for path in WORDS}
+    written = {os.path.basename(path) for path in files("**", "*.md")}
     found, wrong = [], []
     for path in ran.stdout.decode().split("\0")[:-1]:
         try:
@@ -166,7 +165,7 @@ def mentions():
             continue
         for name in re.findall(r"(?<![\w/.-])(?:docs|tests|bench|tools|examples|include)/[\w/-]+\.(?:py|sh|md|c|h|rs)\b", text):
             found.append(name)
-            if name not in WORDS and not is_there(name) and not is_there(os.path.join(os.path.dirname(path), name)):
+            if not is_there(name) and not is_there(os.path.join(os.path.dirname(path), name)):
                 wrong.append(f"{path}: {name} isn't there")
         for name in re.findall(r"(?<![\w/.-])[A-Z]{4,}\.md\b", text):
             found.append(name)
@@ -202,7 +201,8 @@ def length(path):
 def pages():
     """The pages of docs/, and which of them has no place."""
     there = [os.path.relpath(path, ROOT) for path in glob.glob(os.path.join(ROOT, "docs", "*.md"))]
-    return there, [f"{path} has no place among the documents" for path in there if path not in [*WORDS, *OTHERS]]
+    wrong = [f"{path} has no place among the documents" for path in there if path not in [*WORDS, *OTHERS]]
+    return there, wrong + [f"{path} is missing" for path in WORDS if not is_there(path)]
 
 
 # ---- what is printed and counted
@@ -262,9 +262,6 @@ def main():
     told += [check(path) for path in documents if path != PAST for check in (names, form)]
     told += [length(path) for path in documents if path in WORDS]
     told += [mentions(), pages(), needed(), counted(COUNTING)]
-    for path in WORDS:
-        if not is_there(path):
-            print(f"not tried: {path}, which is not there")
     count, wrong = sum(len(things) for things, _ in told), [line for _, lines in told for line in lines]
     print("\n".join([*wrong, f"{max(count - len(wrong), 0)} of {count} things hold"]))
     return 1 if wrong else 0
