@@ -41,8 +41,7 @@ AVOIDED = [
     r"wants? of memory",
     r"but for",
     r"our own choice",
-    r"(?:comes?|stands?|came|stood) behind",
-    r"behind (?:an?|each|every) ",
+    r"behind",
     r"as yet|formerly|previously|used to be|until now",
     r"/work/|/root/|/home/",
 ]
