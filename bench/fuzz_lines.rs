@@ -191,7 +191,7 @@ fn behind_group(text: &[u8]) -> Option<&[u8]> {
     Some(some(spaces(text.strip_prefix(b")")?))?.1)
 }
 
-/// PID, CPU and what stands after, if a TASK's `-` stands in front.
+/// PID, CPU and what stands after them, if a TASK's `-` stands in front.
 fn tail(text: &[u8]) -> Option<(i64, i64, &[u8])> {
     let (pid, text) = some(span(text, is_digit))?;
     let (_, text) = some(spaces(text))?;

@@ -48,7 +48,7 @@ def printed(folder, name, script, program, trace):
 
 
 def session_prints(folder, commands):
-    """What the commands print, one behind the other."""
+    """What the commands print, one after the other."""
     with tempfile.TemporaryDirectory() as work:
         for name in os.listdir(folder):
             os.symlink(os.path.join(os.path.abspath(folder), name), os.path.join(work, name))

@@ -325,7 +325,7 @@ class What(Asked):
         told = self.running.error("POST", f"/{self.running.token}/strike", {"strikes": [{"event": "other", "text": ""}]})
         self.assertEqual(told[0], 400)
         window = {"recording": 0, "cpu": 0, "line": 24, "from": 5, "until": 5}
-        self.assertEqual(self.running.error("POST", f"/{self.running.token}/wait", window), (400, "until is to be after from"))
+        self.assertEqual(self.running.error("POST", f"/{self.running.token}/wait", window), (400, "until must be after from"))
         for query in ("", "?", "?recording=x", "?recording", "?recording=0&more=1", "?recording=7", "?recording=" + "1" * 5000):
             self.assertEqual(self.running.get(f"waits.bin{query}")[0], 400, query)
         self.assertEqual(self.running.get("about?x=1")[0], 400)

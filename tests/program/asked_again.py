@@ -5,19 +5,19 @@
 
 ASKAGAIN is the program of that crate, LIBRARY is built from refuse_growth.c, and ROW is a folder with `script`,
 `trace1`.. and `expected`. Of the growths in the calls that the script's commands make, the Nth is refused, and then in
-other runs each from the Nth on; N goes from 1 to the first that no run reaches. A call that answers out of memory is
+other runs each from the Nth on; N goes from 1 to the first that no run reaches. A call that runs out of memory is
 made once more at once, with memory. Of each run is held:
 
-- a call answers what the row says or out of memory, and then, made again, what the row says;
-- `strike`, `unload` and `remove` never answer out of memory;
+- a call answers what the row says, or runs out of memory and then, made again, answers what the row says;
+- `strike`, `unload` and `remove` never run out of memory;
 - after an accepted edit the desk is deferred just where the edit answered `Later`, which it never does on a desk that
   isn't deferred: a `strike` where no attached trigger has a variable, a `remove` of a trigger that reads none;
 - the rows that an accepted insert or strike names are those that it names with memory, or there is no report, as on a
   deferred desk;
 - an insert or a strike that a refused growth defers has a growth before that, of what is gathered for its report, which
   costs it the report alone: it answers `Now`;
-- what is refused, or wants memory, leaves the desk deferred or not as it was; but where tables are asked for and the
-  text of the answer wants memory, the desk may be no more deferred;
+- what is refused, or runs out of memory, leaves the desk deferred or not as it was; but where tables are asked for and
+  the text of the answer runs out of memory, the desk may be deferred no more;
 - after a table, totals or latencies that were answered the desk isn't deferred, and a `list` leaves it as it was.
 
 Of a refusal its number alone is compared. A row fails in which no edit ever answered `Later`. There is a line for each
@@ -34,7 +34,7 @@ import tempfile
 
 EDITS = {"load", "unload", "insert", "strike", "attach", "filter", "remove"}
 TABLES = {"hist", "lat", "totals"}
-NEVER_IN_WANT = {"unload", "strike", "remove"}
+NEVER_OUT_OF_MEMORY = {"unload", "strike", "remove"}
 MEMORY = b"memory\n"
 NO_REPORT = b"no report"
 # A run that takes more seconds is ended, and its row fails.
@@ -76,7 +76,7 @@ class Desk:
         word = command.split()[0]
         is_memory = answer.text == MEMORY
         demand(answer.text == want.text or is_memory and not again, "another answer")
-        demand(not (is_memory and word in NEVER_IN_WANT), "out of memory")
+        demand(not (is_memory and word in NEVER_OUT_OF_MEMORY), "out of memory")
         is_accepted = word in EDITS and not answer.is_refused and not is_memory
         demand((answer.kept != "none") == is_accepted, "no word of the kept tables, or one too many")
         if is_accepted:

@@ -233,8 +233,8 @@ static void ask_all(uint64_t wakings, uint32_t line, uint64_t stamp, int64_t pow
     HOLDS(!histdesk_is_deferred(&desk));
 }
 
-/* The report of an edit that changes one row of each trigger, or takes one away and brings one; out of memory may leave it
- * out. */
+/* The report of an edit that changes one row of each trigger, or takes one away and brings one. Where memory runs out, it
+ * may be left out. */
 static void ask_report(bool had_memory) {
     histdesk_report report;
     ALWAYS(HISTDESK_OK, histdesk_report_of(&desk, &report));

@@ -1,8 +1,8 @@
 /* script [--numbers|--refusing] SCRIPT [TRACE]...: runs a script through the library and prints what the program `histdesk`
  * prints, with its status. With --numbers the rows, latencies, events, triggers and reports that the library answers as
  * numbers are held against its texts and against each other; where they don't fit, it says so and ends with status 3. With
- * --refusing a part of the library's growths of memory is refused, by chance from a fixed start: a call in out of memory is
- * made again, with memory, and the output is the same. */
+ * --refusing a part of the library's growths of memory is refused, by chance from a fixed start: a call that runs out of
+ * memory is made again, with memory, and the output is the same. */
 #include "heap.h"
 #include "script.h"
 

@@ -1,4 +1,4 @@
-/* threads: four threads, each with a desk of its own, and one desk that all of them have after a lock. Each thread inserts,
+/* threads: four threads, each with a desk of its own, and one desk that all of them use under a lock. Each thread inserts,
  * asks and strikes, and all answers are those of its own edits. The last line says how many threads hold; helgrind would see
  * what they have in common. */
 #include "histdesk.h"
