@@ -151,8 +151,8 @@ class Desk:
         return self._session.edit(at.cpu, at.line)
 
     def strike(self, cpu: int, line: int) -> Edit:
-        """Takes one event away. Its line number isn't given again. Refused: 5 where no events of the CPU are held, 6 where
-        none stands at the line."""
+        """Takes one event away. Its line number isn't given again while the CPU's events are held. Refused: 5 where no events
+        of the CPU are held, 6 where none stands at the line."""
         cpu, line = number(cpu, "cpu"), number(line, "line")
         self._session.call(library.histdesk_strike, cpu, line)
         return self._session.edit(cpu, line)

@@ -388,8 +388,8 @@ def waits(trace: Union[Trace, Recording, Desk]) -> Waits:
 
     Of a trace with more events than a desk holds, those that no wait needs are left out, and if that doesn't suffice, the first
     stretch that fits is taken, which `remarks` of the answer says. A desk of yours is asked by triggers that are attached to it
-    and taken away again; it is left as it was, but that their ids aren't given again. Events that you have struck are no longer
-    there, so a wait that they began or ended is another one or none.
+    and taken away again; it is left as it was, except that their ids aren't given again. Events that you have struck are gone,
+    so a wait that they began or ended is another one or none.
 
     Where events were lost, it warns with `LossWarning`. Raises what `read` and `Desk.load` raise, `ValueError` of a recording
     that holds some CPUs alone, since tasks are woken from any, and `ImportError` where there is no numpy.
