@@ -58,7 +58,7 @@ OWNERS = {
     "`sched_switch`": ["Switches"],
     "`wakeup_latency`": ["Latencies", "Woken"],
 }
-# How the words that are left out are written in the sources, but for those that a sort item and a value may have.
+# How the words that are left out are written in the sources, except for those that a sort item and a value may have.
 LEFT_OUT = re.compile(r'(?:is_same\((?:part|suffix|name), |part\.starts_with\()b"([\w=(-]+)"')
 TAKEN = {"ascending", "descending", "keys=", "key=", "values=", "vals=", "val=", "sort=", "size=", "hitcount", "onmatch("}
 
