@@ -11,11 +11,10 @@
  *     histdesk_free(&desk);
  *
  * Codes. A call that can be refused answers a code: HISTDESK_OK, the number of the refusal, or HISTDESK_CLOSED where the
- * handle has no desk. Only where the code is HISTDESK_OK has anything changed, and only then is what the call hands out
- * written: an edit that is refused changes nothing that is held or attached, and a question that is refused leaves what
- * was asked for before. Each call says which codes it has, in the order in which they are tested. HISTDESK_MEMORY may
- * come in place of any answer, but where a call never has it; the same call may be made again. HISTDESK_CLOSED comes from
- * each call with a code but histdesk_new.
+ * handle has no desk. Unless the code is HISTDESK_OK, what is held, attached and was asked for before stays, and nothing
+ * is written that the call hands out. Each call says which codes it has, in the order in which they are tested.
+ * HISTDESK_MEMORY may come in place of any answer, except where a call never has it; the same call may be made again.
+ * HISTDESK_CLOSED comes from each call with a code except histdesk_new.
  *
  * Answers. What is larger than a number is asked for by one call, which says how much it is, and copied by another one.
  * The desk keeps one answer of each kind (a text, rows, latencies, places, triggers) as it was when it was asked for, also
@@ -33,7 +32,7 @@
  *
  * What the caller owes.
  * - A handle is all zero before its first call. Then only the library writes it, and no copy of it is used.
- * - One call at a time has a handle: it is used by the thread that made the desk, or after one lock. Desks have nothing
+ * - One call at a time has a handle: it is used by the thread that made the desk, or under one lock. Desks have nothing
  *   in common, so each thread may have its own.
  * - No pointer is null, also where its length or room is 0: any other pointer does then. Each points to as much as is
  *   said, and what a call reads and what it writes don't overlap. Lengths are at most PTRDIFF_MAX.
@@ -224,7 +223,8 @@ uint32_t histdesk_unload(histdesk *desk, uint32_t cpu, uint64_t *events);
  * there is none. `at` is where it stands. HISTDESK_BAD_LINE, HISTDESK_NO_EVENT, HISTDESK_FULL. */
 uint32_t histdesk_insert(histdesk *desk, const uint8_t *line, size_t length, histdesk_line *at);
 
-/* Takes one event away; its line number is not given again. HISTDESK_NO_LANE, HISTDESK_NO_EVENT; never HISTDESK_MEMORY. */
+/* Takes one event away; its line number is not given again while the lane is held. HISTDESK_NO_LANE, HISTDESK_NO_EVENT;
+ * never HISTDESK_MEMORY. */
 uint32_t histdesk_strike(histdesk *desk, uint32_t cpu, uint32_t line);
 
 /* Attaches the trigger of the text to the event of that name, HISTDESK_WAKING to HISTDESK_WAKEUP_LATENCY. `id` is its id.
