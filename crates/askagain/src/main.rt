@@ -1,5 +1,5 @@
 //! `askagain SCRIPT [TRACE]..`: what a desk over the kept board answers where growths of its memory are
-//! refused in the middle of a script. A call that answers out of memory is made once more at once.
+//! refused in the middle of a script. A call that runs out of memory is made once more at once.
 //!
 //! After each call's text stands a line: `-- now`, `-- later` of an accepted edit, else `-- none`; and
 //! then ` deferred` or ` kept`, as the desk is. The text is what the script's run prints, but a refusal
@@ -130,7 +130,7 @@ fn read_files<P: Files + AllocGlobal>(rt: &P, paths: &[String]) -> io::Result<Ve
     Ok(files)
 }
 
-/// Makes a call, and once more where it is out of memory; and prints what each answers.
+/// Makes a call, and once more where it runs out of memory, and prints what each answers.
 fn ask<B: Board, P: Print + Eprint>(
     rt: &P,
     desk: &mut Desk<B>,

@@ -50,9 +50,10 @@
 //! **Which tables an edit touches** is how the source does it: `insert` and `strike` repair the
 //! tables by the one event, `attach` and `remove` add or take one trigger's, `refilter` builds anew
 //! those of a trigger and of its readers, and `unload` and `load` let the events of lanes go or
-//! come one by one where these are fewer than stay, else build all anew. The clause `costs` shuts
-//! out that `refilter` builds all anew; the clause `repairs` that the `unload` of a smaller lane
-//! does, or a `load` of few events.
+//! come one by one where these are fewer than stay, else build all anew. Where no made event is
+//! counted, the clause `costs` shuts out that `refilter` of a trigger that reads nothing builds all
+//! anew, and the clause `repairs` that the `unload` of a smaller lane does, or the `load` of fewer
+//! events than are held, where that takes more tests.
 //!
 //! **Reports.** That `insert` and `strike` have a report wherever the tables have the edit, and
 //! memory for the report is found, is how the source does it. What they name is `ft_report`'s

@@ -95,7 +95,7 @@ fn turned_rows(
     Ok(rows)
 }
 
-/// Puts the rows of one trigger after others: of the keys on which notes bear, and of their rivals.
+/// Adds the rows of one trigger to others: of the keys on which notes bear, and of their rivals.
 /// Refused for memory.
 fn put_trigger(
     rows: &mut Vec<Changed>,
@@ -154,8 +154,8 @@ fn keys_turned(
     distinct(scene.alloc, &keys)
 }
 
-/// Puts the keys of a trigger after others on which the notes bear that were taken of another's
-/// readings. Refused for memory.
+/// Adds to keys those of a trigger on which the notes bear that were taken of another's readings.
+/// Refused for memory.
 fn put_maker(
     keys: &mut Vec<Key>,
     scene: &Scene<'_>,

@@ -1,4 +1,4 @@
-//! Codes that no refusal has, and that of out of memory.
+//! Codes that no refusal has, and the code of running out of memory.
 
 /// The code of an accepted call.
 pub(crate) const ACCEPTED: u32 = 0;

@@ -4,9 +4,9 @@
 //! told by the relation that the session's method has. Where the handle holds nothing, a call with a
 //! code answers `CLOSED`, a copy answers 0, and nothing is written.
 //!
-//! A caller in C passes a `Global` by no argument, and a slice by a pointer and a length: what it must
-//! keep, nothing checks. It passes a handle that is all zero or that these calls left so, no copy of
-//! one, from one thread at a time; and no null pointer, not even for a text of no bytes.
+//! A caller in C passes no argument for a `Global`, and a pointer and a length for a slice. Nothing
+//! checks what it must keep: it passes a handle that is all zero or that these calls left so, no copy
+//! of one, from one thread at a time; and no null pointer, not even for a text of no bytes.
 //!
 //! ```ignore
 //! let mut desk = Handle::empty();
@@ -23,7 +23,10 @@
 //! - Each `histdesk_..` with a code: where the handle holds a session, what the session's call
 //!   says, and it is in the handle again; where it holds nothing, the code for that
 //!   (`specs/Codes.antt`), and nothing is written. A copy copies from what the session holds
-//!   (`specs/Copies.antt`), or nothing. Lets through: running out of memory, as the session.
+//!   (`specs/Copies.antt`), or nothing. Lets through: what the session does.
+//! - `histdesk_refusal_text` copies the line of a refusal; `histdesk_refusal_words` copies nothing
+//!   where the numbers are of no refusal. Let through: copying nothing at any time, since memory may
+//!   run out; any words.
 //!
 //! What C owes stands at the head of `include/histdesk.h`, and is assumed. That a handle is null or
 //! owns its session is what every export leaves, so that C can break it only by writing to it.

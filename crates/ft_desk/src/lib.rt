@@ -47,12 +47,13 @@
 //!     writer tells nothing, of no bytes: so it is with the system's streams.
 //! - `run_counted`, over every `Session`, reader and writer, which `run` and both programs call:
 //!   `RunEnds` of what commands mean to the session. The reader is asked 1,073,741,824 times at
-//!   most, and not again after it failed; `Read` is answered where it failed, and else only where
+//!   most. It fails at most once, and then the answer is `Read`, which is answered else only where
 //!   it was asked so often. The writer is flushed once where the run ends well, for memory or for
 //!   reading, and not after a failed write; a failing flush makes `Write` of `Ok`, and changes no
 //!   other answer (`specs/Steps.antt`). Lets through: calls that are not counted (the source shows
 //!   that the private `take_part` has the one `fill_buf`, and `flush` the one flush, each beside
-//!   its tick); a second write after a failed one, which tests exclude.
+//!   its tick); asking the reader again after it failed, where that succeeds (the private `take_part`
+//!   requires that it has not failed); a second write after a failed one, which tests exclude.
 //! - Trait `Session`, met by `Desk`: what a line prints, whether it is refused and what is held
 //!   then is what commands mean to the session (`means`, a `Meaning` of `specs/Output.antt`); to a
 //!   desk that is `outcome`. Lets through: running out of memory at any time.

@@ -93,7 +93,7 @@ fn read_below<'a>(
     }
 }
 
-/// Reads on after a first operand, which a joint stands after.
+/// Reads on after a first operand, which a joint follows.
 #[cycle(read)]
 fn read_more<'a>(
     source: Source,
@@ -179,7 +179,7 @@ fn compared(source: Source, text: &[u8]) -> Result<Parsed<'_>, FilterFault>
     })
 }
 
-/// That an operand does not hold; the text is after it.
+/// That an operand does not hold, and the text after it.
 fn negated(alloc: Global, operand: Expr, rest: &[u8]) -> Result<Parsed<'_>, FilterFault>
     ensures reads { GivesTree (λ read. read ≡ Found (Not (tree_of operand)) rest.now) result }
     ensures same { IfOk result (λ parsed. parsed.rest.now ≡ rest.now) }

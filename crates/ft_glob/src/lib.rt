@@ -17,8 +17,8 @@
 //!
 //! - `is_glob`: whether the pattern reads as items (clause `meaning`), and exact.
 //! - `glob`: whether those items match the whole text, said by splitting the text
-//!   (`specs/Glob.antt`); the code remembers one star instead. Lets through: any running time. A
-//!   test matches a long text against many stars.
+//!   (`specs/Glob.antt`); the code goes back to the last star alone instead. Lets through: any running
+//!   time. A test matches a long text against many stars.
 //! - Law `one_reading`: a pattern reads as items in one way.
 //! - Law `what_matches`: the truth value `matches`, by which filters are stated, is that of the
 //!   items.

@@ -1,7 +1,7 @@
 //! Held events: lanes by CPU, over one store in which each event stands once.
 //!
-//! Each CPU has at most one lane: its events by line number, from 1. A number is not given twice as
-//! long as the lane is held, also where its event was taken out. A load makes a lane for each CPU of
+//! Each CPU has at most one lane: its events by line number, from 1. While the lane is held, no number
+//! is given twice, even after its event was taken out. A load makes a lane for each CPU of
 //! its events, at which none may be held. A lane is walked by line number, and shown as a text.
 //!
 //! ```ignore
@@ -20,10 +20,11 @@
 //! # Contracts
 //!
 //! - `Lanes::load`, `push`, `take`, `take_lane`: contracts see a finite map from CPU to a lane,
-//!   which is its events by line and its next number (`specs/Held.antt`). Each CPU of the events
-//!   gets a lane; an event at its lane's next number; an event or a lane less, without memory. A
-//!   refusal changes nothing. `load` and `push` let through: running out of memory at any time;
-//!   whether dead places in the store are ever used again, which a test shows at a later load.
+//!   which is its events by line and its next number (`specs/Held.antt`). `load` gives each CPU of
+//!   the events a lane; `push` adds an event at its lane's next number; `take` and `take_lane` take
+//!   one event or one lane away, which needs no memory. A refusal changes nothing. `load` and `push`
+//!   let through: running out of memory at any time; whether dead places in the store are ever used
+//!   again, which a test shows at a later load.
 //! - `Lanes::get`, `lane`, `lanes`, `next_line`, `held_cpu`, `held_on`, `len`: exact.
 //! - `Lanes::list`: the text of a lane (`specs/Listing.antt`). Lets through: running out of memory
 //!   at any time.

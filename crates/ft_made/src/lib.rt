@@ -4,8 +4,8 @@
 //! The laws say that replaying with made events is two replays, one after the other: the held
 //! events go past as if none were made, and what their readings find says which events are made;
 //! these are counted in order of their spots. So a trigger that counts made events needs no replay:
-//! its table is made of what is kept of readings. And where notes tell what readings had found before
-//! they changed, the table is turned at these alone; these tell too which keys' hits that changes.
+//! its table is made of what is kept of readings. Where notes tell what readings had found before they
+//! changed, the table changes at the noted places alone; notes also tell the keys whose hits change.
 //!
 //! ```ignore
 //! let mut table = made_table(rt.alloc(), lanes, triggers, &readings, trigger, &mut work)?;

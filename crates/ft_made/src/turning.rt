@@ -64,9 +64,10 @@ pub fn turn_made(
     Ok(())
 }
 
-/// Puts the keys after others under which a trigger counts the events that another made of what its
-/// readings had found, and those that it makes of what they find: at each place that is noted, and as
-/// often as they are. Hits under other keys stay as the trigger's table is turned. Refused for memory.
+/// Adds the keys under which a trigger counts what another trigger makes at noted places, to others:
+/// of the events that it made of what its readings had found, and of those that it makes of what they
+/// find, as often as there are such. Hits under other keys stay when the trigger's table is turned.
+/// Refused for memory.
 pub fn put_turned_keys(
     keys: &mut Vec<Key>,
     lanes: &Lanes,
@@ -89,8 +90,8 @@ pub fn put_turned_keys(
     Ok(())
 }
 
-/// Puts the key after others under which a trigger counts an event, if one was made and is a hit.
-/// Refused for memory.
+/// Adds to keys the one under which a trigger counts an event, if one was made and is a hit. Refused
+/// for memory.
 fn put_key(
     keys: &mut Vec<Key>,
     trigger: &Trigger,

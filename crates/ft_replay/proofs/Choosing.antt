@@ -27,7 +27,7 @@ module _ {K X : Type 0} {R : K → K → Ordering} (total : IsTotalOrder R) (sam
 pub get-chosen : (p : ℕ → Bool) (lanes : Lanes) (cpu : ℕ) → map.get (map.retain_keys lanes p) cpu ≡ cond (p cpu) (map.get lanes cpu) None
 get-chosen p lanes cpu = get-retain_keys lanes p cpu (λ x tie. ap p (sym (nat_cmp-IsAntisymmetric cpu x tie)))
 
--- except for no CPUs they are all
+-- without those of no CPU they are all there
 pub but_none : (lanes : Lanes) → lanes_but [] lanes ≡ lanes
 but_none lanes = same_map nat_cmp_total nat_cmp-IsAntisymmetric (lanes_but [] lanes) lanes (λ cpu. get-chosen (λ q. not (is_among [] q)) lanes cpu)
 

@@ -9,8 +9,8 @@ use std::alloc::{AllocError, Global};
 /// How many places back each event may move, on the mean.
 const MOVES_EACH: usize = 4;
 
-/// Events with their places. An event goes back after those that stand before it in the merged
-/// order. Where the moves would be more than a few for each event so far, it stays at the end.
+/// Events with their places. A new event is moved forward to its place in the merged order. Where the
+/// moves would be more than a few for each event so far, it stays at the end.
 #[derive(Drop)]
 pub(crate) struct Ordered<'a> {
     events: Vec<(Pos, Stored<'a>)>,

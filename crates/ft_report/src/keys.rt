@@ -150,7 +150,7 @@ pub fn distinct(alloc: Global, keys: &[Key]) -> Result<Vec<Key>, AllocError>
     Ok(found)
 }
 
-/// Puts a key after some, where it is none of them. Refused for memory.
+/// Adds a key to some, where it is none of them. Refused for memory.
 fn put_new(found: &mut Vec<Key>, key: Key) -> Result<(), AllocError>
     ensures { OnOk result (found.new.items ≡ with_key found.old.items key) }
 {

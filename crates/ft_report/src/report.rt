@@ -35,8 +35,8 @@ pub fn changed_rows(
     Ok(rows)
 }
 
-/// Puts the rows of a trigger that may differ after others; none of one that counts made events.
-/// Refused for memory.
+/// Adds the rows of a trigger that may differ to others; none of one that counts made events. Refused
+/// for memory.
 fn put_trigger(
     alloc: Global,
     rows: &mut Vec<Changed>,
@@ -62,7 +62,7 @@ fn counts_made(trigger: &Trigger) -> bool
     trigger.event() == Name::WakeupLatency
 }
 
-/// Puts the rows of some keys of a trigger after others. Refused for memory.
+/// Adds the rows of some keys of a trigger to others. Refused for memory.
 pub fn put_rows(rows: &mut Vec<Changed>, id: u32, keys: &[Key]) -> Result<(), AllocError>
     ensures { OnOk result (rows.new.items
         ≡ rows.old.items ++ list_map (λ key. record { id = id; key = key }) keys.now) }

@@ -53,7 +53,7 @@ abbrev pub RowsStayBut : Type 0
 RowsStayBut = (a b : Tabled) (keys : List (List Part)) (q : List Part) → AreTablesButFor keys a b → is_of keys q ≡ false → is_of (rivals a keys) q ≡ false
     → row_at b q ≡ row_at a q
 
--- a table is itself except for the hits of any keys
+-- a table is the same as itself, whatever keys' hits are left out
 abbrev pub ButForNothing : Type 0
 ButForNothing = (table : Tabled) (keys : List (List Part)) → AreTablesButFor keys table table
 

@@ -29,7 +29,7 @@ row_cmp (item ∷ items) = then_cmp (item_cmp item) (row_cmp items)
 abbrev pub HasDistinctKeys : List Counted → Type 0
 HasDistinctKeys rows = IsDistinct (eq_by_cmp key_cmp) (map (λ row. row.key) rows)
 
--- a row put among rows in order: after all that it stands after
+-- a row put among rows in order: after all that come before it
 abbrev pub row_among : List SortItem → Counted → List Counted → List Counted
 row_among sort row [] = row ∷ []
 row_among sort row (first ∷ rest) = if is_gt (row_cmp sort row first) then first ∷ row_among sort row rest else row ∷ first ∷ rest

@@ -22,7 +22,7 @@ use Rattle.ft_rows.specs.Keyed.{KeyedText}
 unfoldable pub right_in_10 : ℕ → List ℕ
 right_in_10 n = replicate (10 - length (decimal n)) 32 ++ decimal n
 
--- a text with spaces after up to so many bytes
+-- a text, and spaces after it up to so many bytes
 unfoldable pub left_in : ℕ → List ℕ → List ℕ
 left_in width text = text ++ replicate (width - length text) 32
 

@@ -46,7 +46,7 @@ fn write_part(item: KeyItem, part: Part, text: &mut Vec<u8>) -> Result<(), Alloc
     }
 }
 
-/// Adds a power of 2, with spaces after its exponent up to 2 bytes.
+/// Adds a power of 2, and spaces after its exponent up to 2 bytes.
 fn write_power(power: u8, text: &mut Vec<u8>) -> Result<(), AllocError>
     ensures ok { OnOk result (text.new.items
         ≡ text.old.items ++ (codes "~ 2^" ++ left_in 2 (decimal power))) }
@@ -80,7 +80,7 @@ fn bucket_end(size: u32, first: u64) -> u64
     first.saturating_add(u64::from(size - 1))
 }
 
-/// Adds a text, with spaces after up to 50 bytes.
+/// Adds a text, and spaces after it up to 50 bytes.
 fn write_text(name: &Comm, text: &mut Vec<u8>) -> Result<(), AllocError>
     ensures ok { OnOk result (text.new.items ≡ text.old.items ++ left_in 50 name.now) }
     ensures err { OnErr result (IsFront text.old.items text.new.items) }

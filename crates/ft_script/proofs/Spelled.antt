@@ -51,7 +51,7 @@ pub open_kept : (text : List ℕ) → Opens text → drop_while is_space text �
 open_kept [] opens = refl
 open_kept (byte ∷ rest) opens = let here = opens byte rest refl in rw here refl
 
--- read from after, it is begun by none
+-- read backwards, it begins with none
 back_opens : (text : List ℕ) → Closes text → Opens (reverse text)
 back_opens text closes byte rest e = closes (reverse rest) byte (sym (reverse-reverse text) ∙ ap reverse e ∙ reverse-append (byte ∷ []) rest)
 

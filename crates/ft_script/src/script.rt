@@ -167,7 +167,7 @@ fn trim_start(text: &[u8]) -> &[u8]
     rest
 }
 
-/// A text without the spaces after.
+/// A text without the spaces at its end.
 fn trim_end(text: &[u8]) -> &[u8]
     ensures { result.now ≡ reverse (drop_while is_space (reverse text.now)) }
 {

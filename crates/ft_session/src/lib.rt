@@ -25,11 +25,12 @@
 //! - The calls of `Session`: each does what the desk's call does, by the clauses `gives` and
 //!   `reports` that `Desk` has, with the answer put together of what the session shows: the refusal
 //!   that it holds, the value that was written, the list that was asked for (`specs/Calls.antt`,
-//!   `specs/Told.antt`). The code is 0 or the refusal's number, a value is written only where the
-//!   call is accepted, and what was asked for before stays. `unload`, `strike` and `remove` never
-//!   run out of memory. Lets through: running out of memory at any time in the other calls; any
-//!   number of steps; putting the tables off at any edit (the desk's own clauses `repairs` and
-//!   `now` are not told again here); a new session whose tables are deferred.
+//!   `specs/Told.antt`). The code is 0 or the refusal's number, and a value is written only where the
+//!   call is accepted. What was asked for before stays, except that of the kind which an accepted call
+//!   asks for. `unload`, `strike` and `remove` never run out of memory. Lets through: running out of
+//!   memory at any time in the other calls; any number of steps; putting the tables off at any edit
+//!   (the desk's own clauses `repairs` and `now` are not told again here); a new session whose tables
+//!   are deferred.
 #![tactic(auto)]
 
 mod session;

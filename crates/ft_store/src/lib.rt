@@ -3,7 +3,8 @@
 //! A store gives its events by value, and packs them: their names stand one after the other in one
 //! text, as long as they are, and the rest takes 56 bytes. A reference to an event (`Stored`) tells
 //! its name, its stamp and the number of a field without unpacking it, and gives the event without
-//! its names (`bare`) to those who ask it for more numbers.
+//! its names (`bare`) to those who ask it for more numbers. An event whose names are borrowed from a
+//! line (`EventRef`) is packed from there (`push_ref`).
 //!
 //! ```ignore
 //! let mut store = Store::new(rt.alloc());

@@ -92,7 +92,7 @@ module _ (hits : Hits) (key q : List Part) (apart : same_key q key ≡ false) (t
   pub order-at : (p : Spot) → (i : ℕ) × (IsRank mark_cmp rest (mark p key) i × (order_with hits (mark p key) ≡ insert rest i (mark p key)))
   order-at p = let at = rank-keys mark_cmp_total (others hits key) (mark p key) in (at.0, (at.1, order-enter hits (mark p key) at.0 at.1))
 
-  -- the one after is q's not
+  -- the next mark is none of q's key
   abbrev pub NotAt : Type 0
   NotAt = (d : Mark) → t < length rest → same_key q (get_or rest t d).key ≡ false
 
@@ -127,7 +127,7 @@ module _ (hits : Hits) (key q : List Part) (apart : same_key q key ≡ false) (t
     | inr out ↦ stands-in b (omega arith) ∙ sym (stands-in a out)
   ]
 
-  -- one that goes, or goes to stand after
+  -- one that goes, or moves further back
   pub stands-went : (a : Spot) → ((order-at a).0 ≤ t → NotAt) → stands None ≡ stands (Some a)
   stands-went a not_at = elim (cases_lt t (order-at a).0) [
     | inl lt ↦ sym (stands-out a lt)

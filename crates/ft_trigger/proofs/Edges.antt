@@ -40,7 +40,7 @@ pub record Edged (text : List ℕ) : Type 0 where
   pub opens : Opens text
   pub closes : Closes text
 
--- more may stand after
+-- more may follow
 opens_first : (a b : List ℕ) → Opens a → Opens (a ++ b)
 opens_first a b h = record { byte = h.byte; rest = h.rest ++ b; is = ap (λ (t : List ℕ). t ++ b) h.is; seen = h.seen }
 

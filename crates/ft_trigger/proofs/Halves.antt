@@ -56,18 +56,18 @@ skip_opens (byte ∷ text) opens = skip_none byte text (opens byte text refl)
 pub skip_some : (text : List ℕ) → Opens (skip text)
 skip_some text byte rest e = behind_run is_gap text byte rest e
 
--- spaces and tabs, read from after
+-- spaces and tabs, read backwards
 blank_back : (blank : List ℕ) → list_all is_gap blank ≡ true → list_all is_gap (reverse blank) ≡ true
 blank_back [] all = refl
 blank_back (byte ∷ blank) all =
     let both = and_parts (is_gap byte) (list_all is_gap blank) all in
     ap (list_all is_gap) (reverse-append (byte ∷ []) blank) ∙ list_all-append is_gap (reverse blank) (byte ∷ []) ∙ and_from _ _ (blank_back blank both.1) (and_from _ _ both.0 refl)
 
--- a text that ends with none begins with none, read from after
+-- a text that ends with none begins with none where it is read backwards
 back_opens : (text : List ℕ) → Closes text → Opens (reverse text)
 back_opens text closes byte rest e = closes (reverse rest) byte (sym (reverse-reverse text) ∙ ap reverse e ∙ reverse-append (byte ∷ []) rest)
 
--- spaces and tabs after a text are left away
+-- spaces and tabs after a text are left out
 end_off : (text end : List ℕ) → Closes text → list_all is_gap end ≡ true → without_end (text ++ end) ≡ text
 end_off text end closes blank =
     ap (λ (t : List ℕ). reverse (skip t)) (reverse-append text end) ∙ ap reverse (skip_blank (reverse end) (reverse text) (blank_back end blank))

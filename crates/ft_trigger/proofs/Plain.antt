@@ -157,7 +157,7 @@ sort_words_plain : (keys : List KeyItem) (values : List Item) (own : Option (Lis
 sort_words_plain keys values own (Some words) = sorts_plain keys values own words
 sort_words_plain keys values own None = tt
 
--- a step whose fault is a filter's out of memory is none of these
+-- no such step has the fault that a filter ran out of memory
 no_filter : {A : Type 0} (step : Result A TriggerFault) (fault : TriggerFault) → Plain step → (fault ≡ Memory) ⊎ (step ≡ Err fault) → fault ≢ BadFilter filters.Memory
 no_filter step fault plain (inl memory) = λ filter. true≢false (ap is_plain (sym memory ∙ filter))
 no_filter step fault plain (inr is) = λ filter. true≢false (sym (subst Plain is plain) ∙ ap is_plain filter)

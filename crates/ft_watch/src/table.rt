@@ -198,7 +198,7 @@ fn row_now<B: Board>(desk: &mut Desk<B>, id: u32, key: &Key) -> Result<Option<Ve
     }
 }
 
-/// Whether a refusal is out of memory.
+/// Whether a refusal says that memory ran out.
 fn is_memory(reason: Refused) -> bool
     ensures { result ≡ false → reason ≢ Refused.Memory }
 {

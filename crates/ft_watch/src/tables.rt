@@ -178,8 +178,8 @@ fn looked_at<B: Board>(
     Ok(now)
 }
 
-/// The tables with the rows that they show after an edit, after changes those of them. Refused for
-/// memory.
+/// The tables with the rows that they show after an edit; what differs is added to the changes.
+/// Refused for memory.
 fn told_of<B: Board>(
     old: BTreeMap<u32, Table>,
     desk: &mut Desk<B>,

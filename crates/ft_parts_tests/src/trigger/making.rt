@@ -16,7 +16,7 @@ const MAKER_WRITTEN: &str = "hist:keys=next_pid:vals=hitcount:lat=common_timesta
 
 /// Texts on switches with an onmatch part, and their first faults.
 const FAULTS: [(&str, TriggerFault); 12] = [
-    // Another event is made, the stamp is saved at no event of the kernel, something stands after.
+    // Another event is made, the stamp is saved at no event of the kernel, something follows.
     (
         "hist:keys=next_pid:onmatch(sched.sched_waking).other($lat,next_pid,next_prio)",
         TriggerFault::LeftOut(19),

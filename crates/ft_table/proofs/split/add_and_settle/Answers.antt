@@ -15,7 +15,7 @@ use Rattle.ft_table.proofs.Changes.{count-insert, counts-insert, counts-less, or
 use Rattle.ft_table.proofs.Counts.{split-without}
 use Rattle.ft_table.proofs.split.add_and_settle.Goals as goal
 
--- the order before is the one except for the key's move
+-- the order of before is the one before the key's move
 before : (hits : Hits) (m : Mark) (v : List ℤ) (order : List Mark) (o : Option Spot) → order ≡ order_of hits → first_place hits m.key ≡ o → (after : Hits) → after ≡ map.insert hits m v → order ≡ order_before after m.key o
 before hits m v order o is first after e =
     is ∙ order-before-insert hits m v o first ∙ ap (λ (h : Hits). order_before h m.key o) (sym e)
