@@ -522,9 +522,17 @@ class ByDask(Alike):
 
     def setUp(self):
         super().setUp()
-        # Those that were killed are made anew.
-        self.client.wait_for_workers(2)
-        self.addCleanup(self.client.wait_for_workers, 2)
+        self.has_two()
+        self.addCleanup(self.has_two)
+
+    def has_two(self):
+        """Those that were killed are made anew; where one of them doesn't begin on a busy machine, all are."""
+        import distributed
+
+        try:
+            self.client.wait_for_workers(2, timeout=60)
+        except distributed.TimeoutError:
+            self.client.restart(timeout=120)
 
     def test_workers_one_of_which_is_killed(self):
         question = Kills(histdesk.AskWaits("name"), self.paths[77], self.folder)
