@@ -464,7 +464,7 @@ class Processes(Case):
     def test_interrupted(self):
         running, workers = self.begun()
         os.killpg(running.pid, signal.SIGINT)
-        self.assertEqual(running.wait(10), -signal.SIGINT)
+        self.assertEqual(running.wait(30), -signal.SIGINT)
         self.assertTrue(until(lambda: not any(map(is_alive, workers))))
         # It is the program's own, and none of the workers'.
         self.assertEqual(running.stderr.read().count(b"Traceback"), 1)
