@@ -2,12 +2,14 @@
 """Holds that the documents name what there is, and have the form that they should have.
 
     pages.py [--write] > WHAT WENT WRONG
+    pages.py --links PAGE.. > WHAT WENT WRONG
 
 Of each document: a link leads to a file that is there, and to a heading of it; each file and folder of the repository that it
 names is there; a line has at most 120 characters, except in tables and blocks; no word of AVOIDED stands in it. Each page of
 WORDS has as many words as stand there, to a quarter, and docs/ has no other page. A document or script that sources and
 scripts name is there. README.md has the line that tools/needs prints, and docs/TESTING.md counts what there is; --write has
-these counts written there first. The last line says how many things hold.
+these counts written there first. --links looks at the links of these pages alone, which may stand anywhere. The last line says
+how many things hold.
 """
 
 import ast
@@ -253,14 +255,20 @@ def counted(path):
     return list(counts()), wrong
 
 
-def main():
-    if sys.argv[1:] == ["--write"]:
-        write_counts(COUNTING)
+def all_things():
+    """What there is of each kind, and what is wrong with it."""
     documents = [path for path in [*WORDS, *OTHERS] if is_there(path)]
     told = [links(path) for path in documents]
     told += [check(path) for path in documents if path != PAST for check in (names, form)]
     told += [length(path) for path in documents if path in WORDS]
-    told += [mentions(), pages(), needed(), counted(COUNTING)]
+    return told + [mentions(), pages(), needed(), counted(COUNTING)]
+
+
+def main():
+    if sys.argv[1:] == ["--write"]:
+        write_counts(COUNTING)
+    is_of_links = sys.argv[1:2] == ["--links"]
+    told = [links(os.path.abspath(path)) for path in sys.argv[2:]] if is_of_links else all_things()
     count, wrong = sum(len(things) for things, _ in told), [line for _, lines in told for line in lines]
     print("\n".join([*wrong, f"{max(count - len(wrong), 0)} of {count} things hold"]))
     return 1 if wrong else 0

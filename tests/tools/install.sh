@@ -121,6 +121,16 @@ used_pages() {
     done
 }
 
+# The documents: no link of them is broken, and what examples and header are linked for is there.
+used_documents() {
+    local doc=$prefix/share/doc/histdesk page
+    holds "$tests/documents/pages.py" --links "$doc"/*.md "$doc"/*/*.md
+    for page in "$root"/docs/*; do
+        same "$1, ${page##*/}" "$(find "$doc/${page##*/}")" "$doc/${page##*/}"
+    done
+    has "$1, links" "$doc/LIBRARY.md" '.*](examples/c/waits\.c).*' '.*](\.\./\.\./\.\./include/histdesk\.h).*'
+}
+
 # used WHAT: all that stands below $prefix.
 used() {
     work=$(mktemp -d -- "$folder/work.XXXXXX")
@@ -129,6 +139,7 @@ used() {
     used_reports "$1"
     used_library "$1"
     used_pages "$1"
+    used_documents "$1"
     cd -- "$folder" || exit
     same "$1, BUILT" "$(sed -n 's/^Commit \([0-9a-f]*\).*/\1/p' "$prefix/share/doc/histdesk/BUILT")" \
         "$(git -C "$root" rev-parse HEAD)"
