@@ -81,6 +81,14 @@ def found() -> str:
     return next((path for path in candidates(package) if os.path.exists(path)), NAME)
 
 
+def where() -> str:
+    """Where the library was looked for, in lines."""
+    if os.environ.get(VARIABLE):
+        return f"{VARIABLE} names that file."
+    package = os.path.dirname(os.path.realpath(__file__))
+    return "\n  ".join(["It was looked for here:", *candidates(package), "the loader's folders"])
+
+
 def opened(path: str) -> ctypes.PyDLL:
     """The library at that path. No other thread runs Python code during a call.
 
@@ -88,13 +96,11 @@ def opened(path: str) -> ctypes.PyDLL:
     try:
         return ctypes.PyDLL(path)
     except OSError as error:
-        package = os.path.dirname(os.path.realpath(__file__))
-        looked = ", ".join([*candidates(package), "the loader's folders"])
-        told = f"{VARIABLE} names it" if os.environ.get(VARIABLE) else f"looked for in {looked}"
         raise ImportError(
-            f"histdesk needs the library {NAME}, which can't be loaded: tools/build makes it in a checkout of histdesk, "
-            f"tools/install puts it where it is found, and the environment variable {VARIABLE} may name the file "
-            f"({error}; {told})"
+            f"histdesk needs the library {NAME}, which can't be loaded:\n  {error}\n{where()}\n"
+            "tools/build makes it in a checkout of histdesk, tools/install puts it where it is found, and the\n"
+            f"environment variable {VARIABLE} may name the file.",
+            name=NAME,
         ) from None
 
 
@@ -107,7 +113,8 @@ def bound(library: ctypes.PyDLL) -> Any:
         try:
             call = getattr(library, name)
         except AttributeError:
-            raise ImportError(f"{library._name} has no call {name}: it is of another version than this package") from None
+            told = f"{library._name} has no call {name}: it is of another version than this package"
+            raise ImportError(told, name=NAME) from None
         call.restype, call.argtypes = answer, takes
     return library
 

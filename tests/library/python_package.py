@@ -396,6 +396,16 @@ class Library(unittest.TestCase):
         self.assertIn(self.folder, told)
         self.assertIn("tools/install", told)
 
+    def test_missing_everywhere(self):
+        """It says where it was looked for, in lines."""
+        shutil.copytree(os.path.join(PYTHON, "histdesk"), os.path.join(self.folder, "python", "histdesk"))
+        told = python("import histdesk", PYTHONPATH=os.path.join(self.folder, "python"), HISTDESK_LIBRARY="")
+        lines = told[told.index("ImportError: ") :].split("\n")
+        self.assertIn("It was looked for here:", lines)
+        self.assertIn(f"  {self.folder}/lib/libhistdesk.so.0", lines)
+        self.assertIn("  the loader's folders", lines)
+        self.assertLessEqual(max(len(line) for line in lines if self.folder not in line), 100)
+
     def test_of_another_version(self):
         told = python("import histdesk", HISTDESK_LIBRARY=ctypes.util.find_library("c"))
         self.assertIn("has no call histdesk_new: it is of another version than this package", told)

@@ -648,7 +648,8 @@ class Tool(unittest.TestCase):
         self.assertEqual(told_of, f"waits: {sys.executable} has no numpy, which is needed here: {how}\n")
         environment = {**os.environ, "HISTDESK_LIBRARY": os.path.join(self.folder.name, "none.so")}
         _, told_of = self.run_tool(self.path("kinds"), status=2, env=environment)
-        self.assertEqual((told_of.count("\n"), told_of[:27]), (1, "waits: histdesk needs the l"))
+        self.assertTrue(told_of.startswith("waits: histdesk needs the library libhistdesk.so.0, which can't be loaded:\n"))
+        self.assertLessEqual(max(map(len, told_of.split("\n"))), 100)
 
     def test_ascii_terminal(self):
         shown, _ = self.run_tool(self.path("odd_names"), env={**os.environ, "PYTHONIOENCODING": "ascii"})

@@ -124,7 +124,7 @@ script killed 'kill -KILL $$'
 HISTDESK=$folder/bin/killed gives killed 137 "" "$tools/explain" "$folder/asked"
 HISTDESK=$folder/bin/none gives no_program 2 "explain: cannot run *" "$tools/explain" "$folder/asked"
 # Without the library nothing runs, but --help.
-lost="explain: * needs the library libhistdesk.so.0, * tools/build makes it *$folder/none*"
+lost="explain: * needs the library libhistdesk.so.0, *$folder/none: *"$'\n'"tools/build makes it *"
 HISTDESK_LIBRARY=$folder/none gives no_library 2 "$lost" "$tools/explain" "$folder/asked"
 prints no_library ""
 HISTDESK_LIBRARY=$folder/none gives usage_alone 0 "" "$tools/explain" --help
@@ -154,6 +154,17 @@ python=/usr/bin/python3
 holds "$python" "$tests/tools/desk_prompt.py" "$tools/desk" "$tests"/rows/*
 gives desk_usage 0 "" "$tools/desk" --help
 HISTDESK_LIBRARY=$folder/none gives desk_without_library 2 "desk: histdesk needs the library *" "$tools/desk"
+
+# ---- help without the library
+
+for tool in waits why diff view export desk; do
+    HISTDESK_LIBRARY=$folder/none gives "$tool --help" 0 "" "$tools/$tool" --help
+    has "$tool --help" "$folder/out" "usage: $tool .*"
+done
+# A file of that name needs it.
+: >"$folder/--help"
+HISTDESK_LIBRARY=$folder/none gives "desk -- --help" 2 "desk: histdesk needs the library *" \
+    env -C "$folder" "$tools/desk" -- --help <"$folder/--help"
 
 # ---- bars
 
