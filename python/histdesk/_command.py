@@ -5,21 +5,31 @@ from __future__ import annotations
 import argparse
 import os
 import re
+import shlex
 import signal
 import sys
 import warnings
-from typing import Any, Callable, List, NoReturn
+from typing import Any, Callable, Iterator, List, NoReturn, Tuple
 
+from ._lines import holds_event
 from ._losses import LossWarning, seconds
 from ._recording import Choice, Recording, read
 from ._refused import Refused, refusal_words
+from ._source import content_of, searched
 
 EVENTS = ("sched_waking", "sched_wakeup", "sched_wakeup_new", "sched_switch", "other")
 STAMP = re.compile(r"([0-9]{1,10})(?:\.([0-9]{1,6}))?")
-MAGIC = {
-    b"PERFILE2": "is a recording of perf, which from-perf turns",
-    b"\x17\x08\x44tracing": "is a recording of trace-cmd, which from-trace-cmd turns",
+# What another tool's recording begins with, and the first line of what it prints: what that is, and which tool turns it.
+RECORDED = {
+    b"PERFILE2": ("a recording of perf", "from-perf"),
+    b"\x17\x08\x44tracing": ("a recording of trace-cmd", "from-trace-cmd"),
 }
+PRINTED = {
+    re.compile(rb".* [0-9]+ +\[[0-9]+\] +[0-9]+\.[0-9]+: +[^ ]+:"): ("what perf script printed", "from-perf"),
+    re.compile(rb"cpus=[0-9]|version = [0-9]"): ("what trace-cmd report printed", "from-trace-cmd"),
+}
+# What comes before the first line that holds something, and that line, as far as a desk reads one.
+FRONT, LINE = re.compile(rb"(?:#[^\n]*\n|\n)*"), re.compile(rb"[^\n]{0,8192}")
 # So many numbers of lines are told.
 SHOWN = 5
 
@@ -91,12 +101,13 @@ def recording(words: argparse.Namespace, path: str, tool: str, **choice: Any) ->
     """Reads the trace of that path, or standard input where it is `-`, as the options say; `choice` says otherwise. What is
     lost or left out is told on standard error."""
     wanted = {"start": words.start, "until": words.until, "cpus": words.cpus, "events": words.events, **choice}
+    text = searched(content_of(opened(path)))
+    check_kind(text, path)
     # Its own line says which lines these are.
     with warnings.catch_warnings():
         warnings.simplefilter("ignore", LossWarning)
-        found = read(opened(path), **wanted, lenient=words.lenient)
+        found = read(text, **wanted, lenient=words.lenient)
     found.path = path
-    check_kind(found, path)
     for told in remarks(found, Choice(**wanted)):
         print(f"{tool}: {path}: {told}", file=sys.stderr)
     return found
@@ -107,11 +118,24 @@ def opened(path: str) -> Any:
     return sys.stdin.buffer if path == "-" else path
 
 
-def check_kind(found: Recording, path: str) -> None:
-    """Ends the tool where the file is another tool's recording."""
-    for magic, what in MAGIC.items():
-        if bytes(found.text[: len(magic)]) == magic:
-            raise Stop(f"{path} {what}")
+def check_kind(text: Any, path: str) -> None:
+    """Ends the tool where the text is another tool's recording or what it printed, and says which tool makes a trace of it."""
+    for what, turner in kinds_of(text):
+        front = "histdesk-" if os.path.basename(sys.argv[0]).startswith("histdesk-") else "tools/"
+        name, given = ("standard input", "") if path == "-" else (path, f" {shlex.quote(path)}")
+        raise Stop(f"{name} is {what}; {front}{turner}{given} >my.trace makes a trace of it")
+
+
+def kinds_of(text: Any) -> Iterator[Tuple[str, str]]:
+    """What a text is that is no trace, where that is known, and which tool turns it."""
+    for magic, kind in RECORDED.items():
+        if bytes(text[: len(magic)]) == magic:
+            yield kind
+    start = FRONT.match(text)
+    line = LINE.match(text, start.end() if start else 0)
+    for pattern, kind in PRINTED.items():
+        if line and pattern.match(line[0]) and not holds_event(bytes(line[0])):
+            yield kind
 
 
 def remarks(found: Recording, choice: Choice) -> List[str]:

@@ -2,6 +2,7 @@
 """python_losses.py: what loading and reading a trace tell of lost events, parts of traces, and lines that are left out. The
 expected values are written by hand. The last line says how many of the tests hold."""
 
+import gzip
 import io
 import itertools
 import os
@@ -327,6 +328,7 @@ def work():
     return 0
 _command.run("tool", work)
 """
+PERF = b"            perf    42 [001]     6.012345: sched:sched_waking: comm=w pid=43 prio=120 target_cpu=001\n"
 
 
 class Tools(unittest.TestCase):
@@ -378,14 +380,32 @@ class Tools(unittest.TestCase):
         )
 
     def test_other_files(self):
-        for magic, told in [
-            (b"PERFILE2", "perf, which from-perf turns"),
-            (b"\x17\x08\x44tracing", "trace-cmd, which from-trace-cmd turns"),
+        for text, told, turner in [
+            (b"PERFILE2", "a recording of perf", "from-perf"),
+            (b"\x17\x08\x44tracing", "a recording of trace-cmd", "from-trace-cmd"),
+            (PERF, "what perf script printed", "from-perf"),
+            (b"# captured on: today\n#\n\n" + PERF, "what perf script printed", "from-perf"),
+            (gzip.compress(PERF), "what perf script printed", "from-perf"),
+            (b"cpus=4\n" + PERF, "what trace-cmd report printed", "from-trace-cmd"),
+            (b"version = 6\ncpus=4\n", "what trace-cmd report printed", "from-trace-cmd"),
         ]:
-            path = self.file("other", magic + b"\0" * 100)
-            self.assertEqual(self.run_tool(path), (2, "", f"tool: {path} is a recording of {told}\n"))
+            path = self.file("other text", text + b"\0" * 100)
+            told = f"is {told}; tools/{turner}"
+            for words in [], ["--lenient"]:
+                self.assertEqual(
+                    self.run_tool(*words, path), (2, "", f"tool: {path} {told} '{path}' >my.trace makes a trace of it\n")
+                )
+            self.assertEqual(
+                self.run_tool("-", input=text), (2, "", f"tool: standard input {told} >my.trace makes a trace of it\n")
+            )
         none = os.path.join(self.folder, "none")
         self.assertEqual(self.run_tool(none), (2, "", f"tool: {none}: No such file or directory\n"))
+
+    def test_like_other_files(self):
+        """What a desk reads is a trace, though a name in it looks like a line of perf."""
+        text = waking(0, "1.000000").replace("comm=w ", "comm=a 4 [1] 6.0: x: ")
+        self.assertRegex(text, r" 4 \[1\] 6\.0: x:")
+        self.assertEqual(self.run_tool(self.file("my.trace", text.encode())), (0, "0\n", ""))
 
     def test_words(self):
         for words, told in [
