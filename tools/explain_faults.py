@@ -14,8 +14,10 @@ STAMP = re.compile(r"(?:common_?)?(?:timestamps?|\btime|\bts)\b(\.[A-Za-z]*)?")
 EATEN = "a $NAME is wanting: a shell takes one in double quotes for its own, and leaves it in single quotes"
 
 
-def line_hint(fault: int, line: str) -> str:
-    """What is known of a trace line that has a fault: where it comes from, or what its event has."""
+def line_hint(fault: int, line: str, is_cut: bool = False) -> str:
+    """What is known of a trace line that has a fault: where it comes from, or what its event has. `is_cut` says that no line
+    break ends it, as one ends each line of a trace."""
+    cut = "; the file ends in this line, and may have been cut off" if is_cut else ""
     if line.endswith("\r"):
         return "; the line ends with a carriage return"
     if fault == 1 and re.search(r" +[0-9]+ +\[[0-9]+\] +[0-9]+\.[0-9]+: +[^ ]+:", line):
@@ -27,12 +29,12 @@ def line_hint(fault: int, line: str) -> str:
     event = re.search(rf": *({'|'.join(EVENTS)}):(.*)", line, re.DOTALL)
     if fault == 4 and event:
         if not re.match(" *(prev_)?comm=", event[2]):
-            return "; if trace-cmd printed it, report with -N"
+            return cut or "; if trace-cmd printed it, report with -N"
         order = "prev_comm prev_pid prev_prio prev_state ==> next_comm next_pid next_prio"
         if event[1] != "sched_switch":
             order = "comm pid prio target_cpu"
-        return f": {event[1]} has {order}"
-    return ""
+        return f": {event[1]} has {order}{cut}"
+    return cut
 
 
 def name_at(text: str, place: int) -> str:

@@ -78,8 +78,10 @@ class Refusals:
         if kind:
             return [f"{path}, {words}; {kind}"]
         line = line_of(path, told["line"], self.unpacks)
-        meaning = f"{path}, {words}{line_hint(told['fault'], line or '')}"
-        return [meaning] if line is None else [meaning, f"    {shown(line)[0]}"]
+        if line is None:
+            return [f"{path}, {words}"]
+        text = line.removesuffix("\n")
+        return [f"{path}, {words}{line_hint(told['fault'], text, is_cut=text == line)}", f"    {shown(text)[0]}"]
 
     def hint(self, asked: str, told: Dict[str, int]) -> Tuple[str, Optional[int]]:
         """What follows from the command for the refusal, and the place that is meant in it, or None."""
@@ -178,11 +180,11 @@ class Refusals:
 
 
 def line_of(path: str, number: int, unpacks: bool) -> Optional[str]:
-    """A line of a trace, or None where it can't be read again."""
+    """A line of a trace with its line break, or None where it can't be read again."""
     opened: Any = gzip.open if unpacks and first_bytes(path).startswith(GZIP) else open
     try:
         with opened(path, "rb") as source:
             line = next(itertools.islice(source, number - 1, None), None) if os.path.isfile(path) else None
     except (OSError, EOFError, zlib.error):
         return None
-    return None if line is None else line.removesuffix(b"\n").decode("latin-1")
+    return None if line is None else line.decode("latin-1")

@@ -26,6 +26,11 @@ FIRST += ["insert a-1 [003] 1.000000: sched_waking: comm=x pid=7 prio=1 target_c
 TRACES = {"good.trace": "a-1 [001] 1.000000:\n", "bad.trace": "# tracer: nop\na-1 [001] 1.000000:\nb-2 [001] 1.00\n"}
 # How the recordings of perf and of trace-cmd begin, and what gzip packs.
 TRACES.update({"perf.data": "PERFILE2\0", "trace.dat": "\x17\x08Dtracing6\0", "my own.gz": "\x1f\x8b\x08\0"})
+# Files that are cut off in their last line, and one that isn't.
+SWITCH = "a-1 [001] 1.000000: sched_switch: "
+TRACES.update({"cut1": SWITCH + "prev_c", "cut2": SWITCH + "prev_comm=a prev_pid=1", "cut3": SWITCH[:6]})
+TRACES["whole"] = SWITCH + "prev_c\n"
+CUT_OFF = "; the file ends in this line, and may have been cut off"
 LINE = "insert a-1 [000] 1.000000: "
 MAKER = TURN + "keys=next_pid:l=common_timestamp.usecs-$ts0:onmatch(sched.sched_"
 SECOND = "onmatch(sched.sched_waking).wakeup_latency($l,pid,prio)"
@@ -34,7 +39,7 @@ NSECS = "but .nsecs is not the kernel's, which has .usecs alone"
 BAD_SWITCH = LINE + "sched_switch: bash:1 [120] S ==> idle:0 [120]"
 
 REFUSALS = [
-    ("load @6", "2", "the traces are @1 to @5", None),
+    ("load @10", "2", "the traces are @1 to @9", None),
     ("load @1", "4: cpu 1", "unload 1 takes them away", None),
     ("list 2", "5: cpu 2", "none was loaded or inserted", None),
     ("strike 1:09", "6", "no line 9", None),
@@ -78,6 +83,10 @@ LINES = [
     ("insert cpus=4", "3: line 1 fault 1", "tools/from-trace-cmd", None),
     ("insert a-1 [8192] 1.000000:", "3: line 1 fault 2", "", None),
     ("insert a-1 [000] 1.00000:", "3: line 1 fault 3", "", None),
+    ("load @6", "3: line 1 fault 4", CUT_OFF, None),
+    ("load @7", "3: line 1 fault 4", "next_prio" + CUT_OFF, None),
+    ("load @8", "3: line 1 fault 1", CUT_OFF, None),
+    ("load @9", "3: line 1 fault 4", "; if trace-cmd printed it, report with -N", None),
     ("insert a-1 [000] 1.000000000: x", "3: line 1 fault 3", "nine digits", None),
     ("insert a-1 [000] 1.000000:\r", "3: line 1 fault 3", "carriage return", None),
     (LINE + "sched_waking: comm=x", "3: line 1 fault 4", "comm pid prio target_cpu", None),
