@@ -15,6 +15,7 @@ from ._lines import holds_event
 from ._losses import LossWarning, seconds
 from ._recording import Choice, Recording, read
 from ._refused import Refused, refusal_words
+from ._shown import are, counted
 from ._source import content_of, searched
 
 EVENTS = ("sched_waking", "sched_wakeup", "sched_wakeup_new", "sched_switch", "other")
@@ -145,7 +146,7 @@ def remarks(found: Recording, choice: Choice) -> List[str]:
     if part and part.rest is not None and part.first is not None and part.last is not None:
         length = seconds(part.last - part.first)
         told.append(
-            f"a desk holds no more than {part.events} events of it, {length} s from {seconds(part.first)} on; "
+            f"a desk holds no more than {counted(part.events, 'event')} of it, {length} s from {seconds(part.first)} on; "
             f"--from {seconds(part.rest)} gives the next part"
         )
     elif part and part.events == 0 and not choice.is_all():
@@ -158,7 +159,8 @@ def bad_lines_told(found: Recording) -> List[str]:
     if not found.bad_lines:
         return []
     shown = ", ".join(map(str, found.bad_lines[:SHOWN])) + (", .." if len(found.bad_lines) > SHOWN else "")
-    return [f"{len(found.bad_lines)} lines can't be read and are left out: {shown}"]
+    count = len(found.bad_lines)
+    return [f"{counted(count, 'line')} can't be read and {are(count)} left out: {shown}"]
 
 
 def refused(error: Refused) -> str:

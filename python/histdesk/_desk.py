@@ -245,7 +245,8 @@ class Desk:
             _shown.table_of(("CPU", "events"), len(lanes), lanes.__getitem__),
             _shown.table_of(("id", "event", "trigger"), len(triggers), triggers.__getitem__),
         ]
-        return f"histdesk.Desk: {sum(count for _, count in lanes)} events", [table for table in tables if table.front]
+        told = _shown.counted(sum(count for _, count in lanes), "event")
+        return f"histdesk.Desk: {told}", [table for table in tables if table.front]
 
     def __repr__(self) -> str:
         title, tables = self._told()

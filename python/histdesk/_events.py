@@ -119,7 +119,7 @@ field; names as bytes, after each its length |
         return f"<histdesk.Events: {self._count}>\n{_shown.in_text(self._table())}"
 
     def _repr_html_(self) -> str:
-        return _shown.in_html(f"{self._count} events", [self._table()])
+        return _shown.in_html(_shown.counted(self._count, "event"), [self._table()])
 
 
 def event_of(fields: Tuple[Any, ...]) -> Event:

@@ -80,8 +80,13 @@ def lost(asked: Sequence[Asked]) -> List[str]:
         )
     doubtful = [one.doubtful for one in asked if one.doubtful]
     if doubtful:
-        told.append(f"{sum(doubtful)} waits of {len(doubtful)} recordings are doubtful")
+        told.append(f"{totalled(doubtful, 'wait')} {_shown.are(sum(doubtful))} doubtful")
     return told
+
+
+def totalled(counts: Sequence[int], what: str) -> str:
+    """So many of these, of so many recordings."""
+    return f"{_shown.counted(sum(counts), what)} of {_shown.counted(len(counts), 'recording')}"
 
 
 def partial(asked: Sequence[Asked]) -> List[str]:
@@ -89,13 +94,14 @@ def partial(asked: Sequence[Asked]) -> List[str]:
     told = []
     dropped = [one.dropped for one in asked if one.dropped]
     if dropped:
-        told.append(f"{sum(dropped)} hits of {len(dropped)} recordings found no room in the table")
+        told.append(f"{totalled(dropped, 'hit')} found no room in the table")
     bad = [one.bad_lines for one in asked if one.bad_lines]
     if bad:
-        told.append(f"{sum(bad)} lines of {len(bad)} recordings can't be read and were left out")
+        told.append(f"{totalled(bad, 'line')} can't be read and {'was' if sum(bad) == 1 else 'were'} left out")
     cut = [one.path for one in asked if one.taken and one.taken.rest is not None]
     if cut:
-        told.append(f"of {len(cut)} recordings the first part was taken alone ({cut[0]}), since a desk holds no more")
+        count = _shown.counted(len(cut), "recording")
+        told.append(f"of {count} the first part was taken alone ({cut[0]}), since a desk holds no more")
     return told
 
 

@@ -7,6 +7,7 @@ import warnings
 from typing import TYPE_CHECKING, Any, Collection, Dict, List, NamedTuple, Optional, Sequence, Tuple, Union
 
 from ._losses import Hole, Losses, LossWarning, losses_of, seconds
+from ._shown import counted
 from ._source import content_of, lines_of, searched
 
 if TYPE_CHECKING:
@@ -121,9 +122,9 @@ class Recording:
     def __repr__(self) -> str:
         told = [f"histdesk.Recording of {self.path or 'a text'}"]
         if self.taken:
-            told.append(f"{self.taken.events} events taken" + stretch(self.taken))
+            told.append(f"{counted(self.taken.events, 'event')} taken" + stretch(self.taken))
         if self.bad_lines:
-            told.append(f"{len(self.bad_lines)} lines left out that can't be read")
+            told.append(f"{counted(len(self.bad_lines), 'line')} left out that can't be read")
         return "<" + "; ".join([*told, *filter(None, [self.warning])]) + ">"
 
 

@@ -37,6 +37,16 @@ def shown(value: Any) -> str:
     return text if text.isprintable() else "".join(map(escaped, text))
 
 
+def counted(count: int, what: str) -> str:
+    """So many of what is named in the singular: `1 line`, `2 lines`."""
+    return f"{count} {what}{'s' * (count != 1)}"
+
+
+def are(count: int) -> str:
+    """The verb for so many."""
+    return "is" if count == 1 else "are"
+
+
 def escaped(character: str) -> str:
     """A character that can be printed; a byte that isn't UTF-8 as `\\xff`."""
     if character.isprintable():

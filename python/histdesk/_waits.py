@@ -311,12 +311,14 @@ class Waits:
         for."""
         counted = self.array if doubtful else self.array[~self.array.doubtful]
         counts = needed().bincount(kind_codes(counted), minlength=len(KINDS)).tolist()
-        told = f"{len(counted)} waits: " + ", ".join(f"{count} {kind}" for count, kind in zip(counts, KINDS))
+        told = f"{_shown.counted(len(counted), 'wait')}: " + ", ".join(f"{count} {kind}" for count, kind in zip(counts, KINDS))
         told += "; times in microseconds"
         lines = [_shown.shown(f"{self.path}: {of(self.held)}" if self.path else of(self.held)), told]
         if self.doubtful:
-            how = "are counted, though they" if doubtful else "are left out: they"
-            lines.append(f"{self.doubtful} doubtful waits {how} may be false, since events were lost in their time")
+            they, their = ("it", "its") if self.doubtful == 1 else ("they", "their")
+            how = f"counted, though {they}" if doubtful else f"left out: {they}"
+            told = f"{_shown.counted(self.doubtful, 'doubtful wait')} {_shown.are(self.doubtful)} {how}"
+            lines.append(f"{told} may be false, since events were lost in {their} time")
         return [*lines, *self.remarks()]
 
     def _told(self) -> Tuple[List[str], List[_shown.Table], List[str]]:
@@ -349,7 +351,7 @@ def of(held: Held) -> str:
     if held.first is None or held.last is None:
         return "no events"
     stretch = f"from {seconds(held.first)} to {seconds(held.last)} ({seconds(held.last - held.first)} s)"
-    return f"{held.events} events {stretch} on CPU{'s' * (len(held.cpus) > 1)} {ranges(held.cpus)}"
+    return f"{_shown.counted(held.events, 'event')} {stretch} on CPU{'s' * (len(held.cpus) > 1)} {ranges(held.cpus)}"
 
 
 def ranges(numbers: Sequence[int]) -> str:

@@ -314,7 +314,7 @@ class Tool(Case):
         self.assertEqual(lines[3].split()[:3], ["cpu", "kind", "waits/s"])
         self.assertEqual(lines[4].split()[0], "all")
         self.assertEqual([line.split()[1] for line in lines[5:8]], ["woken"] * 3)
-        self.assertEqual(lines[8], "1 more rows changed and are not shown; --top all shows them")
+        self.assertEqual(lines[8], "1 more row changed and is not shown; --top all shows it")
         told, _ = self.run_tool("1.trace", "1.trace")
         self.assertEqual(told.rstrip("\n").split("\n")[-1], "nothing changed")
 
@@ -344,7 +344,7 @@ class Tool(Case):
         )
         self.assertRegex(self.run_tool(good, "missing", status=2)[1], "^diff: missing: No such file or directory\n$")
         told, errors = self.run_tool(good, bad, "--lenient")
-        self.assertRegex(errors, f"^diff: {bad}: 1 lines can't be read and are left out: [0-9]+\n$")
+        self.assertRegex(errors, f"^diff: {bad}: 1 line can't be read and is left out: [0-9]+\n$")
         self.assertTrue(told.endswith("nothing changed\n"))
 
     def test_losses(self):

@@ -212,7 +212,7 @@ class Events(Tool):
         self.assertIn("line 6: no TASK-PID [CPU]", told)
         status, out, told = self.ran(SMALL + b"torn\n", "events", "--lenient")
         self.assertEqual((status, out.count(b"\n"), told.count("\n")), (0, 5, 1))
-        self.assertIn("1 lines can't be read and are left out: 6", told)
+        self.assertIn("1 line can't be read and is left out: 6", told)
 
     def test_packed(self):
         self.assertEqual(self.written(gzip.compress(SMALL), "events"), self.written(SMALL, "events"))

@@ -369,6 +369,11 @@ class Tools(unittest.TestCase):
             self.run_tool("--lenient", path),
             (0, "0\n", f"tool: {path}: 7 lines can't be read and are left out: 1, 2, 3, 4, 5, ..\n"),
         )
+        path = self.file("one.trace", b"torn\n" + waking(0, "1.000000").encode())
+        self.assertEqual(
+            self.run_tool("--lenient", path), (0, "0\n", f"tool: {path}: 1 line can't be read and is left out: 1\n")
+        )
+        self.assertIn("; 1 line left out that can't be read", repr(histdesk.read(path, lenient=True)))
 
     def test_refused(self):
         path = self.file("my.trace", b"torn\n")

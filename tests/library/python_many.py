@@ -316,7 +316,7 @@ class Questions(Case):
         path = self.put("a", recordings.text_of(lines))
         found = many([path], histdesk.AskRows("sched_waking", "hist:keys=pid:size=128"), processes=0)
         self.assertEqual((len(found.answer), found.answer.hits, found.answer.dropped, found.asked[0].dropped), (128, 128, 2, 2))
-        self.assertIn("2 hits of 1 recordings found no room in the table", found.remarks)
+        self.assertIn("2 hits of 1 recording found no room in the table", found.remarks)
 
     def test_rows_of_different_triggers(self):
         plain, powers = (histdesk.AskRows("sched_waking", f"hist:keys=pid{kind}").merge([]) for kind in ("", ".log2"))
@@ -382,7 +382,7 @@ class LeftOut(Case):
             self.assertTrue(all("\n" not in str(one) for one in found.failed))
         lenient = many([paths["torn"]], events_in, processes=0, lenient=True)
         self.assertEqual((lenient.answer, lenient.failed), ({paths["torn"]: expected - 1}, ()))
-        self.assertIn("1 lines of 1 recordings can't be read and were left out", lenient.remarks)
+        self.assertIn("1 line of 1 recording can't be read and was left out", lenient.remarks)
 
     def test_mistakes_of_a_question(self):
         path = self.put("a", recordings.simulated(1, 40).text)

@@ -447,6 +447,15 @@ class OnADesk(unittest.TestCase):
 
 @with_numpy
 class Shown(unittest.TestCase):
+    def test_one_is_told(self):
+        found = waits_of(recordings.hole_at_start().text)
+        one = found[found.array.doubtful][:1]
+        told = "left out: it", "counted, though it"
+        for is_counted, how in enumerate(told):
+            lines = one.lines(doubtful=bool(is_counted))
+            self.assertEqual(lines[2], f"1 doubtful wait is {how} may be false, since events were lost in its time")
+        self.assertTrue(lines[1].startswith("1 wait: "))
+
     def test_text(self):
         text = repr(waits_of(recordings.hole_at_start().text)).split("\n")
         self.assertEqual(text[0], "histdesk.Waits of 12 events from 1.000000 to 2.620761 (1.620761 s) on CPUs 0-2")
@@ -621,7 +630,7 @@ class Tool(unittest.TestCase):
         self.assertIn("line 39", told_of)
         shown, told_of = self.run_tool("-", "--lenient", input=text)
         self.assertIn("8 waits", shown)
-        self.assertIn("1 lines can't be read and are left out: 39", told_of)
+        self.assertIn("1 line can't be read and is left out: 39", told_of)
 
     def test_what_goes_wrong_is_a_line(self):
         wrong = [["--by", "comm"], ["--kind", "old"], ["--top", "0"], ["--csv", "--json"], ["--no-such"], []]

@@ -309,7 +309,7 @@ def takes_a_part(folder):
     torn = os.path.join(EXAMPLES, "torn.trace")
     output, said, _ = fed(["load @1"], "--lenient", torn, folder=folder)
     same("lenient", output, b"loaded 2\n")
-    has("lenient", said, "1 lines can't be read and are left out: 15")
+    has("lenient", said, "1 line can't be read and is left out: 15")
 
 
 def tells_waits(folder):
