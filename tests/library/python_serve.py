@@ -488,8 +488,8 @@ class Ends(unittest.TestCase):
         self.assertEqual((about["recordings"][0]["path"], about["recordings"][0]["waits"]), ("-", 111))
         running.end()
         running = Running("--lenient", os.path.join(EXAMPLES, "torn.trace"), "--no-browser")
-        self.assertIn("can't be read and are left out", json.loads(running.get("about")[2])["recordings"][0]["remarks"][0])
-        self.assertIn(b"can't be read and are left out", running.end()[2])
+        self.assertIn("can't be read and is left out", json.loads(running.get("about")[2])["recordings"][0]["remarks"][0])
+        self.assertIn(b"can't be read and is left out", running.end()[2])
 
     def test_browser(self):
         """A browser is opened where there is a desktop, or one is named; and --no-browser opens none."""
