@@ -159,6 +159,19 @@ class Page(unittest.TestCase):
 
         return self.driver.find_element(By.CSS_SELECTOR, chosen)
 
+    def click(self, chosen):
+        """Clicks something that may be drawn anew meanwhile."""
+        from selenium.common.exceptions import StaleElementReferenceException
+
+        def clicked():
+            try:
+                self.find(chosen).click()
+                return True
+            except StaleElementReferenceException:
+                return False
+
+        self.until(clicked)
+
     def press(self, *keys):
         from selenium.webdriver.common.action_chains import ActionChains
 
@@ -297,7 +310,7 @@ class Shown(Page):
         micros = self.waits.array.micros
         wanted = sorted((int(one) for one in micros[(micros > 256) & (micros <= 512)]), reverse=True)
         self.until_equal([str(one) for one in wanted], lambda: [row[0] for row in self.listed()])
-        self.find("#worst-1").click()
+        self.click("#worst-1")
         wait = self.waits.array[micros == wanted[1]][0]
         told = histdesk.why(TRACE, int(wait.end_cpu), int(wait.end_line)).text()
         words = lambda text: re.sub(r"\s+", " ", text).strip()
@@ -346,7 +359,7 @@ class Shown(Page):
         self.assertEqual(span(), [low, high])
 
     def test_a_wait_shows_more_around_it(self):
-        self.find("#worst-3").click()
+        self.click("#worst-3")
         self.until(lambda: self.js("return lanes.scene !== null"))
         before = self.js("return lanes.scene.from")
         for _ in range(4):
@@ -703,7 +716,7 @@ class Wide(Page):
 
     def test_a_key_shows_the_next_cpus(self):
         self.press("n")
-        self.find("#worst-0").click()
+        self.click("#worst-0")
         self.until(lambda: self.js("return lanes.scene && lanes.boxes.length"))
         shown = lambda: self.js("return lanes.shown().map(({ cpu }) => cpu)")
         first, seen = shown(), set()
@@ -764,7 +777,7 @@ class Looks(Page):
             self.typed("#filter", "next_pid = ")
             self.until(lambda: self.text("#filter-told"))
             self.click_bar(3)
-            self.find("#worst-0").click()
+            self.click("#worst-0")
             self.until(lambda: self.js("return lanes.scene !== null"))
             self.js("document.querySelector('#ticks input').click()")
             self.until(lambda: len(self.figures()) == 2)
@@ -818,7 +831,7 @@ class Saved(Page):
             self.assertEqual(self.figures(), [figures_of(self.waits), figures_of(others)])
             self.assertFalse(self.find("#filter").is_enabled())
             self.assertIn("tools/view", self.find("#filter").get_attribute("placeholder"))
-            self.find("#worst-0").click()
+            self.click("#worst-0")
             longest = self.waits.array[self.waits.array.micros.argmax()]
             told = histdesk.why(TRACE, int(longest.end_cpu), int(longest.end_line)).text().split("\n")[0]
             self.until_equal(told, lambda: self.js("return document.querySelector('#wait-text p')?.textContent"))
