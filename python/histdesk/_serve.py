@@ -27,8 +27,6 @@ ROOM = 1 << 16
 PATIENCE = 300
 # After so many seconds without a question, what may be asked later is prepared.
 PAUSE = 0.3
-# No wait is longer, in seconds: a signal that comes just before one is seen after it.
-LONGEST = 1.0
 PAGES = os.path.join(os.path.dirname(os.path.realpath(__file__)), "page")
 KINDS = {".html": "text/html", ".css": "text/css", ".js": "text/javascript"}
 BINARY, JSON = "application/octet-stream", "application/json"
@@ -116,19 +114,17 @@ class Server(http.server.ThreadingHTTPServer):
     def answer_all(self, prepare: Callable[[], bool]) -> None:
         """Answers questions until it is interrupted. Where none comes for a while, `prepare` is called, again and again until
         it says that nothing is left to prepare."""
-        is_left, is_asked = True, False
-        pause = LONGEST
+        is_left = True
+        pause: Optional[float] = None
         while True:
             try:
                 job = self.jobs.get(timeout=pause)
             except queue.Empty:
-                if is_asked and is_left:
-                    is_left = prepare()
-                pause = 0 if is_asked and is_left else LONGEST
+                is_left = prepare()
+                pause = 0 if is_left else None
                 continue
             job.run()
-            is_asked = True
-            pause = PAUSE if is_left else LONGEST
+            pause = PAUSE if is_left else None
 
     def asked(self, ask: Callable[[], Any]) -> Any:
         """The answer of the thread that answers."""

@@ -15,6 +15,7 @@ include=$tests/../include
 examples=$tests/../examples
 strict=(-Wall -Wextra -Werror -pedantic "-I$include")
 . "$tests/counts.sh"
+. "$tests/commands.sh"
 
 # compiles WHAT COMMAND..: the compiler takes it and says nothing.
 compiles() {
@@ -29,29 +30,6 @@ compiles() {
 # program NAME SOURCE..: a program over the library, in $folder.
 program() {
     compiles "$1" cc -std=c11 -O1 -g "${strict[@]}" -o "$folder/$1" "${@:2}" "$folder/libhistdesk.so.0" "-Wl,-rpath,$folder"
-}
-
-# gives WHAT STATUS ERROR COMMAND..: the command's status, and all that it says on standard error.
-gives() {
-    local what=$1 want=$2 error=$3 status told
-    shift 3
-    timeout "$limit" "$@" >"$folder/out" 2>"$folder/err" </dev/null
-    status=$?
-    told=$(<"$folder/err")
-    if [[ $status == "$want" && $told == "$error" ]]; then
-        pass
-    else
-        fail "$what: status $status, $told"
-    fi
-}
-
-# prints WHAT FILE: the last command's output is that file.
-prints() {
-    if cmp -s -- "$folder/out" "$2"; then
-        pass
-    else
-        fail "$1: other output"
-    fi
 }
 
 # row FOLDER COMMAND..: the command, given a row's script and traces, prints the row's whole output and ends with its status.

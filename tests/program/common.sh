@@ -10,30 +10,7 @@ histwatch=${4:+$(realpath -- "$4")}
 rows=("$tests"/rows/*)
 examples=$tests/../examples
 
-# gives WHAT STATUS ERROR COMMAND..: the command's status, and all that it says on standard error.
-gives() {
-    local what=$1 want=$2 error=$3 status told
-    shift 3
-    timeout "$limit" "$@" >"$folder/out" 2>"$folder/err" </dev/null
-    status=$?
-    told=$(<"$folder/err")
-    # The launcher says more after the program's line.
-    [[ $histdesk != "$launcher" ]] || told=${told%%$'\n'*}
-    if [[ $status == "$want" && $told == "$error" ]]; then
-        pass
-    else
-        fail "$what: status $status, $told"
-    fi
-}
-
-# prints WHAT FILE: the last command's output is that file.
-prints() {
-    if cmp -s -- "$folder/out" "$2"; then
-        pass
-    else
-        fail "$1: other output"
-    fi
-}
+. "$tests/commands.sh"
 
 # row PROGRAM FOLDER: the program prints the row's whole output, ends with its status and says nothing else.
 row() {
