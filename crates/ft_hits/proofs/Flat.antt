@@ -2,12 +2,12 @@
 use Rattle.std.proofs.Common.{◌≡◌, Bool, true, false, cond, T, List, [], ◌∷◌, ◌++◌, map as list_map, refl, sym, ap, ◌∙◌, Some, None, Option, unwrap_or}
 use Rattle.std.specs.Prelude.{ℤ, ◌&&◌, option_and_then}
 use Rattle.std.specs.List.{filter, flat_map}
-use Rattle.std.specs.declared.cmp.Ordering.{Ordering}
-use Rattle.std.specs.declared.cmp.Ordering.TheVariants.{Less, Equal, Greater}
-use Rattle.std.specs.Ordering.{is_lt, is_eq, eq_by_cmp, ordering_then}
-use Rattle.std.specs.Cmp.{eq_by_cmp_equiv}
+use Rattle.std.specs.Ordering.{is_eq, eq_by_cmp}
+use Rattle.std.specs.Cmp.{eq_by_cmp_equiv, tied_then}
 use Rattle.std.specs.FinMap as map
 use Rattle.std.specs.FinMap.{find, is_sorted, entries_sorted, get-entries, get-empty, get-insert, get-remove, get-from_entries, same_map}
+use Rattle.ft_maps.specs.Entries.{and_left, and_right, is_less}
+pub use Rattle.ft_maps.specs.Entries.{equal_from_tie as is_equal}
 use Rattle.ft_hits.specs.declared.spot.Spot.{Spot}
 use Rattle.ft_keys.specs.declared.key.Part.{Part}
 use Rattle.ft_keys.specs.Parts.{key_cmp}
@@ -25,32 +25,9 @@ mark spot key = record { spot = spot; key = key }
 abbrev Pair : Type 0
 Pair = Mark × List ℤ
 
-and_left : (a b : Bool) → T (a && b) → T a
-and_left true b h = tt
-and_left false b h = h
-
-and_right : (a b : Bool) → T (a && b) → T b
-and_right true b h = h
-and_right false b h = absurd h
-
-is_less : (o : Ordering) → T (is_lt o) → o ≡ Less
-is_less Less h = refl
-is_less Equal h = absurd h
-is_less Greater h = absurd h
-
-pub is_equal : (o : Ordering) → is_eq o ≡ true → o ≡ Equal
-is_equal Less e = cc
-is_equal Equal e = refl
-is_equal Greater e = cc
-
 -- two marks tie where both their parts do
-then_ties : (a b : Ordering) → is_eq (ordering_then a b) ≡ (is_eq a && is_eq b)
-then_ties Less b = refl
-then_ties Equal b = refl
-then_ties Greater b = refl
-
 pub marks_tie : (p q : Mark) → eq_by_cmp mark_cmp p q ≡ (eq_by_cmp spot_cmp p.spot q.spot && same_key p.key q.key)
-marks_tie p q = then_ties (spot_cmp p.spot q.spot) (key_cmp p.key q.key)
+marks_tie p q = sym (tied_then (spot_cmp p.spot q.spot) (key_cmp p.key q.key))
 
 pub same_itself : (k : List Part) → same_key k k ≡ true
 same_itself k = (eq_by_cmp_equiv key_cmp_total).refl k

@@ -1,11 +1,11 @@
 -- Sums over the values of a map, and how many slots there are, as the map is edited.
-use Rattle.std.proofs.Common.{◌≡◌, ℕ, ◌+◌, ◌-◌, Bool, true, false, cond, ◌&&◌, List, [], ◌∷◌, map as list_map, length, refl, sym, ap, subst, ◌∙◌, Option, Some, None, is_some, option_map, unwrap_or, ⊎_elim, arith}
+use Rattle.std.proofs.Common.{◌≡◌, ℕ, ◌+◌, ◌-◌, Bool, true, false, cond, List, [], ◌∷◌, map as list_map, length, refl, sym, ap, subst, ◌∙◌, Option, Some, None, is_some, option_map, unwrap_or, ⊎_elim, arith}
 use Rattle.std.specs.Prelude.{option_and_then}
 use Rattle.std.specs.declared.cmp.Ordering.{Ordering}
 use Rattle.std.specs.declared.cmp.Ordering.TheVariants.{Less, Equal, Greater}
 use Rattle.std.specs.List.{sum_by}
 use Rattle.std.specs.Option.{option_map_or, option_len}
-use Rattle.std.specs.Ordering.{nat_cmp, is_eq, is_lt}
+use Rattle.std.specs.Ordering.{nat_cmp, is_eq}
 use Rattle.std.specs.Cmp.{IsTotalOrder, nat_cmp_total}
 use Rattle.std.specs.Map.{values_of}
 use Rattle.std.specs.FinMap as map
@@ -16,33 +16,20 @@ use Rattle.std.proofs.lemmas.Option.{none-some}
 use Rattle.std.proofs.lemmas.List.{length-map}
 use Rattle.std.proofs.lemmas.List.Sums.{sum_by-cons}
 use Rattle.ft_fields.specs.Traced.{Traced}
-use Rattle.ft_maps.specs.Entries.{entries-empty, get-remove_same, get-remove_other, insert_same}
+use Rattle.ft_maps.specs.Entries.{and_left, and_right, is_less, entries-empty, get-remove_same, get-remove_other, insert_same}
 use Rattle.ft_maps.specs.Mapped.{map_by, entries_by, entries-map_by}
 use Rattle.ft_lanes.specs.Held.{held_in}
 use Rattle.ft_lanes.specs.inner.Slots.{SlotsOf, AllSlots, slots_in, slots_without, all_with, all_without, no_slots, lane_by, lanes_by, AreWithin, AreStored}
 use Rattle.ft_lanes.proofs.Each.{within-longer, within-with, within-without, within-unloaded}
 use lib.Dec.{T}
 
-pub first : (a b : Bool) → T (a && b) → T a
-first true b p = tt
-first false b p = p
-
-pub second : (a b : Bool) → T (a && b) → T b
-second true b p = p
-second false b p = absurd p
-
-is_Less : (r : Ordering) → T (is_lt r) → r ≡ Less
-is_Less Less p = refl
-is_Less Equal p = absurd p
-is_Less Greater p = absurd p
-
 module _ {K X : Type 0} {R : K → K → Ordering} (total : IsTotalOrder R) where
   -- a key below one that is below all others is not there
   find-below : (k x : K) (es : List (K × X)) → R k x ≡ Less → T (below_all R x es) → find R k es ≡ None
   find-below k x [] less all = refl
   find-below k x (e ∷ es) less all =
-      ap (λ r. cond (is_eq r) (Some e.1) (find R k es)) (total.trans k x e.0 less (is_Less _ (first _ _ all)))
-      ∙ find-below k x es less (second _ _ all)
+      ap (λ r. cond (is_eq r) (Some e.1) (find R k es)) (total.trans k x e.0 less (is_less _ (and_left _ _ all)))
+      ∙ find-below k x es less (and_right _ _ all)
 
   module _ (h : X → ℕ) where
     abbrev total_of : List (K × X) → ℕ
@@ -54,9 +41,9 @@ module _ {K X : Type 0} {R : K → K → Ordering} (total : IsTotalOrder R) wher
     total-put : (k : K) (v : X) (es : List (K × X)) → T (is_sorted R es) → total_of (put R k v es) + option_map_or h (find R k es) 0 ≡ total_of es + h v
     total-put k v [] sorted = omega arith
     total-put k v (e ∷ es) sorted =
-        let rest : total_of (put R k v es) + option_map_or h (find R k es) 0 ≡ total_of es + h v = total-put k v es (second (below_all R e.0 es) (is_sorted R es) sorted) in
+        let rest : total_of (put R k v es) + option_map_or h (find R k es) 0 ≡ total_of es + h v = total-put k v es (and_right (below_all R e.0 es) (is_sorted R es) sorted) in
         elim (R k e.0) as (λ r. R k e.0 ≡ r → total_of (by_order r ((k, v) ∷ e ∷ es) ((e.0, v) ∷ es) (e ∷ put R k v es)) + option_map_or h (cond (is_eq r) (Some e.1) (find R k es)) 0 ≡ total_of (e ∷ es) + h v) [
-          | Less ↦ λ less. ap (λ o. total_of ((k, v) ∷ e ∷ es) + option_map_or h o 0) (find-below k e.0 es less (first _ _ sorted)) ∙ omega (arith, total-cons (k, v) (e ∷ es))
+          | Less ↦ λ less. ap (λ o. total_of ((k, v) ∷ e ∷ es) + option_map_or h o 0) (find-below k e.0 es less (and_left _ _ sorted)) ∙ omega (arith, total-cons (k, v) (e ∷ es))
           | Equal ↦ λ _. omega (arith, total-cons (e.0, v) es, total-cons e es)
           | Greater ↦ λ _. omega (arith, rest, total-cons e (put R k v es), total-cons e es)
         ] refl

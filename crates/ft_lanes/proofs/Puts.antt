@@ -9,8 +9,7 @@ use Rattle.std.specs.FinMap as map
 use Rattle.std.specs.FinMap.{FinMap, find, is_sorted, entries_sorted, get-entries, get-empty, same_map, nat_cmp-IsAntisymmetric}
 use Rattle.std.specs.FinMap.Entries.{below_all}
 use Rattle.std.proofs.lemmas.Bool.{cases_eq, eq-eqb, ne_eqb}
-use Rattle.ft_maps.specs.Entries.{get-insert_same, get-insert_other}
-use Rattle.ft_lanes.proofs.Counts.{first, second}
+use Rattle.ft_maps.specs.Entries.{and_left, and_right, get-insert_same, get-insert_other}
 
 not_tied : (r : Ordering) → T (is_lt r) → is_eq r ≡ false
 not_tied Less p = refl
@@ -26,8 +25,8 @@ module _ {X : Type 0} where
   find-above : (k : ℕ) (es : List (ℕ × X)) → T (below_all nat_cmp k es) → find nat_cmp k es ≡ None
   find-above k [] all = refl
   find-above k (e ∷ es) all =
-      ap (λ b. cond b (Some e.1) (find nat_cmp k es)) (not_tied (nat_cmp k e.0) (first _ _ all))
-      ∙ find-above k es (second _ _ all)
+      ap (λ b. cond b (Some e.1) (find nat_cmp k es)) (not_tied (nat_cmp k e.0) (and_left _ _ all))
+      ∙ find-above k es (and_right _ _ all)
 
   -- the first entry is found by its key
   pub find-here : (k : ℕ) (v : X) (es : List (ℕ × X)) → find nat_cmp k ((k, v) ∷ es) ≡ Some v
@@ -40,11 +39,11 @@ module _ {X : Type 0} where
   put-at : (m : FinMap nat_cmp X) (es : List (ℕ × X)) → T (is_sorted nat_cmp es) → (q : ℕ) → map.get (fold put_one m es) q ≡ option_map_or Some (find nat_cmp q es) (map.get m q)
   put-at m [] sorted q = refl
   put-at m (e ∷ es) sorted q =
-      put-at (map.insert m e.0 e.1) es (second (below_all nat_cmp e.0 es) (is_sorted nat_cmp es) sorted) q
+      put-at (map.insert m e.0 e.1) es (and_right (below_all nat_cmp e.0 es) (is_sorted nat_cmp es) sorted) q
       ∙ ⊎_elim
       (λ s.
       (λ i. option_map_or Some (find nat_cmp (s i) es) (map.get (map.insert m e.0 e.1) (s i)))
-      ∙ (λ i. option_map_or Some (find-above e.0 es (first _ _ sorted) i) (get-insert_same nat_cmp_total m e.0 e.1 i))
+      ∙ (λ i. option_map_or Some (find-above e.0 es (and_left _ _ sorted) i) (get-insert_same nat_cmp_total m e.0 e.1 i))
       ∙ ap (λ o. option_map_or Some o (map.get m q)) (sym (find-here e.0 e.1 es) ∙ ap (λ k. find nat_cmp k (e ∷ es)) (sym s)))
       (λ ne. λ i. option_map_or Some (sym (find-there q e es ne) i) (get-insert_other nat_cmp_total nat_cmp-IsAntisymmetric m e.0 e.1 q ne i))
       (cases_eq q e.0)

@@ -15,18 +15,21 @@ use Rattle.std.proofs.lemmas.Map.Keys.{sorted_head, sorted_tail}
 
 -- ---- tests
 
-first : (a b : Bool) → T (a && b) → T a
-first true b h = tt
-first false b h = h
+-- of two tests that pass, the first does
+pub and_left : (a b : Bool) → T (a && b) → T a
+and_left true b h = tt
+and_left false b h = h
 
-second : (a b : Bool) → T (a && b) → T b
-second true b h = h
-second false b h = absurd h
+-- and so does the second
+pub and_right : (a b : Bool) → T (a && b) → T b
+and_right true b h = h
+and_right false b h = absurd h
 
-less : (o : Ordering) → T (is_lt o) → o ≡ Less
-less Less h = refl
-less Equal h = absurd h
-less Greater h = absurd h
+-- a comparison that answers that one is below the other answers `Less`
+pub is_less : (o : Ordering) → T (is_lt o) → o ≡ Less
+is_less Less h = refl
+is_less Equal h = absurd h
+is_less Greater h = absurd h
 
 -- a comparison that ties answers `Equal`
 pub equal_from_tie : (o : Ordering) → is_eq o ≡ true → o ≡ Equal
@@ -53,13 +56,13 @@ entries-empty {X = X} R =
 module _ {K X : Type 0} (R : K → K → Ordering) where
   below_each : (k : K) (es : List (K × X)) → T (below_all R k es) → AllByRecursion (λ q. R k q ≡ Less) (keys_of es)
   below_each k [] h = tt
-  below_each k (e ∷ es) h = (less _ (first _ _ h), below_each k es (second _ _ h))
+  below_each k (e ∷ es) h = (is_less _ (and_left _ _ h), below_each k es (and_right _ _ h))
 
   -- entries in order have keys that strictly ascend
   pub strictly_sorted : (es : List (K × X)) → T (is_sorted R es) → IsStrictlySortedBy R (keys_of es)
   unfolding IsStrictlySortedBy
   strictly_sorted [] h = tt
-  strictly_sorted (e ∷ es) h = (below_each e.0 es (first _ _ h), strictly_sorted es (second _ _ h))
+  strictly_sorted (e ∷ es) h = (below_each e.0 es (and_left _ _ h), strictly_sorted es (and_right _ _ h))
 
 module _ {K X : Type 0} {R : K → K → Ordering} (total : IsTotalOrder R) where
   put_front : (e : K × X) (es : List (K × X)) → IsStrictlySortedBy R (keys_of (e ∷ es)) → put R e.0 e.1 es ≡ e ∷ es

@@ -1,11 +1,11 @@
 -- The first hit of a key among all hits in order.
-use Rattle.std.proofs.Common.{◌≡◌, Bool, true, false, cond, T, List, [], ◌∷◌, map as list_map, refl, sym, ap, ◌∙◌}
-use Rattle.std.specs.Prelude.{ℤ, ◌&&◌}
+use Rattle.std.proofs.Common.{◌≡◌, true, false, cond, T, List, [], ◌∷◌, map as list_map, refl, sym, ap, ◌∙◌}
+use Rattle.std.specs.Prelude.{ℤ}
 use Rattle.std.specs.List.{filter, AllByRecursion}
 use Rattle.std.specs.List.Sorted.{IsStrictlySortedBy}
 use Rattle.std.specs.declared.cmp.Ordering.{Ordering}
 use Rattle.std.specs.declared.cmp.Ordering.TheVariants.{Less, Equal, Greater}
-use Rattle.std.specs.Ordering.{is_lt, ordering_then}
+use Rattle.std.specs.Ordering.{ordering_then}
 use Rattle.std.specs.Map.{keys_of}
 use Rattle.std.specs.FinMap as map
 use Rattle.std.specs.FinMap.{is_sorted, entries_sorted}
@@ -19,7 +19,7 @@ use Rattle.ft_hits.specs.Marks.{mark_cmp}
 use Rattle.ft_hits.specs.Hits.{Hits, same_key, hits_of}
 use Rattle.ft_keys.specs.Orders.{key_cmp_total}
 use Rattle.ft_hits.proofs.Flat.{same_is}
-use Rattle.ft_maps.specs.Entries.{entries-from_entries}
+use Rattle.ft_maps.specs.Entries.{and_left, and_right, is_less, entries-from_entries}
 
 abbrev Pair : Type 0
 Pair = Mark × List ℤ
@@ -27,19 +27,6 @@ Pair = Mark × List ℤ
 -- the hits of a key among others, by place
 abbrev pub of_key : List Part → List Pair → List (Spot × List ℤ)
 of_key key es = list_map (λ e. (e.0.spot, e.1)) (filter (λ e. same_key e.0.key key) es)
-
-and_left : (a b : Bool) → T (a && b) → T a
-and_left true b h = tt
-and_left false b h = h
-
-and_right : (a b : Bool) → T (a && b) → T b
-and_right true b h = h
-and_right false b h = absurd h
-
-is_less : (o : Ordering) → T (is_lt o) → o ≡ Less
-is_less Less h = refl
-is_less Equal h = absurd h
-is_less Greater h = absurd h
 
 only : (r s : Ordering) → s ≡ Equal → ordering_then r s ≡ Less → r ≡ Less
 only Less s tie h = refl

@@ -1,14 +1,15 @@
 -- At most two keys change sides.
 use Rattle.std.proofs.Common.{◌≡◌, ℕ, zero, suc, ◌+◌, ◌-◌, ◌<◌, ◌≤◌, Bool, true, false, cond, T, List, [], ◌∷◌, length, get_or, take, drop, map as list_map, refl, sym, ap, ◌∙◌, arith, Some, None, Option}
-use Rattle.std.specs.Prelude.{ℤ, ◌&&◌, slice_get}
+use Rattle.std.specs.Prelude.{ℤ, slice_get}
 use Rattle.std.specs.List.{insert, list_any}
 use Rattle.std.specs.declared.cmp.Ordering.{Ordering}
 use Rattle.std.specs.declared.cmp.Ordering.TheVariants.{Less, Equal, Greater}
-use Rattle.std.specs.Ordering.{is_lt, is_eq, ordering_then, ordering_reverse, eq_by_cmp}
+use Rattle.std.specs.Ordering.{is_eq, ordering_then, ordering_reverse, eq_by_cmp}
 use Rattle.std.specs.FinMap as map
 use Rattle.std.specs.FinMap.{find, put, is_sorted, entries_sorted, get-entries, get-remove}
 use Rattle.std.proofs.lemmas.List.{get_or_default}
 use Rattle.std.proofs.lemmas.List.Edits.{get_or-insert_below, get_or-insert_above, length-insert}
+use Rattle.ft_maps.specs.Entries.{and_left, and_right, is_less}
 use Rattle.ft_hits.specs.declared.spot.Spot.{Spot}
 use Rattle.ft_keys.specs.declared.key.Part.{Part}
 use Rattle.ft_keys.specs.Parts.{key_cmp}
@@ -39,19 +40,6 @@ not_before a b key less h =
     let is : mark_cmp (mark a key) (mark b key) ≡ Greater = ap (λ o. ordering_then o (key_cmp key key)) turned in
     let both : Less ≡ Greater = sym h ∙ is in
     cc
-
-and_left : (a b : Bool) → T (a && b) → T a
-and_left true b h = tt
-and_left false b h = h
-
-and_right : (a b : Bool) → T (a && b) → T b
-and_right true b h = h
-and_right false b h = absurd h
-
-is_less : (o : Ordering) → T (is_lt o) → o ≡ Less
-is_less Less h = refl
-is_less Equal h = absurd h
-is_less Greater h = absurd h
 
 none_below : (g x : Spot) (es : List (Spot × List ℤ)) → spot_cmp g x ≡ Less → T (map.Entries.below_all spot_cmp x es) → find spot_cmp g es ≡ None
 none_below g x [] less h = refl
