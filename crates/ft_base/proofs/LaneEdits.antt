@@ -13,7 +13,7 @@ use Rattle.ft_lanes.specs.Edits.{new_lane, lane_or_new, lanes_with, lane_without
 use Rattle.ft_maps.specs.Entries.{get-remove_same, get-remove_other}
 use Rattle.ft_base.specs.Base.{Base}
 use Rattle.ft_base.specs.Reachable.{IsReachable}
-use Rattle.ft_base.proofs.Held.{sum-insert}
+use Rattle.ft_lanes.proofs.Counts.{sum-insert}
 use Rattle.ft_base.proofs.Reachable.{IsLane, lanes-from, insert-AreLanes, lanes_with-AreLanes, held-lanes_with, lanes-IsReachable}
 
 -- ---- what a removal leaves

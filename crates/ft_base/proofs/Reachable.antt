@@ -16,8 +16,9 @@ use Rattle.ft_lanes.specs.Held.{HasCpu}
 use Rattle.ft_base.specs.Reachable.{IsReachable}
 use Rattle.ft_lanes.specs.Edits.{new_lane, lane_with, lanes_with}
 use Rattle.ft_maps.specs.Entries.{entries-empty, get-insert_same, get-insert_other}
-use Rattle.ft_base.proofs.Loading.{HasRoom, room-here, room-next, room-from, free-from, with_lanes-fold}
-use Rattle.ft_base.proofs.Held.{sum-insert}
+use Rattle.ft_base.proofs.Loading.{HasRoom, room-here, room-next, room-from}
+use Rattle.ft_lanes.proofs.Counts.{sum-insert}
+use Rattle.ft_lanes.proofs.Loads.{free-held, with_lanes-fold}
 
 -- what holds of a CPU's lane
 pub record IsLane (cpu : ℕ) (lane : Lane) : Type 0 where
@@ -116,7 +117,7 @@ lanes-from base is cpu lane found = record {
 -- a load that is not refused counts its events
 pub held-with_lanes : (base : Base) (es : List Traced) → IsReachable base → AllByRecursion HasCpu es → first_held base.lanes es ≡ None → length es ≤ event_limit → held_in (with_lanes base.lanes es) ≡ held_in base.lanes + length es
 held-with_lanes base es is at none few =
-    ap held_in (sym (with_lanes-fold base.lanes es (free-from base.lanes es none)))
+    ap held_in (sym (with_lanes-fold base.lanes es (free-held base.lanes es none)))
     ∙ (fold-AreLanes base.lanes es (lanes-from base is) at (room-from base.lanes es none few)).1
 
 -- a base with other lanes
@@ -136,7 +137,7 @@ lanes-IsReachable base lanes is are few = record {
 -- a load that is not refused keeps the base reachable
 pub load-IsReachable : (base : Base) (es : List Traced) → IsReachable base → AllByRecursion HasCpu es → first_held base.lanes es ≡ None → held_in base.lanes + length es ≤ event_limit → IsReachable (record base { lanes = with_lanes base.lanes es })
 load-IsReachable base es is at none few =
-    let same = with_lanes-fold base.lanes es (free-from base.lanes es none) in
+    let same = with_lanes-fold base.lanes es (free-held base.lanes es none) in
     let are = subst AreLanes same (fold-AreLanes base.lanes es (lanes-from base is) at (room-from base.lanes es none (omega arith))).0 in
     lanes-IsReachable base (with_lanes base.lanes es) is are (omega (arith, held-with_lanes base es is at none (omega arith)))
 

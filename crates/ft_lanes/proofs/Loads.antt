@@ -6,7 +6,7 @@ use Rattle.std.specs.List as list
 use Rattle.std.specs.Ordering.{nat_cmp}
 use Rattle.std.specs.Cmp.{nat_cmp_total, unsigned_tied}
 use Rattle.std.specs.FinMap as map
-use Rattle.std.specs.FinMap.{find, same_map, from_entries_push, nat_cmp-IsAntisymmetric}
+use Rattle.std.specs.FinMap.{FinMap, find, same_map, from_entries_push, nat_cmp-IsAntisymmetric}
 use Rattle.std.proofs.lemmas.Bool.{cases_eq, eq-eqb, ne_eqb, eqb-true, or_cases, or_parts, or_left, or_right}
 use Rattle.std.proofs.lemmas.List.{append-nil, length_push, at_drop_more, at_drop_all}
 use Rattle.std.proofs.Math.Seq.{drop-append_seam}
@@ -106,7 +106,7 @@ lane_of-apart cpu es e ne =
 -- ---- the lanes after some events, CPU by CPU
 
 -- the old lane, or where an event has the CPU the lane that the events give it
-abbrev lane_at : Lanes → List Traced → ℕ → Option Lane
+abbrev pub lane_at : Lanes → List Traced → ℕ → Option Lane
 lane_at lanes es cpu = cond (has_cpu es cpu) (Some (lane_of cpu es)) (map.get lanes cpu)
 
 has_cpu-here : (es : List Traced) (e : Traced) → has_cpu (es ++ e ∷ []) e.cpu ≡ true
@@ -143,7 +143,7 @@ lane_at-push lanes m es e free now q =
     (cases_eq q e.cpu)
 
 -- the events that are left bring the lanes to those of all events
-abbrev IsFree : Lanes → List Traced → Type 0
+abbrev pub IsFree : Lanes → List Traced → Type 0
 IsFree lanes es = (q : ℕ) → has_cpu es q ≡ true → map.get lanes q ≡ None
 
 lane_at-all : (lanes m : Lanes) (done rest all : List Traced) → IsFree lanes rest → done ++ rest ≡ all → ((q : ℕ) → map.get m q ≡ lane_at lanes done q) → (q : ℕ) → map.get (fold lanes_with m rest) q ≡ lane_at lanes all q
@@ -170,7 +170,7 @@ each_lane all m (e ∷ es) q =
     ∙ ap (λ b. cond (b || has_cpu es q) (Some (lane_of q all)) (map.get m q)) (sym (ne_eqb e.cpu q (λ s. ne (sym s)))))
     (cases_eq q e.cpu)
 
-with_lanes-at : (lanes : Lanes) (es : List Traced) (q : ℕ) → map.get (with_lanes lanes es) q ≡ lane_at lanes es q
+pub with_lanes-at : (lanes : Lanes) (es : List Traced) (q : ℕ) → map.get (with_lanes lanes es) q ≡ lane_at lanes es q
 unfolding with_lanes
 with_lanes-at lanes es q = each_lane es lanes es q
 
@@ -203,7 +203,7 @@ first_held-cpu lanes es = refl
 pub first_held-slots : (f : ℕ → Traced) (all : AllSlots) (es : List Traced) → first_cpu (map.contains_key all) es ≡ first_held (lanes_by f all) es
 first_held-slots f all es = first_cpu-same _ _ (λ cpu. sym (held-slots_of f all cpu)) es ∙ sym (first_held-cpu (lanes_by f all) es)
 
-missing : {X : Type 0} (o : Option X) → is_some o ≡ false → o ≡ None
+pub missing : {X : Type 0} (o : Option X) → is_some o ≡ false → o ≡ None
 missing None e = refl
 missing (Some x) e = cc
 
@@ -211,12 +211,15 @@ free-step : (has : Bool) (cpu : ℕ) (rest : Option ℕ) → cond has (Some cpu)
 free-step true cpu rest none = cc
 free-step false cpu rest none = (refl, none)
 
--- where no event's lane is held, the CPUs are free
-pub free-from : (all : AllSlots) (es : List Traced) → first_cpu (map.contains_key all) es ≡ None → IsFreeOf all es
-free-from all [] none q is = cc
-free-from all (e ∷ es) none q is =
-    let step = free-step _ e.cpu _ (sym (first_cpu-cons (map.contains_key all) e es) ∙ none) in
-    ⊎_elim (λ h. ap (map.get all) (sym (eqb-true e.cpu q h)) ∙ missing _ step.0) (λ h. free-from all es step.1 q h) (or_cases _ _ is)
+-- where no event's CPU has an entry, the CPUs are free
+pub free-from : {X : Type 0} (m : FinMap nat_cmp X) (es : List Traced) → first_cpu (map.contains_key m) es ≡ None → (q : ℕ) → has_cpu es q ≡ true → map.get m q ≡ None
+free-from m [] none q is = cc
+free-from m (e ∷ es) none q is =
+    let step = free-step _ e.cpu _ (sym (first_cpu-cons (map.contains_key m) e es) ∙ none) in
+    ⊎_elim (λ h. ap (map.get m) (sym (eqb-true e.cpu q h)) ∙ missing _ step.0) (λ h. free-from m es step.1 q h) (or_cases _ _ is)
+
+pub free-held : (lanes : Lanes) (es : List Traced) → first_held lanes es ≡ None → IsFree lanes es
+free-held lanes es none = free-from lanes es (sym (first_held-cpu lanes es) ∙ none)
 
 -- and new lanes have numbers for all that may be held
 pub room-from : (all : AllSlots) (es : List Traced) → IsFreeOf all es → length es ≤ event_limit → HasRoom all es
