@@ -1,35 +1,13 @@
 -- The least power of 2 that is not below a value, and sizes rounded up to it.
-use Rattle.std.specs.Prelude.{◌≡◌, ℕ, zero, suc, ◌+◌, ◌^◌, ◌/◌, ◌<◌, ◌≤◌, nat_le, if◌then◌else◌}
+use Rattle.std.specs.Prelude.{◌≡◌, ℕ, zero, suc, ◌+◌, ◌^◌, ◌/◌, ◌<◌, ◌≤◌}
 use Rattle.std.proofs.Common.{arith, ap, refl, sym, ◌∙◌, subst, max}
-use Rattle.std.proofs.lemmas.Bool.Decides.{nat_tests}
 use Rattle.std.proofs.Math.Pow.{pow_mono, pow-lt}
 use Rattle.std.specs.Int.{IsPowerOfTwo}
 use Rattle.std.proofs.lemmas.Nat.{pow_pos}
 use Rattle.std.proofs.lemmas.Grind.{pow_more}
-use native.Mathlib.Numerals.{unary_clauses}
 use Rattle.ft_hist.specs.Powers.{first_power}
+use Rattle.ft_hist.proofs.PowerLemmas.{first_power_least, first_power_reached}
 use Rattle.ft_head.specs.Draft.{rounded}
-
--- one step of the search stays up to a number whose power is high enough
-least_step : (value p q k n other : ℕ) → k ≤ n → (k ≡ n → p ≡ q) → value ≤ q → (k + 1 ≤ n → other ≤ n) → (if nat_le value p then k else other) ≤ n
-least_step value p q k n other low same high more = grind (arith, nat_tests)
-
--- the search stops at no number above one whose power is high enough
-pub first_power_least : (value left k n : ℕ) → k ≤ n → value ≤ 2 ^ n → first_power value left k ≤ n
-first_power_least value zero k n low high = low
-first_power_least value (suc left) k n low high =
-    least_step value (2 ^ k) (2 ^ n) k n (first_power value left (k + 1)) low (λ same i. 2 ^ same i) high (λ more. first_power_least value left (k + 1) n more high)
-
--- one step of the search keeps that its power is high enough
-reached_step : (value k other : ℕ) → value ≤ 2 ^ other → value ≤ 2 ^ (if nat_le value (2 ^ k) then k else other)
-reached_step value k other high = grind (arith, nat_tests)
-
--- the search stops at a number whose power is high enough, where its last is
-pub first_power_reached : (value left k : ℕ) → value ≤ 2 ^ (k + left) → value ≤ 2 ^ first_power value left k
-first_power_reached value zero k high = simp unary_clauses at high
-first_power_reached value (suc left) k high =
-    let same : k + suc left ≡ k + 1 + left = omega arith in
-    reached_step value k (first_power value left (k + 1)) (first_power_reached value left (k + 1) (rw same at high))
 
 -- a number is below its power of 2
 below_power : (n : ℕ) → n < 2 ^ n

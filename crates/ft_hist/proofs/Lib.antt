@@ -3,5 +3,5 @@ mod Asked
 mod KindLemmas
 mod ModifierLemmas
 mod PartLemmas
-mod PowerLemmas
+pub mod PowerLemmas
 mod Summed
