@@ -2,9 +2,8 @@
 use Rattle.std.proofs.Common.{◌≡◌, ℕ, Bool, true, false, cond, List, [], ◌∷◌, ◌++◌, map as list_map, refl, sym, ap, subst, ◌∙◌, Some, None, Option}
 use Rattle.std.specs.Prelude.{◌&&◌, option_map, option_and_then}
 use Rattle.std.specs.List.{AllByRecursion, cons_option, flat_map, filter_map}
-use Rattle.std.specs.declared.cmp.Ordering.{Ordering}
-use Rattle.std.specs.declared.cmp.Ordering.TheVariants.{Less, Equal, Greater}
-use Rattle.std.specs.Ordering.{nat_cmp, eq_by_cmp, is_eq, ordering_then}
+use Rattle.std.specs.declared.cmp.Ordering.TheVariants.{Less}
+use Rattle.std.specs.Ordering.{nat_cmp, eq_by_cmp, is_eq}
 use Rattle.std.specs.Cmp.{eq_by_cmp_equiv}
 use Rattle.std.specs.FinMap as map
 use Rattle.std.specs.FinMap.{find, get-entries, nat_cmp-IsAntisymmetric}
@@ -19,6 +18,7 @@ use Rattle.ft_pairs.specs.declared.at.At.{At}
 use Rattle.ft_pairs.specs.Order.{at_cmp}
 use Rattle.ft_base.specs.Base.{Triggers}
 use Rattle.ft_replay.specs.Merged.{Events}
+use Rattle.ft_replay.proofs.Places.{or_none, tied_then}
 use Rattle.ft_replay.proofs.Acts.{Act, made, act_of, acts_at, acts_in}
 use Rattle.ft_base.proofs.Apart.{AreApart, entries_apart}
 
@@ -27,11 +27,6 @@ abbrev pub by_place : List Act → List (At × Act)
 by_place acts = list_map (λ a. (a.at, a)) acts
 
 -- ---- places that are apart
-
-tied_then : (a b : Ordering) → is_eq (ordering_then a b) ≡ (is_eq a && is_eq b)
-tied_then Less b = refl
-tied_then Equal b = refl
-tied_then Greater b = refl
 
 and_false : (b : Bool) → (b && false) ≡ false
 and_false true = refl
@@ -50,10 +45,6 @@ same_place at pos id same =
 abbrev or_else : {X : Type 0} → Option X → Option X → Option X
 or_else None y = y
 or_else (Some x) y = Some x
-
-or_none : {X : Type 0} (o : Option X) → or_else o None ≡ o
-or_none None = refl
-or_none (Some x) = refl
 
 find_both : (at : At) (xs ys : List Act) → find at_cmp at (by_place (xs ++ ys)) ≡ or_else (find at_cmp at (by_place xs)) (find at_cmp at (by_place ys))
 find_both at [] ys = refl

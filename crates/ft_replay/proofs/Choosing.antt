@@ -1,27 +1,16 @@
 -- Lanes of some CPUs: their entries, and a walk that leaves some out.
-use Rattle.std.proofs.Common.{◌≡◌, ℕ, None, Bool, true, false, cond, List, [], ◌∷◌, ◌++◌, sym, ap, ◌∙◌, append_assoc}
+use Rattle.std.proofs.Common.{◌≡◌, ℕ, None, Bool, true, false, cond, List, [], ◌∷◌, ◌++◌, sym, ap, append_assoc}
 use Rattle.std.specs.Prelude.{not}
 use Rattle.std.specs.List.{flat_map}
-use Rattle.std.specs.declared.cmp.Ordering.{Ordering}
-use Rattle.std.specs.declared.cmp.Ordering.TheVariants.{Equal}
-use Rattle.std.specs.Cmp.{IsTotalOrder, nat_cmp_total}
+use Rattle.std.specs.Cmp.{nat_cmp_total}
 use Rattle.std.specs.FinMap as map
-use Rattle.std.specs.FinMap.{FinMap, IsAntisymmetric, entries_sorted, get-entries, get-retain_keys, same_map, nat_cmp-IsAntisymmetric}
-use Rattle.std.specs.FinMap.Entries.{where_key, is_sorted-where_key, find-where_key, same_entries}
+use Rattle.std.specs.FinMap.{get-retain_keys, same_map, nat_cmp-IsAntisymmetric}
 use Rattle.std.proofs.lemmas.List.{append-nil}
 use Rattle.ft_fields.specs.Traced.{Traced}
 use Rattle.ft_fields.specs.declared.pos.Pos.{Pos}
 use Rattle.ft_lanes.specs.Held.{Lane, Lanes}
 use Rattle.ft_replay.specs.Chosen.{is_among, lanes_but}
 use Rattle.ft_replay.specs.Merged.{placed}
-
-module _ {K X : Type 0} {R : K → K → Ordering} (total : IsTotalOrder R) (same : IsAntisymmetric R) where
-  -- the entries that are kept are those that pass
-  pub entries-retained : (m : FinMap R X) (p : K → Bool) → map.entries (map.retain_keys m p) ≡ where_key R p (map.entries m)
-  entries-retained m p =
-      let alike : (q x : K) → R q x ≡ Equal → p x ≡ p q = λ q x tie. ap p (sym (same q x tie)) in
-      same_entries R total same _ _ (entries_sorted (map.retain_keys m p)) (is_sorted-where_key R p (map.entries m) (entries_sorted m)) (λ q.
-      sym (get-entries (map.retain_keys m p) q) ∙ get-retain_keys m p q (alike q) ∙ ap (λ o. cond (p q) o None) (get-entries m q) ∙ sym (find-where_key R p q (alike q) (map.entries m)))
 
 -- what is looked up in some lanes
 pub get-chosen : (p : ℕ → Bool) (lanes : Lanes) (cpu : ℕ) → map.get (map.retain_keys lanes p) cpu ≡ cond (p cpu) (map.get lanes cpu) None

@@ -21,9 +21,10 @@ use Rattle.ft_table.specs.Rows.{row_of, row_at, totals_of}
 use Rattle.ft_table.specs.Tabled.{Tabled, is_first, first_hits, order_of, keys_in, is_in}
 use Rattle.ft_replay.specs.declared.pair.Pair.{Pair}
 use Rattle.ft_replay.specs.Tally.{Counts, Tally, empty_tally, has_place, count, with_pair, tally_of}
+use Rattle.ft_table.proofs.Distinct.{keys_distinct}
+use Rattle.ft_table.proofs.Firsts.{get-first_hits}
 pub use Rattle.ft_replay.specs.inner.Replaying.{pairs_with}
 use Rattle.ft_replay.proofs.Counted.{grow}
-use Rattle.ft_replay.proofs.KeysApart.{get-first_hits, keys_distinct}
 
 -- ---- the rows of a table by key
 

@@ -5,7 +5,6 @@ pub mod Placing
 pub mod Choosing
 pub mod Taking
 pub mod Counted
-pub mod KeysApart
 pub mod Growing
 pub mod Counting
 pub mod Earlier

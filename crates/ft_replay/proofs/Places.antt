@@ -24,7 +24,7 @@ abbrev or_else : {X : Type 0} → Option X → Option X → Option X
 or_else None y = y
 or_else (Some x) y = Some x
 
-or_none : {X : Type 0} (x : Option X) → or_else x None ≡ x
+pub or_none : {X : Type 0} (x : Option X) → or_else x None ≡ x
 or_none None = refl
 or_none (Some x) = refl
 

@@ -1,5 +1,5 @@
 -- What is read off a table's tally is what the table shows.
-use Rattle.std.proofs.Common.{◌≡◌, ℕ, ◌+◌, List, [], ◌∷◌, map as list_map, refl, sym, ap, subst, ◌∙◌, Some, None}
+use Rattle.std.proofs.Common.{◌≡◌, ℕ, ◌+◌, List, [], ◌∷◌, map as list_map, refl, sym, subst, ◌∙◌, Some, None}
 use Rattle.std.specs.Prelude.{cond, fold, IsPermutation, IsSorted}
 use Rattle.std.specs.List.{IsDistinct, sum_by}
 use Rattle.std.specs.declared.cmp.Ordering.{Ordering}
@@ -19,10 +19,10 @@ use Rattle.ft_table.specs.Hits.{Hits, same_key, hitcount}
 use Rattle.ft_table.specs.Rows.{row_of, rows_of, totals_of}
 use Rattle.ft_table.specs.Sorting.{row_cmp, in_order, HasDistinctKeys}
 use Rattle.ft_table.specs.Tabled.{Tabled, keys_in}
+use Rattle.ft_table.proofs.Distinct.{keys_distinct, rows_distinct}
 use Rattle.ft_replay.specs.declared.pair.Pair.{Pair}
 use Rattle.ft_replay.specs.Tally.{rows_in, totals_in, tally_of}
 use Rattle.ft_replay.proofs.Growing.{rows_by, no_row, len-tally, dropped-tally}
-use Rattle.ft_replay.proofs.KeysApart.{keys_distinct}
 
 -- ---- the values of a map, in any order
 
@@ -53,14 +53,6 @@ unfolding tally_of
 values-tally table pairs = values-rows_by table.hits (keys_in table) (keys_distinct table)
 
 -- ---- rows
-
-keys-rows : (hits : Hits) (keys : List (List Part)) → list_map (λ row. row.key) (list_map (row_of hits) keys) ≡ keys
-keys-rows hits [] = refl
-keys-rows hits (key ∷ keys) = ap (λ rest. key ∷ rest) (keys-rows hits keys)
-
--- the rows of a table's keys have one key each
-pub rows_distinct : (table : Tabled) → HasDistinctKeys (list_map (row_of table.hits) (keys_in table))
-rows_distinct table = subst (IsDistinct same_key) (sym (keys-rows table.hits (keys_in table))) (keys_distinct table)
 
 module _ (permutation : (sort : List SortItem) (rows : List Counted) → IsPermutation rows (in_order sort rows)) (sorted : (sort : List SortItem) (rows : List Counted) → IsSorted (row_cmp sort) (in_order sort rows))
     (alone : (sort : List SortItem) (rows others : List Counted) → HasDistinctKeys rows → IsPermutation rows others → IsSorted (row_cmp sort) others → others ≡ in_order sort rows) where

@@ -21,6 +21,7 @@ use Rattle.ft_table.specs.Tabled.{Tabled}
 use Rattle.ft_replay.specs.declared.pair.Pair.{Pair}
 use Rattle.ft_replay.specs.Hits.{TriggerHit, entry_of, pair_of}
 use Rattle.ft_replay.specs.Tally.{tally_of}
+use Rattle.ft_replay.proofs.Places.{or_none}
 use Rattle.ft_replay.proofs.Counted.{counted, counted_all}
 use Rattle.ft_replay.specs.inner.Replaying.{pairs_with}
 use Rattle.ft_replay.proofs.Growing.{tally-empty, tally_grows_with}
@@ -74,10 +75,6 @@ none_before (first ∷ found) = ((λ q there. absurd (let gone : is_some (map.ge
 abbrev or_else : Option (List ℤ) → Option (List ℤ) → Option (List ℤ)
 or_else None y = y
 or_else (Some x) y = Some x
-
-or_none : (x : Option (List ℤ)) → or_else x None ≡ x
-or_none None = refl
-or_none (Some x) = refl
 
 get-with_all : (hits : Hits) (found : List TriggerHit) → Ascend found → (q : Mark) → map.get (with_all hits found) q ≡ or_else (find mark_cmp q (list_map entry_of found)) (map.get hits q)
 get-with_all hits [] up q = refl

@@ -46,13 +46,17 @@ taken_distinct (m ∷ ms) (suc s) apart =
 pub order_distinct : (hits : Hits) → IsDistinct same_key (list_map key_of (order_of hits))
 order_distinct hits = subst (λ (ms : List Mark). IsDistinct same_key (list_map key_of ms)) (take-length (order_of hits)) (taken_distinct (order_of hits) (length (order_of hits)) (apart_after hits))
 
+-- no key stands twice in a table
+pub keys_distinct : (table : Tabled) → IsDistinct same_key (keys_in table)
+keys_distinct table = taken_distinct (order_of table.hits) table.size (apart_after table.hits)
+
 keys-rows : (hits : Hits) (keys : List (List Part)) → list_map (λ row. row.key) (list_map (row_of hits) keys) ≡ keys
 keys-rows hits [] = refl
 keys-rows hits (key ∷ keys) = ap (λ rest. key ∷ rest) (keys-rows hits keys)
 
 -- the rows of a table's keys have one key each
 pub rows_distinct : (table : Tabled) → HasDistinctKeys (list_map (row_of table.hits) (keys_in table))
-rows_distinct table = subst (IsDistinct same_key) (sym (keys-rows table.hits (keys_in table))) (taken_distinct (order_of table.hits) table.size (apart_after table.hits))
+rows_distinct table = subst (IsDistinct same_key) (sym (keys-rows table.hits (keys_in table))) (keys_distinct table)
 
 -- rows by mark are rows by key
 pub rows-marks : (hits : Hits) (ms : List Mark) → list_map (λ mark. row_of hits mark.key) ms ≡ list_map (row_of hits) (list_map key_of ms)

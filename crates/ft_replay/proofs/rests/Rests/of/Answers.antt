@@ -15,7 +15,8 @@ use Rattle.ft_lanes.specs.Walks.{itself}
 use Rattle.ft_replay.specs.Chosen.{is_among}
 use Rattle.ft_replay.specs.Merged.{placed}
 use Rattle.ft_replay.specs.inner.Rests.{left_in}
-use Rattle.ft_replay.proofs.Choosing.{entries-retained, one_lane}
+use Rattle.ft_table.proofs.Retained.{entries-retained}
+use Rattle.ft_replay.proofs.Choosing.{one_lane}
 use Rattle.ft_replay.proofs.rests.Rests.of.Goals as goal
 
 pub loop-cpu-preserved : goal.loop-cpu-preserved
