@@ -1,16 +1,16 @@
 mod Arrows
-mod Backs
+pub mod Backs
 mod Bodies
 mod Breaks
 mod Caps
-mod Digits
+pub mod Digits
 mod Firsts
 mod HeadLoop
 mod Heads
 mod Lines
 mod Numbers
 mod PartLemmas
-mod Runs
+pub mod Runs
 mod Skips
 mod StampCuts
 mod Stamps

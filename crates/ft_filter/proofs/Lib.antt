@@ -6,7 +6,6 @@ mod NumberForms
 mod Operands
 mod PredLaw
 mod Preds
-mod Runs
 mod Shapes
 mod Shorter
 mod Spelled

@@ -2,6 +2,7 @@
 use Rattle.std.proofs.Common.{◌↔◌, ◌≡◌, ◌≢◌, ◌<◌, ◌≤◌, ◌⊎◌, ℕ, zero, suc, Bool, true, false, inl, inr, not, subst, cond, List, [], ◌∷◌, ◌++◌, take, drop, length, get_or, Option, Some, None, refl, sym, ap, ◌∙◌, arith, slice_index, ◌==◌, find, ne_eqb, eq-eqb, codes}
 use Rattle.std.proofs.Math.Dec.{eqb-suc-zero}
 use Rattle.std.proofs.lemmas.Bool.{cases_eq, and_parts}
+use Rattle.std.proofs.lemmas.List.{take_at, drop_at}
 use Rattle.std.proofs.lemmas.List.Elements.{Contains-append_right}
 use Rattle.std.proofs.lemmas.Option.{same_Some, cond_some, none-some}
 use Rattle.std.proofs.lemmas.Slice.Eq.{bytes_eq-Decides}
@@ -11,14 +12,20 @@ use Rattle.std.specs.Str.{bytes_eq}
 use Rattle.ft_fields.specs.declared.event.Name.{Name}
 use Rattle.ft_fields.specs.declared.field.Field.{Field}
 use Rattle.ft_fields.specs.Fields.{text_of as field_text, is_named, all_fields, has_field}
+use Rattle.ft_event.proofs.Runs.{IsRun, run_len, run_splits, label_joined}
 use Rattle.ft_tokens.specs.Tokens.{is_gap, skip, begins_name, is_in_name, name_at, is_quote, cut_at, quoted_at}
 use Rattle.ft_filter.specs.declared.tree.Op.{Op}
 use Rattle.ft_filter.specs.declared.tree.Op.TheVariants as ops
 use Rattle.ft_filter.specs.Operators.{text_of, all_ops, op_at}
 use Rattle.ft_filter.specs.PredIs.{IsBehindGap, IsName, IsFieldOf, IsOperator, IsQuoted}
 use Rattle.ft_filter.proofs.Preds.{find_passes}
-use Rattle.ft_filter.proofs.Runs.{IsRun, run_found, run_splits, label_joined}
 use Rattle.ft_filter.proofs.Spelled.{field_again, quote_cases, quotes_found}
+
+-- a text's run is found
+run_found : (p : ℕ → Bool) (text run rest : List ℕ) → IsRun p text run rest → (take (prefix_len p text) text ≡ run) × (drop (prefix_len p text) text ≡ rest)
+run_found p text run rest h =
+    let len = run_len p run rest h.passes h.stops in
+    rw h.joined (rw len (take_at run rest (length run) refl, drop_at run rest (length run) refl))
 
 -- ---- gaps
 

@@ -1,7 +1,7 @@
 -- A line with columns of the usual form: its one answer is an event.
 use Rattle.std.proofs.Common.{◌≡◌, ◌≤◌, ℕ, ◌+◌, Bool, true, false, inl, inr, List, [], ◌∷◌, ◌++◌, drop, length, get_or, refl, sym, ap, ◌∙◌, append_assoc, arith, subst, eqb, Ok, Result, pos}
 use Rattle.std.proofs.lemmas.Bool.{and_from, and_parts, eq-eqb, cases_lt}
-use Rattle.std.proofs.lemmas.List.{drop_at, get_or_at, length-append}
+use Rattle.std.proofs.lemmas.List.{get_or_at, length-append}
 use Rattle.std.proofs.lemmas.List.Folds.{list_all-append, list_any_at}
 use Rattle.std.specs.List.{prefix_len, list_all, list_any}
 use Rattle.std.specs.Prelude.{codes, Contains}
@@ -13,20 +13,11 @@ use Rattle.ft_event.specs.declared.fault.Line.TheVariants as lines
 use Rattle.ft_event.specs.declared.fault.LineFault.{LineFault}
 use Rattle.ft_event.specs.Bytes.{is_space, is_digit, is_blank}
 use Rattle.ft_event.specs.LineIs.{Head, IsDigits, IsHead, IsSkipped, IsStamped, BodyIs, HeadGives, LineIs, Stops}
+use Rattle.ft_event.proofs.Runs.{rest_is}
 use Rattle.ft_quick.specs.inner.Columns.{ends_task, IsPlain, IsTask, IsTail}
 use Rattle.ft_quick.specs.inner.Cuts.{IsSkip}
 
 -- ---- no other cut has a shorter TASK
-
-run_len : (p : ℕ → Bool) (run rest : List ℕ) → list_all p run ≡ true → Stops p rest → prefix_len p (run ++ rest) ≡ length run
-run_len p [] [] passes stops = refl
-run_len p [] (b ∷ rest) passes stops = rw stops refl
-run_len p (x ∷ run) rest passes stops =
-    let both = and_parts (p x) (list_all p run) passes in
-    rw (both.0, run_len p run rest both.1 stops) (omega arith)
-
-rest_is : (p : ℕ → Bool) (run rest : List ℕ) → list_all p run ≡ true → Stops p rest → drop (prefix_len p (run ++ rest)) (run ++ rest) ≡ rest
-rest_is p run rest passes stops = rw (run_len p run rest passes stops) (drop_at run rest (length run) refl)
 
 -- what stands after spaces has one place
 pub rest_same : (p : ℕ → Bool) (line run rest run' rest' : List ℕ) → line ≡ run ++ rest → line ≡ run' ++ rest' → list_all p run ≡ true

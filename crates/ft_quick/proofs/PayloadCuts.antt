@@ -1,9 +1,8 @@
 -- Payloads that are cut from the left: each is of its event's form.
-use Rattle.std.proofs.Common.{◌≡◌, ◌<◌, ◌≤◌, ℕ, suc, ◌+◌, ◌-◌, Bool, true, inl, inr, List, [], ◌∷◌, ◌++◌, drop, length, get_or, reverse, refl, sym, ap, ◌∙◌, append_assoc, arith, subst, ℤ, pos}
+use Rattle.std.proofs.Common.{◌≡◌, ◌<◌, ◌≤◌, ℕ, suc, ◌+◌, ◌-◌, true, inl, inr, List, [], ◌∷◌, ◌++◌, drop, length, get_or, reverse, refl, sym, ap, ◌∙◌, append_assoc, arith, subst, ℤ, pos}
 use Rattle.std.proofs.lemmas.Bool.{and_from, and_parts, cases_lt, leb-true, ne_eqb}
 use Rattle.std.proofs.lemmas.Int.{ints}
 use Rattle.std.proofs.lemmas.List.{append-nil, drop_all, reverse-append, length-reverse, length-append, get_or_append_left, get_or-append-add, get_or-append_right, get_or_default}
-use Rattle.std.proofs.lemmas.List.Folds.{list_all-append}
 use Rattle.std.specs.Int.{w32}
 use Rattle.std.specs.List.{list_all}
 use Rattle.std.specs.Prelude.{codes, Contains, FitsSigned, not}
@@ -11,19 +10,11 @@ use Rattle.ft_fields.specs.declared.event.Turn.{Turn}
 use Rattle.ft_fields.specs.declared.event.Wake.{Wake}
 use Rattle.ft_event.specs.Bytes.{is_space, is_in_word, is_digit}
 use Rattle.ft_event.specs.LineIs.{IsDigits, NumberIs, IsLastArrow, Stops}
+use Rattle.ft_event.proofs.Backs.{list_all-reverse}
 use Rattle.ft_quick.specs.inner.Cuts.{IsNumbered, IsSigned, IsUntil}
 use Rattle.ft_quick.specs.inner.Payloads.{IsName, IsTask, IsFairWake, IsFairTurn}
 
 -- ---- the last byte
-
-reverse-cons : (x : ℕ) (xs : List ℕ) → reverse (x ∷ xs) ≡ reverse xs ++ x ∷ []
-reverse-cons x xs = reverse-append (x ∷ []) xs
-
-list_all-reverse : (p : ℕ → Bool) (xs : List ℕ) → list_all p xs ≡ true → list_all p (reverse xs) ≡ true
-list_all-reverse p [] h = refl
-list_all-reverse p (x ∷ xs) h =
-    let both = and_parts (p x) (list_all p xs) h in
-    ap (list_all p) (reverse-cons x xs) ∙ list_all-append p (reverse xs) (x ∷ []) ∙ and_from _ _ (list_all-reverse p xs both.1) (and_from _ _ both.0 refl)
 
 -- a digit is no space
 first_digit : (xs rest : List ℕ) → 0 < length xs → list_all is_digit xs ≡ true → Stops is_space (xs ++ rest)

@@ -1,23 +1,15 @@
 -- Runs of digits that a text begins with.
-use Rattle.std.proofs.Common.{◌≡◌, ◌<◌, ◌≤◌, ℕ, ◌+◌, ◌-◌, ◌*◌, ◌^◌, suc, true, List, take, drop, length, get_or, refl, sym, ap, ◌∙◌, arith, leb}
+use Rattle.std.proofs.Common.{◌≡◌, ◌<◌, ◌≤◌, ℕ, ◌+◌, ◌-◌, ◌*◌, ◌^◌, suc, true, List, take, drop, length, get_or, sym, ap, ◌∙◌, arith, leb}
 use Rattle.std.proofs.Math.Nat.{pow-le-pow_right, pow-suc}
-use Rattle.std.proofs.lemmas.Bool.{and_from, and_parts, leb-true, le-ltb, lt-ltb}
+use Rattle.std.proofs.lemmas.Bool.{and_from, and_parts, leb-true}
 use Rattle.std.proofs.lemmas.Int.Digits.{digits_value_more}
 use Rattle.std.proofs.lemmas.List.{take-append-drop, length-take}
 use Rattle.std.proofs.lemmas.List.Folds.{list_all_more}
-use Rattle.std.specs.Char.{digit_value}
 use Rattle.std.specs.List.{list_all}
 use Rattle.std.specs.Str.Parse.{digits_value}
 use Rattle.ft_event.specs.Bytes.{is_digit}
+use Rattle.ft_event.proofs.Digits.{digit_value_is}
 use Rattle.ft_quick.specs.inner.Cuts.{IsNumbered}
-
--- a digit's value
-digit_value_is : (b : ℕ) → is_digit b ≡ true → digit_value b ≡ b - 48
-digit_value_is b h =
-    let p = and_parts (leb 48 b) (leb b 57) h in
-    let low : 48 ≤ b = leb-true 48 b p.0 in
-    let high : b ≤ 57 = leb-true b 57 p.1 in
-    rw (le-ltb b 48 low, lt-ltb b 58 (omega arith)) refl
 
 pub record IsRead (text : List ℕ) (i n : ℕ) : Type 0 where
   pub digits : list_all is_digit (take i text) ≡ true
