@@ -4,6 +4,7 @@ ghost use Rattle.std.specs.Prelude.{◌≡◌, ◌+◌, ◌<◌, ◌≤◌, leng
 ghost use Rattle.std.specs.Option.{option_copied};
 ghost use Rattle.ft_hist.specs.declared.item.KeyItem.{KeyItem};
 ghost use Rattle.ft_hist.specs.Hit.{part_of, key_of, same_name, passes_filter, hit};
+ghost use Rattle.ft_hist.specs.Tests.{asked};
 
 use crate::item::KeyItem;
 use crate::trigger::Trigger;
@@ -26,6 +27,19 @@ impl Trigger {
         } else {
             None
         }
+    }
+
+    /// The key that it counts the event under, or `None` where the event is no hit. Tests the event
+    /// where the trigger is on its name alone.
+    pub fn key_of(&self, event: &Event, work: &mut Work) -> Option<Key>
+        ensures key { result ≡ hit self.now event.now }
+        ensures evals { work.new.evals ≡ work.old.evals + asked self.now event.now }
+        ensures puts { work.new.puts ≡ work.old.puts }
+    {
+        if !is_same(self.event(), event.name()) {
+            return None;
+        }
+        self.hit_of(event, work)
     }
 }
 

@@ -30,6 +30,8 @@
 //! - `Trigger::hit_of`: the key where the event has the trigger's name and passes its filter, else
 //!   none (`specs/Hit.antt`), at exactly one tick of `evals` of the `Work` handed in and none of
 //!   `puts`. Lets through: ticks of another `Work`.
+//! - `Trigger::key_of`: that key, at one tick of `evals` where the trigger is on the event's name,
+//!   and none elsewhere.
 //! - `Trigger::values_of`: what an event adds to the sums, in the order of the values; 0 after the
 //!   last one (`specs/Values.antt`).
 //! - `Trigger::made`: where there is an onmatch part, the event `wakeup_latency` of a reading and

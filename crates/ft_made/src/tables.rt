@@ -6,7 +6,6 @@ ghost use Rattle.std.specs.Ordering.{nat_cmp};
 ghost use Rattle.std.specs.FinMap.{FinMap};
 ghost use Rattle.ft_fields.specs.Places.{pos_cmp};
 ghost use Rattle.ft_fields.specs.declared.pos.Pos.{Pos};
-ghost use Rattle.ft_hist.specs.Hit.{hit};
 ghost use Rattle.ft_hist.specs.Steps.{StepsGrow};
 ghost use Rattle.ft_hist.specs.Tests.{asked};
 ghost use Rattle.ft_maps.specs.Seen.{seen};
@@ -19,7 +18,7 @@ ghost use Rattle.ft_made.specs.inner.Pairs.{with_pair, with_pairs, with_maker};
 
 use crate::readings::KeptReadings;
 use ft_fields::{Event, Pos};
-use ft_hist::{Key, Trigger, Work};
+use ft_hist::{Trigger, Work};
 use ft_lanes::Lanes;
 use ft_maps::entries;
 use ft_replay::Pair;
@@ -48,7 +47,7 @@ pub fn put_made(
     ensures puts { work.new.puts ≤ work.old.puts + 1 }
     ensures grow { StepsGrow work.old work.new }
 {
-    match key_at(trigger, made, work) {
+    match trigger.key_of(made, work) {
         Some(key) => table.insert(hit_with(trigger, made, spot, key, None), work),
         None => Ok(()),
     }
@@ -61,22 +60,9 @@ pub fn take_made(table: &mut Table, trigger: &Trigger, spot: Spot, made: &Event,
     ensures evals { work.new.evals ≡ work.old.evals + asked trigger.now made.now }
     ensures puts { work.new.puts ≡ work.old.puts }
 {
-    if let Some(key) = key_at(trigger, made, work) {
+    if let Some(key) = trigger.key_of(made, work) {
         table.remove(spot, key);
     }
-}
-
-/// The key that a trigger counts an event under, if the event is a hit of it. Tests it where the
-/// trigger is on its name alone.
-pub(crate) fn key_at(trigger: &Trigger, event: &Event, work: &mut Work) -> Option<Key>
-    ensures key { result ≡ hit trigger.now event.now }
-    ensures evals { work.new.evals ≡ work.old.evals + asked trigger.now event.now }
-    ensures puts { work.new.puts ≡ work.old.puts }
-{
-    if trigger.event() != event.name() {
-        return None;
-    }
-    trigger.hit_of(event, work)
 }
 
 // ---- all made events

@@ -11,7 +11,7 @@ ghost use Rattle.ft_made.specs.MadeTables.{with_made, without_made};
 ghost use Rattle.ft_made.specs.Turning.{CanTurn, HasTurned, keys_of_made, keys_turned};
 ghost use Rattle.ft_made.specs.inner.Turns.{made_found};
 
-use crate::tables::{key_at, made_of_pair, put_made, take_made};
+use crate::tables::{made_of_pair, put_made, take_made};
 use ft_fields::{Event, Pos};
 use ft_hist::{Key, Trigger, Work};
 use ft_lanes::Lanes;
@@ -104,7 +104,7 @@ fn put_key(
     let Some(made) = made else {
         return Ok(());
     };
-    if let Some(key) = key_at(trigger, &made, work) {
+    if let Some(key) = trigger.key_of(&made, work) {
         keys.push(key)?;
     }
     Ok(())
