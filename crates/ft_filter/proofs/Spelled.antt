@@ -1,11 +1,10 @@
 -- Words as a canonical text spells them, and how they are read.
-use Rattle.std.proofs.Common.{◌≡◌, ◌≢◌, ◌⊎◌, ◌<◌, ◌≤◌, ◌+◌, ◌%◌, ◌^◌, ◌||◌, ℕ, zero, suc, Bool, true, false, inl, inr, not, List, [], ◌∷◌, ◌++◌, length, take, drop, Some, None, refl, sym, ap, ◌∙◌, subst, arith, one-add, append_assoc, slice_index, if◌then◌else◌, ℤ, pos, negsuc, ◌==◌, find, le-leb, leb-true, ne_eqb, eq-eqb, eqb-true, decimal}
+use Rattle.std.proofs.Common.{◌≡◌, ◌≢◌, ◌⊎◌, ◌<◌, ◌≤◌, ◌+◌, ◌^◌, ◌||◌, ℕ, zero, suc, Bool, true, false, inl, inr, not, List, [], ◌∷◌, ◌++◌, length, take, drop, Some, None, refl, sym, ap, ◌∙◌, subst, arith, one-add, append_assoc, slice_index, if◌then◌else◌, ℤ, pos, negsuc, ◌==◌, find, leb-true, ne_eqb, eq-eqb, eqb-true, decimal}
 use Rattle.std.proofs.Math.Dec.{eqb-suc-zero}
 use Rattle.std.proofs.Math.Seq.{take-append_seam, drop-append_seam}
-use Rattle.std.proofs.lemmas.Bool.{and_parts, and_from}
+use Rattle.std.proofs.lemmas.Bool.{and_parts}
 use Rattle.std.proofs.lemmas.Option.{same_Some}
-use Rattle.std.proofs.lemmas.Fmt.{decimal_by_steps, decimal_is_IsNumeral, decimal_nonempty, decimal_digit, first_decimal}
-use Rattle.std.proofs.lemmas.List.Folds.{list_all-append}
+use Rattle.std.proofs.lemmas.Fmt.{decimal_is_IsNumeral, decimal_nonempty, decimal_digit, first_decimal}
 use Rattle.std.specs.Char.{is_ascii_digit}
 use Rattle.std.specs.Fmt.{signed_decimal}
 use Rattle.std.specs.List.{prefix_len, list_all}
@@ -15,6 +14,7 @@ use Rattle.ft_fields.specs.declared.field.Field.{Field}
 use Rattle.ft_fields.specs.declared.field.Field.TheVariants as fields
 use Rattle.ft_fields.specs.Fields.{text_of as field_text, is_named, all_fields, has_field}
 use Rattle.ft_tokens.specs.Ranged.{fits}
+use Rattle.ft_text.proofs.Numbers.{digits_all}
 use Rattle.ft_tokens.specs.Tokens.{is_gap, skip, begins_name, is_in_name, name_at, is_quote, cut_at, quoted_at, is_decimal, number_of, word_len, number_at}
 use Rattle.ft_filter.specs.declared.tree.Op.{Op}
 use Rattle.ft_filter.specs.declared.tree.Op.TheVariants as ops
@@ -229,20 +229,6 @@ quotable (mark ∷ text) found e = from (is_quote mark) refl e
     from true is e = quotable_by mark found.0 is (cut_free mark text found e)
 
 -- ---- numbers
-
--- a decimal digit is a digit
-digit : (m : ℕ) → m < 10 → is_ascii_digit (48 + m) ≡ true
-digit m low = and_from _ _ (le-leb 48 (48 + m) (omega arith)) (le-leb (48 + m) 57 (omega arith))
-
--- one digit more
-one_digit : (m : ℕ) (ds : List ℕ) → list_all is_ascii_digit ds ≡ true → m < 10 → list_all is_ascii_digit (ds ++ ((48 + m) ∷ [])) ≡ true
-one_digit m ds all low = list_all-append is_ascii_digit ds ((48 + m) ∷ []) ∙ and_from _ _ all (and_from _ _ (digit m low) refl)
-
--- a number is written in digits
-digits_all : (n : ℕ) → n < 2 ^ 64 → list_all is_ascii_digit (decimal n) ≡ true
-digits_all n lt =
-    decimal_by_steps (λ m ds. list_all is_ascii_digit ds ≡ true) (λ m low. one_digit m [] refl low)
-    (λ m ds high all. one_digit (m % 10) ds all (omega arith)) n lt
 
 -- a digit is a byte of a name
 digits_in_name : (ds : List ℕ) → list_all is_ascii_digit ds ≡ true → list_all is_in_name ds ≡ true

@@ -1,33 +1,19 @@
 -- Numbers and sizes as texts spell them, and how they are read.
-use Rattle.std.proofs.Common.{◌≡◌, ◌≤◌, ◌<◌, ◌+◌, ◌%◌, ◌^◌, ◌&&◌, ℕ, Bool, true, false, not, List, [], ◌∷◌, ◌++◌, length, Some, None, refl, sym, ◌∙◌, subst, arith, decimal, cond, le-leb, leb-true, ne_eqb, ◌==◌}
+use Rattle.std.proofs.Common.{◌≡◌, ◌≤◌, ◌<◌, ◌^◌, ◌&&◌, ℕ, Bool, true, false, not, List, length, Some, None, refl, sym, ◌∙◌, subst, arith, decimal, cond, le-leb, leb-true, ne_eqb, ◌==◌}
 use Rattle.std.proofs.lemmas.Bool.{and_parts, and_from, and_right, not-true, not_from_false, leb-false, lt-leb, eqb-false}
-use Rattle.std.proofs.lemmas.Fmt.{decimal_by_steps, decimal_is_IsNumeral, decimal_nonempty}
-use Rattle.std.proofs.lemmas.List.Folds.{list_all-append}
+use Rattle.std.proofs.lemmas.Fmt.{decimal_is_IsNumeral, decimal_nonempty}
 use Rattle.std.proofs.lemmas.Option.{cond_some}
 use Rattle.std.specs.Prelude.{nat_le, ◌↔◌}
 use Rattle.std.specs.Char.{is_ascii_digit}
 use Rattle.std.specs.List.{list_all}
 use Rattle.std.specs.Str.Parse.{digits_value}
+use Rattle.ft_text.proofs.Numbers.{digits_all}
 use Rattle.ft_tokens.specs.Tokens.{is_in_name}
 use Rattle.ft_head.specs.Draft.{rounded, is_size, size_of}
 use Rattle.ft_head.specs.Sizes.{IsSize}
 use Rattle.ft_pieces.specs.Words.{is_number, number_in}
 use Rattle.ft_pieces.proofs.Separators.{is_bare, all_weaker, names_bare}
 use Rattle.ft_head.proofs.Rounding.{rounded_power, rounded_reached, rounded_least}
-
--- a decimal digit is a digit
-digit : (m : ℕ) → m < 10 → is_ascii_digit (48 + m) ≡ true
-digit m low = and_from _ _ (le-leb 48 (48 + m) (omega arith)) (le-leb (48 + m) 57 (omega arith))
-
--- one digit more
-one_digit : (m : ℕ) (ds : List ℕ) → list_all is_ascii_digit ds ≡ true → m < 10 → list_all is_ascii_digit (ds ++ ((48 + m) ∷ [])) ≡ true
-one_digit m ds all low = list_all-append is_ascii_digit ds ((48 + m) ∷ []) ∙ and_from _ _ all (and_from _ _ (digit m low) refl)
-
--- a number is written in digits
-digits_all : (n : ℕ) → n < 2 ^ 64 → list_all is_ascii_digit (decimal n) ≡ true
-digits_all n lt =
-    decimal_by_steps (λ m ds. list_all is_ascii_digit ds ≡ true) (λ m low. one_digit m [] refl low)
-    (λ m ds high all. one_digit (m % 10) ds all (omega arith)) n lt
 
 -- a digit is a byte of a name
 digit_in_name : (byte : ℕ) → is_ascii_digit byte ≡ true → is_in_name byte ≡ true

@@ -1,12 +1,13 @@
 -- Words and numbers as they are written out, and how they are read.
-use Rattle.std.proofs.Common.{◌≡◌, ◌<◌, ◌+◌, ◌%◌, ◌^◌, ◌==◌, ℕ, suc, Bool, true, false, not, List, [], ◌∷◌, ◌++◌, length, drop, Some, refl, sym, ap, ◌∙◌, arith, slice_index, reverse, le-leb, ne_eqb, decimal, length-append, append-nil, nat_lt, nat_le}
+use Rattle.std.proofs.Common.{◌≡◌, ◌<◌, ◌+◌, ◌^◌, ◌==◌, ℕ, suc, Bool, true, false, not, List, [], ◌∷◌, ◌++◌, length, drop, Some, refl, sym, ap, ◌∙◌, arith, slice_index, reverse, le-leb, ne_eqb, decimal, length-append, append-nil, nat_lt, nat_le}
 use Rattle.std.proofs.Math.Seq.{take-append_seam}
 use Rattle.std.proofs.lemmas.Bool.{and_parts, and_from, not-true, not_from_false}
-use Rattle.std.proofs.lemmas.Fmt.{decimal_by_steps, decimal_is_IsNumeral, decimal_nonempty, length-decimal-le}
+use Rattle.std.proofs.lemmas.Fmt.{decimal_is_IsNumeral, decimal_nonempty, length-decimal-le}
 use Rattle.std.proofs.lemmas.List.{reverse-append, reverse-reverse}
 use Rattle.std.proofs.lemmas.List.Folds.{list_all-append}
 use Rattle.std.specs.Char.{is_ascii_digit}
 use Rattle.std.specs.List.{prefix_len, list_all, before_first, after_first}
+use Rattle.ft_text.proofs.Numbers.{digits_all}
 use Rattle.ft_script.specs.Script.{greatest_number, most_digits, is_space, is_in_word, is_colon, drop_while, trimmed, first_word, after_word, number_in}
 use Rattle.ft_script.specs.Written.{IsNumber, IsBare, spaced}
 
@@ -119,20 +120,6 @@ spaced_closes word (first ∷ text) all bare front byte e =
     closes_behind word (32 ∷ first ∷ text) (omega arith) (closes_behind (32 ∷ []) (first ∷ text) (omega arith) bare.closes) front byte e
 
 -- ---- numbers
-
--- a decimal digit is a digit
-digit : (m : ℕ) → m < 10 → is_ascii_digit (48 + m) ≡ true
-digit m low = and_from _ _ (le-leb 48 (48 + m) (omega arith)) (le-leb (48 + m) 57 (omega arith))
-
--- one digit more
-one_digit : (m : ℕ) (ds : List ℕ) → list_all is_ascii_digit ds ≡ true → m < 10 → list_all is_ascii_digit (ds ++ ((48 + m) ∷ [])) ≡ true
-one_digit m ds all low = list_all-append is_ascii_digit ds ((48 + m) ∷ []) ∙ and_from _ _ all (and_from _ _ (digit m low) refl)
-
--- a number is written in digits
-digits_all : (n : ℕ) → n < 2 ^ 64 → list_all is_ascii_digit (decimal n) ≡ true
-digits_all n small =
-    decimal_by_steps (λ m ds. list_all is_ascii_digit ds ≡ true) (λ m low. one_digit m [] refl low)
-    (λ m ds high all. one_digit (m % 10) ds all (omega arith)) n small
 
 -- a digit is no byte that is none
 digit_apart : (byte other : ℕ) → is_ascii_digit byte ≡ true → is_ascii_digit other ≡ false → not (byte == other) ≡ true
