@@ -1,6 +1,5 @@
 -- Slots by CPU in a list: the map that they give where they are put in, and the slots of a load's events.
 use Rattle.std.proofs.Common.{◌≡◌, ℕ, ◌+◌, ◌<◌, ◌≤◌, zero, suc, Bool, true, false, ◌==◌, if◌then◌else◌, List, [], ◌∷◌, ◌++◌, length, get_or, slice_set, Result, Ok, Err, OnErr, refl, sym, ap, ◌∙◌, subst, Option, Some, None, unwrap_or, ◌⊎◌, inl, inr, ⊎_elim, arith}
-use Rattle.std.specs.Ordering.{nat_cmp}
 use Rattle.std.specs.Cmp.{nat_cmp_total}
 use Rattle.std.specs.FinMap as map
 use Rattle.std.specs.FinMap.{same_map, nat_cmp-IsAntisymmetric}
