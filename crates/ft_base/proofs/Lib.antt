@@ -1,5 +1,4 @@
 pub mod Loading
-pub mod Held
 pub mod Reachable
 pub mod LaneEdits
 pub mod Attaching

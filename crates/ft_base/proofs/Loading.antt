@@ -9,8 +9,7 @@ use Rattle.ft_lanes.specs.Held.{Lane, Lanes, number_limit, event_limit}
 use Rattle.ft_lanes.specs.Loaded.{lane_of, with_lanes, first_held}
 use Rattle.ft_lanes.specs.Edits.{new_lane, lane_with, lanes_with}
 use Rattle.ft_lanes.specs.inner.Slots.{has_cpu}
-use Rattle.ft_lanes.proofs.Loads.{with_lanes-at, missing}
-pub use Rattle.ft_lanes.proofs.Loads.{free-held as free-from, with_lanes-fold}
+use Rattle.ft_lanes.proofs.Loads.{free-held, with_lanes-at, missing}
 use Rattle.ft_maps.specs.Entries.{get-insert_same, get-insert_other}
 
 -- the lanes of the events' CPUs have numbers left for all of them
@@ -40,7 +39,7 @@ room-next m e es h q is =
 -- what was held stays as it was
 pub held-stays : (lanes : Lanes) (es : List Traced) → first_held lanes es ≡ None → (q : ℕ) (b : Bool) → map.contains_key lanes q ≡ b → cond b (map.get (with_lanes lanes es) q) None ≡ map.get lanes q
 held-stays lanes es none q true is = with_lanes-at lanes es q ∙ elim (has_cpu es q) as (λ b. has_cpu es q ≡ b → cond b (Some (lane_of q es)) (map.get lanes q) ≡ map.get lanes q) [
-  | true ↦ λ has. let both : ◌≡◌ {A = Bool} false true = ap is_some (sym (free-from lanes es none q has)) ∙ is in absurd cc
+  | true ↦ λ has. let both : ◌≡◌ {A = Bool} false true = ap is_some (sym (free-held lanes es none q has)) ∙ is in absurd cc
   | false ↦ λ _. refl
 ] refl
 held-stays lanes es none q false is = sym (missing (map.get lanes q) is)
@@ -49,4 +48,4 @@ held-stays lanes es none q false is = sym (missing (map.get lanes q) is)
 pub room-from : (lanes : Lanes) (es : List Traced) → first_held lanes es ≡ None → length es ≤ event_limit → HasRoom lanes es
 room-from lanes es none few q is =
     let P : Option Lane → Type 0 = λ o. (unwrap_or o new_lane).next + length es ≤ number_limit + 1 in
-    subst P (sym (free-from lanes es none q is)) (omega arith)
+    subst P (sym (free-held lanes es none q is)) (omega arith)

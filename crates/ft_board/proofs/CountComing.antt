@@ -18,8 +18,8 @@ use Rattle.ft_maps.specs.Entries.{entries-empty, same_from_tie}
 use Rattle.ft_base.specs.After.{after_load}
 use Rattle.ft_base.specs.Base.{Base, Triggers}
 use Rattle.ft_base.proofs.After.{load-gives}
-use Rattle.ft_base.proofs.Held.{sum-insert}
-use Rattle.ft_base.proofs.Loading.{free-from, with_lanes-fold}
+use Rattle.ft_lanes.proofs.Counts.{sum-insert}
+use Rattle.ft_lanes.proofs.Loads.{free-held, with_lanes-fold}
 use Rattle.ft_replay.specs.Chosen.{is_among, lanes_but}
 use Rattle.ft_answers.specs.Costs.{count_on_all, count_on_lane}
 use Rattle.ft_replay.specs.Merged.{Events, merged, merged_with, placed, place_of}
@@ -190,5 +190,5 @@ pub coming_few : (base new : Base) (es : List Traced) (count : ℕ) → after_lo
 coming_few base new es count answer cpus are =
     let gives = load-gives base es new count answer in
     subst (λ (b : Base). count_coming cpus b ≤ count_on_all base.triggers es) gives.1
-    (subst (λ (m : (List ℕ) × Lanes). count_coming m.0 (record base { lanes = m.1 }) ≤ count_on_all base.triggers es) (λ i. (sym are i, with_lanes-fold base.lanes es (free-from base.lanes es gives.0) i))
+    (subst (λ (m : (List ℕ) × Lanes). count_coming m.0 (record base { lanes = m.1 }) ≤ count_on_all base.triggers es) (λ i. (sym are i, with_lanes-fold base.lanes es (free-held base.lanes es gives.0) i))
     (tests-coming base.triggers base.lanes es))

@@ -5,17 +5,20 @@ use Rattle.std.specs.Option.{option_map_or, is_none}
 use Rattle.std.specs.FinMap as map
 use Rattle.ft_hist.specs.Hist.{Hist}
 use Rattle.ft_hist.specs.Steps.{Steps}
-use Rattle.ft_kept.specs.Shelves.{Shelves}
-use Rattle.ft_rows.specs.declared.row.Totals.{Totals}
+use Rattle.ft_keys.specs.declared.key.Part.{Part}
+use Rattle.ft_kept.specs.Shelves.{Shelved, Shelves}
+use Rattle.ft_table.specs.Rows.{AllFit}
+use Rattle.ft_table.specs.Tabled.{Tabled}
 use Rattle.ft_answers.specs.declared.latency.Latency.{Latency}
 use Rattle.ft_base.specs.declared.refused.Refused.{Refused}
 use Rattle.ft_base.specs.declared.refused.Refused.TheVariants.{Memory, NoTrigger, NotReading}
-use Rattle.ft_answers.specs.Answers.{hist_text, totals, latencies, pairs_shown, tally_at, tally_made, tally_shown, tally_text, latency_of, latencies_as, pairs_as}
+use Rattle.ft_answers.specs.Answers.{hist_text, rows_shown, row_shown, counts_shown, totals, latencies, pairs_shown, tally_at, tally_made, tally_shown, tally_text, tally_rows, tally_row, tally_counts, latency_of, latencies_as, pairs_as}
 use Rattle.ft_answers.specs.Counting.{counts_made}
 use Rattle.ft_answers.specs.Deferral.{WantsForTables}
 use Rattle.ft_base.specs.Base.{Base, Triggers}
 use Rattle.ft_answers.specs.Edited.{AnswersFrom}
-use Rattle.ft_replay.specs.Found.{saving_found}
+use Rattle.ft_replay.specs.Found.{pairs_in, saving_found}
+use Rattle.ft_replay.proofs.Growing.{pairs-tally}
 use Rattle.ft_replay.specs.declared.pair.Pair.{Pair}
 use Rattle.ft_replay.specs.Merged.{Events, merged}
 use Rattle.ft_replay.specs.Replay.{State, replay}
@@ -23,8 +26,8 @@ use Rattle.ft_made.specs.Laws.{HeldAreCounted, TablesAreTallied}
 use Rattle.ft_base.specs.Roles.{is_reader}
 use Rattle.ft_answers.specs.Shown.{Shown}
 use Rattle.ft_replay.specs.Tally.{Tally, empty_tally, tally_of, totals_in}
-use Rattle.ft_board.specs.MadeShelves.{MadeTables, made_on, AreMadeBy}
-use Rattle.ft_board.specs.inner.Told.{IsTold}
+use Rattle.ft_board.specs.MadeShelves.{MadeTables, made_on, AreMade, AreMadeBy}
+use Rattle.ft_board.specs.inner.Told.{IsTold, Tells, TellsAll}
 use Rattle.ft_answers.proofs.Answering.{latencies-reader, latencies-other, pairs-reader, pairs-other}
 
 -- a board that keeps tables, with its steps
@@ -53,48 +56,70 @@ pub wants : {S : Type 0} (shown : Shown) (content : Base) (kept new : Option She
 wants {S} shown content kept new work later (Ok answer) is back none keeps err = let both : ◌≡◌ {A = Result S Refused} (Ok answer) (Err Memory) = err in absurd cc
 wants shown content kept new work later (Err refused) is back none keeps err = (ap (λ (s : Shown). s.deferred) (sym is) ∙ ap is_none (back none), ap is_none none)
 
+-- what is answered of a trigger, where one is attached
+abbrev pub asked : {T : Type 0} → (Base → ℕ → Hist → Result T Refused) → Base → ℕ → Result T Refused
+asked answer base id = option_map_or (answer base id) (map.get base.triggers id) (Err NoTrigger)
+
+-- what is answered by what is shown of it
+abbrev pub by_tally : {T : Type 0} → (Hist → Tally → T) → Base → ℕ → Hist → Result T Refused
+by_tally tell base id hist = Ok (tell hist (tally_shown base.triggers (merged base.lanes) id hist))
+
 -- where no trigger has the id, the refusal is the base's, and all is as it was
-pub unattached : {S T : Type 0} (view : S → T) (expected : Base → ℕ → Result T Refused) → ((base : Base) (id : ℕ) → map.get base.triggers id ≡ None → expected base id ≡ Err NoTrigger)
+pub unattached : {S T : Type 0} (view : S → T) (expected : Base → ℕ → Result T Refused) (answers : Base → ℕ → Hist → Result T Refused) → ((base : Base) (id : ℕ) → expected base id ≡ asked answers base id)
     → (shown : Shown) (content : Base) (kept : Option Shelves) (work : Steps) (triggers : Triggers) (id : ℕ) (refused : Refused) (answer : Result S Refused)
     → kept_shown content kept work ≡ shown → triggers ≡ content.triggers → (refused ≡ NoTrigger) × (map.get triggers id ≡ None) → answer ≡ Err refused → AnswersFrom view (expected shown.base id) shown shown answer
-unattached view expected missing shown content kept work triggers id refused answer is same none given =
+unattached view expected answers asks shown content kept work triggers id refused answer is same none given =
     let absent : map.get shown.base.triggers id ≡ None = ap (λ (s : Shown). map.get s.base.triggers id) (sym is) ∙ ap (λ (t : Triggers). map.get t id) (sym same) ∙ none.1 in
     let now : answer ≡ Err NoTrigger = given ∙ ap (λ (r : Refused). let a : Result _ Refused = Err r in a) none.0 in
-    rw now (refl, inr (missing shown.base id absent), (λ e. e, λ _. refl))
+    rw now (refl, inr (asks shown.base id ∙ ap (λ (o : Option Hist). option_map_or (answers shown.base id) o (Err NoTrigger)) absent), (λ e. e, λ _. refl))
 
--- ---- refused
+-- what is told of an attached trigger by a table
+pub told_by : {S T : Type 0} (view : S → T) (expected : Base → ℕ → Result T Refused) (tell : Hist → Tally → T) → ((base : Base) (id : ℕ) → expected base id ≡ asked (by_tally tell) base id)
+    → (base : Base) (id : ℕ) (hist : Hist) (table : Tabled) → map.get base.triggers id ≡ Some hist → (its : TellsAll base id hist table) → (answer : S) → view answer ≡ tell hist (tally_of table its.pairs)
+    → (kept : Option Shelves) → IsSome kept → IsTold view (expected base id) kept (Ok answer)
+told_by view expected tell asks base id hist table there its answer is kept some = (
+  asks base id ∙ ap (λ (o : Option Hist). option_map_or (by_tally tell base id) o (Err NoTrigger)) there
+      ∙ ap (λ (t : Tally). let given : Result _ Refused = Ok (tell hist t) in given) its.tally
+      ∙ ap (λ t. let given : Result _ Refused = Ok t in given) (sym is),
+  some,
+)
 
-pub hist-missing : (base : Base) (id : ℕ) → map.get base.triggers id ≡ None → hist_text base id ≡ Err NoTrigger
+-- ---- what each answer is
+
+pub hist-is : (base : Base) (id : ℕ) → hist_text base id ≡ asked (by_tally tally_text) base id
 unfolding hist_text
-hist-missing base id none = ap (λ (o : Option Hist). let answer : Result (List ℕ) Refused = option_map_or (λ hist. Ok (tally_text hist (tally_shown base.triggers (merged base.lanes) id hist))) o (Err NoTrigger) in answer) none
+hist-is base id = refl
 
-pub totals-missing : (base : Base) (id : ℕ) → map.get base.triggers id ≡ None → totals base id ≡ Err NoTrigger
+pub rows-is : (base : Base) (id : ℕ) → rows_shown base id ≡ asked (by_tally tally_rows) base id
+unfolding rows_shown
+rows-is base id = refl
+
+pub counts-is : (base : Base) (id : ℕ) → counts_shown base id ≡ asked (by_tally tally_counts) base id
+unfolding counts_shown
+counts-is base id = refl
+
+pub row-is : (key : List Part) (base : Base) (id : ℕ) → row_shown base id key ≡ asked (by_tally (λ hist tally. tally_row hist tally key)) base id
+unfolding row_shown
+row-is key base id = refl
+
+pub totals-is : (base : Base) (id : ℕ) → totals base id ≡ asked (by_tally (λ _. totals_in)) base id
 unfolding totals
-totals-missing base id none = ap (λ (o : Option Hist). let answer : Result Totals Refused = option_map_or (λ hist. Ok (totals_in (tally_shown base.triggers (merged base.lanes) id hist))) o (Err NoTrigger) in answer) none
+totals-is base id = refl
 
-pub latencies-missing : (base : Base) (id : ℕ) → map.get base.triggers id ≡ None → latencies base id ≡ Err NoTrigger
+-- what readings measured, and what they found
+abbrev pub latencies_by : Base → ℕ → Hist → Result (List Latency) Refused
+latencies_by base id hist = latencies_as hist.variable (tally_at base.triggers (merged base.lanes) id)
+
+abbrev pub pairs_by : Base → ℕ → Hist → Result (List Pair) Refused
+pairs_by base id hist = pairs_as hist.variable (tally_at base.triggers (merged base.lanes) id)
+
+pub latencies-is : (base : Base) (id : ℕ) → latencies base id ≡ asked latencies_by base id
 unfolding latencies
-latencies-missing base id none = ap (λ (o : Option Hist). let answer : Result (List Latency) Refused = option_map_or (λ hist. latencies_as hist.variable (tally_at base.triggers (merged base.lanes) id)) o (Err NoTrigger) in answer) none
+latencies-is base id = refl
 
-pub latencies-unread : (base : Base) (id : ℕ) (hist : Hist) → map.get base.triggers id ≡ Some hist → is_reader hist.variable ≡ false → latencies base id ≡ Err NotReading
-unfolding latencies
-latencies-unread base id hist there other =
-    ap (λ (o : Option Hist). let answer : Result (List Latency) Refused = option_map_or (λ h. latencies_as h.variable (tally_at base.triggers (merged base.lanes) id)) o (Err NoTrigger) in answer) there
-    ∙ latencies-other hist.variable (tally_at base.triggers (merged base.lanes) id) other
-
--- what the readings of a trigger found, if one is attached
-abbrev pairs_if : Base → ℕ → Option Hist → Result (List Pair) Refused
-pairs_if base id attached = option_map_or (λ hist. pairs_as hist.variable (tally_at base.triggers (merged base.lanes) id)) attached (Err NoTrigger)
-
-pub pairs-missing : (base : Base) (id : ℕ) → map.get base.triggers id ≡ None → pairs_shown base id ≡ Err NoTrigger
+pub pairs-is : (base : Base) (id : ℕ) → pairs_shown base id ≡ asked pairs_by base id
 unfolding pairs_shown
-pairs-missing base id none = ap (λ (o : Option Hist). pairs_if base id o) none
-
-pub pairs-unread : (base : Base) (id : ℕ) (hist : Hist) → map.get base.triggers id ≡ Some hist → is_reader hist.variable ≡ false → pairs_shown base id ≡ Err NotReading
-unfolding pairs_shown
-pairs-unread base id hist there other =
-    ap (λ (o : Option Hist). pairs_if base id o) there
-    ∙ pairs-other hist.variable (tally_at base.triggers (merged base.lanes) id) other
+pairs-is base id = refl
 
 -- ---- which tally is told
 
@@ -119,33 +144,32 @@ pub if_there : {P : Type 0} (kept : Option Shelves) → IsSome kept → IfSome k
 if_there None some holds = let both : ◌≡◌ {A = Bool} false true = some in absurd cc
 if_there (Some shelves) some holds = holds
 
--- ---- told
+-- so a table of made events that is kept tells what is shown
+pub made-tells : TablesAreTallied → (base : Base) (id : ℕ) (hist : Hist) (made : MadeTables) → map.get base.triggers id ≡ Some hist → counts_made hist ≡ true → AreMade base made → AllFit (made_on made id hist) hist
+    → (table : Tabled) → made_on made id hist ≡ table → TellsAll base id hist table
+made-tells tallied base id hist made there counts are fit table is =
+    subst (TellsAll base id hist) is (record { pairs = []; tally = made-shown base.triggers (merged base.lanes) id tallied hist made there counts are; fit = fit })
 
-module _ (base : Base) (id : ℕ) (hist : Hist) (tally : Tally) (there : map.get base.triggers id ≡ Some hist) (is : tally_shown base.triggers (merged base.lanes) id hist ≡ tally) where
-  pub hist-told : hist_text base id ≡ Ok (tally_text hist tally)
-  unfolding hist_text
-  hist-told =
-      ap (λ (o : Option Hist). let answer : Result (List ℕ) Refused = option_map_or (λ h. Ok (tally_text h (tally_shown base.triggers (merged base.lanes) id h))) o (Err NoTrigger) in answer) there
-      ∙ ap (λ (t : Tally). let answer : Result (List ℕ) Refused = Ok (tally_text hist t) in answer) is
+-- ---- readings
 
-  pub totals-told : totals base id ≡ Ok (totals_in tally)
-  unfolding totals
-  totals-told =
-      ap (λ (o : Option Hist). let answer : Result Totals Refused = option_map_or (λ h. Ok (totals_in (tally_shown base.triggers (merged base.lanes) id h))) o (Err NoTrigger) in answer) there
-      ∙ ap (λ (t : Tally). let answer : Result Totals Refused = Ok (totals_in t) in answer) is
+module _ (base : Base) (id : ℕ) (hist : Hist) (there : map.get base.triggers id ≡ Some hist) where
+  -- a trigger that reads nothing has none
+  pub latencies-unread : is_reader hist.variable ≡ false → latencies base id ≡ Err NotReading
+  latencies-unread other = latencies-is base id ∙ ap (λ (o : Option Hist). option_map_or (latencies_by base id) o (Err NoTrigger)) there ∙ latencies-other hist.variable (tally_at base.triggers (merged base.lanes) id) other
 
-pub latencies-told : (base : Base) (id : ℕ) (hist : Hist) (tally : Tally) → map.get base.triggers id ≡ Some hist → tally_at base.triggers (merged base.lanes) id ≡ tally
-    → is_reader hist.variable ≡ true → latencies base id ≡ Ok (list_map latency_of tally.pairs)
-unfolding latencies
-latencies-told base id hist tally there is reads =
-    ap (λ (o : Option Hist). let answer : Result (List Latency) Refused = option_map_or (λ h. latencies_as h.variable (tally_at base.triggers (merged base.lanes) id)) o (Err NoTrigger) in answer) there
-    ∙ latencies-reader hist.variable (tally_at base.triggers (merged base.lanes) id) reads
-    ∙ ap (λ (t : Tally). let answer : Result (List Latency) Refused = Ok (list_map latency_of t.pairs) in answer) is
+  pub pairs-unread : is_reader hist.variable ≡ false → pairs_shown base id ≡ Err NotReading
+  pairs-unread other = pairs-is base id ∙ ap (λ (o : Option Hist). option_map_or (pairs_by base id) o (Err NoTrigger)) there ∙ pairs-other hist.variable (tally_at base.triggers (merged base.lanes) id) other
 
-pub pairs-told : (base : Base) (id : ℕ) (hist : Hist) (tally : Tally) → map.get base.triggers id ≡ Some hist → tally_at base.triggers (merged base.lanes) id ≡ tally
-    → is_reader hist.variable ≡ true → pairs_shown base id ≡ Ok tally.pairs
-unfolding pairs_shown
-pairs-told base id hist tally there is reads =
-    ap (λ (o : Option Hist). pairs_if base id o) there
-    ∙ pairs-reader hist.variable (tally_at base.triggers (merged base.lanes) id) reads
-    ∙ ap (λ (t : Tally). let answer : Result (List Pair) Refused = Ok t.pairs in answer) is
+  -- one that reads has those of its shelf
+  module _ (reads : is_reader hist.variable ≡ true) (shelf : Shelved) (tells : Tells base id hist shelf) where
+    pub pairs-told : pairs_shown base id ≡ Ok (pairs_in shelf.readings)
+    pairs-told =
+        pairs-is base id ∙ ap (λ (o : Option Hist). option_map_or (pairs_by base id) o (Err NoTrigger)) there
+        ∙ pairs-reader hist.variable (tally_at base.triggers (merged base.lanes) id) reads
+        ∙ ap (λ (pairs : List Pair). let answer : Result (List Pair) Refused = Ok pairs in answer) (ap (λ (t : Tally). t.pairs) tells.tally ∙ pairs-tally shelf.table (pairs_in shelf.readings))
+
+    pub latencies-told : latencies base id ≡ Ok (list_map latency_of (pairs_in shelf.readings))
+    latencies-told =
+        latencies-is base id ∙ ap (λ (o : Option Hist). option_map_or (latencies_by base id) o (Err NoTrigger)) there
+        ∙ latencies-reader hist.variable (tally_at base.triggers (merged base.lanes) id) reads
+        ∙ ap (λ (pairs : List Pair). let answer : Result (List Latency) Refused = Ok (list_map latency_of pairs) in answer) (ap (λ (t : Tally). t.pairs) tells.tally ∙ pairs-tally shelf.table (pairs_in shelf.readings))

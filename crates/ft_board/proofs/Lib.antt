@@ -1,6 +1,5 @@
 pub mod CountComing
 pub mod KeptBoardTold
-pub mod ToldRows
 pub mod MadeShelves
 pub mod Makers
 pub mod Mending
@@ -13,3 +12,4 @@ pub mod ReportedRows
 pub mod Reports
 pub mod TurnedRows
 pub mod MadeReports
+pub mod Changes

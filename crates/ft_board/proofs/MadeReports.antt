@@ -1,8 +1,9 @@
 -- What the rows that were told of tables of made events say of the bases before an edit and after it.
-use Rattle.std.proofs.Common.{◌≡◌, ℕ, [], true, List, refl, sym, ap, subst, ◌∙◌, Option, Some, None, unwrap_or}
+use Rattle.std.proofs.Common.{◌≡◌, ℕ, [], true, List, refl, sym, ap, subst, ◌∙◌, Option, Some, None, unwrap_or, Ok}
 use Rattle.std.specs.Prelude.{option_and_then}
 use Rattle.std.specs.Option.{IfSome, option_map_or}
 use Rattle.std.specs.FinMap as map
+use Rattle.std.proofs.lemmas.Bool.{true≢false}
 use Rattle.ft_hist.specs.Hist.{Hist}
 use Rattle.ft_keys.specs.declared.key.Part.{Part}
 use Rattle.ft_rivals.specs.declared.changed.Changed.{Changed}
@@ -16,12 +17,18 @@ use Rattle.ft_replay.specs.Found.{saving_found}
 use Rattle.ft_made.specs.Laws.{TablesAreTallied}
 use Rattle.ft_made.specs.MadeTables.{found_in}
 use Rattle.ft_answers.specs.Counting.{counts_made}
-use Rattle.ft_answers.specs.Reporting.{IsMadeReport, made_row_in}
+use Rattle.ft_answers.specs.Reporting.{IsMadeReport, IsReport, Reports, made_row_in}
+use Rattle.ft_answers.specs.Shown.{Shown}
+use Rattle.ft_answers.specs.declared.done.Done.{Done}
+use Rattle.ft_answers.specs.declared.edited.Edited.{Edited}
 use Rattle.ft_repair.specs.Repaired.{IfBoth}
 use Rattle.ft_board.specs.MadeShelves.{MadeTables, AreMade, AreMadeBy, made_on}
+use Rattle.ft_board.specs.declared.views.Views.{Views}
+use Rattle.ft_board.specs.inner.Edits.{Edit, ReportsEdit}
 use Rattle.ft_board.specs.inner.Mending.{AreAlike}
 use Rattle.ft_board.specs.inner.Readings.{readings_on}
 use Rattle.ft_board.specs.inner.Turned.{AreTurnedRows}
+use Rattle.ft_board.proofs.KeptBoardTold.{kept_shown, none_is}
 use Rattle.ft_board.proofs.Mending.{alike_part}
 
 -- shelves that are the same except for their notes have the same readings
@@ -67,3 +74,19 @@ module _ (tallied : TablesAreTallied) where
         rows_reported later before after was is
         (subst (λ (r : ℕ → Readings). AreMadeBy mid.triggers (merged mid.lanes) (found_in r) after) (alike_readings later mended alike) turns)
         (items rows) told
+
+-- ---- what a board reports
+
+-- the reports of an edit are those of a board that shows the base before
+pub board_reports : (edit : Edit) (views : Views) (done : Done Edited) (shown : Shown) → shown.base ≡ edit.old → ReportsEdit edit views done.value → Reports shown (kept_shown edit.new views.shelves views.work) (Ok done)
+board_reports edit views done shown is told = (
+  (
+    subst (λ (b : Base). IfSome done.value.report (λ rows. IsReport b edit.new rows.items)) (sym is) told.0.0,
+    λ up. told.0.1 (none_is views.shelves up),
+    λ unkept. absurd (true≢false unkept),
+  ),
+  (
+    subst (λ (b : Base). IfSome done.value.made (λ rows. IsMadeReport b edit.new rows.items)) (sym is) told.1.0,
+    (λ up. told.1.1 (none_is views.shelves up), λ unkept. absurd (true≢false unkept)),
+  ),
+)

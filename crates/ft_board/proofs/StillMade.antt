@@ -24,7 +24,7 @@ use Rattle.ft_made.specs.MadeHits.{values_of_made}
 use Rattle.ft_made.specs.MadeTables.{Readings, found_in}
 use Rattle.ft_repair.specs.KeptShelves.{AreKept, HasItsShelf}
 use Rattle.ft_board.specs.MadeShelves.{MadeTables, AreMadeBy}
-use Rattle.ft_board.specs.inner.Mending.{AreAlike, CanMend, MakersRead, NothingNoted, had_by}
+use Rattle.ft_board.specs.inner.Mending.{AreAlike, AreNoted, CanMend, MakersRead, NothingNoted, had_by}
 use Rattle.ft_board.specs.inner.Readings.{readings_on}
 use Rattle.ft_repair.specs.Repaired.{IfBoth}
 use Rattle.ft_board.proofs.MadeShelves.{found_on}
@@ -116,17 +116,6 @@ module _ (readings : ReadingsAre) (triggers : Triggers) (events : Events) (noted
 abbrev pub AreRightIf : Triggers → Events → Option Shelves → MadeTables → Type 0
 AreRightIf triggers events kept made = IfSome kept (AreKept triggers events) × IfSome kept (λ _. AreMadeBy triggers events (saving_found triggers events) made)
 
--- what taking notes leaves: the shelves except for their notes, and there nothing is noted yet
-pub record AreNoted (triggers : Triggers) (old noted : Option Shelves) : Type 0 where
-  pub alike : IfBoth AreAlike old noted
-  pub nothing : IfSome noted (NothingNoted triggers)
-  pub reads : IfSome noted (λ _. MakersRead triggers)
-  pub deferred : old ≡ None → noted ≡ None
-
-pub noted_by : (given triggers : Triggers) → given ≡ triggers → (old noted : Option Shelves) → IfBoth AreAlike old noted → IfSome noted (NothingNoted given) → IfSome noted (λ _. MakersRead given) → (old ≡ None → noted ≡ None)
-    → AreNoted triggers old noted
-noted_by given triggers same old noted alike nothing reads deferred = subst (λ (t : Triggers). AreNoted t old noted) same (record { alike = alike; nothing = nothing; reads = reads; deferred = deferred })
-
 -- shelves that are the same except for their notes are kept of the same
 pub alike_if : (triggers : Triggers) (events : Events) (old noted : Option Shelves) → IfBoth AreAlike old noted → (old ≡ None → noted ≡ None) → IfSome old (AreKept triggers events) → IfSome noted (AreKept triggers events)
 alike_if triggers events old None alike deferred kept = tt
@@ -146,7 +135,7 @@ module _ (readings : ReadingsAre) (triggers : Triggers) (events more : Events) (
       → IfBoth FormsStay noted later → (noted ≡ None → later ≡ None) → IfSome later (λ shelves. CanMend triggers more shelves made)
   mend_if old noted None made right notes forms gone = tt
   mend_if old None (Some later) made right notes forms gone = let both : ◌≡◌ {A = Option Shelves} (Some later) None = gone refl in absurd cc
-  mend_if None (Some noted) (Some later) made right notes forms gone = let both : ◌≡◌ {A = Option Shelves} (Some noted) None = notes.deferred refl in absurd cc
+  mend_if None (Some noted) (Some later) made right notes forms gone = let both : ◌≡◌ {A = Option Shelves} (Some noted) None = notes.gone refl in absurd cc
   mend_if (Some old) (Some noted) (Some later) made right notes forms gone = can_mend old noted later made right.0 right.1 notes.alike notes.nothing notes.reads forms
 
   mended : (shelves : Shelves) (made : MadeTables) → AreKept triggers events shelves → AreMadeBy triggers more (found_in (readings_on shelves)) made → AreMadeBy triggers events (saving_found triggers events) made

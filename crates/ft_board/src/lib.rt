@@ -1,17 +1,19 @@
 //! A board that keeps tables beside what it holds, and repairs them as it is edited, so that no
 //! answer replays the events.
 //!
-//! Shelves, one of each trigger, follow the base by `ft_repair`: one event more or less changes a few
-//! entries, one trigger more or less leaves those of the others, and where more events are loaded or
-//! unloaded than stay, all is built anew. Beside them stand the tables of events that readings make.
-//! As events come or go, these are mended: the shelves note what readings had found, and after the
-//! repair the hits of made events go and come where something is noted. They are made anew where
-//! shelves are built anew, as a trigger is attached or gets another filter, and as one goes that
-//! read. Where memory runs out for any of it, the edit stands, and the next answer builds it.
+//! What is kept is one value, `Views`: a shelf of each trigger, and beside the shelves the tables
+//! of events that readings make. Each edit of the board is one of its methods. The shelves follow
+//! the base by `ft_repair`: one event more or less changes a few entries, one trigger more or less
+//! leaves those of the others, and where more events are loaded or unloaded than stay, all is built
+//! anew. As events come or go, the tables of made events are mended: the shelves note what readings
+//! had found, and after the repair the hits of made events go and come where something is noted.
+//! They are made anew where shelves are built anew, as a trigger is attached or gets another
+//! filter, and as one goes that read. Where memory runs out for any of it, the edit stands, and the
+//! next answer builds it.
 //!
-//! An event that is inserted or struck may change a few rows of each trigger that counts held events,
-//! and these are reported: they are found by the triggers that act at the event and by what is kept
-//! after it. The rows of triggers that count made events are named apart (`Edited::made`).
+//! An event that is inserted or struck may change a few rows of each trigger that counts held
+//! events, and these are reported: they are found by the triggers that act at the event and by what
+//! is kept after it. The rows of triggers that count made events are named apart (`Edited::made`).
 //!
 //! ```ignore
 //! let mut board = KeptBoard::new(rt.alloc());
@@ -56,26 +58,28 @@
 //! events than are held, where that takes more tests.
 //!
 //! **Reports.** That `insert` and `strike` have a report wherever the tables have the edit, and
-//! memory for the report is found, is how the source does it. What they name is `ft_report`'s
-//! report of the acts that were gathered as the event came or went, by what is kept after it:
-//! clauses of `let_come`, `let_go` and the private `report` say that, and the private law
-//! `reported_edits` that such a report is one of the bases before and after the edit. No edit is
-//! put off for its report: `Acted::add` and `report` refuse nothing; where memory for either runs
-//! out there is no report, and the repair goes on. Of a strike of a hit of triggers without a
+//! memory for the report is found, is how the source does it: both are one method, `Views::change`,
+//! for either sign. What they name is `ft_report`'s report of the acts that were gathered as the
+//! event came or went, by what is kept after it, which the private law `reported_edits` proves to
+//! be a report of the bases before and after the edit (`specs/inner/Reported.antt`). No edit is put
+//! off for its report: `Acted::add` and `Views::report` refuse nothing; where memory for either
+//! runs out there is no report, and the repair goes on. Of a strike of a hit of triggers without a
 //! variable alone, the clause `now` says so; of others, a test that refuses each growth of memory
 //! in turn. The rows of made events are found between the repair and the mending, from the notes,
-//! and hold of the tables before and after it: that is a clause of the private `turned`
+//! and hold of the tables before and after it: that is a clause of `Views::turned`
 //! (`specs/inner/Turned.antt`).
 #![tactic(auto)]
 
+mod answers;
+mod edits;
 mod kept;
 pub mod laws;
 mod made;
 mod mend;
 mod readings;
 mod report;
-mod told;
 mod turned;
+mod views;
 
 pub use ft_answers::{Board, PlainBoard};
 pub use kept::KeptBoard;

@@ -1,10 +1,8 @@
 //! Tables of the events that readings make, beside the shelves: made anew where the shelves are built
 //! anew, or a trigger comes, gets another filter, or goes that read.
 
-ghost use Rattle.std.specs.Prelude.{◌≡◌, true, false, None, is_some, IfOk, IfSome, OnErr};
-ghost use Rattle.std.specs.Option.{is_none};
+ghost use Rattle.std.specs.Prelude.{◌≡◌, true, false, is_some, IfOk, OnErr};
 ghost use Rattle.std.specs.Ordering.{nat_cmp};
-ghost use Rattle.std.specs.FinMap as map;
 ghost use Rattle.ft_hist.specs.Steps.{StepsGrow};
 ghost use Rattle.ft_maps.specs.Seen.{seen};
 ghost use Rattle.ft_replay.specs.Merged.{merged};
@@ -12,72 +10,26 @@ ghost use Rattle.ft_made.specs.Making.{MakeNone};
 ghost use Rattle.ft_made.specs.MadeTables.{found_in};
 ghost use Rattle.ft_answers.specs.Counting.{CountNone, MakesNothing, ReadersMakeNone};
 ghost use Rattle.ft_base.specs.Roles.{is_reader};
-ghost use Rattle.ft_answers.specs.Edited.{kept_of};
 ghost use Rattle.ft_repair.specs.KeptShelves.{AreKeptOf};
 ghost use Rattle.ft_board.specs.MadeShelves.{AreMade, AreMadeBy};
 ghost use Rattle.ft_board.specs.inner.Readings.{readings_on};
 
 use crate::readings::ShelfReadings;
-use ft_answers::{Kept, counts_made};
+use ft_answers::counts_made;
 use ft_base::Content;
 use ft_hist::{Trigger, Work};
 use ft_kept::Tables;
 use ft_lanes::Lanes;
 use ft_made::made_table;
-use ft_maps::{entries, put, take};
+use ft_maps::{entries, put};
 use ft_repair::laws;
 use ft_table::Table;
 use std::alloc::{AllocError, Global};
 use std::collections::BTreeMap;
 
-/// Gives the tables of made events up, and makes them anew where there are shelves: whether there
-/// are some then. Where memory runs out, the shelves are given up too; where no made event is
-/// counted, it takes neither memory nor steps.
-pub(crate) fn remake(
-    kept: &mut Option<Tables>,
-    made: &mut BTreeMap<u32, Table>,
-    alloc: Global,
-    content: &Content,
-    work: &mut Work,
-) -> Kept
-    requires { IfSome kept.old (AreKeptOf content.now) }
-    ensures kept { IfSome kept.new (AreKeptOf content.now) }
-    ensures made { IfSome kept.new (λ _. AreMade content.now (seen nat_cmp made.new)) }
-    ensures deferred { kept.old ≡ None → kept.new ≡ None }
-    ensures answer { result ≡ kept_of (is_none kept.new) }
-    ensures nothing { MakesNothing content.now.triggers
-        → (kept.new ≡ kept.old) × (work.new ≡ work.old) }
-    ensures grow { StepsGrow work.old work.new }
-{
-    *made = BTreeMap::new(alloc);
-    let Some(tables) = kept.take() else {
-        return Kept::Later;
-    };
-    match made_tables(alloc, content, &tables, work) {
-        Ok(remade) => {
-            *made = remade;
-            *kept = Some(tables);
-            Kept::Now
-        }
-        Err(_) => Kept::Later,
-    }
-}
-
-/// Takes the table of made events of one trigger away: whether there are tables still.
-pub(crate) fn drop_made(kept: &Option<Tables>, made: &mut BTreeMap<u32, Table>, id: u32) -> Kept
-    ensures made { seen nat_cmp made.new ≡ map.remove (seen nat_cmp made.old) id }
-    ensures answer { result ≡ kept_of (is_none kept.now) }
-{
-    take(made, &id);
-    if kept.is_none() {
-        return Kept::Later;
-    }
-    Kept::Now
-}
-
 /// The tables of the attached triggers that count made events, where some are made. Refused for
 /// memory.
-fn made_tables(
+pub(crate) fn made_tables(
     alloc: Global,
     content: &Content,
     tables: &Tables,

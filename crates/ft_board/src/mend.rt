@@ -3,21 +3,22 @@
 //! found go from the tables, and those that are made of what they find come.
 
 ghost use Rattle.std.specs.Prelude.{◌≡◌, false, None, Ok, IfSome, OnOk};
-ghost use Rattle.std.specs.Option.{is_none};
 ghost use Rattle.std.specs.Ordering.{nat_cmp};
 ghost use Rattle.ft_hist.specs.Steps.{StepsGrow};
 ghost use Rattle.ft_maps.specs.Seen.{seen};
 ghost use Rattle.ft_replay.specs.Merged.{merged};
-ghost use Rattle.ft_made.specs.MadeTables.{IsMadeTable, found_in};
+ghost use Rattle.ft_made.specs.MadeTables.{found_in};
 ghost use Rattle.ft_answers.specs.Counting.{CountNone, MakesNothing, ReadersMakeNone};
-ghost use Rattle.ft_answers.specs.Edited.{kept_of};
 ghost use Rattle.ft_board.specs.MadeShelves.{AreMadeBy, made_on};
-ghost use Rattle.ft_board.specs.inner.Mending.{AreAlike, CanMend, FindTheSame, MakersRead};
+ghost use Rattle.ft_board.specs.inner.Mending.{AreAlike, AreNoted, CanMend, FindTheSame, MakersRead};
 ghost use Rattle.ft_board.specs.inner.Mending.{CanTurnOn, HasTurnedOn, NothingNoted, OthersStay};
-ghost use Rattle.ft_board.specs.inner.Mending.{had_by, is_noted_on};
+ghost use Rattle.ft_board.specs.inner.Mending.{FindsMade, HadMade, events_in, is_noted_on, triggers_in};
 ghost use Rattle.ft_board.specs.inner.Readings.{readings_on};
+ghost use Rattle.ft_board.specs.inner.Views.{CanBeMended, EndsAs, made_in};
+ghost use Rattle.ft_repair.specs.Repaired.{IfBoth};
 
 use crate::made::makes;
+use crate::views::Views;
 use ft_answers::{Kept, counts_made};
 use ft_base::Content;
 use ft_hist::{Trigger, Work};
@@ -33,17 +34,14 @@ use std::collections::BTreeMap;
 
 /// Takes notes from now on of what the readings had found of each attached trigger that makes
 /// events. It takes no memory.
-pub(crate) fn take_notes(kept: &mut Option<Tables>, triggers: &BTreeMap<u32, Trigger>)
-    ensures alike { IfSome kept.new (λ new. IfSome kept.old (λ old. AreAlike old new)) }
-    ensures nothing { IfSome kept.new (NothingNoted (seen nat_cmp triggers.now)) }
-    ensures reads { IfSome kept.new (λ _. MakersRead (seen nat_cmp triggers.now)) }
-    ensures deferred { kept.old ≡ None → kept.new ≡ None }
+pub(crate) fn take_notes(kept: &mut Option<Tables>, content: &Content)
+    ensures noted { AreNoted content.now.triggers kept.old kept.new }
     ensures now { kept.new ≡ None → kept.old ≡ None }
 {
     let Some(mut tables) = kept.take() else {
         return;
     };
-    note_makers(&mut tables, triggers);
+    note_makers(&mut tables, content.triggers());
     *kept = Some(tables);
 }
 
@@ -109,39 +107,33 @@ pub(crate) struct Scene<'a> {
     pub(crate) tables: &'a Tables,
 }
 
-/// Mends the tables of made events after a repair of the shelves, by the notes that were taken, and
-/// drops the notes: whether there are tables then. Where memory runs out, the shelves are given up.
-/// Where nothing was noted, it takes neither memory nor steps.
-pub(crate) fn mend(
-    kept: &mut Option<Tables>,
-    made: &mut BTreeMap<u32, Table>,
-    alloc: Global,
-    content: &Content,
-    work: &mut Work,
-) -> Kept
-    requires { IfSome kept.old (λ shelves. CanMend content.now.triggers
-        (merged content.now.lanes) shelves (seen nat_cmp made.old)) }
-    ensures alike { IfSome kept.new (λ new. IfSome kept.old (λ old. AreAlike old new)) }
-    ensures made { IfSome kept.new (λ new. AreMadeBy content.now.triggers
-        (merged content.now.lanes) (found_in (readings_on new)) (seen nat_cmp made.new)) }
-    ensures deferred { kept.old ≡ None → kept.new ≡ None }
-    ensures answer { result ≡ kept_of (is_none kept.new) }
-    ensures quiet { IfSome kept.old (NothingNoted content.now.triggers)
-        → kept.new ≡ None → kept.old ≡ None }
-    ensures nothing { MakesNothing content.now.triggers
-        → (kept.new ≡ None → kept.old ≡ None) × (work.new ≡ work.old) }
-    ensures grow { StepsGrow work.old work.new }
-{
-    let Some(mut tables) = kept.take() else {
-        return Kept::Later;
-    };
-    match turn_tables(made, alloc, content, &tables, work) {
-        Ok(()) => {
-            drop_notes(&mut tables, content.triggers());
-            *kept = Some(tables);
-            Kept::Now
+impl Views {
+    /// Mends the tables of made events after a repair of the shelves, by the notes that were taken,
+    /// and drops the notes: whether there are shelves then. Where memory runs out, they are given
+    /// up. Where nothing was noted, it takes neither memory nor steps.
+    pub(crate) fn mend(&mut self, content: &Content) -> Kept
+        requires { CanBeMended content.now self.old }
+        ensures alike { IfBoth AreAlike self.old.shelves self.new.shelves }
+        ensures made { IfSome self.new.shelves (λ shelves. AreMadeBy content.now.triggers
+            (merged content.now.lanes) (found_in (readings_on shelves)) (made_in self.new)) }
+        ensures ends { EndsAs result self.old self.new }
+        ensures quiet { IfSome self.old.shelves (NothingNoted content.now.triggers)
+            → self.new.shelves ≡ None → self.old.shelves ≡ None }
+        ensures nothing { MakesNothing content.now.triggers
+            → (self.new.shelves ≡ None → self.old.shelves ≡ None)
+            × (self.new.work ≡ self.old.work) }
+    {
+        let Some(mut tables) = self.shelves.take() else {
+            return Kept::Later;
+        };
+        match turn_tables(&mut self.made, self.alloc, content, &tables, &mut self.work) {
+            Ok(()) => {
+                drop_notes(&mut tables, content.triggers());
+                self.shelves = Some(tables);
+                Kept::Now
+            }
+            Err(_) => Kept::Later,
         }
-        Err(_) => Kept::Later,
     }
 }
 
@@ -183,12 +175,11 @@ fn turn_counting(
     scene: &Scene<'_>,
     work: &mut Work,
 ) -> Result<(), AllocError>
-    requires { CanMend (seen nat_cmp scene.now.triggers.now) (merged scene.now.lanes.now)
-        scene.now.tables.now (seen nat_cmp made.old) }
-    ensures made { OnOk result (AreMadeBy (seen nat_cmp scene.now.triggers.now)
-        (merged scene.now.lanes.now) (found_in (readings_on scene.now.tables.now))
-        (seen nat_cmp made.new)) }
-    ensures idle { CountNone (seen nat_cmp scene.now.triggers.now)
+    requires { CanMend (triggers_in scene.now) (events_in scene.now) scene.now.tables.now
+        (seen nat_cmp made.old) }
+    ensures made { OnOk result (AreMadeBy (triggers_in scene.now) (events_in scene.now)
+        (found_in (readings_on scene.now.tables.now)) (seen nat_cmp made.new)) }
+    ensures idle { CountNone (triggers_in scene.now)
         → (result ≡ Ok tt) × (work.new ≡ work.old) }
     ensures grow { StepsGrow work.old work.new }
 {
@@ -208,10 +199,8 @@ fn turn_kept(
     trigger: &Trigger,
     work: &mut Work,
 ) -> Result<(), AllocError>
-    requires { IsMadeTable (seen nat_cmp scene.now.triggers.now) (merged scene.now.lanes.now)
-        (had_by scene.now.tables.now) trigger.now (made_on (seen nat_cmp made.old) id trigger.now) }
-    ensures turned { OnOk result (IsMadeTable (seen nat_cmp scene.now.triggers.now)
-        (merged scene.now.lanes.now) (found_in (readings_on scene.now.tables.now)) trigger.now
+    requires { HadMade scene.now trigger.now (made_on (seen nat_cmp made.old) id trigger.now) }
+    ensures turned { OnOk result (FindsMade scene.now trigger.now
         (made_on (seen nat_cmp made.new) id trigger.now)) }
     ensures others { OnOk result (OthersStay id (seen nat_cmp made.old) (seen nat_cmp made.new)) }
     ensures grow { StepsGrow work.old work.new }
@@ -234,11 +223,8 @@ fn turn_makers(
     trigger: &Trigger,
     work: &mut Work,
 ) -> Result<(), AllocError>
-    requires { IsMadeTable (seen nat_cmp scene.now.triggers.now) (merged scene.now.lanes.now)
-        (had_by scene.now.tables.now) trigger.now table.old }
-    ensures turned { OnOk result (IsMadeTable (seen nat_cmp scene.now.triggers.now)
-        (merged scene.now.lanes.now) (found_in (readings_on scene.now.tables.now)) trigger.now
-        table.new) }
+    requires { HadMade scene.now trigger.now table.old }
+    ensures turned { OnOk result (FindsMade scene.now trigger.now table.new) }
     ensures grow { StepsGrow work.old work.new }
 {
     for (id, maker) in entries(scene.triggers) {
@@ -259,9 +245,9 @@ fn turn_maker(
     maker: &Trigger,
     work: &mut Work,
 ) -> Result<(), AllocError>
-    requires { CanTurnOn (merged scene.now.lanes.now) id maker.now scene.now.tables.now trigger.now
+    requires { CanTurnOn (events_in scene.now) id maker.now scene.now.tables.now trigger.now
         table.old }
-    ensures turned { OnOk result (HasTurnedOn (merged scene.now.lanes.now) id maker.now
+    ensures turned { OnOk result (HasTurnedOn (events_in scene.now) id maker.now
         scene.now.tables.now trigger.now table.old table.new) }
     ensures grow { StepsGrow work.old work.new }
 {

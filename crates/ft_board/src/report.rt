@@ -3,33 +3,30 @@
 ghost use Rattle.std.specs.Prelude.{◌≡◌, None, IfSome};
 ghost use Rattle.ft_board.specs.inner.Reported.{IsReportBy, RepairsReported};
 
+use crate::views::Views;
 use ft_base::Content;
-use ft_kept::{Acted, Tables};
+use ft_kept::Acted;
 use ft_repair::kept_shelves;
 use ft_report::changed_rows;
 use ft_rivals::Changed;
-use std::alloc::Global;
 
-/// The rows that may differ with an event and without it, by what was gathered as it came or went
-/// and by what is kept after it. None where nothing is kept or nothing was gathered, or where
-/// memory runs out.
-pub(crate) fn report(
-    kept: &Option<Tables>,
-    alloc: Global,
-    content: &Content,
-    acted: &Acted,
-) -> Option<Vec<Changed>>
-    ensures none { kept.now ≡ None → result ≡ None }
-    ensures rows { IfSome result (λ rows.
-        IsReportBy content.now.triggers kept.now acted.now rows.items) }
-{
-    let Some(tables) = kept else {
-        return None;
-    };
-    let Some(acting) = acted.all() else {
-        return None;
-    };
-    changed_rows(alloc, tables, content.triggers(), acting).ok()
+impl Views {
+    /// The rows that may differ with an event and without it, by what was gathered as it came or
+    /// went and by what is kept after it. None where there are no shelves or nothing was gathered,
+    /// or where memory runs out.
+    pub(crate) fn report(&self, content: &Content, acted: &Acted) -> Option<Vec<Changed>>
+        ensures none { self.now.shelves ≡ None → result ≡ None }
+        ensures rows { IfSome result (λ rows.
+            IsReportBy content.now.triggers self.now.shelves acted.now rows.items) }
+    {
+        let Some(tables) = &self.shelves else {
+            return None;
+        };
+        let Some(acting) = acted.all() else {
+            return None;
+        };
+        changed_rows(self.alloc, tables, content.triggers(), acting).ok()
+    }
 }
 
 /// A law: the report that shelves give after the repair for one event has all rows of triggers that

@@ -11,11 +11,13 @@ ghost use Rattle.ft_rivals.specs.Rivals.{rivals};
 ghost use Rattle.ft_table.specs.Hits.{same_key};
 ghost use Rattle.ft_answers.specs.Counting.{CountNone, MakesNothing};
 ghost use Rattle.ft_board.specs.MadeShelves.{made_on};
-ghost use Rattle.ft_board.specs.inner.Mending.{CanMend};
+ghost use Rattle.ft_board.specs.inner.Mending.{events_in, triggers_in};
 ghost use Rattle.ft_board.specs.inner.Turned.{AreTurnedRows, keys_by, keys_of, rows_of, rows_turned};
+ghost use Rattle.ft_board.specs.inner.Views.{CanBeMended, made_in};
 
 use crate::made::makes;
 use crate::mend::{Scene, is_noted};
+use crate::views::Views;
 use ft_answers::counts_made;
 use ft_base::Content;
 use ft_hist::{Key, Trigger, Work};
@@ -28,39 +30,35 @@ use ft_table::Table;
 use std::alloc::{AllocError, Global};
 use std::collections::BTreeMap;
 
-/// The rows of tables of made events that may differ as they are mended: none of them, where nothing
-/// was noted. `None` where nothing is kept, or where memory runs out.
-pub(crate) fn turned(
-    kept: &Option<Tables>,
-    made: &BTreeMap<u32, Table>,
-    alloc: Global,
-    content: &Content,
-    work: &mut Work,
-) -> Option<Vec<Changed>>
-    requires { IfSome kept.now (λ shelves. CanMend content.now.triggers
-        (merged content.now.lanes) shelves (seen nat_cmp made.now)) }
-    ensures rows { IfSome result (λ rows. IfSome kept.now (λ shelves. AreTurnedRows
-        content.now.triggers (merged content.now.lanes) shelves (seen nat_cmp made.now)
-        rows.items)) }
-    ensures nothing { MakesNothing content.now.triggers → work.new ≡ work.old }
-    ensures grow { StepsGrow work.old work.new }
-{
-    ft_rivals::some_rivals();
-    ft_made::turned_keys();
-    let Some(tables) = kept else {
-        return None;
-    };
-    let (lanes, triggers) = (content.lanes(), content.triggers());
-    if !is_noted(tables, triggers) {
-        return Some(Vec::new(alloc));
+impl Views {
+    /// The rows of tables of made events that may differ as they are mended: none of them, where
+    /// nothing was noted. `None` where there are no shelves, or where memory runs out.
+    pub(crate) fn turned(&mut self, content: &Content) -> Option<Vec<Changed>>
+        requires { CanBeMended content.now self.old }
+        ensures stay { self.new ≡ record self.old { work = self.new.work } }
+        ensures rows { IfSome result (λ rows. IfSome self.old.shelves (λ shelves. AreTurnedRows
+            content.now.triggers (merged content.now.lanes) shelves (made_in self.old)
+            rows.items)) }
+        ensures nothing { MakesNothing content.now.triggers → self.new.work ≡ self.old.work }
+        ensures grow { StepsGrow self.old.work self.new.work }
+    {
+        ft_rivals::some_rivals();
+        ft_made::turned_keys();
+        let Some(tables) = &self.shelves else {
+            return None;
+        };
+        let (lanes, triggers) = (content.lanes(), content.triggers());
+        if !is_noted(tables, triggers) {
+            return Some(Vec::new(self.alloc));
+        }
+        let scene = Scene {
+            alloc: self.alloc,
+            lanes,
+            triggers,
+            tables,
+        };
+        turned_rows(&self.made, &scene, &mut self.work).ok()
     }
-    let scene = Scene {
-        alloc,
-        lanes,
-        triggers,
-        tables,
-    };
-    turned_rows(made, &scene, work).ok()
 }
 
 /// Rows that were told before the tables were mended, where they are mended.
@@ -80,10 +78,9 @@ fn turned_rows(
     scene: &Scene<'_>,
     work: &mut Work,
 ) -> Result<Vec<Changed>, AllocError>
-    ensures rows { IfOk result (λ rows. rows.items ≡ rows_turned
-        (seen nat_cmp scene.now.triggers.now) (merged scene.now.lanes.now) scene.now.tables.now
-        (seen nat_cmp made.now)) }
-    ensures idle { CountNone (seen nat_cmp scene.now.triggers.now) → work.new ≡ work.old }
+    ensures rows { IfOk result (λ rows. rows.items ≡ rows_turned (triggers_in scene.now)
+        (events_in scene.now) scene.now.tables.now (seen nat_cmp made.now)) }
+    ensures idle { CountNone (triggers_in scene.now) → work.new ≡ work.old }
     ensures grow { StepsGrow work.old work.new }
 {
     let mut rows = Vec::new(scene.alloc);
@@ -105,9 +102,8 @@ fn put_trigger(
     trigger: &Trigger,
     work: &mut Work,
 ) -> Result<(), AllocError>
-    ensures rows { OnOk result (rows.new.items ≡ rows.old.items
-        ++ rows_of (seen nat_cmp scene.now.triggers.now) (merged scene.now.lanes.now)
-        scene.now.tables.now (seen nat_cmp made.now) id trigger.now) }
+    ensures rows { OnOk result (rows.new.items ≡ rows.old.items ++ rows_of (triggers_in scene.now)
+        (events_in scene.now) scene.now.tables.now (seen nat_cmp made.now) id trigger.now) }
     ensures grow { StepsGrow work.old work.new }
 {
     let mut keys = keys_turned(scene, trigger, work)?;
@@ -141,8 +137,8 @@ fn keys_turned(
     trigger: &Trigger,
     work: &mut Work,
 ) -> Result<Vec<Key>, AllocError>
-    ensures keys { IfOk result (λ keys. keys.items ≡ keys_of (seen nat_cmp scene.now.triggers.now)
-        (merged scene.now.lanes.now) scene.now.tables.now trigger.now) }
+    ensures keys { IfOk result (λ keys. keys.items ≡ keys_of (triggers_in scene.now)
+        (events_in scene.now) scene.now.tables.now trigger.now) }
     ensures grow { StepsGrow work.old work.new }
 {
     let mut keys = Vec::new(scene.alloc);
@@ -165,7 +161,7 @@ fn put_maker(
     work: &mut Work,
 ) -> Result<(), AllocError>
     ensures keys { OnOk result (keys.new.items ≡ keys.old.items
-        ++ keys_by (merged scene.now.lanes.now) scene.now.tables.now trigger.now id maker.now) }
+        ++ keys_by (events_in scene.now) scene.now.tables.now trigger.now id maker.now) }
     ensures grow { StepsGrow work.old work.new }
 {
     let Some(shelf) = scene.tables.shelf(id) else {

@@ -1,7 +1,6 @@
 -- Which tables stay as one trigger's act comes or goes, and how few things it puts into maps.
 use Rattle.std.proofs.Common.{◌≡◌, ℕ, ◌+◌, ◌*◌, ◌≤◌, Bool, true, false, cond, List, refl, sym, ap, subst, ◌∙◌, Some, None, Option, inl, inr, arith}
 use Rattle.std.specs.Prelude.{◌⊎◌, ◌&&◌, option_map}
-use Rattle.std.specs.Option.{option_map_or}
 use Rattle.std.specs.Ordering.{nat_cmp}
 use Rattle.std.specs.FinMap as map
 use Rattle.std.specs.FinMap.{FinMap}
@@ -12,19 +11,15 @@ use Rattle.ft_hist.specs.Hit.{hit, key_of, passes_filter, same_name}
 use Rattle.ft_hist.specs.Steps.{Steps, StepsGrow}
 use Rattle.ft_keys.specs.declared.key.Part.{Part}
 use Rattle.ft_pairs.specs.Source.{Ops}
-use Rattle.ft_pairs.specs.declared.at.At.{At}
-use Rattle.ft_table.specs.Tabled.{Tabled}
-use Rattle.ft_table.specs.Spots.{traced}
 use Rattle.ft_kept.specs.inner.OneAct.{IsDoneToo}
-use Rattle.ft_kept.specs.Bounds.{TableEdit, TableMoves, SaverMoves, SomeSaverMoves, OtherSaversStay, table_on}
+use Rattle.ft_kept.specs.Bounds.{TableEdit, SaverMoves, SomeSaverMoves, OtherSaversStay, table_on}
 use Rattle.ft_hist.specs.Tests.{asked}
 use Rattle.ft_shelves.specs.Shelves.{ChangesShelf, Shelved, Shelves, FormsStay, is_saver, role_on}
 use Rattle.ft_shelves.specs.Edits.{OpsChange}
 use Rattle.ft_kept.specs.inner.Edits.{ReaderChanges, ReadersChange}
 use Rattle.ft_pairs.specs.declared.role.Role.TheVariants.{Saves}
 use Rattle.ft_shelves.proofs.Decided.{none_not_some}
-use Rattle.ft_kept.proofs.Forms.{by_id, read_forms, readers_refl, readers_trans, role_at, roles_stay}
-use Rattle.ft_kept.proofs.Taking.{TakesNoted, noted_take_forms}
+use Rattle.ft_kept.proofs.Forms.{by_id, read_forms, readers_trans, role_at, roles_stay}
 
 -- ---- tables
 
@@ -55,9 +50,6 @@ ops_tables saver key edit old new h id = by_id (λ i. table_on new i ≡ table_o
 
 -- ---- the tables of all savers but one trigger
 
-pub savers_refl : (id : ℕ) (shelves : Shelves) → OtherSaversStay id shelves shelves
-savers_refl id shelves other apart saves = refl
-
 pub savers_trans : (id : ℕ) (a b c : Shelves) → FormsStay a b → OtherSaversStay id a b → OtherSaversStay id b c → OtherSaversStay id a c
 savers_trans id a b c forms h k other apart saves = k other apart (roles_stay a b forms other ∙ saves) ∙ h other apart saves
 
@@ -77,13 +69,6 @@ savers_of_ops id saver key edit old new h other apart saves = ops_tables saver k
 pub reading_savers : (id saver : ℕ) (key : List Part) (edit : Ops → Ops) (old put mid new : Shelves) → ChangesShelf saver (OpsChange key edit) old put → ReadersChange put mid → ReadersChange mid new → OtherSaversStay id old new
 reading_savers id saver key edit old put mid new h first last =
     savers_trans id old put new (read_forms saver key edit old put h) (savers_of_ops id saver key edit old put h) (savers_of_readers id put new (readers_trans put mid new first last))
-
--- and goes: its hit, after a note, its read, and then what the next reading counts and reads
-pub reading_less_savers : (at : At) (saver : ℕ) (key : List Part) (edit : Ops → Ops) (old took less new : Shelves) → ChangesShelf at.trigger (TakesNoted (record { spot = traced at.pos; key = key })) old took
-    → ChangesShelf saver (OpsChange key edit) took less → ReadersChange less new → OtherSaversStay at.trigger old new
-reading_less_savers at saver key edit old took less new hit h last =
-    savers_trans at.trigger old took new (noted_take_forms old took at key hit) (savers_but at.trigger old took hit.others)
-    (reading_savers at.trigger saver key edit took less less new h (readers_refl less) last)
 
 -- ---- steps
 
@@ -129,20 +114,12 @@ module _ (edit : TableEdit) (triggers : FinMap nat_cmp Hist) (start now : Shelve
 -- ---- one act
 
 -- a hit's event is tested once
-hit_asked : (hist : Hist) (event : Traced) (key : List Part) → hit hist event ≡ Some key → asked hist event ≡ 1
+pub hit_asked : (hist : Hist) (event : Traced) (key : List Part) → hit hist event ≡ Some key → asked hist event ≡ 1
 hit_asked hist event key one = by (same_name hist.event (name_of event.body)) refl
   where
     by : (b : Bool) → same_name hist.event (name_of event.body) ≡ b → asked hist event ≡ 1
     by true is = ap (λ b. cond b 1 0) is
     by false is = absurd (none_not_some (hit hist event) key (ap (λ b. cond (b && passes_filter hist.filter event) (key_of hist.keys event) None) is) one)
-
--- a saver's act takes three puts at most, or moves keys of its table
-pub act_few : (edit : List Part → Tabled → Tabled) (hist : Hist) (event : Traced) (key : List Part) → hit hist event ≡ Some key → (shelves : Shelves) (id : ℕ) → role_on shelves id ≡ Saves
-    → (before mid after few : ℕ) → few ≤ 3 → mid ≡ before → (after ≤ mid + few) ⊎ TableMoves (edit key) shelves id
-    → (after ≤ before + 3 * asked hist event) ⊎ ((role_on shelves id ≡ Saves) × TableMoves (λ table. option_map_or (λ key. edit key table) (hit hist event) table) shelves id)
-act_few edit hist event key one shelves id saves before mid after few three same (inl less) = inl (omega (arith, three, same, less, hit_asked hist event key one))
-act_few edit hist event key one shelves id saves before mid after few three same (inr moves) =
-    inr (saves, subst (λ (o : Option (List Part)). TableMoves (λ table. option_map_or (λ key. edit key table) o table) shelves id) (sym one) moves)
 
 -- ---- the triggers that are left
 

@@ -20,7 +20,7 @@ use Rattle.ft_kept.specs.Acts.{Acts, op_of}
 use Rattle.ft_kept.specs.inner.OneAct.{IsOneAct}
 use Rattle.ft_kept.specs.Entries.{HitsHere, IsEntry, IsKept, IsKeptBut, IsOwn, IsRight, hits_here, one_hit, read_here}
 use Rattle.ft_kept.specs.inner.Edits.{StaysBut}
-use Rattle.ft_kept.specs.inner.Owed.{is_next_read, is_read, is_switched, is_switched_as, one_owes}
+use Rattle.ft_kept.specs.inner.Owed.{is_next_read, is_read, is_switched, is_switched_as}
 use Rattle.ft_pairs.specs.Roles.{Admits, op_as, variable_of}
 use Rattle.ft_shelves.specs.Shelves.{Kept}
 use Rattle.ft_shelves.specs.Switches.{differ}
@@ -29,7 +29,7 @@ use Rattle.ft_pairs.specs.Variables.{variable_cmp, variable_cmp_total, variable_
 use Rattle.ft_pairs.specs.declared.role.Role.{Role}
 use Rattle.ft_pairs.specs.declared.role.Role.TheVariants.{Plain, Saves, Reads}
 use Rattle.ft_pairs.specs.declared.role.Variable.{Variable}
-use Rattle.ft_shelves.proofs.Decided.{not_below, not_below_same, itself, tied, untied, at_decided, variable_decided, or_true, or_left, or_right, none_not_some}
+use Rattle.ft_shelves.proofs.Decided.{not_below, not_below_same, itself, tied, untied, at_decided, variable_decided, or_left, or_right, none_not_some}
 
 -- ---- sources
 
@@ -255,19 +255,6 @@ module _ (role : ℕ → Role) (values : ValuesBy) (was now : Admits) (before af
     where
       switched : (saver : ℕ) (b : List Part × Traced) → role q.trigger ≡ Reads saver → before q ≡ Some b → is_switched role was now after q ≡ differ (was saver b.0) (now saver b.0)
       switched saver b reads at = ap (λ r. is_switched_as was now r (after q)) reads ∙ ap (is_switched_as was now (Reads saver)) (one.elsewhere q apart ∙ at)
-
-  -- one act that comes or goes owes its own place, the next reading, and the readings of keys that came in or went out
-  pub one_act_owes : IsOwn (after c) (hits_here new c) → IsKeptBut role values now after new (one_owes role was now after c next)
-  one_act_owes own = record {
-    ops = ops;
-    entries = λ q. elim (at_decided q c) [
-      | inl at ↦ inl (ap (λ b. b || (is_next_read next q || is_switched role was now after q)) (ap (λ p. eq_by_cmp at_cmp p c) at ∙ itself at_cmp_total c), subst (λ p. IsOwn (after p) (hits_here new p)) (sym at) own)
-      | inr apart ↦ elim (is_next_read next q || is_switched role was now after q) as (λ b. (is_next_read next q || is_switched role was now after q) ≡ b → ((one_owes role was now after c next q ≡ true) × IsOwn (after q) (hits_here new q)) ⊎ IsRight role values after new q) [
-        | true ↦ λ owed. inl (or_true (eq_by_cmp at_cmp q c) (is_next_read next q || is_switched role was now after q) owed, own_apart q apart)
-        | false ↦ λ nothing. inr (right_apart q apart (or_left (is_next_read next q) (is_switched role was now after q) nothing) (or_right (is_next_read next q) (is_switched role was now after q) nothing))
-      ] refl
-    ];
-  }
 
   -- where its own place is right, it owes the next reading, and the readings of keys that came in or went out
   pub one_act_right : IsRight role values after new c → IsKeptBut role values now after new (λ q. is_next_read next q || is_switched role was now after q)

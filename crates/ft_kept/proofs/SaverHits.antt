@@ -1,204 +1,198 @@
--- A saver's hit comes: the operations on what it saves have followed, and what readings found is owed.
-use Rattle.std.proofs.Common.{◌≡◌, ℕ, Bool, false, refl, sym, ap, subst, ◌∙◌, Some, None, Option, inl, inr}
-use Rattle.std.specs.Prelude.{◌⊎◌, ◌&&◌, List, ℤ, if◌then◌else◌}
-use Rattle.std.specs.Ordering.{nat_cmp}
+-- A saver's hit comes or goes: the operations on what it saves have followed, and what readings found is owed.
+use Rattle.std.proofs.Common.{◌≡◌, ℕ, refl, sym, ap, subst, ◌∙◌, Some, None, Option, inl, inr, unwrap_or}
+use Rattle.std.specs.Prelude.{◌&&◌, List, ℤ, false, if◌then◌else◌}
 use Rattle.std.specs.Cmp.{nat_cmp_total}
 use Rattle.std.specs.FinMap as map
-use Rattle.std.specs.FinMap.{FinMap, nat_cmp-IsAntisymmetric}
+use Rattle.std.specs.FinMap.{nat_cmp-IsAntisymmetric}
 use Rattle.std.proofs.lemmas.Bool.{true≢false}
 use Rattle.ft_fields.specs.Traced.{Traced}
 use Rattle.ft_fields.specs.declared.pos.Pos.{Pos}
-use Rattle.ft_hist.specs.Hist.{Hist}
-use Rattle.ft_keys.specs.Orders.{key_cmp_total}
-use Rattle.ft_keys.specs.Ties.{key_same}
 use Rattle.ft_keys.specs.declared.key.Part.{Part}
-use Rattle.ft_lanes.specs.Held.{Lanes}
 use Rattle.ft_pairs.specs.ByKey.{ops_of}
 use Rattle.ft_pairs.specs.Next.{IsNext}
+use Rattle.ft_pairs.specs.Roles.{variable_of}
 use Rattle.ft_pairs.specs.Source.{Ops}
 use Rattle.ft_pairs.specs.declared.at.At.{At}
-use Rattle.ft_table.specs.Tabled.{Tabled, is_in}
-use Rattle.ft_table.specs.Spots.{traced}
-use Rattle.ft_kept.specs.Acts.{Acts, Comes, op_of}
-use Rattle.ft_kept.specs.Entries.{HitsHere, IsEntry, IsKept, IsRight, hits_here, one_hit, read_here}
-use Rattle.ft_kept.specs.Repairs.{CanCome}
-use Rattle.ft_kept.specs.inner.Settling.{HasComeOwing}
-use Rattle.ft_pairs.specs.Roles.{variable_of}
-use Rattle.ft_shelves.specs.Shelves.{FormsStay, Shelved, Shelves, admits_on, is_saver, kept_on, role_on}
-use Rattle.ft_shelves.specs.Following.{HitFollows, Moves, MovesKeys, followed, switched, switched_with}
-use Rattle.ft_shelves.specs.Switches.{Members}
-use Rattle.ft_table.specs.Values.{ValuesBy, values_at, values_by}
-use Rattle.ft_pairs.specs.declared.role.Role.{Role}
-use Rattle.ft_pairs.specs.declared.role.Role.TheVariants.{Saves}
+use Rattle.ft_pairs.specs.declared.at.Op.TheVariants.{Save}
+use Rattle.ft_pairs.specs.declared.role.Role.TheVariants.{Plain, Saves}
 use Rattle.ft_pairs.specs.declared.role.Variable.{Variable}
-use Rattle.ft_shelves.proofs.Decided.{at_decided, decided, itself, key_decided, untied}
-use Rattle.ft_kept.proofs.Following.{none_outside, other_follows, own_follows}
-use Rattle.ft_kept.proofs.Forms.{made_with, admits_by, edited, hits_by, ops_by, role_at, same_admits, same_ops}
+use Rattle.ft_hits.specs.declared.mark.Mark.{Mark}
+use Rattle.ft_table.specs.Hits.{same_key}
+use Rattle.ft_table.specs.Spots.{traced}
+use Rattle.ft_table.specs.Tabled.{Tabled, is_in}
+use Rattle.ft_table.specs.Values.{ValuesBy, values_by}
+use Rattle.ft_shelves.specs.Changes.{mark_of, op_after, readings_after, set_op, table_with}
+use Rattle.ft_shelves.specs.Following.{HitFollows, IsUnsaved, Moves, MovesKeys, switched}
+use Rattle.ft_shelves.specs.Shelves.{FormsStay, Shelved, Shelves, admits_on, is_saver, kept_on, role_on}
+use Rattle.ft_shelves.specs.Switches.{Members}
+use Rattle.ft_shelves.specs.declared.sign.Sign.{Sign}
+use Rattle.ft_shelves.specs.declared.sign.Sign.TheVariants.{Insert, Retract}
+use Rattle.ft_kept.specs.Acts.{Acts, AreHeld, op_of}
+use Rattle.ft_kept.specs.Entries.{HitsHere, IsEntry, IsKept, hits_here, read_here}
+use Rattle.ft_kept.specs.Signs.{act_before, act_after}
+use Rattle.ft_kept.specs.Views.{triggers_of}
+use Rattle.ft_kept.specs.declared.act.Act.{Act}
+use Rattle.ft_kept.specs.declared.act.Scene.{Scene}
+use Rattle.ft_kept.specs.inner.Acting.{own_variable}
+use Rattle.ft_kept.specs.inner.Changing.{MayChange, acts_after, change_of}
+use Rattle.ft_kept.specs.inner.Edits.{StaysBut}
+use Rattle.ft_kept.specs.inner.OneAct.{IsOneAct}
+use Rattle.ft_kept.specs.inner.Settling.{HasChangedOwing}
+use Rattle.ft_shelves.proofs.Decided.{at_decided, decided}
+use Rattle.ft_kept.proofs.Following.{Told, all_follow, none_outside, others_stay}
+use Rattle.ft_kept.proofs.Forms.{admits_by, edited, hits_by, ops_by, role_at, same_admits, same_ops}
 use Rattle.ft_kept.proofs.Noting.{notes_saver}
-use Rattle.ft_kept.proofs.Owing.{one_act_right, op_absent, op_elsewhere, op_none}
-use Rattle.ft_kept.proofs.Putting.{absent_hits, absent_read, one_comes, put_here, put_right, put_stays, values_there}
+use Rattle.ft_kept.proofs.HitShelf.{here_after, here_before, here_right, stays}
+use Rattle.ft_kept.proofs.OneHit.{made_stay, mark_at, mark_is, sign_is, size_stays}
+use Rattle.ft_kept.proofs.Owing.{one_act_right, op_absent}
+use Rattle.ft_kept.proofs.Reading.{held_changes, one_changes}
+use Rattle.ft_kept.proofs.Views.{set_here}
 
--- ---- before the hit comes
+-- a saver has a shelf
+pub saver_there : (shelves : Shelves) (id : ℕ) → role_on shelves id ≡ Saves → map.get shelves id ≡ None → ⊥
+saver_there shelves id saves none = absurd (true≢false (sym (ap is_saver saves) ∙ ap is_saver (role_at shelves id None none)))
 
-module _ (triggers : FinMap nat_cmp Hist) (lanes : Lanes) (old : Shelves) (at : At) (shelf : Shelved) (was : map.get old at.trigger ≡ Some shelf) (key : List Part) (event : Traced)
-    (saves : role_on old at.trigger ≡ Saves) where
-  shelf_saves : shelf.role ≡ Saves
-  shelf_saves = sym (role_at old at.trigger (Some shelf) was) ∙ saves
+-- its entry tells of its act
+told_by : (values : ValuesBy) (ops : Variable → Ops) (q : At) (act : Option (List Part × Traced)) (hits : HitsHere) (read : Option Pos) → IsEntry values ops q Saves act hits read → (k : List Part) → Told act k (hits k)
+told_by values ops q None hits read e k = inl (refl, e.1 k)
+told_by values ops q (Some b) hits read e k = inr (b, values q.trigger q.pos b.1 None, (refl, e.1 k))
 
-  -- the keys that the table has
-  pub admits_old : (k : List Part) → admits_on old at.trigger k ≡ is_in shelf.table k
-  admits_old k = admits_by old at.trigger (Some shelf) was k ∙ ap (λ r. is_saver r && is_in shelf.table k) shelf_saves
+module _ (scene : Scene) (act : Act) (sign : Sign) (acts : Acts) (old : Shelves) (may : MayChange scene act sign acts Saves old) where
+  abbrev at : At
+  at = act.at
 
-  -- the operations on the shelf
-  pub ops_old : (k : List Part) (q : At) → (kept_on old).ops (record { saver = at.trigger; key = k }) q ≡ ops_of shelf.ops k q
-  ops_old k q = ops_by old at.trigger (Some shelf) was k q
+  abbrev id : ℕ
+  id = act.at.trigger
 
-  module _ (can : CanCome triggers lanes at (Some (key, event)) old) where
-    pub saver_free : map.get shelf.table.hits (record { spot = traced at.pos; key = key }) ≡ None
-    saver_free =
-        sym (hits_by old at.trigger (Some shelf) was (record { spot = traced at.pos; key = key }))
-        ∙ absent_hits (role_on old) (values_by triggers) (admits_on old) can.before (kept_on old) can.kept at can.comes.absent key
+  abbrev own : List Part × Traced
+  own = (act.key, act.event.now)
 
-    pub saver_unsaved : ops_of shelf.ops key at ≡ None
-    saver_unsaved = sym (ops_old key at) ∙ can.kept.ops (record { saver = at.trigger; key = key }) at ∙ op_absent (role_on old) (admits_on old) can.before (record { saver = at.trigger; key = key }) at can.comes.absent
+  abbrev after : Acts
+  after = acts_after sign act acts
 
-    pub saver_outside : (k : List Part) → is_in shelf.table k ≡ false → (pos : Pos) → ops_of shelf.ops k (record { pos = pos; trigger = at.trigger }) ≡ None
-    saver_outside k out pos =
-        sym (ops_old k (record { pos = pos; trigger = at.trigger }))
-        ∙ can.kept.ops (record { saver = at.trigger; key = k }) (record { pos = pos; trigger = at.trigger })
-        ∙ none_outside (role_on old) (admits_on old) can.before (record { pos = pos; trigger = at.trigger }) k saves (admits_old k ∙ out)
+  abbrev values : ValuesBy
+  values = values_by (triggers_of scene)
 
--- a saver's hit, or none
-saver_told : (values : ValuesBy) (ops : Variable → Ops) (q : At) (act : Option (List Part × Traced)) (hits : HitsHere) (read : Option Pos) → IsEntry values ops q Saves act hits read
-    → (k : List Part) → ((act ≡ None) × (hits k ≡ None)) ⊎ ((b : List Part × Traced) × (v : List ℤ) × ((act ≡ Some b) × (hits k ≡ one_hit b.0 (Some v) k)))
-saver_told values ops q None hits read e k = inl (refl, e.1 k)
-saver_told values ops q (Some b) hits read e k = inr (b, values q.trigger q.pos b.1 None, (refl, e.1 k))
+  abbrev variable : List Part → Variable
+  variable k = record { saver = id; key = k }
 
--- ---- after it came
+  abbrev place : Pos → At
+  place p = record { pos = p; trigger = id }
 
-module _ (triggers : FinMap nat_cmp Hist) (lanes : Lanes) (old new : Shelves) (at : At) (shelf after : Shelved) (was : map.get old at.trigger ≡ Some shelf) (is : map.get new at.trigger ≡ Some after)
-    (others : (i : ℕ) → (i ≡ at.trigger → ⊥) → map.get new i ≡ map.get old i) (key : List Part) (event : Traced) (hist : Hist) (attached : map.get triggers at.trigger ≡ Some hist)
-    (saves : role_on old at.trigger ≡ Saves)
-    (follows : HitFollows at.trigger (record { spot = traced at.pos; key = key }) (values_at hist at.pos event None) shelf after) where
-  -- its shelf keeps its form
-  pub saver_forms : FormsStay old new
-  saver_forms = edited old new at.trigger shelf after was is others (record {
-    role = follows.role;
-    size = ap (λ t. t.size) follows.table;
-    made = λ m made. ap (λ (t : Tabled). map.get t.hits m) follows.table ∙ made_with shelf.table.hits at.pos key (values_at hist at.pos event None) m made;
-    notes = notes_saver shelf after (shelf_saves triggers lanes old at shelf was key event saves);
-  })
+  abbrev mark : Pos → List Part → Mark
+  mark p k = record { spot = traced p; key = k }
 
-  pub admits_new : (k : List Part) → admits_on new at.trigger k ≡ is_in after.table k
-  admits_new k = admits_by new at.trigger (Some after) is k ∙ ap (λ r. is_saver r && is_in after.table k) (follows.role ∙ shelf_saves triggers lanes old at shelf was key event saves)
+  kept : IsKept (role_on old) values (admits_on old) acts (kept_on old)
+  kept = may.views.kept
 
-  was_in : ◌≡◌ {A = Members} (is_in shelf.table) (admits_on old at.trigger)
-  was_in = λ i k. sym (admits_old triggers lanes old at shelf was key event saves k) i
+  one : IsOneAct at own acts after
+  one = one_changes sign acts at own may.was
 
-  now_in : ◌≡◌ {A = Members} (is_in after.table) (admits_on new at.trigger)
-  now_in = λ i k. sym (admits_new k) i
+  -- the events of the acts are held afterwards
+  pub after_held : AreHeld scene.lanes.now after
+  after_held = held_changes sign acts at own scene.lanes.now may.views.held may.held
 
-  -- the keys of the table that moved are those that are admitted
-  pub saver_moved : (moves : Moves) → MovesKeys key moves (is_in shelf.table) (is_in after.table) → MovesKeys key moves (admits_on old at.trigger) (admits_on new at.trigger)
-  saver_moved moves h = subst (λ (p : Members × Members). MovesKeys key moves p.0 p.1) (λ i. (was_in i, now_in i)) h
+  entry_at : (q : At) → IsEntry values (kept_on old).ops q (role_on old q.trigger) (acts q) (hits_here (kept_on old) q) (read_here (kept_on old) q)
+  entry_at q = elim (kept.entries q) [ inl never ↦ absurd (true≢false (sym never.0)) | inr entry ↦ entry ]
 
-  module _ (before acts : Acts) (comes : Comes at (Some (key, event)) before acts) (kept : IsKept (role_on old) (values_by triggers) (admits_on old) before (kept_on old)) where
-    none_here : (k : List Part) → hits_here (kept_on old) at k ≡ None
-    none_here = absent_hits (role_on old) (values_by triggers) (admits_on old) before (kept_on old) kept at comes.absent
+  -- ---- before
 
-    worth : List ℤ
-    worth = values_at hist at.pos event None
+  module _ (shelf : Shelved) (was : map.get old id ≡ Some shelf) where
+    shelf_saves : shelf.role ≡ Saves
+    shelf_saves = sym (role_at old id (Some shelf) was) ∙ may.role
 
-    -- hits and acts of the saver tell of each other
-    told : (k : List Part) (p : Pos) → ((acts (record { pos = p; trigger = at.trigger }) ≡ None) × (map.get after.table.hits (record { spot = traced p; key = k }) ≡ None))
-        ⊎ ((b : List Part × Traced) × (v : List ℤ) × ((acts (record { pos = p; trigger = at.trigger }) ≡ Some b) × (map.get after.table.hits (record { spot = traced p; key = k }) ≡ one_hit b.0 (Some v) k)))
-    told k p = elim (at_decided (record { pos = p; trigger = at.trigger }) at) [
-      | inl own ↦ inr (
-        (key, event),
-        values_at hist at.pos event None,
-        (
-          ap acts own ∙ comes.here,
-          sym (hits_by new at.trigger (Some after) is (record { spot = traced p; key = k })) ∙ ap (λ (x : At). (kept_on new).hits at.trigger (record { spot = traced x.pos; key = k })) own
-              ∙ put_here old new at shelf after was is others key (values_at hist at.pos event None) follows.table follows.readings none_here k,
-        ),
-      )
-      | inr apart ↦ elim (before_told) [
-        | inl h ↦ inl (comes.elsewhere (record { pos = p; trigger = at.trigger }) apart ∙ h.0, same apart ∙ h.1)
-        | inr h ↦ inr (h.0, h.1, (comes.elsewhere (record { pos = p; trigger = at.trigger }) apart ∙ h.2.0, same apart ∙ h.2.1))
+    -- the keys that the table has
+    admits_old : (k : List Part) → admits_on old id k ≡ is_in shelf.table k
+    admits_old k = admits_by old id (Some shelf) was k ∙ ap (λ r. is_saver r && is_in shelf.table k) shelf_saves
+
+    -- the operations on the shelf
+    ops_old : (k : List Part) (q : At) → (kept_on old).ops (variable k) q ≡ ops_of shelf.ops k q
+    ops_old k q = ops_by old id (Some shelf) was k q
+
+    -- nothing stands where it comes
+    pub unsaved : IsUnsaved id (change_of sign act) shelf
+    unsaved = by sign may.was (here_before scene act sign acts Saves (inr refl) old may shelf was)
+      where
+        by : (w : Sign) → acts at ≡ act_before w own → IsEntry values (kept_on old).ops at Plain (act_before w own) (λ k. map.get shelf.table.hits (mark_at act k)) (map.get shelf.readings at.pos) → IsUnsaved id (change_of w act) shelf
+        by Insert absent e = (e.1 act.key, sym (ops_old act.key at) ∙ kept.ops (variable act.key) at ∙ op_absent (role_on old) (admits_on old) acts (variable act.key) at absent)
+        by Retract present e = tt
+
+    -- keys outside have no saves
+    pub outside : (k : List Part) → is_in shelf.table k ≡ false → (p : Pos) → ops_of shelf.ops k (place p) ≡ None
+    outside k out p = sym (ops_old k (place p)) ∙ kept.ops (variable k) (place p) ∙ none_outside (role_on old) (admits_on old) acts (place p) k may.role (admits_old k ∙ out)
+
+    -- ---- afterwards
+
+    module _ (new : Shelves) (now : Shelved) (is : map.get new id ≡ Some now) (others : (i : ℕ) → (i ≡ id → ⊥) → map.get new i ≡ map.get old i) (follows : HitFollows id (change_of sign act) shelf now) where
+      table_is : now.table ≡ table_with (change_of sign act) shelf.table
+      table_is = ap (λ (s : Shelved). s.table) follows.shelf
+
+      readings_is : now.readings ≡ readings_after (change_of sign act) shelf.readings
+      readings_is = ap (λ (s : Shelved). s.readings) follows.shelf
+
+      -- its shelf keeps its form
+      pub forms : FormsStay old new
+      forms = edited old new id shelf now was is others (record {
+        role = ap (λ (s : Shelved). s.role) follows.shelf;
+        size = ap (λ (t : Tabled). t.size) table_is ∙ size_stays act sign shelf.table;
+        made = λ m made. ap (λ (t : Tabled). map.get t.hits m) table_is ∙ made_stay act sign shelf.table m made;
+        notes = notes_saver shelf now shelf_saves;
+      })
+
+      admits_new : (k : List Part) → admits_on new id k ≡ is_in now.table k
+      admits_new k = admits_by new id (Some now) is k ∙ ap (λ r. is_saver r && is_in now.table k) (ap (λ (s : Shelved). s.role) follows.shelf ∙ shelf_saves)
+
+      -- the keys of the table that moved are those that are admitted
+      pub moved : (moves : Moves) → MovesKeys (mark_of (change_of sign act)).key moves (is_in shelf.table) (is_in now.table) → MovesKeys act.key moves (admits_on old id) (admits_on new id)
+      moved moves h = subst (λ (p : List Part × (Members × Members)). MovesKeys p.0 moves p.1.0 p.1.1) (λ i. ((mark_is act sign i).key, (λ k. sym (admits_old k) i, λ k. sym (admits_new k) i))) h
+
+      -- hits and readings stay at other places
+      stay : StaysBut at (kept_on old) (kept_on new)
+      stay = stays scene act sign acts Saves (inr refl) old may shelf was new now is others table_is readings_is
+
+      -- hits and acts of the saver tell of each other
+      told : (k : List Part) (p : Pos) → Told (after (place p)) k (map.get now.table.hits (mark p k))
+      told k p = subst (Told (after (place p)) k) (hits_by new id (Some now) is (mark p k)) (elim (at_decided (place p) at) [
+        | inl it ↦ subst (λ q. Told (after q) k (hits_here (kept_on new) q k)) (sym it)
+            (subst (λ o. Told o k (hits_here (kept_on new) at k)) (sym (set_here acts at (act_after sign own))) (told_by values (kept_on new).ops at (act_after sign own) (hits_here (kept_on new) at) (read_here (kept_on new) at) (here_after scene act sign acts Saves (inr refl) old may shelf was new now is others table_is readings_is) k))
+        | inr apart ↦ subst (λ (x : Option (List Part × Traced) × Option (List ℤ)). Told x.0 k x.1) (λ i. (sym (one.elsewhere (place p) apart) i, sym ((stay (place p) apart).0 k) i))
+            (told_by values (kept_on old).ops (place p) (acts (place p)) (hits_here (kept_on old) (place p)) (read_here (kept_on old) (place p))
+            (subst (λ r. IsEntry values (kept_on old).ops (place p) r (acts (place p)) (hits_here (kept_on old) (place p)) (read_here (kept_on old) (place p))) may.role (entry_at (place p))) k)
+      ])
+
+      early_ops : (k : List Part) → ◌≡◌ {A = Ops} (ops_of shelf.ops k) (op_of (role_on old) (admits_on old) acts (variable k))
+      early_ops k = λ i q. (sym (ops_old k q) ∙ kept.ops (variable k) q) i
+
+      -- the operations on what it saves have followed
+      own_ops : (k : List Part) (q : At) → (kept_on new).ops (variable k) q ≡ op_of (role_on old) (admits_on new) after (variable k) q
+      own_ops k q =
+          ops_by new id (Some now) is k q
+          ∙ follows.ops k q
+          ∙ (λ i. switched (is_in shelf.table k) (is_in now.table k) now.table.hits id k
+          (if same_key k (mark_is act sign i).key && is_in shelf.table (mark_is act sign i).key then set_op (record { pos = (mark_is act sign i).spot.pos; trigger = id }) (op_after (sign_is act sign i) Save) (early_ops k i) else early_ops k i) q)
+          ∙ all_follow (role_on old) (admits_on old) (admits_on new) acts after at own sign one (set_here acts at (act_after sign own)) may.role now.table.hits told (is_in shelf.table) (is_in now.table) admits_old admits_new k q
+
+      -- those of other savers stay
+      other_ops : (v : Variable) → (v.saver ≡ id → ⊥) → (q : At) → (kept_on new).ops v q ≡ op_of (role_on old) (admits_on new) after v q
+      other_ops v other q =
+          same_ops old new v.saver (others v.saver other) v.key q
+          ∙ kept.ops v q
+          ∙ sym (others_stay (role_on old) (admits_on old) (admits_on new) acts after at own one v
+          (λ e. other (sym (ap (λ (o : Option Variable). (unwrap_or o (variable act.key)).saver) (sym (ap (λ r. variable_of r id act.key) may.role) ∙ e))))
+          (same_admits old new v.saver (others v.saver other) v.key) q)
+
+      new_ops : (v : Variable) (q : At) → (kept_on new).ops v q ≡ op_of (role_on old) (admits_on new) after v q
+      new_ops v q = elim (decided nat_cmp_total nat_cmp-IsAntisymmetric v.saver id) [
+        | inl it ↦ subst (λ i. (kept_on new).ops (record { saver = i; key = v.key }) q ≡ op_of (role_on old) (admits_on new) after (record { saver = i; key = v.key }) q) (sym it) (own_ops v.key q)
+        | inr other ↦ other_ops v other q
       ]
-    ]
-      where
-        same : ((record { pos = p; trigger = at.trigger }) ≡ at → ⊥) → map.get after.table.hits (record { spot = traced p; key = k }) ≡ hits_here (kept_on old) (record { pos = p; trigger = at.trigger }) k
-        same apart =
-            sym (hits_by new at.trigger (Some after) is (record { spot = traced p; key = k }))
-            ∙ (put_stays old new at shelf after was is others key (values_at hist at.pos event None) follows.table follows.readings (record { pos = p; trigger = at.trigger }) apart).0 k
 
-        before_told : ((before (record { pos = p; trigger = at.trigger }) ≡ None) × (hits_here (kept_on old) (record { pos = p; trigger = at.trigger }) k ≡ None)) ⊎ ((b : List Part × Traced) × (v : List ℤ) × ((before (record { pos = p; trigger = at.trigger }) ≡ Some b) × (hits_here (kept_on old) (record { pos = p; trigger = at.trigger }) k ≡ one_hit b.0 (Some v) k)))
-        before_told = saver_told (values_by triggers) (kept_on old).ops (record { pos = p; trigger = at.trigger }) (before (record { pos = p; trigger = at.trigger })) (hits_here (kept_on old) (record { pos = p; trigger = at.trigger })) (read_here (kept_on old) (record { pos = p; trigger = at.trigger }))
-            (subst (λ r. IsEntry (values_by triggers) (kept_on old).ops (record { pos = p; trigger = at.trigger }) r (before (record { pos = p; trigger = at.trigger })) (hits_here (kept_on old) (record { pos = p; trigger = at.trigger })) (read_here (kept_on old) (record { pos = p; trigger = at.trigger }))) saves
-            (elim (kept.entries (record { pos = p; trigger = at.trigger })) [ inl never ↦ absurd (true≢false (sym never.0)) | inr entry ↦ entry ])) k
-
-    early_ops : (k : List Part) → ◌≡◌ {A = Ops} (ops_of shelf.ops k) (op_of (role_on old) (admits_on old) before (record { saver = at.trigger; key = k }))
-    early_ops k = λ i q. (sym (ops_old triggers lanes old at shelf was key event saves k q) ∙ kept.ops (record { saver = at.trigger; key = k }) q) i
-
-    -- the operations on what it saves have followed
-    own_ops : (k : List Part) (q : At) → (kept_on new).ops (record { saver = at.trigger; key = k }) q ≡ op_of (role_on old) (admits_on new) acts (record { saver = at.trigger; key = k }) q
-    own_ops k q =
-        ops_by new at.trigger (Some after) is k q
-        ∙ follows.ops k q
-        ∙ ap (λ (f : Ops). followed shelf.table after.table at.trigger (record { spot = traced at.pos; key = key }) k f q) (early_ops k)
-        ∙ elim (key_decided k key) [
-          | inl own ↦ subst (λ x. followed shelf.table after.table at.trigger (record { spot = traced at.pos; key = key }) x (op_of (role_on old) (admits_on old) before (record { saver = at.trigger; key = x })) q
-              ≡ op_of (role_on old) (admits_on new) acts (record { saver = at.trigger; key = x }) q) (sym own)
-              (ap (λ (b : Bool). (if b then switched_with (is_in shelf.table key) (is_in after.table key) after.table.hits at key (op_of (role_on old) (admits_on old) before (record { saver = at.trigger; key = key }))
-              else switched (is_in shelf.table key) (is_in after.table key) after.table.hits at.trigger key (op_of (role_on old) (admits_on old) before (record { saver = at.trigger; key = key }))) q) (itself key_cmp_total key)
-              ∙ own_follows (role_on old) (admits_on old) (admits_on new) before acts at (key, event) comes saves after.table.hits told (is_in shelf.table key) (is_in after.table key)
-              (admits_old triggers lanes old at shelf was key event saves key) (admits_new key) q)
-          | inr apart ↦
-              ap (λ (b : Bool). (if b then switched_with (is_in shelf.table k) (is_in after.table k) after.table.hits at k (op_of (role_on old) (admits_on old) before (record { saver = at.trigger; key = k }))
-              else switched (is_in shelf.table k) (is_in after.table k) after.table.hits at.trigger k (op_of (role_on old) (admits_on old) before (record { saver = at.trigger; key = k }))) q) (untied key_cmp_total key_same k key apart)
-              ∙ other_follows (role_on old) (admits_on old) (admits_on new) before acts at (key, event) comes saves after.table.hits told k apart (is_in shelf.table k) (is_in after.table k)
-              (admits_old triggers lanes old at shelf was key event saves k) (admits_new k) q
-        ]
-
-    -- those of other savers stay
-    other_ops : (variable : Variable) → (variable.saver ≡ at.trigger → ⊥) → (q : At) → (kept_on new).ops variable q ≡ op_of (role_on old) (admits_on new) acts variable q
-    other_ops variable other q = same_ops old new variable.saver (others variable.saver other) variable.key q ∙ kept.ops variable q ∙ elim (at_decided q at) [
-      | inl own ↦ subst (λ p. op_of (role_on old) (admits_on old) before variable p ≡ op_of (role_on old) (admits_on new) acts variable p) (sym own)
-          (op_absent (role_on old) (admits_on old) before variable at comes.absent ∙ sym (op_none (role_on old) (admits_on new) acts variable at (key, event) (inr comes.here) not_own))
-      | inr apart ↦ sym (op_elsewhere (role_on old) (admits_on old) (admits_on new) before acts variable q (same_admits old new variable.saver (others variable.saver other) variable.key) (comes.elsewhere q apart))
-    ]
-      where
-        saver_of : Option Variable → ℕ
-        saver_of None = at.trigger
-        saver_of (Some v) = v.saver
-
-        not_own : variable_of (role_on old at.trigger) at.trigger key ≡ Some variable → ⊥
-        not_own e = other (sym (ap saver_of (sym (ap (λ r. variable_of r at.trigger key) saves) ∙ e)))
-
-    new_ops : (variable : Variable) (q : At) → (kept_on new).ops variable q ≡ op_of (role_on old) (admits_on new) acts variable q
-    new_ops variable q = elim (decided nat_cmp_total nat_cmp-IsAntisymmetric variable.saver at.trigger) [
-      | inl own ↦ subst (λ i. (kept_on new).ops (record { saver = i; key = variable.key }) q ≡ op_of (role_on old) (admits_on new) acts (record { saver = i; key = variable.key }) q) (sym own) (own_ops variable.key q)
-      | inr other ↦ other_ops variable other q
-    ]
-
-    here_right : IsRight (role_on old) (values_by triggers) acts (kept_on new) at
-    here_right = subst (λ (x : Role × Option (List Part × Traced)). IsEntry (values_by triggers) (kept_on new).ops at x.0 x.1 (hits_here (kept_on new) at) (read_here (kept_on new) at)) (λ i. (sym saves i, sym comes.here i))
-        (put_right old new at shelf after was is others key (values_at hist at.pos event None) follows.table follows.readings (values_by triggers) (kept_on new).ops event
-        (sym (values_there triggers at.trigger hist at.pos event None attached)) none_here (absent_read (role_on old) (values_by triggers) (admits_on old) before (kept_on old) kept at comes.absent))
-
-  -- its act came, and what follows of it is owed
-  pub saver_owing : HasComeOwing triggers lanes at (Some (key, event)) (record { saver = at.trigger; key = key }) old new
-  saver_owing before acts next comes held kept is_next =
-      one_act_right (role_on old) (values_by triggers) (admits_on old) (admits_on new) before acts (kept_on old) (kept_on new) at (key, event) next (one_comes at (key, event) before acts comes) kept
-      (new_ops before acts comes kept)
-      (λ variable own. subst (λ v. IsNext ((kept_on new).ops v) (Some at) next) (sym (same_variable variable own)) is_next)
-      (put_stays old new at shelf after was is others key (values_at hist at.pos event None) follows.table follows.readings)
-      (here_right before acts comes kept)
-    where
-      the_variable : Option Variable → Variable
-      the_variable None = record { saver = at.trigger; key = key }
-      the_variable (Some w) = w
-
-      same_variable : (v : Variable) → variable_of (role_on old at.trigger) at.trigger key ≡ Some v → v ≡ record { saver = at.trigger; key = key }
-      same_variable v own = sym (ap the_variable (sym (ap (λ r. variable_of r at.trigger key) saves) ∙ own))
+      -- what follows of it is owed
+      pub owing : HasChangedOwing (triggers_of scene) at after (own_variable act) old new
+      owing next is_next =
+          one_act_right (role_on old) values (admits_on old) (admits_on new) acts after (kept_on old) (kept_on new) at own next one kept new_ops
+          (λ v owns. subst (λ w. IsNext ((kept_on new).ops w) (Some at) next) (sym (same_variable v owns)) is_next)
+          stay (here_right scene act sign acts Saves (inr refl) old may shelf was new now is others table_is readings_is)
+        where
+          same_variable : (v : Variable) → variable_of (role_on old id) id act.key ≡ Some v → v ≡ variable act.key
+          same_variable v owns = sym (ap (λ (o : Option Variable). unwrap_or o (variable act.key)) (sym (ap (λ r. variable_of r id act.key) may.role) ∙ owns))

@@ -1,17 +1,17 @@
 -- Which tables of savers stay, and which keys of one move.
 use Rattle.std.proofs.Common.{◌≡◌, ℕ, Bool, true, false, List, refl, sym, ap, ◌∙◌, Some, None, Option, inl, inr, ◌+◌, ◌≤◌, arith}
 use Rattle.std.specs.Prelude.{◌⊎◌, ◌&&◌, is_some, unwrap_or, option_map}
-use Rattle.std.specs.Option.{option_map_or}
 use Rattle.std.specs.FinMap as map
 use Rattle.std.proofs.lemmas.Bool.{true≢false}
 use Rattle.ft_keys.specs.declared.key.Part.{Part}
 use Rattle.ft_table.specs.Tabled.{Tabled, is_in}
 use Rattle.ft_kept.specs.Bounds.{OtherSaversStay, TableMoves, table_on}
 use Rattle.ft_shelves.specs.Shelves.{FormsStay, Shelved, Shelves, admits_on, is_saver, role_on}
-use Rattle.ft_kept.specs.inner.Edits.{ReaderChanges, ReadersChange}
+use Rattle.ft_kept.specs.inner.Edits.{ReadersChange}
 use Rattle.ft_shelves.specs.Switches.{HasMoved, differ}
 use Rattle.ft_shelves.specs.Following.{Moves, MovesKeys}
-use Rattle.ft_pairs.specs.declared.role.Role.TheVariants.{Plain, Saves}
+use Rattle.ft_pairs.specs.declared.role.Role.TheVariants.{Saves}
+use Rattle.ft_kept.proofs.FewPuts.{readers_savers}
 use Rattle.ft_kept.proofs.Forms.{admits_by, role_at, roles_stay, same_role}
 
 -- the table on a shelf, if there is a shelf
@@ -20,18 +20,10 @@ table_at o = option_map (λ shelf. shelf.table) o
 
 -- ---- tables that stay
 
-reader_table : (a b : Option Shelved) → ReaderChanges a b → option_map_or (λ shelf. shelf.role) a Plain ≡ Saves → table_at b ≡ table_at a
-reader_table None b h saves = ap table_at h
-reader_table (Some shelf) b h saves = ap table_at (h.1.0 ∙ ap (λ s. Some s) (h.1.1.1.1 (λ saver reads. true≢false (ap is_saver (sym saves ∙ reads)))))
-
--- savers' tables stay, as only what readers counted and read changes
-pub readers_tables : (old new : Shelves) → ReadersChange old new → (id : ℕ) → role_on old id ≡ Saves → table_on new id ≡ table_on old id
-readers_tables old new h id saves = reader_table (map.get old id) (map.get new id) (h id) (sym (role_at old id (map.get old id) refl) ∙ saves)
-
--- so those of all but one stay, where that one's shelf changed before
+-- savers' tables but one stay, where that one's shelf changed, and then only what readers counted and read
 pub savers_stay : (old mid new : Shelves) (id : ℕ) → ((i : ℕ) → (i ≡ id → ⊥) → map.get mid i ≡ map.get old i) → ReadersChange mid new → OtherSaversStay id old new
 savers_stay old mid new id others readers other apart saves =
-    readers_tables mid new readers other (same_role old mid other (others other apart) ∙ saves) ∙ ap table_at (others other apart)
+    readers_savers mid new readers other (same_role old mid other (others other apart) ∙ saves) ∙ ap table_at (others other apart)
 
 -- ---- a table that changes
 

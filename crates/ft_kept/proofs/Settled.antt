@@ -1,5 +1,5 @@
 -- One shelf is written back whose reading at one place was noted, whose hit and reading there were taken, and put again where the reading finds a saving.
-use Rattle.std.proofs.Common.{◌≡◌, ℕ, ℤ, Bool, true, false, cond, List, [], refl, sym, ap, ◌∙◌, Some, None, Option, option_map, inl, inr}
+use Rattle.std.proofs.Common.{◌≡◌, ℕ, ℤ, Bool, true, false, cond, List, refl, sym, ap, ◌∙◌, Some, None, Option, option_map, inl, inr}
 use Rattle.std.specs.Prelude.{is_some}
 use Rattle.std.specs.Option.{option_map_or}
 use Rattle.std.proofs.lemmas.Bool.{true≢false}
@@ -29,10 +29,14 @@ use Rattle.ft_kept.specs.Repairs.{AreShelved}
 use Rattle.ft_shelves.specs.Shelves.{KeepsNotes, MadeStay, Shelved, Shelves, role_on, kept_on}
 use Rattle.ft_kept.specs.inner.Edits.{ReadersChange}
 use Rattle.ft_shelves.specs.Edits.{with_hit_on, with_note, without_hit_on}
-use Rattle.ft_table.specs.Values.{ValuesBy, values_by, values_at}
+use Rattle.ft_table.specs.Values.{ValuesBy}
 use Rattle.ft_pairs.specs.declared.role.Role.TheVariants.{Reads}
 use Rattle.ft_pairs.specs.declared.role.Variable.{Variable}
 use Rattle.ft_kept.proofs.Forms.{made_without, made_with, by_id, role_at, hits_by, read_by, same_hits, same_read, edited_reader, readers_ops}
+use Rattle.ft_shelves.proofs.Decided.{none_not_some}
+use Rattle.ft_kept.specs.Signs.{FindsBy, act_after}
+use Rattle.ft_shelves.specs.declared.sign.Sign.{Sign}
+use Rattle.ft_shelves.specs.declared.sign.Sign.TheVariants.{Insert, Retract}
 use Rattle.ft_kept.proofs.Noting.{notes_noted}
 use Rattle.ft_kept.proofs.Paid.{own_same, agreed_source}
 
@@ -131,10 +135,10 @@ module _ (pos : Pos) (key : List Part) (shelf : Shelved) where
 -- ---- and written back
 
 -- a reading was made right: only what readers have changed, nothing but it, and it is right
-pub record IsSettled (values : ValuesBy) (at : At) (saver : ℕ) (key : List Part) (event : Traced) (old new : Shelves) : Type 0 where
+pub record IsSettled (values : ValuesBy) (at : At) (saver : ℕ) (act : Option (List Part × Traced)) (old new : Shelves) : Type 0 where
   pub readers : ReadersChange old new
   pub others : StaysBut at (kept_on old) (kept_on new)
-  pub right : IsEntry values (kept_on new).ops at (Reads saver) (Some (key, event)) (hits_here (kept_on new) at) (read_here (kept_on new) at)
+  pub right : IsEntry values (kept_on new).ops at (Reads saver) act (hits_here (kept_on new) at) (read_here (kept_on new) at)
 
 module _ (old new : Shelves) (at : At) (shelf after : Shelved) (was : map.get old at.trigger ≡ Some shelf) (is : new ≡ map.insert old at.trigger after) where
   there : map.get new at.trigger ≡ Some after
@@ -189,11 +193,6 @@ reads_attached triggers shelves id saver shelved reads none = by (map.get shelve
     by None is = reads_shelved shelves id saver reads is
     by (Some shelf) is = true≢false (sym (ap is_some is) ∙ shelved.each id ∙ ap is_some none)
 
--- what an attached trigger's hit adds to its sums
-pub values_there : (triggers : FinMap nat_cmp Hist) (id : ℕ) (hist : Hist) → map.get triggers id ≡ Some hist → (pos : Pos) (event : Traced) (saved : Option Pos) → values_at hist pos event saved ≡ values_by triggers id pos event saved
-unfolding values_by
-values_there triggers id hist attached pos event saved = ap (λ (o : Option Hist). option_map_or (λ hist. values_at hist pos event saved) o []) (sym attached)
-
 module _ (values : ValuesBy) (old new : Shelves) (at : At) (saver : ℕ) (key : List Part) (event : Traced) (shelf : Shelved)
     (was : map.get old at.trigger ≡ Some shelf) (reads : role_on old at.trigger ≡ Reads saver) (own : IsOwn (Some (key, event)) (hits_here (kept_on old) at)) where
   pub shelf_own : IsOwn (Some (key, event)) (λ k. map.get shelf.table.hits (record { spot = traced at.pos; key = k }))
@@ -207,7 +206,7 @@ module _ (values : ValuesBy) (old new : Shelves) (at : At) (saver : ℕ) (key : 
       (readers_ops old new readers (record { saver = saver; key = key })) at
 
   -- where the reading finds nothing, its hit is taken
-  pub settled_unset : new ≡ map.insert old at.trigger (cleared at.pos key shelf) → IsSource ((kept_on old).ops (record { saver = saver; key = key })) at None → IsSettled values at saver key event old new
+  pub settled_unset : new ≡ map.insert old at.trigger (cleared at.pos key shelf) → IsSource ((kept_on old).ops (record { saver = saver; key = key })) at None → IsSettled values at saver (Some (key, event)) old new
   settled_unset is source =
       let readers = written_readers old new at shelf (cleared at.pos key shelf) was is saver (reads_there old at.trigger saver shelf reads was) refl refl (cleared_made at.pos key shelf) (cleared_notes at.pos key shelf) refl in
       record {
@@ -219,9 +218,25 @@ module _ (values : ValuesBy) (old new : Shelves) (at : At) (saver : ℕ) (key : 
             (λ k. written_hits old new at shelf (cleared at.pos key shelf) was is k ∙ cleared_hit at.pos key shelf event shelf_own k);
       }
 
+  -- where it goes, its hit is taken
+  pub settled_gone : new ≡ map.insert old at.trigger (cleared at.pos key shelf) → IsSettled values at saver None old new
+  settled_gone is = record {
+    readers = written_readers old new at shelf (cleared at.pos key shelf) was is saver (reads_there old at.trigger saver shelf reads was) refl refl (cleared_made at.pos key shelf) (cleared_notes at.pos key shelf) refl;
+    others = written_others old new at shelf (cleared at.pos key shelf) was is (cleared_others at.pos key shelf) (cleared_readings at.pos key shelf);
+    right = (
+      written_read old new at shelf (cleared at.pos key shelf) was is ∙ cleared_read at.pos key shelf,
+      λ k. written_hits old new at shelf (cleared at.pos key shelf) was is k ∙ cleared_hit at.pos key shelf event shelf_own k,
+    );
+  }
+
+  -- where nothing is found, its hit is taken
+  pub settled_none : (sign : Sign) → new ≡ map.insert old at.trigger (cleared at.pos key shelf) → FindsBy sign ((kept_on old).ops (record { saver = saver; key = key })) at None → IsSettled values at saver (act_after sign (key, event)) old new
+  settled_none Insert is finds = settled_unset is finds
+  settled_none Retract is finds = settled_gone is
+
   -- where it finds a saving, its hit is put again
   pub settled_set : (saved : At) (added : List ℤ) → added ≡ values at.trigger at.pos event (Some saved.pos) → new ≡ map.insert old at.trigger (filled at.pos key shelf added saved.pos)
-      → IsSource ((kept_on old).ops (record { saver = saver; key = key })) at (Some saved) → IsSettled values at saver key event old new
+      → IsSource ((kept_on old).ops (record { saver = saver; key = key })) at (Some saved) → IsSettled values at saver (Some (key, event)) old new
   settled_set saved added adds is source =
       let after = filled at.pos key shelf added saved.pos in
       let readers = written_readers old new at shelf after was is saver (reads_there old at.trigger saver shelf reads was) refl refl (filled_made at.pos key shelf added saved.pos) (filled_notes at.pos key shelf added saved.pos) refl in
@@ -233,3 +248,9 @@ module _ (values : ValuesBy) (old new : Shelves) (at : At) (saver : ℕ) (key : 
             (written_read old new at shelf after was is ∙ filled_read at.pos key shelf added saved.pos)
             (λ k. written_hits old new at shelf after was is k ∙ filled_hit at.pos key shelf added saved.pos event shelf_own k ∙ ap (λ v. one_hit key (Some v) k) adds);
       }
+
+  -- only one that comes or stays finds a saving
+  pub settled_some : (sign : Sign) (saved : At) (added : List ℤ) → added ≡ values at.trigger at.pos event (Some saved.pos) → new ≡ map.insert old at.trigger (filled at.pos key shelf added saved.pos)
+      → FindsBy sign ((kept_on old).ops (record { saver = saver; key = key })) at (Some saved) → IsSettled values at saver (act_after sign (key, event)) old new
+  settled_some Insert saved added adds is finds = settled_set saved added adds is finds
+  settled_some Retract saved added adds is finds = absurd (none_not_some (Some saved) saved finds refl)

@@ -1,5 +1,5 @@
 -- Acts: what each trigger has to count at each event, and how one more comes.
-use Rattle.std.specs.Prelude.{◌≡◌, ℕ, List, Option, Some, None, option_map, option_and_then}
+use Rattle.std.specs.Prelude.{◌≡◌, ℕ, List, Option, Some, option_map, option_and_then}
 use Rattle.std.specs.Ordering.{nat_cmp}
 use Rattle.std.specs.FinMap as map
 use Rattle.std.specs.FinMap.{FinMap}
@@ -34,9 +34,3 @@ abbrev pub AreHeld : Lanes → Acts → Type 0
 AreHeld lanes acts =
     (at : At) (key : List Part) (event : Traced) → acts at ≡ Some (key, event)
     → (event_at lanes at.pos.cpu at.pos.line ≡ Some event) × (event.stamp ≡ at.pos.stamp)
-
--- an act comes, if there is one, where none was; all others stay
-pub record Comes (at : At) (act : Option (List Part × Traced)) (before after : Acts) : Type 0 where
-  pub elsewhere : (q : At) → (q ≡ at → ⊥) → after q ≡ before q
-  pub absent : before at ≡ None
-  pub here : after at ≡ act

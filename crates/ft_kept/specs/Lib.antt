@@ -1,11 +1,14 @@
 pub mod Acted
 pub mod Acts
+pub mod Input
 pub mod AtOnce
 pub mod Bounds
 pub mod Codes
 pub mod Entries
 pub mod Memory
 pub mod Repairs
+pub mod Views
+pub mod Signs
 pub mod inner
 pub use Rattle.ft_fields.specs.Places
 pub use Rattle.ft_fields.specs.Traced

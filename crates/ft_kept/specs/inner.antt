@@ -1,5 +1,6 @@
 -- Words of private functions: what helps to prove, and nothing that public clauses say.
 pub mod Acting
+pub mod Changing
 pub mod Edits
 pub mod Joining
 pub mod JoiningReads

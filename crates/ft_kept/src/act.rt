@@ -1,20 +1,37 @@
 //! What a repair is given: where it looks things up, and the act that comes or goes.
 
-ghost use Rattle.std.specs.Prelude.{◌≡◌, ◌+◌};
-ghost use Rattle.ft_hist.specs.Hit.{hit};
-ghost use Rattle.ft_hist.specs.Tests.{asked};
-
-use ft_fields::Event;
-use ft_hist::{Key, Trigger, Work};
+use ft_fields::{Event, Pos};
+use ft_hist::{Key, Trigger};
 use ft_lanes::Lanes;
 use ft_pairs::At;
+use ft_shelves::Sign;
 use std::collections::BTreeMap;
 
 /// Where a repair looks things up: the attached triggers, and the lanes of held events.
 #[derive(Clone, Copy)]
-pub(crate) struct Scene<'a> {
-    pub(crate) triggers: &'a BTreeMap<u32, Trigger>,
-    pub(crate) lanes: &'a Lanes,
+pub struct Scene<'a> {
+    /// The attached triggers, by id.
+    pub triggers: &'a BTreeMap<u32, Trigger>,
+    /// The lanes of held events.
+    pub lanes: &'a Lanes,
+}
+
+/// One event more or less.
+#[derive(Clone, Copy)]
+pub struct Delta<'a> {
+    /// Whether the event is put in or taken away.
+    pub sign: Sign,
+    /// The event's place.
+    pub pos: Pos,
+    /// The event, which is held at its place.
+    pub event: &'a Event,
+}
+
+/// An attached trigger, with its id.
+#[derive(Clone, Copy)]
+pub(crate) struct Attached<'a> {
+    pub(crate) id: u32,
+    pub(crate) trigger: &'a Trigger,
 }
 
 /// What a trigger does at an event that is a hit of it: it counts the event under a key.
@@ -24,17 +41,4 @@ pub(crate) struct Act<'a> {
     pub(crate) at: At,
     pub(crate) event: &'a Event,
     pub(crate) key: Key,
-}
-
-/// The key that a trigger counts an event under, if the event is a hit of it. Tests it where the
-/// trigger is on its name alone.
-pub(crate) fn key_at(trigger: &Trigger, event: &Event, work: &mut Work) -> Option<Key>
-    ensures key { result ≡ hit trigger.now event.now }
-    ensures evals { work.new.evals ≡ work.old.evals + asked trigger.now event.now }
-    ensures puts { work.new.puts ≡ work.old.puts }
-{
-    if trigger.event() != event.name() {
-        return None;
-    }
-    trigger.hit_of(event, work)
 }

@@ -115,8 +115,9 @@ fn hits_come(
     ensures evals { work.new.evals ≡ work.old.evals }
     ensures grow { StepsGrow work.old work.new }
 {
-    match tables.shelves.get_mut(&joining.id) {
+    match tables.shelf_mut(joining.id) {
         Some(shelf) => shelf.put_groups(joining, work),
+        // Each attached trigger has a shelf.
         None => Ok(()),
     }
 }
@@ -133,8 +134,9 @@ fn savings_come(
     ensures evals { work.new.evals ≡ work.old.evals }
     ensures grow { StepsGrow work.old work.new }
 {
-    match tables.shelves.get_mut(&joining.id) {
+    match tables.shelf_mut(joining.id) {
         Some(shelf) => put_savings(shelf, joining, work),
+        // Each attached trigger has a shelf.
         None => Ok(()),
     }
 }

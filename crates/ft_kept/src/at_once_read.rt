@@ -154,9 +154,10 @@ impl Tables {
         ensures evals { work.new.evals ≡ work.old.evals }
         ensures grow { StepsGrow work.old work.new }
     {
-        match self.shelves.get_mut(&saver) {
+        let alloc = self.alloc;
+        match self.shelf_mut(saver) {
             Some(shelf) => shelf.put_reads(key, reads, work),
-            None => Ok(Vec::new(self.alloc)),
+            None => Ok(Vec::new(alloc)),
         }
     }
 
@@ -174,7 +175,7 @@ impl Tables {
         ensures evals { work.new.evals ≡ work.old.evals }
         ensures grow { StepsGrow work.old work.new }
     {
-        match self.shelves.get_mut(&id) {
+        match self.shelf_mut(id) {
             Some(shelf) => shelf.put_run(key, run, work),
             None => Ok(()),
         }
@@ -184,8 +185,9 @@ impl Tables {
     fn set_readings(&mut self, id: u32, readings: Vec<(Pos, Pos)>) -> Result<(), AllocError>
         ensures { OnOk result (ChangesShelf id (ReadingsSet readings.items) self.old self.new) }
     {
-        match self.shelves.get_mut(&id) {
-            Some(shelf) => shelf.set_readings(self.alloc, readings),
+        let alloc = self.alloc;
+        match self.shelf_mut(id) {
+            Some(shelf) => shelf.set_readings(alloc, readings),
             None => Ok(()),
         }
     }

@@ -1,16 +1,19 @@
 //! What is kept of attached triggers beside the events that they count, so that an answer needs no
 //! replay: each trigger's table, the saves and reads of each variable, and what each reading found.
-//! As events come and go, all of it is repaired where they touch it. Where nothing is kept of a
-//! trigger yet, all its events come at once, each key's part as a whole.
+//! All of it are views of one input: what the triggers count at events. As an event is put in or
+//! taken away, the views are repaired where it touches them. Where nothing is kept of a trigger
+//! yet, all its events come at once, each key's part as a whole.
 //!
 //! ```ignore
 //! let mut tables = Tables::new(alloc);
 //! tables.add(1, Role::Saves, 2048)?;
 //! tables.add(2, Role::Reads(1), 2048)?;
+//! let scene = Scene { triggers: &triggers, lanes: &lanes };
 //! let mut acted = Acted::new(alloc);
 //! let mut work = Work::new();
 //! if let Some(event) = lanes.get(pos.cpu, pos.line) {
-//!     tables.event_comes(&triggers, &lanes, pos, &event, &mut acted, &mut work)?;
+//!     let delta = Delta { sign: Sign::Insert, pos, event: &event };
+//!     tables.apply(&scene, &delta, &mut acted, &mut work)?;
 //! }
 //! // The triggers that act at the event, each with its key, where memory for them was found.
 //! let acting = acted.all();
@@ -26,21 +29,27 @@
 //!
 //! # Contracts
 //!
-//! - `Tables::event_comes`, `event_goes`, clause `right`: contracts see a *shelf* for each trigger
-//!   (`ft_shelves/specs/Shelves.antt`). Where the shelves hold what the triggers' acts at some
-//!   events say, they hold afterwards what those at one event more, or less, say
-//!   (`specs/Acts.antt`, `specs/Entries.antt`, `specs/Repairs.antt`). No replay is in it. Lets
+//! - `Tables::apply`, clauses `views`, `input`: contracts see a *shelf* for each trigger
+//!   (`ft_shelves/specs/Shelves.antt`). Shelves and held events tell an *input*: under which key
+//!   each trigger counts which event, place by place (`specs/Input.antt`). Shelves are *views* of
+//!   it where they hold what it says (`specs/Views.antt`, `specs/Entries.antt`). Views before are
+//!   views afterwards, and the input is as before but at the event's place: there it has what the
+//!   triggers count at the event, or nothing, by the delta's sign. No replay is in it. Lets
 //!   through: running out of memory, except where `memory` shuts it out; then nothing is said of
 //!   the shelves.
-//! - Clauses `memory`: an event that comes and is no hit, and one that goes and is a hit of
-//!   triggers without a variable alone, never run out of memory (`specs/Memory.antt`).
+//! - Clauses `memory`: an event that is put in and is no hit, and one that is taken away and is a
+//!   hit of triggers without a variable alone, never run out of memory (`specs/Memory.antt`,
+//!   `specs/Signs.antt`).
 //! - Clauses `evals`, `puts`: the event is tested at most once for each trigger on its name. With m
 //!   such triggers, at most 3m is put into tables and pairs, unless the event's hit moves a key
 //!   into some saver's table or out of it (`specs/Bounds.antt`). Lets through: any walks and
 //!   look-ups, and any work where readings are kept. None of these is counted.
-//! - Clauses `acted`: after what `Acted` has gathered stand the triggers that the event is a hit
+//! - Clause `quiet`: where only triggers without a variable hit the event, notes stay as they are.
+//! - Clause `acted`: after what `Acted` has gathered stand the triggers that the event is a hit
 //!   of, in order of id, each with the hit's key (`specs/Acted.antt`). Lets through: gathering
 //!   nothing any more, at any time. That only running out of memory does it is seen in the source.
+//! - `Tables::apply_to`: as `apply`, at one trigger, with no gathering; the other savers' tables
+//!   stay. Lets through: what `apply` does.
 //! - `Tables::acts_come`, clause `right`: all acts of a trigger of which nothing is kept yet, by
 //!   its events grouped by key: where the shelves hold what the acts of the others say, they hold
 //!   afterwards what all acts say (`specs/AtOnce.antt`). No event is tested again. Lets through:
@@ -49,8 +58,6 @@
 //! - `Tables::is_bare`: where it says so, nothing is kept of the trigger, no operation stands on
 //!   what it saves, and no other trigger reads what it reads. Lets through: saying no; then the
 //!   acts come one by one.
-//! - `Tables::comes_to`, `goes_from`: the same as `event_comes` and `event_goes` at one trigger;
-//!   the other savers' tables stay. Lets through: the same.
 //! - `Tables::new`, `add`, `drop_shelf`, `take_notes`, `drop_notes`, `shelf`, `Acted::new`,
 //!   `unasked`, `all`: exact. `add` lets through: running out of memory at any time.
 //!
@@ -61,16 +68,17 @@
 
 mod act;
 mod acted;
+mod apply;
 mod at_once;
 mod at_once_read;
-mod comes;
-mod goes;
+mod hits;
 mod moved;
-mod saver_comes;
-mod saver_goes;
+mod readings;
+mod saver;
 mod settle;
 mod tables;
 
+pub use act::{Delta, Scene};
 pub use acted::{Acted, Acting};
-pub use ft_shelves::Shelf;
+pub use ft_shelves::{Shelf, Sign};
 pub use tables::Tables;

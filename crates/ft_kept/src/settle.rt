@@ -9,8 +9,10 @@ ghost use Rattle.ft_pairs.specs.declared.role.Role.TheVariants.{Reads};
 ghost use Rattle.ft_table.specs.Values.{values_by};
 ghost use Rattle.ft_kept.specs.Entries.{IsEntry, IsOwn, hits_here, read_here};
 ghost use Rattle.ft_kept.specs.Repairs.{AreShelved};
+ghost use Rattle.ft_kept.specs.Signs.{FindsBy, act_after};
 ghost use Rattle.ft_shelves.specs.Shelves.{role_on, kept_on};
-ghost use Rattle.ft_kept.specs.inner.Acting.{CanSettle, Paid, triggers_of};
+ghost use Rattle.ft_kept.specs.inner.Acting.{CanSettle, Paid};
+ghost use Rattle.ft_kept.specs.Views.{triggers_of};
 ghost use Rattle.ft_kept.specs.inner.Edits.{ReadersChange, StaysBut};
 ghost use Rattle.ft_kept.specs.inner.Settling.{without_next_read, without_reads_of};
 
@@ -19,50 +21,70 @@ use crate::tables::Tables;
 use ft_fields::Event;
 use ft_hist::Work;
 use ft_pairs::{At, Op, Variable, one_next};
+use ft_shelves::Sign;
 use ft_table::{Spot, hit_with};
 use std::alloc::AllocError;
 
-/// Makes the reading of a key at a place right. Refused for memory.
+/// A reading of a variable at a place, at the event that is held there.
+#[derive(Clone, Copy)]
+pub(crate) struct Reading<'a> {
+    pub(crate) variable: Variable,
+    pub(crate) at: At,
+    pub(crate) event: &'a Event,
+}
+
+/// Makes a reading right, where it comes or stays, or goes. Refused for memory.
 pub(crate) fn settle(
     tables: &mut Tables,
     scene: &Scene<'_>,
-    variable: &Variable,
-    at: At,
-    event: &Event,
+    reading: &Reading<'_>,
+    sign: Sign,
     work: &mut Work,
 ) -> Result<(), AllocError>
     requires shelved { AreShelved (triggers_of scene.now) tables.old }
-    requires role { role_on tables.old at.trigger ≡ Reads variable.now.saver }
-    requires own { IsOwn (Some (variable.now.key, event.now)) (hits_here (kept_on tables.old) at) }
-    requires stamped { event.now.stamp ≡ at.pos.stamp }
+    requires role { role_on tables.old reading.now.at.trigger ≡ Reads reading.now.variable.saver }
+    requires own { IsOwn (Some (reading.now.variable.key, reading.now.event.now))
+        (hits_here (kept_on tables.old) reading.now.at) }
+    requires stamped { reading.now.event.now.stamp ≡ reading.now.at.pos.stamp }
     ensures readers { OnOk result (ReadersChange tables.old tables.new) }
-    ensures others { OnOk result (StaysBut at (kept_on tables.old) (kept_on tables.new)) }
+    ensures others { OnOk result (StaysBut reading.now.at (kept_on tables.old) (kept_on tables.new)) }
     ensures right { OnOk result (IsEntry (values_by (triggers_of scene.now))
-        (kept_on tables.new).ops at (Reads variable.now.saver) (Some (variable.now.key, event.now))
-        (hits_here (kept_on tables.new) at) (read_here (kept_on tables.new) at)) }
+        (kept_on tables.new).ops reading.now.at (Reads reading.now.variable.saver)
+        (act_after sign (reading.now.variable.key, reading.now.event.now))
+        (hits_here (kept_on tables.new) reading.now.at) (read_here (kept_on tables.new) reading.now.at)) }
     ensures puts { work.new.puts ≤ work.old.puts + 1 }
     ensures evals { work.new.evals ≡ work.old.evals }
     ensures grow { StepsGrow work.old work.new }
 {
-    let found = tables.source(variable, at);
+    let at = reading.at;
+    let key = reading.variable.key;
+    let found = found_at(tables, &reading.variable, at, sign);
     let Some(trigger) = scene.triggers.get(&at.trigger) else {
         return Ok(());
     };
-    let Some(shelf) = tables.shelves.get_mut(&at.trigger) else {
+    let Some(shelf) = tables.shelf_mut(at.trigger) else {
         return Ok(());
     };
     shelf.note(at.pos)?;
-    shelf.take_hit(at.pos, variable.key);
+    shelf.take_hit(at.pos, key);
     match found {
         None => Ok(()),
         Some(saved) => {
             let read = Some(saved.pos);
-            shelf.put_hit(
-                hit_with(trigger, event, Spot::traced(at.pos), variable.key, read),
-                read,
-                work,
-            )
+            let hit = hit_with(trigger, reading.event, Spot::traced(at.pos), key, read);
+            shelf.put_hit(hit, read, work)
         }
+    }
+}
+
+/// What a reading of a variable finds at a place, where it comes or stays; one that goes finds
+/// nothing.
+fn found_at(tables: &Tables, variable: &Variable, at: At, sign: Sign) -> Option<At>
+    ensures { FindsBy sign ((kept_on tables.now).ops variable.now) at result }
+{
+    match sign {
+        Sign::Insert => tables.source(variable, at),
+        Sign::Retract => None,
     }
 }
 
@@ -71,23 +93,30 @@ fn settle_op(
     tables: &mut Tables,
     scene: &Scene<'_>,
     variable: &Variable,
-    step: (At, Op),
+    at: At,
+    op: Op,
     work: &mut Work,
 ) -> Result<(), AllocError>
     requires can { CanSettle scene.now tables.old }
-    requires there { (kept_on tables.old).ops variable.now step.0 ≡ Some step.1 }
+    requires there { (kept_on tables.old).ops variable.now at ≡ Some op }
     ensures readers { OnOk result (ReadersChange tables.old tables.new) }
     ensures right { OnOk result (Paid scene.now tables.old tables.new
-        (without_next_read (Some step))) }
+        (without_next_read (Some (at, op)))) }
     ensures puts { work.new.puts ≤ work.old.puts + 1 }
     ensures evals { work.new.evals ≡ work.old.evals }
     ensures grow { StepsGrow work.old work.new }
 {
-    let (at, op) = step;
     match op {
         Op::Save => Ok(()),
         Op::Read => match scene.lanes.get(at.pos.cpu, at.pos.line) {
-            Some(event) => settle(tables, scene, variable, at, &event, work),
+            Some(event) => {
+                let reading = Reading {
+                    variable: *variable,
+                    at,
+                    event: &event,
+                };
+                settle(tables, scene, &reading, Sign::Insert, work)
+            }
             None => Ok(()),
         },
     }
@@ -114,7 +143,7 @@ pub(crate) fn settle_next(
     // There is one next operation at most, so the one found here is the one that callers mean.
     one_next();
     match tables.next_op(variable, Some(at)) {
-        Some(step) => settle_op(tables, scene, variable, step, work),
+        Some((at, op)) => settle_op(tables, scene, variable, at, op, work),
         None => Ok(()),
     }
 }
@@ -134,9 +163,9 @@ pub(crate) fn settle_key(
     ensures grow { StepsGrow work.old work.new }
 {
     let mut next = tables.next_op(variable, None);
-    while let Some(step) = next {
-        settle_op(tables, scene, variable, step, work)?;
-        next = tables.next_op(variable, Some(step.0));
+    while let Some((at, op)) = next {
+        settle_op(tables, scene, variable, at, op, work)?;
+        next = tables.next_op(variable, Some(at));
     }
     Ok(())
 }

@@ -1,22 +1,24 @@
 //! Tables: the shelves of all attached triggers.
 
-ghost use Rattle.std.specs.Prelude.{◌≡◌, ◌+◌, ◌<◌, ◌≤◌, OnOk, OnErr, IfSome, Some, None};
+ghost use Rattle.std.specs.Prelude.{◌≡◌, ◌+◌, ◌<◌, ◌≤◌, OnOk, OnErr, OnSome, IfSome, Some, None, true};
+ghost use Rattle.std.specs.Borrow.{LendsSo, sem};
 ghost use Rattle.std.specs.FinMap as map;
-ghost use Rattle.std.specs.Option.{option_copied};
+ghost use Rattle.std.specs.Option.{option_copied, option_copied_mut};
 ghost use Rattle.ft_hist.specs.Steps.{StepsGrow};
-ghost use Rattle.ft_pairs.specs.Edits.{with_op, without_op};
 ghost use Rattle.ft_pairs.specs.Next.{IsNext};
 ghost use Rattle.ft_pairs.specs.Source.{IsSource};
 ghost use Rattle.ft_pairs.specs.declared.at.Op.TheVariants.{Read};
-ghost use Rattle.ft_table.specs.Spots.{traced};
+ghost use Rattle.ft_shelves.specs.Changes.{is_insert, op_after, set_op};
 ghost use Rattle.ft_shelves.specs.Shelves.{AddsShelf, ChangesShelf, DropsNotes, TakesNotes, role_on, kept_on};
-ghost use Rattle.ft_shelves.specs.Edits.{NotesReading, OpsChange, TakesHit};
+ghost use Rattle.ft_shelves.specs.Edits.{OpsChange};
+ghost use Rattle.ft_shelves.specs.contracts.shelf.Shelf as shelf;
+ghost use Rattle.ft_kept.specs.contracts.tables.Tables.{the_row};
 ghost use Rattle.ft_kept.specs.inner.Edits.{left_on};
 
-use ft_hist::{Key, Work};
+use ft_hist::Work;
 use ft_maps::{get, put, take};
 use ft_pairs::{At, Op, Role, Variable};
-use ft_shelves::Shelf;
+use ft_shelves::{Shelf, Sign};
 use std::alloc::{AllocError, Global};
 use std::collections::BTreeMap;
 use std::marker::Model;
@@ -76,8 +78,9 @@ impl Tables {
     pub fn take_notes(&mut self, id: u32)
         ensures { ChangesShelf id TakesNotes self.old self.new }
     {
-        if let Some(shelf) = self.shelves.get_mut(&id) {
-            shelf.take_notes(self.alloc);
+        let alloc = self.alloc;
+        if let Some(shelf) = self.shelf_mut(id) {
+            shelf.take_notes(alloc);
         }
     }
 
@@ -85,7 +88,7 @@ impl Tables {
     pub fn drop_notes(&mut self, id: u32)
         ensures { ChangesShelf id DropsNotes self.old self.new }
     {
-        if let Some(shelf) = self.shelves.get_mut(&id) {
+        if let Some(shelf) = self.shelf_mut(id) {
             shelf.drop_notes();
         }
     }
@@ -95,6 +98,15 @@ impl Tables {
         ensures { option_copied result ≡ map.get self.now id }
     {
         get(&self.shelves, &id)
+    }
+
+    /// The shelf of a trigger, to be changed in its place.
+    pub(crate) fn shelf_mut(&mut self, id: u32) -> Option<&mut Shelf>
+        ensures* writes_back { sem 𝓛 (LendsSo the_row shelf.the_row self.entry result
+            (λ n w. OnSome result (n ≡ map.insert self.old id w)) (λ n. n ≡ self.old)) }
+        ensures value { option_copied_mut result ≡ map.get self.old id }
+    {
+        self.shelves.get_mut(&id)
     }
 
     /// What a trigger does with its variable; one without a shelf has none.
@@ -130,54 +142,25 @@ impl Tables {
         }
     }
 
-    /// Puts a read of a variable at a place, where no operation stands. Refused for memory.
-    pub(crate) fn put_read(
+    /// Puts a read of a variable at a place, where no operation stands, or takes the operation there
+    /// away. Refused for memory.
+    pub(crate) fn change_read(
         &mut self,
         variable: &Variable,
         at: At,
+        sign: Sign,
         work: &mut Work,
     ) -> Result<(), AllocError>
-        requires free { (kept_on self.old).ops variable.now at ≡ None }
+        requires { is_insert sign ≡ true → (kept_on self.old).ops variable.now at ≡ None }
         ensures ok { OnOk result (ChangesShelf variable.now.saver
-            (OpsChange variable.now.key (with_op at Read)) self.old self.new) }
+            (OpsChange variable.now.key (set_op at (op_after sign Read))) self.old self.new) }
         ensures puts { work.new.puts ≤ work.old.puts + 1 }
         ensures evals { work.new.evals ≡ work.old.evals }
         ensures grow { StepsGrow work.old work.new }
     {
-        match self.shelves.get_mut(&variable.saver) {
-            Some(shelf) => shelf.put_op(variable.key, at, Op::Read, work),
+        match self.shelf_mut(variable.saver) {
+            Some(shelf) => shelf.change_op(variable.key, at, Op::Read, sign, work),
             None => Ok(()),
-        }
-    }
-
-    /// Takes the operation on a variable at a place away, if one stands there.
-    pub(crate) fn take_op(&mut self, variable: &Variable, at: At)
-        ensures { ChangesShelf variable.now.saver (OpsChange variable.now.key (without_op at))
-            self.old self.new }
-    {
-        if let Some(shelf) = self.shelves.get_mut(&variable.saver) {
-            shelf.take_op(&variable.key, at);
-        }
-    }
-
-    /// Notes what the reading at a place found, where notes are taken and nothing is noted of it
-    /// yet. Refused for memory.
-    pub(crate) fn note(&mut self, at: At) -> Result<(), AllocError>
-        ensures { OnOk result (ChangesShelf at.trigger (NotesReading at.pos) self.old self.new) }
-    {
-        match self.shelves.get_mut(&at.trigger) {
-            Some(shelf) => shelf.note(at.pos),
-            None => Ok(()),
-        }
-    }
-
-    /// Takes the hit of a key at a place away, and what the reading there found, if they are there.
-    pub(crate) fn take_hit(&mut self, key: Key, at: At)
-        ensures { ChangesShelf at.trigger (TakesHit (record { spot = traced at.pos; key = key }))
-            self.old self.new }
-    {
-        if let Some(shelf) = self.shelves.get_mut(&at.trigger) {
-            shelf.take_hit(at.pos, key);
         }
     }
 }

@@ -1,5 +1,5 @@
 -- All acts of an idle trigger come at once, from a list of events with its own.
-use Rattle.std.proofs.Common.{◌≡◌, ℕ, Bool, true, false, cond, refl, sym, ap, subst, ◌∙◌, List, [], ◌∷◌, Option, Some, None, Result, Ok, Err, OnOk, unwrap_or}
+use Rattle.std.proofs.Common.{◌≡◌, ℕ, Bool, true, false, cond, refl, sym, ap, subst, ◌∙◌, List, [], ◌∷◌, Option, Some, None, unwrap_or}
 use Rattle.std.specs.Prelude.{if◌then◌else◌}
 use Rattle.std.specs.List.{list_any}
 use Rattle.std.specs.Ordering.{nat_cmp, eq_by_cmp}
@@ -13,20 +13,24 @@ use Rattle.ft_hist.specs.Hist.{Hist}
 use Rattle.ft_hist.specs.Hit.{same_name}
 use Rattle.ft_groups.specs.Grouped.{Grouped, AreGrouped}
 use Rattle.ft_keys.specs.declared.key.Part.{Part}
-use Rattle.ft_kept.specs.Acts.{Acts, acts_of}
+use Rattle.ft_kept.specs.Acts.{Acts, AreHeld, acts_of}
+use Rattle.ft_kept.specs.Entries.{IsKept}
+use Rattle.ft_kept.specs.Repairs.{IsHeldAt}
+use Rattle.ft_kept.proofs.Forms.{roles_stay, shelved_stay}
 use Rattle.ft_kept.specs.AtOnce.{AllCome, AllHaveCome, AreGroupsOf, acts_with}
 use Rattle.ft_kept.specs.Shelves.{Shelves, FormsStay, admits_on, kept_on}
 use Rattle.ft_lanes.specs.Held.{Lanes}
 use Rattle.ft_pairs.specs.declared.at.At.{At}
+use Rattle.ft_pairs.specs.declared.role.Role.{Role}
+use Rattle.ft_table.specs.Values.{values_by}
 use Rattle.ft_base.specs.Base.{Triggers}
 use Rattle.ft_replay.specs.Merged.{merged}
 use Rattle.ft_replay.specs.Named.{is_on, named, events_on}
-use Rattle.ft_repair.specs.Outside.{acts_outside}
-use Rattle.ft_repair.specs.inner.Idle.{HasItsEvents, HasJoined, but_one}
+use Rattle.ft_repair.specs.inner.Joining.{HasItsEvents, is_one, with_trigger}
+use Rattle.ft_repair.specs.inner.KeptFor.{AreKeptFor}
 use Rattle.ft_repair.proofs.HeldActs.{held_is}
-use Rattle.ft_repair.proofs.ShelfForms.{shelves_stay, by_shelves, by_triggers}
-use Rattle.ft_repair.proofs.OneTrigger.{IsAmong, act_by, on_held, own_acts}
-use Rattle.ft_repair.proofs.Putting.{idle_none, idle_joined, outside_held}
+use Rattle.ft_repair.proofs.ShelfForms.{shelves_stay}
+use Rattle.ft_repair.proofs.OneTrigger.{IsAmong, act_by, all_acts_held, on_held, own_acts}
 
 -- the name of an attached trigger is one on which some trigger is
 among_all : (triggers : Triggers) (id : ℕ) (hist : Hist) → map.get triggers id ≡ Some hist → IsAmong hist (is_on triggers)
@@ -64,44 +68,42 @@ module _ (lanes : Lanes) (hist : Hist) (es : List (Pos × Traced)) (listed : Has
     grouped = its_groups;
   }
 
--- what two facts of a success tell together
-pub both_ok : {T E : Type 0} {P Q S : Type 0} (r : Result T E) → (P → Q → S) → OnOk r P → OnOk r Q → OnOk r S
-both_ok (Ok x) f p q = f p q
-both_ok (Err e) f p q = tt
-
 module _ (triggers : Triggers) (lanes : Lanes) (id : ℕ) (hist : Hist) (attached : map.get triggers id ≡ Some hist) (names : Name → Bool) (among : IsAmong hist names) where
   abbrev its_acts : Pos → Option (List Part × Traced)
   its_acts = acts_with hist (events_on names (merged lanes))
 
-  module _ (idle : ℕ → Bool) (here : idle id ≡ true) where
-    abbrev before : Acts
-    before = acts_outside idle triggers lanes
+  its_own : (pos : Pos) → acts_of triggers (events_on names (merged lanes)) (record { pos = pos; trigger = id }) ≡ its_acts pos
+  unfolding acts_of
+  its_own pos = ap (λ (h : Option Hist). act_by h (map.get (events_on names (merged lanes)) pos)) attached
 
+  module _ (input : Acts) (idle : (pos : Pos) → input (record { pos = pos; trigger = id }) ≡ None) where
     abbrev after : Acts
-    after = acts_outside (but_one id idle) triggers lanes
+    after = with_trigger triggers lanes id input
 
-    its_own : (pos : Pos) → acts_of triggers (events_on names (merged lanes)) (record { pos = pos; trigger = id }) ≡ its_acts pos
-    unfolding acts_of
-    its_own pos = ap (λ (h : Option Hist). act_by h (map.get (events_on names (merged lanes)) pos)) attached
-
-    all_come : AllCome id its_acts before after
+    all_come : AllCome id its_acts input after
     all_come = record {
-      elsewhere = λ q apart. sym (idle_joined triggers lanes id idle q) ∙ ap (λ (b : Bool). if b then acts_of triggers (merged lanes) q else before q) (ne_eqb q.trigger id apart);
-      absent = λ pos. idle_none triggers lanes id idle here (record { pos = pos; trigger = id }) refl;
+      elsewhere = λ q apart. ap (λ (b : Bool). if b then acts_of triggers (merged lanes) q else input q) (ne_eqb q.trigger id apart);
+      absent = idle;
       here = λ pos.
           let at : At = record { pos = pos; trigger = id } in
-          sym (idle_joined triggers lanes id idle at)
-          ∙ ap (λ (b : Bool). if b then acts_of triggers (merged lanes) at else before at) (eq-eqb id id refl)
-          ∙ sym (own_acts triggers lanes id before hist attached (outside_held triggers lanes idle) names among at refl)
+          ap (λ (b : Bool). if b then acts_of triggers (merged lanes) at else input at) (eq-eqb id id refl)
+          ∙ sym (own_acts triggers lanes id hist attached names among at refl)
           ∙ its_own pos;
     }
 
-  pub joined_at_once : (old new : Shelves) → FormsStay old new → AllHaveCome triggers id its_acts old new → HasJoined id triggers lanes old new
-  joined_at_once old new forms come idle here is =
-      let before = acts_outside idle triggers lanes in
-      let after = acts_outside (but_one id idle) triggers lanes in
-      record {
-        each = shelves_stay triggers old new is.each forms;
-        kept = by_triggers triggers old is.each (admits_on new) after (kept_on new)
-            (come before after (all_come idle here) (by_shelves triggers old is.each (admits_on old) before (kept_on old) is.kept));
-      }
+    after_held : AreHeld lanes input → AreHeld lanes after
+    after_held held at key event is =
+        elim (is_one id at.trigger) as (λ (b : Bool). (if b then acts_of triggers (merged lanes) at else input at) ≡ Some (key, event) → IsHeldAt lanes at.pos event) [
+          | true ↦ λ own. all_acts_held triggers lanes at key event own
+          | false ↦ λ other. held at key event other
+        ] is
+
+    pub joined_at_once : (old new : Shelves) → AreKeptFor triggers lanes input old → FormsStay old new → AllHaveCome triggers id its_acts old new → AreKeptFor triggers lanes after new
+    joined_at_once old new kept forms come = record {
+      each = shelves_stay triggers old new kept.each forms;
+      views = record {
+        shelved = shelved_stay triggers old new forms kept.views.shelved;
+        held = after_held kept.views.held;
+        kept = subst (λ (role : ℕ → Role). IsKept role (values_by triggers) (admits_on new) after (kept_on new)) (λ i k. sym (roles_stay old new forms k) i) (come input after all_come kept.views.kept);
+      };
+    }

@@ -4,10 +4,11 @@ use Rattle.std.specs.Prelude.{◌==◌, ◌&&◌, if◌then◌else◌, option_ma
 use Rattle.std.specs.List.{list_any}
 use Rattle.std.specs.Ordering.{nat_cmp, eq_by_cmp}
 use Rattle.std.specs.FinMap as map
-use Rattle.std.specs.FinMap.{get-entries}
+use Rattle.std.specs.FinMap.{get-entries, get-remove}
 use Rattle.std.specs.FinMap.Entries as entries
 use Rattle.std.proofs.lemmas.Bool.{eqb-true, or_parts}
 use Rattle.std.proofs.lemmas.Map.Entries.{option_filter}
+use Rattle.ft_fields.specs.Places.{pos_cmp, pos_cmp_total}
 use Rattle.ft_fields.specs.Traced.{Traced, name_of}
 use Rattle.ft_fields.specs.declared.pos.Pos.{Pos}
 use Rattle.ft_hist.specs.Hist.{Hist}
@@ -15,6 +16,8 @@ use Rattle.ft_hist.specs.Hit.{hit, key_of, passes_filter, same_name}
 use Rattle.ft_keys.specs.declared.key.Part.{Part}
 use Rattle.ft_lanes.specs.Held.{Lanes, event_at}
 use Rattle.ft_kept.specs.Acts.{AreHeld, acts_of}
+use Rattle.ft_kept.specs.Views.{HasAt, act_at}
+use Rattle.ft_pairs.specs.declared.at.At.{At}
 use Rattle.ft_base.specs.Base.{Triggers}
 use Rattle.ft_replay.specs.Merged.{Events, merged, held_at}
 use Rattle.ft_replay.specs.Named.{is_on, is_named}
@@ -40,6 +43,14 @@ AllHeld lanes events = (pos : Pos) (event : Traced) → map.get events pos ≡ S
 pub merged_held : (lanes : Lanes) → AllHeld lanes (merged lanes)
 merged_held lanes pos event is = sym (merged_at pos lanes) ∙ is
 
+-- and so they are without one
+pub less_held : (lanes : Lanes) (events : Events) (pos : Pos) → AllHeld lanes events → AllHeld lanes (map.remove events pos)
+less_held lanes events pos held q x found =
+    elim (eq_by_cmp pos_cmp q pos) as (λ (b : Bool). cond b None (map.get events q) ≡ Some x → held_at lanes q ≡ Some x) [
+      | true ↦ λ none. let both : ◌≡◌ {A = Option Traced} None (Some x) = none in absurd cc
+      | false ↦ λ there. held q x there
+    ] (sym (get-remove pos_cmp_total events pos q) ∙ found)
+
 abbrev pub with_event : Traced → Option (List Part) → Option (List Part × Traced)
 with_event event key = option_map (λ k. (k, event)) key
 
@@ -61,6 +72,16 @@ acts_held triggers lanes events all at key event is =
       | None ↦ λ _ e. let both : ◌≡◌ {A = Option (List Part × Traced)} None (Some (key, event)) = e in absurd cc
       | Some own ↦ λ there e. held_is lanes at.pos event (all at.pos event (there ∙ ap (λ (x : Traced). Some x) (act_event (map.get triggers at.trigger) own key event e)))
     ] refl is
+
+-- the acts at a place are those at its event
+pub acts_there : (triggers : Triggers) (events : Events) (pos : Pos) (event : Option Traced) → map.get events pos ≡ event → HasAt triggers (acts_of triggers events) pos event
+unfolding acts_of
+acts_there triggers events pos event there id = ap (act_at triggers id) there
+
+-- and alike, where the events are
+pub acts_alike : (triggers : Triggers) (events others : Events) (at : At) → map.get events at.pos ≡ map.get others at.pos → acts_of triggers events at ≡ acts_of triggers others at
+unfolding acts_of
+acts_alike triggers events others at same = ap (act_at triggers at.trigger) same
 
 -- ---- acts are of named events
 

@@ -17,15 +17,18 @@ use Rattle.ft_table.specs.Tabled.{Tabled}
 use Rattle.ft_table.specs.Values.{values_by}
 use Rattle.ft_table.specs.Spots.{traced}
 use Rattle.ft_kept.specs.Acts.{Acts, acts_of, op_of}
-use Rattle.ft_kept.specs.Entries.{IsKept, IsRight, hits_here, read_here}
+use Rattle.ft_kept.specs.Entries.{IsRight, hits_here, read_here}
 use Rattle.ft_kept.specs.Shelves.{Shelved, Shelves, admits_on, kept_on}
 use Rattle.ft_base.specs.Base.{Triggers}
+use Rattle.ft_base.specs.Reachable.{HasSavers}
 use Rattle.ft_base.specs.Roles.{role_at}
 use Rattle.ft_replay.specs.Merged.{merged}
 use Rattle.ft_repair.specs.KeptShelves.{AreKept, HasItsShelf}
-use Rattle.ft_repair.specs.inner.Built.{AreNew, HasNewShelf}
 use Rattle.ft_repair.specs.Outside.{AreKeptOutside, acts_outside}
-use Rattle.ft_repair.specs.inner.Idle.{AreKeptIdle, AreRenewed}
+use Rattle.ft_repair.specs.inner.Joining.{AreRenewed, HasNewShelf}
+use Rattle.ft_repair.specs.inner.KeptFor.{AreKeptFor}
+use Rattle.ft_repair.proofs.KeptFor.{for_kept, right_for}
+use Rattle.ft_repair.proofs.OneTrigger.{outside_held}
 use Rattle.ft_repair.proofs.Alike.{no_act_of, same_ops, no_hits, no_read, no_ops, op_same, no_op_there, no_op_of, right_moves, right_none}
 
 -- nothing is kept of a trigger
@@ -41,7 +44,7 @@ bare_none shelves id none = record {
   ops = no_ops shelves id none;
 }
 
-bare_new : (triggers : Triggers) (hist : Hist) (shelves : Shelves) (id : ℕ) → HasNewShelf triggers (Some hist) (map.get shelves id) → IsBare shelves id
+bare_new : (triggers : Triggers) (hist : Hist) (shelves : Shelves) (id : ℕ) → HasNewShelf triggers hist (map.get shelves id) → IsBare shelves id
 unfolding kept_on
 bare_new triggers hist shelves id has = record {
   hits = λ pos key. ap (λ (o : Option Shelved). option_and_then (λ (s : Shelved). map.get s.table.hits (record { spot = traced pos; key = key })) o) has.1.0
@@ -51,7 +54,7 @@ bare_new triggers hist shelves id has = record {
   ops = λ key at. ap (λ (o : Option Shelved). option_and_then (λ (s : Shelved). ops_of s.ops key at) o) has.1.0 ∙ has.1.1.ops key at;
 }
 
-its_new : (triggers : Triggers) (hist : Hist) (shelf : Option Shelved) → HasNewShelf triggers (Some hist) shelf → HasItsShelf triggers (Some hist) shelf
+its_new : (triggers : Triggers) (hist : Hist) (shelf : Option Shelved) → HasNewShelf triggers hist shelf → HasItsShelf triggers (Some hist) shelf
 its_new triggers hist shelf has = (
   has.0,
   (
@@ -133,39 +136,25 @@ module _ (triggers : Triggers) (lanes : Lanes) (family : ℕ → Bool) (old new 
             (λ saver reads key i q. same_ops old new saver (saver_stays at out saver reads) key q i) (outside.entries at out)
       ] refl
 
-  pub renewed_idle : AreKeptIdle family triggers lanes new
-  renewed_idle = record { each = its; kept = record { ops = ops; entries = λ at. inr (right at) } }
+  pub renewed_idle : HasSavers triggers → AreKeptFor triggers lanes acts new
+  renewed_idle savers = right_for triggers lanes savers acts (outside_held triggers lanes family) new its (record { ops = ops; entries = λ at. inr (right at) })
 
 -- ---- all get new shelves
 
 -- where all have new shelves, all are idle
-pub new_idle : (triggers : Triggers) (lanes : Lanes) (shelves : Shelves) → AreNew triggers shelves → AreKeptIdle (λ _. true) triggers lanes shelves
-new_idle triggers lanes shelves new = renewed_idle triggers lanes (λ _. true) nothing shelves
+pub new_idle : (triggers : Triggers) (lanes : Lanes) → HasSavers triggers → (shelves : Shelves) → AreRenewed triggers (λ _. true) map.empty shelves → AreKeptFor triggers lanes (acts_outside (λ _. true) triggers lanes) shelves
+new_idle triggers lanes savers shelves renewed = renewed_idle triggers lanes (λ _. true) map.empty shelves
     (record {
       each = λ _ out. absurd (true≢false out);
-      none = λ id _. nothing_at id;
+      none = λ id _. get-empty {X = Shelved} nat_cmp id;
       ops = λ _ _ out. absurd (true≢false out);
       entries = λ _ out. absurd (true≢false out);
     })
-    (record {
-      stay = λ _ out. absurd (true≢false out);
-      none = λ id none. subst (λ (o : Option Hist). HasNewShelf triggers o (map.get shelves id)) none (new id) ∙ sym (nothing_at id);
-      fresh = λ id hist _ there. subst (λ (o : Option Hist). HasNewShelf triggers o (map.get shelves id)) there (new id);
-    })
-    (λ _ _ out _ _. true≢false out)
-  where
-    nothing : Shelves
-    nothing = map.empty
-
-    nothing_at : (id : ℕ) → map.get nothing id ≡ None
-    nothing_at id = get-empty {X = Shelved} nat_cmp id
+    renewed (λ _ _ out _ _. true≢false out) savers
 
 -- without triggers nothing is kept
 pub empty_kept : AreKept map.empty (merged map.empty) map.empty
-empty_kept = record {
-  each = idle.each;
-  kept = subst (λ (acts : Acts). IsKept (role_at none) (values_by none) (admits_on nothing) acts (kept_on nothing)) no_acts idle.kept;
-}
+empty_kept = for_kept none map.empty (merged map.empty) nothing (subst (λ (input : Acts). AreKeptFor none map.empty input nothing) no_acts idle)
   where
     none : Triggers
     none = map.empty
@@ -173,8 +162,11 @@ empty_kept = record {
     nothing : Shelves
     nothing = map.empty
 
-    idle : AreKeptIdle (λ _. true) none map.empty nothing
-    idle = new_idle none map.empty nothing (λ id. subst (λ (o : Option Hist). HasNewShelf none o (map.get nothing id)) (sym (get-empty {X = Hist} nat_cmp id)) (get-empty {X = Shelved} nat_cmp id))
+    nobody : (id : ℕ) (hist : Hist) → map.get none id ≡ Some hist → ⊥
+    nobody id hist there = let both : ◌≡◌ {A = Option Hist} None (Some hist) = sym (get-empty {X = Hist} nat_cmp id) ∙ there in absurd cc
+
+    idle : AreKeptFor none map.empty (acts_outside (λ _. true) none map.empty) nothing
+    idle = new_idle none map.empty (λ id hist _ _ there _. absurd (nobody id hist there)) nothing (record { stay = λ _ _. refl; none = λ _ _. refl; fresh = λ id hist _ there. absurd (nobody id hist there) })
 
     no_acts : acts_outside (λ _. true) none map.empty ≡ acts_of none (merged map.empty)
     no_acts i at = sym (no_act_of none (merged map.empty) at (get-empty {X = Hist} nat_cmp at.trigger)) i

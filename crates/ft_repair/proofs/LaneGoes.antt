@@ -1,146 +1,155 @@
 -- The events of a lane go from what is kept, one by one.
-use Rattle.std.proofs.Common.{◌≡◌, ◌+◌, ◌≤◌, ℕ, Bool, true, false, cond, List, [], ◌∷◌, refl, sym, ap, subst, ◌∙◌, Option, Some, None, option_map, unwrap_or, arith}
-use Rattle.std.specs.Prelude.{◌==◌, ◌&&◌, if◌then◌else◌, option_and_then}
-use Rattle.std.specs.List.{sum_by}
+use Rattle.std.proofs.Common.{◌≡◌, ◌+◌, ◌≤◌, ℕ, Bool, true, false, cond, List, [], ◌∷◌, refl, sym, ap, ◌∙◌, Option, Some, None, option_map, unwrap_or, arith}
+use Rattle.std.specs.Prelude.{◌==◌, ◌&&◌, if◌then◌else◌, map as list_map, option_and_then}
+use Rattle.std.specs.List.{AllByRecursion, IsDistinct, sum_by}
 use Rattle.std.specs.List.Sorted.{IsStrictlySortedBy}
 use Rattle.std.specs.Ordering.{nat_cmp, is_eq, eq_by_cmp}
-use Rattle.std.specs.Cmp.{nat_cmp_total, nat_eq_equiv, unsigned_tied, eq_by_cmp_equiv}
+use Rattle.std.specs.Cmp.{nat_cmp_total}
 use Rattle.std.specs.Map.{keys_of}
 use Rattle.std.specs.FinMap as map
 use Rattle.std.specs.FinMap.{find, get-entries, get-remove, entries_sorted, same_map, nat_cmp-IsAntisymmetric}
-use Rattle.std.proofs.lemmas.Bool.{eq-eqb}
+use Rattle.std.specs.declared.cmp.Ordering.TheVariants.{Less}
 use Rattle.std.proofs.lemmas.List.Sums.{sum_by-cons}
-use Rattle.std.proofs.lemmas.Map.Keys.{sorted_tail}
+use Rattle.std.proofs.lemmas.Map.Keys.{sorted_head, sorted_tail}
 use Rattle.ft_fields.specs.Traced.{Traced}
-use Rattle.ft_fields.specs.Places.{pos_cmp, pos_cmp_total, pos_same}
+use Rattle.ft_fields.specs.Places.{pos_cmp, pos_cmp_total}
 use Rattle.ft_fields.specs.declared.pos.Pos.{Pos}
 use Rattle.ft_hist.specs.Tests.{count_on}
-use Rattle.ft_kept.specs.Acts.{AreHeld, acts_of}
-use Rattle.ft_kept.specs.Entries.{IsKept}
-use Rattle.ft_kept.specs.Repairs.{EventCanGo, EventHasGone}
-use Rattle.ft_kept.specs.Shelves.{Shelves, FormsStay, role_on, admits_on, kept_on}
+use Rattle.ft_kept.specs.Acts.{Acts, acts_of}
 use Rattle.ft_kept.specs.Memory as memory
-use Rattle.ft_lanes.specs.Held.{Lane, Lanes}
-use Rattle.ft_maps.specs.Entries.{same_from_tie, strictly_sorted}
-use Rattle.ft_table.specs.Values.{values_by}
+use Rattle.ft_kept.specs.Shelves.{Shelves}
+use Rattle.ft_shelves.specs.declared.sign.Sign.TheVariants.{Retract}
+use Rattle.ft_shelves.proofs.Decided.{itself}
+use Rattle.ft_lanes.specs.Held.{Lane, Lanes, event_at}
+use Rattle.ft_maps.specs.Entries.{get-remove_same, same_from_tie, strictly_sorted}
 use Rattle.ft_base.specs.Base.{Triggers}
-use Rattle.ft_repair.specs.KeptShelves.{AreKept}
+use Rattle.ft_base.specs.Reachable.{HasSavers}
+use Rattle.ft_base.proofs.Apart.{all_map, entries_found}
 use Rattle.ft_answers.specs.Deferral.{IsPlainLane}
-use Rattle.ft_replay.specs.Merged.{Events, merged, held_at, place_of}
-use Rattle.ft_replay.proofs.Places.{merged_at, none_later}
-use Rattle.ft_repair.proofs.HeldActs.{AllHeld, merged_held, acts_held, held_is}
-use Rattle.ft_repair.proofs.ShelfForms.{shelves_stay, by_shelves, by_triggers, plain_shelf}
-use Rattle.ft_repair.proofs.MergedLanes.{tie_at}
+use Rattle.ft_replay.specs.Merged.{merged, place_of}
+use Rattle.ft_replay.proofs.Places.{merged_at}
+use Rattle.ft_repair.specs.KeptShelves.{AreKept}
+use Rattle.ft_repair.proofs.Changing.{Changes, IsChanging, changing_all, changing_none, none_left}
+use Rattle.ft_repair.proofs.HeldActs.{acts_alike, acts_there, held_is, merged_held}
+use Rattle.ft_repair.proofs.KeptFor.{for_kept, kept_for}
+use Rattle.ft_repair.proofs.MergedLanes.{placed_there, tie_at}
+use Rattle.ft_repair.proofs.ShelfForms.{plain_shelf}
+
+tie_nat : (a b : ℕ) → eq_by_cmp nat_cmp a b ≡ true → a ≡ b
+tie_nat = same_from_tie nat_cmp-IsAntisymmetric
 
 -- an event, where it has this stamp
 abbrev on_stamp : ℕ → Traced → Option Traced
 on_stamp stamp e = if e.stamp == stamp then Some e else None
 
-stamp_tie : (stamp : ℕ) (e : Traced) → on_stamp stamp e ≡ cond (is_eq (nat_cmp stamp e.stamp)) (Some e) None
-stamp_tie stamp e = ap (λ (b : Bool). cond b (Some e) None) (sym (unsigned_tied stamp e.stamp ∙ nat_eq_equiv.symm stamp e.stamp))
-
-tie_nat : (a b : ℕ) → eq_by_cmp nat_cmp a b ≡ true → a ≡ b
-tie_nat = same_from_tie nat_cmp-IsAntisymmetric
-
-nat_tie : (a : ℕ) → eq_by_cmp nat_cmp a a ≡ true
-nat_tie a = (eq_by_cmp_equiv nat_cmp_total).refl a
-
 -- the event of a line, by the lane
 abbrev in_lane : ℕ → Option Lane → Option Traced
 in_lane line lane = option_and_then (λ (l : Lane). map.get l.events line) lane
 
--- the lines that are left, without the first
-one_gone : (stamp : ℕ) (tied cpu line : Bool) (e : Traced) (found other : Option Traced) → on_stamp stamp e ≡ cond tied (Some e) None → (line ≡ true → found ≡ None)
-    → cond (tied && (cpu && line)) None (cond cpu (option_and_then (on_stamp stamp) (cond line (Some e) found)) other) ≡ cond cpu (option_and_then (on_stamp stamp) found) other
-one_gone stamp true true true e found other is none = sym (ap (option_and_then (on_stamp stamp)) (none refl))
-one_gone stamp false true true e found other is none = is ∙ sym (ap (option_and_then (on_stamp stamp)) (none refl))
-one_gone stamp true true false e found other is none = refl
-one_gone stamp false true false e found other is none = refl
-one_gone stamp true false line e found other is none = refl
-one_gone stamp false false line e found other is none = refl
+never : (a b : Bool) → (a && (b && false)) ≡ false
+never true true = refl
+never true false = refl
+never false b = refl
+
+module _ (cpu : ℕ) where
+  -- the events of lines, each at its place
+  abbrev pub placed : List (ℕ × Traced) → List (Pos × Traced)
+  placed lines = list_map (λ entry. (place_of cpu entry, entry.1)) lines
+
+  all_placed : (P : Pos × Traced → Type 0) (lines : List (ℕ × Traced)) → AllByRecursion (λ e. P (place_of cpu e, e.1)) lines → AllByRecursion P (placed lines)
+  all_placed P [] all = tt
+  all_placed P (e ∷ lines) all = (all.0, all_placed P lines all.1)
+
+  lines_apart : (lines : List (ℕ × Traced)) → IsStrictlySortedBy nat_cmp (keys_of lines) → IsDistinct (eq_by_cmp pos_cmp) (keys_of (placed lines))
+  unfolding IsDistinct
+  lines_apart [] sorted = tt
+  lines_apart (e ∷ lines) sorted = (above lines (sorted_head nat_cmp e.0 (keys_of lines) sorted), lines_apart lines (sorted_tail nat_cmp e.0 (keys_of lines) sorted))
+    where
+      above : (es : List (ℕ × Traced)) → AllByRecursion (λ q. nat_cmp e.0 q ≡ Less) (keys_of es) → AllByRecursion (λ k. eq_by_cmp pos_cmp (place_of cpu e) k ≡ false) (keys_of (placed es))
+      above [] less = tt
+      above (x ∷ es) less = (
+        tie_at (place_of cpu e) (place_of cpu x) ∙ ap (λ o. is_eq (nat_cmp e.1.stamp x.1.stamp) && (eq_by_cmp nat_cmp cpu cpu && is_eq o)) less.0 ∙ never (is_eq (nat_cmp e.1.stamp x.1.stamp)) (eq_by_cmp nat_cmp cpu cpu),
+        above es less.1,
+      )
+
+  -- an event of these lines stands at its place
+  stands : (q : Pos) (x : Traced) → q.cpu ≡ cpu → x.stamp ≡ q.stamp → (lines : List (ℕ × Traced)) → find nat_cmp q.line lines ≡ Some x → find pos_cmp q (placed lines) ≡ None → ⊥
+  stands q x own stamp [] is none = let both : ◌≡◌ {A = Option Traced} None (Some x) = is in absurd cc
+  stands q x own stamp (e ∷ lines) is none =
+      elim (eq_by_cmp nat_cmp q.line e.0) as (λ (b : Bool). eq_by_cmp nat_cmp q.line e.0 ≡ b → cond b (Some e.1) (find nat_cmp q.line lines) ≡ Some x → ⊥) [
+        | true ↦ λ tie here.
+            let event : e.1 ≡ x = ap (λ (o : Option Traced). unwrap_or o x) here in
+            let place : q ≡ place_of cpu e = λ i. record { stamp = (sym stamp ∙ ap (λ (t : Traced). t.stamp) (sym event)) i; cpu = own i; line = tie_nat q.line e.0 tie i } in
+            let both : ◌≡◌ {A = Option Traced} (Some e.1) None =
+            ap (λ (b : Bool). cond b (Some e.1) (find pos_cmp q (placed lines))) (sym (itself pos_cmp_total q) ∙ ap (eq_by_cmp pos_cmp q) place) ∙ none in
+            absurd cc
+        | false ↦ λ _ later. elim (eq_by_cmp pos_cmp q (place_of cpu e)) as (λ (b : Bool). cond b (Some e.1) (find pos_cmp q (placed lines)) ≡ None → ⊥) [
+          | true ↦ λ some. let both : ◌≡◌ {A = Option Traced} (Some e.1) None = some in absurd cc
+          | false ↦ λ rest. stands q x own stamp lines later rest
+        ] none
+      ] refl is
 
 module _ (triggers : Triggers) (lanes : Lanes) (cpu : ℕ) where
-  -- what is held at a place, of the lane where it is among some lines
-  abbrev left_at : List (ℕ × Traced) → Pos → Option Traced
-  left_at rest pos = cond (eq_by_cmp nat_cmp pos.cpu cpu) (option_and_then (on_stamp pos.stamp) (find nat_cmp pos.line rest)) (held_at lanes pos)
+  abbrev others : Lanes
+  others = map.remove lanes cpu
 
-  -- kept of all events but those of the lane that went, where some lines are left
-  pub record IsGoing (shelves : Shelves) (rest : List (ℕ × Traced)) : Type 0 where
-    pub events : Events
-    pub kept : AreKept triggers events shelves
-    pub left : (pos : Pos) → map.get events pos ≡ left_at rest pos
-    pub held : AllHeld lanes events
-    pub sorted : IsStrictlySortedBy nat_cmp (keys_of rest)
+  abbrev pub first : Acts
+  first = acts_of triggers (merged lanes)
 
-  -- first all are left
-  pub going_all : (lane : Lane) → map.get lanes cpu ≡ Some lane → (shelves : Shelves) → AreKept triggers (merged lanes) shelves → IsGoing shelves (map.entries lane.events)
-  going_all lane there shelves kept = record {
-    events = merged lanes;
-    kept = kept;
-    left = λ pos. merged_at pos lanes ∙ elim (eq_by_cmp nat_cmp pos.cpu cpu) as (λ (b : Bool). eq_by_cmp nat_cmp pos.cpu cpu ≡ b
-        → held_at lanes pos ≡ cond b (option_and_then (on_stamp pos.stamp) (find nat_cmp pos.line (map.entries lane.events))) (held_at lanes pos)) [
-          | true ↦ λ tie. ap (option_and_then (on_stamp pos.stamp)) (ap (in_lane pos.line) (ap (map.get lanes) (tie_nat pos.cpu cpu tie) ∙ there) ∙ get-entries lane.events pos.line)
-          | false ↦ λ _. refl
-        ] refl;
-    held = merged_held lanes;
-    sorted = strictly_sorted nat_cmp (map.entries lane.events) (entries_sorted lane.events);
-  }
+  abbrev pub last : Acts
+  last = acts_of triggers (merged others)
 
-  module _ (shelves : Shelves) (e : ℕ × Traced) (rest : List (ℕ × Traced)) (is : IsGoing shelves (e ∷ rest)) where
-    abbrev pos : Pos
-    pos = place_of cpu e
+  -- some lines of the lane are left
+  abbrev pub IsGoing : List (ℕ × Traced) → Shelves → Type 0
+  IsGoing lines shelves = IsChanging triggers lanes (λ _. true) Retract first last (placed cpu lines) shelves
 
-    -- the first of them is there
-    present : map.get is.events pos ≡ Some e.1
-    present =
-        is.left pos
-        ∙ (λ i. cond (nat_tie cpu i) (option_and_then (on_stamp e.1.stamp) (cond (nat_tie e.0 i) (Some e.1) (find nat_cmp e.0 rest))) (held_at lanes pos))
-        ∙ ap (λ (b : Bool). if b then Some e.1 else None) (eq-eqb e.1.stamp e.1.stamp refl)
+  none_then : (q : Pos) → q.cpu ≡ cpu → map.get (merged others) q ≡ None
+  none_then q own = merged_at q others ∙ ap (λ (o : Option Lane). option_and_then (on_stamp q.stamp) (in_lane q.line o)) (ap (map.get others) own ∙ get-remove_same nat_cmp_total lanes cpu)
 
-    all_held : AreHeld lanes (acts_of triggers is.events)
-    all_held = acts_held triggers lanes is.events is.held
+  same_then : (q : Pos) → eq_by_cmp nat_cmp q.cpu cpu ≡ false → map.get (merged lanes) q ≡ map.get (merged others) q
+  same_then q other =
+      merged_at q lanes
+      ∙ sym (merged_at q others ∙ ap (λ (o : Option Lane). option_and_then (on_stamp q.stamp) (in_lane q.line o)) (get-remove nat_cmp_total lanes cpu q.cpu ∙ ap (λ (b : Bool). cond b None (map.get lanes q.cpu)) other))
 
-    with_here : IsKept (role_on shelves) (values_by triggers) (admits_on shelves) (acts_of triggers is.events) (kept_on shelves)
-    with_here = by_shelves triggers shelves is.kept.each (admits_on shelves) (acts_of triggers is.events) (kept_on shelves) is.kept.kept
+  module _ (lane : Lane) (there : map.get lanes cpu ≡ Some lane) where
+    line_held : (e : ℕ × Traced) → map.get lane.events e.0 ≡ Some e.1 → event_at lanes cpu e.0 ≡ Some e.1
+    line_held e is = ap (in_lane e.0) there ∙ is
 
-    pub going_can : EventCanGo triggers lanes pos e.1 shelves
-    going_can = record { events = is.events; present = present; held = all_held; kept = with_here }
-
-    -- where the lane is of plain hits, so is its event
-    pub going_plain : IsPlainLane triggers lanes cpu → memory.IsPlainHit triggers shelves e.1
-    going_plain plain id hist attached key hits =
-        plain_shelf triggers shelves is.kept.each id hist attached (plain e.0 e.1 (held_is lanes pos e.1 (is.held pos e.1 present)).0 id hist attached key hits)
-
-    -- when it went, the others are left
-    pub going_fewer : (new : Shelves) → FormsStay shelves new → EventHasGone triggers lanes pos e.1 shelves new → IsGoing new rest
-    going_fewer new forms right = record {
-      events = map.remove is.events pos;
-      kept = record {
-        each = shelves_stay triggers shelves new is.kept.each forms;
-        kept = by_triggers triggers shelves is.kept.each (admits_on new) (acts_of triggers (map.remove is.events pos)) (kept_on new) (right is.events present all_held with_here);
-      };
-      left = λ q.
-          get-remove pos_cmp_total is.events pos q
-          ∙ (λ i. cond (tie_at q pos i) None (is.left q i))
-          ∙ one_gone q.stamp (is_eq (nat_cmp q.stamp e.1.stamp)) (eq_by_cmp nat_cmp q.cpu cpu) (eq_by_cmp nat_cmp q.line e.0) e.1 (find nat_cmp q.line rest) (held_at lanes q) (stamp_tie q.stamp e.1) (none_later q.line e rest is.sorted);
-      held = λ q x found. elim (eq_by_cmp pos_cmp q pos) as (λ (b : Bool). cond b None (map.get is.events q) ≡ Some x → held_at lanes q ≡ Some x) [
-        | true ↦ λ none. let both : ◌≡◌ {A = Option Traced} None (Some x) = none in absurd cc
-        | false ↦ λ there. is.held q x there
-      ] (sym (get-remove pos_cmp_total is.events pos q) ∙ found);
-      sorted = sorted_tail nat_cmp e.0 (keys_of rest) is.sorted;
+    line_goes : (e : ℕ × Traced) → map.get lane.events e.0 ≡ Some e.1 → Changes triggers lanes (λ _. true) Retract first last (place_of cpu e, e.1)
+    line_goes e is = record {
+      held = (line_held e is, refl);
+      before = λ id _. acts_there triggers (merged lanes) (place_of cpu e) (Some e.1) (placed_there lanes cpu e.0 e.1 (line_held e is)) id;
+      after = λ id _. acts_there triggers (merged others) (place_of cpu e) None (none_then (place_of cpu e) refl) id;
     }
 
-  without_at : (q : Pos) (tied : Bool) → option_and_then (on_stamp q.stamp) (in_lane q.line (cond tied None (map.get lanes q.cpu))) ≡ cond tied None (held_at lanes q)
-  without_at q true = refl
-  without_at q false = refl
+    -- at a place of none of its lines nothing changes
+    same_elsewhere : (q : Pos) → find pos_cmp q (placed cpu (map.entries lane.events)) ≡ None → map.get (merged lanes) q ≡ map.get (merged others) q
+    same_elsewhere q none = elim (eq_by_cmp nat_cmp q.cpu cpu) as (λ (b : Bool). eq_by_cmp nat_cmp q.cpu cpu ≡ b → map.get (merged lanes) q ≡ map.get (merged others) q) [
+      | true ↦ λ tie. nothing (tie_nat q.cpu cpu tie) (map.get (merged lanes) q) refl ∙ sym (none_then q (tie_nat q.cpu cpu tie))
+      | false ↦ λ other. same_then q other
+    ] refl
+      where
+        nothing : q.cpu ≡ cpu → (o : Option Traced) → map.get (merged lanes) q ≡ o → o ≡ None
+        nothing own None is = refl
+        nothing own (Some x) is =
+            let held = held_is lanes q x (merged_held lanes q x is) in
+            absurd (stands cpu q x own held.1 (map.entries lane.events) (sym (ap (in_lane q.line) (ap (map.get lanes) own ∙ there) ∙ get-entries lane.events q.line) ∙ held.0) none)
+
+    -- first all are left
+    pub going_all : HasSavers triggers → (shelves : Shelves) → AreKept triggers (merged lanes) shelves → IsGoing (map.entries lane.events) shelves
+    going_all savers shelves kept = changing_all triggers lanes (λ _. true) Retract first last (placed cpu (map.entries lane.events)) shelves
+        (kept_for triggers lanes savers (merged lanes) (merged_held lanes) shelves kept)
+        (λ at out. acts_alike triggers (merged lanes) (merged others) at (same_elsewhere at.pos (none_left (find pos_cmp at.pos (placed cpu (map.entries lane.events))) out)))
+        (all_placed cpu _ (map.entries lane.events) (all_map _ _ line_goes (map.entries lane.events) (entries_found nat_cmp nat_cmp_total lane.events)))
+        (lines_apart cpu (map.entries lane.events) (strictly_sorted nat_cmp (map.entries lane.events) (entries_sorted lane.events)))
+
+  -- where the lane is of plain hits, so is its event
+  pub going_plain : (e : ℕ × Traced) (rest : List (ℕ × Traced)) (shelves : Shelves) → IsGoing (e ∷ rest) shelves → IsPlainLane triggers lanes cpu → memory.IsPlainHit triggers shelves e.1
+  going_plain e rest shelves is plain id hist attached key hits = plain_shelf triggers shelves is.kept.each id hist attached (plain e.0 e.1 is.changes.0.held.0 id hist attached key hits)
 
   -- at last they are all gone
-  pub going_none : (shelves : Shelves) → IsGoing shelves [] → AreKept triggers (merged (map.remove lanes cpu)) shelves
-  going_none shelves is = subst (λ (events : Events). AreKept triggers events shelves) (same_map pos_cmp_total pos_same is.events (merged (map.remove lanes cpu)) (λ q.
-      is.left q
-      ∙ sym (merged_at q (map.remove lanes cpu)
-      ∙ ap (λ (o : Option Lane). option_and_then (on_stamp q.stamp) (in_lane q.line o)) (get-remove nat_cmp_total lanes cpu q.cpu)
-      ∙ without_at q (eq_by_cmp nat_cmp q.cpu cpu)))) is.kept
+  pub going_none : (shelves : Shelves) → IsGoing [] shelves → AreKept triggers (merged others) shelves
+  going_none shelves is = for_kept triggers lanes (merged others) shelves (changing_none triggers lanes (λ _. true) Retract first last shelves is)
 
 -- a lane that isn't held is gone
 pub no_lane : (lanes : Lanes) (cpu : ℕ) → map.get lanes cpu ≡ None → map.remove lanes cpu ≡ lanes

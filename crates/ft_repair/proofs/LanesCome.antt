@@ -1,8 +1,7 @@
 -- The events of new lanes come to what is kept of the others.
-use Rattle.std.proofs.Common.{◌≡◌, ◌+◌, ◌≤◌, ℕ, Bool, true, false, cond, List, [], ◌∷◌, refl, sym, ap, subst, ◌∙◌, Option, Some, None, Ok, is_some, arith}
-use Rattle.std.specs.Prelude.{◌==◌, ◌||◌, fold, not, option_and_then, if◌then◌else◌}
+use Rattle.std.proofs.Common.{◌≡◌, ◌+◌, ◌≤◌, ℕ, Bool, true, false, cond, List, [], ◌∷◌, refl, sym, ap, ◌∙◌, Option, Some, None, is_some, arith}
+use Rattle.std.specs.Prelude.{◌==◌, ◌||◌, not, option_and_then, if◌then◌else◌}
 use Rattle.std.specs.List.{sum_by}
-use Rattle.std.specs.Option.{IfSome, option_or}
 use Rattle.std.specs.Ordering.{nat_cmp, eq_by_cmp}
 use Rattle.std.specs.Cmp.{nat_cmp_total, nat_eq_equiv, unsigned_tied}
 use Rattle.std.specs.Map.{keys_of}
@@ -12,33 +11,31 @@ use Rattle.std.proofs.lemmas.List.Sums.{sum_by-cons}
 use Rattle.std.proofs.lemmas.Map.Entries.{option_filter}
 use Rattle.std.proofs.lemmas.Map.Keys.{IsDistinct-from_sorted}
 use Rattle.ft_fields.specs.Traced.{Traced}
-use Rattle.ft_fields.specs.Places.{pos_cmp, pos_cmp_total, pos_same}
+use Rattle.ft_fields.specs.Places.{pos_cmp, pos_cmp_total}
 use Rattle.ft_fields.specs.declared.pos.Pos.{Pos}
 use Rattle.ft_hist.specs.Tests.{count_on}
 use Rattle.ft_kept.specs.Acts.{Acts, acts_of}
-use Rattle.ft_kept.specs.Entries.{IsKept}
-use Rattle.ft_kept.specs.Shelves.{Shelves, admits_on, kept_on}
+use Rattle.ft_kept.specs.Shelves.{Shelves}
+use Rattle.ft_shelves.specs.declared.sign.Sign.TheVariants.{Insert}
 use Rattle.ft_lanes.specs.Held.{Lane, Lanes}
 use Rattle.ft_lanes.specs.Loaded.{with_lanes, first_held}
 use Rattle.ft_maps.specs.Entries.{strictly_sorted}
-use Rattle.ft_table.specs.Values.{values_by}
-use Rattle.ft_base.specs.After.{after_load}
-use Rattle.ft_base.specs.Base.{Base, Triggers}
-use Rattle.ft_base.specs.Roles.{role_at}
-use Rattle.ft_repair.specs.KeptShelves.{AreKept, AreKeptOf}
-use Rattle.ft_repair.specs.SomeLanes.{AreKeptOfLanes}
+use Rattle.ft_pairs.specs.declared.at.At.{At}
+use Rattle.ft_base.specs.Base.{Triggers}
+use Rattle.ft_base.specs.Reachable.{HasSavers}
+use Rattle.ft_repair.specs.KeptShelves.{AreKept}
 use Rattle.ft_replay.specs.Chosen.{is_among, lanes_of, lanes_but}
-use Rattle.ft_replay.specs.Merged.{Events, merged, merged_with, held_at}
+use Rattle.ft_replay.specs.Merged.{Events, merged, held_at}
 use Rattle.ft_replay.specs.Named.{is_named, named}
-use Rattle.ft_base.proofs.After.{load-gives}
 use Rattle.ft_base.proofs.Apart.{all_map, entries_found}
 use Rattle.ft_base.proofs.Loading.{held-stays}
 use Rattle.ft_replay.proofs.Choosing.{get-chosen}
 use Rattle.ft_replay.proofs.Naming.{named_all}
 use Rattle.ft_replay.proofs.Places.{merged_at}
-use Rattle.ft_replay.proofs.Placing.{get-inserted, get-named, or_none}
-use Rattle.ft_repair.proofs.HeldActs.{act_in, named_at}
-use Rattle.ft_repair.proofs.NewShelves.{IsBuilt}
+use Rattle.ft_replay.proofs.Placing.{get-named}
+use Rattle.ft_repair.proofs.Changing.{Changes, IsChanging, changing_all, changing_none, none_left}
+use Rattle.ft_repair.proofs.HeldActs.{act_in, acts_there, held_is, named_at}
+use Rattle.ft_repair.proofs.KeptFor.{for_kept, kept_for}
 
 -- an event, where it has this stamp
 abbrev on_stamp : ℕ → Traced → Option Traced
@@ -72,61 +69,54 @@ module _ (lanes : Lanes) where
     abbrev other : ℕ → Bool
     other cpu = not (is_among cpus cpu)
 
-    abbrev before : Events
-    before = merged (lanes_of cpus lanes)
-
     abbrev coming : Events
     coming = named triggers (merged (lanes_but cpus lanes))
 
-    -- with those that come
-    abbrev pub all_now : Events
-    all_now = fold merged_with before (map.entries coming)
+    abbrev pub first : Acts
+    first = acts_of triggers (merged (lanes_of cpus lanes))
 
-    -- first none has come
-    pub coming_all : (shelves : Shelves) → AreKept triggers before shelves → IsBuilt triggers lanes all_now shelves (map.entries coming)
-    coming_all shelves kept =
-        let rest : Events = merged (lanes_but cpus lanes) in
-        let found = entries_found pos_cmp pos_cmp_total rest in
+    abbrev pub last : Acts
+    last = acts_of triggers (merged lanes)
+
+    -- some of the events that come are left
+    abbrev pub AreComing : List (Pos × Traced) → Shelves → Type 0
+    AreComing rest shelves = IsChanging triggers lanes (λ _. true) Insert first last rest shelves
+
+    event_comes : (e : Pos × Traced) → map.get (merged (lanes_but cpus lanes)) e.0 ≡ Some e.1 → Changes triggers lanes (λ _. true) Insert first last e
+    event_comes e is =
+        let there = there_if (other e.0.cpu) (held_at lanes e.0) e.1 (sym (chosen_at other e.0) ∙ is) in
         record {
-          events = before;
-          kept = kept;
-          all = refl;
-          held = λ pos event is. (there_if (is_among cpus pos.cpu) (held_at lanes pos) event (sym (chosen_at (is_among cpus) pos) ∙ is)).1;
-          rest_held = named_all triggers (λ e. held_at lanes e.0 ≡ Some e.1) rest
-              (all_map _ _ (λ (e : Pos × Traced) is. (there_if (other e.0.cpu) (held_at lanes e.0) e.1 (sym (chosen_at other e.0) ∙ is)).1) (map.entries rest) found);
-          absent = named_all triggers (λ e. map.get before e.0 ≡ None) rest
-              (all_map _ _ (λ (e : Pos × Traced) is. chosen_at (is_among cpus) e.0 ∙ none_if (is_among cpus e.0.cpu) (held_at lanes e.0) (there_if (other e.0.cpu) (held_at lanes e.0) e.1 (sym (chosen_at other e.0) ∙ is)).0) (map.entries rest) found);
-          sorted = strictly_sorted pos_cmp (map.entries coming) (entries_sorted coming);
+          held = held_is lanes e.0 e.1 there.1;
+          before = λ id _. acts_there triggers (merged (lanes_of cpus lanes)) e.0 None (chosen_at (is_among cpus) e.0 ∙ none_if (is_among cpus e.0.cpu) (held_at lanes e.0) there.0) id;
+          after = λ id _. acts_there triggers (merged lanes) e.0 (Some e.1) (merged_at e.0 lanes ∙ there.1) id;
         }
 
-    -- what there is at a place then
-    now_at : (pos : Pos) → map.get all_now pos ≡ option_or (option_filter (is_named triggers) (cond (other pos.cpu) (held_at lanes pos) None)) (cond (is_among cpus pos.cpu) (held_at lanes pos) None)
-    now_at pos =
-        get-inserted pos_cmp_total pos_same pos before (map.entries coming) (IsDistinct-from_sorted pos_cmp (map.keys coming) (strictly_sorted pos_cmp (map.entries coming) (entries_sorted coming)))
-        ∙ (λ i. option_or (sym (get-entries coming pos) i) (map.get before pos))
-        ∙ (λ i. option_or (get-named triggers map.empty (merged (lanes_but cpus lanes)) pos i) (chosen_at (is_among cpus) pos i))
-        ∙ (λ i. option_or (option_filter (is_named triggers) (chosen_at other pos i)) (cond (is_among cpus pos.cpu) (held_at lanes pos) None))
+    -- where no event comes, the acts are there or no trigger is on the event's name
+    act_stays : (id : ℕ) (b : Bool) (held : Option Traced) → option_filter (is_named triggers) (cond (not b) held None) ≡ None
+        → option_and_then (λ (e : Traced). act_in (map.get triggers id) e) (cond b held None) ≡ option_and_then (λ (e : Traced). act_in (map.get triggers id) e) held
+    act_stays id true held none = refl
+    act_stays id false held none = sym (sym (named_at triggers id held) ∙ ap (option_and_then (λ (e : Traced). act_in (map.get triggers id) e)) none)
 
-    act_now : (id : ℕ) (b : Bool) (held : Option Traced)
-        → option_and_then (λ (e : Traced). act_in (map.get triggers id) e) (option_or (option_filter (is_named triggers) (cond (not b) held None)) (cond b held None)) ≡ option_and_then (λ (e : Traced). act_in (map.get triggers id) e) held
-    act_now id true held = refl
-    act_now id false held = ap (λ (o : Option Traced). option_and_then (λ (e : Traced). act_in (map.get triggers id) e) o) (or_none (option_filter (is_named triggers) held)) ∙ named_at triggers id held
-
-    acts_now : acts_of triggers all_now ≡ acts_of triggers (merged lanes)
+    same_elsewhere : (at : At) → find pos_cmp at.pos (map.entries coming) ≡ None → first at ≡ last at
     unfolding acts_of
-    acts_now i at =
-        (ap (λ (o : Option Traced). option_and_then (λ (e : Traced). act_in (map.get triggers at.trigger) e) o) (now_at at.pos)
-        ∙ act_now at.trigger (is_among cpus at.pos.cpu) (held_at lanes at.pos)
-        ∙ ap (λ (o : Option Traced). option_and_then (λ (e : Traced). act_in (map.get triggers at.trigger) e) o) (sym (merged_at at.pos lanes))) i
+    same_elsewhere at none =
+        let unnamed : option_filter (is_named triggers) (cond (other at.pos.cpu) (held_at lanes at.pos) None) ≡ None =
+        ap (option_filter (is_named triggers)) (sym (chosen_at other at.pos)) ∙ sym (get-named triggers map.empty (merged (lanes_but cpus lanes)) at.pos) ∙ get-entries coming at.pos ∙ none in
+        ap (λ (o : Option Traced). option_and_then (λ (e : Traced). act_in (map.get triggers at.trigger) e) o) (chosen_at (is_among cpus) at.pos)
+        ∙ act_stays at.trigger (is_among cpus at.pos.cpu) (held_at lanes at.pos) unnamed
+        ∙ ap (λ (o : Option Traced). option_and_then (λ (e : Traced). act_in (map.get triggers at.trigger) e) o) (sym (merged_at at.pos lanes))
+
+    -- first all are left
+    pub coming_all : HasSavers triggers → (shelves : Shelves) → AreKept triggers (merged (lanes_of cpus lanes)) shelves → AreComing (map.entries coming) shelves
+    coming_all savers shelves kept = changing_all triggers lanes (λ _. true) Insert first last (map.entries coming) shelves
+        (kept_for triggers lanes savers (merged (lanes_of cpus lanes)) (λ pos event is. (there_if (is_among cpus pos.cpu) (held_at lanes pos) event (sym (chosen_at (is_among cpus) pos) ∙ is)).1) shelves kept)
+        (λ at out. same_elsewhere at (none_left (find pos_cmp at.pos (map.entries coming)) out))
+        (named_all triggers (Changes triggers lanes (λ _. true) Insert first last) (merged (lanes_but cpus lanes)) (all_map _ _ event_comes (map.entries (merged (lanes_but cpus lanes))) (entries_found pos_cmp pos_cmp_total (merged (lanes_but cpus lanes)))))
+        (IsDistinct-from_sorted pos_cmp (map.keys coming) (strictly_sorted pos_cmp (map.entries coming) (entries_sorted coming)))
 
     -- at last all have come
-    pub coming_none : (shelves : Shelves) → IsBuilt triggers lanes all_now shelves [] → AreKept triggers (merged lanes) shelves
-    coming_none shelves is =
-        let kept = subst (λ (events : Events). AreKept triggers events shelves) is.all is.kept in
-        record {
-          each = kept.each;
-          kept = subst (λ (acts : Acts). IsKept (role_at triggers) (values_by triggers) (admits_on shelves) acts (kept_on shelves)) acts_now kept.kept;
-        }
+    pub coming_none : (shelves : Shelves) → AreComing [] shelves → AreKept triggers (merged lanes) shelves
+    coming_none shelves is = for_kept triggers lanes (merged lanes) shelves (changing_none triggers lanes (λ _. true) Insert first last shelves is)
 
 -- ---- what it costs
 
@@ -158,12 +148,3 @@ lanes_before lanes es none = same_map nat_cmp_total nat_cmp-IsAntisymmetric (lan
     get-chosen (is_among (map.keys lanes)) (with_lanes lanes es) q
     ∙ ap (λ (b : Bool). cond b (map.get (with_lanes lanes es) q) None) (among_lanes lanes q)
     ∙ held-stays lanes es none q (map.contains_key lanes q) refl)
-
-pub loaded_if : (base new : Base) (es : List Traced) (count : ℕ) → after_load base es ≡ Ok (new, count) → (cpus : List ℕ) → cpus ≡ map.keys base.lanes
-    → (kept : Option Shelves) → IfSome kept (AreKeptOf base) → IfSome kept (AreKeptOfLanes cpus new)
-loaded_if base new es count answer cpus are None is = is
-loaded_if base new es count answer cpus are (Some shelves) is =
-    let gives = load-gives base es new count answer in
-    subst (λ (b : Base). AreKeptOfLanes cpus b shelves) gives.1
-    (subst (λ (ks : List ℕ). AreKeptOfLanes ks (record base { lanes = with_lanes base.lanes es }) shelves) (sym are)
-    (subst (λ (lanes : Lanes). AreKept base.triggers (merged lanes) shelves) (sym (lanes_before base.lanes es gives.0)) is))

@@ -26,7 +26,9 @@ use Rattle.ft_base.specs.Roles.{is_reader}
 use Rattle.ft_base.specs.OneTrigger.{IsUnread}
 use Rattle.ft_repair.specs.ButOneTrigger.{AreKeptBut}
 use Rattle.ft_repair.specs.Outside.{acts_outside}
-use Rattle.ft_repair.specs.inner.Idle.{AreKeptIdle, is_one}
+use Rattle.ft_repair.specs.inner.Joining.{is_one}
+use Rattle.ft_repair.specs.inner.KeptFor.{AreKeptFor}
+use Rattle.ft_repair.proofs.KeptFor.{for_right}
 use Rattle.ft_base.specs.Roles.{role_of, role_at}
 use Rattle.ft_repair.proofs.Alike.{rest, rest_same, rest_none, rest_no_act, rest_act, same_ops, no_hits, no_read, no_ops, op_same, no_op_there, no_op_of, right_moves, right_none, all_right, shelf_same}
 
@@ -107,11 +109,11 @@ module _ (base : Base) (id : ℕ) (unread : IsUnread base.triggers id) (old : Sh
     }
 
   -- a trigger goes of which nothing is kept any more
-  pub idle_leaves : AreKeptIdle (is_one id) base.triggers base.lanes old → AreKeptBut id base new
+  pub idle_leaves : AreKeptFor base.triggers base.lanes (acts_outside (is_one id) base.triggers base.lanes) old → AreKeptBut id base new
   idle_leaves idle =
       let before : Acts = acts_outside (is_one id) base.triggers base.lanes in
       kept_left before
-      (λ at apart. rest_act base.triggers id events at apart ∙ sym (act_left at apart)) idle.kept
+      (λ at apart. rest_act base.triggers id events at apart ∙ sym (act_left at apart)) (for_right base.triggers base.lanes before old idle)
       (λ variable at same _. no_op_there (role_at base.triggers) (admits_on old) before variable at (ap (λ (b : Bool). if b then None else acts_of base.triggers events at) (eq-eqb at.trigger id same)))
       idle.each
     where

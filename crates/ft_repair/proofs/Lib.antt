@@ -7,13 +7,11 @@ mod Putting
 mod Staying
 mod Leaving
 mod HeldActs
-mod NewShelves
 pub mod MergedLanes
 mod OneTrigger
 mod Unpacked
 mod AtOnce
-pub mod OneEvent
-mod LaneGoes
+mod OneEvent
 pub mod LanesCome
 mod ByRole
 mod Spots
@@ -21,6 +19,7 @@ mod KeptEntries
 mod KeptShelves
 mod SaverHits
 mod SaverKeys
-pub mod FewSteps
 pub mod Repaired
-mod SameForms
+mod LaneGoes
+mod KeptFor
+mod Changing

@@ -1,134 +1,177 @@
--- What is kept as one event comes to a board or goes.
-use Rattle.std.proofs.Common.{◌≡◌, Bool, true, false, refl, sym, ap, subst, ◌∙◌, Option, Some, None, Result, Ok, Err, OnOk, unwrap_or}
-use Rattle.std.specs.Prelude.{IsSome}
+-- One event that comes to what is kept of a base or goes from it, as an edit of the input.
+use Rattle.std.proofs.Common.{◌≡◌, ℕ, ◌+◌, ◌*◌, ◌≤◌, Bool, true, false, cond, refl, sym, ap, subst, ◌∙◌, Option, Some, None, Result, Ok, Err, OnOk, unwrap_or, inl, inr}
+use Rattle.std.specs.Prelude.{◌⊎◌}
 use Rattle.std.specs.Option.{IfSome}
+use Rattle.std.specs.Ordering.{eq_by_cmp}
 use Rattle.std.specs.FinMap as map
-use Rattle.ft_fields.specs.Places.{pos_cmp_total}
+use Rattle.std.specs.FinMap.{get-remove}
+use Rattle.ft_fields.specs.Places.{pos_cmp, pos_cmp_total, pos_same}
 use Rattle.ft_fields.specs.Traced.{Traced}
 use Rattle.ft_fields.specs.declared.pos.Pos.{Pos}
+use Rattle.ft_hist.specs.Steps.{Steps}
+use Rattle.ft_hist.specs.Tests.{count_on}
 use Rattle.ft_kept.specs.Acted.{Gathered, Gathers, acting_of}
-use Rattle.ft_kept.specs.Acts.{AreHeld, acts_of}
-use Rattle.ft_kept.specs.Entries.{IsKept}
-use Rattle.ft_kept.specs.Repairs.{EventCanCome, EventHasCome, EventCanGo, EventHasGone}
-use Rattle.ft_kept.specs.Shelves.{Shelves, FormsStay, role_on, admits_on, kept_on}
-use Rattle.ft_table.specs.Values.{values_by}
-use Rattle.ft_lanes.specs.Edits.{lane_or_new, lanes_with, lanes_without}
-use Rattle.ft_lanes.specs.Held.{event_at}
-use Rattle.ft_maps.specs.Entries.{get-remove_same}
+use Rattle.ft_kept.specs.Acts.{Acts, acts_of}
+use Rattle.ft_kept.specs.Bounds.{SomeSaverMoves}
+use Rattle.ft_kept.specs.Input.{input_of, AreViews}
+use Rattle.ft_kept.specs.Memory as memory
+use Rattle.ft_kept.specs.Repairs.{IsHeldAt}
+use Rattle.ft_kept.specs.Shelves.{Shelves, FormsStay}
+use Rattle.ft_kept.specs.Signs.{event_before, event_after, table_edit, NeedsNoMemory}
+use Rattle.ft_kept.specs.Views.{HasAt, act_at, with_event}
+use Rattle.ft_shelves.specs.declared.sign.Sign.{Sign}
+use Rattle.ft_shelves.specs.declared.sign.Sign.TheVariants.{Insert, Retract}
+use Rattle.ft_lanes.specs.Held.{Lanes, event_at}
+use Rattle.ft_maps.specs.Entries.{get-remove_same, same_from_tie}
+use Rattle.ft_pairs.specs.declared.at.At.{At}
+use Rattle.ft_table.specs.Growth.{InGrows, RowsGrow, TotalsGrow}
 use Rattle.ft_base.specs.declared.refused.Place.{Place}
-use Rattle.ft_base.specs.After.{after_insert}
-use Rattle.ft_base.specs.Base.{Base}
-use Rattle.ft_repair.specs.KeptShelves.{AreKeptOf, AreKept}
-use Rattle.ft_repair.specs.ButOneEvent.{AreKeptWithout, IsMissed, GathersAt}
-use Rattle.ft_answers.specs.Deferral.{IsNoHit}
+use Rattle.ft_base.specs.Base.{Base, Triggers}
+use Rattle.ft_base.specs.Reachable.{HasSavers}
+use Rattle.ft_answers.specs.Costs.{CostsOf, SaversStay}
+use Rattle.ft_answers.specs.Deferral.{IsPlainHit}
 use Rattle.ft_replay.specs.Merged.{Events, merged}
-use Rattle.ft_base.specs.Reachable.{IsReachable}
-use Rattle.ft_base.proofs.Cases.{insert-gives}
-use Rattle.ft_repair.proofs.HeldActs.{AllHeld, merged_held, acts_held}
-use Rattle.ft_repair.proofs.NewShelves.{kept_with}
-use Rattle.ft_repair.proofs.ShelfForms.{shelves_stay, by_shelves, by_triggers}
-use Rattle.ft_repair.proofs.MergedLanes.{absent_before, merged_one_more, placed_there, put_back, merged_one_less, new_line_has}
+use Rattle.ft_repair.specs.KeptShelves.{AreKept}
+use Rattle.ft_repair.specs.inner.KeptFor.{AreKeptFor}
+use Rattle.ft_repair.specs.OneEvent.{AreKeptBefore, AreKeptAfter, ChangeCosts, EventNeedsNoMemory, GathersAt, IsPlain, LineNeedsNoMemory, events_before, events_after, pos_at}
+use Rattle.ft_repair.proofs.HeldActs.{AllHeld, acts_there, less_held, merged_held}
+use Rattle.ft_repair.proofs.KeptEntries.{OneSource}
+use Rattle.ft_repair.proofs.KeptFor.{changed_for, for_kept, input_is, kept_for, views_of}
+use Rattle.ft_repair.proofs.MergedLanes.{placed_there, put_back}
+use Rattle.ft_repair.proofs.SaverKeys.{come_stays, go_stays}
+use Rattle.ft_repair.proofs.ShelfForms.{plain_shelf}
 
--- the place of an event that is held
-abbrev pub pos_at : Place → Traced → Pos
-pos_at place event = record { stamp = event.stamp; cpu = place.cpu; line = place.line }
+-- the acts at events with another one at a place, or with none, are those at other events
+module _ (triggers : Triggers) (events others : Events) (pos : Pos) (event : Option Traced) (here : map.get others pos ≡ event)
+    (apart : (q : Pos) → eq_by_cmp pos_cmp q pos ≡ false → map.get others q ≡ map.get events q) where
+  event_at_place : (q : At) → with_event triggers (acts_of triggers events) pos event q ≡ acts_of triggers others q
+  unfolding acts_of
+  event_at_place q = elim (eq_by_cmp pos_cmp q.pos pos) as (λ (b : Bool). eq_by_cmp pos_cmp q.pos pos ≡ b → cond b (act_at triggers q.trigger event) (act_at triggers q.trigger (map.get events q.pos)) ≡ act_at triggers q.trigger (map.get others q.pos)) [
+    | true ↦ λ tie. ap (act_at triggers q.trigger) (sym here ∙ ap (map.get others) (sym (same_from_tie pos_same q.pos pos tie)))
+    | false ↦ λ other. ap (act_at triggers q.trigger) (sym (apart q.pos other))
+  ] refl
 
-module _ (base : Base) (place : Place) (event : Traced) (there : event_at base.lanes place.cpu place.line ≡ Some event) where
-  abbrev pos : Pos
-  pos = pos_at place event
+  event_set : with_event triggers (acts_of triggers events) pos event ≡ acts_of triggers others
+  event_set i q = event_at_place q i
 
-  -- ---- it comes
+-- a base with triggers and lanes that are its own
+abbrev told : Base → Triggers → Lanes → Base
+told base triggers lanes = record base { triggers = triggers; lanes = lanes }
 
-  module _ (shelves : Shelves) (kept : AreKeptWithout base place shelves) where
-    all_here : map.insert kept.events pos event ≡ merged base.lanes
-    all_here = (kept.without event there).1
+-- an event that a line holds has still to come to shelves, or to go from them
+pub record MayChange (base : Base) (triggers : Triggers) (lanes : Lanes) (sign : Sign) (place : Place) (event : Traced) (pos : Pos) (shelves : Shelves) : Type 0 where
+  pub same : told base triggers lanes ≡ base
+  pub savers : HasSavers triggers
+  pub there : event_at lanes place.cpu place.line ≡ Some event
+  pub its : pos ≡ pos_at place event
+  pub kept : AreKept triggers (events_before sign (merged lanes) pos) shelves
 
-    here_held : AllHeld base.lanes (map.insert kept.events pos event)
-    here_held = subst (AllHeld base.lanes) (sym all_here) (merged_held base.lanes)
-
-    pub come_can : EventCanCome base.triggers base.lanes pos event shelves
-    come_can = record {
-      events = kept.events;
-      absent = (kept.without event there).0;
-      held = acts_held base.triggers base.lanes (map.insert kept.events pos event) here_held;
-      kept = by_shelves base.triggers shelves kept.kept.each (admits_on shelves) (acts_of base.triggers kept.events) (kept_on shelves) kept.kept.kept;
+pub may_change : (base : Base) (triggers : Triggers) (lanes : Lanes) → triggers ≡ base.triggers → lanes ≡ base.lanes → HasSavers base.triggers
+    → (sign : Sign) (place : Place) (event : Traced) → Some event ≡ event_at lanes place.cpu place.line → (stamp : ℕ) → stamp ≡ event.stamp
+    → (shelves : Shelves) (kept : Option Shelves) → Some shelves ≡ kept → IfSome kept (AreKeptBefore sign base place)
+    → MayChange base triggers lanes sign place event (record { stamp = stamp; cpu = place.cpu; line = place.line }) shelves
+may_change base triggers lanes own all savers sign place event found stamp its shelves kept some before =
+    let same : told base triggers lanes ≡ base = λ i. record base { triggers = own i; lanes = all i } in
+    let awaits : AreKeptBefore sign base place shelves = subst (λ (o : Option Shelves). IfSome o (AreKeptBefore sign base place)) (sym some) before in
+    record {
+      same = same;
+      savers = subst HasSavers (sym own) savers;
+      there = sym found;
+      its = λ i. record { stamp = its i; cpu = place.cpu; line = place.line };
+      kept = subst (λ (n : ℕ). AreKept triggers (events_before sign (merged lanes) (record { stamp = n; cpu = place.cpu; line = place.line })) shelves) (sym its)
+          (subst (λ (b : Base). AreKeptBefore sign b place shelves) (sym same) awaits event (sym found));
     }
 
-    pub come_kept : (new : Shelves) → FormsStay shelves new → EventHasCome base.triggers base.lanes pos event shelves new → AreKeptOf base new
-    come_kept new forms right = subst (λ (events : Events). AreKept base.triggers events new) all_here
-        (kept_with base.triggers base.lanes kept.events pos event shelves new kept.kept (kept.without event there).0 here_held forms right)
+module _ {base : Base} {triggers : Triggers} {lanes : Lanes} {sign : Sign} {place : Place} {event : Traced} {pos : Pos} {shelves : Shelves} (may : MayChange base triggers lanes sign place event pos shelves) where
+  abbrev all : Events
+  all = merged lanes
 
-  -- ---- it goes
+  -- the line has one event
+  one_event : (other : Traced) → event_at lanes place.cpu place.line ≡ Some other → event ≡ other
+  one_event other at = ap (λ (o : Option Traced). unwrap_or o event) (sym may.there ∙ at)
 
-  abbrev rest : Events
-  rest = map.remove (merged base.lanes) pos
+  of_line : (P : Triggers → Traced → Type 0) → (other : Traced) × ((event_at base.lanes place.cpu place.line ≡ Some other) × P base.triggers other) → P triggers event
+  of_line P line =
+      let here = subst (λ (b : Base). (other : Traced) × ((event_at b.lanes place.cpu place.line ≡ Some other) × P b.triggers other)) (sym may.same) line in
+      subst (P triggers) (sym (one_event here.0 here.1.0)) here.1.1
 
-  rest_here : map.insert rest pos event ≡ merged base.lanes
-  rest_here = put_back (merged base.lanes) pos event (placed_there base.lanes place.cpu place.line event there)
+  placed : map.get all pos ≡ Some event
+  placed = ap (map.get all) may.its ∙ placed_there lanes place.cpu place.line event may.there
 
-  rest_absent : map.get rest pos ≡ None
-  rest_absent = get-remove_same pos_cmp_total (merged base.lanes) pos
+  less : (q : Pos) → eq_by_cmp pos_cmp q pos ≡ false → map.get (map.remove all pos) q ≡ map.get all q
+  less q other = get-remove pos_cmp_total all pos q ∙ ap (λ (b : Bool). cond b None (map.get all q)) other
 
-  all_held : AreHeld base.lanes (acts_of base.triggers (merged base.lanes))
-  all_held = acts_held base.triggers base.lanes (merged base.lanes) (merged_held base.lanes)
+  changed : (w : Sign) → with_event triggers (acts_of triggers (events_before w all pos)) pos (event_after w event) ≡ acts_of triggers (events_after w all pos)
+  changed Insert = event_set triggers (map.remove all pos) all pos (Some event) placed (λ q other. sym (less q other))
+  changed Retract = event_set triggers all (map.remove all pos) pos None (get-remove_same pos_cmp_total all pos) less
 
-  module _ (shelves : Shelves) (kept : AreKeptOf base shelves) where
-    with_here : IsKept (role_on shelves) (values_by base.triggers) (admits_on shelves) (acts_of base.triggers (merged base.lanes)) (kept_on shelves)
-    with_here = by_shelves base.triggers shelves kept.each (admits_on shelves) (acts_of base.triggers (merged base.lanes)) (kept_on shelves) kept.kept
+  at_first : (w : Sign) → map.get (events_before w all pos) pos ≡ event_before w event
+  at_first Insert = get-remove_same pos_cmp_total all pos
+  at_first Retract = placed
 
-    pub go_can : EventCanGo base.triggers base.lanes pos event shelves
-    go_can = record { events = merged base.lanes; present = placed_there base.lanes place.cpu place.line event there; held = all_held; kept = with_here }
+  held_before : (w : Sign) → AllHeld lanes (events_before w all pos)
+  held_before Insert = less_held lanes all pos (merged_held lanes)
+  held_before Retract = merged_held lanes
 
-    pub go_kept : (new : Shelves) → FormsStay shelves new → EventHasGone base.triggers base.lanes pos event shelves new → AreKeptWithout base place new
-    go_kept new forms right = record {
-      events = rest;
-      kept = record {
-        each = shelves_stay base.triggers shelves new kept.each forms;
-        kept = by_triggers base.triggers shelves kept.each (admits_on new) (acts_of base.triggers rest) (kept_on new) (right (merged base.lanes) (placed_there base.lanes place.cpu place.line event there) all_held with_here);
-      };
-      without = λ other at.
-          let same : event ≡ other = ap (λ (o : Option Traced). unwrap_or o event) (sym there ∙ at) in
-          subst (λ (e : Traced). (map.get rest (pos_at place e) ≡ None) × (map.insert rest (pos_at place e) e ≡ merged base.lanes)) same (rest_absent, rest_here);
-    }
+  abbrev first : Acts
+  first = acts_of triggers (events_before sign all pos)
 
-  pub struck_kept : (shelves : Shelves) → AreKeptWithout base place shelves → AreKeptOf (record base { lanes = lanes_without base.lanes place.cpu place.line }) shelves
-  struck_kept shelves kept = subst (λ (events : Events). AreKept base.triggers events shelves)
-      (sym (merged_one_less base.lanes place.cpu place.line event there kept.events (kept.without event there).0 (kept.without event there).1)) kept.kept
+  abbrev last : Acts
+  last = acts_of triggers (events_after sign all pos)
 
--- an event that was inserted has still to come to what is kept
-pub inserted_kept : (base new : Base) (event : Traced) (place : Place) → IsReachable base → after_insert base event ≡ Ok (new, place) → (shelves : Shelves) → AreKeptOf base shelves → AreKeptWithout new place shelves
-inserted_kept base new event place reachable answer shelves kept =
-    subst (λ (given : Base × Place). AreKeptWithout given.0 given.1 shelves) (insert-gives base event new place answer) (record {
-      events = merged base.lanes;
-      kept = kept;
-      without = λ other at.
-          let same : event ≡ other = ap (λ (o : Option Traced). unwrap_or o event) (sym (new_line_has base event) ∙ at) in
-          subst (λ (e : Traced). let p : Pos = record { stamp = e.stamp; cpu = event.cpu; line = (lane_or_new base.lanes event.cpu).next } in (map.get (merged base.lanes) p ≡ None) × (map.insert (merged base.lanes) p e ≡ merged (lanes_with base.lanes event))) same
-          (absent_before base reachable event, merged_one_more base reachable event);
-    })
+  kept_now : AreKeptFor triggers lanes first shelves
+  kept_now = kept_for triggers lanes may.savers (events_before sign all pos) (held_before sign) shelves may.kept
 
--- the line that it has got holds it, and the triggers are those before
-pub inserted_missed : (base new : Base) (event : Traced) (place : Place) → after_insert base event ≡ Ok (new, place) → IsNoHit base.triggers event → IsMissed new place
-inserted_missed base new event place answer none = subst (λ (given : Base × Place). IsMissed given.0 given.1) (insert-gives base event new place answer) (event, (new_line_has base event, none))
+  tells : input_of lanes shelves ≡ first
+  tells = input_is triggers lanes first shelves kept_now
 
--- and where nothing is kept, nothing has to come
-pub inserted_if : (base new : Base) (event : Traced) (place : Place) → IsReachable base → after_insert base event ≡ Ok (new, place) → (kept : Option Shelves) → IfSome kept (AreKeptOf base) → IfSome kept (AreKeptWithout new place)
-inserted_if base new event place reachable answer None is = is
-inserted_if base new event place reachable answer (Some shelves) is = inserted_kept base new event place reachable answer shelves is
+  -- ---- what the change needs
 
--- a struck event was still held
-pub struck_if : (base : Base) (place : Place) → IsSome (event_at base.lanes place.cpu place.line) → (kept : Option Shelves) → IfSome kept (AreKeptWithout base place) → IfSome kept (AreKeptOf (record base { lanes = lanes_without base.lanes place.cpu place.line }))
-struck_if base place there None is = is
-struck_if base place there (Some shelves) is =
-    elim (event_at base.lanes place.cpu place.line) as (λ (o : Option Traced). event_at base.lanes place.cpu place.line ≡ o → IsSome o → AreKeptOf (record base { lanes = lanes_without base.lanes place.cpu place.line }) shelves) [
-      | None ↦ λ _ some. let both : ◌≡◌ {A = Bool} false true = some in absurd cc
-      | Some event ↦ λ at _. struck_kept base place event at shelves is
-    ] refl there
+  pub views_before : AreViews triggers lanes shelves
+  views_before = views_of triggers lanes first shelves kept_now
 
--- what is gathered at the event of a line, where the repair for it went through
-pub gathers_ok : {E : Type 0} (repaired : Result Unit E) (base : Base) (place : Place) (event : Traced) → event_at base.lanes place.cpu place.line ≡ Some event → (old new : Gathered)
-    → OnOk repaired (Gathers (acting_of base.triggers event) old new) → OnOk repaired (GathersAt base place old new)
-gathers_ok (Ok done) base place event there old new is = λ other at.
-    let same : event ≡ other = ap (λ (o : Option Traced). unwrap_or o event) (sym there ∙ at) in
-    subst (λ (e : Traced). Gathers (acting_of base.triggers e) old new) same is
-gathers_ok (Err fault) base place event there old new is = tt
+  pub held_here : IsHeldAt lanes pos event
+  held_here = subst (λ (p : Pos). IsHeldAt lanes p event) (sym may.its) (may.there, refl)
+
+  pub has_before : HasAt triggers (input_of lanes shelves) pos (event_before sign event)
+  has_before = subst (λ (input : Acts). HasAt triggers input pos (event_before sign event)) (sym tells) (acts_there triggers (events_before sign all pos) pos (event_before sign event) (at_first sign))
+
+  -- ---- and what it gives
+
+  pub kept_after : (new : Shelves) → FormsStay shelves new → AreViews triggers lanes new → input_of lanes new ≡ with_event triggers (input_of lanes shelves) pos (event_after sign event) → AreKeptAfter sign base place new
+  kept_after new forms views gives = subst (λ (b : Base). AreKeptAfter sign b place new) may.same (λ other at.
+      subst (λ (p : Pos). AreKept triggers (events_after sign all p) new) (may.its ∙ ap (pos_at place) (one_event other at))
+      (for_kept triggers lanes (events_after sign all pos) new (changed_for triggers lanes last shelves new may.kept.each forms views
+      (gives ∙ ap (λ (input : Acts). with_event triggers input pos (event_after sign event)) tells ∙ changed sign))))
+
+  -- what is gathered, where the repair went through
+  pub gathers_ok : {E : Type 0} (repaired : Result Unit E) (old new : Gathered) → OnOk repaired (Gathers (acting_of triggers event) old new) → OnOk repaired (GathersAt base place old new)
+  gathers_ok (Ok done) old new is = subst (λ (b : Base). GathersAt b place old new) may.same (λ other at. subst (λ (e : Traced). Gathers (acting_of triggers e) old new) (one_event other at) is)
+  gathers_ok (Err fault) old new is = tt
+
+  -- where its hits are plain, its acts are
+  pub plain_acts : IsPlain base place → memory.IsPlainHit triggers shelves event
+  plain_acts plain id hist attached key found = plain_shelf triggers shelves may.kept.each id hist attached (of_line IsPlainHit plain id hist attached key found)
+
+  none_by : (w : Sign) → LineNeedsNoMemory w base place → NeedsNoMemory w triggers shelves event
+  none_by Insert line = of_line (EventNeedsNoMemory Insert) line
+  none_by Retract line = plain_acts line
+
+  pub needs_none : LineNeedsNoMemory sign base place → NeedsNoMemory sign triggers shelves event
+  needs_none = none_by sign
+
+  -- few steps, where savers keep their keys
+  module _ (rows : RowsGrow) (totals : TotalsGrow) (members : InGrows) (one : OneSource) where
+    stays : (w : Sign) → AreKept triggers (events_before w all pos) shelves → SaversStay triggers (events_before w all pos) (events_after w all pos) → SomeSaverMoves (table_edit w pos event) triggers shelves → ⊥
+    stays Insert is stay = come_stays rows totals members one triggers (map.remove all pos) pos event (get-remove_same pos_cmp_total all pos) shelves is
+        (subst (λ (e : Events). SaversStay triggers (map.remove all pos) e) (sym (put_back all pos event placed)) stay)
+    stays Retract is stay = go_stays rows totals members one triggers all pos event placed shelves is stay
+
+    few : (puts limit : ℕ) → (puts ≤ limit) ⊎ SomeSaverMoves (table_edit sign pos event) triggers shelves → SaversStay triggers (events_before sign all pos) (events_after sign all pos) → puts ≤ limit
+    few puts limit (inl less) stay = less
+    few puts limit (inr moved) stay = absurd (stays sign may.kept stay moved)
+
+    pub change_costs : (old new : Steps) → new.evals ≤ old.evals + count_on triggers event → (new.puts ≤ old.puts + 3 * count_on triggers event) ⊎ SomeSaverMoves (table_edit sign pos event) triggers shelves → ChangeCosts sign base place old new
+    change_costs old new evals puts = subst (λ (b : Base). ChangeCosts sign b place old new) may.same (λ other at.
+        subst (λ (e : Traced × Pos). CostsOf triggers e.0 (events_before sign all e.1) (events_after sign all e.1) old new) (λ i. (one_event other at i, (may.its ∙ ap (pos_at place) (one_event other at)) i))
+        (record { evals = evals; puts = few new.puts (old.puts + 3 * count_on triggers event) puts }))

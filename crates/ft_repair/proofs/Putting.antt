@@ -1,5 +1,5 @@
 -- Trigger by trigger a family gets new shelves, and then its acts.
-use Rattle.std.proofs.Common.{◌≡◌, ◌+◌, ◌≤◌, ℕ, Bool, true, false, cond, List, [], ◌∷◌, length, refl, sym, ap, subst, ◌∙◌, Option, Some, None, is_some, arith}
+use Rattle.std.proofs.Common.{◌≡◌, ◌+◌, ◌≤◌, ℕ, Bool, true, false, cond, List, [], ◌∷◌, length, refl, sym, ap, subst, ◌∙◌, Option, Some, None, is_some, unwrap_or, arith}
 use Rattle.std.specs.Prelude.{◌==◌, ◌&&◌, if◌then◌else◌}
 use Rattle.std.specs.List.{AllByRecursion, sum_by}
 use Rattle.std.specs.List.Sorted.{IsStrictlySortedBy}
@@ -13,28 +13,27 @@ use Rattle.std.proofs.lemmas.Bool.{eqb-true, eqb-false, true≢false}
 use Rattle.std.proofs.lemmas.List.Sums.{sum_by-cons}
 use Rattle.std.proofs.lemmas.Map.Keys.{sorted_head, sorted_tail}
 use Rattle.ft_fields.specs.Traced.{Traced, name_of}
+use Rattle.ft_fields.specs.declared.pos.Pos.{Pos}
 use Rattle.ft_hist.specs.Hist.{Hist}
 use Rattle.ft_hist.specs.Hit.{same_name}
 use Rattle.ft_hist.specs.Tests.{asked}
-use Rattle.ft_keys.specs.declared.key.Part.{Part}
-use Rattle.ft_lanes.specs.Held.{Lanes, event_at}
+use Rattle.ft_lanes.specs.Held.{Lanes}
 use Rattle.ft_maps.specs.Entries.{same_from_tie, strictly_sorted}
 use Rattle.ft_pairs.specs.declared.at.At.{At}
-use Rattle.ft_table.specs.Values.{values_by}
-use Rattle.ft_kept.specs.Acts.{Acts, AreHeld, acts_of}
-use Rattle.ft_kept.specs.Entries.{IsKept}
-use Rattle.ft_kept.specs.Shelves.{Shelves, AddsShelf, admits_on, kept_on}
+use Rattle.ft_kept.specs.Acts.{Acts, acts_of}
+use Rattle.ft_kept.specs.Input.{input_of}
+use Rattle.ft_kept.specs.Shelves.{Shelves, AddsShelf}
 use Rattle.ft_base.specs.Base.{Triggers}
-use Rattle.ft_base.specs.Roles.{role_of, role_at}
+use Rattle.ft_base.specs.Roles.{role_of}
 use Rattle.ft_base.proofs.Apart.{entries_found}
 use Rattle.ft_answers.specs.Costs.{named_in}
 use Rattle.ft_replay.specs.Merged.{merged}
-use Rattle.ft_repair.specs.KeptShelves.{AreKept}
-use Rattle.ft_repair.specs.inner.Built.{HasNewShelf}
 use Rattle.ft_repair.specs.Outside.{acts_outside}
-use Rattle.ft_repair.specs.inner.Idle.{AreKeptIdle, AreRenewed, HasJoined, but_one}
+use Rattle.ft_repair.specs.inner.Joining.{AreRenewed, HasNewShelf, is_one, with_trigger}
+use Rattle.ft_repair.specs.inner.KeptFor.{AreKeptFor}
 use Rattle.ft_repair.proofs.Alike.{no_act_of}
-use Rattle.ft_repair.proofs.OneTrigger.{own_events, all_acts_held}
+use Rattle.ft_repair.proofs.KeptFor.{input_is, told_for}
+use Rattle.ft_repair.proofs.OneTrigger.{own_events}
 
 -- ---- new shelves, one by one
 
@@ -43,7 +42,7 @@ module _ (triggers : Triggers) (family : ℕ → Bool) (old : Shelves) where
   pub record AreRenewedBut (rest : List (ℕ × Hist)) (now : Shelves) : Type 0 where
     pub stay : (id : ℕ) → family id ≡ false → map.get now id ≡ map.get old id
     pub none : (id : ℕ) → map.get triggers id ≡ None → map.get now id ≡ map.get old id
-    pub fresh : (id : ℕ) (hist : Hist) → family id ≡ true → map.get triggers id ≡ Some hist → find nat_cmp id rest ≡ None → HasNewShelf triggers (Some hist) (map.get now id)
+    pub fresh : (id : ℕ) (hist : Hist) → family id ≡ true → map.get triggers id ≡ Some hist → find nat_cmp id rest ≡ None → HasNewShelf triggers hist (map.get now id)
     pub attached : AllByRecursion (λ e. map.get triggers e.0 ≡ Some e.1) rest
 
   pub renewed_none : AreRenewedBut (map.entries triggers) old
@@ -83,14 +82,14 @@ module _ (triggers : Triggers) (family : ℕ → Bool) (old : Shelves) where
       renewed_more member = record {
         stay = λ id out. elsewhere id (λ same. true≢false (sym member ∙ ap family (sym same) ∙ out)) ∙ is.stay id out;
         none = λ id gone. elsewhere id (λ same. let both : ◌≡◌ {A = Option Hist} None (Some e.1) = sym gone ∙ ap (map.get triggers) same ∙ is.attached.0 in absurd cc) ∙ is.none id gone;
-        fresh = λ id hist inside there gone. elim (eq_by_cmp nat_cmp id e.0) as (λ (b : Bool). eq_by_cmp nat_cmp id e.0 ≡ b → HasNewShelf triggers (Some hist) (map.get more id)) [
+        fresh = λ id hist inside there gone. elim (eq_by_cmp nat_cmp id e.0) as (λ (b : Bool). eq_by_cmp nat_cmp id e.0 ≡ b → HasNewShelf triggers hist (map.get more id)) [
           | true ↦ λ tie.
               let same : id ≡ e.0 = same_from_tie nat_cmp-IsAntisymmetric id e.0 tie in
-              subst (λ (o : Option Hist). HasNewShelf triggers o (map.get more id)) (sym is.attached.0 ∙ ap (map.get triggers) (sym same) ∙ there)
+              subst (λ (h : Hist). HasNewShelf triggers h (map.get more id)) (ap (λ (o : Option Hist). unwrap_or o hist) (sym is.attached.0 ∙ ap (map.get triggers) (sym same) ∙ there))
               (adds.0, (at_id id ∙ ap (λ (b : Bool). cond b (Some adds.0) (map.get now id)) tie, adds.1.1))
           | false ↦ λ other.
               let kept : map.get more id ≡ map.get now id = at_id id ∙ ap (λ (b : Bool). cond b (Some adds.0) (map.get now id)) other in
-              subst (HasNewShelf triggers (Some hist)) (sym kept) (is.fresh id hist inside there (ap (λ (b : Bool). cond b (Some e.1) (find nat_cmp id rest)) other ∙ gone))
+              subst (HasNewShelf triggers hist) (sym kept) (is.fresh id hist inside there (ap (λ (b : Bool). cond b (Some e.1) (find nat_cmp id rest)) other ∙ gone))
         ] refl;
         attached = is.attached.1;
       }
@@ -99,6 +98,10 @@ module _ (triggers : Triggers) (family : ℕ → Bool) (old : Shelves) where
   renewed_all now is = record { stay = is.stay; none = is.none; fresh = λ id hist inside there. is.fresh id hist inside there refl }
 
 -- ---- acts, trigger by trigger
+
+-- some triggers without one
+abbrev but_one : ℕ → (ℕ → Bool) → ℕ → Bool
+but_one id idle other = if is_one id other then false else idle other
 
 -- the same acts, where who has some is idle alike
 module _ (triggers : Triggers) (lanes : Lanes) where
@@ -115,33 +118,20 @@ module _ (triggers : Triggers) (lanes : Lanes) where
         | false ↦ no_act_of triggers (merged lanes) at none
       ]
 
-  pub idle_alike : (idle other : ℕ → Bool) → ((id : ℕ) (hist : Hist) → map.get triggers id ≡ Some hist → idle id ≡ other id) → (shelves : Shelves) → AreKeptIdle idle triggers lanes shelves → AreKeptIdle other triggers lanes shelves
-  idle_alike idle other alike shelves is = record {
-    each = is.each;
-    kept = subst (λ (acts : Acts). IsKept (role_at triggers) (values_by triggers) (admits_on shelves) acts (kept_on shelves)) (acts_alike idle other alike) is.kept;
-  }
+  -- what is kept while these are idle
+  abbrev pub KeptIdle : (ℕ → Bool) → Shelves → Type 0
+  KeptIdle idle shelves = AreKeptFor triggers lanes (acts_outside idle triggers lanes) shelves
 
-  -- where none is idle, all is kept
-  pub none_idle : (shelves : Shelves) → AreKeptIdle (λ _. false) triggers lanes shelves → AreKept triggers (merged lanes) shelves
-  none_idle shelves is = record { each = is.each; kept = is.kept }
+  pub idle_alike : (idle other : ℕ → Bool) → ((id : ℕ) (hist : Hist) → map.get triggers id ≡ Some hist → idle id ≡ other id) → (shelves : Shelves) → KeptIdle idle shelves → KeptIdle other shelves
+  idle_alike idle other alike shelves = subst (λ (input : Acts). AreKeptFor triggers lanes input shelves) (acts_alike idle other alike)
 
-  pub outside_held : (idle : ℕ → Bool) → AreHeld lanes (acts_outside idle triggers lanes)
-  outside_held idle at key event is =
-      elim (idle at.trigger) as (λ (b : Bool). (if b then None else acts_of triggers (merged lanes) at) ≡ Some (key, event) → (event_at lanes at.pos.cpu at.pos.line ≡ Some event) × (event.stamp ≡ at.pos.stamp)) [
-        | true ↦ λ h. let both : ◌≡◌ {A = Option (List Part × Traced)} None (Some (key, event)) = h in absurd cc
-        | false ↦ λ there. all_acts_held triggers lanes at key event there
-      ] is
-
-  -- an idle trigger has no act
-  pub idle_none : (id : ℕ) (idle : ℕ → Bool) → idle id ≡ true → (at : At) → at.trigger ≡ id → acts_outside idle triggers lanes at ≡ None
-  idle_none id idle here at same = ap (λ (b : Bool). if b then None else acts_of triggers (merged lanes) at) (ap idle same ∙ here)
-
-  -- with all of its acts it is idle no more
-  pub idle_joined : (id : ℕ) (idle : ℕ → Bool) (at : At) → (if at.trigger == id then acts_of triggers (merged lanes) at else acts_outside idle triggers lanes at) ≡ acts_outside (but_one id idle) triggers lanes at
-  idle_joined id idle at = elim (at.trigger == id) as (λ (b : Bool). (if b then acts_of triggers (merged lanes) at else acts_outside idle triggers lanes at) ≡ (if (if b then false else idle at.trigger) then None else acts_of triggers (merged lanes) at)) [
-    | true ↦ refl
-    | false ↦ refl
-  ]
+  -- with all of its acts a trigger is idle no more
+  pub idle_joined : (id : ℕ) (idle : ℕ → Bool) → with_trigger triggers lanes id (acts_outside idle triggers lanes) ≡ acts_outside (but_one id idle) triggers lanes
+  idle_joined id idle i at = joins (is_one id at.trigger) i
+    where
+      joins : (own : Bool) → (if own then acts_of triggers (merged lanes) at else acts_outside idle triggers lanes at) ≡ (if (if own then false else idle at.trigger) then None else acts_of triggers (merged lanes) at)
+      joins true = refl
+      joins false = refl
 
 -- who of a family is left
 abbrev pub left_in : (ℕ → Bool) → List (ℕ × Hist) → ℕ → Bool
@@ -154,19 +144,19 @@ tests_in family lanes rest = sum_by (λ e. if family e.0 then named_in lanes e.1
 module _ (triggers : Triggers) (lanes : Lanes) (family : ℕ → Bool) where
   -- those of the family that are left are idle
   pub record IsPut (rest : List (ℕ × Hist)) (shelves : Shelves) : Type 0 where
-    pub idle : AreKeptIdle (left_in family rest) triggers lanes shelves
+    pub idle : KeptIdle triggers lanes (left_in family rest) shelves
     pub attached : AllByRecursion (λ e. map.get triggers e.0 ≡ Some e.1) rest
     pub sorted : IsStrictlySortedBy nat_cmp (keys_of rest)
 
-  pub put_none : (shelves : Shelves) → AreKeptIdle family triggers lanes shelves → IsPut (map.entries triggers) shelves
+  pub put_none : (shelves : Shelves) → KeptIdle triggers lanes family shelves → IsPut (map.entries triggers) shelves
   put_none shelves is = record {
     idle = idle_alike triggers lanes family (left_in family (map.entries triggers)) (λ id hist there. ap (λ (o : Option Hist). is_some o && family id) (sym there ∙ get-entries triggers id)) shelves is;
     attached = entries_found nat_cmp nat_cmp_total triggers;
     sorted = strictly_sorted nat_cmp (map.entries triggers) (entries_sorted triggers);
   }
 
-  pub put_all : (shelves : Shelves) → IsPut [] shelves → AreKept triggers (merged lanes) shelves
-  put_all shelves is = none_idle triggers lanes shelves is.idle
+  pub put_all : (shelves : Shelves) → IsPut [] shelves → AreKeptFor triggers lanes (acts_of triggers (merged lanes)) shelves
+  put_all shelves is = is.idle
 
   none_behind : (k : ℕ) (es : List (ℕ × Hist)) → AllByRecursion (λ q. nat_cmp k q ≡ Less) (keys_of es) → find nat_cmp k es ≡ None
   none_behind k [] h = refl
@@ -191,8 +181,23 @@ module _ (triggers : Triggers) (lanes : Lanes) (family : ℕ → Bool) where
     }
 
     -- the first of them is idle
-    pub first_idle : family e.0 ≡ true → left_in family (e ∷ rest) e.0 ≡ true
+    first_idle : family e.0 ≡ true → left_in family (e ∷ rest) e.0 ≡ true
     first_idle member = ap (λ (b : Bool). is_some (cond b (Some e.1) (find nat_cmp e.0 rest)) && family e.0) ((eq_by_cmp_equiv nat_cmp_total).refl e.0) ∙ member
+
+    abbrev input : Acts
+    input = acts_outside (left_in family (e ∷ rest)) triggers lanes
+
+    tells : input_of lanes shelves ≡ input
+    tells = input_is triggers lanes input shelves is.idle
+
+    -- and so it can join
+    pub told_idle : AreKeptFor triggers lanes (input_of lanes shelves) shelves
+    told_idle = told_for triggers lanes input shelves is.idle
+
+    pub idle_first : family e.0 ≡ true → (pos : Pos) → input_of lanes shelves (record { pos = pos; trigger = e.0 }) ≡ None
+    idle_first member pos =
+        let at : At = record { pos = pos; trigger = e.0 } in
+        ap (λ (input : Acts). input at) tells ∙ ap (λ (b : Bool). if b then None else acts_of triggers (merged lanes) at) (first_idle member)
 
     but_first : (id : ℕ) → but_one e.0 (left_in family (e ∷ rest)) id ≡ left_in family rest id
     but_first id = elim (id == e.0) as (λ (b : Bool). (id == e.0) ≡ b → cond b false (left_in family (e ∷ rest) id) ≡ left_in family rest id) [
@@ -207,9 +212,10 @@ module _ (triggers : Triggers) (lanes : Lanes) (family : ℕ → Bool) where
         ] refl
 
     -- and as it has joined, the rest are left
-    pub put_more : (new : Shelves) → family e.0 ≡ true → HasJoined e.0 triggers lanes shelves new → IsPut rest new
-    put_more new member joined = record {
-      idle = idle_alike triggers lanes (but_one e.0 (left_in family (e ∷ rest))) (left_in family rest) (λ id _ _. but_first id) new (joined (left_in family (e ∷ rest)) (first_idle member) is.idle);
+    pub put_more : (new : Shelves) → AreKeptFor triggers lanes (with_trigger triggers lanes e.0 (input_of lanes shelves)) new → IsPut rest new
+    put_more new joined = record {
+      idle = idle_alike triggers lanes (but_one e.0 (left_in family (e ∷ rest))) (left_in family rest) (λ id _ _. but_first id) new
+          (subst (λ (input : Acts). AreKeptFor triggers lanes input new) (ap (with_trigger triggers lanes e.0) tells ∙ idle_joined triggers lanes e.0 (left_in family (e ∷ rest))) joined);
       attached = is.attached.1;
       sorted = sorted_tail nat_cmp e.0 (keys_of rest) is.sorted;
     }

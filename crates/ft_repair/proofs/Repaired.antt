@@ -14,6 +14,10 @@ pub both_ok : {E A B C : Type 0} (repaired : Result Unit E) → (A → B → C) 
 both_ok (Ok done) then a b = then a b
 both_ok (Err fault) then a b = tt
 
+pub then_ok : {E A B : Type 0} (repaired : Result Unit E) → (A → B) → OnOk repaired A → OnOk repaired B
+then_ok (Ok done) then a = then a
+then_ok (Err fault) then a = tt
+
 -- where it went through, there are tables
 pub repaired_there : {E A : Type 0} (tables : Shelves) (repaired : Result Unit E) (kept : Option Shelves) → kept ≡ if_ok tables repaired → repaired ≡ Ok tt → kept ≡ None → A
 repaired_there tables repaired kept is ok gone = let both : ◌≡◌ {A = Option Shelves} (Some tables) None = ap (if_ok tables) (sym ok) ∙ sym is ∙ gone in absurd cc
@@ -28,8 +32,3 @@ pub repaired_both : {E : Type 0} (Change : Shelves → Shelves → Type 0) (befo
     → Some before ≡ old → new ≡ if_ok after repaired → OnOk repaired (Change before after) → IfBoth Change old new
 repaired_both Change before after repaired old new was is changes =
     subst (λ (o : Option Shelves × Option Shelves). IfBoth Change o.0 o.1) (λ i. (was i, sym is i)) (repaired_if (Change before) after repaired changes)
-
--- what holds at all holds where a call went through
-pub holds_ok : {E A : Type 0} (repaired : Result Unit E) → A → OnOk repaired A
-holds_ok (Ok done) a = a
-holds_ok (Err fault) a = tt

@@ -1,6 +1,6 @@
 pub mod KeptShelves
 pub mod Outside
-pub mod ButOneEvent
+pub mod OneEvent
 pub mod ButOneLane
 pub mod ButOneTrigger
 pub mod SomeLanes

@@ -1,4 +1,4 @@
--- Words of private functions: new shelves, what is kept while triggers have no acts, and how a repair ends.
-pub mod Built
+-- Words of private functions: new shelves, what is kept while triggers join or leave, and how a repair ends.
 pub mod Ended
-pub mod Idle
+pub mod Joining
+pub mod KeptFor

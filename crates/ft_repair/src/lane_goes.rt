@@ -12,10 +12,11 @@ ghost use Rattle.ft_repair.specs.ButOneLane.{AreKeptWithoutLane};
 ghost use Rattle.ft_repair.specs.Repaired.{IfBoth};
 
 use crate::repair::put_back;
+use crate::scene::scene_of;
 use ft_base::Content;
 use ft_fields::Pos;
 use ft_hist::Work;
-use ft_kept::{Acted, Tables};
+use ft_kept::{Acted, Delta, Sign, Tables};
 use std::alloc::AllocError;
 
 /// The events of a CPU's lane, which is still held, go from the tables. Where memory runs out, the
@@ -58,16 +59,20 @@ fn take_lane(
         → work.new.evals ≤ work.old.evals + count_on_lane content.now.triggers lane }
     ensures grow { StepsGrow work.old work.new }
 {
-    let (lanes, triggers) = (content.lanes(), content.triggers());
-    let Some(lines) = lanes.lane(cpu) else {
+    let scene = scene_of(content);
+    let Some(lines) = scene.lanes.lane(cpu) else {
         return Ok(());
     };
     let mut acted = Acted::unasked();
     for (line, stored) in lines {
         let event = stored.event();
         let stamp = event.stamp;
-        let pos = Pos { stamp, cpu, line };
-        tables.event_goes(triggers, lanes, pos, &event, &mut acted, work)?;
+        let delta = Delta {
+            sign: Sign::Retract,
+            pos: Pos { stamp, cpu, line },
+            event: &event,
+        };
+        tables.apply(&scene, &delta, &mut acted, work)?;
     }
     Ok(())
 }

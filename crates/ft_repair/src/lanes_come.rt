@@ -10,9 +10,10 @@ ghost use Rattle.ft_repair.specs.Repaired.{IfBoth};
 ghost use Rattle.ft_repair.specs.SomeLanes.{AreKeptOfLanes, count_coming};
 
 use crate::repair::put_back;
+use crate::scene::scene_of;
 use ft_base::Content;
 use ft_hist::Work;
-use ft_kept::{Acted, Tables};
+use ft_kept::{Acted, Delta, Sign, Tables};
 use ft_lanes::Lanes;
 use ft_replay::merged_events_but;
 use ft_store::Store;
@@ -84,12 +85,17 @@ fn put_lanes(
     ensures evals { work.new.evals ≤ work.old.evals + count_coming before.now content.now }
     ensures grow { StepsGrow work.old work.new }
 {
-    let (lanes, triggers) = (content.lanes(), content.triggers());
-    let events = merged_events_but(alloc, lanes, triggers, before)?;
+    let scene = scene_of(content);
+    let events = merged_events_but(alloc, scene.lanes, scene.triggers, before)?;
     let mut acted = Acted::unasked();
     for (pos, stored) in &events {
         let event = stored.event();
-        tables.event_comes(triggers, lanes, *pos, &event, &mut acted, work)?;
+        let delta = Delta {
+            sign: Sign::Insert,
+            pos: *pos,
+            event: &event,
+        };
+        tables.apply(&scene, &delta, &mut acted, work)?;
     }
     Ok(())
 }

@@ -1,18 +1,18 @@
-//! Kept shelves that follow the base: repaired as events come and go, as triggers join and leave, or
-//! built anew. No repair replays the events.
+//! Kept shelves that follow the base: repaired as events come and go, as triggers join and leave,
+//! or built anew. No repair replays the events.
 //!
 //! One event more or less changes a few entries. A trigger that joins or leaves lets the shelves of
 //! the others stay as they are; one that gets another filter all but its own and those of the
-//! triggers that read what it saves. A reader takes readings from the others that read its variable,
-//! or leaves them to those: there a few entries change. Where memory runs out, the shelves are given
-//! up. Where there are none, each of these calls but `restore` leaves it so.
+//! triggers that read what it saves. A reader takes readings from the others that read its
+//! variable, or leaves them to those: there a few entries change. Where memory runs out, the
+//! shelves are given up. Where there are none, each of these calls but `restore` leaves it so.
 //!
 //! ```ignore
 //! let mut kept = Some(Tables::new(alloc));
 //! let id = content.attach(trigger)?;
 //! join(&mut kept, alloc, &content, id, work);
 //! let place = content.insert(event)?;
-//! let_come(&mut kept, &content, place, &mut Acted::unasked(), work);
+//! let_change(&mut kept, &content, Sign::Insert, place, &mut Acted::unasked(), work);
 //! // The shelves are those of all triggers and events, unless memory ran out on the way.
 //! if kept.is_none() {
 //!     restore(&mut kept, alloc, &content, work);
@@ -23,13 +23,14 @@
 //!
 //! Each call takes the shelves where there are some (`Option<Tables>`), leaves none where there are
 //! none, and gives them up where memory runs out. What is kept before and after is said of the base
-//! (`AreKeptOf` and its like, `specs/Repaired.antt`).
+//! (`AreKeptOf`, `specs/KeptShelves.antt`, and its like).
 //!
-//! - `let_come`, `let_go`: the event of a line comes to shelves that are kept of all others, or
-//!   goes from those that are kept of all; the triggers that act at it are gathered; what it costs
-//!   is `CostsOf`. The shelves are never given up as an event comes that no trigger hits, or as one
-//!   goes that only triggers without a variable hit; where only such triggers hit it, notes stay as
-//!   they are. Lets through: giving the shelves up at any other event.
+//! - `let_change`: the event of a line comes to shelves that are kept of all others, or goes from
+//!   those that are kept of all, by a sign; the triggers that act at it are gathered; what it costs
+//!   is `ChangeCosts` (`specs/OneEvent.antt`). The shelves are never given up as an event comes
+//!   that no trigger hits, or as one goes that only triggers without a variable hit; where only
+//!   such triggers hit it, notes stay as they are. Lets through: giving the shelves up at any other
+//!   event.
 //! - `let_lanes_come`, `cpus_before`: the events of all lanes except those of some CPUs come to the
 //!   shelves, with a test at most for each and each trigger on its name; which CPUs are held before
 //!   a load, exact, where fewer events come than are held. Lets through: giving the shelves up, and
@@ -73,6 +74,7 @@ pub mod laws;
 mod rebuild;
 mod refilter;
 mod repair;
+mod scene;
 mod trigger_joins;
 mod trigger_leaves;
 
@@ -81,6 +83,6 @@ pub use lanes_come::{cpus_before, let_lanes_come};
 pub use laws::{kept_shelves, others_stay, readers_stay};
 pub use rebuild::{renew, restore};
 pub use refilter::make_way;
-pub use repair::{let_come, let_go};
+pub use repair::let_change;
 pub use trigger_joins::join;
 pub use trigger_leaves::{leave, reads};

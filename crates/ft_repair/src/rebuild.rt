@@ -1,41 +1,37 @@
 //! Tables built anew from what is held and attached.
 
-ghost use Rattle.std.specs.Prelude.{◌≡◌, None, IfOk, IfSome};
+ghost use Rattle.std.specs.Prelude.{◌≡◌, true, None, IfOk, IfSome};
+ghost use Rattle.std.specs.FinMap as map;
 ghost use Rattle.std.specs.Ordering.{nat_cmp};
 ghost use Rattle.ft_maps.specs.Seen.{seen};
 ghost use Rattle.ft_hist.specs.Steps.{StepsGrow};
+ghost use Rattle.ft_kept.specs.Views.{triggers_of};
 ghost use Rattle.ft_repair.specs.KeptShelves.{AreKeptOf, AreKept};
-ghost use Rattle.ft_repair.specs.inner.Built.{AreNew};
+ghost use Rattle.ft_repair.specs.inner.Joining.{AreRenewed};
 ghost use Rattle.ft_replay.specs.Merged.{merged};
 ghost use Rattle.ft_base.specs.Reachable.{HasSavers};
 
+use crate::scene::scene_of;
 use crate::trigger_joins::{Joining, put_events};
 use ft_base::{Content, role_of};
 use ft_hist::{Trigger, Work};
-use ft_kept::Tables;
-use ft_lanes::Lanes;
+use ft_kept::{Scene, Tables};
 use ft_maps::entries;
 use ft_replay::merged_events;
 use std::alloc::{AllocError, Global};
 use std::collections::BTreeMap;
 
 /// What is kept of all attached triggers, from all held events. Refused for memory.
-pub(crate) fn rebuilt(
-    alloc: Global,
-    lanes: &Lanes,
-    triggers: &BTreeMap<u32, Trigger>,
-    work: &mut Work,
-) -> Result<Tables, AllocError>
-    requires { HasSavers (seen nat_cmp triggers.now) }
-    ensures kept { IfOk result (AreKept (seen nat_cmp triggers.now) (merged lanes.now)) }
+fn rebuilt(alloc: Global, scene: &Scene<'_>, work: &mut Work) -> Result<Tables, AllocError>
+    requires { HasSavers (triggers_of scene.now) }
+    ensures kept { IfOk result (AreKept (triggers_of scene.now) (merged scene.now.lanes.now)) }
     ensures grow { StepsGrow work.old work.new }
 {
-    let events = merged_events(alloc, lanes, triggers)?;
-    let mut tables = new_tables(alloc, triggers)?;
-    for (id, trigger) in entries(triggers) {
+    let events = merged_events(alloc, scene.lanes, scene.triggers)?;
+    let mut tables = new_tables(alloc, scene.triggers)?;
+    for (id, trigger) in entries(scene.triggers) {
         let joining = Joining {
-            lanes,
-            triggers,
+            scene: *scene,
             id: *id,
             trigger,
         };
@@ -46,7 +42,7 @@ pub(crate) fn rebuilt(
 
 /// A shelf without hits for each attached trigger. Refused for memory.
 fn new_tables(alloc: Global, triggers: &BTreeMap<u32, Trigger>) -> Result<Tables, AllocError>
-    ensures { IfOk result (λ tables. AreNew (seen nat_cmp triggers.now) tables) }
+    ensures { IfOk result (AreRenewed (seen nat_cmp triggers.now) (λ _. true) map.empty) }
 {
     let mut tables = Tables::new(alloc);
     for (id, attached) in entries(triggers) {
@@ -74,7 +70,7 @@ pub fn restore(kept: &mut Option<Tables>, alloc: Global, content: &Content, work
     ensures kept { IfSome kept.new (AreKeptOf content.now) }
     ensures grow { StepsGrow work.old work.new }
 {
-    *kept = match rebuilt(alloc, content.lanes(), content.triggers(), work) {
+    *kept = match rebuilt(alloc, &scene_of(content), work) {
         Ok(tables) => Some(tables),
         Err(_) => None,
     };

@@ -2,9 +2,10 @@
 
 ghost use Rattle.std.specs.Prelude.{◌≡◌, ◌+◌, ◌≤◌, None, Some, IfSome, OnOk, length};
 ghost use Rattle.std.specs.Ordering.{nat_cmp};
-ghost use Rattle.std.specs.FinMap as map;
 ghost use Rattle.ft_hist.specs.Steps.{StepsGrow};
+ghost use Rattle.ft_kept.specs.Acts.{acts_of};
 ghost use Rattle.ft_kept.specs.AtOnce.{IsBare};
+ghost use Rattle.ft_kept.specs.Views.{triggers_of};
 ghost use Rattle.ft_maps.specs.Mapped.{entries_by};
 ghost use Rattle.ft_maps.specs.Seen.{seen};
 ghost use Rattle.ft_store.specs.Stored.{held};
@@ -13,19 +14,19 @@ ghost use Rattle.ft_base.specs.Reachable.{HasSavers};
 ghost use Rattle.ft_answers.specs.Costs.{named_in, family_tests};
 ghost use Rattle.ft_replay.specs.Merged.{merged};
 ghost use Rattle.ft_repair.specs.KeptShelves.{AreKept, AreKeptOf};
-ghost use Rattle.ft_repair.specs.Outside.{AreKeptOutside};
-ghost use Rattle.ft_repair.specs.inner.Idle.{AreKeptIdle, AreRenewed};
-ghost use Rattle.ft_repair.specs.inner.Idle.{CanJoin, HasJoined, Joined, MayJoin};
+ghost use Rattle.ft_repair.specs.Outside.{AreKeptOutside, acts_outside};
+ghost use Rattle.ft_repair.specs.inner.Joining.{AreRenewed, CanJoin, HasJoined, MayJoin};
+ghost use Rattle.ft_repair.specs.inner.KeptFor.{AreKeptFor};
 
 use crate::repair::put_back;
+use crate::scene::scene_of;
 use ft_base::{Content, role_of};
 use ft_fields::Pos;
 use ft_groups::grouped;
 use ft_hist::{Trigger, Work};
-use ft_kept::Tables;
-use ft_lanes::Lanes;
+use ft_kept::{Delta, Scene, Sign, Tables};
 use ft_maps::entries;
-use ft_pairs::{At, Role};
+use ft_pairs::Role;
 use ft_replay::{Names, events_with};
 use ft_store::Stored;
 use std::alloc::{AllocError, Global};
@@ -45,8 +46,8 @@ pub fn join(kept: &mut Option<Tables>, alloc: Global, content: &Content, id: u32
     let Some(mut tables) = kept.take() else {
         return;
     };
-    let (lanes, triggers) = (content.lanes(), content.triggers());
-    let repaired = join_family(&mut tables, alloc, lanes, triggers, id, work);
+    let scene = scene_of(content);
+    let repaired = join_family(&mut tables, alloc, &scene, id, work);
     put_back(kept, tables, repaired);
 }
 
@@ -55,21 +56,21 @@ pub fn join(kept: &mut Option<Tables>, alloc: Global, content: &Content, id: u32
 fn join_family(
     tables: &mut Tables,
     alloc: Global,
-    lanes: &Lanes,
-    triggers: &BTreeMap<u32, Trigger>,
+    scene: &Scene<'_>,
     id: u32,
     work: &mut Work,
 ) -> Result<(), AllocError>
-    requires savers { HasSavers (seen nat_cmp triggers.now) }
-    requires outside { AreKeptOutside (is_in_family (seen nat_cmp triggers.now) id)
-        (seen nat_cmp triggers.now) lanes.now tables.old }
-    ensures kept { OnOk result (AreKept (seen nat_cmp triggers.now) (merged lanes.now) tables.new) }
+    requires savers { HasSavers (triggers_of scene.now) }
+    requires outside { AreKeptOutside (is_in_family (triggers_of scene.now) id)
+        (triggers_of scene.now) scene.now.lanes.now tables.old }
+    ensures kept { OnOk result (AreKept (triggers_of scene.now) (merged scene.now.lanes.now)
+        tables.new) }
     ensures evals { work.new.evals
-        ≤ work.old.evals + family_tests (seen nat_cmp triggers.now) lanes.now id }
+        ≤ work.old.evals + family_tests (triggers_of scene.now) scene.now.lanes.now id }
     ensures grow { StepsGrow work.old work.new }
 {
-    renew_shelves(tables, triggers, id)?;
-    put_family(tables, alloc, lanes, triggers, id, work)
+    renew_shelves(tables, scene.triggers, id)?;
+    put_family(tables, alloc, scene, id, work)
 }
 
 /// Whether a trigger with a role is the one with the first id, or reads what that one saves.
@@ -106,26 +107,39 @@ fn renew_shelves(
 fn put_family(
     tables: &mut Tables,
     alloc: Global,
-    lanes: &Lanes,
-    triggers: &BTreeMap<u32, Trigger>,
+    scene: &Scene<'_>,
     id: u32,
     work: &mut Work,
 ) -> Result<(), AllocError>
-    requires savers { HasSavers (seen nat_cmp triggers.now) }
-    requires idle { AreKeptIdle (is_in_family (seen nat_cmp triggers.now) id)
-        (seen nat_cmp triggers.now) lanes.now tables.old }
-    ensures kept { OnOk result (AreKept (seen nat_cmp triggers.now) (merged lanes.now) tables.new) }
+    requires { AreKeptFor (triggers_of scene.now) scene.now.lanes.now
+        (acts_outside (is_in_family (triggers_of scene.now) id) (triggers_of scene.now)
+        scene.now.lanes.now) tables.old }
+    ensures kept { OnOk result (AreKeptFor (triggers_of scene.now) scene.now.lanes.now
+        (acts_of (triggers_of scene.now) (merged scene.now.lanes.now)) tables.new) }
     ensures evals { work.new.evals
-        ≤ work.old.evals + family_tests (seen nat_cmp triggers.now) lanes.now id }
+        ≤ work.old.evals + family_tests (triggers_of scene.now) scene.now.lanes.now id }
     ensures grow { StepsGrow work.old work.new }
 {
-    for (other, attached) in entries(triggers) {
-        let role = role_of(triggers, attached.variable());
+    for (other, trigger) in entries(scene.triggers) {
+        let role = role_of(scene.triggers, trigger.variable());
         if is_kin(id, *other, role) {
-            put_acts(tables, alloc, lanes, triggers, *other, attached, work)?;
+            let joining = Joining {
+                scene: *scene,
+                id: *other,
+                trigger,
+            };
+            put_acts(tables, alloc, &joining, work)?;
         }
     }
     Ok(())
+}
+
+/// A trigger that joins the tables, and where its events and the others are looked up.
+#[derive(Clone, Copy)]
+pub(crate) struct Joining<'a> {
+    pub(crate) scene: Scene<'a>,
+    pub(crate) id: u32,
+    pub(crate) trigger: &'a Trigger,
 }
 
 /// The events on a trigger's name come to it, in merged order. Refused for memory, and then the
@@ -133,37 +147,18 @@ fn put_family(
 fn put_acts(
     tables: &mut Tables,
     alloc: Global,
-    lanes: &Lanes,
-    triggers: &BTreeMap<u32, Trigger>,
-    id: u32,
-    trigger: &Trigger,
+    joining: &Joining<'_>,
     work: &mut Work,
 ) -> Result<(), AllocError>
-    requires savers { HasSavers (seen nat_cmp triggers.now) }
-    requires attached { map.get (seen nat_cmp triggers.now) id ≡ Some trigger.now }
-    requires can { CanJoin id (seen nat_cmp triggers.now) lanes.now tables.old }
-    ensures joined { OnOk result (HasJoined id (seen nat_cmp triggers.now) lanes.now
-        tables.old tables.new) }
-    ensures evals { work.new.evals ≤ work.old.evals + named_in lanes.now trigger.now }
+    requires { CanJoin joining.now tables.old }
+    ensures joined { OnOk result (HasJoined joining.now tables.old tables.new) }
+    ensures evals { work.new.evals
+        ≤ work.old.evals + named_in joining.now.scene.lanes.now joining.now.trigger.now }
     ensures grow { StepsGrow work.old work.new }
 {
-    let events = events_with(alloc, lanes, Names::only(trigger.event()))?;
-    let joining = Joining {
-        lanes,
-        triggers,
-        id,
-        trigger,
-    };
-    put_events(tables, alloc, &joining, &events, work)
-}
-
-/// A trigger that joins the tables, and where its events and the others are looked up.
-#[derive(Clone, Copy)]
-pub(crate) struct Joining<'a> {
-    pub(crate) lanes: &'a Lanes,
-    pub(crate) triggers: &'a BTreeMap<u32, Trigger>,
-    pub(crate) id: u32,
-    pub(crate) trigger: &'a Trigger,
+    let names = Names::only(joining.trigger.event());
+    let events = events_with(alloc, joining.scene.lanes, names)?;
+    put_events(tables, alloc, joining, &events, work)
 }
 
 /// The events of a list that a trigger counts come to it: at once where nothing is kept of it yet,
@@ -176,7 +171,7 @@ pub(crate) fn put_events(
     work: &mut Work,
 ) -> Result<(), AllocError>
     requires { MayJoin joining.now (entries_by held events.now) tables.old }
-    ensures joined { OnOk result (Joined joining.now tables.old tables.new) }
+    ensures joined { OnOk result (HasJoined joining.now tables.old tables.new) }
     ensures evals { work.new.evals ≤ work.old.evals + length events.now }
     ensures grow { StepsGrow work.old work.new }
 {
@@ -198,12 +193,13 @@ fn put_at_once(
 ) -> Result<(), AllocError>
     requires bare { IsBare joining.now.id tables.old }
     requires may { MayJoin joining.now (entries_by held events.now) tables.old }
-    ensures joined { OnOk result (Joined joining.now tables.old tables.new) }
+    ensures joined { OnOk result (HasJoined joining.now tables.old tables.new) }
     ensures evals { work.new.evals ≤ work.old.evals + length events.now }
     ensures grow { StepsGrow work.old work.new }
 {
     let groups = grouped(alloc, joining.trigger, events, work)?;
-    tables.acts_come(joining.triggers, joining.trigger, joining.id, &groups, work)
+    let triggers = joining.scene.triggers;
+    tables.acts_come(triggers, joining.trigger, joining.id, &groups, work)
 }
 
 /// The events of a list that a trigger counts come to it, one after the other. Refused for memory,
@@ -215,24 +211,18 @@ fn put_one_by_one(
     work: &mut Work,
 ) -> Result<(), AllocError>
     requires { MayJoin joining.now (entries_by held events.now) tables.old }
-    ensures joined { OnOk result (Joined joining.now tables.old tables.new) }
+    ensures joined { OnOk result (HasJoined joining.now tables.old tables.new) }
     ensures evals { work.new.evals ≤ work.old.evals + length events.now }
     ensures grow { StepsGrow work.old work.new }
 {
     for (pos, stored) in events {
-        let at = At {
-            pos: *pos,
-            trigger: joining.id,
-        };
         let event = stored.event();
-        tables.comes_to(
-            joining.triggers,
-            joining.lanes,
-            joining.trigger,
-            at,
-            &event,
-            work,
-        )?;
+        let delta = Delta {
+            sign: Sign::Insert,
+            pos: *pos,
+            event: &event,
+        };
+        tables.apply_to(&joining.scene, joining.id, joining.trigger, &delta, work)?;
     }
     Ok(())
 }

@@ -8,15 +8,17 @@ ghost use Rattle.ft_answers.specs.Deferral.{ReadsNothing};
 ghost use Rattle.ft_repair.specs.KeptShelves.{AreKeptOf};
 ghost use Rattle.ft_base.specs.OneTrigger.{IsUnread};
 ghost use Rattle.ft_repair.specs.ButOneTrigger.{AreKeptBut, OtherShelvesStay};
-ghost use Rattle.ft_repair.specs.inner.Idle.{AreKeptIdle, is_one};
+ghost use Rattle.ft_repair.specs.Outside.{acts_outside};
+ghost use Rattle.ft_repair.specs.inner.Joining.{is_one};
+ghost use Rattle.ft_repair.specs.inner.KeptFor.{AreKeptFor};
 ghost use Rattle.ft_repair.specs.Repaired.{IfBoth};
 
 use crate::repair::put_back;
+use crate::scene::scene_of;
 use ft_base::{Content, is_reader};
 use ft_hist::{Trigger, Work};
-use ft_kept::Tables;
+use ft_kept::{Delta, Sign, Tables};
 use ft_maps::get;
-use ft_pairs::At;
 use ft_replay::{Names, events_with};
 use std::alloc::{AllocError, Global};
 
@@ -96,20 +98,21 @@ fn take_acts(
 ) -> Result<(), AllocError>
     requires attached { map.get content.now.triggers id ≡ Some trigger.now }
     requires kept { AreKeptOf content.now tables.old }
-    ensures idle { OnOk result (AreKeptIdle (is_one id) content.now.triggers content.now.lanes
-        tables.new) }
+    ensures left { OnOk result (AreKeptFor content.now.triggers content.now.lanes
+        (acts_outside (is_one id) content.now.triggers content.now.lanes) tables.new) }
     ensures grow { StepsGrow work.old work.new }
 {
-    let (lanes, triggers) = (content.lanes(), content.triggers());
-    let mut events = events_with(alloc, lanes, Names::only(trigger.event()))?;
+    let scene = scene_of(content);
+    let mut events = events_with(alloc, scene.lanes, Names::only(trigger.event()))?;
     events.reverse();
     for (pos, stored) in &events {
-        let at = At {
-            pos: *pos,
-            trigger: id,
-        };
         let event = stored.event();
-        tables.goes_from(triggers, lanes, trigger, at, &event, work)?;
+        let delta = Delta {
+            sign: Sign::Retract,
+            pos: *pos,
+            event: &event,
+        };
+        tables.apply_to(&scene, id, trigger, &delta, work)?;
     }
     Ok(())
 }

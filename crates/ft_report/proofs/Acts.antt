@@ -1,38 +1,42 @@
--- The acts at an event: they are all, and as the event comes or goes no others change.
-use Rattle.std.proofs.Common.{◌≡◌, ℕ, Bool, true, false, cond, List, [], ◌∷◌, ◌++◌, map as list_map, refl, sym, ap, ◌∙◌, Some, None, Option, option_map, option_and_then, nat_eq, inl, inr}
+-- The acts at an event: they are all, and with the event more or less no others change.
+use Rattle.std.proofs.Common.{◌≡◌, ℕ, Bool, true, false, cond, List, [], ◌∷◌, ◌++◌, map as list_map, refl, sym, ap, subst, ◌∙◌, Some, None, Option, option_map, option_and_then, nat_eq, inl, inr}
 use Rattle.std.specs.List.{filter, flat_map}
 use Rattle.std.specs.Option.{option_map_or}
 use Rattle.std.specs.Ordering.{nat_cmp, eq_by_cmp}
 use Rattle.std.specs.Cmp.{eq_by_cmp_equiv}
 use Rattle.std.specs.FinMap as map
 use Rattle.std.specs.FinMap.{FinMap, find, get-entries, nat_cmp-IsAntisymmetric}
-use Rattle.std.proofs.lemmas.Bool.{or_left, or_right}
-use Rattle.ft_fields.specs.Places.{pos_cmp_total, pos_same}
+use Rattle.std.proofs.lemmas.Bool.{false_from_ne_true, or_left, or_right}
+use Rattle.ft_fields.specs.Places.{pos_cmp, pos_cmp_total, pos_same}
 use Rattle.ft_fields.specs.Traced.{Traced}
 use Rattle.ft_fields.specs.declared.pos.Pos.{Pos}
 use Rattle.ft_hist.specs.Hist.{Hist}
 use Rattle.ft_hist.specs.Hit.{hit}
 use Rattle.ft_keys.specs.declared.key.Part.{Part}
 use Rattle.ft_keys.specs.Orders.{key_cmp_total}
-use Rattle.ft_maps.specs.Entries.{same_from_tie, get-insert_same, get-insert_other, get-remove_same, get-remove_other}
+use Rattle.ft_maps.specs.Entries.{same_from_tie}
+use Rattle.ft_pairs.specs.declared.role.Role.{Role}
 use Rattle.ft_table.specs.Hits.{same_key}
 use Rattle.ft_table.specs.Values.{values_by}
 use Rattle.ft_rivals.specs.Rivals.{is_of}
-use Rattle.ft_kept.specs.Acts.{acts_of}
-use Rattle.ft_kept.specs.Shelves.{Shelves}
-use Rattle.ft_kept.specs.declared.acted.Acting.{Acting}
-use Rattle.ft_report.specs.Touched.{keys_by, own_keys}
 use Rattle.ft_kept.specs.Acted.{act_as, acting_of}
-use Rattle.ft_report.specs.Events.{ActsChange, CameOrWent, AllAct}
-use Rattle.ft_report.specs.Laws.{OtherRowsStay, ChangesBack, ComingDiffers, GoingDiffers, ActingIsAll, RepairedCame, RepairedWent, EventRows}
+use Rattle.ft_kept.specs.Acts.{Acts}
+use Rattle.ft_kept.specs.Entries.{IsKept}
+use Rattle.ft_kept.specs.Input.{input_of}
+use Rattle.ft_kept.specs.Shelves.{Shelves, role_on, admits_on, kept_on}
+use Rattle.ft_kept.specs.Signs.{event_before, event_after}
+use Rattle.ft_kept.specs.Views.{act_at, with_event}
+use Rattle.ft_kept.specs.declared.acted.Acting.{Acting}
+use Rattle.ft_shelves.specs.declared.sign.Sign.{Sign}
+use Rattle.ft_shelves.specs.declared.sign.Sign.TheVariants.{Insert, Retract}
+use Rattle.ft_report.specs.Touched.{keys_by, own_keys}
+use Rattle.ft_report.specs.Events.{ActsChange, EventChanged, AllAct}
+use Rattle.ft_report.specs.Laws.{OtherRowsStay, ChangesBack, EventDiffers, ActingIsAll, ChangesByEvent, EventRows}
 use Rattle.ft_report.proofs.Ids.{nat_itself}
 use Rattle.ft_report.proofs.Once.{of_each_once}
+use Rattle.ft_report.proofs.Rows.{same_roles}
 
--- ---- as an event comes or goes
-
--- what a trigger does at an event, if one is there
-abbrev act_at : FinMap nat_cmp Hist → ℕ → Option Traced → Option (List Part × Traced)
-act_at triggers id = option_and_then (λ event. option_and_then (λ hist. option_map (λ key. (key, event)) (hit hist event)) (map.get triggers id))
+-- ---- one event more or less
 
 module _ (triggers : FinMap nat_cmp Hist) (event : Traced) (acting : List Acting) (all : AllAct triggers event acting) where
   hit_act : (id : ℕ) (hist : Hist) (act : List Part × Traced) → map.get triggers id ≡ Some hist → (k : Option (List Part)) → hit hist event ≡ k → option_map (λ key. (key, event)) k ≡ Some act → is_of (own_keys acting id) act.0 ≡ true
@@ -46,24 +50,26 @@ module _ (triggers : FinMap nat_cmp Hist) (event : Traced) (acting : List Acting
   trigger_act id act None attached is = absurd (cc)
   trigger_act id act (Some hist) attached is = hit_act id hist act attached (hit hist event) refl is
 
--- without an event no trigger acts
-none_acts : (triggers : FinMap nat_cmp Hist) (id : ℕ) (o : Option Traced) (act : List Part × Traced) → o ≡ None → act_at triggers id o ≡ Some act → ⊥
-none_acts triggers id o act none is = let both : ◌≡◌ {A = Option (List Part × Traced)} None (Some act) = sym (ap (act_at triggers id) none) ∙ is in absurd cc
+  -- what is there before is one of them, or nothing
+  act_before : (sign : Sign) (id : ℕ) (act : List Part × Traced) → act_at triggers id (event_before sign event) ≡ Some act → is_of (own_keys acting id) act.0 ≡ true
+  act_before Insert id act is = absurd (cc)
+  act_before Retract id act is = trigger_act id act (map.get triggers id) refl is
 
-pub coming_differs : ComingDiffers
-unfolding acts_of
-coming_differs triggers events pos event acting absent all = record {
-  elsewhere = λ at away. ap (act_at triggers at.trigger) (get-insert_other pos_cmp_total pos_same events pos event at.pos away);
-  was = λ id act is. absurd (none_acts triggers id (map.get events pos) act absent is);
-  is = λ id act is. trigger_act triggers event acting all id act (map.get triggers id) refl (sym (ap (act_at triggers id) (get-insert_same pos_cmp_total events pos event)) ∙ is);
-}
+  -- and afterwards
+  act_after : (sign : Sign) (id : ℕ) (act : List Part × Traced) → act_at triggers id (event_after sign event) ≡ Some act → is_of (own_keys acting id) act.0 ≡ true
+  act_after Insert id act is = trigger_act id act (map.get triggers id) refl is
+  act_after Retract id act is = absurd (cc)
 
-pub going_differs : GoingDiffers
-unfolding acts_of
-going_differs triggers events pos event acting present all = record {
-  elsewhere = λ at away. ap (act_at triggers at.trigger) (get-remove_other pos_cmp_total pos_same events pos at.pos away);
-  was = λ id act is. trigger_act triggers event acting all id act (map.get triggers id) refl (sym (ap (act_at triggers id) present) ∙ is);
-  is = λ id act is. absurd (none_acts triggers id (map.get (map.remove events pos) pos) act (get-remove_same pos_cmp_total events pos) is);
+-- other places are told apart from this one
+told_apart : (pos q : Pos) → (q ≡ pos → ⊥) → eq_by_cmp pos_cmp q pos ≡ false
+told_apart pos q away = false_from_ne_true (eq_by_cmp pos_cmp q pos) (λ tie. away (same_from_tie pos_same q pos tie))
+
+pub event_differs : EventDiffers
+event_differs sign triggers input pos event acting has all = record {
+  elsewhere = λ at away. ap (λ (b : Bool). cond b (act_at triggers at.trigger (event_after sign event)) (input at)) (told_apart pos at.pos away);
+  was = λ id act is. act_before triggers event acting all sign id act (sym (has id) ∙ is);
+  is = λ id act is. act_after triggers event acting all sign id act
+      (sym (ap (λ (b : Bool). cond b (act_at triggers id (event_after sign event)) (input (record { pos = pos; trigger = id }))) ((eq_by_cmp_equiv pos_cmp_total).refl pos)) ∙ is);
 }
 
 -- ---- they are all
@@ -109,48 +115,32 @@ acting_is_all triggers event id hist key attached hits =
 
 -- ---- rows
 
-pub repaired_came : RepairedCame
-repaired_came triggers lanes pos event old new can forms right = record {
-  events = can.events;
-  absent = can.absent;
+pub changes_by_event : ChangesByEvent
+changes_by_event sign triggers lanes pos event old new before has forms after edit = record {
+  input = input_of lanes old;
+  before = has;
   forms = forms;
-  was = can.kept;
-  is = right can.events can.absent can.held can.kept;
+  was = before.kept;
+  is = subst (λ (acts : Acts). IsKept (role_on old) (values_by triggers) (admits_on new) acts (kept_on new)) edit
+      (subst (λ (role : ℕ → Role). IsKept role (values_by triggers) (admits_on new) (input_of lanes new) (kept_on new)) (sym (same_roles old new forms)) after.kept);
 }
 
-pub repaired_went : RepairedWent
-repaired_went triggers lanes pos event old new can forms right = record {
-  events = can.events;
-  present = can.present;
-  forms = forms;
-  was = can.kept;
-  is = right can.events can.present can.held can.kept;
-}
-
--- an event that comes or goes changes acts at its place
-acts_change : ComingDiffers → GoingDiffers → (triggers : FinMap nat_cmp Hist) (pos : Pos) (event : Traced) (old new : Shelves) → CameOrWent triggers pos event old new
+-- acts change at the event's place
+acts_change : EventDiffers → (sign : Sign) (triggers : FinMap nat_cmp Hist) (pos : Pos) (event : Traced) (old new : Shelves) → EventChanged sign triggers pos event old new
     → ActsChange (values_by triggers) pos (acting_of triggers event) old new
-acts_change coming going triggers pos event old new (inl came) = record {
-  before = acts_of triggers came.events;
-  after = acts_of triggers (map.insert came.events pos event);
-  forms = came.forms;
-  differ = coming triggers came.events pos event (acting_of triggers event) came.absent (acting_is_all triggers event);
-  was = came.was;
-  is = came.is;
-}
-acts_change coming going triggers pos event old new (inr went) = record {
-  before = acts_of triggers went.events;
-  after = acts_of triggers (map.remove went.events pos);
-  forms = went.forms;
-  differ = going triggers went.events pos event (acting_of triggers event) went.present (acting_is_all triggers event);
-  was = went.was;
-  is = went.is;
+acts_change differs sign triggers pos event old new change = record {
+  before = change.input;
+  after = with_event triggers change.input pos (event_after sign event);
+  forms = change.forms;
+  differ = differs sign triggers change.input pos event (acting_of triggers event) change.before (acting_is_all triggers event);
+  was = change.was;
+  is = change.is;
 }
 
-pub event_rows : OtherRowsStay → ChangesBack → ComingDiffers → GoingDiffers → EventRows
-event_rows rows back coming going triggers pos event old new change id key none =
+pub event_rows : OtherRowsStay → ChangesBack → EventDiffers → EventRows
+event_rows rows back differs sign triggers pos event old new change id key none =
     let acting : List Acting = acting_of triggers event in
-    let acts : ActsChange (values_by triggers) pos acting old new = acts_change coming going triggers pos event old new change in
+    let acts : ActsChange (values_by triggers) pos acting old new = acts_change differs sign triggers pos event old new change in
     elim none [
       | inl by_old ↦ sym (rows (values_by triggers) pos acting new old (back (values_by triggers) pos acting old new acts) id key by_old)
       | inr by_new ↦ rows (values_by triggers) pos acting old new acts id key by_new

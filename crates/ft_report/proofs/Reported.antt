@@ -182,9 +182,9 @@ differing_by triggers shelves acting id hist key attached held differs =
     named_reported shelves acting id hist key held (true_from_ne_false (is_of (named shelves acting id) key) differs) (map.entries triggers) (sym (get-entries triggers id) ∙ attached)
 
 pub differing_reported : EventRows → DifferingReported
-differing_reported rows triggers pos event old new change id hist key attached held differs = (
-  differing_by triggers old (acting_of triggers event) id hist key attached held (λ none. differs (rows triggers pos event old new change id key (inl none))),
-  differing_by triggers new (acting_of triggers event) id hist key attached held (λ none. differs (rows triggers pos event old new change id key (inr none))),
+differing_reported rows sign triggers pos event old new change id hist key attached held differs = (
+  differing_by triggers old (acting_of triggers event) id hist key attached held (λ none. differs (rows sign triggers pos event old new change id key (inl none))),
+  differing_by triggers new (acting_of triggers event) id hist key attached held (λ none. differs (rows sign triggers pos event old new change id key (inr none))),
 )
 
 few_reported : (triggers : FinMap nat_cmp Hist) (shelves : Shelves) (acting : List Acting) (id : ℕ) → reported_of (report_of triggers shelves acting) id ≤ length (named shelves acting id)

@@ -25,7 +25,8 @@ use Rattle.ft_report.specs.Laws.{OtherHitsStay, OtherRowsStay, ChangesBack, FewN
 use Rattle.ft_report.proofs.Changing.{touched_but}
 use Rattle.ft_report.proofs.Once.{not_both, neither, each_distinct, few_each_once, distinct_both}
 
-same_roles : (old new : Shelves) → FormsStay old new → role_on old ≡ role_on new
+-- each trigger keeps its role
+pub same_roles : (old new : Shelves) → FormsStay old new → role_on old ≡ role_on new
 same_roles old new forms = λ i id. sym (roles_stay old new forms id) i
 
 -- ---- hits and rows

@@ -1,10 +1,9 @@
--- One event that comes or goes: the acts at it, and what is kept before and after.
-use Rattle.std.specs.Prelude.{◌≡◌, ◌⊎◌, ℕ, true, List, Some, None, length}
+-- One event more or less: the acts at it, and what is kept before and after.
+use Rattle.std.specs.Prelude.{◌≡◌, ℕ, true, List, Some, length}
 use Rattle.std.specs.List.{filter}
 use Rattle.std.specs.Ordering.{nat_cmp}
 use Rattle.std.specs.FinMap as map
 use Rattle.std.specs.FinMap.{FinMap}
-use Rattle.ft_fields.specs.Places.{pos_cmp}
 use Rattle.ft_fields.specs.Traced.{Traced}
 use Rattle.ft_fields.specs.declared.pos.Pos.{Pos}
 use Rattle.ft_hist.specs.Hist.{Hist}
@@ -14,10 +13,13 @@ use Rattle.ft_pairs.specs.declared.at.At.{At}
 use Rattle.ft_pairs.specs.declared.role.Role.{Role}
 use Rattle.ft_table.specs.Values.{ValuesBy, values_by}
 use Rattle.ft_rivals.specs.Rivals.{is_of}
-use Rattle.ft_kept.specs.Acts.{Acts, acts_of}
+use Rattle.ft_kept.specs.Acts.{Acts}
 use Rattle.ft_kept.specs.Entries.{IsKept}
 use Rattle.ft_kept.specs.Shelves.{Shelves, FormsStay, role_on, admits_on, kept_on}
+use Rattle.ft_kept.specs.Signs.{event_before, event_after}
+use Rattle.ft_kept.specs.Views.{HasAt, with_event}
 use Rattle.ft_kept.specs.declared.acted.Acting.{Acting}
+use Rattle.ft_shelves.specs.declared.sign.Sign.{Sign}
 use Rattle.ft_report.specs.Touched.{own_keys, is_reader_of}
 
 -- ---- the acts at an event
@@ -47,24 +49,12 @@ pub record ActsChange (values : ValuesBy) (pos : Pos) (acting : List Acting) (ol
   pub was : IsKept (role_on old) values (admits_on old) before (kept_on old)
   pub is : IsKept (role_on old) values (admits_on new) after (kept_on new)
 
--- ---- an event that comes or goes
+-- ---- one event more or less
 
--- what is kept was right without an event, and is right with it: one came
-pub record EventCame (triggers : FinMap nat_cmp Hist) (pos : Pos) (event : Traced) (old new : Shelves) : Type 0 where
-  pub events : FinMap pos_cmp Traced
-  pub absent : map.get events pos ≡ None
+-- what is kept was right of an input, and is right of it with the event put in or taken away
+pub record EventChanged (sign : Sign) (triggers : FinMap nat_cmp Hist) (pos : Pos) (event : Traced) (old new : Shelves) : Type 0 where
+  pub input : Acts
+  pub before : HasAt triggers input pos (event_before sign event)
   pub forms : FormsStay old new
-  pub was : IsKept (role_on old) (values_by triggers) (admits_on old) (acts_of triggers events) (kept_on old)
-  pub is : IsKept (role_on old) (values_by triggers) (admits_on new) (acts_of triggers (map.insert events pos event)) (kept_on new)
-
--- what is kept was right with an event, and is right without it: one went
-pub record EventWent (triggers : FinMap nat_cmp Hist) (pos : Pos) (event : Traced) (old new : Shelves) : Type 0 where
-  pub events : FinMap pos_cmp Traced
-  pub present : map.get events pos ≡ Some event
-  pub forms : FormsStay old new
-  pub was : IsKept (role_on old) (values_by triggers) (admits_on old) (acts_of triggers events) (kept_on old)
-  pub is : IsKept (role_on old) (values_by triggers) (admits_on new) (acts_of triggers (map.remove events pos)) (kept_on new)
-
--- an event came or went
-abbrev pub CameOrWent : FinMap nat_cmp Hist → Pos → Traced → Shelves → Shelves → Type 0
-CameOrWent triggers pos event old new = EventCame triggers pos event old new ⊎ EventWent triggers pos event old new
+  pub was : IsKept (role_on old) (values_by triggers) (admits_on old) input (kept_on old)
+  pub is : IsKept (role_on old) (values_by triggers) (admits_on new) (with_event triggers input pos (event_after sign event)) (kept_on new)

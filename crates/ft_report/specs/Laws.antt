@@ -1,10 +1,9 @@
--- What the laws say: which hits and rows stay as one event comes or goes, how few keys are named, and what the report of it is.
-use Rattle.std.specs.Prelude.{◌≡◌, ◌⊎◌, ◌+◌, ◌*◌, ◌≤◌, ℕ, true, false, List, Some, None, length}
+-- What the laws say: which hits and rows stay with one event more or less, how few keys are named, and what the report of it is.
+use Rattle.std.specs.Prelude.{◌≡◌, ◌⊎◌, ◌+◌, ◌*◌, ◌≤◌, ℕ, true, false, List, Some, length}
 use Rattle.std.specs.List.{IsDistinct}
 use Rattle.std.specs.Ordering.{nat_cmp}
 use Rattle.std.specs.FinMap as map
 use Rattle.std.specs.FinMap.{FinMap}
-use Rattle.ft_fields.specs.Places.{pos_cmp}
 use Rattle.ft_fields.specs.Traced.{Traced}
 use Rattle.ft_fields.specs.declared.pos.Pos.{Pos}
 use Rattle.ft_hist.specs.Hist.{Hist}
@@ -15,13 +14,16 @@ use Rattle.ft_table.specs.Values.{ValuesBy}
 use Rattle.ft_rivals.specs.Reports.{same_row, is_reported, reported_of}
 use Rattle.ft_rivals.specs.Rivals.{is_of, AreTablesButFor}
 use Rattle.ft_lanes.specs.Held.{Lanes}
-use Rattle.ft_kept.specs.Acts.{acts_of}
-use Rattle.ft_kept.specs.Repairs.{EventCanCome, EventHasCome, EventCanGo, EventHasGone}
-use Rattle.ft_kept.specs.Shelves.{Shelved, Shelves, FormsStay, role_on}
-use Rattle.ft_kept.specs.declared.acted.Acting.{Acting}
-use Rattle.ft_report.specs.Touched.{own_keys, readers_keys, touched, named}
 use Rattle.ft_kept.specs.Acted.{acting_of}
-use Rattle.ft_report.specs.Events.{DifferAt, ActsChange, AllAct, EventCame, EventWent, CameOrWent, readers_of}
+use Rattle.ft_kept.specs.Acts.{Acts}
+use Rattle.ft_kept.specs.Input.{input_of, AreViews}
+use Rattle.ft_kept.specs.Shelves.{Shelved, Shelves, FormsStay, role_on}
+use Rattle.ft_kept.specs.Signs.{event_before, event_after}
+use Rattle.ft_kept.specs.Views.{HasAt, with_event}
+use Rattle.ft_kept.specs.declared.acted.Acting.{Acting}
+use Rattle.ft_shelves.specs.declared.sign.Sign.{Sign}
+use Rattle.ft_report.specs.Touched.{own_keys, readers_keys, touched, named}
+use Rattle.ft_report.specs.Events.{DifferAt, ActsChange, AllAct, EventChanged, readers_of}
 use Rattle.ft_report.specs.Report.{row_on, counts_made, report_of}
 
 -- ---- acts that change at one place
@@ -57,35 +59,28 @@ ReadTouched = (shelves : Shelves) (acting : List Acting) (id saver : ℕ) → ro
 abbrev pub NamedOnce : Type 0
 NamedOnce = (shelves : Shelves) (acting : List Acting) (id : ℕ) → IsDistinct same_key (named shelves acting id)
 
--- an event that comes changes the acts at its place alone
-abbrev pub ComingDiffers : Type 0
-ComingDiffers = (triggers : FinMap nat_cmp Hist) (events : FinMap pos_cmp Traced) (pos : Pos) (event : Traced) (acting : List Acting)
-    → map.get events pos ≡ None → AllAct triggers event acting → DifferAt pos acting (acts_of triggers events) (acts_of triggers (map.insert events pos event))
+-- an event that is put in or taken away changes the acts at its place alone
+abbrev pub EventDiffers : Type 0
+EventDiffers = (sign : Sign) (triggers : FinMap nat_cmp Hist) (input : Acts) (pos : Pos) (event : Traced) (acting : List Acting)
+    → HasAt triggers input pos (event_before sign event) → AllAct triggers event acting
+    → DifferAt pos acting input (with_event triggers input pos (event_after sign event))
 
--- and so does one that goes
-abbrev pub GoingDiffers : Type 0
-GoingDiffers = (triggers : FinMap nat_cmp Hist) (events : FinMap pos_cmp Traced) (pos : Pos) (event : Traced) (acting : List Acting)
-    → map.get events pos ≡ Some event → AllAct triggers event acting → DifferAt pos acting (acts_of triggers events) (acts_of triggers (map.remove events pos))
-
--- ---- an event that comes or goes
+-- ---- one event more or less
 
 -- the acts of an event are those of all triggers of which it is a hit
 abbrev pub ActingIsAll : Type 0
 ActingIsAll = (triggers : FinMap nat_cmp Hist) (event : Traced) → AllAct triggers event (acting_of triggers event)
 
--- where an event could come, and what is kept was repaired for it, it came
-abbrev pub RepairedCame : Type 0
-RepairedCame = (triggers : FinMap nat_cmp Hist) (lanes : Lanes) (pos : Pos) (event : Traced) (old new : Shelves)
-    → EventCanCome triggers lanes pos event old → FormsStay old new → EventHasCome triggers lanes pos event old new → EventCame triggers pos event old new
-
--- and where one could go, it went
-abbrev pub RepairedWent : Type 0
-RepairedWent = (triggers : FinMap nat_cmp Hist) (lanes : Lanes) (pos : Pos) (event : Traced) (old new : Shelves)
-    → EventCanGo triggers lanes pos event old → FormsStay old new → EventHasGone triggers lanes pos event old new → EventWent triggers pos event old new
+-- where shelves are views of an input, and then of that input with an event put in or taken away, what they keep changed by that event
+abbrev pub ChangesByEvent : Type 0
+ChangesByEvent = (sign : Sign) (triggers : FinMap nat_cmp Hist) (lanes : Lanes) (pos : Pos) (event : Traced) (old new : Shelves)
+    → AreViews triggers lanes old → HasAt triggers (input_of lanes old) pos (event_before sign event)
+    → FormsStay old new → AreViews triggers lanes new → input_of lanes new ≡ with_event triggers (input_of lanes old) pos (event_after sign event)
+    → EventChanged sign triggers pos event old new
 
 -- a row that isn't named stays, whether what was kept is asked or what is kept now (kernel: histogram.rst, the `hist` file)
 abbrev pub EventRows : Type 0
-EventRows = (triggers : FinMap nat_cmp Hist) (pos : Pos) (event : Traced) (old new : Shelves) → CameOrWent triggers pos event old new → (id : ℕ) (key : List Part)
+EventRows = (sign : Sign) (triggers : FinMap nat_cmp Hist) (pos : Pos) (event : Traced) (old new : Shelves) → EventChanged sign triggers pos event old new → (id : ℕ) (key : List Part)
     → (is_of (named old (acting_of triggers event) id) key ≡ false) ⊎ (is_of (named new (acting_of triggers event) id) key ≡ false)
     → row_on new id key ≡ row_on old id key
 
@@ -107,7 +102,7 @@ ReportedOnce = (triggers : FinMap nat_cmp Hist) (shelves : Shelves) (acting : Li
 
 -- each row that differs is reported, of an attached trigger that counts held events, whether the report is made before the event or after it (kernel: histogram.rst, the `hist` file)
 abbrev pub DifferingReported : Type 0
-DifferingReported = (triggers : FinMap nat_cmp Hist) (pos : Pos) (event : Traced) (old new : Shelves) → CameOrWent triggers pos event old new
+DifferingReported = (sign : Sign) (triggers : FinMap nat_cmp Hist) (pos : Pos) (event : Traced) (old new : Shelves) → EventChanged sign triggers pos event old new
     → (id : ℕ) (hist : Hist) (key : List Part) → map.get triggers id ≡ Some hist → counts_made hist ≡ false → (row_on new id key ≡ row_on old id key → ⊥)
     → (is_reported (report_of triggers old (acting_of triggers event)) id key ≡ true) × (is_reported (report_of triggers new (acting_of triggers event)) id key ≡ true)
 

@@ -2,13 +2,14 @@ pub mod Events
 pub mod Laws
 pub mod Report
 pub mod Touched
-pub use Rattle.ft_fields.specs.Places
 pub use Rattle.ft_fields.specs.Traced
 pub use Rattle.ft_hist.specs.Hist
 pub use Rattle.ft_kept.specs.Acted
 pub use Rattle.ft_kept.specs.Acts
-pub use Rattle.ft_kept.specs.Repairs
+pub use Rattle.ft_kept.specs.Input
 pub use Rattle.ft_kept.specs.Shelves
+pub use Rattle.ft_kept.specs.Signs
+pub use Rattle.ft_kept.specs.Views
 pub use Rattle.ft_keys.specs.Parts
 pub use Rattle.ft_lanes.specs.Held
 pub use Rattle.ft_maps.specs.Seen

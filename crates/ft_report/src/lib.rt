@@ -8,7 +8,9 @@
 //!
 //! ```ignore
 //! let mut acted = Acted::new(rt.alloc());
-//! tables.event_comes(&triggers, &lanes, pos, event, &mut acted, &mut work)?;
+//! // `Sign::Retract` where the event is taken away.
+//! let delta = Delta { sign: Sign::Insert, pos, event: &event };
+//! tables.apply(&Scene { triggers: &triggers, lanes: &lanes }, &delta, &mut acted, &mut work)?;
 //! // Where memory was found for the triggers that act at the event:
 //! if let Some(acting) = acted.all() {
 //!     let rows = changed_rows(rt.alloc(), &tables, &triggers, acting)?;
@@ -18,12 +20,12 @@
 //!
 //! # Contracts
 //!
-//! - Law `event_rows`: says of an event that came or went, by what is kept before and after, as
-//!   `Tables::event_comes` and `event_goes` leave it (clauses `came`, `went`): a trigger's row of a
-//!   key stays where the key isn't *named* for that trigger (`specs/Touched.antt`). What is named
-//!   may be read off what is kept before or after. Two keys at most are named of a trigger that
-//!   reads nothing; of a reader four, and two more for each attached trigger that reads the same
-//!   variable, itself among them.
+//! - Law `event_rows`: says of one event more or less, by what is kept before and after: a
+//!   trigger's row of a key stays where the key isn't *named* for that trigger
+//!   (`specs/Touched.antt`). What is named may be read off what is kept before or after. Two keys
+//!   at most are named of a trigger that reads nothing; of a reader four, and two more for each
+//!   attached trigger that reads the same variable, itself among them. By its clause `changed` that
+//!   holds of what `Tables::apply` takes and leaves (its clauses `views`, `input`, `forms`).
 //! - Law `touched_rows`: the same of acts that change at one place in any way. The hits of keys
 //!   that aren't *touched* stay, and the rows of those that aren't named. Named are the touched
 //!   keys and their rivals in the trigger's table, none twice. Touched are a trigger's own keys; of

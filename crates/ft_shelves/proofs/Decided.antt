@@ -84,10 +84,6 @@ pub on_ok_both : {T E : Type 0} {P Q S : Type 0} (r : Result T E) → (P → Q �
 on_ok_both (Ok x) f p q = f p q
 on_ok_both (Err e) f p q = tt
 
--- the same of an equal result
-pub on_ok_as : {T E : Type 0} (P : Type 0) (r s : Result T E) → r ≡ s → OnOk s P → OnOk r P
-on_ok_as P r s is h = subst (λ x. OnOk x P) (sym is) h
-
 -- what a fact of a success and one of its value tell together
 pub if_ok_both : {T E : Type 0} (P : Type 0) (Q S : T → Type 0) (r s : Result T E) → r ≡ s → ((x : T) → P → Q x → S x) → OnOk s P → IfOk s Q → IfOk r S
 if_ok_both {T = T} {E = E} P Q S r s is f p q = subst (λ x. IfOk x S) (sym is) (by s p q)

@@ -1,15 +1,13 @@
 pub mod Attached
 pub mod Both
-pub mod ComeIn
 pub mod Decided
+pub mod Edge
 pub mod Finding
-pub mod Gone
-pub mod Grown
+pub mod Followed
 pub mod Hitting
 pub mod KeyByKey
 pub mod Listed
 pub mod OneKey
 pub mod Passing
 pub mod Saving
-pub mod Shrunk
 pub mod Unasked

@@ -32,14 +32,6 @@ note_at pos found notes = option_map_or (λ noted. notes) (map.get notes pos) (m
 abbrev pub with_note : Pos → Shelved → Shelved
 with_note pos shelf = record shelf { notes = option_map (note_at pos (map.get shelf.readings pos)) shelf.notes }
 
--- a shelf notes what the reading at a place found
-abbrev pub NotesReading : Pos → Shelved → Shelved → Type 0
-NotesReading pos old new = new ≡ with_note pos old
-
--- a hit goes from the shelf, and what it read
-abbrev pub TakesHit : Mark → Shelved → Shelved → Type 0
-TakesHit mark old new = new ≡ without_hit_on mark old
-
 -- the operations of one key change, and nothing else on the shelf
 pub record OpsChange (key : List Part) (edit : Ops → Ops) (old new : Shelved) : Type 0 where
   pub role : new.role ≡ old.role

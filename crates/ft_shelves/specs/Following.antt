@@ -1,23 +1,23 @@
 -- How the operations on what a saver saves follow the keys of its table.
-use Rattle.std.specs.Prelude.{◌≡◌, ◌&&◌, ℕ, ℤ, Bool, true, List, Option, Some, is_some, if◌then◌else◌, refl}
+use Rattle.std.specs.Prelude.{◌≡◌, ◌&&◌, ℕ, Bool, true, List, Option, Some, None, is_some, if◌then◌else◌, refl}
 use Rattle.std.specs.Coded.{Coded, code_by, coded×, coded_bool, coded_list, coded_option}
 use Rattle.std.specs.Ordering.{nat_cmp, eq_by_cmp}
 use Rattle.std.specs.FinMap as map
 use Rattle.ft_keys.specs.contracts.key.Part as part
 use Rattle.ft_keys.specs.declared.key.Part.{Part}
 use Rattle.ft_pairs.specs.ByKey.{ops_of}
-use Rattle.ft_pairs.specs.Edits.{with_op, without_op, reads_alone}
+use Rattle.ft_pairs.specs.Edits.{reads_alone}
 use Rattle.ft_pairs.specs.Source.{Ops}
 use Rattle.ft_pairs.specs.declared.at.At.{At}
 use Rattle.ft_pairs.specs.declared.at.Op.TheVariants.{Save}
-use Rattle.ft_table.specs.Growth.{with_hit}
-use Rattle.ft_table.specs.OneKey.{without_hit}
 use Rattle.ft_table.specs.Hits.{Hits, same_key}
 use Rattle.ft_table.specs.Spots.{traced}
 use Rattle.ft_table.specs.Tabled.{Tabled, is_in}
-use Rattle.ft_hits.specs.declared.mark.Mark.{Mark}
+use Rattle.ft_shelves.specs.Changes.{IsFree, mark_of, op_after, set_op, sign_of, with_change}
 use Rattle.ft_shelves.specs.Switches.{differ, Members}
 use Rattle.ft_shelves.specs.Shelves.{Shelved}
+use Rattle.ft_shelves.specs.declared.change.HitChange.{HitChange}
+use Rattle.ft_shelves.specs.declared.change.HitChange.TheVariants as changes
 
 -- the operations on a key's variable with a save at each hit of the key (kernel: histogram.rst, inter-event hist triggers)
 abbrev pub with_saves : Hits → ℕ → List Part → Ops → Ops
@@ -27,36 +27,23 @@ with_saves hits id key ops q = if eq_by_cmp nat_cmp q.trigger id && is_some (map
 abbrev pub switched : Bool → Bool → Hits → ℕ → List Part → Ops → Ops
 switched was now hits id key ops = if was then (if now then ops else reads_alone ops) else if now then with_saves hits id key ops else ops
 
--- the same, where the key has a hit more at a place, which saves too (kernel: histogram.rst, inter-event hist triggers, `size`)
-abbrev pub switched_with : Bool → Bool → Hits → At → List Part → Ops → Ops
-switched_with was now hits at key ops = switched was now hits at.trigger key (if was && now then with_op at Save ops else ops)
+-- the operations on a key's variable, as a saver's hit comes or goes: where it is one of the key, and the key was in the table, its save does too (kernel: histogram.rst, inter-event hist triggers)
+abbrev pub with_own : ℕ → HitChange → Bool → List Part → Ops → Ops
+with_own id change was key ops = if same_key key (mark_of change).key && was then set_op (record { pos = (mark_of change).spot.pos; trigger = id }) (op_after (sign_of change) Save) ops else ops
 
--- the operations on a key's variable, as a hit comes to a saver's table: of the hit's own key or of another (kernel: histogram.rst, inter-event hist triggers, `size`)
-abbrev pub followed : Tabled → Tabled → ℕ → Mark → List Part → Ops → Ops
-followed old new id mark key ops =
-    if same_key key mark.key then switched_with (is_in old key) (is_in new key) new.hits (record { pos = mark.spot.pos; trigger = id }) key ops
-    else switched (is_in old key) (is_in new key) new.hits id key ops
+-- and as the keys then follow the table (kernel: histogram.rst, inter-event hist triggers, `size`)
+abbrev pub followed : Tabled → Tabled → ℕ → HitChange → List Part → Ops → Ops
+followed old new id change key ops = switched (is_in old key) (is_in new key) new.hits id key (with_own id change (is_in old (mark_of change).key) key ops)
 
--- a saver's shelf with one more hit, where each key's operations follow its table
-pub record HitFollows (id : ℕ) (mark : Mark) (values : List ℤ) (old new : Shelved) : Type 0 where
-  pub role : new.role ≡ old.role
-  pub readings : new.readings ≡ old.readings
-  pub notes : new.notes ≡ old.notes
-  pub table : new.table ≡ with_hit old.table mark values
-  pub ops : (key : List Part) (q : At) → ops_of new.ops key q ≡ followed old.table new.table id mark key (ops_of old.ops key) q
+-- nothing stands where a saver's hit comes, neither a hit nor its save
+abbrev pub IsUnsaved : ℕ → HitChange → Shelved → Type 0
+IsUnsaved id (changes.Insert hit) shelf = IsFree (changes.Insert hit) shelf.table.hits × (ops_of shelf.ops hit.key (record { pos = hit.spot.pos; trigger = id }) ≡ None)
+IsUnsaved id (changes.Retract mark) shelf = Unit {0}
 
--- the operations on a key's variable, as a hit goes from a saver's table: of the hit's own key or of another (kernel: histogram.rst, inter-event hist triggers, `size`)
-abbrev pub followed_less : Tabled → Tabled → ℕ → Mark → List Part → Ops → Ops
-followed_less old new id mark key ops =
-    switched (is_in old key) (is_in new key) new.hits id key (if same_key key mark.key then without_op (record { pos = mark.spot.pos; trigger = id }) ops else ops)
-
--- a saver's shelf with one hit less, where each key's operations follow its table
-pub record HitLessFollows (id : ℕ) (mark : Mark) (old new : Shelved) : Type 0 where
-  pub role : new.role ≡ old.role
-  pub readings : new.readings ≡ map.remove old.readings mark.spot.pos
-  pub notes : new.notes ≡ old.notes
-  pub table : new.table ≡ without_hit old.table mark
-  pub ops : (key : List Part) (q : At) → ops_of new.ops key q ≡ followed_less old.table new.table id mark key (ops_of old.ops key) q
+-- a saver's shelf with the change, where each key's operations follow its table
+pub record HitFollows (id : ℕ) (change : HitChange) (old new : Shelved) : Type 0 where
+  pub shelf : new ≡ record (with_change change old) { ops = new.ops }
+  pub ops : (key : List Part) (q : At) → ops_of new.ops key q ≡ followed old.table new.table id change key (ops_of old.ops key) q
 
 -- which keys came in or went out, as hits of one key changed: whether the key itself did, and which other did, if one did
 pub record Moves : Type 0 where

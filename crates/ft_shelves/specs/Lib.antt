@@ -1,3 +1,4 @@
+pub mod Changes
 pub mod Edits
 pub mod Following
 pub mod Joining

@@ -8,9 +8,9 @@
 //! let mut shelf = Shelf::new(alloc, Role::Saves, 2048);
 //! let hit = hit_with(trigger, &event, Spot::traced(pos), key, None);
 //! // The hit's key is in the table now, so the hit saves.
-//! let moved = put_saver_hit(&mut shelf, 1, hit, &mut work)?;
+//! let moved = change_saver_hit(&mut shelf, 1, HitChange::Insert(hit), &mut work)?;
 //! assert!(rt; moved.own);
-//! shelf.put_op(key, reading, Op::Read, &mut work)?;
+//! shelf.change_op(key, reading, Op::Read, Sign::Insert, &mut work)?;
 //! // The reading finds the save of that hit.
 //! let found = shelf.source(&key, reading);
 //! ```
@@ -21,19 +21,25 @@
 //!   contracts see a *shelf* (`specs/Shelves.antt`): what the trigger does with its variable, its
 //!   table's hits and size, the operations on what it saves, what each of its readings found and,
 //!   while notes are taken, what those that changed had found. Exact.
+//! - `HitChange::sign`, `mark`, `Sign::is_insert`: exact (`specs/Changes.antt`). A *hit change* is
+//!   one hit that comes, or the mark of one that goes.
+//! - `Shelf::change_hit`, `change_op`: a hit that reads nothing, or an operation, comes where none
+//!   stands or goes, and all else stays (`specs/Changes.antt`). One that comes takes one put, and
+//!   lets through: running out of memory, and then nothing is said of the shelf. One that goes
+//!   takes none and needs no memory.
 //! - `Shelf::put_hit`, `note`, `set_readings`: one more hit and what it read; a note, where the
 //!   reading at the place has none yet; other readings (`specs/Edits.antt`, `specs/Joining.antt`).
 //!   All else stays. Lets through: running out of memory at any time, and then nothing is said of
 //!   the shelf.
-//! - `Shelf::put_op`, `take_op`, `put_reads`, `source`, `next_op`: the operations of one key change
-//!   or are looked up, as `ft_pairs` says it, and all else stays. What puts lets through: running
-//!   out of memory at any time, and then nothing is said of the shelf.
-//! - `put_saver_hit`, `take_saver_hit`: a saver's hit comes or goes, and the operations follow the
-//!   keys of its table: of a key that comes in each hit saves, of one that goes out none does; the
-//!   reads and the notes stay (`specs/Following.antt`). The answer names the keys that came in or
-//!   went out: the hit's own, and one other at most. Where none did, it takes two puts at most as
-//!   it comes, and none as it goes. Lets through: running out of memory at any time, and then
-//!   nothing is said of the shelf; any number of puts where a key moved.
+//! - `Shelf::put_reads`, `source`, `next_op`: reads of one key come, or its operations are looked
+//!   up, as `ft_pairs` says it, and all else stays. `put_reads` lets through: running out of memory
+//!   at any time, and then nothing is said of the shelf.
+//! - `change_saver_hit`: a saver's hit comes or goes, and the operations follow the keys of its
+//!   table: of a key that comes in each hit saves, of one that goes out none does; the reads and
+//!   the notes stay (`specs/Following.antt`). The answer names the keys that came in or went out:
+//!   the hit's own, and one other at most. Where none did, it takes two puts at most as the hit
+//!   comes, and none as it goes. Lets through: running out of memory at any time, and then nothing
+//!   is said of the shelf; any number of puts where a key moved.
 //! - `Shelf::put_groups`, `put_savings`, `Shelf::put_run`: a trigger that joins: the hits of all
 //!   events that it counts, by their groups; a saver's, with a save at each event whose key is in
 //!   the table; the hits of one key (`specs/Joining.antt`). No event is tested. Lets through:
@@ -44,12 +50,16 @@
 //!   operation stands on what is saved. Lets through: saying no.
 #![tactic(auto)]
 
+mod change;
 mod joining;
 mod saver;
 mod shelf;
+mod sign;
 mod sums;
 
+pub use change::HitChange;
 pub use joining::Joining;
-pub use saver::{Moved, put_saver_hit, put_savings, take_saver_hit};
+pub use saver::{Moved, change_saver_hit, put_savings};
 pub use shelf::Shelf;
+pub use sign::Sign;
 pub use sums::sums_at;

@@ -7,20 +7,20 @@ ghost use Rattle.ft_hist.specs.Steps.{StepsGrow};
 ghost use Rattle.ft_keys.specs.declared.key.Part.{Part};
 ghost use Rattle.ft_pairs.specs.ByKey.{ops_of};
 ghost use Rattle.ft_pairs.specs.declared.at.At.{At};
-ghost use Rattle.ft_table.specs.Growth.{with_hit};
-ghost use Rattle.ft_table.specs.OneKey.{without_hit};
-ghost use Rattle.ft_table.specs.Spots.{traced};
 ghost use Rattle.ft_table.specs.Tabled.{is_in};
-ghost use Rattle.ft_shelves.specs.Following.{HitFollows, HitLessFollows, MovesKeys};
+ghost use Rattle.ft_shelves.specs.Changes.{is_insert, mark_of, on_insert, sign_of, table_with};
+ghost use Rattle.ft_shelves.specs.Following.{HitFollows, IsUnsaved, MovesKeys};
 ghost use Rattle.ft_shelves.specs.Joining.{AreGroupsOf, SavingsCome};
 ghost use Rattle.ft_shelves.specs.Switches.{HasMoved};
-ghost use Rattle.ft_shelves.specs.inner.Following.{first_is_in, last_is_out};
+ghost use Rattle.ft_shelves.specs.inner.Following.{OwnChanges, edge_for, has_crossed};
 
+use crate::change::HitChange;
 use crate::joining::Joining;
 use crate::shelf::Shelf;
+use crate::sign::Sign;
 use ft_hist::{Key, Work};
 use ft_pairs::{At, Op};
-use ft_table::{Hit, Table, first_outside, one_key};
+use ft_table::{Table, first_outside, one_key};
 use std::alloc::AllocError;
 use std::marker::Model;
 
@@ -45,96 +45,38 @@ impl Model for Moved {
     ghost view = { λ m. record { own = m.own; other = m.other } };
 }
 
-/// Puts a hit on a saver's shelf: each key's operations follow as it comes into the table, goes out
-/// or stays. Answers which keys moved. Refused for memory.
-pub fn put_saver_hit(
+/// Changes what a saver counts by one hit: each key's operations follow as it comes into the table,
+/// goes out or stays. Answers which keys moved. Refused for memory.
+pub fn change_saver_hit(
     shelf: &mut Shelf,
     id: u32,
-    hit: Hit,
+    change: HitChange,
     work: &mut Work,
 ) -> Result<Moved, AllocError>
-    requires free { map.get shelf.old.table.hits (record { spot = hit.spot; key = hit.key }) ≡ None }
-    requires unsaved { ops_of shelf.old.ops hit.key (record { pos = hit.spot.pos; trigger = id })
-        ≡ None }
+    requires free { IsUnsaved id change shelf.old }
     requires outside { (k : List Part) → is_in shelf.old.table k ≡ false
         → (pos : Pos) → ops_of shelf.old.ops k (record { pos = pos; trigger = id }) ≡ None }
-    ensures follows { OnOk result (HitFollows id (record { spot = hit.spot; key = hit.key }) hit.values
-        shelf.old shelf.new) }
-    ensures moved { IfOk result (λ moved. MovesKeys hit.key moved
+    ensures follows { OnOk result (HitFollows id change shelf.old shelf.new) }
+    ensures moved { IfOk result (λ moved. MovesKeys (mark_of change).key moved
         (is_in shelf.old.table) (is_in shelf.new.table)) }
-    ensures puts { (work.new.puts ≤ work.old.puts + 2)
-        ⊎ HasMoved (is_in shelf.old.table) (is_in
-        (with_hit shelf.old.table (record { spot = hit.spot; key = hit.key }) hit.values)) }
+    ensures puts { (work.new.puts ≤ work.old.puts + on_insert (sign_of change) 2)
+        ⊎ HasMoved (is_in shelf.old.table) (is_in (table_with change shelf.old.table)) }
     ensures evals { work.new.evals ≡ work.old.evals }
     ensures grow { StepsGrow work.old work.new }
 {
-    // Beside its own key only the last one in the table can move.
-    one_key();
-    let key = hit.key;
-    let at = At {
-        pos: hit.spot.pos,
-        trigger: id,
-    };
-    let was_in = shelf.table().is_in(&key);
-    let last = shelf.table().edge().last_in;
-    shelf.put_hit(hit, None, work)?;
-    let is_in = shelf.table().is_in(&key);
-    if was_in && is_in {
-        shelf.put_op(key, at, Op::Save, work)?;
-    }
-    shelf.switch(id, key, was_in, work)?;
-    let other = gone_out(shelf.table(), last, &key);
-    if let Some(out) = other {
-        shelf.drop_saves(&out);
-    }
-    Ok(Moved {
-        own: was_in != is_in,
-        other,
-    })
-}
-
-/// The key that was the last in a table, if it is another than this one and is out now.
-fn gone_out(table: &Table, last: Option<Key>, key: &Key) -> Option<Key>
-    ensures { result ≡ (if last_is_out table.now key.now last then last else None) }
-{
-    match last {
-        Some(other) if other != *key => { if table.is_in(&other) { None } else { last } }
-        _ => None,
-    }
-}
-
-/// Takes a hit off a saver's shelf: each key's operations follow as it comes into the table, goes
-/// out or stays. Answers which keys moved. Refused for memory.
-pub fn take_saver_hit(
-    shelf: &mut Shelf,
-    key: Key,
-    at: At,
-    work: &mut Work,
-) -> Result<Moved, AllocError>
-    requires { (k : List Part) → is_in shelf.old.table k ≡ false → (pos : Pos)
-        → ops_of shelf.old.ops k (record { pos = pos; trigger = at.trigger }) ≡ None }
-    ensures follows { OnOk result (HitLessFollows at.trigger (record { spot = traced at.pos; key = key })
-        shelf.old shelf.new) }
-    ensures moved { IfOk result (λ moved. MovesKeys key moved
-        (is_in shelf.old.table) (is_in shelf.new.table)) }
-    ensures puts { (work.new.puts ≤ work.old.puts)
-        ⊎ HasMoved (is_in shelf.old.table)
-        (is_in (without_hit shelf.old.table (record { spot = traced at.pos; key = key }))) }
-    ensures evals { work.new.evals ≡ work.old.evals }
-    ensures grow { StepsGrow work.old work.new }
-{
-    // Beside its own key only the first one outside can move, and in.
+    // Beside its own key only the one at the edge can move.
     one_key();
     first_outside();
+    let sign = change.sign();
+    let key = change.mark().key;
     let was_in = shelf.table().is_in(&key);
-    let first = shelf.table().edge().first_out;
-    shelf.take_hit(at.pos, key);
-    shelf.take_op(&key, at);
+    let edge = edge_for(shelf.table(), sign);
+    change_own(shelf, id, change, was_in, work)?;
     let is_in = shelf.table().is_in(&key);
-    shelf.switch(at.trigger, key, was_in, work)?;
-    let other = come_in(shelf.table(), first, &key);
-    if let Some(new) = other {
-        shelf.switch(at.trigger, new, false, work)?;
+    shelf.switch(id, key, was_in, work)?;
+    let other = crossed(shelf.table(), edge, &key, sign);
+    if let Some(moved) = other {
+        shelf.switch(id, moved, sign.is_insert(), work)?;
     }
     Ok(Moved {
         own: was_in != is_in,
@@ -142,12 +84,56 @@ pub fn take_saver_hit(
     })
 }
 
-/// The key that was the first outside a table, if it is another than this one and is in now.
-fn come_in(table: &Table, first: Option<Key>, key: &Key) -> Option<Key>
-    ensures { result ≡ (if first_is_in table.now key.now first then first else None) }
+/// Changes what a saver counts by one hit, and the hit's own save, where its key was in the table.
+/// Refused for memory.
+fn change_own(
+    shelf: &mut Shelf,
+    id: u32,
+    change: HitChange,
+    was_in: bool,
+    work: &mut Work,
+) -> Result<(), AllocError>
+    requires { IsUnsaved id change shelf.old }
+    ensures ok { OnOk result (OwnChanges id change was_in shelf.old shelf.new) }
+    ensures puts { (work.new.puts ≤ work.old.puts + on_insert (sign_of change) 2) }
+    ensures evals { work.new.evals ≡ work.old.evals }
+    ensures grow { StepsGrow work.old work.new }
 {
-    match first {
-        Some(other) if other != *key => { if table.is_in(&other) { first } else { None } }
+    shelf.change_hit(change, work)?;
+    if !was_in {
+        return Ok(());
+    }
+    let mark = change.mark();
+    let at = At {
+        pos: mark.spot.pos,
+        trigger: id,
+    };
+    shelf.change_op(mark.key, at, Op::Save, change.sign(), work)
+}
+
+/// The key at a table's edge that a change may move: the last one in as a hit comes, the first one
+/// out as one goes.
+fn edge_for(table: &Table, sign: Sign) -> Option<Key>
+    ensures { result ≡ edge_for sign table.now }
+{
+    match sign {
+        Sign::Insert => table.edge().last_in,
+        Sign::Retract => table.edge().first_out,
+    }
+}
+
+/// The key that was at a table's edge, if it is another than this one and is on the other side now.
+fn crossed(table: &Table, edge: Option<Key>, key: &Key, sign: Sign) -> Option<Key>
+    ensures { result ≡ (if has_crossed table.now key.now (is_insert sign) edge then edge else None) }
+{
+    match edge {
+        Some(other) if other != *key => {
+            if table.is_in(&other) != sign.is_insert() {
+                edge
+            } else {
+                None
+            }
+        }
         _ => None,
     }
 }

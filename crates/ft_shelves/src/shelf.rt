@@ -1,6 +1,6 @@
 //! Shelves: what is kept of one attached trigger.
 
-ghost use Rattle.std.specs.Prelude.{◌≡◌, ◌+◌, ◌<◌, ◌≤◌, List, length, false, Some, None, OnOk, IfOk, IfSome, IsTrue};
+ghost use Rattle.std.specs.Prelude.{◌≡◌, ◌+◌, ◌<◌, ◌≤◌, List, length, false, true, Some, None, Ok, OnOk, IfOk, IfSome, IsTrue};
 ghost use Rattle.std.specs.Prelude.{option_map};
 ghost use Rattle.std.specs.FinMap as map;
 ghost use Rattle.ft_fields.specs.Places.{pos_cmp};
@@ -8,7 +8,7 @@ ghost use Rattle.ft_fields.specs.declared.pos.Pos.{Pos};
 ghost use Rattle.ft_keys.specs.declared.key.Part.{Part};
 ghost use Rattle.ft_maps.specs.Seen.{seen};
 ghost use Rattle.ft_pairs.specs.ByKey.{ChangesKey, ops_of, ops_left};
-ghost use Rattle.ft_pairs.specs.Edits.{with_op, without_op, reads_alone};
+ghost use Rattle.ft_pairs.specs.Edits.{reads_alone};
 ghost use Rattle.ft_pairs.specs.Next.{IsNext};
 ghost use Rattle.ft_pairs.specs.Runs.{FindEach, with_reads};
 ghost use Rattle.ft_pairs.specs.Source.{IsSource};
@@ -17,6 +17,8 @@ ghost use Rattle.ft_table.specs.Runs.{HasNone};
 ghost use Rattle.ft_table.specs.Spots.{traced};
 ghost use Rattle.ft_table.specs.Tabled.{is_in};
 ghost use Rattle.ft_hist.specs.Steps.{StepsGrow};
+ghost use Rattle.ft_shelves.specs.Changes.{IsFree, is_insert, on_insert, op_after, set_op, sign_of, with_change};
+ghost use Rattle.ft_shelves.specs.declared.sign.Sign.TheVariants.{Retract};
 ghost use Rattle.ft_shelves.specs.Shelves.{IsNewShelf};
 ghost use Rattle.ft_shelves.specs.Shelves.{DropsNotes, TakesNotes};
 ghost use Rattle.ft_shelves.specs.Edits.{OpsChange, with_hit_on, without_hit_on, with_note, note_at};
@@ -27,7 +29,9 @@ ghost use Rattle.ft_shelves.specs.Joining.{ReadingsSet, RunComes, found_last};
 ghost use Rattle.ft_shelves.specs.inner.Following.{with_save};
 ghost use Rattle.ft_shelves.specs.Following.{with_saves, switched};
 
+use crate::change::HitChange;
 use crate::joining::{Joining, put_groups, save_groups};
+use crate::sign::Sign;
 use ft_fields::Pos;
 use ft_hist::{Key, Work};
 use ft_maps::{get, put, take};
@@ -184,21 +188,49 @@ impl Shelf {
         take(&mut self.readings, &pos);
     }
 
-    /// Puts an operation of a key at a place, where none stands. Refused for memory.
-    pub fn put_op(&mut self, key: Key, at: At, op: Op, work: &mut Work) -> Result<(), AllocError>
-        requires { ops_of self.old.ops key at ≡ None }
-        ensures ok { OnOk result (OpsChange key (with_op at op) self.old self.new) }
-        ensures puts { work.new.puts ≡ work.old.puts + 1 }
+    /// Puts a hit where none stands, which read nothing, or takes what stands at a mark. Refused for
+    /// memory, which taking needs none of.
+    pub fn change_hit(&mut self, change: HitChange, work: &mut Work) -> Result<(), AllocError>
+        requires { IsFree change self.old.table.hits }
+        ensures ok { OnOk result (self.new ≡ with_change change self.old) }
+        ensures memory { sign_of change ≡ Retract → result ≡ Ok tt }
+        ensures puts { work.new.puts ≤ work.old.puts + on_insert (sign_of change) 1 }
         ensures evals { work.new.evals ≡ work.old.evals }
+        ensures grow { StepsGrow work.old work.new }
     {
-        self.pairs.insert(key, at, op, work)
+        match change {
+            HitChange::Insert(hit) => self.put_hit(hit, None, work),
+            HitChange::Retract(mark) => {
+                self.table.remove(mark.spot, mark.key);
+                take(&mut self.readings, &mark.spot.pos);
+                Ok(())
+            }
+        }
     }
 
-    /// Takes the operation of a key at a place away, if one stands there.
-    pub fn take_op(&mut self, key: &Key, at: At)
-        ensures { OpsChange key.now (without_op at) self.old self.new }
+    /// Puts an operation of a key at a place, where none stands, or takes the one there away. Refused
+    /// for memory, which taking needs none of.
+    pub fn change_op(
+        &mut self,
+        key: Key,
+        at: At,
+        op: Op,
+        sign: Sign,
+        work: &mut Work,
+    ) -> Result<(), AllocError>
+        requires { is_insert sign ≡ true → ops_of self.old.ops key at ≡ None }
+        ensures ok { OnOk result (OpsChange key (set_op at (op_after sign op)) self.old self.new) }
+        ensures memory { sign ≡ Retract → result ≡ Ok tt }
+        ensures puts { work.new.puts ≡ work.old.puts + on_insert sign 1 }
+        ensures evals { work.new.evals ≡ work.old.evals }
     {
-        self.pairs.remove(key, at);
+        match sign {
+            Sign::Insert => self.pairs.insert(key, at, op, work),
+            Sign::Retract => {
+                self.pairs.remove(&key, at);
+                Ok(())
+            }
+        }
     }
 
     /// Takes the saves of a key away. Its reads stay.

@@ -1,6 +1,7 @@
 -- What readings had found before a repair, by the notes that shelves took of it, and tables of made events that are mended by them.
-use Rattle.std.specs.Prelude.{◌≡◌, ◌==◌, ℕ, Bool, true, false, not, Option, Some, None, is_some, option_and_then, if◌then◌else◌}
+use Rattle.std.specs.Prelude.{◌≡◌, ◌==◌, ℕ, Bool, true, false, not, Option, Some, None, IfSome, is_some, option_and_then, if◌then◌else◌}
 use Rattle.std.specs.Option.{option_map_or}
+use Rattle.std.specs.Ordering.{nat_cmp}
 use Rattle.std.specs.FinMap as map
 use Rattle.ft_fields.specs.declared.pos.Pos.{Pos}
 use Rattle.ft_hist.specs.Hist.{Hist}
@@ -8,9 +9,12 @@ use Rattle.ft_table.specs.Tabled.{Tabled}
 use Rattle.ft_kept.specs.Shelves.{Notes, Shelved, Shelves, had_found, notes_on}
 use Rattle.ft_base.specs.Base.{Triggers}
 use Rattle.ft_base.specs.Roles.{is_reader}
-use Rattle.ft_replay.specs.Merged.{Events}
+use Rattle.ft_maps.specs.Seen.{seen}
+use Rattle.ft_replay.specs.Merged.{Events, merged}
 use Rattle.ft_made.specs.MadeTables.{Readings, IsMadeTable, found_in}
+use Rattle.ft_repair.specs.Repaired.{IfBoth}
 use Rattle.ft_board.specs.MadeShelves.{MadeTables, AreMadeBy}
+use Rattle.ft_board.specs.declared.mend.Scene.{Scene}
 use Rattle.ft_board.specs.inner.Readings.{readings_on}
 
 -- ---- notes
@@ -36,6 +40,13 @@ NothingNoted triggers shelves =
 -- each attached trigger that makes events reads
 abbrev pub MakersRead : Triggers → Type 0
 MakersRead triggers = (id : ℕ) (hist : Hist) → map.get triggers id ≡ Some hist → is_some hist.onmatch ≡ true → is_reader hist.variable ≡ true
+
+-- what taking notes leaves: the shelves except for their notes, and there nothing is noted yet
+pub record AreNoted (triggers : Triggers) (old noted : Option Shelves) : Type 0 where
+  pub alike : IfBoth AreAlike old noted
+  pub nothing : IfSome noted (NothingNoted triggers)
+  pub reads : IfSome noted (λ _. MakersRead triggers)
+  pub gone : old ≡ None → noted ≡ None
 
 -- something is noted of a trigger's readings
 abbrev pub is_noted_on : Shelves → ℕ → Bool
@@ -75,3 +86,21 @@ abbrev pub HasTurnedOn : Events → ℕ → Hist → Shelves → Hist → Tabled
 HasTurnedOn events id maker shelves hist old new =
     (triggers : Triggers) (found : Readings) → map.get triggers id ≡ Some maker → ((pos : Pos) → found id pos ≡ had_by shelves id pos)
     → IsMadeTable triggers events found hist old → IsMadeTable triggers events (turned_on shelves id found) hist new
+
+-- ---- by the scene of a repair
+
+-- the attached triggers
+abbrev pub triggers_in : Scene → Triggers
+triggers_in scene = seen nat_cmp scene.triggers.now
+
+-- the held events
+abbrev pub events_in : Scene → Events
+events_in scene = merged scene.lanes.now
+
+-- a trigger's table is made of what readings had found
+abbrev pub HadMade : Scene → Hist → Tabled → Type 0
+HadMade scene hist table = IsMadeTable (triggers_in scene) (events_in scene) (had_by scene.tables.now) hist table
+
+-- it is made of what they find
+abbrev pub FindsMade : Scene → Hist → Tabled → Type 0
+FindsMade scene hist table = IsMadeTable (triggers_in scene) (events_in scene) (found_in (readings_on scene.tables.now)) hist table

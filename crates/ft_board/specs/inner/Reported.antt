@@ -3,11 +3,11 @@ use Rattle.std.specs.Prelude.{◌≡◌, List, Option, Some}
 use Rattle.ft_fields.specs.Traced.{Traced}
 use Rattle.ft_fields.specs.declared.pos.Pos.{Pos}
 use Rattle.ft_rivals.specs.declared.changed.Changed.{Changed}
-use Rattle.ft_lanes.specs.Held.{Lanes}
 use Rattle.ft_kept.specs.Acted.{Gathered, acting_of}
 use Rattle.ft_kept.specs.Shelves.{Shelves}
 use Rattle.ft_kept.specs.declared.acted.Acting.{Acting}
-use Rattle.ft_report.specs.Events.{CameOrWent}
+use Rattle.ft_shelves.specs.declared.sign.Sign.{Sign}
+use Rattle.ft_report.specs.Events.{EventChanged}
 use Rattle.ft_report.specs.Report.{report_of}
 use Rattle.ft_base.specs.Base.{Base, Triggers}
 use Rattle.ft_answers.specs.Reporting.{IsReport}
@@ -21,12 +21,8 @@ pub record IsReportBy (triggers : Triggers) (kept : Option Shelves) (acted : Gat
   pub gathered : acted ≡ Some acting
   pub are : rows ≡ report_of triggers shelves acting
 
--- a base with other lanes
-abbrev pub base_with : Base → Lanes → Base
-base_with base lanes = record base { lanes = lanes }
-
 -- where shelves are kept before one event comes or goes and after it, the report by those after it is one of the bases
 abbrev pub RepairsReported : Type 0
-RepairsReported = (base : Base) (lanes : Lanes) (pos : Pos) (event : Traced) (before behind : Shelves)
-    → AreKeptOf base before → AreKeptOf (base_with base lanes) behind → CameOrWent base.triggers pos event before behind
-    → IsReport base (base_with base lanes) (report_of base.triggers behind (acting_of base.triggers event))
+RepairsReported = (sign : Sign) (old new : Base) (pos : Pos) (event : Traced) (before behind : Shelves)
+    → new.triggers ≡ old.triggers → AreKeptOf old before → AreKeptOf new behind → EventChanged sign old.triggers pos event before behind
+    → IsReport old new (report_of old.triggers behind (acting_of old.triggers event))

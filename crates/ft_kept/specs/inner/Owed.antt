@@ -1,5 +1,5 @@
 -- Which readings a change of operations may have made wrong.
-use Rattle.std.specs.Prelude.{ℕ, Bool, true, false, ◌&&◌, ◌||◌, not, List, Option, Some}
+use Rattle.std.specs.Prelude.{ℕ, Bool, true, false, ◌&&◌, not, List, Option, Some}
 use Rattle.std.specs.Option.{option_map_or}
 use Rattle.std.specs.Ordering.{is_lt}
 use Rattle.ft_fields.specs.Traced.{Traced}
@@ -42,7 +42,3 @@ module _ (role : ℕ → Role) where
   -- the act at a place reads a variable whose key came into its saver's table or went out
   abbrev pub is_switched : Admits → Admits → Acts → At → Bool
   is_switched was now acts q = is_switched_as was now (role q.trigger) (acts q)
-
-  -- what may be wrong when one act has come or gone: its own place, the next operation on its variable, if that is a read, and the readings of keys that came in or went out
-  abbrev pub one_owes : Admits → Admits → Acts → At → Option (At × Op) → At → Bool
-  one_owes was now acts at next q = same_at q at || (is_next_read next q || is_switched was now acts q)

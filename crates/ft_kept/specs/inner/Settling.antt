@@ -3,7 +3,6 @@ use Rattle.std.specs.Prelude.{ℕ, ◌&&◌, ◌||◌, Bool, false, not, List, O
 use Rattle.std.specs.Option.{option_map_or}
 use Rattle.std.specs.Ordering.{nat_cmp}
 use Rattle.std.specs.FinMap.{FinMap}
-use Rattle.ft_fields.specs.Traced.{Traced}
 use Rattle.ft_hist.specs.Hist.{Hist}
 use Rattle.ft_keys.specs.declared.key.Part.{Part}
 use Rattle.ft_lanes.specs.Held.{Lanes}
@@ -14,8 +13,8 @@ use Rattle.ft_pairs.specs.Roles.{Admits}
 use Rattle.ft_table.specs.Values.{values_by}
 use Rattle.ft_pairs.specs.declared.role.Variable.{Variable}
 use Rattle.ft_shelves.specs.Shelves.{Shelves, role_on, admits_on, kept_on}
-use Rattle.ft_kept.specs.Entries.{IsKeptBut, IsKept}
-use Rattle.ft_kept.specs.Acts.{Acts, AreHeld, Comes}
+use Rattle.ft_kept.specs.Entries.{IsKeptBut}
+use Rattle.ft_kept.specs.Acts.{Acts, AreHeld}
 use Rattle.ft_kept.specs.inner.Owed.{reads_at, is_next_read, is_switched}
 use Rattle.ft_shelves.specs.Following.{Moves}
 
@@ -57,18 +56,8 @@ without_moved shelves id key moves next owed q =
 abbrev pub owes_saver : Shelves → Shelves → Acts → Option (At × Op) → Owed
 owes_saver old new acts next q = is_next_read next q || is_switched (role_on old) (admits_on old) (admits_on new) acts q
 
--- a saver's act came, and what follows of it is owed
-abbrev pub HasComeOwing : FinMap nat_cmp Hist → Lanes → At → Option (List Part × Traced) → Variable → Shelves → Shelves → Type 0
-HasComeOwing triggers lanes at act variable old new =
-    (before after : Acts) (next : Option (At × Op)) → Comes at act before after → AreHeld lanes after
-    → IsKept (role_on old) (values_by triggers) (admits_on old) before (kept_on old)
-    → IsNext ((kept_on new).ops variable) (Some at) next
-    → IsKeptBut (role_on old) (values_by triggers) (admits_on new) after (kept_on new) (owes_saver old new after next)
-
--- a saver's act went, and what follows of it is owed
-abbrev pub HasGoneOwing : FinMap nat_cmp Hist → Lanes → At → Option (List Part × Traced) → Variable → Shelves → Shelves → Type 0
-HasGoneOwing triggers lanes at act variable old new =
-    (before after : Acts) (next : Option (At × Op)) → Comes at act after before → AreHeld lanes before
-    → IsKept (role_on old) (values_by triggers) (admits_on old) before (kept_on old)
-    → IsNext ((kept_on new).ops variable) (Some at) next
+-- a saver's act came or went, with which the acts are these, and what follows of it is owed
+abbrev pub HasChangedOwing : FinMap nat_cmp Hist → At → Acts → Variable → Shelves → Shelves → Type 0
+HasChangedOwing triggers at after variable old new =
+    (next : Option (At × Op)) → IsNext ((kept_on new).ops variable) (Some at) next
     → IsKeptBut (role_on old) (values_by triggers) (admits_on new) after (kept_on new) (owes_saver old new after next)

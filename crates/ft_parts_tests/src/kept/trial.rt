@@ -1,15 +1,21 @@
 //! A saver and a reader, and what is kept of them as events come and go.
 
-ghost use Rattle.std.specs.Prelude.{◌≡◌};
+ghost use Rattle.std.specs.Prelude.{◌≡◌, false, OnOk};
+ghost use Rattle.std.specs.FinMap as map;
+ghost use Rattle.std.specs.Ordering.{eq_by_cmp};
+ghost use Rattle.ft_fields.specs.Places.{pos_cmp};
+ghost use Rattle.ft_fields.specs.declared.pos.Pos.{Pos};
+ghost use Rattle.ft_kept.specs.Signs.{event_after};
+ghost use Rattle.ft_maps.specs.Seen.{seen};
 
 use ft_event::{Body, Comm, Event, Name, Pos, Turn, Wake};
 use ft_hist::{Key, Part, Trigger, Work};
-use ft_kept::{Acted, Tables};
+use ft_kept::{Acted, Delta, Scene, Sign, Tables};
 use ft_lanes::Lanes;
 use ft_maps::{get, len, put, take};
 use ft_pairs::Role;
 use ft_trigger::parse;
-use std::alloc::Global;
+use std::alloc::{AllocError, Global};
 use std::collections::BTreeMap;
 use std::marker::Model;
 use std::test::*;
@@ -83,8 +89,8 @@ impl Model for Trial {
     ghost use Rattle.ft_fields.specs.Places.{pos_cmp};
     ghost use Rattle.ft_maps.specs.Seen.{seen};
     ghost use Rattle.ft_kept.specs.Codes.{shelves_code};
-    ghost use Rattle.ft_kept.specs.Repairs.{AreRight};
     ghost use Rattle.ft_kept.specs.Shelves.{Shelves};
+    ghost use Rattle.ft_parts_tests.specs.Trial.{AreRight};
 
     ghost Value = { Shelves };
 
@@ -118,7 +124,7 @@ impl Trial {
     pub(super) fn come(self, lines: &[u32]) -> Result<Trial, Fail> {
         let mut trial = self;
         for line in lines {
-            trial = trial.comes(*line)?;
+            trial = trial.takes(Sign::Insert, *line)?;
         }
         Ok(trial)
     }
@@ -138,19 +144,19 @@ impl Trial {
     /// What is there after a step.
     fn behind(self, step: &Step) -> Result<Trial, Fail> {
         match step {
-            Step::Comes(line) => self.comes(*line),
-            Step::Goes(line) => self.goes(*line),
+            Step::Comes(line) => self.takes(Sign::Insert, *line),
+            Step::Goes(line) => self.takes(Sign::Retract, *line),
         }
     }
 
-    /// The event of a line comes, which hasn't come yet.
-    fn comes(self, line: u32) -> Result<Trial, Fail> {
+    /// The event of a line comes, which hasn't come yet, or goes, which has come.
+    fn takes(self, sign: Sign, line: u32) -> Result<Trial, Fail> {
         let Some(event) = self.lanes.get(0, line) else {
             return Err(Fail::new("no event is held there"));
         };
         let pos = place(&event, line);
-        if get(&self.come, &pos).is_some() {
-            return Err(Fail::new("it has come already"));
+        if get(&self.come, &pos).is_some() == sign.is_insert() {
+            return Err(Fail::new("it has come already, or hasn't come"));
         }
         let Trial {
             triggers,
@@ -158,47 +164,17 @@ impl Trial {
             mut tables,
             mut come,
         } = self;
-        tables.event_comes(
-            &triggers,
-            &lanes,
-            pos,
-            &event,
-            &mut Acted::unasked(),
-            &mut Work::new(),
-        )?;
-        put(&mut come, pos, event)?;
-        Ok(Trial {
-            triggers,
-            lanes,
-            tables,
-            come,
-        })
-    }
-
-    /// The event of a line goes, which has come.
-    fn goes(self, line: u32) -> Result<Trial, Fail> {
-        let Some(held) = self.lanes.get(0, line) else {
-            return Err(Fail::new("no event is held there"));
+        let scene = Scene {
+            triggers: &triggers,
+            lanes: &lanes,
         };
-        let pos = place(&held, line);
-        let Trial {
-            triggers,
-            lanes,
-            mut tables,
-            mut come,
-        } = self;
-        let Some(event) = get(&come, &pos) else {
-            return Err(Fail::new("it hasn't come"));
-        };
-        tables.event_goes(
-            &triggers,
-            &lanes,
+        let delta = Delta {
+            sign,
             pos,
-            event,
-            &mut Acted::unasked(),
-            &mut Work::new(),
-        )?;
-        take(&mut come, &pos);
+            event: &event,
+        };
+        tables.apply(&scene, &delta, &mut Acted::unasked(), &mut Work::new())?;
+        change(&mut come, sign, pos, event)?;
         Ok(Trial {
             triggers,
             lanes,
@@ -249,6 +225,26 @@ impl Trial {
         let read = place(&self.lanes.get(0, line)?, line);
         let saved = get(self.tables.shelf(READER)?.readings(), &read)?;
         Some(saved.line)
+    }
+}
+
+/// Puts an event at a place, or takes the one there away.
+fn change(
+    come: &mut BTreeMap<Pos, Event>,
+    sign: Sign,
+    pos: Pos,
+    event: Event,
+) -> Result<(), AllocError>
+    ensures here { OnOk result (map.get (seen pos_cmp come.new) pos ≡ event_after sign event) }
+    ensures others { OnOk result ((q : Pos) → eq_by_cmp pos_cmp q pos ≡ false
+        → map.get (seen pos_cmp come.new) q ≡ map.get (seen pos_cmp come.old) q) }
+{
+    match sign {
+        Sign::Insert => put(come, pos, event),
+        Sign::Retract => {
+            take(come, &pos);
+            Ok(())
+        }
     }
 }
 

@@ -1,87 +1,105 @@
-use Rattle.std.proofs.Common.{◌≡◌, Some, None, OnOk, sym, ap, subst, ◌∙◌}
+-- The reading's shelf is cleared of what it had, and has what it finds.
+use Rattle.std.proofs.Common.{◌≡◌, Some, OnOk, sym, ap, subst, ◌∙◌}
 use Rattle.std.specs.FinMap as map
-use Rattle.std.specs.Ordering.{nat_cmp}
+use Rattle.std.specs.Option.{option_copied_mut}
 use Rattle.std.specs.Cmp.{nat_cmp_total}
-use Rattle.std.proofs.lemmas.Map.Lookups.{exact_unsigned}
 use Rattle.std.proofs.lemmas.Result.{on_ok_weaker}
-use Rattle.ft_maps.specs.Seen.{seen, get-seen, seen-found}
-use Rattle.ft_pairs.specs.Source.{IsSource}
+use Rattle.ft_maps.specs.Seen.{get-seen}
 use Rattle.ft_table.specs.Spots.{traced}
-use Rattle.ft_shelves.specs.Shelves.{Shelves, kept_on}
-use Rattle.ft_shelves.specs.Edits.{with_hit_on, without_hit_on}
 use Rattle.ft_table.specs.Values.{values_at, values_by}
-use Rattle.ft_kept.specs.contracts.tables.Tables as tables
-use Rattle.ft_kept.proofs.Putting.{traced_hit}
-use Rattle.ft_kept.proofs.Settled.{IsSettled, settled_unset, settled_set, reads_shelved, reads_attached, cleared, cleared_hit, shelf_own, values_there}
+use Rattle.ft_shelves.specs.Edits.{with_hit_on, without_hit_on}
+use Rattle.ft_shelves.specs.Shelves.{Shelved, kept_on}
+use Rattle.ft_kept.specs.Signs.{FindsBy, act_after}
+use Rattle.ft_kept.specs.Views.{triggers_of}
+use Rattle.ft_kept.proofs.Putting.{traced_hit, values_there}
+use Rattle.ft_kept.proofs.Settled.{IsSettled, settled_none, settled_some, reads_shelved, reads_attached, cleared, cleared_hit, shelf_own}
+use Rattle.ft_kept.proofs.Shelving.{lent_back, lent_was}
 use Rattle.ft_kept.proofs.settle.settle.Goals as goal
-use Rattle.ft_kept.proofs.settle.settle.Goals.{in-None, in-Some-found}
 
 pub returns-in_default-clause-readers : goal.returns-in_default-clause-readers
 returns-in_default-clause-readers c =
-    absurd (reads_attached (seen nat_cmp c.args.scene.now.triggers.now) c.args.tables.now c.args.at.trigger c.args.variable.now.saver c.requires.shelved c.requires.role (get-seen nat_cmp_total c.args.scene.now.triggers.now c.args.at.trigger ∙ sym c.in_default.ensures.value))
+    let reading = c.args.reading.now in
+    absurd (reads_attached (triggers_of c.args.scene.now) c.args.tables.now reading.at.trigger reading.variable.saver c.requires.shelved c.requires.role (get-seen nat_cmp_total c.args.scene.now.triggers.now reading.at.trigger ∙ sym c.in_default.ensures.value))
 
 pub returns-in_default-clause-right : goal.returns-in_default-clause-right
 returns-in_default-clause-right c =
-    absurd (reads_attached (seen nat_cmp c.args.scene.now.triggers.now) c.args.tables.now c.args.at.trigger c.args.variable.now.saver c.requires.shelved c.requires.role (get-seen nat_cmp_total c.args.scene.now.triggers.now c.args.at.trigger ∙ sym c.in_default.ensures.value))
+    let reading = c.args.reading.now in
+    absurd (reads_attached (triggers_of c.args.scene.now) c.args.tables.now reading.at.trigger reading.variable.saver c.requires.shelved c.requires.role (get-seen nat_cmp_total c.args.scene.now.triggers.now reading.at.trigger ∙ sym c.in_default.ensures.value))
 
-pub returns-in_default-get_mut-clause-readers : goal.returns-in_default-get_mut-clause-readers
-returns-in_default-get_mut-clause-readers c =
-    absurd (reads_shelved c.args.tables.now c.args.at.trigger c.args.variable.now.saver c.requires.role (ap (λ (s : Shelves). map.get s c.args.at.trigger) (sym c.tables.view_is) ∙ get-seen nat_cmp_total c.tables.inside.shelves c.args.at.trigger ∙ sym c.in_default-get_mut.ensures.value))
+pub returns-in_default-shelf_mut-clause-readers : goal.returns-in_default-shelf_mut-clause-readers
+returns-in_default-shelf_mut-clause-readers c =
+    let reading = c.args.reading.now in
+    absurd (reads_shelved c.args.tables.now reading.at.trigger reading.variable.saver c.requires.role (sym c.shelf_mut.ensures.value ∙ ap option_copied_mut c.in_default-shelf_mut.is))
 
-pub returns-in_default-get_mut-clause-right : goal.returns-in_default-get_mut-clause-right
-returns-in_default-get_mut-clause-right c =
-    absurd (reads_shelved c.args.tables.now c.args.at.trigger c.args.variable.now.saver c.requires.role (ap (λ (s : Shelves). map.get s c.args.at.trigger) (sym c.tables.view_is) ∙ get-seen nat_cmp_total c.tables.inside.shelves c.args.at.trigger ∙ sym c.in_default-get_mut.ensures.value))
+pub returns-in_default-shelf_mut-clause-right : goal.returns-in_default-shelf_mut-clause-right
+returns-in_default-shelf_mut-clause-right c =
+    let reading = c.args.reading.now in
+    absurd (reads_shelved c.args.tables.now reading.at.trigger reading.variable.saver c.requires.role (sym c.shelf_mut.ensures.value ∙ ap option_copied_mut c.in_default-shelf_mut.is))
 
 pub put_hit-requires : goal.put_hit-requires
 put_hit-requires c =
-    let was : map.get c.args.tables.now c.args.at.trigger ≡ Some c.in-Some-get_mut.shelf.now =
-    ap (λ (s : Shelves). map.get s c.args.at.trigger) (sym c.tables.view_is) ∙ get-seen nat_cmp_total c.tables.inside.shelves c.args.at.trigger ∙ sym c.in-Some-get_mut.ensures.value in
-    ap (λ s. map.get s.table.hits (record { spot = c.hit_with.result.spot; key = c.hit_with.result.key })) (c.take_hit.ensures ∙ ap (without_hit_on (record { spot = traced c.args.at.pos; key = c.args.variable.now.key })) c.in_ok-note.ensures)
-    ∙ ap (λ h. map.get (cleared c.args.at.pos c.args.variable.now.key c.in-Some-get_mut.shelf.now).table.hits (record { spot = h.spot; key = h.key })) (traced_hit c.in-Some.trigger.now c.args.event.now c.args.variable.now.key (Some c.in-Some-found.saved.pos) c.traced.result c.hit_with.result c.args.at.pos c.hit_with.ensures c.traced.ensures)
-    ∙ cleared_hit c.args.at.pos c.args.variable.now.key c.in-Some-get_mut.shelf.now c.args.event.now
-    (shelf_own (values_by (seen nat_cmp c.args.scene.now.triggers.now)) c.args.tables.now c.args.tables.now c.args.at c.args.variable.now.saver c.args.variable.now.key c.args.event.now c.in-Some-get_mut.shelf.now was c.requires.role c.requires.own) c.args.variable.now.key
+    let reading = c.args.reading.now in
+    let shelf = c.in-Some-shelf_mut.shelf.now in
+    let was : map.get c.args.tables.now reading.at.trigger ≡ Some shelf = lent_was reading.at.trigger c.args.tables.now c.shelf_mut.result c.in-Some-shelf_mut.shelf c.in-Some-shelf_mut.is c.shelf_mut.ensures.value in
+    let clear : c.take_hit.new.self ≡ cleared reading.at.pos reading.variable.key shelf = c.take_hit.ensures ∙ ap (without_hit_on (record { spot = traced reading.at.pos; key = reading.variable.key })) c.in_ok-note.ensures in
+    ap (λ (s : Shelved). map.get s.table.hits (record { spot = c.hit_with-hit.result.spot; key = c.hit_with-hit.result.key })) clear
+    ∙ ap (λ h. map.get (cleared reading.at.pos reading.variable.key shelf).table.hits (record { spot = h.spot; key = h.key })) (traced_hit c.in-Some.trigger.now reading.event.now reading.variable.key (Some c.in-Some-found.saved.pos) c.traced.result c.hit_with-hit.result reading.at.pos c.hit_with-hit.ensures c.traced.ensures)
+    ∙ cleared_hit reading.at.pos reading.variable.key shelf reading.event.now
+    (shelf_own (values_by (triggers_of c.args.scene.now)) c.args.tables.now c.args.tables.now reading.at reading.variable.saver reading.variable.key reading.event.now shelf was c.requires.role c.requires.own) reading.variable.key
 
-settled : (c : goal.Joined-found) → OnOk c.match-found.result (IsSettled (values_by (seen nat_cmp c.args.scene.now.triggers.now)) c.args.at c.args.variable.now.saver c.args.variable.now.key c.args.event.now c.args.tables.now (tables.the_view c.match-found.tables-inside))
+-- a reading that finds nothing
+settled : (c : goal.After-tables-in-None-1) → IsSettled (values_by (triggers_of c.args.scene.now)) c.args.reading.now.at c.args.reading.now.variable.saver (act_after c.args.sign (c.args.reading.now.variable.key, c.args.reading.now.event.now))
+    c.args.tables.now (c.shelf_mut.follows.lender c.take_hit.new.self)
 settled c =
-    let was : map.get c.args.tables.now c.args.at.trigger ≡ Some c.in-Some-get_mut.shelf.now =
-    ap (λ (s : Shelves). map.get s c.args.at.trigger) (sym c.tables.view_is) ∙ get-seen nat_cmp_total c.tables.inside.shelves c.args.at.trigger ∙ sym c.in-Some-get_mut.ensures.value in
-    let clear : c.take_hit.new.self ≡ cleared c.args.at.pos c.args.variable.now.key c.in-Some-get_mut.shelf.now =
-    c.take_hit.ensures ∙ ap (without_hit_on (record { spot = traced c.args.at.pos; key = c.args.variable.now.key })) c.in_ok-note.ensures in
-    elim c.match-found.branch [
-      | in-None w ↦
-          let new : tables.the_view c.match-found.tables-inside ≡ map.insert c.args.tables.now c.args.at.trigger (cleared c.args.at.pos c.args.variable.now.key c.in-Some-get_mut.shelf.now) =
-          ap tables.the_view w.tables-inside-is
-          ∙ seen-found nat_cmp_total exact_unsigned c.tables.inside.shelves (c.get_mut.follows.lender c.take_hit.new.self) c.args.at.trigger c.in-Some-get_mut.shelf.now c.take_hit.new.self c.in-Some-get_mut.ensures.value (c.get_mut.follows.holds c.take_hit.new.self)
-          ∙ ap (λ (s : Shelves). map.insert s c.args.at.trigger c.take_hit.new.self) c.tables.view_is
-          ∙ ap (map.insert c.args.tables.now c.args.at.trigger) clear in
-          let source : IsSource ((kept_on c.args.tables.now).ops c.args.variable.now) c.args.at None =
-          subst (IsSource ((kept_on c.args.tables.now).ops c.args.variable.now) c.args.at) w.in-None.is c.source-found.ensures in
-          subst (λ r. OnOk r (IsSettled (values_by (seen nat_cmp c.args.scene.now.triggers.now)) c.args.at c.args.variable.now.saver c.args.variable.now.key c.args.event.now c.args.tables.now (tables.the_view c.match-found.tables-inside))) (sym w.result-is)
-          (settled_unset (values_by (seen nat_cmp c.args.scene.now.triggers.now)) c.args.tables.now (tables.the_view c.match-found.tables-inside) c.args.at c.args.variable.now.saver c.args.variable.now.key c.args.event.now c.in-Some-get_mut.shelf.now was c.requires.role c.requires.own new source)
-      | in-Some-found w ↦
-          let source : IsSource ((kept_on c.args.tables.now).ops c.args.variable.now) c.args.at (Some w.in-Some-found.saved) =
-          subst (IsSource ((kept_on c.args.tables.now).ops c.args.variable.now) c.args.at) w.in-Some-found.is c.source-found.ensures in
-          let added = values_at c.in-Some.trigger.now c.args.at.pos c.args.event.now (Some w.in-Some-found.saved.pos) in
-          let attached : map.get (seen nat_cmp c.args.scene.now.triggers.now) c.args.at.trigger ≡ Some c.in-Some.trigger.now =
-          get-seen nat_cmp_total c.args.scene.now.triggers.now c.args.at.trigger ∙ sym c.in-Some.ensures.value in
-          subst (λ r. OnOk r (IsSettled (values_by (seen nat_cmp c.args.scene.now.triggers.now)) c.args.at c.args.variable.now.saver c.args.variable.now.key c.args.event.now c.args.tables.now (tables.the_view c.match-found.tables-inside))) (sym w.result-is)
-          (on_ok_weaker w.put_hit.result (λ put.
-          settled_set (values_by (seen nat_cmp c.args.scene.now.triggers.now)) c.args.tables.now (tables.the_view c.match-found.tables-inside) c.args.at c.args.variable.now.saver c.args.variable.now.key c.args.event.now c.in-Some-get_mut.shelf.now was c.requires.role c.requires.own
-          w.in-Some-found.saved added (values_there (seen nat_cmp c.args.scene.now.triggers.now) c.args.at.trigger c.in-Some.trigger.now attached c.args.at.pos c.args.event.now (Some w.in-Some-found.saved.pos))
-          (ap tables.the_view w.tables-inside-is
-          ∙ seen-found nat_cmp_total exact_unsigned c.tables.inside.shelves (c.get_mut.follows.lender w.put_hit.new.self) c.args.at.trigger c.in-Some-get_mut.shelf.now w.put_hit.new.self c.in-Some-get_mut.ensures.value (c.get_mut.follows.holds w.put_hit.new.self)
-          ∙ ap (λ (s : Shelves). map.insert s c.args.at.trigger w.put_hit.new.self) c.tables.view_is
-          ∙ ap (map.insert c.args.tables.now c.args.at.trigger)
-          (put ∙ ap (λ h. with_hit_on (record { spot = h.spot; key = h.key }) h.values (Some w.in-Some-found.saved.pos) c.take_hit.new.self) (traced_hit c.in-Some.trigger.now c.args.event.now c.args.variable.now.key (Some w.in-Some-found.saved.pos) w.traced.result w.hit_with.result c.args.at.pos w.hit_with.ensures w.traced.ensures)
-          ∙ ap (with_hit_on (record { spot = traced c.args.at.pos; key = c.args.variable.now.key }) added (Some w.in-Some-found.saved.pos)) clear))
-          source) w.put_hit.ensures.ok)
-    ]
+    let reading = c.args.reading.now in
+    let old = c.args.tables.now in
+    let shelf = c.in-Some-shelf_mut.shelf.now in
+    let was : map.get old reading.at.trigger ≡ Some shelf = lent_was reading.at.trigger old c.shelf_mut.result c.in-Some-shelf_mut.shelf c.in-Some-shelf_mut.is c.shelf_mut.ensures.value in
+    let clear : c.take_hit.new.self ≡ cleared reading.at.pos reading.variable.key shelf = c.take_hit.ensures ∙ ap (without_hit_on (record { spot = traced reading.at.pos; key = reading.variable.key })) c.in_ok-note.ensures in
+    let new = c.shelf_mut.follows.lender c.take_hit.new.self in
+    settled_none (values_by (triggers_of c.args.scene.now)) old new reading.at reading.variable.saver reading.variable.key reading.event.now shelf was c.requires.role c.requires.own c.args.sign
+    (lent_back reading.at.trigger old c.shelf_mut.result c.in-Some-shelf_mut.shelf c.in-Some-shelf_mut.is c.shelf_mut.ensures.value new c.take_hit.new.self (c.shelf_mut.follows.holds c.take_hit.new.self)
+    ∙ ap (map.insert old reading.at.trigger) clear)
+    (subst (FindsBy c.args.sign ((kept_on old).ops reading.variable) reading.at) c.in-None.is c.found_at-found.ensures)
 
-pub returns-clause-readers : goal.returns-clause-readers
-returns-clause-readers c = on_ok_weaker c.match-found.result (λ h. h.readers) (settled c)
+pub returns-in-None-clause-readers : goal.returns-in-None-clause-readers
+returns-in-None-clause-readers c = (settled c).readers
 
-pub returns-clause-others : goal.returns-clause-others
-returns-clause-others c = on_ok_weaker c.match-found.result (λ h. h.others) (settled c)
+pub returns-in-None-clause-others : goal.returns-in-None-clause-others
+returns-in-None-clause-others c = (settled c).others
 
-pub returns-clause-right : goal.returns-clause-right
-returns-clause-right c = on_ok_weaker c.match-found.result (λ h. h.right) (settled c)
+pub returns-in-None-clause-right : goal.returns-in-None-clause-right
+returns-in-None-clause-right c = (settled c).right
+
+-- one that finds a saving
+put : (c : goal.After-tables-in-Some-found-1) → OnOk c.put_hit.result (IsSettled (values_by (triggers_of c.args.scene.now)) c.args.reading.now.at c.args.reading.now.variable.saver (act_after c.args.sign (c.args.reading.now.variable.key, c.args.reading.now.event.now))
+    c.args.tables.now (c.shelf_mut.follows.lender c.put_hit.new.self))
+put c =
+    let reading = c.args.reading.now in
+    let old = c.args.tables.now in
+    let shelf = c.in-Some-shelf_mut.shelf.now in
+    let was : map.get old reading.at.trigger ≡ Some shelf = lent_was reading.at.trigger old c.shelf_mut.result c.in-Some-shelf_mut.shelf c.in-Some-shelf_mut.is c.shelf_mut.ensures.value in
+    let clear : c.take_hit.new.self ≡ cleared reading.at.pos reading.variable.key shelf = c.take_hit.ensures ∙ ap (without_hit_on (record { spot = traced reading.at.pos; key = reading.variable.key })) c.in_ok-note.ensures in
+    let new = c.shelf_mut.follows.lender c.put_hit.new.self in
+    let trigger = c.in-Some.trigger.now in
+    let saved = c.in-Some-found.saved in
+    let added = values_at trigger reading.at.pos reading.event.now (Some saved.pos) in
+    let attached : map.get (triggers_of c.args.scene.now) reading.at.trigger ≡ Some trigger = get-seen nat_cmp_total c.args.scene.now.triggers.now reading.at.trigger ∙ sym c.in-Some.ensures.value in
+    on_ok_weaker c.put_hit.result (λ is.
+    settled_some (values_by (triggers_of c.args.scene.now)) old new reading.at reading.variable.saver reading.variable.key reading.event.now shelf was c.requires.role c.requires.own c.args.sign
+    saved added (sym (values_there (triggers_of c.args.scene.now) reading.at.trigger trigger reading.at.pos reading.event.now (Some saved.pos) attached))
+    (lent_back reading.at.trigger old c.shelf_mut.result c.in-Some-shelf_mut.shelf c.in-Some-shelf_mut.is c.shelf_mut.ensures.value new c.put_hit.new.self (c.shelf_mut.follows.holds c.put_hit.new.self)
+    ∙ ap (map.insert old reading.at.trigger)
+    (is ∙ ap (λ h. with_hit_on (record { spot = h.spot; key = h.key }) h.values (Some saved.pos) c.take_hit.new.self)
+    (traced_hit trigger reading.event.now reading.variable.key (Some saved.pos) c.traced.result c.hit_with-hit.result reading.at.pos c.hit_with-hit.ensures c.traced.ensures)
+    ∙ ap (with_hit_on (record { spot = traced reading.at.pos; key = reading.variable.key }) added (Some saved.pos)) clear))
+    (subst (FindsBy c.args.sign ((kept_on old).ops reading.variable) reading.at) c.in-Some-found.is c.found_at-found.ensures)) c.put_hit.ensures.ok
+
+pub returns-in-Some-found-clause-readers : goal.returns-in-Some-found-clause-readers
+returns-in-Some-found-clause-readers c = on_ok_weaker c.put_hit.result (λ h. h.readers) (put c)
+
+pub returns-in-Some-found-clause-others : goal.returns-in-Some-found-clause-others
+returns-in-Some-found-clause-others c = on_ok_weaker c.put_hit.result (λ h. h.others) (put c)
+
+pub returns-in-Some-found-clause-right : goal.returns-in-Some-found-clause-right
+returns-in-Some-found-clause-right c = on_ok_weaker c.put_hit.result (λ h. h.right) (put c)

@@ -3,6 +3,8 @@ use Rattle.std.specs.Ordering.{nat_cmp}
 use Rattle.ft_maps.specs.Seen.{seen}
 use Rattle.ft_pairs.specs.Next.{IsNext}
 use Rattle.ft_pairs.specs.Source.{Ops}
+use Rattle.ft_pairs.specs.declared.at.At.{At}
+use Rattle.ft_pairs.specs.declared.at.Op.{Op}
 use Rattle.ft_kept.specs.Entries.{IsKeptBut}
 use Rattle.ft_kept.specs.inner.Settling.{without_next_read, without_reads_of}
 use Rattle.ft_shelves.specs.Shelves.{role_on, kept_on}
@@ -33,8 +35,14 @@ settle_op-requires-clause-can c = record {
       (readers_forms c.args.tables.now c.loop-next.tables c.loop-next.invariant.readers) c.loop-next.invariant.right c.requires.partly;
 }
 
+pub settle_op-requires-clause-there : goal.settle_op-requires-clause-there
+settle_op-requires-clause-there c =
+    let step : At × Op = (c.in-Some.at, c.in-Some.op) in
+    readers_ops c.args.tables.now c.loop-next.tables c.loop-next.invariant.readers c.args.variable.now step.0 ∙ c.loop-next.invariant.there step c.in-Some.is
+
 pub loop-next-preserved : goal.loop-next-preserved
 loop-next-preserved c =
+    let step : At × Op = (c.in-Some.at, c.in-Some.op) in
     let first = c.args.tables.now in
     let before = c.loop-next.tables in
     let after = c.settle_op.new.tables in
@@ -42,18 +50,18 @@ loop-next-preserved c =
     let readers = readers_trans first before after c.loop-next.invariant.readers c.in_ok-settle_op.ensures.readers in
     let same : (kept_on after).ops c.args.variable.now ≡ ops =
     (λ i q. readers_ops first after readers c.args.variable.now q i) in
-    let is_next : IsNext ops (Some c.in-Some.step.0) c.next_op-next-in-Some.result =
-    subst (λ (o : Ops). IsNext o (Some c.in-Some.step.0) c.next_op-next-in-Some.result) same c.next_op-next-in-Some.ensures.next in
+    let is_next : IsNext ops (Some c.in-Some.at) c.next_op-next-in-Some.result =
+    subst (λ (o : Ops). IsNext o (Some c.in-Some.at) c.next_op-next-in-Some.result) same c.next_op-next-in-Some.ensures.next in
     record {
       readers = readers;
-      there = next_there ops (Some c.in-Some.step.0) c.next_op-next-in-Some.result is_next;
+      there = next_there ops (Some c.in-Some.at) c.next_op-next-in-Some.result is_next;
       right = λ admits acts owed held kept.
           owes_less (role_on first) (values_by (seen nat_cmp c.args.scene.now.triggers.now)) admits acts (kept_on after)
-          (without_next_read (Some c.in-Some.step) (on_walk ops (Some c.in-Some.step) owed)) (on_walk ops c.next_op-next-in-Some.result owed)
-          (λ q owes. walk_goes_on ops q c.in-Some.step c.next_op-next-in-Some.result (c.loop-next.invariant.there c.in-Some.step c.in-Some.is) is_next owed owes)
-          (subst (λ next. IsKeptBut (role_on first) (values_by (seen nat_cmp c.args.scene.now.triggers.now)) admits acts (kept_on after) (without_next_read (Some c.in-Some.step) (on_walk ops next owed))) c.in-Some.is
+          (without_next_read (Some step) (on_walk ops (Some step) owed)) (on_walk ops c.next_op-next-in-Some.result owed)
+          (λ q owes. walk_goes_on ops q step c.next_op-next-in-Some.result (c.loop-next.invariant.there step c.in-Some.is) is_next owed owes)
+          (subst (λ next. IsKeptBut (role_on first) (values_by (seen nat_cmp c.args.scene.now.triggers.now)) admits acts (kept_on after) (without_next_read (Some step) (on_walk ops next owed))) c.in-Some.is
           (pays_then (seen nat_cmp c.args.scene.now.triggers.now) c.args.scene.now.lanes.now first before (on_walk ops c.loop-next.next)
-          (readers_forms first before c.loop-next.invariant.readers) c.loop-next.invariant.right after (without_next_read (Some c.in-Some.step)) c.in_ok-settle_op.ensures.right admits acts owed held kept));
+          (readers_forms first before c.loop-next.invariant.readers) c.loop-next.invariant.right after (without_next_read (Some step)) c.in_ok-settle_op.ensures.right admits acts owed held kept));
       evals = c.settle_op.ensures.evals ∙ c.loop-next.invariant.evals;
       puts = let before = c.loop-next.invariant.puts in let more = c.settle_op.ensures.grow.puts in omega (arith, before, more);
     }

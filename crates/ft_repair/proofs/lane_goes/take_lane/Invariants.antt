@@ -1,9 +1,8 @@
-use Rattle.std.specs.Prelude.{◌≡◌, ◌+◌, ◌≤◌, Some}
+use Rattle.std.proofs.Common.{◌≡◌, ◌+◌, ◌≤◌, Some}
 use Rattle.std.specs.FinMap as map
-use Rattle.std.specs.Ordering.{nat_cmp}
-use Rattle.ft_maps.specs.Seen.{seen}
 use Rattle.ft_hist.specs.Steps.{StepsGrow}
 use Rattle.ft_kept.specs.Shelves.{FormsStay, NotesStay}
+use Rattle.ft_kept.specs.Views.{triggers_of}
 use Rattle.ft_lanes.specs.Held.{Lane}
 use Rattle.ft_answers.specs.Costs.{count_on_lane}
 use Rattle.ft_answers.specs.Deferral.{IsPlainLane}
@@ -13,9 +12,9 @@ use Rattle.ft_repair.proofs.lane_goes.take_lane.Given as goal
 -- the tables are kept of all events but those of the lines before, for which the tests were; their forms stayed, and all notes where the lines are plain; no count of steps fell
 abbrev pub invariant-loop-line : goal.invariant-loop-line
 invariant-loop-line l = record {
-  going : IsGoing (seen nat_cmp l.triggers) l.lanes l.cpu l.tables l.line-iterator;
-  evals : (lane : Lane) → map.get l.lanes l.cpu ≡ Some lane → l.work.evals + count_lines (seen nat_cmp l.triggers) l.line-iterator ≤ l.fn.work.evals + count_on_lane (seen nat_cmp l.triggers) lane;
+  going : IsGoing (triggers_of l.scene) l.scene.lanes.now l.cpu l.line-iterator l.tables;
+  evals : (lane : Lane) → map.get l.scene.lanes.now l.cpu ≡ Some lane → l.work.evals + count_lines (triggers_of l.scene) l.line-iterator ≤ l.fn.work.evals + count_on_lane (triggers_of l.scene) lane;
   forms : FormsStay l.fn.tables l.tables;
-  quiet : IsPlainLane (seen nat_cmp l.triggers) l.lanes l.cpu → NotesStay l.fn.tables l.tables;
+  quiet : IsPlainLane (triggers_of l.scene) l.scene.lanes.now l.cpu → NotesStay l.fn.tables l.tables;
   grow : StepsGrow l.fn.work l.work;
 }

@@ -1,4 +1,4 @@
-use Rattle.std.proofs.Common.{ℕ, ◌≡◌, ◌∷◌, [], List, refl, sym, ap, subst, ◌∙◌}
+use Rattle.std.proofs.Common.{ℕ, ◌≡◌, ◌∷◌, [], true, List, refl, sym, ap, subst, ◌∙◌}
 use Rattle.std.specs.Ordering.{nat_cmp}
 use Rattle.std.specs.FinMap as map
 use Rattle.std.specs.Map.Iter.{deref_pair}
@@ -9,14 +9,14 @@ use Rattle.ft_pairs.specs.declared.role.Role.{Role}
 use Rattle.ft_maps.specs.Seen.{seen}
 use Rattle.ft_base.specs.Base.{Triggers}
 use Rattle.ft_base.specs.Roles.{role_of}
-use Rattle.ft_repair.proofs.NewShelves.{AreNewBut, new_but_all, new_but_rest}
+use Rattle.ft_repair.proofs.Putting.{AreRenewedBut, renewed_none, renewed_more, renewed_all}
 use Rattle.ft_repair.proofs.rebuild.new_tables.Goals as goal
 
 pub loop-id-init : goal.loop-id-init
 loop-id-init c =
     let triggers : Triggers = seen nat_cmp c.args.triggers.now in
-    subst (λ (s : Shelves). AreNewBut triggers c.into_iter-id-iterator.result s) (sym c.new-tables.ensures)
-    (subst (λ (es : List (ℕ × Hist)). AreNewBut triggers es map.empty) (sym (c.into_iter-id-iterator.ensures.into_iter_gives ∙ c.entries-id-items.ensures.rest)) (new_but_all triggers))
+    subst (λ (s : Shelves). AreRenewedBut triggers (λ _. true) map.empty c.into_iter-id-iterator.result s) (sym c.new-tables.ensures)
+    (subst (λ (es : List (ℕ × Hist)). AreRenewedBut triggers (λ _. true) map.empty es map.empty) (sym (c.into_iter-id-iterator.ensures.into_iter_gives ∙ c.entries-id-items.ensures.rest)) (renewed_none triggers (λ _. true) map.empty))
 
 pub loop-id-preserved : goal.loop-id-preserved
 loop-id-preserved c =
@@ -27,10 +27,10 @@ loop-id-preserved c =
     let adds : AddsShelf e.0 (role_of triggers e.1.variable) e.1.size c.loop-id.tables c.add.new.self =
     subst (λ (n : ℕ). AddsShelf e.0 (role_of triggers e.1.variable) n c.loop-id.tables c.add.new.self) c.size.ensures.value
     (subst (λ (r : Role). AddsShelf e.0 r c.size.result c.loop-id.tables c.add.new.self) role c.in_ok-add.ensures.ok) in
-    new_but_rest triggers e c.next.new.self c.loop-id.tables c.add.new.self (subst (λ (es : List (ℕ × Hist)). AreNewBut triggers es c.loop-id.tables) more c.loop-id.invariant) adds
+    renewed_more triggers (λ _. true) map.empty e c.next.new.self c.loop-id.tables (subst (λ (es : List (ℕ × Hist)). AreRenewedBut triggers (λ _. true) map.empty es c.loop-id.tables) more c.loop-id.invariant) c.add.new.self adds refl
 
 pub returns : goal.returns
 returns c =
     let triggers : Triggers = seen nat_cmp c.args.triggers.now in
     let none : c.loop-id.id-iterator ≡ [] = rest_all (deref_pair {K = ℕ} {X = Hist}) _ _ _ c.in-None.is c.next.ensures.steps in
-    λ id. (subst (λ (es : List (ℕ × Hist)). AreNewBut triggers es c.loop-id.tables) none c.loop-id.invariant).done id refl
+    renewed_all triggers (λ _. true) map.empty c.loop-id.tables (subst (λ (es : List (ℕ × Hist)). AreRenewedBut triggers (λ _. true) map.empty es c.loop-id.tables) none c.loop-id.invariant)

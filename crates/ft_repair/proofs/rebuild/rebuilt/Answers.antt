@@ -1,60 +1,64 @@
 use Rattle.std.proofs.Common.{◌≡◌, ℕ, List, [], ◌∷◌, true, refl, sym, ap, subst, ◌∙◌}
-use Rattle.std.specs.Ordering.{nat_cmp}
 use Rattle.std.specs.FinMap as map
 use Rattle.std.specs.Map.Iter.{deref_pair}
 use Rattle.std.proofs.lemmas.Map.Iter.{rest_more, rest_all}
 use Rattle.ft_hist.specs.Hist.{Hist}
 use Rattle.ft_lanes.specs.Held.{Lanes}
 use Rattle.ft_maps.specs.Mapped.{entries_by}
-use Rattle.ft_maps.specs.Seen.{seen}
+use Rattle.ft_kept.specs.Views.{triggers_of}
 use Rattle.ft_store.specs.Stored.{held}
 use Rattle.ft_base.specs.Base.{Triggers}
 use Rattle.ft_replay.proofs.Stepping.{grow_none, grow_more}
 use Rattle.ft_repair.proofs.AtOnce.{named_listed}
+use Rattle.ft_replay.specs.Merged.{merged}
 use Rattle.ft_repair.proofs.Joining.{new_idle}
-use Rattle.ft_repair.proofs.Putting.{IsPut, put_none, put_more, put_all, first_idle, left_in}
+use Rattle.ft_repair.proofs.KeptFor.{for_kept}
+use Rattle.ft_repair.proofs.Putting.{IsPut, put_none, put_more, put_all, told_idle, idle_first}
 use Rattle.ft_repair.proofs.rebuild.rebuilt.Goals as goal
 
 pub loop-id-init : goal.loop-id-init
 loop-id-init c =
-    let triggers : Triggers = seen nat_cmp c.args.triggers.now in
-    let lanes : Lanes = c.args.lanes.now in
+    let triggers : Triggers = triggers_of c.args.scene.now in
+    let lanes : Lanes = c.args.scene.now.lanes.now in
     let all : c.into_iter-id-iterator.result ≡ map.entries triggers = c.into_iter-id-iterator.ensures.into_iter_gives ∙ c.entries-id-items.ensures.rest in
     record {
       put = subst (λ (es : List (ℕ × Hist)). IsPut triggers lanes (λ _. true) es c.in_ok-tables.tables) (sym all)
-          (put_none triggers lanes (λ _. true) c.in_ok-tables.tables (new_idle triggers lanes c.in_ok-tables.tables c.in_ok-tables.ensures));
+          (put_none triggers lanes (λ _. true) c.in_ok-tables.tables (new_idle triggers lanes c.requires c.in_ok-tables.tables c.in_ok-tables.ensures));
       grow = grow_none _;
     }
 
 pub put_events-requires : goal.put_events-requires
 put_events-requires c =
-    let triggers : Triggers = seen nat_cmp c.args.triggers.now in
-    let lanes : Lanes = c.args.lanes.now in
+    let triggers : Triggers = triggers_of c.args.scene.now in
+    let lanes : Lanes = c.args.scene.now.lanes.now in
     let e : ℕ × Hist = (c.in-Some.id.now, c.in-Some.trigger.now) in
     let more : c.loop-id.id-iterator ≡ e ∷ c.next.new.self = rest_more (deref_pair {K = ℕ} {X = Hist}) _ _ _ _ c.in-Some.is c.next.ensures.steps in
     let is = subst (λ (es : List (ℕ × Hist)). IsPut triggers lanes (λ _. true) es c.loop-id.tables) more c.loop-id.invariant.put in
     record {
-      savers = c.requires;
-      attached = is.attached.0;
       listed = named_listed triggers lanes e.0 e.1 is.attached.0 (entries_by held c.deref.result.now) (ap (entries_by held) c.deref.ensures.value ∙ c.in_ok-events.ensures);
-      can = record { idle = left_in (λ _. true) (e ∷ c.next.new.self); here = first_idle triggers lanes (λ _. true) e c.next.new.self c.loop-id.tables is refl; kept = is.idle };
+      can = record {
+        attached = is.attached.0;
+        kept = told_idle triggers lanes (λ _. true) e c.next.new.self c.loop-id.tables is;
+        idle = idle_first triggers lanes (λ _. true) e c.next.new.self c.loop-id.tables is refl;
+      };
     }
 
 pub loop-id-preserved : goal.loop-id-preserved
 loop-id-preserved c =
-    let triggers : Triggers = seen nat_cmp c.args.triggers.now in
-    let lanes : Lanes = c.args.lanes.now in
+    let triggers : Triggers = triggers_of c.args.scene.now in
+    let lanes : Lanes = c.args.scene.now.lanes.now in
     let e : ℕ × Hist = (c.in-Some.id.now, c.in-Some.trigger.now) in
     let more : c.loop-id.id-iterator ≡ e ∷ c.next.new.self = rest_more (deref_pair {K = ℕ} {X = Hist}) _ _ _ _ c.in-Some.is c.next.ensures.steps in
     let is = subst (λ (es : List (ℕ × Hist)). IsPut triggers lanes (λ _. true) es c.loop-id.tables) more c.loop-id.invariant.put in
     record {
-      put = put_more triggers lanes (λ _. true) e c.next.new.self c.loop-id.tables is c.put_events.new.tables refl c.in_ok-put_events.ensures.joined;
+      put = put_more triggers lanes (λ _. true) e c.next.new.self c.loop-id.tables is c.put_events.new.tables c.in_ok-put_events.ensures.joined;
       grow = grow_more _ _ _ c.loop-id.invariant.grow c.in_ok-put_events.ensures.grow;
     }
 
 pub returns-clause-kept : goal.returns-clause-kept
 returns-clause-kept c =
-    let triggers : Triggers = seen nat_cmp c.args.triggers.now in
-    let lanes : Lanes = c.args.lanes.now in
+    let triggers : Triggers = triggers_of c.args.scene.now in
+    let lanes : Lanes = c.args.scene.now.lanes.now in
     let none : c.loop-id.id-iterator ≡ [] = rest_all (deref_pair {K = ℕ} {X = Hist}) _ _ _ c.in-None.is c.next.ensures.steps in
-    put_all triggers lanes (λ _. true) c.loop-id.tables (subst (λ (es : List (ℕ × Hist)). IsPut triggers lanes (λ _. true) es c.loop-id.tables) none c.loop-id.invariant.put)
+    for_kept triggers lanes (merged lanes) c.loop-id.tables
+    (put_all triggers lanes (λ _. true) c.loop-id.tables (subst (λ (es : List (ℕ × Hist)). IsPut triggers lanes (λ _. true) es c.loop-id.tables) none c.loop-id.invariant.put))

@@ -18,22 +18,20 @@ use Rattle.ft_repair.proofs.trigger_joins.put_acts.Goals as goal
 
 pub put_events-requires : goal.put_events-requires
 put_events-requires c = record {
-  savers = c.requires.savers;
-  attached = c.requires.attached;
   listed = record {
-    names = has_name c.only.result;
-    own = λ name same. c.only.ensures name ∙ ap (λ (own : Name). same_name own name) c.event.ensures ∙ same;
+    names = has_name c.only-names.result;
+    own = λ name same. c.only-names.ensures name ∙ ap (λ (own : Name). same_name own name) c.event.ensures ∙ same;
     all = ap (entries_by held) c.deref.ensures.value ∙ c.in_ok-events.ensures;
   };
-  can = c.requires.can;
+  can = c.requires;
 }
 
 pub returns-clause-evals : goal.returns-clause-evals
 returns-clause-evals c =
-    let lanes : Lanes = c.args.lanes.now in
-    let hist : Hist = c.args.trigger.now in
+    let lanes : Lanes = c.args.joining.now.scene.lanes.now in
+    let hist : Hist = c.args.joining.now.trigger.now in
     let items : List (Pos × Stored) = c.deref.result.now in
-    let named : has_name c.only.result ≡ same_name hist.event = λ i other. (c.only.ensures other ∙ ap (λ (name : Name). same_name name other) c.event.ensures) i in
+    let named : has_name c.only-names.result ≡ same_name hist.event = λ i other. (c.only-names.ensures other ∙ ap (λ (name : Name). same_name name other) c.event.ensures) i in
     let own : entries_by held items ≡ map.entries (own_events lanes hist) =
     ap (entries_by held) c.deref.ensures.value ∙ c.in_ok-events.ensures ∙ ap (λ (names : Name → Bool). map.entries (events_on names (merged lanes))) named in
     let count : length (entries_by held items) ≡ length (map.entries (own_events lanes hist)) = ap (λ (es : List (Pos × Traced)). length es) own in

@@ -1,7 +1,6 @@
 use Rattle.std.proofs.Common.{◌+◌, ◌≤◌}
-use Rattle.std.specs.Ordering.{nat_cmp}
 use Rattle.ft_hist.specs.Steps.{StepsGrow}
-use Rattle.ft_maps.specs.Seen.{seen}
+use Rattle.ft_kept.specs.Views.{triggers_of}
 use Rattle.ft_base.specs.OneTrigger.{is_in_family}
 use Rattle.ft_answers.specs.Costs.{family_tests}
 use Rattle.ft_repair.proofs.Putting.{IsPut, tests_in}
@@ -10,7 +9,7 @@ use Rattle.ft_repair.proofs.trigger_joins.put_family.Given as goal
 -- those of the family that are left are idle, and their tests are left too; no count fell
 abbrev pub invariant-loop-other : goal.invariant-loop-other
 invariant-loop-other l = record {
-  put : IsPut (seen nat_cmp l.triggers) l.lanes (is_in_family (seen nat_cmp l.triggers) l.id) l.other-iterator l.tables;
-  evals : l.work.evals + tests_in (is_in_family (seen nat_cmp l.triggers) l.id) l.lanes l.other-iterator ≤ l.fn.work.evals + family_tests (seen nat_cmp l.triggers) l.lanes l.id;
+  put : IsPut (triggers_of l.scene) l.scene.lanes.now (is_in_family (triggers_of l.scene) l.id) l.other-iterator l.tables;
+  evals : l.work.evals + tests_in (is_in_family (triggers_of l.scene) l.id) l.scene.lanes.now l.other-iterator ≤ l.fn.work.evals + family_tests (triggers_of l.scene) l.scene.lanes.now l.id;
   grow : StepsGrow l.fn.work l.work;
 }

@@ -1,5 +1,4 @@
-use Rattle.std.proofs.Common.{rules, refl, ◌≡◌, Bool, List, [], drop, sym, ap, subst, ◌∙◌}
-use Rattle.std.specs.Ordering.{nat_cmp}
+use Rattle.std.proofs.Common.{◌≡◌, ◌+◌, Bool, List, [], drop, Some, sym, ap, subst, ◌∙◌}
 use Rattle.std.specs.Prelude.{IsPermutation}
 use Rattle.std.specs.FinMap as map
 use Rattle.std.proofs.lemmas.List.{drop_all}
@@ -9,73 +8,97 @@ use Rattle.ft_fields.specs.declared.event.Name.{Name}
 use Rattle.ft_fields.specs.declared.pos.Pos.{Pos}
 use Rattle.ft_hist.specs.Hist.{Hist}
 use Rattle.ft_hist.specs.Hit.{same_name}
+use Rattle.ft_kept.specs.Acts.{acts_of}
+use Rattle.ft_kept.specs.Views.{triggers_of}
+use Rattle.ft_shelves.specs.declared.sign.Sign.TheVariants.{Retract}
 use Rattle.ft_lanes.specs.Held.{Lanes}
 use Rattle.ft_maps.specs.Mapped.{entries_by}
-use Rattle.ft_maps.specs.Seen.{seen}
 use Rattle.ft_store.specs.Stored.{held}
 use Rattle.ft_store.specs.declared.stored.Stored.{Stored}
 use Rattle.ft_base.specs.Base.{Triggers}
-use Rattle.ft_repair.specs.KeptShelves.{AreKept}
+use Rattle.ft_base.specs.Reachable.{HasSavers}
 use Rattle.ft_replay.specs.Merged.{merged}
 use Rattle.ft_replay.specs.Named.{events_on, has_name}
-use Rattle.ft_kept.specs.Acts.{Acts, acts_of}
+use Rattle.ft_replay.proofs.Stepping.{grow_none, grow_more}
+use Rattle.ft_repair.specs.KeptShelves.{AreKept}
 use Rattle.ft_repair.specs.Outside.{acts_outside}
-use Rattle.ft_repair.specs.inner.Idle.{AreKeptIdle, is_one}
-use Rattle.ft_base.specs.Reachable.{HasSavers}
-use Rattle.ft_repair.proofs.ShelfForms.{all_shelved}
-use Rattle.ft_repair.proofs.OneTrigger.{IsLeaving, own_events, leaving_all, act_can_go, leaving_fewer, leaving_none, all_acts_held, own_or_all}
+use Rattle.ft_repair.specs.inner.Joining.{is_one}
+use Rattle.ft_repair.specs.inner.KeptFor.{AreKeptFor}
+use Rattle.ft_repair.proofs.Changing.{next_views, next_held, its_before, its_fewer, changing_none}
+use Rattle.ft_repair.proofs.HeldActs.{merged_held}
+use Rattle.ft_repair.proofs.KeptFor.{kept_for}
+use Rattle.ft_repair.proofs.OneTrigger.{Leaves, leaving_all, own_events}
 use Rattle.ft_repair.proofs.Unpacked.{first_left}
 use Rattle.ft_repair.proofs.trigger_leaves.take_acts.Goals as goal
 
 pub loop-pos-init : goal.loop-pos-init
 loop-pos-init c =
-    let triggers : Triggers = seen nat_cmp c.triggers-triggers.result.now in
-    let lanes : Lanes = c.lanes-lanes.result.now in
+    let triggers : Triggers = triggers_of c.scene_of-scene.result in
+    let lanes : Lanes = c.scene_of-scene.result.lanes.now in
+    let attached : map.get triggers c.args.id ≡ Some c.args.trigger.now = ap (λ (ts : Triggers). map.get ts c.args.id) c.scene_of-scene.ensures.triggers ∙ c.requires.attached in
+    let savers : HasSavers triggers = subst HasSavers (sym c.scene_of-scene.ensures.triggers) c.scene_of-scene.ensures.savers in
     let hist : Hist = c.args.trigger.now in
     let items : List (Pos × Stored) = c.deref-pos-items.result.now in
-    let all : Acts = acts_of triggers (merged lanes) in
     let named : has_name c.only.result ≡ same_name hist.event = λ i other. (c.only.ensures other ∙ ap (λ (name : Name). same_name name other) c.event.ensures) i in
     let own : entries_by held c.in_ok-events.events.items ≡ map.entries (own_events lanes hist) = c.in_ok-events.ensures ∙ ap (λ (names : Name → Bool). map.entries (events_on names (merged lanes))) named in
     let moved : IsPermutation (map.entries (own_events lanes hist)) (entries_by held items) =
     subst (λ (es : List (Pos × Traced)). IsPermutation es (entries_by held items)) own
     (IsPermutation-map (λ (e : Pos × Stored). (e.0, held e.1)) c.in_ok-events.events.items items (subst (IsPermutation c.in_ok-events.events.items) (sym c.deref-pos-items.ensures.value) c.reverse.ensures.permutation)) in
     let kept : AreKept triggers (merged lanes) c.args.tables.now =
-    subst (λ (both : Triggers × Lanes). AreKept both.0 (merged both.1) c.args.tables.now) (λ i. (sym c.triggers-triggers.ensures i, sym c.lanes-lanes.ensures.lanes i)) c.requires.kept in (
-      leaving_all triggers lanes c.args.id all hist (ap (λ (ts : Triggers). map.get ts c.args.id) c.triggers-triggers.ensures ∙ c.requires.attached) (all_acts_held triggers lanes) all (own_or_all triggers lanes c.args.id) c.args.tables.now kept.each kept.kept (entries_by held items) moved,
-      search rules,
-    )
+    subst (λ (both : Triggers × Lanes). AreKept both.0 (merged both.1) c.args.tables.now) (λ i. (sym c.scene_of-scene.ensures.triggers i, sym c.scene_of-scene.ensures.lanes i)) c.requires.kept in
+    record {
+      leaving = leaving_all triggers lanes c.args.id hist attached (same_name hist.event) (λ _ same. same) (entries_by held items) moved c.args.tables.now (kept_for triggers lanes savers (merged lanes) (merged_held lanes) c.args.tables.now kept);
+      grow = grow_none _;
+    }
 
-pub goes_from-requires-clause-shelved : goal.goes_from-requires-clause-shelved
-goes_from-requires-clause-shelved c =
-    let triggers : Triggers = seen nat_cmp c.triggers-triggers.result.now in
-    all_shelved triggers c.loop-pos.tables (subst HasSavers (sym c.triggers-triggers.ensures) c.lanes-lanes.ensures.reachable.savers) c.loop-pos.invariant.0.each
-
-pub goes_from-requires-clause-can : goal.goes_from-requires-clause-can
-goes_from-requires-clause-can c =
-    let triggers : Triggers = seen nat_cmp c.triggers-triggers.result.now in
+pub apply_to-requires-clause-views : goal.apply_to-requires-clause-views
+apply_to-requires-clause-views c =
+    let triggers : Triggers = triggers_of c.scene_of-scene.result in
+    let lanes : Lanes = c.scene_of-scene.result.lanes.now in
     let more = first_left c.deref-pos-items.result.now c.loop-pos.pos-index c.loop-pos-item.result c.event-event.result c.loop-pos-test.true c.loop-pos-item.is c.event-event.ensures in
-    let leaving = subst (λ (es : List (Pos × Traced)). IsLeaving triggers c.lanes-lanes.result.now c.args.id (acts_of triggers (merged c.lanes-lanes.result.now)) c.loop-pos.tables es) more c.loop-pos.invariant.0 in
-    act_can_go triggers c.lanes-lanes.result.now c.args.id (acts_of triggers (merged c.lanes-lanes.result.now)) c.args.trigger.now (ap (λ (ts : Triggers). map.get ts c.args.id) c.triggers-triggers.ensures ∙ c.requires.attached) (all_acts_held triggers c.lanes-lanes.result.now) c.loop-pos.tables _ _ leaving
+    let leaving = subst (λ (es : List (Pos × Traced)). Leaves triggers lanes c.args.id es c.loop-pos.tables) more c.loop-pos.invariant.leaving in
+    next_views triggers lanes (is_one c.args.id) Retract (acts_of triggers (merged lanes)) (acts_outside (is_one c.args.id) triggers lanes) (c.loop-pos-item.result.0, c.event-event.result) (entries_by held (drop (c.loop-pos.pos-index + 1) c.deref-pos-items.result.now)) c.loop-pos.tables leaving
+
+pub apply_to-requires-clause-attached : goal.apply_to-requires-clause-attached
+apply_to-requires-clause-attached c =
+    ap (λ (ts : Triggers). map.get ts c.args.id) c.scene_of-scene.ensures.triggers ∙ c.requires.attached
+
+pub apply_to-requires-clause-held : goal.apply_to-requires-clause-held
+apply_to-requires-clause-held c =
+    let triggers : Triggers = triggers_of c.scene_of-scene.result in
+    let lanes : Lanes = c.scene_of-scene.result.lanes.now in
+    let more = first_left c.deref-pos-items.result.now c.loop-pos.pos-index c.loop-pos-item.result c.event-event.result c.loop-pos-test.true c.loop-pos-item.is c.event-event.ensures in
+    let leaving = subst (λ (es : List (Pos × Traced)). Leaves triggers lanes c.args.id es c.loop-pos.tables) more c.loop-pos.invariant.leaving in
+    next_held triggers lanes (is_one c.args.id) Retract (acts_of triggers (merged lanes)) (acts_outside (is_one c.args.id) triggers lanes) (c.loop-pos-item.result.0, c.event-event.result) (entries_by held (drop (c.loop-pos.pos-index + 1) c.deref-pos-items.result.now)) c.loop-pos.tables leaving
+
+pub apply_to-requires-clause-before : goal.apply_to-requires-clause-before
+apply_to-requires-clause-before c =
+    let triggers : Triggers = triggers_of c.scene_of-scene.result in
+    let lanes : Lanes = c.scene_of-scene.result.lanes.now in
+    let attached : map.get triggers c.args.id ≡ Some c.args.trigger.now = ap (λ (ts : Triggers). map.get ts c.args.id) c.scene_of-scene.ensures.triggers ∙ c.requires.attached in
+    let more = first_left c.deref-pos-items.result.now c.loop-pos.pos-index c.loop-pos-item.result c.event-event.result c.loop-pos-test.true c.loop-pos-item.is c.event-event.ensures in
+    let leaving = subst (λ (es : List (Pos × Traced)). Leaves triggers lanes c.args.id es c.loop-pos.tables) more c.loop-pos.invariant.leaving in
+    its_before triggers c.args.id c.args.trigger.now attached lanes Retract (acts_of triggers (merged lanes)) (acts_outside (is_one c.args.id) triggers lanes) (c.loop-pos-item.result.0, c.event-event.result) (entries_by held (drop (c.loop-pos.pos-index + 1) c.deref-pos-items.result.now)) c.loop-pos.tables leaving
 
 pub loop-pos-preserved : goal.loop-pos-preserved
 loop-pos-preserved c =
-    let triggers : Triggers = seen nat_cmp c.triggers-triggers.result.now in
+    let triggers : Triggers = triggers_of c.scene_of-scene.result in
+    let lanes : Lanes = c.scene_of-scene.result.lanes.now in
+    let attached : map.get triggers c.args.id ≡ Some c.args.trigger.now = ap (λ (ts : Triggers). map.get ts c.args.id) c.scene_of-scene.ensures.triggers ∙ c.requires.attached in
     let more = first_left c.deref-pos-items.result.now c.loop-pos.pos-index c.loop-pos-item.result c.event-event.result c.loop-pos-test.true c.loop-pos-item.is c.event-event.ensures in
-    let leaving = subst (λ (es : List (Pos × Traced)). IsLeaving triggers c.lanes-lanes.result.now c.args.id (acts_of triggers (merged c.lanes-lanes.result.now)) c.loop-pos.tables es) more c.loop-pos.invariant.0 in (
-      leaving_fewer triggers c.lanes-lanes.result.now c.args.id (acts_of triggers (merged c.lanes-lanes.result.now)) c.args.trigger.now (ap (λ (ts : Triggers). map.get ts c.args.id) c.triggers-triggers.ensures ∙ c.requires.attached) (all_acts_held triggers c.lanes-lanes.result.now) c.loop-pos.tables c.goes_from.new.self _ _ leaving
-          c.in_ok-goes_from.ensures.forms c.in_ok-goes_from.ensures.right,
-      search rules,
-    )
+    let leaving = subst (λ (es : List (Pos × Traced)). Leaves triggers lanes c.args.id es c.loop-pos.tables) more c.loop-pos.invariant.leaving in
+    record {
+      leaving = its_fewer triggers c.args.id c.args.trigger.now attached lanes Retract (acts_of triggers (merged lanes)) (acts_outside (is_one c.args.id) triggers lanes) (c.loop-pos-item.result.0, c.event-event.result) (entries_by held (drop (c.loop-pos.pos-index + 1) c.deref-pos-items.result.now)) c.loop-pos.tables leaving c.apply_to.new.self c.in_ok-apply_to.ensures.forms c.in_ok-apply_to.ensures.views c.in_ok-apply_to.ensures.input;
+      grow = grow_more _ _ _ c.loop-pos.invariant.grow c.in_ok-apply_to.ensures.grow;
+    }
 
-pub returns-clause-idle : goal.returns-clause-idle
-returns-clause-idle c =
-    let triggers : Triggers = seen nat_cmp c.triggers-triggers.result.now in
-    let lanes : Lanes = c.lanes-lanes.result.now in
+pub returns-clause-left : goal.returns-clause-left
+returns-clause-left c =
+    let triggers : Triggers = triggers_of c.scene_of-scene.result in
+    let lanes : Lanes = c.scene_of-scene.result.lanes.now in
     let items : List (Pos × Stored) = c.deref-pos-items.result.now in
     let none : entries_by held (drop c.loop-pos.pos-index items) ≡ [] = ap (entries_by held) (drop_all c.loop-pos.pos-index items c.loop-pos-test.false) in
-    let idle : AreKeptIdle (is_one c.args.id) triggers lanes c.loop-pos.tables = record {
-      each = c.loop-pos.invariant.0.each;
-      kept = leaving_none triggers lanes c.args.id (acts_of triggers (merged lanes)) c.args.trigger.now (ap (λ (ts : Triggers). map.get ts c.args.id) c.triggers-triggers.ensures ∙ c.requires.attached) (all_acts_held triggers lanes) (acts_outside (is_one c.args.id) triggers lanes) (λ at. refl) c.loop-pos.tables
-          (subst (λ (es : List (Pos × Traced)). IsLeaving triggers lanes c.args.id (acts_of triggers (merged lanes)) c.loop-pos.tables es) none c.loop-pos.invariant.0);
-    } in
-    subst (λ (both : Triggers × Lanes). AreKeptIdle (is_one c.args.id) both.0 both.1 c.loop-pos.tables) (λ i. (c.triggers-triggers.ensures i, c.lanes-lanes.ensures.lanes i)) idle
+    let left : AreKeptFor triggers lanes (acts_outside (is_one c.args.id) triggers lanes) c.loop-pos.tables =
+    changing_none triggers lanes (is_one c.args.id) Retract (acts_of triggers (merged lanes)) (acts_outside (is_one c.args.id) triggers lanes) c.loop-pos.tables
+    (subst (λ (es : List (Pos × Traced)). Leaves triggers lanes c.args.id es c.loop-pos.tables) none c.loop-pos.invariant.leaving) in
+    subst (λ (both : Triggers × Lanes). AreKeptFor both.0 both.1 (acts_outside (is_one c.args.id) both.0 both.1) c.loop-pos.tables) (λ i. (c.scene_of-scene.ensures.triggers i, c.scene_of-scene.ensures.lanes i)) left

@@ -16,7 +16,7 @@ returns-clause-but c =
     let base : Base = c.args.content.now in
     let hist : Hist = c.args.trigger.now in
     let left : AreKeptBut c.args.id base (map.remove c.if-is_reader.tables c.args.id) = elim c.if-is_reader.branch [
-      | then-is_reader+in_ok-take_acts w ↦ subst (λ (s : Shelves). AreKeptBut c.args.id base (map.remove s c.args.id)) (sym w.tables-is) (idle_leaves base c.args.id c.requires.unread w.take_acts.new.tables w.in_ok-take_acts.ensures.idle)
+      | then-is_reader+in_ok-take_acts w ↦ subst (λ (s : Shelves). AreKeptBut c.args.id base (map.remove s c.args.id)) (sym w.tables-is) (idle_leaves base c.args.id c.requires.unread w.take_acts.new.tables w.in_ok-take_acts.ensures.left)
       | else-is_reader w ↦ subst (λ (s : Shelves). AreKeptBut c.args.id base (map.remove s c.args.id)) (sym w.tables-is)
           (other_leaves base c.args.id c.requires.unread c.args.tables.now hist c.requires.attached (sym c.is_reader.ensures ∙ w.if-is_reader.false) c.requires.kept)
     ] in

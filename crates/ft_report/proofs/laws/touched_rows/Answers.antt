@@ -1,4 +1,4 @@
-use Rattle.ft_report.proofs.Acts.{coming_differs, going_differs}
+use Rattle.ft_report.proofs.Acts.{event_differs}
 use Rattle.ft_report.proofs.Rows.{other_hits_stay, other_rows_stay, changes_back, few_named, read_touched, named_once}
 use Rattle.ft_report.proofs.laws.touched_rows.Goals as goal
 
@@ -20,8 +20,5 @@ returns-clause-readers c = read_touched c.some_rivals.ensures.few
 pub returns-clause-once : goal.returns-clause-once
 returns-clause-once c = named_once c.some_rivals.ensures.apart c.some_rivals.ensures.others
 
-pub returns-clause-comes : goal.returns-clause-comes
-returns-clause-comes c = coming_differs
-
-pub returns-clause-goes : goal.returns-clause-goes
-returns-clause-goes c = going_differs
+pub returns-clause-event : goal.returns-clause-event
+returns-clause-event c = event_differs

@@ -7,19 +7,16 @@ use Rattle.ft_replay.specs.declared.pair.Pair.{Pair}
 use Rattle.ft_base.specs.declared.refused.Refused.{Refused}
 use Rattle.ft_answers.specs.Answers.{pairs_shown}
 use Rattle.ft_base.specs.Base.{Base, Triggers}
-use Rattle.ft_replay.specs.Found.{pairs_in}
-use Rattle.ft_board.specs.inner.Told.{Tells}
 use Rattle.ft_base.specs.Roles.{is_reader}
 use Rattle.ft_answers.specs.Shown.{Shown}
-use Rattle.ft_replay.specs.Tally.{tally_of}
-use Rattle.ft_replay.proofs.Growing.{pairs-tally}
-use Rattle.ft_board.proofs.KeptBoardTold.{told, unattached, pairs-missing, pairs-unread, pairs-told}
+use Rattle.ft_replay.specs.Found.{pairs_in}
+use Rattle.ft_board.proofs.KeptBoardTold.{told, unattached, pairs_by, pairs-is, pairs-unread, pairs-told}
 use Rattle.ft_board.proofs.kept.KeptBoardBoard.pairs.Goals as goal
 
 pub returns-in_err-trigger-clause-gives : goal.returns-in_err-trigger-clause-gives
 returns-in_err-trigger-clause-gives c =
     let p = err_from_is_err_and c.from_residual.result c.from_residual.ensures.1 in
-    unattached (λ pairs. pairs.items) pairs_shown pairs-missing c.args.self.now c.self.inside.content c.self.inside.kept c.self.inside.work _ c.args.id c.in_err-trigger.field-0.0 c.from_residual.result c.self.view_is c.triggers.ensures c.in_err-trigger.ensures.refused (cc (p.1, p.2))
+    unattached (λ l. l.items) pairs_shown pairs_by pairs-is c.args.self.now c.self.inside.content c.self.inside.views.shelves c.self.inside.views.work _ c.args.id c.in_err-trigger.field-0.0 c.from_residual.result c.self.view_is c.triggers.ensures c.in_err-trigger.ensures.refused (cc (p.1, p.2))
 
 pub returns-then-not-is_reader-clause-gives : goal.returns-then-not-is_reader-clause-gives
 returns-then-not-is_reader-clause-gives c =
@@ -33,12 +30,10 @@ pub returns-clause-gives : goal.returns-clause-gives
 returns-clause-gives c =
     let base : Base = c.self.inside.content in
     let hist : Hist = c.in_ok-trigger.trigger.now in
-    let shelf = c.in_ok-shelf.shelf.now in
     let reads : is_reader hist.variable ≡ true = search rules in
     let there : map.get base.triggers c.args.id ≡ Some hist = subst (λ (t : Triggers). map.get t c.args.id ≡ Some hist) c.triggers.ensures c.in_ok-trigger.ensures.there in
-    let tells : Tells base c.args.id hist shelf = c.in_ok-shelf.ensures.tells base hist c.catch_up.ensures.kept there in
     let gives : pairs_shown base c.args.id ≡ Ok c.in_ok-pairs_of.field-0.items =
-    pairs-told base c.args.id hist (tally_of shelf.table (pairs_in shelf.readings)) there tells.tally reads
-    ∙ ap (λ (pairs : List Pair). let given : Result (List Pair) Refused = Ok pairs in given) (pairs-tally shelf.table (pairs_in shelf.readings) ∙ ap (λ (r : Readings). pairs_in r) (sym c.readings.ensures) ∙ sym c.in_ok-pairs_of.ensures) in
-    told (λ l. l.items) (λ b. pairs_shown b c.args.id) c.args.self.now base c.self.inside.kept c.catch_up.new.kept c.self.inside.work c.catch_up.new.work (Ok c.in_ok-pairs_of.field-0)
-    c.self.view_is c.catch_up.ensures.deferred (gives, c.in_ok-shelf.ensures.there)
+    pairs-told base c.args.id hist there reads c.in_ok-shelf.shelf.now (c.in_ok-shelf.ensures.tells base hist c.catch_up.ensures.fresh there)
+    ∙ ap (λ (l : List Pair). let given : Result (List Pair) Refused = Ok l in given) (ap (λ (r : Readings). pairs_in r) (sym c.readings.ensures) ∙ sym c.in_ok-pairs_of.ensures) in
+    told (λ l. l.items) (λ b. pairs_shown b c.args.id) c.args.self.now base c.self.inside.views.shelves c.catch_up.new.self.shelves c.self.inside.views.work c.catch_up.new.self.work (Ok c.in_ok-pairs_of.field-0)
+    c.self.view_is c.catch_up.ensures.now (gives, c.in_ok-shelf.ensures.there)

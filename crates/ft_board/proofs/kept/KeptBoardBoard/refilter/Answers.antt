@@ -16,11 +16,7 @@ refilter-requires c = λ hist is x given. c.requires hist (ap (λ (shown : Shown
 pub returns-clause-costs : goal.returns-clause-costs
 returns-clause-costs c nothing reads =
     let base : Base = c.self.inside.content in
-    let new : Base = c.refilter.new.self in
     let before : MakesNothing base.triggers = subst (λ (s : Shown). MakesNothing s.base.triggers) (sym c.self.view_is) nothing in
     let unread : ReadsNothing base.triggers c.args.id = subst (λ (s : Shown). ReadsNothing s.base.triggers c.args.id) (sym c.self.view_is) reads in
-    let none : MakesNothing new.triggers = refiltered_nothing base new c.args.id c.in_ok-value.value _ c.in_ok-value.ensures.gives c.in_ok-value.ensures.filters before in
-    let remade = ap (λ (s : Steps). s.evals) (c.remake-kept.ensures.nothing none).1 in
-    let left = ap (λ (s : Steps). s.evals) (c.make_way.ensures.none unread) in
-    let start = ap (λ (s : Shown). s.steps.evals) c.self.view_is in
-    omega (arith, remade, left, start, c.join.ensures.evals)
+    let none : MakesNothing c.refilter.new.self.triggers = refiltered_nothing base c.refilter.new.self c.args.id c.in_ok-value.value _ c.in_ok-value.ensures.gives c.in_ok-value.ensures.filters before in
+    omega (arith, ap (λ (s : Steps). s.evals) (c.make_way.ensures.none unread), ap (λ (s : Shown). s.steps.evals) c.self.view_is, c.join-kept.ensures.evals none)

@@ -1,20 +1,28 @@
+use Rattle.std.proofs.Common.{◌≡◌, Some, Ok, sym, ap, subst, ◌∙◌}
 use Rattle.std.proofs.lemmas.Result.{err_from_is_err_and}
+use Rattle.std.specs.FinMap as map
 use Rattle.ft_rows.specs.declared.row.Totals.{Totals}
+use Rattle.ft_table.specs.Rows.{totals_of}
+use Rattle.ft_table.specs.Tabled.{Tabled}
+use Rattle.ft_base.specs.Base.{Base, Triggers}
 use Rattle.ft_answers.specs.Answers.{totals}
-use Rattle.ft_board.proofs.KeptBoardTold.{told, wants, unattached, totals-missing}
+use Rattle.ft_replay.specs.Tally.{totals_in}
+use Rattle.ft_replay.proofs.Shown.{totals-tally}
+use Rattle.ft_board.specs.inner.Told.{TellsAll, tabled_in}
+use Rattle.ft_board.proofs.KeptBoardTold.{by_tally, told, told_by, unattached, totals-is}
 use Rattle.ft_board.proofs.kept.KeptBoardBoard.totals.Goals as goal
 
 pub returns-in_err-trigger-clause-gives : goal.returns-in_err-trigger-clause-gives
 returns-in_err-trigger-clause-gives c =
     let p = err_from_is_err_and c.from_residual.result c.from_residual.ensures.1 in
-    unattached (λ (t : Totals). t) totals totals-missing c.args.self.now c.self.inside.content c.self.inside.kept c.self.inside.work _ c.args.id c.in_err-trigger.field-0.0 c.from_residual.result c.self.view_is c.triggers.ensures c.in_err-trigger.ensures.refused (cc (p.1, p.2))
+    unattached (λ (t : Totals). t) totals (by_tally (λ _. totals_in)) totals-is c.args.self.now c.self.inside.content c.self.inside.views.shelves c.self.inside.views.work _ c.args.id c.in_err-trigger.field-0.0 c.from_residual.result c.self.view_is c.triggers.ensures c.in_err-trigger.ensures.refused (cc (p.1, p.2))
 
 pub returns-clause-gives : goal.returns-clause-gives
 returns-clause-gives c =
-    told (λ (t : Totals). t) (λ b. totals b c.args.id) c.args.self.now c.self.inside.content c.self.inside.kept c.catch_up.new.kept c.self.inside.work c.catch_up.new.work c.totals_in.result
-    c.self.view_is c.catch_up.ensures.deferred c.totals_in.ensures.told
-
-pub returns-clause-memory : goal.returns-clause-memory
-returns-clause-memory c =
-    wants c.args.self.now c.self.inside.content c.self.inside.kept c.catch_up.new.kept c.self.inside.work c.catch_up.new.work c.totals_in.result
-    c.self.view_is c.catch_up.ensures.deferred c.totals_in.ensures.none
+    let base : Base = c.self.inside.content in
+    let there : map.get base.triggers c.args.id ≡ Some c.in_ok-trigger.trigger.now = subst (λ (t : Triggers). map.get t c.args.id ≡ Some c.in_ok-trigger.trigger.now) c.triggers.ensures c.in_ok-trigger.ensures.there in
+    let its : TellsAll base c.args.id c.in_ok-trigger.trigger.now (tabled_in c.in_ok-told.told) = c.in_ok-told.ensures.tells in
+    told (λ (t : Totals). t) (λ b. totals b c.args.id) c.args.self.now base c.self.inside.views.shelves c.catch_up.new.self.shelves c.self.inside.views.work c.catch_up.new.self.work (Ok c.totals.result)
+    c.self.view_is c.catch_up.ensures.now
+    (told_by (λ (t : Totals). t) totals (λ _. totals_in) totals-is base c.args.id c.in_ok-trigger.trigger.now (tabled_in c.in_ok-told.told) there its c.totals.result (c.totals.ensures ∙ ap (λ (t : Tabled). totals_of t) c.as_table.ensures ∙ sym (totals-tally (tabled_in c.in_ok-told.told) its.pairs))
+    c.catch_up.new.self.shelves c.in_ok-told.ensures.there)

@@ -1,49 +1,14 @@
--- The shelf that `get_mut` finds is the one that the finite map has, and it is written back there.
-use Rattle.std.proofs.Common.{◌≡◌, sym, ap, subst, ◌∙◌, Some, None}
-use Rattle.std.specs.Prelude.{OnOk}
-use Rattle.std.specs.Ordering.{nat_cmp}
-use Rattle.std.specs.Cmp.{nat_cmp_total}
-use Rattle.std.specs.FinMap as map
-use Rattle.std.proofs.lemmas.Map.Lookups.{exact_unsigned}
+use Rattle.std.proofs.Common.{sym, ◌∙◌, Some}
 use Rattle.std.proofs.lemmas.Result.{on_ok_weaker}
-use Rattle.ft_maps.specs.Seen.{seen, get-seen, seen-found}
-use Rattle.ft_shelves.specs.Shelves.{ChangesShelf, Shelves}
 use Rattle.ft_shelves.specs.Joining.{RunComes}
-use Rattle.ft_kept.specs.declared.tables.Tables.TheInside.{Inside}
 use Rattle.ft_kept.proofs.Forms.{hits_by}
-use Rattle.ft_kept.proofs.Shelving.{shelf_changes, no_shelf}
+use Rattle.ft_kept.proofs.Shelving.{lent_changes, lent_was}
 use Rattle.ft_kept.proofs.tables.Tables.put_run.Goals as goal
-use Rattle.ft_kept.proofs.tables.Tables.put_run.Goals.{in-Some, in-None}
 
 pub put_run-requires : goal.put_run-requires
-put_run-requires c =
-    let now = c.args.self.now in
-    let id = c.args.id in
-    let at : map.get now id ≡ Some c.in-Some.shelf.now = ap (λ (m : Shelves). map.get m id) (sym c.self.view_is) ∙ get-seen nat_cmp_total c.self.inside.shelves id ∙ sym c.in-Some.ensures.value in
-    λ spot. sym (hits_by now id (Some c.in-Some.shelf.now) at (record { spot = spot; key = c.args.key })) ∙ c.requires spot
+put_run-requires c = λ spot.
+    sym (hits_by c.args.self.now c.args.id (Some c.in-Some.shelf.now) (lent_was c.args.id c.args.self.now c.shelf_mut.result c.in-Some.shelf c.in-Some.is c.shelf_mut.ensures.value) (record { spot = spot; key = c.args.key })) ∙ c.requires spot
 
-pub returns-clause-ok : goal.returns-clause-ok
-returns-clause-ok c =
-    let now = c.args.self.now in
-    let id = c.args.id in
-    let tree = c.self.inside.shelves in
-    elim c.match-get_mut.branch [
-      | in-Some w ↦
-          let after = w.put_run.new.self in
-          let at : map.get now id ≡ Some w.in-Some.shelf.now = ap (λ (m : Shelves). map.get m id) (sym c.self.view_is) ∙ get-seen nat_cmp_total tree id ∙ sym w.in-Some.ensures.value in
-          let wrote : seen nat_cmp c.match-get_mut.self-inside.shelves ≡ map.insert now id after =
-          ap (λ (i : Inside). seen nat_cmp i.shelves) w.self-inside-is
-          ∙ seen-found nat_cmp_total exact_unsigned tree (c.get_mut.follows.lender after) id w.in-Some.shelf.now after w.in-Some.ensures.value (c.get_mut.follows.holds after)
-          ∙ ap (λ (m : Shelves). map.insert m id after) c.self.view_is in
-          subst (λ r. OnOk r (ChangesShelf id (RunComes c.args.key c.args.run.items) now (seen nat_cmp c.match-get_mut.self-inside.shelves))) (sym w.result-is)
-          (on_ok_weaker w.put_run.result (λ h.
-          subst (ChangesShelf id (RunComes c.args.key c.args.run.items) now) (sym wrote)
-          (shelf_changes id (RunComes c.args.key c.args.run.items) now w.in-Some.shelf.now after at h)) w.put_run.ensures.ok)
-      | in-None w ↦
-          let none : map.get now id ≡ None = ap (λ (m : Shelves). map.get m id) (sym c.self.view_is) ∙ get-seen nat_cmp_total tree id ∙ sym w.in-None.ensures.value in
-          let same : seen nat_cmp c.match-get_mut.self-inside.shelves ≡ now =
-          ap (λ (i : Inside). seen nat_cmp i.shelves) w.self-inside-is ∙ ap (seen nat_cmp) c.get_mut.follows.holds-at-none ∙ c.self.view_is in
-          subst (λ r. OnOk r (ChangesShelf id (RunComes c.args.key c.args.run.items) now (seen nat_cmp c.match-get_mut.self-inside.shelves))) (sym w.result-is)
-          (subst (ChangesShelf id (RunComes c.args.key c.args.run.items) now) (sym same)
-          (no_shelf id (RunComes c.args.key c.args.run.items) now none))
-    ]
+pub returns-in-Some-clause-ok : goal.returns-in-Some-clause-ok
+returns-in-Some-clause-ok c = on_ok_weaker c.put_run.result
+    (lent_changes c.args.id c.args.self.now c.shelf_mut.result c.in-Some.shelf c.in-Some.is c.shelf_mut.ensures.value _ c.put_run.new.self (c.shelf_mut.follows.holds c.put_run.new.self) (RunComes c.args.key c.args.run.items)) c.put_run.ensures.ok

@@ -10,9 +10,9 @@ use Rattle.ft_hist.specs.Hist.{Hist}
 use Rattle.ft_maps.specs.Entries.{get-insert_same}
 use Rattle.ft_maps.specs.Seen.{seen, seen-empty}
 use Rattle.ft_pairs.specs.declared.role.Role.TheVariants.{Saves, Reads}
-use Rattle.ft_kept.specs.Repairs.{AreRight}
+use Rattle.ft_parts_tests.specs.Trial.{AreRight}
 use Rattle.ft_kept.specs.Shelves.{Shelves}
-use Rattle.ft_kept.proofs.OneByOne.{AreNew, none_new, more_new, right_of_none}
+use Rattle.ft_parts_tests.proofs.NewShelves.{AreNew, none_new, more_new, right_of_none}
 use Rattle.ft_parts_tests.proofs.kept.trial.Trial.of.Goals as goal
 
 pub invariant_of-result : goal.invariant_of-result

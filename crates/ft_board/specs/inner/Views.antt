@@ -1,0 +1,35 @@
+-- What is kept of a base, as edits and answers find it.
+use Rattle.std.specs.Prelude.{◌≡◌, None, IfSome}
+use Rattle.std.specs.Option.{is_none}
+use Rattle.std.specs.Ordering.{nat_cmp}
+use Rattle.ft_maps.specs.Seen.{seen}
+use Rattle.ft_base.specs.Base.{Base, Triggers}
+use Rattle.ft_replay.specs.Found.{saving_found}
+use Rattle.ft_replay.specs.Merged.{Events, merged}
+use Rattle.ft_hist.specs.Steps.{StepsGrow}
+use Rattle.ft_answers.specs.Edited.{kept_of}
+use Rattle.ft_answers.specs.declared.done.Kept.{Kept}
+use Rattle.ft_repair.specs.KeptShelves.{AreKept}
+use Rattle.ft_board.specs.MadeShelves.{MadeTables, AreMadeBy}
+use Rattle.ft_board.specs.declared.views.Views.{Views}
+use Rattle.ft_board.specs.inner.Mending.{CanMend}
+
+-- the tables of made events, by the trigger's id
+abbrev pub made_in : Views → MadeTables
+made_in views = seen nat_cmp views.made
+
+-- where there are shelves, they are kept of triggers and events, and so are the tables of made events
+abbrev pub AreOf : Triggers → Events → Views → Type 0
+AreOf triggers events views = IfSome views.shelves (AreKept triggers events) × IfSome views.shelves (λ _. AreMadeBy triggers events (saving_found triggers events) (made_in views))
+
+-- what is kept is that of a base
+abbrev pub AreFresh : Base → Views → Type 0
+AreFresh base views = AreOf base.triggers (merged base.lanes) views
+
+-- the tables of made events can be mended, where there are shelves
+abbrev pub CanBeMended : Base → Views → Type 0
+CanBeMended base views = IfSome views.shelves (λ shelves. CanMend base.triggers (merged base.lanes) shelves (made_in views))
+
+-- how an edit ends: it answers whether there are shelves; where there were none there are none, and no count of steps falls
+abbrev pub EndsAs : Kept → Views → Views → Type 0
+EndsAs kept old new = (kept ≡ kept_of (is_none new.shelves)) × ((old.shelves ≡ None → new.shelves ≡ None) × StepsGrow old.work new.work)

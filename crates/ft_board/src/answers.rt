@@ -1,0 +1,114 @@
+//! What is told of an attached trigger, by what is kept.
+
+ghost use Rattle.std.specs.Prelude.{◌≡◌, IfOk, IfErr, OnOk, OnErr, IsSome};
+ghost use Rattle.std.specs.Prelude.{Some, None, map as list_map};
+ghost use Rattle.std.specs.FinMap as map;
+ghost use Rattle.ft_fields.specs.Places.{pos_cmp};
+ghost use Rattle.ft_hist.specs.Hist.{Hist};
+ghost use Rattle.ft_maps.specs.Seen.{seen};
+ghost use Rattle.ft_answers.specs.Answers.{latency_of};
+ghost use Rattle.ft_base.specs.declared.refused.Refused.TheVariants.{Memory};
+ghost use Rattle.ft_base.specs.Base.{Base};
+ghost use Rattle.ft_replay.specs.Found.{pairs_in};
+ghost use Rattle.ft_board.specs.inner.Told.{Tells, TellsAll, tabled_in};
+ghost use Rattle.ft_board.specs.inner.Views.{AreFresh};
+
+use crate::views::Views;
+use ft_answers::{Latency, counts_made, latency_of};
+use ft_base::{Content, Refused};
+use ft_fields::Pos;
+use ft_hist::Trigger;
+use ft_kept::Shelf;
+use ft_maps::{entries, get, len};
+use ft_repair::laws;
+use ft_replay::Pair;
+use ft_table::Table;
+use std::alloc::{AllocError, Global};
+use std::collections::BTreeMap;
+
+/// The table that tells of a trigger: the one that is kept, or else one without hits.
+#[derive(Drop)]
+pub(crate) struct TableOf<'a> {
+    pub(crate) kept: Option<&'a Table>,
+    pub(crate) bare: Table,
+}
+
+impl TableOf<'_> {
+    /// The table.
+    pub(crate) fn as_table(&self) -> &Table
+        ensures { result.now ≡ tabled_in self.now }
+    {
+        match self.kept {
+            Some(table) => table,
+            None => &self.bare,
+        }
+    }
+}
+
+impl Views {
+    /// The table of an attached trigger: of one that counts made events the table of these, of any
+    /// other that on its shelf. Refused for memory where there are no shelves.
+    pub(crate) fn table(
+        &self,
+        id: u32,
+        trigger: &Trigger,
+        content: &Content,
+    ) -> Result<TableOf<'_>, Refused>
+        requires attached { map.get content.now.triggers id ≡ Some trigger.now }
+        requires fresh { AreFresh content.now self.now }
+        ensures tells { IfOk result (λ told. TellsAll content.now id trigger.now (tabled_in told)) }
+        ensures there { OnOk result (IsSome self.now.shelves) }
+        ensures none { OnErr result (self.now.shelves ≡ None) }
+        ensures memory { IfErr result (λ refused. refused ≡ Memory) }
+    {
+        ft_made::made_tables();
+        let shelf = self.shelf(id)?;
+        let bare = Table::new(self.alloc, trigger.size());
+        if counts_made(trigger) {
+            let kept = get(&self.made, &id);
+            return Ok(TableOf { kept, bare });
+        }
+        let kept = Some(shelf.table());
+        Ok(TableOf { kept, bare })
+    }
+
+    /// What is kept of the attached trigger with an id. Refused for memory where there are no
+    /// shelves.
+    pub(crate) fn shelf(&self, id: u32) -> Result<&Shelf, Refused>
+        ensures tells { (base : Base) (hist : Hist) → AreFresh base self.now
+            → map.get base.triggers id ≡ Some hist
+            → IfOk result (λ shelf. Tells base id hist shelf.now) }
+        ensures there { OnOk result (IsSome self.now.shelves) }
+        ensures memory { IfErr result (λ refused. refused ≡ Memory) }
+        ensures none { (base : Base) (hist : Hist) → AreFresh base self.now
+            → map.get base.triggers id ≡ Some hist → OnErr result (self.now.shelves ≡ None) }
+    {
+        laws::kept_shelves();
+        ft_made::counted_made();
+        let Some(tables) = &self.shelves else {
+            return Err(Refused::Memory);
+        };
+        match tables.shelf(id) {
+            Some(shelf) => Ok(shelf),
+            None => Err(Refused::Memory),
+        }
+    }
+}
+
+/// What readings found, as latencies in merged order of the reading. Refused for memory.
+pub(crate) fn latencies_in(
+    alloc: Global,
+    readings: &BTreeMap<Pos, Pos>,
+) -> Result<Vec<Latency>, AllocError>
+    ensures { IfOk result (λ latencies.
+        latencies.items ≡ list_map latency_of (pairs_in (seen pos_cmp readings.now))) }
+{
+    let mut latencies = Vec::with_capacity(alloc, len(readings))?;
+    for (read, saved) in entries(readings) {
+        latencies.push(latency_of(Pair {
+            saved: *saved,
+            read: *read,
+        }))?;
+    }
+    Ok(latencies)
+}

@@ -1,0 +1,157 @@
+//! What is kept, as events come and go, and as triggers join and leave.
+
+ghost use Rattle.std.specs.Prelude.{◌≡◌, ◌+◌, ◌≤◌, None, Some, IfSome};
+ghost use Rattle.std.specs.FinMap as map;
+ghost use Rattle.ft_hist.specs.Steps.{StepsGrow};
+ghost use Rattle.ft_lanes.specs.Held.{Lane};
+ghost use Rattle.ft_replay.specs.Chosen.{lanes_of};
+ghost use Rattle.ft_replay.specs.Merged.{merged};
+ghost use Rattle.ft_answers.specs.Costs.{count_on_lane, family_tests};
+ghost use Rattle.ft_answers.specs.Counting.{MakesNothing};
+ghost use Rattle.ft_answers.specs.Deferral.{IsPlainLane, ReadsNothing};
+ghost use Rattle.ft_base.specs.OneTrigger.{IsUnread, base_without, is_in_family};
+ghost use Rattle.ft_repair.specs.ButOneTrigger.{AreKeptBut, AwaitFilter};
+ghost use Rattle.ft_repair.specs.Outside.{AreKeptOutside};
+ghost use Rattle.ft_repair.specs.SomeLanes.{count_coming};
+ghost use Rattle.ft_repair.specs.OneEvent.{ChangeCosts, LineNeedsNoMemory};
+ghost use Rattle.ft_board.specs.inner.Edits.{CanChange, Edit, IsEdit, ReportsEdit};
+ghost use Rattle.ft_board.specs.inner.Views.{AreFresh, AreOf, EndsAs};
+
+use crate::mend::take_notes;
+use crate::report::reported_edits;
+use crate::turned::where_kept;
+use crate::views::Views;
+use ft_answers::{Done, Edited, Kept};
+use ft_base::{Content, Place};
+use ft_kept::{Acted, Sign};
+use ft_maps::take;
+use ft_repair::{join, kept_shelves, leave, let_change, let_lane_go, let_lanes_come, make_way};
+
+impl Views {
+    /// The event of a line, which is held, comes to what is kept or goes from it: its place, and
+    /// which rows may have changed. Where memory runs out, the shelves are given up: not as an event
+    /// comes that no trigger hits, or as one goes that only triggers without a variable hit.
+    pub(crate) fn change(&mut self, sign: Sign, place: Place, content: &Content) -> Done<Edited>
+        requires { CanChange sign content.now place self.old }
+        ensures fresh { (edit : Edit) → IsEdit sign content.now place edit
+            → AreFresh edit.old self.old → AreFresh edit.new self.new }
+        ensures place { result.value.place ≡ place }
+        ensures ends { EndsAs result.kept self.old self.new }
+        ensures now { LineNeedsNoMemory sign content.now place
+            → self.new.shelves ≡ None → self.old.shelves ≡ None }
+        ensures costs { MakesNothing content.now.triggers
+            → ChangeCosts sign content.now place self.old.work self.new.work }
+        ensures reports { (edit : Edit) → IsEdit sign content.now place edit
+            → AreFresh edit.old self.old → ReportsEdit edit self.new result.value }
+    {
+        kept_shelves();
+        reported_edits();
+        ft_made::made_tables();
+        let mut acted = Acted::new(self.alloc);
+        take_notes(&mut self.shelves, content);
+        let_change(
+            &mut self.shelves,
+            content,
+            sign,
+            place,
+            &mut acted,
+            &mut self.work,
+        );
+        let made = self.turned(content);
+        let kept = self.mend(content);
+        let report = self.report(content, &acted);
+        let made = where_kept(&self.shelves, made);
+        let value = Edited {
+            place,
+            report,
+            made,
+        };
+        Done { value, kept }
+    }
+
+    /// The events of all lanes but those of some CPUs, of which what is kept has the events, come to
+    /// it: whether there are shelves then.
+    pub(crate) fn let_lanes_come(&mut self, before: &[u16], content: &Content) -> Kept
+        requires { AreOf content.now.triggers (merged (lanes_of before.now content.now.lanes))
+            self.old }
+        ensures fresh { AreFresh content.now self.new }
+        ensures ends { EndsAs result self.old self.new }
+        ensures evals { MakesNothing content.now.triggers → self.new.work.evals
+            ≤ self.old.work.evals + count_coming before.now content.now }
+    {
+        kept_shelves();
+        take_notes(&mut self.shelves, content);
+        let_lanes_come(
+            &mut self.shelves,
+            self.alloc,
+            content,
+            before,
+            &mut self.work,
+        );
+        self.mend(content)
+    }
+
+    /// The events of a CPU's lane, which is still held, go from what is kept: whether there are
+    /// shelves then. Events that only triggers without a variable hit take no memory.
+    pub(crate) fn let_lane_go(&mut self, cpu: u16, content: &Content) -> Kept
+        requires { AreFresh content.now self.old }
+        ensures fresh { AreOf content.now.triggers (merged (map.remove content.now.lanes cpu))
+            self.new }
+        ensures ends { EndsAs result self.old self.new }
+        ensures now { IsPlainLane content.now.triggers content.now.lanes cpu
+            → self.new.shelves ≡ None → self.old.shelves ≡ None }
+        ensures evals { MakesNothing content.now.triggers → (lane : Lane)
+            → map.get content.now.lanes cpu ≡ Some lane → self.new.work.evals
+            ≤ self.old.work.evals + count_on_lane content.now.triggers lane }
+    {
+        kept_shelves();
+        take_notes(&mut self.shelves, content);
+        let_lane_go(&mut self.shelves, content, cpu, &mut self.work);
+        self.mend(content)
+    }
+
+    /// A trigger that was attached, or got another filter, joins what is kept, with those that read
+    /// what it saves: whether there are shelves then.
+    pub(crate) fn join(&mut self, id: u32, content: &Content) -> Kept
+        requires { IfSome self.old.shelves (AreKeptOutside (is_in_family content.now.triggers id)
+            content.now.triggers content.now.lanes) }
+        ensures fresh { AreFresh content.now self.new }
+        ensures ends { EndsAs result self.old self.new }
+        ensures evals { MakesNothing content.now.triggers → self.new.work.evals
+            ≤ self.old.work.evals + family_tests content.now.triggers content.now.lanes id }
+    {
+        join(&mut self.shelves, self.alloc, content, id, &mut self.work);
+        self.remake(content)
+    }
+
+    /// What a trigger reads that is to get another filter goes from what is kept.
+    pub(crate) fn make_way(&mut self, id: u32, content: &Content)
+        requires { AreFresh content.now self.old }
+        ensures waits { IfSome self.new.shelves (AwaitFilter id content.now) }
+        ensures missing { map.get content.now.triggers id ≡ None → self.new ≡ self.old }
+        ensures gone { self.old.shelves ≡ None → self.new.shelves ≡ None }
+        ensures none { ReadsNothing content.now.triggers id → self.new.work ≡ self.old.work }
+        ensures grow { StepsGrow self.old.work self.new.work }
+    {
+        make_way(&mut self.shelves, self.alloc, content, id, &mut self.work);
+    }
+
+    /// A trigger that is still attached, and that no other reads, leaves what is kept. One that
+    /// reads nothing takes no memory, and leaves what is kept of the others as it is; where it
+    /// reads, the tables of made events are to be made anew.
+    pub(crate) fn leave(&mut self, id: u32, content: &Content)
+        requires unread { IsUnread content.now.triggers id }
+        requires fresh { AreFresh content.now self.old }
+        ensures kept { IfSome self.new.shelves (AreKeptBut id content.now) }
+        ensures fresh { ReadsNothing content.now.triggers id
+            → AreFresh (base_without content.now id) self.new }
+        ensures gone { self.old.shelves ≡ None → self.new.shelves ≡ None }
+        ensures now { ReadsNothing content.now.triggers id
+            → self.new.shelves ≡ None → self.old.shelves ≡ None }
+        ensures grow { StepsGrow self.old.work self.new.work }
+    {
+        kept_shelves();
+        leave(&mut self.shelves, self.alloc, content, id, &mut self.work);
+        take(&mut self.made, &id);
+    }
+}

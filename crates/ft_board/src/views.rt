@@ -1,0 +1,113 @@
+//! What is kept of a base, so that no answer replays its events.
+
+ghost use Rattle.std.specs.Prelude.{◌≡◌, false, None, IfSome};
+ghost use Rattle.std.specs.Option.{is_none};
+ghost use Rattle.ft_hist.specs.Steps.{StepsGrow};
+ghost use Rattle.ft_answers.specs.Counting.{MakesNothing};
+ghost use Rattle.ft_answers.specs.Edited.{kept_of};
+ghost use Rattle.ft_base.specs.Base.{empty_base};
+ghost use Rattle.ft_repair.specs.KeptShelves.{AreKeptOf};
+ghost use Rattle.ft_board.specs.inner.Views.{AreFresh, EndsAs};
+
+use crate::made::made_tables;
+use ft_answers::Kept;
+use ft_base::Content;
+use ft_hist::Work;
+use ft_kept::Tables;
+use ft_repair::{renew, restore};
+use ft_table::Table;
+use std::alloc::Global;
+use std::collections::BTreeMap;
+
+/// What is kept of a base: a shelf of each trigger, and beside the shelves a table of each trigger
+/// that counts the events that readings make. Where memory ran out for that, there are no shelves:
+/// nothing is told by what is kept, and the next answer that reads it builds it anew.
+#[derive(Drop)]
+pub(crate) struct Views {
+    pub(crate) alloc: Global,
+    pub(crate) shelves: Option<Tables>,
+    pub(crate) made: BTreeMap<u32, Table>,
+    pub(crate) work: Work,
+}
+
+impl Views {
+    /// What is kept where nothing is held and no trigger is attached. It takes no memory.
+    pub(crate) fn new(alloc: Global) -> Views
+        ensures fresh { AreFresh empty_base result }
+        ensures now { is_none result.shelves ≡ false }
+        ensures work { result.work ≡ record { evals = 0; puts = 0 } }
+    {
+        Views {
+            alloc,
+            shelves: Some(Tables::new(alloc)),
+            made: BTreeMap::new(alloc),
+            work: Work::new(),
+        }
+    }
+
+    /// Whether there are shelves.
+    pub(crate) fn kept(&self) -> Kept
+        ensures { result ≡ kept_of (is_none self.now.shelves) }
+    {
+        match self.shelves {
+            Some(_) => Kept::Now,
+            None => Kept::Later,
+        }
+    }
+
+    /// Builds all anew where there are shelves: whether there are some then.
+    pub(crate) fn rebuild(&mut self, content: &Content) -> Kept
+        ensures fresh { AreFresh content.now self.new }
+        ensures ends { EndsAs result self.old self.new }
+    {
+        renew(&mut self.shelves, self.alloc, content, &mut self.work);
+        self.remake(content)
+    }
+
+    /// Builds all anew where there are no shelves.
+    pub(crate) fn catch_up(&mut self, content: &Content)
+        requires { AreFresh content.now self.old }
+        ensures fresh { AreFresh content.now self.new }
+        ensures now { self.new.shelves ≡ None → self.old.shelves ≡ None }
+        ensures none { is_none self.old.shelves ≡ false → self.new.work ≡ self.old.work }
+        ensures grow { StepsGrow self.old.work self.new.work }
+    {
+        if self.shelves.is_none() {
+            restore(&mut self.shelves, self.alloc, content, &mut self.work);
+            self.remake(content);
+        }
+    }
+
+    /// Gives the shelves up.
+    pub(crate) fn give_up(&mut self) -> Kept
+        ensures none { self.new ≡ record self.old { shelves = None } }
+        ensures kept { result ≡ kept_of (is_none self.new.shelves) }
+    {
+        self.shelves = None;
+        Kept::Later
+    }
+
+    /// Gives the tables of made events up, and makes them anew where there are shelves: whether
+    /// there are some then. Where memory runs out, the shelves are given up too; where no made event
+    /// is counted, it takes neither memory nor steps.
+    pub(crate) fn remake(&mut self, content: &Content) -> Kept
+        requires { IfSome self.old.shelves (AreKeptOf content.now) }
+        ensures fresh { AreFresh content.now self.new }
+        ensures ends { EndsAs result self.old self.new }
+        ensures nothing { MakesNothing content.now.triggers
+            → (self.new.shelves ≡ self.old.shelves) × (self.new.work ≡ self.old.work) }
+    {
+        self.made = BTreeMap::new(self.alloc);
+        let Some(tables) = self.shelves.take() else {
+            return Kept::Later;
+        };
+        match made_tables(self.alloc, content, &tables, &mut self.work) {
+            Ok(made) => {
+                self.made = made;
+                self.shelves = Some(tables);
+                Kept::Now
+            }
+            Err(_) => Kept::Later,
+        }
+    }
+}

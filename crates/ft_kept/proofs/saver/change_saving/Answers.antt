@@ -1,0 +1,28 @@
+-- The hit comes or goes with what follows of it, and then all is settled that it made owed.
+use Rattle.std.proofs.Common.{◌+◌, arith, inl, inr}
+use Rattle.ft_shelves.specs.Changes.{table_with}
+use Rattle.ft_kept.specs.inner.Changing.{change_of}
+use Rattle.ft_shelves.proofs.Decided.{on_ok_both}
+use Rattle.ft_kept.proofs.MovedPaid.{can_settle, changed}
+use Rattle.ft_kept.proofs.SaverTables.{few_or_moves}
+use Rattle.ft_kept.proofs.saver.change_saving.Goals as goal
+
+pub settle_moved-requires : goal.settle_moved-requires
+settle_moved-requires g c = can_settle c.args.scene.now c.args.act.now c.args.sign g.acts c.args.tables.now c.requires c.change_shelf.new.tables c.in_ok-moved.moved c.in_ok-moved.ensures.owing
+
+pub returns-clause-changed : goal.returns-clause-changed
+returns-clause-changed g c = on_ok_both c.settle_moved.result
+    (changed c.args.scene.now c.args.act.now c.args.sign g.acts c.args.tables.now c.requires c.change_shelf.new.tables c.in_ok-moved.moved c.in_ok-moved.ensures.owing c.settle_moved.new.tables)
+    c.settle_moved.ensures.readers c.settle_moved.ensures.right
+
+pub returns-clause-puts : goal.returns-clause-puts
+returns-clause-puts g c =
+    let owing = c.in_ok-moved.ensures.owing in
+    few_or_moves (table_with (change_of c.args.sign c.args.act.now)) c.args.tables.now c.change_shelf.new.tables c.args.act.now.at.trigger c.requires.role owing.forms owing.table
+    c.args.act.now.key c.in_ok-moved.moved owing.moved (c.args.work.now.puts + 2) (c.args.work.now.puts + 3) c.change_shelf.new.work.puts c.settle_moved.new.work.puts (omega arith) c.change_shelf.ensures.puts c.settle_moved.ensures.puts
+
+pub returns-in_err-moved-clause-puts : goal.returns-in_err-moved-clause-puts
+returns-in_err-moved-clause-puts g c = elim c.change_shelf.ensures.puts [
+  | inl few ↦ inl (omega (arith, few))
+  | inr moved ↦ inr moved
+]

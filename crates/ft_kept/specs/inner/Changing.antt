@@ -1,0 +1,54 @@
+-- One act that comes or goes.
+use Rattle.std.specs.Prelude.{◌≡◌, ℕ, Some, None, option_map}
+use Rattle.std.specs.FinMap as map
+use Rattle.ft_pairs.specs.declared.role.Role.{Role}
+use Rattle.ft_kept.specs.Acts.{Acts}
+use Rattle.ft_kept.specs.Bounds.{OtherSaversStay, table_on}
+use Rattle.ft_kept.specs.Repairs.{IsHeldAt}
+use Rattle.ft_kept.specs.Views.{AreViewsOf, set}
+use Rattle.ft_kept.specs.Signs.{act_before, act_after}
+use Rattle.ft_kept.specs.inner.Acting.{own_variable}
+use Rattle.ft_kept.specs.inner.Settling.{HasChangedOwing}
+use Rattle.ft_shelves.specs.Changes.{table_with}
+use Rattle.ft_shelves.specs.Following.{Moves, MovesKeys}
+use Rattle.ft_shelves.specs.Shelves.{Shelves, FormsStay, admits_on, role_on}
+use Rattle.ft_kept.specs.Views.{triggers_of}
+use Rattle.ft_kept.specs.declared.act.Scene.{Scene}
+use Rattle.ft_kept.specs.declared.act.Act.{Act}
+use Rattle.ft_shelves.specs.declared.change.HitChange.{HitChange}
+use Rattle.ft_shelves.specs.declared.change.HitChange.TheVariants as changes
+use Rattle.ft_shelves.specs.declared.sign.Sign.{Sign}
+use Rattle.ft_shelves.specs.declared.sign.Sign.TheVariants.{Insert, Retract}
+use Rattle.ft_table.specs.Spots.{traced}
+use Rattle.ft_table.specs.Values.{values_at}
+
+-- the act of an attached trigger with a role can come or go
+pub record MayChange (scene : Scene) (act : Act) (sign : Sign) (acts : Acts) (wanted : Role) (shelves : Shelves) : Type 0 where
+  pub views : AreViewsOf (triggers_of scene) scene.lanes.now acts shelves
+  pub attached : map.get (triggers_of scene) act.at.trigger ≡ Some act.trigger.now
+  pub held : IsHeldAt scene.lanes.now act.at.pos act.event.now
+  pub was : acts act.at ≡ act_before sign (act.key, act.event.now)
+  pub role : role_on shelves act.at.trigger ≡ wanted
+
+-- the acts as it has come or gone
+abbrev pub acts_after : Sign → Act → Acts → Acts
+acts_after sign act acts = set acts act.at (act_after sign (act.key, act.event.now))
+
+-- it came or went; shelves keep their forms, and other savers their tables
+pub record HasChanged (scene : Scene) (act : Act) (sign : Sign) (acts : Acts) (old new : Shelves) : Type 0 where
+  pub forms : FormsStay old new
+  pub savers : OtherSaversStay act.at.trigger old new
+  pub views : AreViewsOf (triggers_of scene) scene.lanes.now (acts_after sign act acts) new
+
+-- the act as a change of its trigger's hits, where it reads nothing
+abbrev pub change_of : Sign → Act → HitChange
+change_of Insert act = changes.Insert (record { spot = traced act.at.pos; key = act.key; values = values_at act.trigger.now act.at.pos act.event.now None })
+change_of Retract act = changes.Retract (record { spot = traced act.at.pos; key = act.key })
+
+-- a saver's act came to its shelf or went, these keys moved, and what follows of it is owed
+pub record ChangedOwing (scene : Scene) (act : Act) (sign : Sign) (acts : Acts) (moves : Moves) (old new : Shelves) : Type 0 where
+  pub forms : FormsStay old new
+  pub others : (id : ℕ) → (id ≡ act.at.trigger → ⊥) → map.get new id ≡ map.get old id
+  pub table : table_on new act.at.trigger ≡ option_map (table_with (change_of sign act)) (table_on old act.at.trigger)
+  pub moved : MovesKeys act.key moves (admits_on old act.at.trigger) (admits_on new act.at.trigger)
+  pub owing : HasChangedOwing (triggers_of scene) act.at (acts_after sign act acts) (own_variable act) old new

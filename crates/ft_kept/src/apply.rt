@@ -1,0 +1,204 @@
+//! One event more or less: what is kept is repaired at one trigger, or at all triggers of an event.
+
+ghost use Rattle.std.specs.Prelude.{◌≡◌, ◌+◌, ◌*◌, ◌≤◌, ◌⊎◌, Some, Ok, OnOk, option_and_then};
+ghost use Rattle.std.specs.FinMap as map;
+ghost use Rattle.ft_hist.specs.Hit.{hit};
+ghost use Rattle.ft_hist.specs.Steps.{StepsGrow};
+ghost use Rattle.ft_hist.specs.Tests.{count_on, asked};
+ghost use Rattle.ft_pairs.specs.declared.role.Role.TheVariants.{Plain};
+ghost use Rattle.ft_kept.specs.Acted.{Gathers, act_as, acting_of};
+ghost use Rattle.ft_kept.specs.Acts.{Acts};
+ghost use Rattle.ft_kept.specs.Bounds.{SaverMoves, SomeSaverMoves, OtherSaversStay};
+ghost use Rattle.ft_kept.specs.Input.{input_of, AreViews};
+ghost use Rattle.ft_kept.specs.Memory.{ActsPlainly, IsPlainHit};
+ghost use Rattle.ft_kept.specs.Repairs.{IsHeldAt};
+ghost use Rattle.ft_kept.specs.Signs.{event_before, event_after, table_edit, NeedsNoMemory, NeedsNoMemoryAt};
+ghost use Rattle.ft_kept.specs.Views.{HasAt, act_under, set, triggers_of, with_event};
+ghost use Rattle.ft_kept.specs.inner.Changing.{MayChange, HasChanged};
+ghost use Rattle.ft_shelves.specs.Shelves.{FormsStay, NotesStay, role_on};
+ghost use Rattle.ft_shelves.specs.declared.sign.Sign.TheVariants.{Retract};
+
+use crate::act::{Act, Attached, Delta, Scene};
+use crate::acted::Acted;
+use crate::hits::change_hit;
+use crate::readings::change_reading;
+use crate::saver::change_saving;
+use crate::tables::Tables;
+use ft_hist::{Trigger, Work};
+use ft_maps::entries;
+use ft_pairs::{At, Role};
+use ft_shelves::Sign;
+use std::alloc::AllocError;
+
+impl Tables {
+    /// An event that is held is put in or taken away at each trigger that it is a hit of, in order
+    /// of id, and each of these with its key is gathered after others. Afterwards the tables are
+    /// views of the same input except for that event. Tests it against the triggers on its name
+    /// alone. Refused for memory, and then the tables are of no use any more: an event that is put
+    /// in takes none where no trigger hits it, and one that is taken away takes none, except for
+    /// what is gathered, where triggers without a variable alone hit it.
+    pub fn apply(
+        &mut self,
+        scene: &Scene<'_>,
+        delta: &Delta<'_>,
+        acted: &mut Acted,
+        work: &mut Work,
+    ) -> Result<(), AllocError>
+        requires views { AreViews (triggers_of scene.now) scene.now.lanes.now self.old }
+        requires held { IsHeldAt scene.now.lanes.now delta.now.pos delta.now.event.now }
+        requires before { HasAt (triggers_of scene.now) (input_of scene.now.lanes.now self.old)
+            delta.now.pos (event_before delta.now.sign delta.now.event.now) }
+        ensures forms { OnOk result (FormsStay self.old self.new) }
+        ensures views { OnOk result (AreViews (triggers_of scene.now) scene.now.lanes.now self.new) }
+        ensures input { OnOk result (input_of scene.now.lanes.now self.new
+            ≡ with_event (triggers_of scene.now) (input_of scene.now.lanes.now self.old)
+            delta.now.pos (event_after delta.now.sign delta.now.event.now)) }
+        ensures acted { OnOk result (Gathers (acting_of (triggers_of scene.now) delta.now.event.now)
+            acted.old acted.new) }
+        ensures evals { work.new.evals
+            ≤ work.old.evals + count_on (triggers_of scene.now) delta.now.event.now }
+        ensures puts { (work.new.puts
+            ≤ work.old.puts + 3 * count_on (triggers_of scene.now) delta.now.event.now)
+            ⊎ SomeSaverMoves (table_edit delta.now.sign delta.now.pos delta.now.event.now)
+            (triggers_of scene.now) self.old }
+        ensures memory { NeedsNoMemory delta.now.sign (triggers_of scene.now) self.old
+            delta.now.event.now → result ≡ Ok tt }
+        ensures quiet { IsPlainHit (triggers_of scene.now) self.old delta.now.event.now
+            → OnOk result (NotesStay self.old self.new) }
+        ensures grow { StepsGrow work.old work.new }
+    {
+        for (id, trigger) in entries(scene.triggers) {
+            let attached = Attached { id: *id, trigger };
+            apply_at(self, scene, &attached, delta, acted, work)?;
+        }
+        Ok(())
+    }
+
+    /// An event that is held is put in or taken away at one attached trigger, where it is a hit of
+    /// it. Afterwards the tables are views of the same input except at that place. Tests the event
+    /// where the trigger is on its name alone. Refused for memory, and then the tables are of no
+    /// use any more.
+    pub fn apply_to(
+        &mut self,
+        scene: &Scene<'_>,
+        id: u32,
+        trigger: &Trigger,
+        delta: &Delta<'_>,
+        work: &mut Work,
+    ) -> Result<(), AllocError>
+        requires views { AreViews (triggers_of scene.now) scene.now.lanes.now self.old }
+        requires attached { map.get (triggers_of scene.now) id ≡ Some trigger.now }
+        requires held { IsHeldAt scene.now.lanes.now delta.now.pos delta.now.event.now }
+        requires before { input_of scene.now.lanes.now self.old
+            (record { pos = delta.now.pos; trigger = id })
+            ≡ option_and_then (act_under trigger.now)
+            (event_before delta.now.sign delta.now.event.now) }
+        ensures forms { OnOk result (FormsStay self.old self.new) }
+        ensures savers { OnOk result (OtherSaversStay id self.old self.new) }
+        ensures views { OnOk result (AreViews (triggers_of scene.now) scene.now.lanes.now self.new) }
+        ensures input { OnOk result (input_of scene.now.lanes.now self.new
+            ≡ set (input_of scene.now.lanes.now self.old)
+            (record { pos = delta.now.pos; trigger = id })
+            (option_and_then (act_under trigger.now)
+            (event_after delta.now.sign delta.now.event.now))) }
+        ensures evals { work.new.evals ≡ work.old.evals + asked trigger.now delta.now.event.now }
+        ensures puts { (work.new.puts ≤ work.old.puts + 3 * asked trigger.now delta.now.event.now)
+            ⊎ SaverMoves (table_edit delta.now.sign delta.now.pos delta.now.event.now)
+            trigger.now self.old id }
+        ensures memory { NeedsNoMemoryAt delta.now.sign self.old id trigger.now delta.now.event.now
+            → result ≡ Ok tt }
+        ensures quiet { ActsPlainly self.old id trigger.now delta.now.event.now
+            → OnOk result (NotesStay self.old self.new) }
+        ensures grow { StepsGrow work.old work.new }
+    {
+        let attached = Attached { id, trigger };
+        apply_at(self, scene, &attached, delta, &mut Acted::unasked(), work)
+    }
+}
+
+/// An event that is held is put in or taken away at one attached trigger, where it is a hit of it,
+/// and the trigger with its key is gathered after others. Tests it where the trigger is on its name
+/// alone. Refused for memory.
+fn apply_at(
+    tables: &mut Tables,
+    scene: &Scene<'_>,
+    attached: &Attached<'_>,
+    delta: &Delta<'_>,
+    acted: &mut Acted,
+    work: &mut Work,
+) -> Result<(), AllocError>
+    requires views { AreViews (triggers_of scene.now) scene.now.lanes.now tables.old }
+    requires attached { map.get (triggers_of scene.now) attached.now.id ≡ Some attached.now.trigger.now }
+    requires held { IsHeldAt scene.now.lanes.now delta.now.pos delta.now.event.now }
+    requires before { input_of scene.now.lanes.now tables.old
+        (record { pos = delta.now.pos; trigger = attached.now.id })
+        ≡ option_and_then (act_under attached.now.trigger.now)
+        (event_before delta.now.sign delta.now.event.now) }
+    ensures forms { OnOk result (FormsStay tables.old tables.new) }
+    ensures savers { OnOk result (OtherSaversStay attached.now.id tables.old tables.new) }
+    ensures views { OnOk result (AreViews (triggers_of scene.now) scene.now.lanes.now tables.new) }
+    ensures input { OnOk result (input_of scene.now.lanes.now tables.new
+        ≡ set (input_of scene.now.lanes.now tables.old)
+        (record { pos = delta.now.pos; trigger = attached.now.id })
+        (option_and_then (act_under attached.now.trigger.now)
+        (event_after delta.now.sign delta.now.event.now))) }
+    ensures acted { OnOk result (Gathers (act_as attached.now.id
+        (hit attached.now.trigger.now delta.now.event.now)) acted.old acted.new) }
+    ensures evals { work.new.evals
+        ≡ work.old.evals + asked attached.now.trigger.now delta.now.event.now }
+    ensures puts { (work.new.puts
+        ≤ work.old.puts + 3 * asked attached.now.trigger.now delta.now.event.now)
+        ⊎ SaverMoves (table_edit delta.now.sign delta.now.pos delta.now.event.now)
+        attached.now.trigger.now tables.old attached.now.id }
+    ensures memory { NeedsNoMemoryAt delta.now.sign tables.old attached.now.id attached.now.trigger.now
+        delta.now.event.now → result ≡ Ok tt }
+    ensures quiet { ActsPlainly tables.old attached.now.id attached.now.trigger.now delta.now.event.now
+        → OnOk result (NotesStay tables.old tables.new) }
+    ensures grow { StepsGrow work.old work.new }
+{
+    let Some(key) = attached.trigger.key_of(delta.event, work) else {
+        return Ok(());
+    };
+    acted.add(attached.id, key);
+    let act = Act {
+        trigger: attached.trigger,
+        at: At {
+            pos: delta.pos,
+            trigger: attached.id,
+        },
+        event: delta.event,
+        key,
+    };
+    change_act(tables, scene, &act, delta.sign, work)
+}
+
+/// An act of a trigger comes or goes. Refused for memory, which one of a trigger without a variable
+/// takes none of as it goes.
+fn change_act(
+    tables: &mut Tables,
+    scene: &Scene<'_>,
+    act: &Act<'_>,
+    sign: Sign,
+    work: &mut Work,
+) -> Result<(), AllocError>
+    ghost acts: { Acts }
+    requires may { MayChange scene.now act.now sign acts
+        (role_on tables.old act.now.at.trigger) tables.old }
+    requires hit { hit act.now.trigger.now act.now.event.now ≡ Some act.now.key }
+    ensures changed { OnOk result (HasChanged scene.now act.now sign acts tables.old tables.new) }
+    ensures quiet { role_on tables.old act.now.at.trigger ≡ Plain
+        → OnOk result (NotesStay tables.old tables.new) }
+    ensures memory { sign ≡ Retract → role_on tables.old act.now.at.trigger ≡ Plain
+        → result ≡ Ok tt }
+    ensures puts { (work.new.puts ≤ work.old.puts + 3)
+        ⊎ SaverMoves (table_edit sign act.now.at.pos act.now.event.now) act.now.trigger.now
+        tables.old act.now.at.trigger }
+    ensures evals { work.new.evals ≡ work.old.evals }
+    ensures grow { StepsGrow work.old work.new }
+{
+    match tables.role(act.at.trigger) {
+        Role::Plain => change_hit(tables, scene, act, sign, work),
+        Role::Saves => change_saving(tables, scene, act, sign, work),
+        Role::Reads(saver) => change_reading(tables, scene, saver, act, sign, work),
+    }
+}

@@ -1,0 +1,46 @@
+//! Readings that come or go.
+
+ghost use Rattle.std.specs.Prelude.{◌≡◌, ◌+◌, ◌≤◌, OnOk};
+ghost use Rattle.ft_hist.specs.Steps.{StepsGrow};
+ghost use Rattle.ft_pairs.specs.declared.role.Role.TheVariants.{Reads};
+ghost use Rattle.ft_kept.specs.Acts.{Acts};
+ghost use Rattle.ft_kept.specs.inner.Changing.{MayChange, HasChanged};
+
+use crate::act::{Act, Scene};
+use crate::settle::{Reading, settle, settle_next};
+use crate::tables::Tables;
+use ft_hist::Work;
+use ft_pairs::Variable;
+use ft_shelves::Sign;
+use std::alloc::AllocError;
+
+/// A reading of a key comes or goes: its read stands among the operations on the variable or not,
+/// and it and the next reading are made right. Refused for memory.
+pub(crate) fn change_reading(
+    tables: &mut Tables,
+    scene: &Scene<'_>,
+    saver: u32,
+    act: &Act<'_>,
+    sign: Sign,
+    work: &mut Work,
+) -> Result<(), AllocError>
+    ghost acts: { Acts }
+    requires { MayChange scene.now act.now sign acts (Reads saver) tables.old }
+    ensures changed { OnOk result (HasChanged scene.now act.now sign acts tables.old tables.new) }
+    ensures puts { work.new.puts ≤ work.old.puts + 3 }
+    ensures evals { work.new.evals ≡ work.old.evals }
+    ensures grow { StepsGrow work.old work.new }
+{
+    let variable = Variable {
+        saver,
+        key: act.key,
+    };
+    let reading = Reading {
+        variable,
+        at: act.at,
+        event: act.event,
+    };
+    tables.change_read(&variable, act.at, sign, work)?;
+    settle(tables, scene, &reading, sign, work)?;
+    settle_next(tables, scene, &variable, act.at, work)
+}

@@ -1,0 +1,80 @@
+//! A saver's acts that come or go: the operations on what it saves follow the keys of its table.
+
+ghost use Rattle.std.specs.Prelude.{◌≡◌, ◌+◌, ◌≤◌, ◌⊎◌, false, None, OnOk, IfOk};
+ghost use Rattle.ft_hist.specs.Steps.{StepsGrow};
+ghost use Rattle.ft_pairs.specs.declared.role.Role.TheVariants.{Saves};
+ghost use Rattle.ft_shelves.specs.Changes.{table_with};
+ghost use Rattle.ft_kept.specs.Acts.{Acts};
+ghost use Rattle.ft_kept.specs.Bounds.{TableMoves};
+ghost use Rattle.ft_kept.specs.inner.Changing.{MayChange, HasChanged, ChangedOwing, change_of};
+
+use crate::act::{Act, Scene};
+use crate::moved::settle_moved;
+use crate::tables::Tables;
+use ft_hist::Work;
+use ft_shelves::{HitChange, Moved, Sign, change_saver_hit};
+use ft_table::{Mark, Spot, hit_with};
+use std::alloc::AllocError;
+
+/// A saver's hit comes or goes. Refused for memory.
+pub(crate) fn change_saving(
+    tables: &mut Tables,
+    scene: &Scene<'_>,
+    act: &Act<'_>,
+    sign: Sign,
+    work: &mut Work,
+) -> Result<(), AllocError>
+    ghost acts: { Acts }
+    requires { MayChange scene.now act.now sign acts Saves tables.old }
+    ensures changed { OnOk result (HasChanged scene.now act.now sign acts tables.old tables.new) }
+    ensures puts { (work.new.puts ≤ work.old.puts + 3)
+        ⊎ TableMoves (table_with (change_of sign act.now)) tables.old act.now.at.trigger }
+    ensures evals { work.new.evals ≡ work.old.evals }
+    ensures grow { StepsGrow work.old work.new }
+{
+    let moved = change_shelf(tables, scene, act, sign, work)?;
+    settle_moved(tables, scene, act, moved, work)
+}
+
+/// A saver's hit comes to its shelf or goes, with which the operations on what it saves follow the
+/// keys of its table. What readings found is not made right yet. Answers which keys moved. Refused
+/// for memory.
+fn change_shelf(
+    tables: &mut Tables,
+    scene: &Scene<'_>,
+    act: &Act<'_>,
+    sign: Sign,
+    work: &mut Work,
+) -> Result<Moved, AllocError>
+    ghost acts: { Acts }
+    requires { MayChange scene.now act.now sign acts Saves tables.old }
+    ensures owing { IfOk result (λ moved. ChangedOwing scene.now act.now sign acts moved
+        tables.old tables.new) }
+    ensures puts { (work.new.puts ≤ work.old.puts + 2)
+        ⊎ TableMoves (table_with (change_of sign act.now)) tables.old act.now.at.trigger }
+    ensures evals { work.new.evals ≡ work.old.evals }
+    ensures grow { StepsGrow work.old work.new }
+{
+    let change = hit_change(act, sign);
+    match tables.shelf_mut(act.at.trigger) {
+        Some(shelf) => change_saver_hit(shelf, act.at.trigger, change, work),
+        // Each saver has a shelf.
+        None => Ok(Moved {
+            own: false,
+            other: None,
+        }),
+    }
+}
+
+/// An act as a change of its trigger's hits, where it reads nothing. Its values are worked out only
+/// where it comes.
+pub(crate) fn hit_change(act: &Act<'_>, sign: Sign) -> HitChange
+    requires stamped { act.now.event.now.stamp ≡ act.now.at.pos.stamp }
+    ensures { result ≡ change_of sign act.now }
+{
+    let spot = Spot::traced(act.at.pos);
+    match sign {
+        Sign::Insert => { HitChange::Insert(hit_with(act.trigger, act.event, spot, act.key, None)) }
+        Sign::Retract => HitChange::Retract(Mark { spot, key: act.key }),
+    }
+}

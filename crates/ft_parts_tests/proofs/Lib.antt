@@ -1,0 +1,2 @@
+pub mod NewShelves
+pub mod OneEvent

@@ -1,0 +1,176 @@
+-- The events of a list come to what is kept, or go from it, one by one, at all triggers or at one.
+use Rattle.std.proofs.Common.{◌≡◌, ℕ, Bool, true, false, cond, List, [], ◌∷◌, refl, sym, ap, subst, ◌∙◌, Option, Some, None, is_some, inl, inr}
+use Rattle.std.specs.Prelude.{◌&&◌, if◌then◌else◌, option_and_then}
+use Rattle.std.specs.List.{AllByRecursion, IsDistinct}
+use Rattle.std.specs.Map.{keys_of}
+use Rattle.std.specs.Ordering.{eq_by_cmp}
+use Rattle.std.specs.FinMap as map
+use Rattle.std.specs.FinMap.{find}
+use Rattle.std.proofs.lemmas.Bool.{eq-eqb, eqb-true}
+use Rattle.std.proofs.lemmas.Map.Keys.{IsDistinct-head, IsDistinct-tail}
+use Rattle.ft_fields.specs.Places.{pos_cmp, pos_cmp_total, pos_same}
+use Rattle.ft_fields.specs.Traced.{Traced}
+use Rattle.ft_fields.specs.declared.pos.Pos.{Pos}
+use Rattle.ft_hist.specs.Hist.{Hist}
+use Rattle.ft_keys.specs.declared.key.Part.{Part}
+use Rattle.ft_kept.specs.Acts.{Acts}
+use Rattle.ft_kept.specs.Input.{input_of, AreViews}
+use Rattle.ft_kept.specs.Repairs.{IsHeldAt}
+use Rattle.ft_kept.specs.Shelves.{Shelves, FormsStay}
+use Rattle.ft_kept.specs.Signs.{event_before, event_after}
+use Rattle.ft_kept.specs.Views.{act_at, act_under, set, with_some}
+use Rattle.ft_kept.proofs.Views.{attached_act, set_here, set_apart}
+use Rattle.ft_shelves.specs.declared.sign.Sign.{Sign}
+use Rattle.ft_shelves.proofs.Decided.{at_decided, itself}
+use Rattle.ft_lanes.specs.Held.{Lanes}
+use Rattle.ft_maps.specs.Entries.{same_from_tie}
+use Rattle.ft_pairs.specs.declared.at.At.{At}
+use Rattle.ft_base.specs.Base.{Triggers}
+use Rattle.ft_repair.specs.inner.Joining.{is_one}
+use Rattle.ft_repair.specs.inner.KeptFor.{AreKeptFor}
+use Rattle.ft_repair.proofs.KeptFor.{changed_for, input_is, views_of}
+
+-- an input on the way: at some places the first one, elsewhere the last one
+abbrev pub between : Acts → Acts → (At → Bool) → Acts
+between first last left at = if left at then first at else last at
+
+-- the places of these triggers at the events that are left
+abbrev pub left_of : (ℕ → Bool) → List (Pos × Traced) → At → Bool
+left_of mine rest at = mine at.trigger && is_some (find pos_cmp at.pos rest)
+
+pub none_left : (o : Option Traced) → is_some o ≡ false → o ≡ None
+none_left None none = refl
+none_left (Some event) none = let both : ◌≡◌ {A = Bool} true false = none in absurd cc
+
+none_at : (q : Pos) (es : List (Pos × Traced)) → AllByRecursion (λ k. eq_by_cmp pos_cmp q k ≡ false) (keys_of es) → find pos_cmp q es ≡ None
+none_at q [] apart = refl
+none_at q (e ∷ es) apart = ap (λ (b : Bool). cond b (Some e.1) (find pos_cmp q es)) apart.0 ∙ none_at q es apart.1
+
+module _ (triggers : Triggers) (lanes : Lanes) (mine : ℕ → Bool) (sign : Sign) (first last : Acts) where
+  -- an event is held, has still to come or go in the first input, and has come or gone in the last
+  pub record Changes (e : Pos × Traced) : Type 0 where
+    pub held : IsHeldAt lanes e.0 e.1
+    pub before : (id : ℕ) → mine id ≡ true → first (record { pos = e.0; trigger = id }) ≡ act_at triggers id (event_before sign e.1)
+    pub after : (id : ℕ) → mine id ≡ true → last (record { pos = e.0; trigger = id }) ≡ act_at triggers id (event_after sign e.1)
+
+  -- some of these events are left
+  pub record IsChanging (rest : List (Pos × Traced)) (shelves : Shelves) : Type 0 where
+    pub kept : AreKeptFor triggers lanes (between first last (left_of mine rest)) shelves
+    pub changes : AllByRecursion Changes rest
+    pub apart : IsDistinct (eq_by_cmp pos_cmp) (keys_of rest)
+
+  -- at first all are left
+  pub changing_all : (es : List (Pos × Traced)) (shelves : Shelves) → AreKeptFor triggers lanes first shelves → ((at : At) → left_of mine es at ≡ false → first at ≡ last at)
+      → AllByRecursion Changes es → IsDistinct (eq_by_cmp pos_cmp) (keys_of es) → IsChanging es shelves
+  changing_all es shelves kept same changes apart = record {
+    kept = subst (λ (input : Acts). AreKeptFor triggers lanes input shelves) (λ i at. starts at i) kept;
+    changes = changes;
+    apart = apart;
+  }
+    where
+      starts : (at : At) → first at ≡ between first last (left_of mine es) at
+      starts at = elim (left_of mine es at) as (λ (b : Bool). left_of mine es at ≡ b → first at ≡ cond b (first at) (last at)) [
+        | true ↦ λ _. refl
+        | false ↦ λ out. same at out
+      ] refl
+
+  module _ (e : Pos × Traced) (rest : List (Pos × Traced)) (old : Shelves) (is : IsChanging (e ∷ rest) old) where
+    abbrev now : Acts
+    now = between first last (left_of mine (e ∷ rest))
+
+    abbrev later : Acts
+    later = between first last (left_of mine rest)
+
+    tells : input_of lanes old ≡ now
+    tells = input_is triggers lanes now old is.kept
+
+    -- the next one can come or go
+    pub next_views : AreViews triggers lanes old
+    next_views = views_of triggers lanes now old is.kept
+
+    pub next_held : IsHeldAt lanes e.0 e.1
+    next_held = is.changes.0.held
+
+    pub next_before : (id : ℕ) → mine id ≡ true → input_of lanes old (record { pos = e.0; trigger = id }) ≡ act_at triggers id (event_before sign e.1)
+    next_before id own =
+        let at : At = record { pos = e.0; trigger = id } in
+        ap (λ (input : Acts). input at) tells
+        ∙ ap (λ (b : Bool). cond (b && is_some (find pos_cmp e.0 (e ∷ rest))) (first at) (last at)) own
+        ∙ ap (λ (b : Bool). cond (is_some (cond b (Some e.1) (find pos_cmp e.0 rest))) (first at) (last at)) (itself pos_cmp_total e.0)
+        ∙ is.changes.0.before id own
+
+    nothing_behind : (q : Pos) → q ≡ e.0 → find pos_cmp q rest ≡ None
+    nothing_behind q same = ap (λ (p : Pos). find pos_cmp p rest) same ∙ none_at e.0 rest (IsDistinct-head (eq_by_cmp pos_cmp) e.0 (keys_of rest) is.apart)
+
+    -- with it changed the others are left
+    changed_at : (q : At) → with_some triggers now e.0 (event_after sign e.1) mine q ≡ later q
+    changed_at q = by (eq_by_cmp pos_cmp q.pos e.0) (mine q.trigger) refl refl
+      where
+        some : Bool → Option (List Part × Traced)
+        some b = cond b (first q) (last q)
+
+        by : (tie own : Bool) → eq_by_cmp pos_cmp q.pos e.0 ≡ tie → mine q.trigger ≡ own
+            → cond tie (cond own (act_at triggers q.trigger (event_after sign e.1)) (some (own && is_some (cond tie (Some e.1) (find pos_cmp q.pos rest))))) (some (own && is_some (cond tie (Some e.1) (find pos_cmp q.pos rest))))
+            ≡ some (own && is_some (find pos_cmp q.pos rest))
+        by true true tie own =
+            let same : q.pos ≡ e.0 = same_from_tie pos_same q.pos e.0 tie in
+            sym (ap (λ (o : Option Traced). some (is_some o)) (nothing_behind q.pos same)
+            ∙ ap (λ (p : Pos). last (record { pos = p; trigger = q.trigger })) same
+            ∙ is.changes.0.after q.trigger own)
+        by true false tie other = refl
+        by false true apart own = refl
+        by false false apart other = refl
+
+    pub changing_fewer : (new : Shelves) → FormsStay old new → AreViews triggers lanes new → input_of lanes new ≡ with_some triggers (input_of lanes old) e.0 (event_after sign e.1) mine → IsChanging rest new
+    changing_fewer new forms views gives = record {
+      kept = changed_for triggers lanes later old new is.kept.each forms views (gives ∙ ap (λ (input : Acts). with_some triggers input e.0 (event_after sign e.1) mine) tells ∙ (λ i q. changed_at q i));
+      changes = is.changes.1;
+      apart = IsDistinct-tail (eq_by_cmp pos_cmp) e.0 (keys_of rest) is.apart;
+    }
+
+  -- at last none is left
+  pub changing_none : (shelves : Shelves) → IsChanging [] shelves → AreKeptFor triggers lanes last shelves
+  changing_none shelves is = subst (λ (input : Acts). AreKeptFor triggers lanes input shelves) (λ i at. ends at (mine at.trigger) i) is.kept
+    where
+      ends : (at : At) (own : Bool) → cond (own && false) (first at) (last at) ≡ last at
+      ends at true = refl
+      ends at false = refl
+
+-- ---- at one trigger
+
+module _ (triggers : Triggers) (id : ℕ) (hist : Hist) (attached : map.get triggers id ≡ Some hist) where
+  -- setting its act is changing the event at it alone
+  set_alone : (input : Acts) (pos : Pos) (event : Option Traced) → set input (record { pos = pos; trigger = id }) (option_and_then (act_under hist) event) ≡ with_some triggers input pos event (is_one id)
+  set_alone input pos event i q = alone q i
+    where
+      here : At
+      here = record { pos = pos; trigger = id }
+
+      act : Option (List Part × Traced)
+      act = option_and_then (act_under hist) event
+
+      at_place : with_some triggers input pos event (is_one id) here ≡ act
+      at_place =
+          ap (λ (b : Bool). cond b (cond (is_one id id) (act_at triggers id event) (input here)) (input here)) (itself pos_cmp_total pos)
+          ∙ ap (λ (b : Bool). cond b (act_at triggers id event) (input here)) (eq-eqb id id refl)
+          ∙ attached_act triggers id hist attached event
+
+      elsewhere : (q : At) → (q ≡ here → ⊥) → (tie own : Bool) → eq_by_cmp pos_cmp q.pos pos ≡ tie → is_one id q.trigger ≡ own → input q ≡ cond tie (cond own (act_at triggers q.trigger event) (input q)) (input q)
+      elsewhere q apart true true tie own = absurd (apart (λ i. record { pos = same_from_tie pos_same q.pos pos tie i; trigger = eqb-true q.trigger id own i }))
+      elsewhere q apart true false tie other = refl
+      elsewhere q apart false own untied its = refl
+
+      alone : (q : At) → set input here act q ≡ with_some triggers input pos event (is_one id) q
+      alone q = elim (at_decided q here) [
+        | inl same ↦ subst (λ (p : At). set input here act p ≡ with_some triggers input pos event (is_one id) p) (sym same) (set_here input here act ∙ sym at_place)
+        | inr apart ↦ set_apart input here act q apart ∙ elsewhere q apart (eq_by_cmp pos_cmp q.pos pos) (is_one id q.trigger) refl refl
+      ]
+
+  module _ (lanes : Lanes) (sign : Sign) (first last : Acts) (e : Pos × Traced) (rest : List (Pos × Traced)) (old : Shelves) (is : IsChanging triggers lanes (is_one id) sign first last (e ∷ rest) old) where
+    pub its_before : input_of lanes old (record { pos = e.0; trigger = id }) ≡ option_and_then (act_under hist) (event_before sign e.1)
+    its_before = next_before triggers lanes (is_one id) sign first last e rest old is id (eq-eqb id id refl) ∙ attached_act triggers id hist attached (event_before sign e.1)
+
+    pub its_fewer : (new : Shelves) → FormsStay old new → AreViews triggers lanes new
+        → input_of lanes new ≡ set (input_of lanes old) (record { pos = e.0; trigger = id }) (option_and_then (act_under hist) (event_after sign e.1)) → IsChanging triggers lanes (is_one id) sign first last rest new
+    its_fewer new forms views gives =
+        changing_fewer triggers lanes (is_one id) sign first last e rest old is new forms views (gives ∙ set_alone (input_of lanes old) e.0 (event_after sign e.1))

@@ -1,0 +1,41 @@
+//! One hit more or less.
+
+ghost use Rattle.std.specs.Prelude.{◌≡◌};
+ghost use Rattle.ft_shelves.specs.Changes.{mark_of, sign_of};
+
+use crate::sign::Sign;
+use ft_table::{Hit, Mark};
+
+/// A change of what a trigger counts by one hit.
+#[derive(Clone, Copy)]
+pub enum HitChange {
+    /// This hit comes.
+    Insert(Hit),
+    /// The hit that stands here goes, if there is one.
+    Retract(Mark),
+}
+
+impl HitChange {
+    /// Whether the hit comes or goes.
+    pub fn sign(&self) -> Sign
+        ensures { result ≡ sign_of self.now }
+    {
+        match self {
+            HitChange::Insert(_) => Sign::Insert,
+            HitChange::Retract(_) => Sign::Retract,
+        }
+    }
+
+    /// Where the hit stands.
+    pub fn mark(&self) -> Mark
+        ensures { result ≡ mark_of self.now }
+    {
+        match self {
+            HitChange::Insert(hit) => Mark {
+                spot: hit.spot,
+                key: hit.key,
+            },
+            HitChange::Retract(mark) => *mark,
+        }
+    }
+}
