@@ -26,8 +26,8 @@ FAULTS = {
 }
 # Where each limit of the table stands in the sources: a constant's name, or the text around it.
 LIMITS = {
-    "bytes of a TRACE file": ("ft_words/src/files.rt", "FILE_LIMIT"),
-    "reads of it": ("ft_words/src/files.rt", "READ_LIMIT"),
+    "bytes of a TRACE file": ("ft_script/src/files.rt", "FILE_LIMIT"),
+    "reads of it": ("ft_script/src/files.rt", "READ_LIMIT"),
     "bytes of a trace line": ("ft_event/src/line.rt", "LONGEST_LINE"),
     "bytes of TASK, a name or a state": ("ft_event/src/line.rt", r"text\.len\(\) > (\d+)"),
     "bytes of LETTERS": ("ft_event/src/columns.rt", r"first\.len\(\) > (\d+)"),

@@ -26,4 +26,4 @@ pub use Rattle.ft_lanes.specs.Held
 pub use Rattle.ft_lanes.specs.Listing
 pub use Rattle.ft_lanes.specs.Loaded
 pub use Rattle.ft_made.specs.ReplayMaking
-pub use Rattle.ft_rivals.specs.Reports
+pub use Rattle.ft_changes.specs.Reports

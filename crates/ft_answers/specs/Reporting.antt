@@ -6,8 +6,8 @@ use Rattle.ft_hist.specs.Hist.{Hist}
 use Rattle.ft_keys.specs.declared.key.Part.{Part}
 use Rattle.ft_pairs.specs.declared.role.Role.TheVariants.{Reads}
 use Rattle.ft_table.specs.Counted.{Counted}
-use Rattle.ft_rivals.specs.declared.changed.Changed.{Changed}
-use Rattle.ft_rivals.specs.Reports.{same_row, is_reported, reported_of}
+use Rattle.ft_changes.specs.declared.changed.Changed.{Changed}
+use Rattle.ft_changes.specs.Reports.{same_row, is_reported, reported_of}
 use Rattle.ft_base.specs.declared.refused.Refused.{Refused}
 use Rattle.ft_base.specs.Base.{Triggers, Base}
 use Rattle.ft_base.specs.OneTrigger.{reads_from}

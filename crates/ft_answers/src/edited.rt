@@ -1,7 +1,7 @@
 //! What an accepted edit of one event gives.
 
 use ft_base::Place;
-use ft_rivals::Changed;
+use ft_changes::Changed;
 
 /// What an accepted insert or strike gives: where the event stands or stood, and which rows it may
 /// have changed, where a board tells.

@@ -100,8 +100,8 @@ pub use edited::Edited;
 pub use ft_base::{
     AttachedTrigger, Content, Place, Refused, is_reader, one_saver, reachable_bases, role_of,
 };
+pub use ft_changes::Changed;
 pub use ft_replay::Pair;
-pub use ft_rivals::Changed;
 pub use ft_rows::{Row, TableRow};
 pub use latency::{Latency, latency_of};
 pub use plain::{PlainBoard, plain_board_keeps_none};

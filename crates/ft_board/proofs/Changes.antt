@@ -1,25 +1,23 @@
 -- One event comes or goes: what is kept before and after, and the report of the bases before and after.
-use Rattle.std.proofs.Common.{◌≡◌, Bool, true, false, cond, List, [], refl, sym, ap, subst, ◌∙◌, Option, Some, None, Ok}
-use Rattle.std.specs.Prelude.{IsSome}
+use Rattle.std.proofs.Common.{◌≡◌, ◌⊎◌, ⊎_elim, inl, Bool, true, false, cond, List, [], refl, sym, ap, subst, ◌∙◌, Option, Some, None, Ok}
+use Rattle.std.specs.Prelude.{IsSome, ⊤}
 use Rattle.std.specs.Option.{IfSome}
 use Rattle.std.specs.Ordering.{eq_by_cmp}
 use Rattle.std.specs.FinMap as map
 use Rattle.std.specs.FinMap.{get-insert, get-remove, same_map}
-use Rattle.std.proofs.lemmas.Option.{same_Some}
+use Rattle.std.proofs.lemmas.Option.{IfSome_then, none-some, same_Some}
 use Rattle.ft_fields.specs.Places.{pos_cmp, pos_cmp_total, pos_same}
 use Rattle.ft_fields.specs.Traced.{Traced}
 use Rattle.ft_fields.specs.declared.pos.Pos.{Pos}
 use Rattle.ft_hist.specs.Steps.{Steps}
-use Rattle.ft_rivals.specs.declared.changed.Changed.{Changed}
 use Rattle.ft_keys.specs.declared.key.Part.{Part}
 use Rattle.ft_lanes.specs.Edits.{lane_or_new, lanes_without}
 use Rattle.ft_lanes.specs.Held.{event_at}
 use Rattle.ft_maps.specs.Entries.{get-remove_same, same_from_tie}
-use Rattle.ft_kept.specs.Acted.{Gathered, acting_of}
-use Rattle.ft_kept.specs.Shelves.{Shelves, FormsStay}
-use Rattle.ft_kept.specs.declared.acted.Acting.{Acting}
-use Rattle.ft_kept.specs.Signs.{event_before, event_after}
-use Rattle.ft_report.specs.Events.{EventChanged}
+use Rattle.ft_changes.specs.declared.changed.Changed.{Changed}
+use Rattle.ft_kept.specs.Changes.{AreFew, Told, HasToldFew}
+use Rattle.ft_kept.specs.Shelves.{Shelves, FormsStay, role_on}
+use Rattle.ft_kept.specs.declared.changes.KeyChange.{KeyChange}
 use Rattle.ft_report.specs.Report.{report_of}
 use Rattle.ft_base.specs.After.{after_insert}
 use Rattle.ft_base.specs.Base.{Base, Triggers}
@@ -38,15 +36,13 @@ use Rattle.ft_shelves.specs.declared.sign.Sign.TheVariants.{Insert, Retract}
 use Rattle.ft_board.specs.declared.views.Views.{Views}
 use Rattle.ft_board.specs.inner.Edits.{Edit, IsEdit}
 use Rattle.ft_board.specs.MadeShelves.{AreMadeBy}
-use Rattle.ft_board.specs.inner.Mending.{AreAlike, AreNoted, CanMend}
-use Rattle.ft_repair.specs.OneEvent.{AreKeptBefore, AreKeptAfter, ChangeCosts, GathersAt, IsPlain, LineNeedsNoMemory, events_before, events_after, pos_at}
+use Rattle.ft_board.specs.inner.Mending.{CanMendTo}
+use Rattle.ft_repair.specs.OneEvent.{AreKeptBefore, AreKeptAfter, ChangeCosts, IsPlain, LineNeedsNoMemory, events_before, events_after, pos_at}
 use Rattle.ft_board.specs.inner.Readings.{readings_on}
 use Rattle.ft_board.specs.inner.Reported.{IsReportBy, RepairsReported}
 use Rattle.ft_board.specs.inner.Views.{AreFresh, AreOf, made_in}
 use Rattle.ft_board.proofs.MendedEdits.{among_one_less}
-use Rattle.ft_board.proofs.ReportedRows.{alike_report}
-use Rattle.ft_board.proofs.Reports.{all_gathered, event_changed, if_each, if_there_is, there_if}
-use Rattle.ft_board.proofs.StillMade.{AreAmong, ReadingsAre, alike_if, among_same, mend_if, mended_if}
+use Rattle.ft_board.proofs.StillMade.{AreAmong, ReadingsAre, all_told, among_same, can_mend, mended_if}
 
 -- an event that takes no memory is one of triggers without a variable
 pub plain_of : (sign : Sign) (base : Base) (place : Place) → LineNeedsNoMemory sign base place → IsPlain base place
@@ -79,34 +75,56 @@ module _ (sign : Sign) (base : Base) (place : Place) (edit : Edit) (is : IsEdit 
   fresh_of views are = subst (λ (p : Triggers × Events). AreOf p.0 p.1 views) (λ i. (sym is.same_after i, sym is.is i)) are
 
   pub awaits_if : (kept : Option Shelves) → IfSome kept (AreKept base.triggers (events_before sign all pos)) → IfSome kept (AreKeptBefore sign base place)
-  awaits_if kept = if_there_is kept (λ shelves its event there. subst (λ (e : Traced). AreKept base.triggers (events_before sign all (pos_at place e)) shelves) (same_Some _ _ (sym is.there ∙ there)) its)
+  awaits_if kept are = IfSome_then kept are (λ shelves its event there. subst (λ (e : Traced). AreKept base.triggers (events_before sign all (pos_at place e)) shelves) (same_Some _ _ (sym is.there ∙ there)) its)
 
   pub has_if : (kept : Option Shelves) → IfSome kept (AreKeptAfter sign base place) → IfSome kept (AreKept base.triggers (events_after sign all pos))
-  has_if kept = if_there_is kept (λ shelves has. has edit.event is.there)
-
-  -- so notes leave it
-  pub was_kept : (views : Views) → AreFresh edit.old views → (noted : Option Shelves) → AreNoted base.triggers views.shelves noted → IfSome noted (AreKept base.triggers (events_before sign all pos))
-  was_kept views fresh noted notes = alike_if base.triggers (events_before sign all pos) views.shelves noted notes.alike notes.gone (was_of views fresh).0
-
-  pub noted_fresh : (views : Views) → AreFresh edit.old views → (noted : Option Shelves) → AreNoted base.triggers views.shelves noted → IfSome noted (AreKeptOf edit.old)
-  noted_fresh views fresh noted notes = alike_if edit.old.triggers (merged edit.old.lanes) views.shelves noted notes.alike notes.gone fresh.0
+  has_if kept have = IfSome_then kept have (λ shelves has. has edit.event is.there)
 
   pub later_fresh : (later : Option Shelves) → IfSome later (AreKeptAfter sign base place) → IfSome later (AreKeptOf edit.new)
   later_fresh later kept = subst (λ (p : Triggers × Events). IfSome later (AreKept p.0 p.1)) (λ i. (sym is.same_after i, sym is.is i)) (has_if later kept)
 
-  pub can_mend : ReadingsAre → (views : Views) → AreFresh edit.old views → (noted later : Option Shelves) → AreNoted base.triggers views.shelves noted → IfBoth FormsStay noted later → (noted ≡ None → later ≡ None)
-      → IfSome later (λ shelves. CanMend base.triggers all shelves (made_in views))
-  can_mend readings views fresh noted later notes forms gone =
-      mend_if readings base.triggers (events_before sign all pos) all (before_among sign all pos) views.shelves noted later (made_in views) (was_of views fresh) notes forms gone
+  -- after the repair, the tables of made events can be mended
+  pub can_change : {X : Type 0} → ReadingsAre → (views : Views) → AreFresh edit.old views → (later : Option Shelves) → (views.shelves ≡ None → later ≡ None)
+      → (asked before after : Told) → before ≡ record asked { keys = Some [] } → (asked.readings ≡ Some []) ⊎ ((asked.readings ≡ None) × X) → IfBoth (HasToldFew (map.entries base.triggers) before after) views.shelves later
+      → IfSome later (λ shelves. CanMendTo base.triggers all after.readings (found_in (readings_on shelves)) (made_in views))
+  can_change {X} readings views fresh later gone asked before after with asks told =
+      can_mend readings base.triggers (events_before sign all pos) all (before_among sign all pos) before.readings after.readings views.shelves later (made_in views)
+      (subst (λ (t : Told). (t.readings ≡ Some []) ⊎ ((t.readings ≡ None) × X)) (sym with) asks) (was_of views fresh) gone
+      (IfSome_then later told (λ shelves few. IfSome_then views.shelves few (λ old its. record { readings = its.told.readings; told = its.told.told_readings; lead = its.told.lead })))
 
-  pub mended_fresh : ReadingsAre → (later : Option Shelves) (new : Views) → IfSome later (AreKeptAfter sign base place) → IfBoth AreAlike later new.shelves → (later ≡ None → new.shelves ≡ None)
+  -- mended, what is kept is that of the base afterwards
+  pub mended_fresh : ReadingsAre → (later : Option Shelves) (new : Views) → (new.shelves ≡ later) ⊎ (new.shelves ≡ None) → IfSome later (AreKeptAfter sign base place)
       → IfSome new.shelves (λ shelves. AreMadeBy base.triggers all (found_in (readings_on shelves)) (made_in new)) → AreFresh edit.new new
-  mended_fresh readings later new kept alike gone are =
-      fresh_of new (mended_if readings base.triggers (events_after sign all pos) all (after_among sign all pos) later new.shelves (made_in new) (has_if later kept) alike gone are)
+  mended_fresh readings later new left kept are =
+      fresh_of new (mended_if readings base.triggers (events_after sign all pos) all (after_among sign all pos) later new.shelves (made_in new) left (has_if later kept) are)
 
   pub costs_of : (old new : Steps) → ChangeCosts sign base place old new → CostsOf edit.old.triggers edit.event (merged edit.old.lanes) (merged edit.new.lanes) old new
   costs_of old new costs =
       subst (λ (p : Triggers × (Events × Events)). CostsOf p.0 edit.event p.1.0 p.1.1 old new) (λ i. (sym is.same_before i, (sym is.was i, sym is.is i))) (costs edit.event is.there)
+
+  -- ---- the report
+
+  reported_if : RepairsReported → (old later : Option Shelves) → IfSome old (AreKeptOf edit.old) → IfSome later (AreKeptOf edit.new) → (old ≡ None → later ≡ None) → IfBoth FormsStay old later
+      → (before after : Told) → before.keys ≡ Some [] → IfBoth (HasToldFew (map.entries base.triggers) before after) old later
+      → IfSome later (λ shelves. IfSome after.keys (λ keys. IsReport edit.old edit.new (report_of base.triggers shelves keys)))
+  reported_if reported old None was now gone forms before after none told = tt
+  reported_if reported None (Some later) was now gone forms before after none told = let both : ◌≡◌ {A = Option Shelves} (Some later) None = gone refl in absurd cc
+  reported_if reported (Some old) (Some later) was now gone forms before after none told =
+      IfSome_then after.keys (all_told {X = ⊤} told.told.keys before.keys after.keys (inl none) told.told.told_keys)
+      (λ keys all. subst (λ (x : Triggers × List KeyChange). IsReport edit.old edit.new (report_of x.0 later x.1)) (λ i. (is.same_before i, sym all i))
+      (reported edit.old edit.new old later told.told.keys (is.same_after ∙ sym is.same_before) was now forms told.told.hits
+      (subst (λ (ts : Triggers). AreFew (role_on old) (map.entries ts) told.told.keys) (sym is.same_before) told.few)))
+
+  -- a report of the keys that were told since none were is one of the bases before and after
+  pub edit_reported : RepairsReported → (views : Views) → AreFresh edit.old views → (later mended : Option Shelves) → (mended ≡ later) ⊎ (mended ≡ None) → IfSome later (AreKeptAfter sign base place)
+      → (views.shelves ≡ None → later ≡ None) → IfBoth FormsStay views.shelves later → (before after : Told) → before.keys ≡ Some [] → IfBoth (HasToldFew (map.entries base.triggers) before after) views.shelves later
+      → (rows : List Changed) → IsReportBy base.triggers mended after.keys rows → IsReport edit.old edit.new rows
+  edit_reported reported views fresh later mended left kept gone forms before after none told rows by =
+      let there : later ≡ Some by.shelves = ⊎_elim (λ same. sym same ∙ by.there) (λ lost. absurd (none-some by.shelves (sym lost ∙ by.there))) left in
+      let each = reported_if reported views.shelves later fresh.0 (later_fresh later kept) gone forms before after none told in
+      subst (IsReport edit.old edit.new) (sym by.are)
+      (subst (λ (o : Option (List KeyChange)). IfSome o (λ keys. IsReport edit.old edit.new (report_of base.triggers by.shelves keys))) by.are_told
+      (subst (λ (o : Option Shelves). IfSome o (λ shelves. IfSome after.keys (λ keys. IsReport edit.old edit.new (report_of base.triggers shelves keys)))) there each))
 
 -- ---- a board's edits of one event
 
@@ -150,62 +168,3 @@ event_there base place some = by (event_at base.lanes place.cpu place.line) refl
   by : (o : Option Traced) → event_at base.lanes place.cpu place.line ≡ o → IsSome o → (event : Traced) × (event_at base.lanes place.cpu place.line ≡ Some event)
   by None there none = let both : ◌≡◌ {A = Bool} false true = none in absurd cc
   by (Some event) there _ = (event, there)
-
--- ---- what came or went
-
-module _ (all : Events) (pos : Pos) (event : Traced) (there : map.get all pos ≡ Some event) where
-  was_here : (sign : Sign) → map.get (events_before sign all pos) pos ≡ event_before sign event
-  was_here Insert = get-remove_same pos_cmp_total all pos
-  was_here Retract = there
-
-  is_here : (sign : Sign) → map.get (events_after sign all pos) pos ≡ event_after sign event
-  is_here Insert = there
-  is_here Retract = get-remove_same pos_cmp_total all pos
-
-  rest : (q : Pos) → eq_by_cmp pos_cmp q pos ≡ false → map.get (map.remove all pos) q ≡ map.get all q
-  rest q apart = get-remove pos_cmp_total all pos q ∙ ap (λ (b : Bool). cond b None (map.get all q)) apart
-
-  elsewhere : (sign : Sign) (q : Pos) → eq_by_cmp pos_cmp q pos ≡ false → map.get (events_after sign all pos) q ≡ map.get (events_before sign all pos) q
-  elsewhere Insert q apart = sym (rest q apart)
-  elsewhere Retract q apart = rest q apart
-
-changed_by : (sign : Sign) (base : Base) (place : Place) (edit : Edit) → IsEdit sign base place edit → (old new : Shelves) → FormsStay old new → AreKeptOf edit.old old → AreKeptOf edit.new new
-    → EventChanged sign edit.old.triggers (pos_at place edit.event) edit.event old new
-changed_by sign base place edit is old new forms kept later =
-    let pos : Pos = pos_at place edit.event in
-    let held : map.get (merged base.lanes) pos ≡ Some edit.event = placed_there base.lanes place.cpu place.line edit.event is.there in
-    event_changed sign edit.old.triggers (merged edit.old.lanes) (merged edit.new.lanes) pos edit.event
-    (ap (λ (m : Events). map.get m pos) is.was ∙ was_here (merged base.lanes) pos edit.event held sign)
-    (ap (λ (m : Events). map.get m pos) is.is ∙ is_here (merged base.lanes) pos edit.event held sign)
-    (λ q apart. ap (λ (m : Events). map.get m q) is.is ∙ elsewhere (merged base.lanes) pos edit.event held sign q apart ∙ sym (ap (λ (m : Events). map.get m q) is.was))
-    old new forms kept (subst (λ (ts : Triggers). AreKept ts (merged edit.new.lanes) new) (is.same_after ∙ sym is.same_before) later)
-
--- ---- the report
-
--- shelves as an edit goes on: notes are taken, the event comes or goes, and tables of made events are mended
-pub record AreRepaired (edit : Edit) (noted later mended : Option Shelves) : Type 0 where
-  pub noted_kept : IfSome noted (AreKeptOf edit.old)
-  pub later_kept : IfSome later (AreKeptOf edit.new)
-  pub forms : IfBoth FormsStay noted later
-  pub gone : noted ≡ None → later ≡ None
-  pub alike : IfBoth AreAlike later mended
-  pub given_up : later ≡ None → mended ≡ None
-
-module _ (reported : RepairsReported) (sign : Sign) (base : Base) (place : Place) (edit : Edit) (is : IsEdit sign base place edit) where
-  by_three : (noted later : Option Shelves) (shelves : Shelves) (acting : List Acting) → AreRepaired edit noted later (Some shelves) → acting ≡ acting_of base.triggers edit.event
-      → IsReport edit.old edit.new (report_of base.triggers shelves acting)
-  by_three noted None shelves acting repaired are = let both : ◌≡◌ {A = Option Shelves} (Some shelves) None = repaired.given_up refl in absurd cc
-  by_three None (Some behind) shelves acting repaired are = let both : ◌≡◌ {A = Option Shelves} (Some behind) None = repaired.gone refl in absurd cc
-  by_three (Some noted) (Some behind) shelves acting repaired are =
-      subst (IsReport edit.old edit.new) (ap (λ (ts : Triggers). report_of ts behind (acting_of ts edit.event)) is.same_before ∙ ap (report_of base.triggers behind) (sym are) ∙ sym (alike_report behind shelves repaired.alike base.triggers acting))
-      (reported sign edit.old edit.new (pos_at place edit.event) edit.event noted behind (is.same_after ∙ sym is.same_before) repaired.noted_kept repaired.later_kept
-      (changed_by sign base place edit is noted behind repaired.forms repaired.noted_kept repaired.later_kept))
-
-  -- a report that is made after an edit is one of the bases before and after it
-  pub edit_reported : (noted later mended : Option Shelves) → AreRepaired edit noted later mended → (acted : Gathered) → IfSome later (λ _. GathersAt base place (Some []) acted)
-      → (rows : List Changed) → IsReportBy base.triggers mended acted rows → IsReport edit.old edit.new rows
-  edit_reported noted later mended repaired acted gathered rows by =
-      subst (IsReport edit.old edit.new) (sym by.are)
-      (by_three noted later by.shelves by.acting (subst (AreRepaired edit noted later) by.there repaired)
-      (all_gathered (acting_of base.triggers edit.event) by.acting acted
-      (there_if later mended by.shelves repaired.given_up by.there (if_each later (λ each. each edit.event is.there) gathered)) by.gathered))

@@ -1,11 +1,13 @@
 -- Tables of made events as a trigger goes that reads nothing: the others' stay, since it made no event.
-use Rattle.std.proofs.Common.{◌≡◌, ℕ, Bool, true, false, cond, List, refl, sym, ap, subst, ◌∙◌, Option, Some, None, unwrap_or}
+use Rattle.std.proofs.Common.{◌≡◌, ⊎_elim, ℕ, Bool, true, false, List, refl, sym, ap, subst, ◌∙◌, Option, Some, None, unwrap_or}
 use Rattle.std.specs.Prelude.{option_and_then, option_map}
-use Rattle.std.specs.Option.{IfSome}
-use Rattle.std.specs.Ordering.{nat_cmp, eq_by_cmp}
-use Rattle.std.specs.Cmp.{nat_cmp_total, eq_by_cmp_equiv}
+use Rattle.std.specs.Option.{IfSome, option_map_or}
+use Rattle.std.specs.Ordering.{nat_cmp}
+use Rattle.std.specs.Cmp.{nat_cmp_total}
 use Rattle.std.specs.FinMap as map
-use Rattle.std.specs.FinMap.{get-remove, nat_cmp-IsAntisymmetric}
+use Rattle.std.specs.FinMap.{FinMap, nat_cmp-IsAntisymmetric}
+use Rattle.std.proofs.lemmas.Bool.{cases_eq}
+use Rattle.std.proofs.lemmas.Option.{none-some}
 use Rattle.ft_fields.specs.Traced.{Traced}
 use Rattle.ft_fields.specs.declared.pos.Pos.{Pos}
 use Rattle.ft_keys.specs.declared.key.Part.{Part}
@@ -14,8 +16,8 @@ use Rattle.ft_hist.specs.Hit.{hit}
 use Rattle.ft_hist.specs.Made.{made_of}
 use Rattle.ft_hist.specs.declared.label.Var.{Var}
 use Rattle.ft_hist.specs.declared.label.Var.TheVariants as vars
-use Rattle.ft_kept.specs.Shelves.{Shelves}
-use Rattle.ft_maps.specs.Entries.{same_from_tie}
+use Rattle.ft_kept.specs.Shelves.{Shelved, Shelves}
+use Rattle.ft_maps.specs.Entries.{get-remove_other, get-remove_same}
 use Rattle.ft_pairs.specs.declared.role.Variable.{Variable}
 use Rattle.ft_table.specs.Spots.{traced}
 use Rattle.ft_table.specs.Tabled.{Tabled}
@@ -27,14 +29,13 @@ use Rattle.ft_answers.specs.Deferral.{ReadsNothing}
 use Rattle.ft_replay.specs.Found.{saving_found}
 use Rattle.ft_replay.specs.Hits.{TriggerHit, found_at, hit_at, read_as}
 use Rattle.ft_replay.specs.Merged.{Events, merged}
-use Rattle.ft_made.specs.MadeEvents.{made_by}
-use Rattle.ft_made.specs.MadeHits.{values_of_made}
+use Rattle.ft_changes.specs.Findings.{Findings}
 use Rattle.ft_made.specs.MadeTables.{IsMadeTable}
-use Rattle.ft_repair.specs.KeptShelves.{AreKept, HasItsShelf}
+use Rattle.ft_repair.specs.KeptShelves.{AreKept}
 use Rattle.ft_board.specs.MadeShelves.{MadeTables, AreMadeBy, made_on}
 use Rattle.ft_repair.specs.ButOneTrigger.{AreKeptBut, OtherShelvesStay}
 use Rattle.ft_repair.specs.Repaired.{IfBoth}
-use Rattle.ft_board.proofs.StillMade.{ReadingsAre, AreRightIf, nothing_at, nothing_of}
+use Rattle.ft_board.proofs.StillMade.{ReadingsAre, AreRightIf, are_found, made_here, nothing_at, nothing_of, table_stays}
 
 -- ---- it finds nothing
 
@@ -64,59 +65,45 @@ module _ (readings : ReadingsAre) (triggers : Triggers) (events : Events) (id : 
   abbrev others : Triggers
   others = map.remove triggers id
 
+  -- the one is gone, and the others stay
+  gone : (q : ℕ) → q ≡ id → map.get others q ≡ None
+  gone q same = ap (map.get others) same ∙ get-remove_same nat_cmp_total triggers id
+
+  stays : {X : Type 0} (entries : FinMap nat_cmp X) (q : ℕ) → (q ≡ id → ⊥) → map.get (map.remove entries id) q ≡ map.get entries q
+  stays entries q apart = get-remove_other nat_cmp_total nat_cmp-IsAntisymmetric entries id q apart
+
   module _ (old new : Shelves) (kept : AreKept triggers events old) (left : AreKept others events new) (stay : OtherShelvesStay id old new) where
+    abbrev found : Findings
+    found = saving_found triggers events
+
+    abbrev finds : Findings
+    finds = saving_found others events
+
     -- the readings of others find what they found
-    found_still : (other : ℕ) → (other ≡ id → ⊥) → (hist : Hist) → map.get triggers other ≡ Some hist → map.get others other ≡ Some hist → (at : Pos) → saving_found others events other at ≡ saving_found triggers events other at
-    found_still other apart hist there still at =
-        let has : HasItsShelf triggers (Some hist) (map.get old other) = subst (λ (o : Option Hist). HasItsShelf triggers o (map.get old other)) there (kept.each other) in
-        sym (readings others events new left other hist has.0 still (stay other apart ∙ has.1.0) at) ∙ readings triggers events old kept other hist has.0 there has.1.0 at
+    found_still : (other : ℕ) → (other ≡ id → ⊥) → (hist : Hist) → map.get triggers other ≡ Some hist → (at : Pos) → finds other at ≡ found other at
+    found_still other apart hist there at =
+        sym (are_found readings others events new left other hist (stays triggers other apart ∙ there) at)
+        ∙ ap (λ (o : Option Shelved). map.get (option_map_or (λ (s : Shelved). s.readings) o map.empty) at) (stay other apart)
+        ∙ are_found readings triggers events old kept other hist there at
 
-    -- an event's reading by a trigger makes the same
-    abbrev made_here : (ℕ → Pos → Option Pos) → Spot → Traced → Option Hist → Option Traced
-    made_here found spot event hist = option_and_then (λ (h : Hist). option_and_then (made_of h spot.pos event) (found spot.maker spot.pos)) hist
-
-    same_here : (spot : Spot) (event : Traced) → made_here (saving_found others events) spot event (map.get others spot.maker) ≡ made_here (saving_found triggers events) spot event (map.get triggers spot.maker)
-    same_here spot event =
-        elim (eq_by_cmp nat_cmp spot.maker id) as (λ (b : Bool). eq_by_cmp nat_cmp spot.maker id ≡ b
-        → made_here (saving_found others events) spot event (map.get others spot.maker) ≡ made_here (saving_found triggers events) spot event (map.get triggers spot.maker)) [
-          | true ↦ λ tie.
-              let same : spot.maker ≡ id = same_from_tie nat_cmp-IsAntisymmetric spot.maker id tie in
-              let gone : map.get others spot.maker ≡ None = get-remove nat_cmp_total triggers id spot.maker ∙ ap (λ (b : Bool). cond b None (map.get triggers spot.maker)) tie in
-              let none : saving_found triggers events spot.maker spot.pos ≡ None = ap (λ (i : ℕ). saving_found triggers events i spot.pos) same ∙ unread_found triggers events id nothing spot.pos in
-              nothing_at _ (map.get others spot.maker) gone
-              ∙ sym (nothing_of _ (map.get triggers spot.maker) (λ h. nothing_at (made_of h spot.pos event) (saving_found triggers events spot.maker spot.pos) none))
-          | false ↦ λ apart.
-              let still : map.get others spot.maker ≡ map.get triggers spot.maker = get-remove nat_cmp_total triggers id spot.maker ∙ ap (λ (b : Bool). cond b None (map.get triggers spot.maker)) apart in
-              ap (made_here (saving_found others events) spot event) still ∙ by_hist spot event apart still (map.get triggers spot.maker) refl
-        ] refl
-      where
-        by_hist : (spot : Spot) (event : Traced) → eq_by_cmp nat_cmp spot.maker id ≡ false → map.get others spot.maker ≡ map.get triggers spot.maker → (hist : Option Hist) → map.get triggers spot.maker ≡ hist
-            → made_here (saving_found others events) spot event hist ≡ made_here (saving_found triggers events) spot event hist
-        by_hist spot event apart still None there = refl
-        by_hist spot event apart still (Some hist) there =
-            ap (option_and_then (made_of hist spot.pos event)) (found_still spot.maker (untied apart) hist there (still ∙ there) spot.pos)
-          where
-            untied : eq_by_cmp nat_cmp spot.maker id ≡ false → spot.maker ≡ id → ⊥
-            untied none same = let both : ◌≡◌ {A = Bool} true false = sym (ap (λ (i : ℕ). eq_by_cmp nat_cmp i id) same ∙ (eq_by_cmp_equiv nat_cmp_total).refl id) ∙ none in absurd cc
-
-    same_made : (spot : Spot) → made_by others events (saving_found others events) spot ≡ made_by triggers events (saving_found triggers events) spot
-    same_made spot = ap (λ (f : Traced → Option Traced). option_and_then f (map.get events spot.pos)) (λ i event. same_here spot event i)
+    same_here : (spot : Spot) (event : Traced) → made_here finds spot event (map.get others spot.maker) ≡ made_here found spot event (map.get triggers spot.maker)
+    same_here spot event = ⊎_elim
+        (λ same. nothing_at _ (map.get others spot.maker) (gone spot.maker same)
+        ∙ sym (nothing_of _ (map.get triggers spot.maker) (λ h. nothing_at (made_of h spot.pos event) _ (ap (λ (i : ℕ). found i spot.pos) same ∙ unread_found triggers events id nothing spot.pos))))
+        (λ apart. ap (made_here finds spot event) (stays triggers spot.maker apart)
+        ∙ elim (map.get triggers spot.maker) as (λ (o : Option Hist). map.get triggers spot.maker ≡ o → made_here finds spot event o ≡ made_here found spot event o) [
+          | None ↦ λ _. refl
+          | Some hist ↦ λ there. ap (option_and_then (made_of hist spot.pos event)) (found_still spot.maker apart hist there spot.pos)
+        ] refl)
+        (cases_eq spot.maker id)
 
     -- so the others keep their tables
-    left_made : (made : MadeTables) → AreMadeBy triggers events (saving_found triggers events) made → AreMadeBy others events (saving_found others events) (map.remove made id)
+    left_made : (made : MadeTables) → AreMadeBy triggers events found made → AreMadeBy others events finds (map.remove made id)
     left_made made are other hist still counts =
-        elim (eq_by_cmp nat_cmp other id) as (λ (b : Bool). eq_by_cmp nat_cmp other id ≡ b → IsMadeTable others events (saving_found others events) hist (made_on (map.remove made id) other hist)) [
-          | true ↦ λ tie.
-              let both : ◌≡◌ {A = Option Hist} None (Some hist) = sym (get-remove nat_cmp_total triggers id other ∙ ap (λ (b : Bool). cond b None (map.get triggers other)) tie) ∙ still in
-              absurd cc
-          | false ↦ λ apart.
-              let there : map.get triggers other ≡ Some hist = sym (get-remove nat_cmp_total triggers id other ∙ ap (λ (b : Bool). cond b None (map.get triggers other)) apart) ∙ still in
-              let its : map.get (map.remove made id) other ≡ map.get made other = get-remove nat_cmp_total made id other ∙ ap (λ (b : Bool). cond b None (map.get made other)) apart in
-              subst (IsMadeTable others events (saving_found others events) hist) (sym (ap (λ (o : Option Tabled). unwrap_or o (record { hits = map.empty; size = hist.size })) its)) (record {
-                size = (are other hist there counts).size;
-                hits = λ mark. (are other hist there counts).hits mark ∙ sym (ap (values_of_made hist mark) (same_made mark.spot));
-              })
-        ] refl
+        let apart : other ≡ id → ⊥ = λ same. none-some hist (sym (gone other same) ∙ still) in
+        subst (IsMadeTable others events finds hist) (sym (ap (λ (o : Option Tabled). unwrap_or o (record { hits = map.empty; size = hist.size })) (stays made other apart)))
+        (table_stays triggers others events events found finds (λ spot. ap (λ (f : Traced → Option Traced). option_and_then f (map.get events spot.pos)) (λ i event. same_here spot event i))
+        hist (made_on made other hist) (are other hist (sym (stays triggers other apart) ∙ still) counts))
 
 -- what is kept, where anything is, is that of the others
 pub left_if : (readings : ReadingsAre) (base : Base) (id : ℕ) (old new : Option Shelves) (made : MadeTables) → ReadsNothing base.triggers id → AreRightIf base.triggers (merged base.lanes) old made

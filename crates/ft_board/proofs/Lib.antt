@@ -8,7 +8,6 @@ pub mod CountingNone
 pub mod StillMade
 pub mod LeavingMade
 pub mod MendedEdits
-pub mod ReportedRows
 pub mod Reports
 pub mod TurnedRows
 pub mod MadeReports

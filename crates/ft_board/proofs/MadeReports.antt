@@ -1,14 +1,14 @@
 -- What the rows that were told of tables of made events say of the bases before an edit and after it.
 use Rattle.std.proofs.Common.{◌≡◌, ℕ, [], true, List, refl, sym, ap, subst, ◌∙◌, Option, Some, None, unwrap_or, Ok}
 use Rattle.std.specs.Prelude.{option_and_then}
-use Rattle.std.specs.Option.{IfSome, option_map_or}
+use Rattle.std.specs.Option.{IfSome}
 use Rattle.std.specs.FinMap as map
 use Rattle.std.proofs.lemmas.Bool.{true≢false}
 use Rattle.ft_hist.specs.Hist.{Hist}
 use Rattle.ft_keys.specs.declared.key.Part.{Part}
-use Rattle.ft_rivals.specs.declared.changed.Changed.{Changed}
+use Rattle.ft_changes.specs.declared.changed.Changed.{Changed}
 use Rattle.ft_table.specs.Rows.{row_at}
-use Rattle.ft_kept.specs.Shelves.{Readings, Shelved, Shelves}
+use Rattle.ft_kept.specs.Shelves.{Shelves}
 use Rattle.ft_base.specs.Base.{Base, Triggers}
 use Rattle.ft_replay.specs.Merged.{merged}
 use Rattle.ft_replay.specs.Tally.{Tally, empty_tally}
@@ -21,19 +21,12 @@ use Rattle.ft_answers.specs.Reporting.{IsMadeReport, IsReport, Reports, made_row
 use Rattle.ft_answers.specs.Shown.{Shown}
 use Rattle.ft_answers.specs.declared.done.Done.{Done}
 use Rattle.ft_answers.specs.declared.edited.Edited.{Edited}
-use Rattle.ft_repair.specs.Repaired.{IfBoth}
 use Rattle.ft_board.specs.MadeShelves.{MadeTables, AreMade, AreMadeBy, made_on}
 use Rattle.ft_board.specs.declared.views.Views.{Views}
 use Rattle.ft_board.specs.inner.Edits.{Edit, ReportsEdit}
-use Rattle.ft_board.specs.inner.Mending.{AreAlike}
 use Rattle.ft_board.specs.inner.Readings.{readings_on}
 use Rattle.ft_board.specs.inner.Turned.{AreTurnedRows}
 use Rattle.ft_board.proofs.KeptBoardTold.{kept_shown, none_is}
-use Rattle.ft_board.proofs.Mending.{alike_part}
-
--- shelves that are the same except for their notes have the same readings
-alike_readings : (old new : Shelves) → AreAlike old new → readings_on new ≡ readings_on old
-alike_readings old new alike = λ i id. alike_part (λ (o : Option Shelved). option_map_or (λ (s : Shelved). s.readings) o map.empty) (λ shelf notes. refl) (map.get old id) (map.get new id) (alike id) i
 
 module _ (tallied : TablesAreTallied) where
   -- the row of a key that replaying gives is that of the table of made events
@@ -61,19 +54,14 @@ module _ (tallied : TablesAreTallied) where
     }
 
     -- and so where shelves are kept all along; else none are told
-    pub told_made : {V : Type 0} (rows : Option V) (items : V → List Changed) (old later mended : Option Shelves) (before after : MadeTables) → IfSome old (λ _. AreMade base before) → (old ≡ None → later ≡ None)
-        → IfBoth AreAlike later mended → (later ≡ None → mended ≡ None) → IfSome mended (λ _. AreMade new after)
-        → IfSome mended (λ shelves. AreMadeBy mid.triggers (merged mid.lanes) (found_in (readings_on shelves)) after)
-        → IfSome rows (λ r. IfSome later (λ shelves. AreTurnedRows mid.triggers (merged mid.lanes) shelves before (items r)))
+    pub told_made : {V : Type 0} (rows : Option V) (items : V → List Changed) (old mended : Option Shelves) (before after : MadeTables) → IfSome old (λ _. AreMade base before) → (old ≡ None → mended ≡ None)
+        → IfSome mended (λ _. AreMade new after) → IfSome mended (λ shelves. AreMadeBy mid.triggers (merged mid.lanes) (found_in (readings_on shelves)) after)
+        → IfSome rows (λ r. IfSome mended (λ shelves. AreTurnedRows mid.triggers (merged mid.lanes) shelves before (items r)))
         → IfSome (option_and_then (λ _. rows) mended) (λ r. IsMadeReport base new (items r))
-    told_made rows items old later None before after was gone alike given is turns told = tt
-    told_made None items old later (Some mended) before after was gone alike given is turns told = tt
-    told_made (Some rows) items old None (Some mended) before after was gone alike given is turns told = let both : ◌≡◌ {A = Option Shelves} (Some mended) None = given refl in absurd cc
-    told_made (Some rows) items None (Some later) (Some mended) before after was gone alike given is turns told = let both : ◌≡◌ {A = Option Shelves} (Some later) None = gone refl in absurd cc
-    told_made (Some rows) items (Some old) (Some later) (Some mended) before after was gone alike given is turns told =
-        rows_reported later before after was is
-        (subst (λ (r : ℕ → Readings). AreMadeBy mid.triggers (merged mid.lanes) (found_in r) after) (alike_readings later mended alike) turns)
-        (items rows) told
+    told_made rows items old None before after was gone is turns told = tt
+    told_made None items old (Some mended) before after was gone is turns told = tt
+    told_made (Some rows) items None (Some mended) before after was gone is turns told = let both : ◌≡◌ {A = Option Shelves} (Some mended) None = gone refl in absurd cc
+    told_made (Some rows) items (Some old) (Some mended) before after was gone is turns told = rows_reported mended before after was is turns (items rows) told
 
 -- ---- what a board reports
 

@@ -5,9 +5,10 @@ use Rattle.std.specs.List.{AllByRecursion}
 use Rattle.std.specs.Option.{option_map_or}
 use Rattle.std.specs.Ordering.{nat_cmp, eq_by_cmp}
 use Rattle.std.specs.BTreeMap.{BTreeMap}
-use Rattle.std.specs.Cmp.{nat_cmp_total, eq_by_cmp_equiv}
+use Rattle.std.specs.Cmp.{nat_cmp_total}
 use Rattle.std.specs.FinMap as map
 use Rattle.std.specs.FinMap.{find, get-empty, get-entries, get-insert, nat_cmp-IsAntisymmetric}
+use Rattle.std.proofs.lemmas.Bool.{true≢false}
 use Rattle.std.proofs.lemmas.Option.{same_Some}
 use Rattle.ft_fields.specs.Traced.{Traced}
 use Rattle.ft_fields.specs.declared.pos.Pos.{Pos}
@@ -15,7 +16,7 @@ use Rattle.ft_hist.specs.Hist.{Hist}
 use Rattle.ft_hist.specs.Made.{made_of, made_event}
 use Rattle.ft_hist.specs.declared.onmatch.Onmatch.{Onmatch}
 use Rattle.ft_kept.specs.Shelves.{Shelved, Shelves}
-use Rattle.ft_maps.specs.Entries.{same_from_tie}
+use Rattle.ft_maps.specs.Entries.{get-insert_same, same_from_tie}
 use Rattle.ft_maps.specs.Seen.{seen}
 use Rattle.ft_table.specs.Tabled.{Tabled}
 use Rattle.ft_hits.specs.declared.spot.Spot.{Spot}
@@ -23,14 +24,16 @@ use Rattle.ft_base.specs.Base.{Triggers, empty_base}
 use Rattle.ft_base.proofs.Apart.{entries_found}
 use Rattle.ft_replay.specs.Found.{saving_found}
 use Rattle.ft_replay.specs.Merged.{Events}
-use Rattle.ft_made.specs.Laws.{AreFound, FoundMakeAll}
+use Rattle.ft_made.specs.Laws.{AreFound}
 use Rattle.ft_made.specs.Making.{MakeNone}
-use Rattle.ft_made.specs.MadeEvents.{made_by, made_at}
+use Rattle.ft_made.specs.MadeEvents.{made_by}
 use Rattle.ft_made.specs.MadeHits.{values_of_made}
-use Rattle.ft_made.specs.MadeTables.{Readings, IsMadeTable, found_in}
+use Rattle.ft_changes.specs.Findings.{Findings}
+use Rattle.ft_made.specs.MadeTables.{IsMadeTable, found_in}
 use Rattle.ft_answers.specs.Counting.{counts_made}
 use Rattle.ft_repair.specs.KeptShelves.{AreKept, HasItsShelf}
 use Rattle.ft_board.specs.MadeShelves.{MadeTables, made_on, AreMadeBy, AreMade}
+use Rattle.ft_board.specs.inner.Mending.{OthersStay}
 use Rattle.ft_board.specs.inner.Readings.{readings_on}
 
 -- ---- triggers one by one
@@ -46,19 +49,26 @@ but_all P triggers = record {
   attached = entries_found nat_cmp nat_cmp_total triggers;
 }
 
--- the first of those that are left gets a property, and the others keep theirs
-pub but_rest : (P Q : ℕ → Hist → Type 0) (triggers : Triggers) (e : ℕ × Hist) (rest : List (ℕ × Hist)) → AreBut P triggers (e ∷ rest)
-    → Q e.0 e.1 → ((id : ℕ) (hist : Hist) → eq_by_cmp nat_cmp id e.0 ≡ false → P id hist → Q id hist) → AreBut Q triggers rest
-but_rest P Q triggers e rest is here stay = record {
-  done = λ id hist there none. elim (eq_by_cmp nat_cmp id e.0) as (λ (b : Bool). eq_by_cmp nat_cmp id e.0 ≡ b → Q id hist) [
-    | true ↦ λ tie.
-        let same : id ≡ e.0 = same_from_tie nat_cmp-IsAntisymmetric id e.0 tie in
-        let its : e.1 ≡ hist = same_Some _ _ (sym is.attached.0 ∙ sym (ap (map.get triggers) same) ∙ there) in
-        subst (λ (x : ℕ × Hist). Q x.0 x.1) (λ i. (sym same i, its i)) here
-    | false ↦ λ apart. stay id hist apart (is.done id hist there (ap (λ (b : Bool). cond b (Some e.1) (find nat_cmp id rest)) apart ∙ none))
-  ] refl;
-  attached = is.attached.1;
-}
+module _ (P : ℕ → Hist → Type 0) (triggers : Triggers) (e : ℕ × Hist) (rest left : List (ℕ × Hist)) (more : left ≡ e ∷ rest) (is : AreBut P triggers left) where
+  first : AreBut P triggers (e ∷ rest)
+  first = subst (AreBut P triggers) more is
+
+  -- the first of those that are left is attached
+  pub first_attached : map.get triggers e.0 ≡ Some e.1
+  first_attached = first.attached.0
+
+  -- as it gets a property, and those that are done keep theirs, the rest are left
+  pub but_rest : (Q : ℕ → Hist → Type 0) → Q e.0 e.1 → ((id : ℕ) (hist : Hist) → eq_by_cmp nat_cmp id e.0 ≡ false → P id hist → Q id hist) → AreBut Q triggers rest
+  but_rest Q here stay = record {
+    done = λ id hist there none. elim (eq_by_cmp nat_cmp id e.0) as (λ (b : Bool). eq_by_cmp nat_cmp id e.0 ≡ b → Q id hist) [
+      | true ↦ λ tie.
+          let same : id ≡ e.0 = same_from_tie nat_cmp-IsAntisymmetric id e.0 tie in
+          let its : e.1 ≡ hist = same_Some _ _ (sym first_attached ∙ sym (ap (map.get triggers) same) ∙ there) in
+          subst (λ (x : ℕ × Hist). Q x.0 x.1) (λ i. (sym same i, its i)) here
+      | false ↦ λ apart. stay id hist apart (first.done id hist there (ap (λ (b : Bool). cond b (Some e.1) (find nat_cmp id rest)) apart ∙ none))
+    ] refl;
+    attached = first.attached.1;
+  }
 
 -- none is left
 pub but_none : (P : ℕ → Hist → Type 0) (triggers : Triggers) (rest : List (ℕ × Hist)) → rest ≡ [] → AreBut P triggers rest → (id : ℕ) (hist : Hist) → map.get triggers id ≡ Some hist → P id hist
@@ -66,44 +76,34 @@ but_none P triggers rest none is id hist there = is.done id hist there (ap (find
 
 -- ---- tables one by one
 
-module _ (triggers : Triggers) (events : Events) (found : Readings) where
+-- the table of a trigger, by what its id has
+abbrev pub table_by : Hist → Option Tabled → Tabled
+table_by hist kept = unwrap_or kept (record { hits = map.empty; size = hist.size })
+
+module _ (old new : MadeTables) (id : ℕ) (table : Tabled) (put : new ≡ map.insert old id table) where
+  -- a table that is put is the trigger's
+  pub table_put : (hist : Hist) → made_on new id hist ≡ table
+  table_put hist = ap (λ (made : MadeTables). made_on made id hist) put ∙ ap (table_by hist) (get-insert_same nat_cmp_total old id table)
+
+  -- and the others stay
+  pub others_put : OthersStay id old new
+  others_put other apart = ap (λ (made : MadeTables). map.get made other) put ∙ get-insert nat_cmp_total old id table other ∙ ap (λ (b : Bool). cond b (Some table) (map.get old other)) apart
+
+module _ (triggers : Triggers) (events : Events) (found : Findings) where
   -- a trigger that counts made events has its table
   abbrev pub HasMade : MadeTables → ℕ → Hist → Type 0
   HasMade made id hist = counts_made hist ≡ true → IsMadeTable triggers events found hist (made_on made id hist)
 
-  -- a table that is kept is found again
-  pub made_here : (made : MadeTables) (id : ℕ) (hist : Hist) (table : Tabled) → IsMadeTable triggers events found hist table → HasMade (map.insert made id table) id hist
-  made_here made id hist table is counts =
-      subst (IsMadeTable triggers events found hist)
-      (sym (ap (λ (o : Option Tabled). unwrap_or o (record { hits = map.empty; size = hist.size })) (get-insert nat_cmp_total made id table id ∙ ap (λ (b : Bool). cond b (Some table) (map.get made id)) tie))) is
-    where
-      tie : eq_by_cmp nat_cmp id id ≡ true
-      tie = (eq_by_cmp_equiv nat_cmp_total).refl id
+  module _ (e : ℕ × Hist) (rest left : List (ℕ × Hist)) (more : left ≡ e ∷ rest) (old : MadeTables) (is : AreBut (HasMade old) triggers left) where
+    -- the first of the triggers that are left counts made events, and gets its table
+    pub made_more : (new : MadeTables) (table : Tabled) → IsMadeTable triggers events found e.1 table → new ≡ map.insert old e.0 table → AreBut (HasMade new) triggers rest
+    made_more new table its put = but_rest (HasMade old) triggers e rest left more is (HasMade new)
+        (λ counts. subst (IsMadeTable triggers events found e.1) (sym (table_put old new e.0 table put e.1)) its)
+        (λ id hist apart has counts. subst (IsMadeTable triggers events found hist) (sym (ap (table_by hist) (others_put old new e.0 table put id apart))) (has counts))
 
-  -- and the others stay
-  pub made_elsewhere : (made : MadeTables) (key : ℕ) (table : Tabled) (id : ℕ) (hist : Hist) → eq_by_cmp nat_cmp id key ≡ false → HasMade made id hist → HasMade (map.insert made key table) id hist
-  made_elsewhere made key table id hist apart is counts =
-      subst (IsMadeTable triggers events found hist)
-      (sym (ap (λ (o : Option Tabled). unwrap_or o (record { hits = map.empty; size = hist.size })) (get-insert nat_cmp_total made key table id ∙ ap (λ (b : Bool). cond b (Some table) (map.get made id)) apart))) (is counts)
-
-module _ (triggers : Triggers) (events : Events) (found : Readings) where
-  -- the first of the triggers that are left counts made events, and gets its table
-  pub made_more : (e : ℕ × Hist) (rest : List (ℕ × Hist)) (old new : MadeTables) (table : Tabled) → AreBut (HasMade triggers events found old) triggers (e ∷ rest)
-      → IsMadeTable triggers events found e.1 table → new ≡ map.insert old e.0 table → AreBut (HasMade triggers events found new) triggers rest
-  made_more e rest old new table is its puts =
-      subst (λ (m : MadeTables). AreBut (HasMade triggers events found m) triggers rest) (sym puts)
-      (but_rest (HasMade triggers events found old) (HasMade triggers events found (map.insert old e.0 table)) triggers e rest is
-      (made_here triggers events found old e.0 e.1 table its) (λ id hist apart has. made_elsewhere triggers events found old e.0 table id hist apart has))
-
-  -- it counts none, and gets none
-  pub made_skip : (e : ℕ × Hist) (rest : List (ℕ × Hist)) (made : MadeTables) → AreBut (HasMade triggers events found made) triggers (e ∷ rest)
-      → counts_made e.1 ≡ false → AreBut (HasMade triggers events found made) triggers rest
-  made_skip e rest made is other =
-      but_rest (HasMade triggers events found made) (HasMade triggers events found made) triggers e rest is
-      (λ counts. let both : ◌≡◌ {A = Bool} true false = sym counts ∙ other in absurd cc) (λ id hist apart has. has)
-
-  pub made_all : (rest : List (ℕ × Hist)) (made : MadeTables) → rest ≡ [] → AreBut (HasMade triggers events found made) triggers rest → AreMadeBy triggers events found made
-  made_all rest made none is = but_none (HasMade triggers events found made) triggers rest none is
+    -- it counts none, and gets none
+    pub made_skip : counts_made e.1 ≡ false → AreBut (HasMade old) triggers rest
+    made_skip other = but_rest (HasMade old) triggers e rest left more is (HasMade old) (λ counts. absurd (true≢false (sym counts ∙ other))) (λ id hist apart has. has)
 
 -- ---- where no event is made
 
@@ -111,7 +111,7 @@ no_event : (hist : Hist) (at : Pos) (event : Traced) → hist.onmatch ≡ None �
 no_event hist at event none None = refl
 no_event hist at event none (Some saved) = ap (λ (o : Option Onmatch). option_map (made_event at event saved) o) none
 
-module _ (triggers : Triggers) (events : Events) (found : Readings) (none : MakeNone triggers) where
+module _ (triggers : Triggers) (events : Events) (found : Findings) (none : MakeNone triggers) where
   at_maker : (spot : Spot) (event : Traced) → option_and_then (λ (hist : Hist). option_and_then (made_of hist spot.pos event) (found spot.maker spot.pos)) (map.get triggers spot.maker) ≡ None
   at_maker spot event =
       elim (map.get triggers spot.maker) as (λ o. map.get triggers spot.maker ≡ o → option_and_then (λ (hist : Hist). option_and_then (made_of hist spot.pos event) (found spot.maker spot.pos)) o ≡ None) [
@@ -119,7 +119,7 @@ module _ (triggers : Triggers) (events : Events) (found : Readings) (none : Make
         | Some hist ↦ λ there. no_event hist spot.pos event (none spot.maker hist there) (found spot.maker spot.pos)
       ] refl
 
-  none_made : (spot : Spot) → made_by triggers events found spot ≡ None
+  pub none_made : (spot : Spot) → made_by triggers events found spot ≡ None
   none_made spot =
       elim (map.get events spot.pos) as (λ o. option_and_then (λ (event : Traced). option_and_then (λ (hist : Hist). option_and_then (made_of hist spot.pos event) (found spot.maker spot.pos)) (map.get triggers spot.maker)) o ≡ None) [
         | None ↦ refl
@@ -151,11 +151,3 @@ pub found_on : (triggers : Triggers) (events : Events) (shelves : Shelves) → A
 found_on triggers events shelves kept readings id hist there pos =
     let has : HasItsShelf triggers (Some hist) (map.get shelves id) = subst (λ (o : Option Hist). HasItsShelf triggers o (map.get shelves id)) there (kept.each id) in
     ap (λ (o : Option Shelved). map.get (option_map_or (λ (s : Shelved). s.readings) o map.empty) pos) has.1.0 ∙ readings id hist has.0 there has.1.0 pos
-
-pub made_found : (triggers : Triggers) (events : Events) (found : Readings) (made : MadeTables) → FoundMakeAll → AreFound triggers events found
-    → AreMadeBy triggers events found made → AreMadeBy triggers events (saving_found triggers events) made
-unfolding made_at
-made_found triggers events found made all are is id hist there counts = record {
-  size = (is id hist there counts).size;
-  hits = λ mark. (is id hist there counts).hits mark ∙ ap (values_of_made hist mark) (all triggers events found are mark.spot);
-}

@@ -1,34 +1,23 @@
 -- What a report says of the bases before an edit and after it, by the shelves that are kept of them.
-use Rattle.std.proofs.Common.{◌≡◌, inl, inr, ℕ, ◌≤◌, ◌+◌, ◌*◌, Bool, false, List, [], length, refl, sym, ap, subst, ◌∙◌, Option, Some, None}
-use Rattle.std.specs.Prelude.{option_and_then}
+use Rattle.std.proofs.Common.{◌≡◌, ℕ, ◌≤◌, ◌+◌, ◌*◌, Bool, true, false, length, refl, sym, ap, subst, ◌∙◌, Option, Some, List, []}
+use Rattle.std.specs.Prelude.{option_and_then, if◌then◌else◌}
 use Rattle.std.specs.List.{filter}
-use Rattle.std.specs.Option.{IfSome}
 use Rattle.std.specs.Cmp.{nat_eq_equiv}
-use Rattle.std.specs.Ordering.{eq_by_cmp}
 use Rattle.std.specs.FinMap as map
-use Rattle.std.proofs.lemmas.Option.{same_Some}
-use Rattle.ft_fields.specs.Places.{pos_cmp}
-use Rattle.ft_fields.specs.Traced.{Traced}
-use Rattle.ft_fields.specs.declared.pos.Pos.{Pos}
 use Rattle.ft_hist.specs.Hist.{Hist}
 use Rattle.ft_keys.specs.declared.key.Part.{Part}
 use Rattle.ft_pairs.specs.declared.role.Role.{Role}
 use Rattle.ft_pairs.specs.declared.role.Role.TheVariants.{Plain, Saves, Reads}
 use Rattle.ft_table.specs.Rows.{row_at}
-use Rattle.ft_table.specs.Values.{values_by}
-use Rattle.ft_rivals.specs.Reports.{reported_of}
-use Rattle.ft_kept.specs.Acted.{Gathered, Gathers, acting_of}
-use Rattle.ft_kept.specs.Acts.{Acts, acts_of}
-use Rattle.ft_kept.specs.Entries.{IsKept}
-use Rattle.ft_kept.specs.Shelves.{Shelved, Shelves, FormsStay, admits_on, kept_on, role_on}
-use Rattle.ft_kept.specs.Signs.{event_before, event_after}
-use Rattle.ft_kept.proofs.Events.{has_at, set_event}
-use Rattle.ft_shelves.specs.declared.sign.Sign.{Sign}
-use Rattle.ft_kept.specs.declared.acted.Acting.{Acting}
-use Rattle.ft_report.specs.Events.{EventChanged, readers_of}
-use Rattle.ft_report.specs.Laws.{EventRows, ReportedOnce, TwoReported, ReaderReported}
-use Rattle.ft_report.specs.Report.{report_of, row_on}
-use Rattle.ft_report.specs.Touched.{is_reader_of}
+use Rattle.ft_changes.specs.Reports.{is_reported, reported_of}
+use Rattle.ft_changes.specs.Rivals.{is_of}
+use Rattle.ft_kept.specs.Changes.{AreFew, is_reader_of}
+use Rattle.ft_kept.specs.Shelves.{Shelved, Shelves, role_on}
+use Rattle.ft_kept.specs.declared.changes.KeyChange.{KeyChange}
+use Rattle.ft_report.specs.Laws.{OthersStay, ReportedOnce, TwoReported, ReaderReported, readers_of}
+use Rattle.ft_report.specs.Report.{counts_made, keys_reported, report_of, row_on}
+use Rattle.ft_report.specs.Touched.{named}
+use Rattle.ft_report.proofs.Rows.{whose}
 use Rattle.ft_base.specs.Base.{Base, Triggers}
 use Rattle.ft_base.specs.OneTrigger.{reads_from}
 use Rattle.ft_base.specs.Roles.{role_at}
@@ -41,10 +30,9 @@ use Rattle.ft_made.specs.Laws.{HeldAreCounted}
 use Rattle.ft_answers.specs.Answers.{tally_at}
 use Rattle.ft_answers.specs.Reporting.{readers_in, row_in}
 use Rattle.ft_repair.specs.KeptShelves.{AreKept, AreKeptOf, HasItsShelf}
+use Rattle.ft_repair.proofs.ShelfForms.{shelves_roles}
 use Rattle.ft_board.specs.inner.Reported.{RepairsReported}
-use Rattle.ft_repair.proofs.ShelfForms.{by_shelves, shelves_roles}
 use Rattle.ft_board.proofs.KeptBoardTold.{tally-first}
-use Rattle.ft_board.proofs.ReportedRows.{reported_held, unreported_unnamed}
 
 -- ---- rows
 
@@ -62,20 +50,18 @@ row_kept tallies first triggers events shelves kept id hist there key =
     ∙ get-tally has.0.table (pairs_in has.0.readings) key
     ∙ sym (ap (λ (o : Option Shelved). option_and_then (λ (s : Shelved). row_at s.table key) o) has.1.0)
 
--- ---- an event that came or went
+-- ---- whose rows are reported
 
--- where two bases' events differ at one place, what is kept of them changed by the event there
-pub event_changed : (sign : Sign) (triggers : Triggers) (events others : Events) (pos : Pos) (event : Traced) → map.get events pos ≡ event_before sign event → map.get others pos ≡ event_after sign event
-    → ((q : Pos) → eq_by_cmp pos_cmp q pos ≡ false → map.get others q ≡ map.get events q)
-    → (old new : Shelves) → FormsStay old new → AreKept triggers events old → AreKept triggers others new → EventChanged sign triggers pos event old new
-event_changed sign triggers events others pos event here there apart old new forms before behind = record {
-  input = acts_of triggers events;
-  before = has_at triggers events pos (event_before sign event) here;
-  forms = forms;
-  was = by_shelves triggers old before.each _ _ _ before.kept;
-  is = subst (λ (acts : Acts). IsKept (role_on old) (values_by triggers) (admits_on new) acts (kept_on new)) (sym (set_event triggers events others pos (event_after sign event) there apart))
-      (by_shelves triggers old before.each _ _ _ behind.kept);
-}
+held_if : (own : Bool) (keys : List (List Part)) (key : List Part) → is_of (if own then [] else keys) key ≡ true → own ≡ false
+held_if true keys key none = sym none
+held_if false keys key is = refl
+
+-- each reported row is of an attached trigger that counts held events
+reported_held : (triggers : Triggers) (shelves : Shelves) (told : List KeyChange) (id : ℕ) (key : List Part) → is_reported (report_of triggers shelves told) id key ≡ true → (hist : Hist) × ((map.get triggers id ≡ Some hist) × (counts_made hist ≡ false))
+unfolding report_of
+reported_held triggers shelves told id key is =
+    let its = whose (keys_reported shelves told) triggers id key is in
+    (its.0, (its.1.0, held_if (counts_made its.0) (named shelves told id) key its.1.1))
 
 -- ---- how many triggers read
 
@@ -91,47 +77,27 @@ readers_same triggers saver = ap (λ (f : ℕ → Bool). length (filter (λ (t :
 
 -- ---- the report of bases
 
-module _ (tallies : TalliesAre) (first : HeldAreCounted) (rows : EventRows) (once : ReportedOnce) (two : TwoReported) (reader : ReaderReported) where
+module _ (tallies : TalliesAre) (first : HeldAreCounted) (others : OthersStay) (once : ReportedOnce) (two : TwoReported) (reader : ReaderReported) where
   row_of_base : (base : Base) (shelves : Shelves) → AreKeptOf base shelves → (id : ℕ) (hist : Hist) → map.get base.triggers id ≡ Some hist → (key : List Part) → row_in base id key ≡ row_on shelves id key
   unfolding row_in
   row_of_base base shelves are id hist there key = row_kept tallies first base.triggers (merged base.lanes) shelves are id hist there key
 
-  -- a report made after the repair for one event is one of the bases before and after it
+  -- the report of keys under which hits may have changed is one of the bases
   pub repairs_reported : RepairsReported
-  repairs_reported sign old new pos event before behind same kept later change =
-      let acting : List Acting = acting_of old.triggers event in
+  repairs_reported old new before behind keys same kept later forms but few =
       let roles : role_on behind ≡ role_at old.triggers = shelves_roles new.triggers behind later.each ∙ ap role_at same in
+      let its : (id : ℕ) → role_on behind id ≡ role_at old.triggers id = λ id. ap (λ (role : ℕ → Role). role id) roles in
+      let few_now : AreFew (role_on behind) (map.entries old.triggers) keys =
+      subst (λ (role : ℕ → Role). AreFew role (map.entries old.triggers) keys) (shelves_roles old.triggers before kept.each ∙ sym roles) few in
       record {
-        once = once old.triggers behind acting;
-        held = λ id key is. reported_held behind acting old.triggers id key is;
+        once = once old.triggers behind keys;
+        held = λ id key is. reported_held old.triggers behind keys id key is;
         all = λ id hist there held key none.
             row_of_base new behind later id hist (ap (λ (ts : Triggers). map.get ts id) same ∙ there) key
-            ∙ rows sign old.triggers pos event before behind change id key (inr (unreported_unnamed behind acting old.triggers id hist key there held none))
+            ∙ others old.triggers keys before behind forms but id hist key there held none
             ∙ sym (row_of_base old before kept id hist there key);
-        two = λ id none. two old.triggers event behind id (λ saver reads. none saver (sym (ap (λ (role : ℕ → Role). role id) roles) ∙ reads));
+        two = λ id none. two old.triggers behind keys few_now id (λ saver reads. none saver (sym (its id) ∙ reads));
         reader = λ id saver reads.
-            subst (λ (n : ℕ). reported_of (report_of old.triggers behind acting) id ≤ 4 + 2 * n) (ap (λ (role : ℕ → Role). readers_of role old.triggers saver) roles ∙ readers_same old.triggers saver)
-            (reader old.triggers event behind id saver (ap (λ (role : ℕ → Role). role id) roles ∙ reads));
+            subst (λ (n : ℕ). reported_of (report_of old.triggers behind keys) id ≤ 4 + 2 * n) (ap (λ (role : ℕ → Role). readers_of role old.triggers saver) roles ∙ readers_same old.triggers saver)
+            (reader old.triggers behind keys few_now id saver (its id ∙ reads));
       }
-
--- ---- after an edit
-
--- what is gathered where nothing was is all of it
-pub all_gathered : (more acting : List Acting) (new : Gathered) → Gathers more (Some []) new → new ≡ Some acting → acting ≡ more
-all_gathered more acting new (inl none) is = let both : ◌≡◌ {A = Gathered} None (Some acting) = sym none ∙ is in absurd cc
-all_gathered more acting new (inr gathered) is = same_Some _ _ (sym is ∙ gathered)
-
--- what holds where there were tables, where there still are some
-pub there_if : {P : Type 0} (later mended : Option Shelves) (shelves : Shelves) → (later ≡ None → mended ≡ None) → mended ≡ Some shelves → IfSome later (λ _. P) → P
-there_if None mended shelves gone there holds = let both : ◌≡◌ {A = Option Shelves} None (Some shelves) = sym (gone refl) ∙ there in absurd cc
-there_if (Some behind) mended shelves gone there holds = holds
-
--- what follows where there are tables
-pub if_each : {P Q : Type 0} (kept : Option Shelves) → (P → Q) → IfSome kept (λ _. P) → IfSome kept (λ _. Q)
-if_each None then holds = tt
-if_each (Some shelves) then holds = then holds
-
--- what follows of what there is
-pub if_there_is : {T : Type 0} {P Q : T → Type 0} (o : Option T) → ((t : T) → P t → Q t) → IfSome o P → IfSome o Q
-if_there_is None then holds = tt
-if_there_is (Some t) then holds = then t holds

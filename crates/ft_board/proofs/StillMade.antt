@@ -1,7 +1,8 @@
--- Tables of made events as events come or go, by notes of what readings had found: events of which none found anything make none.
-use Rattle.std.proofs.Common.{◌≡◌, ℕ, Bool, true, false, refl, sym, ap, subst, ◌∙◌, Option, Some, None, is_some, unwrap_or}
-use Rattle.std.specs.Prelude.{option_and_then}
-use Rattle.std.specs.Option.{IfSome}
+-- Tables of made events as events come or go: where none is, no reading finds anything, and so none is made.
+use Rattle.std.proofs.Common.{◌≡◌, ◌⊎◌, inl, inr, ℕ, List, [], refl, sym, ap, subst, ◌∙◌, Option, Some, None}
+use Rattle.std.specs.Prelude.{◌++◌, option_and_then, option_map}
+use Rattle.std.specs.Option.{IfSome, option_map_or}
+use Rattle.std.proofs.lemmas.Option.{IfSome_then}
 use Rattle.std.specs.FinMap as map
 use Rattle.std.specs.FinMap.{get-empty}
 use Rattle.ft_fields.specs.Places.{pos_cmp}
@@ -9,33 +10,32 @@ use Rattle.ft_fields.specs.Traced.{Traced}
 use Rattle.ft_fields.specs.declared.pos.Pos.{Pos}
 use Rattle.ft_hist.specs.Hist.{Hist}
 use Rattle.ft_hist.specs.Made.{made_of}
-use Rattle.ft_hist.specs.declared.label.Var.{Var}
-use Rattle.ft_hist.specs.declared.label.Var.TheVariants as vars
-use Rattle.ft_kept.specs.Shelves.{Notes, Shelved, Shelves, KeepsNotes, FormStays, FormsStay, NotesStay, had_found}
-use Rattle.ft_pairs.specs.declared.role.Role.TheVariants.{Reads}
 use Rattle.ft_hits.specs.declared.spot.Spot.{Spot}
+use Rattle.ft_table.specs.Tabled.{Tabled}
+use Rattle.ft_changes.specs.Findings.{Findings, Lead}
+use Rattle.ft_changes.specs.declared.changed.ReadingChange.{ReadingChange}
+use Rattle.ft_kept.specs.Changes.{Tells}
+use Rattle.ft_kept.specs.Shelves.{Shelved, Shelves, kept_on}
 use Rattle.ft_base.specs.Base.{Triggers}
-use Rattle.ft_base.specs.Roles.{is_reader, role_of, saver_of}
 use Rattle.ft_replay.specs.Found.{saving_found}
 use Rattle.ft_replay.specs.Hits.{TriggerHit, hit_at}
 use Rattle.ft_replay.specs.Merged.{Events}
+use Rattle.ft_made.specs.Laws.{AreFound}
 use Rattle.ft_made.specs.MadeEvents.{made_by}
 use Rattle.ft_made.specs.MadeHits.{values_of_made}
-use Rattle.ft_made.specs.MadeTables.{Readings, found_in}
-use Rattle.ft_repair.specs.KeptShelves.{AreKept, HasItsShelf}
-use Rattle.ft_board.specs.MadeShelves.{MadeTables, AreMadeBy}
-use Rattle.ft_board.specs.inner.Mending.{AreAlike, AreNoted, CanMend, MakersRead, NothingNoted, had_by}
-use Rattle.ft_board.specs.inner.Readings.{readings_on}
+use Rattle.ft_made.specs.MadeTables.{IsMadeTable, found_in}
+use Rattle.ft_repair.specs.KeptShelves.{AreKept}
+use Rattle.ft_repair.specs.ReadingsTold.{ReadingsTold}
 use Rattle.ft_repair.specs.Repaired.{IfBoth}
+use Rattle.ft_board.specs.MadeShelves.{MadeTables, AreMadeBy, made_on}
+use Rattle.ft_board.specs.inner.Mending.{CanMendTo}
+use Rattle.ft_board.specs.inner.Readings.{readings_on}
 use Rattle.ft_board.proofs.MadeShelves.{found_on}
-use Rattle.ft_board.proofs.Mending.{alike_kept, made_by_makers}
 
 -- what shelves keep of readings is what these find
 abbrev pub ReadingsAre : Type 0
 ReadingsAre = (triggers : Triggers) (events : Events) (shelves : Shelves) → AreKept triggers events shelves
     → (id : ℕ) (hist : Hist) (shelf : Shelved) → map.get triggers id ≡ Some hist → map.get shelves id ≡ Some shelf → (at : Pos) → map.get shelf.readings at ≡ saving_found triggers events id at
-
--- ---- events more
 
 -- all of some events are among more
 abbrev pub AreAmong : Events → Events → Type 0
@@ -43,6 +43,8 @@ AreAmong events more = (at : Pos) (event : Traced) → map.get events at ≡ Som
 
 pub among_same : (events : Events) → AreAmong events events
 among_same events at event there = there
+
+-- ---- what is made
 
 pub nothing_of : {X Y : Type 0} (f : X → Option Y) (o : Option X) → ((x : X) → f x ≡ None) → option_and_then f o ≡ None
 nothing_of f None none = refl
@@ -56,59 +58,54 @@ no_saving : (triggers : Triggers) (events : Events) (id : ℕ) (at : Pos) → ma
 unfolding saving_found hit_at
 no_saving triggers events id at none = nothing_at (λ (found : TriggerHit). found.saved) (hit_at triggers events id at) (nothing_at _ (map.get events at) none)
 
-module _ (triggers : Triggers) (events more : Events) (among : AreAmong events more) (found : Readings) (none : (id : ℕ) (at : Pos) → map.get events at ≡ None → found id at ≡ None) where
-  -- what is made of an event, where the reading found this
-  abbrev made_here : Spot → Option Pos → Traced → Option Traced
-  made_here spot saved event = option_and_then (λ (hist : Hist). option_and_then (made_of hist spot.pos event) saved) (map.get triggers spot.maker)
+-- what a trigger makes of an event, where its reading found this
+abbrev pub made_here : Findings → Spot → Traced → Option Hist → Option Traced
+made_here found spot event hist = option_and_then (λ (h : Hist). option_and_then (made_of h spot.pos event) (found spot.maker spot.pos)) hist
 
-  made_alike : (spot : Spot) → made_by triggers more found spot ≡ made_by triggers events found spot
-  made_alike spot =
-      elim (map.get events spot.pos) as (λ (o : Option Traced). map.get events spot.pos ≡ o
-      → option_and_then (made_here spot (found spot.maker spot.pos)) (map.get more spot.pos) ≡ option_and_then (made_here spot (found spot.maker spot.pos)) o) [
-        | None ↦ λ gone. nothing_of (made_here spot (found spot.maker spot.pos)) (map.get more spot.pos)
-            (λ event. nothing_of (λ (hist : Hist). option_and_then (made_of hist spot.pos event) (found spot.maker spot.pos)) (map.get triggers spot.maker)
-            (λ hist. nothing_at (made_of hist spot.pos event) (found spot.maker spot.pos) (none spot.maker spot.pos gone)))
-        | Some event ↦ λ there. ap (option_and_then (made_here spot (found spot.maker spot.pos))) (among spot.pos event there)
+-- a table is a matter of what is made at each spot
+pub table_stays : (triggers others : Triggers) (events more : Events) (found later : Findings) → ((spot : Spot) → made_by others more later spot ≡ made_by triggers events found spot)
+    → (hist : Hist) (table : Tabled) → IsMadeTable triggers events found hist table → IsMadeTable others more later hist table
+table_stays triggers others events more found later same hist table is = record { size = is.size; hits = λ mark. is.hits mark ∙ sym (ap (values_of_made hist mark) (same mark.spot)) }
+
+-- what attached triggers' readings find among some events makes the same among more
+module _ (triggers : Triggers) (events more : Events) (among : AreAmong events more) (found : Findings) (are : AreFound triggers events found) where
+  abbrev finds : Findings
+  finds = saving_found triggers events
+
+  same_here : (spot : Spot) (event : Traced) → made_here found spot event (map.get triggers spot.maker) ≡ made_here finds spot event (map.get triggers spot.maker)
+  same_here spot event = elim (map.get triggers spot.maker) as (λ (o : Option Hist). map.get triggers spot.maker ≡ o → made_here found spot event o ≡ made_here finds spot event o) [
+    | None ↦ λ _. refl
+    | Some hist ↦ λ there. ap (option_and_then (made_of hist spot.pos event)) (are spot.maker hist there spot.pos)
+  ] refl
+
+  same_made : (spot : Spot) → made_by triggers more found spot ≡ made_by triggers events finds spot
+  same_made spot =
+      elim (map.get events spot.pos) as (λ (o : Option Traced). map.get events spot.pos ≡ o → made_by triggers more found spot ≡ option_and_then (λ event. made_here finds spot event (map.get triggers spot.maker)) o) [
+        | None ↦ λ gone. nothing_of _ (map.get more spot.pos)
+            (λ event. same_here spot event ∙ nothing_of _ (map.get triggers spot.maker) (λ hist. nothing_at (made_of hist spot.pos event) _ (no_saving triggers events spot.maker spot.pos gone)))
+        | Some event ↦ λ there. ap (option_and_then (λ (e : Traced). made_here found spot e (map.get triggers spot.maker))) (among spot.pos event there) ∙ same_here spot event
       ] refl
 
-  made_more : (made : MadeTables) → AreMadeBy triggers events found made → AreMadeBy triggers more found made
-  made_more made are id hist there counts = record {
-    size = (are id hist there counts).size;
-    hits = λ mark. (are id hist there counts).hits mark ∙ sym (ap (values_of_made hist mark) (made_alike mark.spot));
-  }
+  pub made_more : (made : MadeTables) → AreMadeBy triggers events finds made → AreMadeBy triggers more found made
+  made_more made its id hist there counts = table_stays triggers triggers events more finds found same_made hist (made_on made id hist) (its id hist there counts)
 
-  made_less : (made : MadeTables) → AreMadeBy triggers more found made → AreMadeBy triggers events found made
-  made_less made are id hist there counts = record {
-    size = (are id hist there counts).size;
-    hits = λ mark. (are id hist there counts).hits mark ∙ ap (values_of_made hist mark) (made_alike mark.spot);
-  }
+  pub made_less : (made : MadeTables) → AreMadeBy triggers more found made → AreMadeBy triggers events finds made
+  made_less made its id hist there counts = table_stays triggers triggers more events found finds (λ spot. sym (same_made spot)) hist (made_on made id hist) (its id hist there counts)
 
--- ---- notes that tell what readings had found
+-- ---- what is told
 
-reader_role : (triggers : Triggers) (variable : Option Var) → is_reader variable ≡ true → (saver : ℕ) × (role_of triggers variable ≡ Reads saver)
-reader_role triggers None reads = let both : ◌≡◌ {A = Bool} false true = reads in absurd cc
-reader_role triggers (Some (vars.Saves label)) reads = let both : ◌≡◌ {A = Bool} false true = reads in absurd cc
-reader_role triggers (Some (vars.Reads own source)) reads = (unwrap_or (saver_of triggers source) 0, refl)
+-- what was told since nothing was is all that is told
+pub all_told : {T X : Type 0} (more : List T) (old new : Option (List T)) → (old ≡ Some []) ⊎ ((old ≡ None) × X) → Tells more old new → IfSome new (λ told. told ≡ more)
+all_told more old new asked (inl none) = subst (λ o. IfSome o (λ told. told ≡ more)) (sym none) tt
+all_told more old new (inl nothing) (inr tells) = subst (λ o. IfSome o (λ told. told ≡ more)) (sym (tells ∙ ap (option_map (λ told. told ++ more)) nothing)) refl
+all_told more old new (inr unasked) (inr tells) = subst (λ o. IfSome o (λ told. told ≡ more)) (sym (tells ∙ ap (option_map (λ told. told ++ more)) unasked.0)) tt
 
--- a shelf of which nothing is noted had found what it finds
-had_now : (shelf : Shelved) → shelf.notes ≡ Some map.empty → (at : Pos) → had_found shelf at ≡ map.get shelf.readings at
-had_now shelf none at =
-    ap (λ (o : Option Notes). unwrap_or (option_and_then (λ (notes : Notes). map.get notes at) o) (map.get shelf.readings at)) none
-    ∙ ap (λ (o : Option (Option Pos)). unwrap_or o (map.get shelf.readings at)) (get-empty {X = Option Pos} pos_cmp at)
-
-module _ (readings : ReadingsAre) (triggers : Triggers) (events : Events) (noted : Shelves) (kept : AreKept triggers events noted) (nothing : NothingNoted triggers noted) (reads : MakersRead triggers) where
-  -- as their forms stay, the shelves of triggers that make events tell what their readings had found
-  had_saved : (later : Shelves) → FormsStay noted later → (id : ℕ) (hist : Hist) → map.get triggers id ≡ Some hist → is_some hist.onmatch ≡ true → (at : Pos) → had_by later id at ≡ saving_found triggers events id at
-  had_saved later forms id hist there makes at =
-      let has : HasItsShelf triggers (Some hist) (map.get noted id) = subst (λ (o : Option Hist). HasItsShelf triggers o (map.get noted id)) there (kept.each id) in
-      let stays : FormStays (Some has.0) (map.get later id) = subst (λ (o : Option Shelved). FormStays o (map.get later id)) has.1.0 (forms id) in
-      let role = reader_role triggers hist.variable (reads id hist there makes) in
-      let notes : KeepsNotes has.0 stays.0 = stays.1.1.notes role.0 (has.1.1.role ∙ role.1) in
-      let none : has.0.notes ≡ Some map.empty = nothing id hist has.0 there makes has.1.0 in
-      ap (option_and_then (λ (shelf : Shelved). had_found shelf at)) stays.1.0
-      ∙ notes.had (ap is_some none) at
-      ∙ had_now has.0 none at
-      ∙ readings triggers events noted kept id hist has.0 there has.1.0 at
+kept_found : (shelves : Shelves) → (kept_on shelves).read ≡ found_in (readings_on shelves)
+unfolding kept_on
+kept_found shelves = λ i id at. by at (map.get shelves id) i where
+  by : (at : Pos) (shelf : Option Shelved) → option_and_then (λ (s : Shelved). map.get s.readings at) shelf ≡ map.get (option_map_or (λ (s : Shelved). s.readings) shelf map.empty) at
+  by at None = sym (get-empty {X = Pos} pos_cmp at)
+  by at (Some shelf) = refl
 
 -- ---- an edit
 
@@ -116,58 +113,29 @@ module _ (readings : ReadingsAre) (triggers : Triggers) (events : Events) (noted
 abbrev pub AreRightIf : Triggers → Events → Option Shelves → MadeTables → Type 0
 AreRightIf triggers events kept made = IfSome kept (AreKept triggers events) × IfSome kept (λ _. AreMadeBy triggers events (saving_found triggers events) made)
 
--- shelves that are the same except for their notes are kept of the same
-pub alike_if : (triggers : Triggers) (events : Events) (old noted : Option Shelves) → IfBoth AreAlike old noted → (old ≡ None → noted ≡ None) → IfSome old (AreKept triggers events) → IfSome noted (AreKept triggers events)
-alike_if triggers events old None alike deferred kept = tt
-alike_if triggers events None (Some noted) alike deferred kept = let both : ◌≡◌ {A = Option Shelves} (Some noted) None = deferred refl in absurd cc
-alike_if triggers events (Some old) (Some noted) alike deferred kept = alike_kept triggers events old noted kept alike
+-- what kept shelves have of readings is what the triggers' readings find
+pub are_found : ReadingsAre → (triggers : Triggers) (events : Events) (shelves : Shelves) → AreKept triggers events shelves → AreFound triggers events (found_in (readings_on shelves))
+are_found readings triggers events shelves kept = found_on triggers events shelves kept (readings triggers events shelves kept)
 
 module _ (readings : ReadingsAre) (triggers : Triggers) (events more : Events) (among : AreAmong events more) where
-  can_mend : (old noted later : Shelves) (made : MadeTables) → AreKept triggers events old → AreMadeBy triggers events (saving_found triggers events) made
-      → AreAlike old noted → NothingNoted triggers noted → MakersRead triggers → FormsStay noted later → CanMend triggers more later made
-  can_mend old noted later made kept are alike nothing reads forms =
-      made_by_makers triggers more (saving_found triggers events) (had_by later) made
-      (had_saved readings triggers events noted (alike_kept triggers events old noted kept alike) nothing reads later forms)
-      (made_more triggers events more among (saving_found triggers events) (λ id at none. no_saving triggers events id at none) made are)
+  -- after a repair that tells of readings, tables that were right before can be mended
+  pub can_mend : {X : Type 0} (asked told : Option (List ReadingChange)) (old later : Option Shelves) (made : MadeTables) → (asked ≡ Some []) ⊎ ((asked ≡ None) × X)
+      → AreRightIf triggers events old made → (old ≡ None → later ≡ None) → IfBoth (ReadingsTold asked told) old later → IfSome later (λ shelves. CanMendTo triggers more told (found_in (readings_on shelves)) made)
+  can_mend asked told old None made asks right gone reread = tt
+  can_mend asked told None (Some later) made asks right gone reread = let both : ◌≡◌ {A = Option Shelves} (Some later) None = gone refl in absurd cc
+  can_mend asked told (Some old) (Some later) made asks right gone reread = record {
+    found = found_in (readings_on old);
+    made = made_more triggers events more among (found_in (readings_on old)) (are_found readings triggers events old right.0) made right.1;
+    lead = IfSome_then told (all_told reread.readings asked told asks reread.told) (λ changes all. leads (sym all));
+  } where
+    leads : {changes : List ReadingChange} → reread.readings ≡ changes → Lead changes (found_in (readings_on old)) (found_in (readings_on later))
+    leads all = subst (λ (x : List ReadingChange × (Findings × Findings)). Lead x.0 x.1.0 x.1.1) (λ i. (all i, (kept_found old i, kept_found later i))) reread.lead
 
-  -- after a repair, the tables are those of what readings had found
-  pub mend_if : (old noted later : Option Shelves) (made : MadeTables) → AreRightIf triggers events old made → AreNoted triggers old noted
-      → IfBoth FormsStay noted later → (noted ≡ None → later ≡ None) → IfSome later (λ shelves. CanMend triggers more shelves made)
-  mend_if old noted None made right notes forms gone = tt
-  mend_if old None (Some later) made right notes forms gone = let both : ◌≡◌ {A = Option Shelves} (Some later) None = gone refl in absurd cc
-  mend_if None (Some noted) (Some later) made right notes forms gone = let both : ◌≡◌ {A = Option Shelves} (Some noted) None = notes.gone refl in absurd cc
-  mend_if (Some old) (Some noted) (Some later) made right notes forms gone = can_mend old noted later made right.0 right.1 notes.alike notes.nothing notes.reads forms
-
-  mended : (shelves : Shelves) (made : MadeTables) → AreKept triggers events shelves → AreMadeBy triggers more (found_in (readings_on shelves)) made → AreMadeBy triggers events (saving_found triggers events) made
-  mended shelves made kept are =
-      made_less triggers events more among (saving_found triggers events) (λ id at none. no_saving triggers events id at none) made
-      (made_by_makers triggers more (found_in (readings_on shelves)) (saving_found triggers events) made
-      (λ id hist there makes at. sym (found_on triggers events shelves kept (readings triggers events shelves kept) id hist there at)) are)
-
-  -- mended, they are those of what readings find
-  pub mended_if : (later new : Option Shelves) (made : MadeTables) → IfSome later (AreKept triggers events) → IfBoth AreAlike later new → (later ≡ None → new ≡ None)
+  -- tables that are mended are right where the shelves are left
+  pub mended_if : (later new : Option Shelves) (made : MadeTables) → (new ≡ later) ⊎ (new ≡ None) → IfSome later (AreKept triggers events)
       → IfSome new (λ shelves. AreMadeBy triggers more (found_in (readings_on shelves)) made) → AreRightIf triggers events new made
-  mended_if later None made kept alike gone are = (tt, tt)
-  mended_if None (Some new) made kept alike gone are = let both : ◌≡◌ {A = Option Shelves} (Some new) None = gone refl in absurd cc
-  mended_if (Some later) (Some new) made kept alike gone are =
-      let still : AreKept triggers events new = alike_kept triggers events later new kept alike in
-      (still, mended new made still are)
-
--- ---- where nothing is noted
-
-quiet_on : (triggers : Triggers) (noted later : Shelves) → NothingNoted triggers noted → FormsStay noted later → NotesStay noted later → NothingNoted triggers later
-quiet_on triggers noted later nothing forms notes id hist shelf there makes is =
-    elim (map.get noted id) as (λ (o : Option Shelved). map.get noted id ≡ o → shelf.notes ≡ Some map.empty) [
-      | None ↦ λ none.
-          let gone : map.get later id ≡ None = subst (λ (o : Option Shelved). FormStays o (map.get later id)) none (forms id) in
-          let both : ◌≡◌ {A = Option Shelved} (Some shelf) None = sym is ∙ gone in
-          absurd cc
-      | Some before ↦ λ some.
-          sym (ap (option_and_then (λ (s : Shelved). s.notes)) is) ∙ notes id ∙ ap (option_and_then (λ (s : Shelved). s.notes)) some ∙ nothing id hist before there makes some
-    ] refl
-
--- a repair that leaves all notes notes nothing
-pub quiet_if : (triggers : Triggers) (noted later : Option Shelves) → IfSome noted (NothingNoted triggers) → IfBoth FormsStay noted later → IfBoth NotesStay noted later → (noted ≡ None → later ≡ None) → IfSome later (NothingNoted triggers)
-quiet_if triggers noted None nothing forms notes gone = tt
-quiet_if triggers None (Some later) nothing forms notes gone = let both : ◌≡◌ {A = Option Shelves} (Some later) None = gone refl in absurd cc
-quiet_if triggers (Some noted) (Some later) nothing forms notes gone = quiet_on triggers noted later nothing forms notes
+  mended_if later None made left kept are = (tt, tt)
+  mended_if later (Some new) made (inr none) kept are = let both : ◌≡◌ {A = Option Shelves} (Some new) None = none in absurd cc
+  mended_if later (Some new) made (inl same) kept are =
+      let still : AreKept triggers events new = subst (λ (o : Option Shelves). IfSome o (AreKept triggers events)) (sym same) kept in
+      (still, made_less triggers events more among (found_in (readings_on new)) (are_found readings triggers events new still) made are)

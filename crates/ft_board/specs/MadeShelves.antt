@@ -8,7 +8,8 @@ use Rattle.ft_table.specs.Tabled.{Tabled}
 use Rattle.ft_base.specs.Base.{Base, Triggers}
 use Rattle.ft_replay.specs.Found.{saving_found}
 use Rattle.ft_replay.specs.Merged.{Events, merged}
-use Rattle.ft_made.specs.MadeTables.{Readings, IsMadeTable}
+use Rattle.ft_changes.specs.Findings.{Findings}
+use Rattle.ft_made.specs.MadeTables.{IsMadeTable}
 use Rattle.ft_answers.specs.Counting.{counts_made}
 
 -- tables of made events, by the trigger's id
@@ -20,7 +21,7 @@ abbrev pub made_on : MadeTables → ℕ → Hist → Tabled
 made_on made id hist = unwrap_or (map.get made id) (record { hits = map.empty; size = hist.size })
 
 -- each attached trigger that counts made events has the table of those that these readings make (kernel: histogram.rst, synthetic events)
-abbrev pub AreMadeBy : Triggers → Events → Readings → MadeTables → Type 0
+abbrev pub AreMadeBy : Triggers → Events → Findings → MadeTables → Type 0
 AreMadeBy triggers events found made = (id : ℕ) (hist : Hist) → map.get triggers id ≡ Some hist → counts_made hist ≡ true
     → IsMadeTable triggers events found hist (made_on made id hist)
 

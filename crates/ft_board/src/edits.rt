@@ -17,13 +17,12 @@ ghost use Rattle.ft_repair.specs.OneEvent.{ChangeCosts, LineNeedsNoMemory};
 ghost use Rattle.ft_board.specs.inner.Edits.{CanChange, Edit, IsEdit, ReportsEdit};
 ghost use Rattle.ft_board.specs.inner.Views.{AreFresh, AreOf, EndsAs};
 
-use crate::mend::take_notes;
+use crate::mend::where_kept;
 use crate::report::reported_edits;
-use crate::turned::where_kept;
 use crate::views::Views;
 use ft_answers::{Done, Edited, Kept};
 use ft_base::{Content, Place};
-use ft_kept::{Acted, Sign};
+use ft_kept::Sign;
 use ft_maps::take;
 use ft_repair::{join, kept_shelves, leave, let_change, let_lane_go, let_lanes_come, make_way};
 
@@ -47,24 +46,21 @@ impl Views {
         kept_shelves();
         reported_edits();
         ft_made::made_tables();
-        let mut acted = Acted::new(self.alloc);
-        take_notes(&mut self.shelves, content);
+        let mut changes = self.asked(content).with_keys(self.alloc);
         let_change(
             &mut self.shelves,
             content,
             sign,
             place,
-            &mut acted,
+            &mut changes,
             &mut self.work,
         );
-        let made = self.turned(content);
-        let kept = self.mend(content);
-        let report = self.report(content, &acted);
-        let made = where_kept(&self.shelves, made);
+        let mut made = Some(Vec::new(self.alloc));
+        let kept = self.mend(content, &changes, &mut made);
         let value = Edited {
             place,
-            report,
-            made,
+            report: self.report(content, &changes),
+            made: where_kept(&self.shelves, made),
         };
         Done { value, kept }
     }
@@ -80,15 +76,16 @@ impl Views {
             ≤ self.old.work.evals + count_coming before.now content.now }
     {
         kept_shelves();
-        take_notes(&mut self.shelves, content);
+        let mut changes = self.asked(content);
         let_lanes_come(
             &mut self.shelves,
             self.alloc,
             content,
             before,
+            &mut changes,
             &mut self.work,
         );
-        self.mend(content)
+        self.mend(content, &changes, &mut None)
     }
 
     /// The events of a CPU's lane, which is still held, go from what is kept: whether there are
@@ -105,9 +102,15 @@ impl Views {
             ≤ self.old.work.evals + count_on_lane content.now.triggers lane }
     {
         kept_shelves();
-        take_notes(&mut self.shelves, content);
-        let_lane_go(&mut self.shelves, content, cpu, &mut self.work);
-        self.mend(content)
+        let mut changes = self.asked(content);
+        let_lane_go(
+            &mut self.shelves,
+            content,
+            cpu,
+            &mut changes,
+            &mut self.work,
+        );
+        self.mend(content, &changes, &mut None)
     }
 
     /// A trigger that was attached, or got another filter, joins what is kept, with those that read

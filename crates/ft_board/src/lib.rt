@@ -5,15 +5,15 @@
 //! of events that readings make. Each edit of the board is one of its methods. The shelves follow
 //! the base by `ft_repair`: one event more or less changes a few entries, one trigger more or less
 //! leaves those of the others, and where more events are loaded or unloaded than stay, all is built
-//! anew. As events come or go, the tables of made events are mended: the shelves note what readings
-//! had found, and after the repair the hits of made events go and come where something is noted.
-//! They are made anew where shelves are built anew, as a trigger is attached or gets another
-//! filter, and as one goes that read. Where memory runs out for any of it, the edit stands, and the
-//! next answer builds it.
+//! anew. As events come or go, the tables of made events are mended: the repair of the shelves
+//! tells what readings had found and what they find, and hits of made events go and come
+//! accordingly. They are made anew where shelves are built anew, as a trigger is attached or gets
+//! another filter, and as one goes that read. Where memory runs out for any of it, the edit stands,
+//! and the next answer builds it.
 //!
 //! An event that is inserted or struck may change a few rows of each trigger that counts held
-//! events, and these are reported: they are found by the triggers that act at the event and by what
-//! is kept after it. The rows of triggers that count made events are named apart (`Edited::made`).
+//! events, and these are reported: they are found by the keys that the repair told and by what is
+//! kept after it. The rows of triggers that count made events are named apart (`Edited::made`).
 //!
 //! ```ignore
 //! let mut board = KeptBoard::new(rt.alloc());
@@ -42,12 +42,13 @@
 //! The laws `kept_shelves`, `others_stay` and `readers_stay` of `ft_repair` are reached here too.
 //!
 //! **Made events.** Where events come or go one by one, the tables of made events are mended. The
-//! shelf of each trigger that makes events notes what its readings had found before they changed
-//! (`specs/inner/Mending.antt`). After the repair, the hit of what was made of that goes from each
-//! table that counts it, and the hit of what is made instead comes. Where nothing was noted, this
-//! takes neither memory nor steps. The tables are made anew where shelves are built anew, after
-//! `attach` and `refilter`, and as a reader is removed. No clause bounds the steps of either where
-//! made events are counted; where memory runs out, the shelves are given up too.
+//! repair of the shelves tells what readings had found and what they find
+//! (`specs/inner/Mending.antt`). After it, the hit of what was made of the one goes from each table
+//! that counts it, and the hit of what is made of the other comes. Where no reading changed, this
+//! takes neither memory nor steps, and nothing is told where no made event is counted. The tables
+//! are made anew where shelves are built anew, after `attach` and `refilter`, and as a reader is
+//! removed. No clause bounds the steps of either where made events are counted; where memory runs
+//! out, the shelves are given up too.
 //!
 //! **Which tables an edit touches** is how the source does it: `insert` and `strike` repair the
 //! tables by the one event, `attach` and `remove` add or take one trigger's, `refilter` builds anew
@@ -59,15 +60,15 @@
 //!
 //! **Reports.** That `insert` and `strike` have a report wherever the tables have the edit, and
 //! memory for the report is found, is how the source does it: both are one method, `Views::change`,
-//! for either sign. What they name is `ft_report`'s report of the acts that were gathered as the
-//! event came or went, by what is kept after it, which the private law `reported_edits` proves to
-//! be a report of the bases before and after the edit (`specs/inner/Reported.antt`). No edit is put
-//! off for its report: `Acted::add` and `Views::report` refuse nothing; where memory for either
-//! runs out there is no report, and the repair goes on. Of a strike of a hit of triggers without a
-//! variable alone, the clause `now` says so; of others, a test that refuses each growth of memory
-//! in turn. The rows of made events are found between the repair and the mending, from the notes,
-//! and hold of the tables before and after it: that is a clause of `Views::turned`
-//! (`specs/inner/Turned.antt`).
+//! for either sign. What they name is `ft_report`'s report of the keys that were told as the event
+//! came or went, by what is kept after it, which the private law `reported_edits` proves to be a
+//! report of the bases before and after the edit (`specs/inner/Reported.antt`). No edit is put off
+//! for its report: where memory for keys or rows runs out there is no report, and the repair goes
+//! on. Of a strike of a hit of triggers without a variable alone, the clause `now` says so; of
+//! others, a test that refuses each growth of memory in turn. The rows of made events are told as
+//! their tables are mended, and hold of the tables before and after it: that is a clause of
+//! `Views::mend` (`specs/inner/Turned.antt`). Where memory for the readings that changed runs out,
+//! the tables of made events can't be mended, and the shelves are given up.
 #![tactic(auto)]
 
 mod answers;
@@ -78,7 +79,6 @@ mod made;
 mod mend;
 mod readings;
 mod report;
-mod turned;
 mod views;
 
 pub use ft_answers::{Board, PlainBoard};

@@ -1,7 +1,7 @@
-//! Tables of the events that readings make, beside the shelves: made anew where the shelves are built
-//! anew, or a trigger comes, gets another filter, or goes that read.
+//! Tables of the events that readings make, beside the shelves: made anew where the shelves are
+//! built anew, or a trigger comes, gets another filter, or goes that read.
 
-ghost use Rattle.std.specs.Prelude.{◌≡◌, true, false, is_some, IfOk, OnErr};
+ghost use Rattle.std.specs.Prelude.{◌≡◌, ◌⊎◌, true, false, is_some, IfOk, OnErr};
 ghost use Rattle.std.specs.Ordering.{nat_cmp};
 ghost use Rattle.ft_hist.specs.Steps.{StepsGrow};
 ghost use Rattle.ft_maps.specs.Seen.{seen};
@@ -42,7 +42,6 @@ pub(crate) fn made_tables(
     ensures grow { StepsGrow work.old work.new }
 {
     laws::kept_shelves();
-    ft_made::same_made();
     let (lanes, triggers) = (content.lanes(), content.triggers());
     if !has_maker(triggers) {
         return Ok(BTreeMap::new(alloc));
@@ -76,6 +75,29 @@ fn counting_tables(
     Ok(made)
 }
 
+/// Whether events are made that are counted: some attached trigger makes events of its readings,
+/// and some counts such events.
+pub(crate) fn are_made(triggers: &BTreeMap<u32, Trigger>) -> bool
+    ensures none { result ≡ false
+        → MakeNone (seen nat_cmp triggers.now) ⊎ CountNone (seen nat_cmp triggers.now) }
+    ensures nothing { MakesNothing (seen nat_cmp triggers.now) → result ≡ false }
+{
+    has_maker(triggers) && has_counting(triggers)
+}
+
+/// Whether some attached trigger counts made events.
+fn has_counting(triggers: &BTreeMap<u32, Trigger>) -> bool
+    ensures none { result ≡ false → CountNone (seen nat_cmp triggers.now) }
+    ensures some { CountNone (seen nat_cmp triggers.now) → result ≡ false }
+{
+    for (_, trigger) in entries(triggers) {
+        if counts_made(trigger) {
+            return true;
+        }
+    }
+    false
+}
+
 /// Whether some attached trigger makes events of its readings.
 fn has_maker(triggers: &BTreeMap<u32, Trigger>) -> bool
     ensures none { result ≡ false → MakeNone (seen nat_cmp triggers.now) }
@@ -91,7 +113,7 @@ fn has_maker(triggers: &BTreeMap<u32, Trigger>) -> bool
 
 /// Whether a trigger makes events of its readings: then it reads.
 #[tactic(auto, using(crate::proofs::Makers::makers_read))]
-pub(crate) fn makes(trigger: &Trigger) -> bool
+fn makes(trigger: &Trigger) -> bool
     ensures makes { result ≡ is_some trigger.now.onmatch }
     ensures reads { result ≡ true → is_reader trigger.now.variable ≡ true }
 {

@@ -1,265 +1,252 @@
-//! Tables of made events that are mended where they stand: while an edit repairs the shelves, notes
-//! are taken of what readings had found, and after it the events that were made of what these had
-//! found go from the tables, and those that are made of what they find come.
+//! Tables of made events that are mended where they stand: the repair of the shelves tells what
+//! readings had found and what they find; the events that were made of the one go from the tables,
+//! and those that are made of the other come. On the way the rows are told that this may change.
 
-ghost use Rattle.std.specs.Prelude.{◌≡◌, false, None, Ok, IfSome, OnOk};
+ghost use Rattle.std.specs.Prelude.{◌≡◌, ◌⊎◌, ◌++◌, [], None, Some, IfSome, OnOk};
+ghost use Rattle.std.specs.Prelude.{option_and_then, option_map};
 ghost use Rattle.std.specs.Ordering.{nat_cmp};
 ghost use Rattle.ft_hist.specs.Steps.{StepsGrow};
 ghost use Rattle.ft_maps.specs.Seen.{seen};
 ghost use Rattle.ft_replay.specs.Merged.{merged};
 ghost use Rattle.ft_made.specs.MadeTables.{found_in};
-ghost use Rattle.ft_answers.specs.Counting.{CountNone, MakesNothing, ReadersMakeNone};
+ghost use Rattle.ft_made.specs.Making.{MakeNone};
+ghost use Rattle.ft_made.specs.Turning.{CanTurn, HasTurned};
+ghost use Rattle.ft_answers.specs.Counting.{CountNone, MakesNothing};
+ghost use Rattle.ft_kept.specs.Changes.{Tells};
 ghost use Rattle.ft_board.specs.MadeShelves.{AreMadeBy, made_on};
-ghost use Rattle.ft_board.specs.inner.Mending.{AreAlike, AreNoted, CanMend, FindTheSame, MakersRead};
-ghost use Rattle.ft_board.specs.inner.Mending.{CanTurnOn, HasTurnedOn, NothingNoted, OthersStay};
-ghost use Rattle.ft_board.specs.inner.Mending.{FindsMade, HadMade, events_in, is_noted_on, triggers_in};
+ghost use Rattle.ft_board.specs.inner.Mending.{CanMend, HaveMended, OthersStay};
+ghost use Rattle.ft_board.specs.inner.Mending.{events_in, triggers_in};
 ghost use Rattle.ft_board.specs.inner.Readings.{readings_on};
+ghost use Rattle.ft_board.specs.inner.Turned.{AreTurnedRows, rows_in, rows_turned};
 ghost use Rattle.ft_board.specs.inner.Views.{CanBeMended, EndsAs, made_in};
-ghost use Rattle.ft_repair.specs.Repaired.{IfBoth};
 
-use crate::made::makes;
+use crate::made::are_made;
 use crate::views::Views;
 use ft_answers::{Kept, counts_made};
 use ft_base::Content;
+use ft_changes::{Changed, ReadingChange, rivals};
 use ft_hist::{Trigger, Work};
-use ft_kept::Tables;
-use ft_lanes::Lanes;
-use ft_made::{Turn, turn_made};
-use ft_maps::{entries, len, put};
+use ft_kept::{Changes, Tables};
+use ft_made::{put_turned_keys, turn_made};
+use ft_maps::{entries, put};
+use ft_report::{distinct, put_rows};
 use ft_table::Table;
 use std::alloc::{AllocError, Global};
 use std::collections::BTreeMap;
 
-// ---- notes
-
-/// Takes notes from now on of what the readings had found of each attached trigger that makes
-/// events. It takes no memory.
-pub(crate) fn take_notes(kept: &mut Option<Tables>, content: &Content)
-    ensures noted { AreNoted content.now.triggers kept.old kept.new }
-    ensures now { kept.new ≡ None → kept.old ≡ None }
-{
-    let Some(mut tables) = kept.take() else {
-        return;
-    };
-    note_makers(&mut tables, content.triggers());
-    *kept = Some(tables);
-}
-
-/// Takes notes from now on on the shelf of each attached trigger that makes events.
-fn note_makers(tables: &mut Tables, triggers: &BTreeMap<u32, Trigger>)
-    ensures alike { AreAlike tables.old tables.new }
-    ensures nothing { NothingNoted (seen nat_cmp triggers.now) tables.new }
-    ensures reads { MakersRead (seen nat_cmp triggers.now) }
-{
-    for (id, trigger) in entries(triggers) {
-        if makes(trigger) {
-            tables.take_notes(*id);
-        }
-    }
-}
-
-/// Drops the notes on the shelf of each attached trigger that makes events.
-fn drop_notes(tables: &mut Tables, triggers: &BTreeMap<u32, Trigger>)
-    ensures { AreAlike tables.old tables.new }
-{
-    for (id, trigger) in entries(triggers) {
-        if makes(trigger) {
-            tables.drop_notes(*id);
-        }
-    }
-}
-
-/// Whether something is noted of the readings of some attached trigger that makes events.
-pub(crate) fn is_noted(tables: &Tables, triggers: &BTreeMap<u32, Trigger>) -> bool
-    ensures same { result ≡ false → FindTheSame (seen nat_cmp triggers.now) tables.now }
-    ensures quiet { NothingNoted (seen nat_cmp triggers.now) tables.now → result ≡ false }
-    ensures nothing { ReadersMakeNone (seen nat_cmp triggers.now) → result ≡ false }
-{
-    for (id, trigger) in entries(triggers) {
-        if makes(trigger) && has_notes(tables, *id) {
-            return true;
-        }
-    }
-    false
-}
-
-/// Whether something is noted of a trigger's readings.
-fn has_notes(tables: &Tables, id: u32) -> bool
-    ensures { result ≡ is_noted_on tables.now id }
-{
-    let Some(shelf) = tables.shelf(id) else {
-        return false;
-    };
-    match shelf.notes() {
-        Some(notes) => len(notes) != 0,
-        None => false,
-    }
-}
-
-// ---- tables
-
 /// What tables of made events are mended by.
-#[derive(Drop)]
-pub(crate) struct Scene<'a> {
+#[derive(Clone, Copy)]
+pub(crate) struct Mending<'a> {
     pub(crate) alloc: Global,
-    pub(crate) lanes: &'a Lanes,
-    pub(crate) triggers: &'a BTreeMap<u32, Trigger>,
-    pub(crate) tables: &'a Tables,
+    pub(crate) content: &'a Content,
+    pub(crate) changes: &'a [ReadingChange],
 }
 
 impl Views {
-    /// Mends the tables of made events after a repair of the shelves, by the notes that were taken,
-    /// and drops the notes: whether there are shelves then. Where memory runs out, they are given
-    /// up. Where nothing was noted, it takes neither memory nor steps.
-    pub(crate) fn mend(&mut self, content: &Content) -> Kept
-        requires { CanBeMended content.now self.old }
-        ensures alike { IfBoth AreAlike self.old.shelves self.new.shelves }
+    /// What a repair is asked to tell so that the tables of made events can be mended: how readings
+    /// change, where such events are made and counted. It takes no memory.
+    pub(crate) fn asked(&self, content: &Content) -> Changes
+        ensures keys { result.keys ≡ None }
+        ensures readings { (result.readings ≡ Some [])
+            ⊎ ((result.readings ≡ None)
+            × (MakeNone content.now.triggers ⊎ CountNone content.now.triggers)) }
+    {
+        let changes = Changes::unasked();
+        if are_made(content.triggers()) {
+            changes.with_readings(self.alloc)
+        } else {
+            changes
+        }
+    }
+
+    /// Mends the tables of made events after a repair of the shelves, by what it told of readings:
+    /// whether there are shelves then. Where memory ran out as it told, or runs out here, they are
+    /// given up. The rows that this may change are told too, where memory for them is found. Where
+    /// no reading changed, or no made event is counted, it takes neither memory nor steps.
+    pub(crate) fn mend(
+        &mut self,
+        content: &Content,
+        changes: &Changes,
+        rows: &mut Option<Vec<Changed>>,
+    ) -> Kept
+        requires told { CanBeMended content.now changes.now.readings self.old }
+        requires none { IfSome rows.old (λ rows. rows.items ≡ []) }
+        ensures shelves { (self.new.shelves ≡ self.old.shelves) ⊎ (self.new.shelves ≡ None) }
         ensures made { IfSome self.new.shelves (λ shelves. AreMadeBy content.now.triggers
             (merged content.now.lanes) (found_in (readings_on shelves)) (made_in self.new)) }
+        ensures rows { IfSome rows.new (λ rows. IfSome self.new.shelves (λ shelves.
+            AreTurnedRows content.now.triggers (merged content.now.lanes) shelves
+            (made_in self.old) rows.items)) }
         ensures ends { EndsAs result self.old self.new }
-        ensures quiet { IfSome self.old.shelves (NothingNoted content.now.triggers)
+        ensures quiet { changes.now.readings ≡ Some []
             → self.new.shelves ≡ None → self.old.shelves ≡ None }
         ensures nothing { MakesNothing content.now.triggers
-            → (self.new.shelves ≡ None → self.old.shelves ≡ None)
-            × (self.new.work ≡ self.old.work) }
+            → (self.new.shelves ≡ self.old.shelves) × (self.new.work ≡ self.old.work) }
     {
-        let Some(mut tables) = self.shelves.take() else {
+        ft_changes::some_rivals();
+        ft_made::turned_keys();
+        if self.shelves.is_none() {
             return Kept::Later;
+        }
+        if !are_made(content.triggers()) {
+            return self.kept();
+        }
+        let Some(changes) = changes.readings() else {
+            return self.give_up();
         };
-        match turn_tables(&mut self.made, self.alloc, content, &tables, &mut self.work) {
-            Ok(()) => {
-                drop_notes(&mut tables, content.triggers());
-                self.shelves = Some(tables);
-                Kept::Now
-            }
-            Err(_) => Kept::Later,
+        if changes.is_empty() {
+            return self.kept();
+        }
+        let mending = Mending {
+            alloc: self.alloc,
+            content,
+            changes,
+        };
+        match turn_counting(&mut self.made, &mending, rows, &mut self.work) {
+            Ok(()) => Kept::Now,
+            Err(_) => self.give_up(),
         }
     }
 }
 
-/// Turns the tables of made events from those of what readings had found to those of what they find.
-/// Where nothing was noted, it takes neither memory nor steps. Refused for memory, and then the
-/// tables are of no use any more.
-fn turn_tables(
-    made: &mut BTreeMap<u32, Table>,
-    alloc: Global,
-    content: &Content,
-    tables: &Tables,
-    work: &mut Work,
-) -> Result<(), AllocError>
-    requires { CanMend content.now.triggers (merged content.now.lanes) tables.now
-        (seen nat_cmp made.old) }
-    ensures made { OnOk result (AreMadeBy content.now.triggers (merged content.now.lanes)
-        (found_in (readings_on tables.now)) (seen nat_cmp made.new)) }
-    ensures quiet { NothingNoted content.now.triggers tables.now → result ≡ Ok tt }
-    ensures nothing { MakesNothing content.now.triggers
-        → (result ≡ Ok tt) × (work.new ≡ work.old) }
-    ensures grow { StepsGrow work.old work.new }
+/// Rows that were told as tables were mended, where these are kept.
+pub(crate) fn where_kept(kept: &Option<Tables>, rows: Option<Vec<Changed>>) -> Option<Vec<Changed>>
+    ensures { result ≡ option_and_then (λ _. rows) kept.now }
 {
-    let (lanes, triggers) = (content.lanes(), content.triggers());
-    if !is_noted(tables, triggers) {
-        return Ok(());
+    match kept {
+        Some(_) => rows,
+        None => None,
     }
-    let scene = Scene {
-        alloc,
-        lanes,
-        triggers,
-        tables,
-    };
-    turn_counting(made, &scene, work)
 }
 
-/// Turns the table of each attached trigger that counts made events. Refused for memory.
+/// Turns the table of each attached trigger that counts made events, and adds the rows that this
+/// may change to others, where memory for them is found. Refused for memory.
 fn turn_counting(
     made: &mut BTreeMap<u32, Table>,
-    scene: &Scene<'_>,
+    mending: &Mending<'_>,
+    rows: &mut Option<Vec<Changed>>,
     work: &mut Work,
 ) -> Result<(), AllocError>
-    requires { CanMend (triggers_in scene.now) (events_in scene.now) scene.now.tables.now
+    requires { CanMend (triggers_in mending.now) (events_in mending.now) mending.now.changes.now
         (seen nat_cmp made.old) }
-    ensures made { OnOk result (AreMadeBy (triggers_in scene.now) (events_in scene.now)
-        (found_in (readings_on scene.now.tables.now)) (seen nat_cmp made.new)) }
-    ensures idle { CountNone (triggers_in scene.now)
-        → (result ≡ Ok tt) × (work.new ≡ work.old) }
+    ensures made { OnOk result (HaveMended (triggers_in mending.now) (events_in mending.now)
+        mending.now.changes.now (seen nat_cmp made.old) (seen nat_cmp made.new)) }
+    ensures rows { OnOk result (Tells (rows_turned (triggers_in mending.now) (events_in mending.now)
+        mending.now.changes.now (seen nat_cmp made.old))
+        (option_map (λ rows. rows.items) rows.old) (option_map (λ rows. rows.items) rows.new)) }
     ensures grow { StepsGrow work.old work.new }
 {
-    for (id, trigger) in entries(scene.triggers) {
+    for (id, trigger) in entries(mending.content.triggers()) {
         if counts_made(trigger) {
-            turn_kept(made, scene, *id, trigger, work)?;
+            turn_kept(made, mending, *id, trigger, rows, work)?;
         }
     }
     Ok(())
 }
 
-/// Turns the table of one trigger; where none is kept, it is one without hits. Refused for memory.
+/// Turns the table of one trigger; where none is kept, it is one without hits. The rows that this
+/// may change are added to others, where memory for them is found. Refused for memory.
 fn turn_kept(
     made: &mut BTreeMap<u32, Table>,
-    scene: &Scene<'_>,
+    mending: &Mending<'_>,
     id: u32,
     trigger: &Trigger,
+    rows: &mut Option<Vec<Changed>>,
     work: &mut Work,
 ) -> Result<(), AllocError>
-    requires { HadMade scene.now trigger.now (made_on (seen nat_cmp made.old) id trigger.now) }
-    ensures turned { OnOk result (FindsMade scene.now trigger.now
+    requires { CanTurn (triggers_in mending.now) (events_in mending.now) mending.now.changes.now
+        trigger.now (made_on (seen nat_cmp made.old) id trigger.now) }
+    ensures turned { OnOk result (HasTurned (triggers_in mending.now) (events_in mending.now)
+        mending.now.changes.now trigger.now (made_on (seen nat_cmp made.old) id trigger.now)
         (made_on (seen nat_cmp made.new) id trigger.now)) }
     ensures others { OnOk result (OthersStay id (seen nat_cmp made.old) (seen nat_cmp made.new)) }
+    ensures rows { OnOk result (Tells (rows_in (triggers_in mending.now) (events_in mending.now)
+        mending.now.changes.now (made_on (seen nat_cmp made.old) id trigger.now) id trigger.now)
+        (option_map (λ rows. rows.items) rows.old) (option_map (λ rows. rows.items) rows.new)) }
     ensures grow { StepsGrow work.old work.new }
 {
     match made.get_mut(&id) {
-        Some(table) => turn_makers(table, scene, trigger, work),
+        Some(table) => turn_table(table, mending, id, trigger, rows, work),
         None => {
-            let mut table = Table::new(scene.alloc, trigger.size());
-            turn_makers(&mut table, scene, trigger, work)?;
+            let mut table = Table::new(mending.alloc, trigger.size());
+            turn_table(&mut table, mending, id, trigger, rows, work)?;
             put(made, id, table)
         }
     }
 }
 
-/// Turns the table of one trigger, for one trigger that makes events after the other. Refused for
-/// memory.
-fn turn_makers(
+/// Turns a trigger's table, and adds the rows that this may change to others, where memory for them
+/// is found. Refused for memory.
+fn turn_table(
     table: &mut Table,
-    scene: &Scene<'_>,
+    mending: &Mending<'_>,
+    id: u32,
     trigger: &Trigger,
+    rows: &mut Option<Vec<Changed>>,
     work: &mut Work,
 ) -> Result<(), AllocError>
-    requires { HadMade scene.now trigger.now table.old }
-    ensures turned { OnOk result (FindsMade scene.now trigger.now table.new) }
+    requires { CanTurn (triggers_in mending.now) (events_in mending.now) mending.now.changes.now
+        trigger.now table.old }
+    ensures turned { OnOk result (HasTurned (triggers_in mending.now) (events_in mending.now)
+        mending.now.changes.now trigger.now table.old table.new) }
+    ensures rows { Tells (rows_in (triggers_in mending.now) (events_in mending.now)
+        mending.now.changes.now table.old id trigger.now)
+        (option_map (λ rows. rows.items) rows.old) (option_map (λ rows. rows.items) rows.new) }
     ensures grow { StepsGrow work.old work.new }
 {
-    for (id, maker) in entries(scene.triggers) {
-        if makes(maker) {
-            turn_maker(table, scene, trigger, *id, maker, work)?;
-        }
-    }
-    Ok(())
+    tell_rows(rows, table, mending, id, trigger, work);
+    let (lanes, triggers) = (mending.content.lanes(), mending.content.triggers());
+    turn_made(table, lanes, triggers, trigger, mending.changes, work)
 }
 
-/// Turns the table of one trigger, for one trigger that makes events: by what is noted of its
-/// readings. Refused for memory.
-fn turn_maker(
-    table: &mut Table,
-    scene: &Scene<'_>,
-    trigger: &Trigger,
+/// Adds the rows of a trigger on which changes of readings bear to others. Where memory for them
+/// runs out, no rows are told any more.
+fn tell_rows(
+    rows: &mut Option<Vec<Changed>>,
+    table: &Table,
+    mending: &Mending<'_>,
     id: u32,
-    maker: &Trigger,
+    trigger: &Trigger,
     work: &mut Work,
-) -> Result<(), AllocError>
-    requires { CanTurnOn (events_in scene.now) id maker.now scene.now.tables.now trigger.now
-        table.old }
-    ensures turned { OnOk result (HasTurnedOn (events_in scene.now) id maker.now
-        scene.now.tables.now trigger.now table.old table.new) }
+)
+    ensures rows { Tells (rows_in (triggers_in mending.now) (events_in mending.now)
+        mending.now.changes.now table.now id trigger.now)
+        (option_map (λ rows. rows.items) rows.old) (option_map (λ rows. rows.items) rows.new) }
     ensures grow { StepsGrow work.old work.new }
 {
-    let Some(shelf) = scene.tables.shelf(id) else {
-        return Ok(());
+    let Some(mut told) = rows.take() else {
+        return;
     };
-    let Some(notes) = shelf.notes() else {
-        return Ok(());
-    };
-    let turn = Turn {
-        notes,
-        readings: shelf.readings(),
-    };
-    turn_made(table, scene.lanes, trigger, id, maker, turn, work)
+    if put_turned_rows(&mut told, table, mending, id, trigger, work).is_ok() {
+        *rows = Some(told);
+    }
+}
+
+/// Adds the rows of a trigger on which changes of readings bear to others: those of the keys of
+/// what the readings made and make, and of the rivals of these in the trigger's table. Refused for
+/// memory.
+fn put_turned_rows(
+    rows: &mut Vec<Changed>,
+    table: &Table,
+    mending: &Mending<'_>,
+    id: u32,
+    trigger: &Trigger,
+    work: &mut Work,
+) -> Result<(), AllocError>
+    ensures rows { OnOk result (rows.new.items ≡ rows.old.items ++ rows_in (triggers_in mending.now)
+        (events_in mending.now) mending.now.changes.now table.now id trigger.now) }
+    ensures grow { StepsGrow work.old work.new }
+{
+    let Mending {
+        alloc,
+        content,
+        changes,
+    } = *mending;
+    let (lanes, triggers) = (content.lanes(), content.triggers());
+    let mut turned = Vec::new(alloc);
+    put_turned_keys(&mut turned, lanes, triggers, trigger, changes, work)?;
+    let mut keys = distinct(alloc, &turned)?;
+    let others = rivals(alloc, table, &keys)?;
+    keys.extend_from_slice(&others)?;
+    put_rows(rows, id, &keys)
 }

@@ -5,27 +5,27 @@ ghost use Rattle.ft_board.specs.inner.Reported.{IsReportBy, RepairsReported};
 
 use crate::views::Views;
 use ft_base::Content;
-use ft_kept::Acted;
+use ft_changes::Changed;
+use ft_kept::Changes;
 use ft_repair::kept_shelves;
 use ft_report::changed_rows;
-use ft_rivals::Changed;
 
 impl Views {
-    /// The rows that may differ with an event and without it, by what was gathered as it came or
-    /// went and by what is kept after it. None where there are no shelves or nothing was gathered,
-    /// or where memory runs out.
-    pub(crate) fn report(&self, content: &Content, acted: &Acted) -> Option<Vec<Changed>>
+    /// The rows that may differ with an event and without it, by the keys that were told as it came or
+    /// went and by what is kept after it. None where there are no shelves or no keys were told, or
+    /// where memory runs out.
+    pub(crate) fn report(&self, content: &Content, changes: &Changes) -> Option<Vec<Changed>>
         ensures none { self.now.shelves ≡ None → result ≡ None }
         ensures rows { IfSome result (λ rows.
-            IsReportBy content.now.triggers self.now.shelves acted.now rows.items) }
+            IsReportBy content.now.triggers self.now.shelves changes.now.keys rows.items) }
     {
         let Some(tables) = &self.shelves else {
             return None;
         };
-        let Some(acting) = acted.all() else {
+        let Some(keys) = changes.keys() else {
             return None;
         };
-        changed_rows(self.alloc, tables, content.triggers(), acting).ok()
+        changed_rows(self.alloc, tables, content.triggers(), keys).ok()
     }
 }
 
@@ -36,6 +36,5 @@ pub(crate) fn reported_edits()
 {
     kept_shelves();
     ft_made::counted_made();
-    ft_report::event_rows();
     ft_report::reported_rows();
 }

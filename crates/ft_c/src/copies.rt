@@ -8,7 +8,7 @@ ghost use Rattle.ft_layout.specs.Rows.{row_layout, changed_layout};
 ghost use Rattle.ft_session.specs.Told.{rows_told, made_told};
 ghost use Rattle.ft_c.specs.Copies.{IsCopied};
 
-use ft_handle::Handle;
+use crate::handle::Handle;
 use ft_layout::{
     ChangedLayout, EventLayout, LatencyLayout, PlaceLayout, RowLayout, TriggerLayout, copy_bytes,
     copy_changed, copy_events, copy_latencies, copy_places, copy_rows, copy_triggers,

@@ -9,7 +9,7 @@ ghost use Rattle.ft_session.specs.Told.{rows_told, made_told};
 ghost use Rattle.ft_c.specs.Codes.{closed};
 
 use crate::codes::{ACCEPTED, CLOSED, MEMORY};
-use ft_handle::Handle;
+use crate::handle::Handle;
 use ft_layout::{RefusalLayout, ReportLayout};
 use ft_session::Session;
 use std::alloc::Global;

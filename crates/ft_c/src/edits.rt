@@ -10,7 +10,7 @@ ghost use Rattle.ft_session.specs.Calls.{Edits, EditsInPlace, Inserts, Strikes};
 ghost use Rattle.ft_c.specs.Codes.{closed};
 
 use crate::codes::CLOSED;
-use ft_handle::Handle;
+use crate::handle::Handle;
 use ft_layout::{LineLayout, name_numbered};
 use std::alloc::Global;
 

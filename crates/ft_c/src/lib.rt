@@ -24,6 +24,12 @@
 //!   says, and it is in the handle again; where it holds nothing, the code for that
 //!   (`specs/Codes.antt`), and nothing is written. A copy copies from what the session holds
 //!   (`specs/Copies.antt`), or nothing. Lets through: what the session does.
+//! - `Handle::empty`, `take`, `put`: contracts see what a handle holds: a session, or nothing,
+//!   which is null. `take` gives the session and leaves nothing; `put` drops what was there and
+//!   holds the session; exact. `end` drops what is held, and has no clause. `Handle` has no `Drop`,
+//!   so that no code lets a session go unseen.
+//! - `Parts::of`, `Parts::into_box`: the parts of a box own what the box owned and have its value,
+//!   and the box is that of the parts.
 //! - `histdesk_refusal_text` copies the line of a refusal; `histdesk_refusal_words` copies nothing
 //!   where the numbers are of no refusal. Let through: copying nothing at any time, since memory may
 //!   run out; any words.
@@ -36,6 +42,8 @@ mod codes;
 mod copies;
 mod desks;
 mod edits;
+mod handle;
 mod held;
+mod parts;
 mod refusals;
 mod tables;

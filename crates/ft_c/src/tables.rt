@@ -8,7 +8,7 @@ ghost use Rattle.ft_session.specs.Calls.{AnswersPairs};
 ghost use Rattle.ft_c.specs.Codes.{closed};
 
 use crate::codes::CLOSED;
-use ft_handle::Handle;
+use crate::handle::Handle;
 use ft_layout::TotalsLayout;
 use std::alloc::Global;
 

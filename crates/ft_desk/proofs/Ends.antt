@@ -3,12 +3,12 @@ use Rattle.std.proofs.Common.{◌≡◌, ℕ, ◌+◌, ◌<◌, List, [], ◌∷
 use Rattle.std.proofs.lemmas.List.{take_more, take-append-drop, map-append}
 use Rattle.std.specs.Option.{option_map_or}
 use Rattle.std.specs.Result.{IsErr, IsErrAnd}
-use Rattle.ft_words.specs.Files.{Told, TellsBytes}
-use Rattle.ft_words.specs.declared.files.FileFault.{FileFault}
-use Rattle.ft_words.specs.declared.files.FileFault.TheVariants as of_file
-use Rattle.ft_words.specs.declared.words.WordsFault.{WordsFault}
-use Rattle.ft_words.specs.declared.words.WordsFault.TheVariants as of_words
-use Rattle.ft_words.specs.Words.{Named, WordsGive}
+use Rattle.ft_script.specs.Files.{Told, TellsBytes}
+use Rattle.ft_script.specs.declared.files.FileFault.{FileFault}
+use Rattle.ft_script.specs.declared.files.FileFault.TheVariants as of_file
+use Rattle.ft_script.specs.declared.words.WordsFault.{WordsFault}
+use Rattle.ft_script.specs.declared.words.WordsFault.TheVariants as of_words
+use Rattle.ft_script.specs.Words.{Named, WordsGive}
 use Rattle.ft_desk.specs.declared.running.Status.{Status}
 use Rattle.ft_desk.specs.declared.program.Fault.{Fault}
 use Rattle.ft_desk.specs.declared.program.Fault.TheVariants.{Words, File, Memory, Read, Write}

@@ -26,7 +26,7 @@ pub use Rattle.ft_answers.specs.Answers
 pub use Rattle.ft_answers.specs.Reporting
 pub use Rattle.ft_script.specs.Lines
 pub use Rattle.ft_script.specs.Script
-pub use Rattle.ft_words.specs.Files
-pub use Rattle.ft_words.specs.Words
+pub use Rattle.ft_script.specs.Files
+pub use Rattle.ft_script.specs.Words
 pub use Rattle.ft_printed.specs.Answered
 pub use Rattle.ft_printed.specs.Refusals

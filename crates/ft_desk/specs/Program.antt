@@ -3,11 +3,11 @@ use Rattle.std.specs.Prelude.{◌≡◌, ⊤, ℕ, List, [], ◌∷◌, ◌++◌
 use Rattle.ft_desk.specs.declared.running.Status.{Status}
 use Rattle.ft_desk.specs.declared.running.Status.TheVariants.{AllAccepted, SomeRefused}
 use Rattle.std.specs.Borrow.{Bor}
-use Rattle.ft_words.specs.Files.{Told, TellsBytes}
-use Rattle.ft_words.specs.declared.files.FileFault.{FileFault}
-use Rattle.ft_words.specs.declared.files.FileFault.TheVariants as of_file
-use Rattle.ft_words.specs.declared.words.WordsFault.{WordsFault}
-use Rattle.ft_words.specs.declared.words.WordsFault.TheVariants as of_words
+use Rattle.ft_script.specs.Files.{Told, TellsBytes}
+use Rattle.ft_script.specs.declared.files.FileFault.{FileFault}
+use Rattle.ft_script.specs.declared.files.FileFault.TheVariants as of_file
+use Rattle.ft_script.specs.declared.words.WordsFault.{WordsFault}
+use Rattle.ft_script.specs.declared.words.WordsFault.TheVariants as of_words
 use Rattle.ft_desk.specs.declared.running.RunFault.{RunFault}
 use Rattle.ft_desk.specs.declared.running.RunFault.TheVariants as of_run
 use Rattle.ft_desk.specs.declared.program.Fault.{Fault}

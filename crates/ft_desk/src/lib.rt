@@ -93,9 +93,9 @@ pub use ft_answers::{
 pub use ft_event::{Event, LineFault, Name};
 pub use ft_fields::Pos;
 pub use ft_filter::FilterFault;
+pub use ft_script::{FileFault, Words, WordsFault, read_file, read_whole, read_words};
 pub use ft_table::Totals;
 pub use ft_trigger::{Key, Part, TriggerFault};
-pub use ft_words::{FileFault, Words, WordsFault, read_file, read_whole, read_words};
 pub use in_memory::{Ran, run_text};
 pub use laws::{first_lines, what_runs_write};
 pub use performing::{Performed, perform, refused};

@@ -1,5 +1,6 @@
-//! Tests of boards, desks and runs: each public call once, streams that fail, memory that runs out. They
-//! stand apart, so that no crate is proved a second time with its tests.
+//! Tests of boards, desks and runs: each public call once, streams that fail, memory that runs out;
+//! and of answers as C lays them out. They stand apart, so that no crate is proved a second time with
+//! its tests.
 #![tactic(auto)]
 
 #[cfg(test)]
@@ -14,6 +15,8 @@ mod faults;
 mod found;
 #[cfg(test)]
 mod kept_now;
+#[cfg(test)]
+mod layout;
 #[cfg(test)]
 mod merge;
 #[cfg(test)]

@@ -1,4 +1,5 @@
 pub mod Columns
 pub mod Flat
+mod Whole
 pub mod Only
 mod Runs

@@ -80,3 +80,8 @@ hits_after place hits = filter (λ e. is_after place e.0) (map.entries hits)
 -- the first hit of a key after a spot; without a spot its first
 abbrev pub hit_after : Hits → List Part → Option Spot → Option Hit
 hit_after hits key after = option_map (λ e. record { spot = e.0; key = key; values = e.1 }) (first_entry (hits_after after (hits_of hits key)))
+
+-- a key has these hits, and all other hits stay
+pub record TakesHits (key : List Part) (entry : EntryHits) (old new : Hits) : Type 0 where
+  pub here : (spot : Spot) → map.get new (record { spot = spot; key = key }) ≡ map.get entry spot
+  pub others : (mark : Mark) → (mark.key ≡ key → ⊥) → map.get new mark ≡ map.get old mark

@@ -1,4 +1,4 @@
-//! Entries: the hits of one key with their sums, and all keys with theirs.
+//! Entries: the hits of one key with their sums, and trees of all keys with theirs.
 
 ghost use Rattle.std.specs.Prelude.{◌≡◌, ◌<◌, ◌^◌, OnOk, OnErr, IfOk, None, Some, IsTrue};
 ghost use Rattle.std.specs.Prelude.{IfSome, MatchOption};
@@ -235,7 +235,7 @@ impl Entry {
 }
 
 /// How many hits a key has.
-pub fn count_of(by_key: &BTreeMap<Key, Entry>, key: &Key) -> u64
+pub(crate) fn count_of(by_key: &BTreeMap<Key, Entry>, key: &Key) -> u64
     ensures { result ≡ hitcount (hits_in by_key.now) key.now }
 {
     match by_key.get(key) {
@@ -245,7 +245,7 @@ pub fn count_of(by_key: &BTreeMap<Key, Entry>, key: &Key) -> u64
 }
 
 /// The sums of a key's values, modulo 2^64.
-pub fn sums_at(by_key: &BTreeMap<Key, Entry>, key: &Key) -> [u64; 3]
+pub(crate) fn sums_at(by_key: &BTreeMap<Key, Entry>, key: &Key) -> [u64; 3]
     ensures { result ≡ sums_of (hits_of (hits_in by_key.now) key.now) }
 {
     match by_key.get(key) {
@@ -255,7 +255,7 @@ pub fn sums_at(by_key: &BTreeMap<Key, Entry>, key: &Key) -> [u64; 3]
 }
 
 /// The first hit of a key after a spot, or its first.
-pub fn next_hit(by_key: &BTreeMap<Key, Entry>, key: &Key, after: Option<Spot>) -> Option<Hit>
+pub(crate) fn next_hit(by_key: &BTreeMap<Key, Entry>, key: &Key, after: Option<Spot>) -> Option<Hit>
     ensures { result ≡ hit_after (hits_in by_key.now) key.now after }
 {
     let entry = by_key.get(key)?;
@@ -268,7 +268,7 @@ pub fn next_hit(by_key: &BTreeMap<Key, Entry>, key: &Key, after: Option<Spot>) -
 }
 
 /// The spot of a key's first hit.
-pub fn first_at(by_key: &BTreeMap<Key, Entry>, key: &Key) -> Option<Spot>
+pub(crate) fn first_at(by_key: &BTreeMap<Key, Entry>, key: &Key) -> Option<Spot>
     ensures { result ≡ first_place (hits_in by_key.now) key.now }
 {
     match by_key.get(key) {
@@ -278,7 +278,7 @@ pub fn first_at(by_key: &BTreeMap<Key, Entry>, key: &Key) -> Option<Spot>
 }
 
 /// Whether a hit stands at a mark.
-pub fn holds(by_key: &BTreeMap<Key, Entry>, mark: Mark) -> bool
+pub(crate) fn holds(by_key: &BTreeMap<Key, Entry>, mark: Mark) -> bool
     ensures { result ≡ map.contains_key (hits_in by_key.now) mark }
 {
     match by_key.get(&mark.key) {
@@ -289,7 +289,7 @@ pub fn holds(by_key: &BTreeMap<Key, Entry>, mark: Mark) -> bool
 
 /// Puts a hit in after the first of its key, if that has one before it: where the first stands.
 /// Else, and where it is refused for memory, all is as it was.
-pub fn put_behind(
+pub(crate) fn put_behind(
     alloc: Global,
     by_key: &mut BTreeMap<Key, Entry>,
     hit: &Hit,
@@ -309,7 +309,7 @@ pub fn put_behind(
 }
 
 /// Puts a hit at a mark. Refused for memory, and then all is as it was.
-pub fn put_hit(
+pub(crate) fn put_hit(
     alloc: Global,
     by_key: &mut BTreeMap<Key, Entry>,
     mark: Mark,
@@ -329,7 +329,7 @@ pub fn put_hit(
 }
 
 /// Takes the hit at a mark: whether there was one. A key without hits goes too.
-pub fn take_hit(by_key: &mut BTreeMap<Key, Entry>, mark: Mark) -> bool
+pub(crate) fn take_hit(by_key: &mut BTreeMap<Key, Entry>, mark: Mark) -> bool
     ensures left { hits_in by_key.new ≡ map.remove (hits_in by_key.old) mark }
     ensures found { result ≡ map.contains_key (hits_in by_key.old) mark }
 {

@@ -2,21 +2,21 @@
 //!
 //! A hit stands at a spot: the place of an event, and who made the event. A spot and a key are a
 //! mark; hits stand in the order of their marks. The hits of one key are an entry, by spot, with the
-//! sums of their values modulo 2^64, and a tree has an entry for each key. Contracts see such a tree
+//! sums of their values modulo 2^64, and an index has an entry for each key. Contracts see an index
 //! as the values of all its hits, by mark.
 //!
 //! A hit comes or goes at its mark. Where a key has none yet, all its hits come as an entry of their
 //! own, made of a run: spots with values, in any order.
 //!
 //! ```ignore
-//! let mut by_key = BTreeMap::new(rt.alloc());
+//! let mut hits = HitIndex::new(rt.alloc());
 //! let mark = Mark { spot: Spot::traced(pos), key };
-//! put_hit(rt.alloc(), &mut by_key, mark, [20, 0, 0])?;
-//! assert!(rt; count_of(&by_key, &key) == 1 && sums_at(&by_key, &key) == [20, 0, 0]);
-//! assert!(rt; first_at(&by_key, &key) == Some(mark.spot));
+//! hits.put_hit(rt.alloc(), mark, [20, 0, 0])?;
+//! assert!(rt; hits.count_of(&key) == 1 && hits.sums_at(&key) == [20, 0, 0]);
+//! assert!(rt; hits.first_at(&key) == Some(mark.spot));
 //! // All hits of another key at once.
-//! by_key.insert(other, Entry::of(rt.alloc(), run)?)?;
-//! assert!(rt; take_hit(&mut by_key, mark) && !holds(&by_key, mark));
+//! hits.put_entry(other, Entry::of(rt.alloc(), run)?)?;
+//! assert!(rt; hits.take_hit(mark) && !hits.holds(mark));
 //! ```
 //!
 //! # Contracts
@@ -24,16 +24,18 @@
 //! - `Spot::traced`: exact. A *spot* is the place of an event and who made it: 0 for an event of
 //!   the trace, else the id of the trigger that made it (`specs/Spots.antt`). A *mark* is a spot
 //!   and a key (`specs/Marks.antt`).
-//! - `put_hit`, `take_hit`: of a tree that has an entry for each key, contracts see all its hits: a
-//!   finite map from mark to values (`specs/ByKey.antt`). `put_hit` puts one where none stands, and
-//!   a refusal changes nothing; `take_hit` takes one, tells whether it stood there, and needs no
-//!   memory. `put_hit` lets through: running out of memory at any time.
-//! - `put_behind`: puts a hit where its key has one before it, and tells the first of these; else,
-//!   and at a refusal, nothing changes. Lets through: running out of memory at any time; saying
-//!   that the key has none before it.
-//! - `count_of`, `sums_at`, `first_at`, `next_hit`, `holds`: how many hits a key has, their sums
-//!   modulo 2^64, the spot of the first, the first after a spot, whether one stands at a mark
-//!   (`specs/Hits.antt`); exact.
+//! - `HitIndex::new`, `put_hit`, `take_hit`: contracts see of an index all its hits: a finite map
+//!   from mark to values (`specs/Hits.antt`). `put_hit` puts one where none stands, and a refusal
+//!   changes nothing; `take_hit` takes one, tells whether it stood there, and needs no memory.
+//!   `put_hit` lets through: running out of memory at any time.
+//! - `HitIndex::put_behind`: puts a hit where its key has one before it, and tells the first of
+//!   these; else, and at a refusal, nothing changes. Lets through: running out of memory at any
+//!   time; saying that the key has none before it.
+//! - `HitIndex::put_entry`: a key has the hits of an entry, and all others stay. Lets through:
+//!   running out of memory at any time, and then all is as it was.
+//! - `HitIndex::count_of`, `sums_at`, `first_at`, `next_hit`, `holds`: how many hits a key has,
+//!   their sums modulo 2^64, the spot of the first, the first after a spot, whether one stands at a
+//!   mark (`specs/Hits.antt`); exact.
 //! - `Entry::of`, `Entry::len`, `Entry::first`: contracts see of an entry its hits, a finite map
 //!   from spot to values. `of` makes it of a list, and keeps the first of several hits at one spot;
 //!   exact. `of` lets through: running out of memory at any time.
@@ -44,16 +46,16 @@
 
 mod entry;
 mod hit;
+mod index;
 pub mod laws;
 mod mark;
 mod run;
 mod series;
 mod spot;
 
-pub use entry::{
-    Entry, count_of, first_at, holds, next_hit, put_behind, put_hit, sums_at, take_hit,
-};
+pub use entry::Entry;
 pub use hit::Hit;
+pub use index::HitIndex;
 pub use laws::{one_mark_order, one_spot_order};
 pub use mark::Mark;
 pub use run::count_puts;

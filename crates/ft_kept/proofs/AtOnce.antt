@@ -37,7 +37,7 @@ use Rattle.ft_hits.specs.declared.spot.Spot.{Spot}
 use Rattle.ft_kept.specs.Acts.{Acts, op_of}
 use Rattle.ft_kept.specs.AtOnce.{AllCome, acts_with}
 use Rattle.ft_kept.specs.Entries.{HitsHere, IsEntry, IsKept, IsRight, hits_here, read_here}
-use Rattle.ft_shelves.specs.Shelves.{FormsStay, KeepsNotes, MadeStay, Shelved, Shelves, admits_on, is_saver, kept_on, role_on}
+use Rattle.ft_shelves.specs.Shelves.{FormsStay, MadeStay, Shelved, Shelves, admits_on, is_saver, kept_on, role_on}
 use Rattle.ft_shelves.specs.Joining.{HasGroups, HasSaves, hits_of_run, saves_of_run}
 use Rattle.ft_shelves.proofs.Decided.{decided, itself, none_not_some, untied}
 use Rattle.ft_shelves.proofs.Finding.{find-filter, find-turned, none_both}
@@ -195,8 +195,8 @@ module _ (triggers : FinMap nat_cmp Hist) (old new : Shelves) (id : ℕ) (shelf 
       ∙ sym (ap (λ hits. map.get hits m) bare ∙ get-empty _ m)
 
   -- its shelf keeps its form
-  pub joined_forms : shelf.table.hits ≡ map.empty → ((saver : ℕ) → shelf.role ≡ Reads saver → KeepsNotes shelf after) → FormsStay old new
-  joined_forms bare notes = edited old new id shelf after was is others (record { role = role; size = table.size; made = made_stays bare; notes = notes })
+  pub joined_forms : shelf.table.hits ≡ map.empty → FormsStay old new
+  joined_forms bare = edited old new id shelf after was is others (record { role = role; size = table.size; made = made_stays bare })
 
   -- what readings found stays
   reads_stay : (pos : Pos) → (kept_on new).read id pos ≡ (kept_on old).read id pos

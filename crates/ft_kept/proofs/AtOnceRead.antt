@@ -41,7 +41,7 @@ use Rattle.ft_kept.specs.AtOnce.{AllCome, IsBare, acts_with}
 use Rattle.ft_shelves.specs.Joining.{AreGroupsOf}
 use Rattle.ft_kept.specs.Entries.{IsEntry, IsKept, IsRight, hits_here, one_hit, read_here}
 use Rattle.ft_kept.specs.Repairs.{AreShelved}
-use Rattle.ft_shelves.specs.Shelves.{ChangesShelf, FormStays, FormsStay, MadeStay, Shelved, Shelves, admits_on, is_saver, kept_on, role_on}
+use Rattle.ft_shelves.specs.Shelves.{ChangesShelf, FormsStay, MadeStay, Shelved, Shelves, admits_on, is_saver, kept_on, role_on}
 use Rattle.ft_shelves.specs.Edits.{OpsChange}
 use Rattle.ft_shelves.specs.Joining.{ReadingsSet, RunComes, found_last}
 use Rattle.ft_kept.specs.inner.JoiningReads.{hits_found, readings_found, reads_of_run}
@@ -51,7 +51,6 @@ use Rattle.ft_shelves.proofs.Decided.{decided, itself, untied}
 use Rattle.ft_kept.proofs.Forms.{admits_by, by_id, changed_forms, forms_refl, forms_trans, hits_by, ops_by, read_admits, read_by, read_elsewhere, read_forms, read_here as read_op_here, read_hits, read_readings, role_at, roles_stay, same_admits, same_hits, same_ops, same_read, shelf_stays}
 use Rattle.ft_kept.proofs.FoundRuns.{any_read, found_at, found_hit, found_there, hits_at, read_or, readings_at, sorted_filter, source_at, told_behind}
 use Rattle.ft_shelves.proofs.KeyByKey.{IsOnce, no_run}
-use Rattle.ft_kept.proofs.Noting.{notes_same}
 use Rattle.ft_kept.proofs.Owing.{alike_source, entry_same, op_absent, op_elsewhere, op_none, op_read}
 use Rattle.ft_kept.proofs.Putting.{values_there}
 
@@ -78,7 +77,6 @@ module _ (id : ℕ) (key : List Part) (run : List (Spot × List ℤ)) (old new :
     role = change.role;
     size = change.table.size;
     made = made_stay shelf.table.hits after.table.hits (λ spot. sym (hits_by old id (Some shelf) is (record { spot = spot; key = key })) ∙ none spot) unmade change.table.here change.table.others;
-    notes = λ saver _. notes_same shelf after change.readings change.notes;
   })
 
   -- operations stay
@@ -143,13 +141,12 @@ module _ (id : ℕ) (key : List Part) (run : List (Spot × List ℤ)) (old new :
 -- ---- a shelf's readings are set
 
 module _ (id : ℕ) (told : List (Pos × Pos)) (old new : Shelves) (h : ChangesShelf id (ReadingsSet told) old new) where
-  -- shelves keep their forms, where no notes are taken
-  pub set_forms : ((shelf : Shelved) → map.get old id ≡ Some shelf → is_some shelf.notes ≡ false) → FormsStay old new
-  set_forms unnoted = changed_forms id (ReadingsSet told) old new h (λ shelf after is change. record {
+  -- shelves keep their forms
+  pub set_forms : FormsStay old new
+  set_forms = changed_forms id (ReadingsSet told) old new h (λ shelf after is change. record {
     role = change.role;
     size = ap (λ table. table.size) change.table;
     made = λ m _. ap (λ (table : Tabled). map.get table.hits m) change.table;
-    notes = λ saver _. record { taken = ap is_some change.notes; had = λ some. absurd (true≢false (sym some ∙ unnoted shelf is)) };
   })
 
   -- operations and hits stay
@@ -530,19 +527,9 @@ module _ (triggers : FinMap nat_cmp Hist) (hist : Hist) (groups : Grouped) (id s
     was_shelved : is_some (map.get was id) ≡ true
     was_shelved = shelf_stays old was came.forms id ∙ shelved.each id ∙ ap is_some attached
 
-    unnoted : (shelf : Shelved) → map.get was id ≡ Some shelf → is_some shelf.notes ≡ false
-    unnoted shelf is = by (map.get old id) refl (came.forms id)
-      where
-        by : (o : Option Shelved) → map.get old id ≡ o → FormStays o (map.get was id) → is_some shelf.notes ≡ false
-        by None none gone = absurd (true≢false (sym (ap is_some is) ∙ ap is_some gone))
-        by (Some s) there stays =
-            let one : stays.0 ≡ shelf = ap (λ (o : Option Shelved). option_map_or (λ (x : Shelved). x) o shelf) (sym stays.1.0 ∙ is) in
-            let role : s.role ≡ Reads saver = sym (role_at old id (Some s) there) ∙ reads in
-            ap (λ (x : Shelved). is_some x.notes) (sym one) ∙ (stays.1.1.notes saver role).taken ∙ ap is_some (bare.notes s there)
-
     -- shelves keep their forms
     pub all_forms : FormsStay old new
-    all_forms = forms_trans old was new came.forms (set_forms id told was new sets unnoted)
+    all_forms = forms_trans old was new came.forms (set_forms id told was new sets)
 
     all_admits : (i : ℕ) (k : List Part) → admits_on new i k ≡ admits_on old i k
     all_admits i k = set_admits id told was new sets i k ∙ came.admits i k

@@ -62,19 +62,17 @@ module _ (shelves : Shelves) (id : ℕ) where
   pub bare_none : map.get shelves id ≡ None → IsBare id shelves
   bare_none none = record {
     hits = λ shelf is. absurd (cc (sym none ∙ is));
-    notes = λ shelf is. absurd (cc (sym none ∙ is));
     saves = λ saves. absurd (cc (sym (role_at shelves id None none) ∙ saves));
     alone = λ saver other reads. absurd (cc (sym (role_at shelves id None none) ∙ reads));
   }
 
-  -- and where a shelf has no hits, takes no notes, and has nothing of what its trigger does with a variable
-  pub bare_shelf : (shelf : Shelved) → map.get shelves id ≡ Some shelf → shelf.table.hits ≡ map.empty → shelf.notes ≡ None
+  -- and where a shelf has no hits, and has nothing of what its trigger does with a variable
+  pub bare_shelf : (shelf : Shelved) → map.get shelves id ≡ Some shelf → shelf.table.hits ≡ map.empty
       → (shelf.role ≡ Saves → (key : List Part) (at : At) → ops_of shelf.ops key at ≡ None)
       → ((saver other : ℕ) → shelf.role ≡ Reads saver → role_on shelves other ≡ Reads saver → other ≡ id)
       → IsBare id shelves
-  bare_shelf shelf is hits notes saves alone = record {
+  bare_shelf shelf is hits saves alone = record {
     hits = λ s at. ap (λ (o : Option Shelved). (shelf_or o).table.hits) (sym at ∙ is) ∙ hits;
-    notes = λ s at. ap (λ (o : Option Shelved). (shelf_or o).notes) (sym at ∙ is) ∙ notes;
     saves = λ saving key at. ops_by shelves id (Some shelf) is key at ∙ saves (sym (role_at shelves id (Some shelf) is) ∙ saving) key at;
     alone = λ saver other reads. alone saver other (sym (role_at shelves id (Some shelf) is) ∙ reads);
   }

@@ -31,7 +31,6 @@ use Rattle.ft_shelves.specs.Shelves.{is_saver, role_on, admits_on, kept_on}
 use Rattle.ft_pairs.specs.declared.role.Role.{Role}
 use Rattle.ft_pairs.specs.declared.role.Role.TheVariants.{Plain, Saves, Reads}
 use Rattle.ft_pairs.specs.declared.role.Variable.{Variable}
-use Rattle.ft_kept.proofs.Noting.{notes_refl, notes_trans, notes_same}
 
 -- ---- forms
 
@@ -49,7 +48,7 @@ made_without hits pos key m made = get-remove_other mark_cmp_total mark_same hit
 
 -- a shelf has the form that it has
 pub same_form : (shelf : Shelved) → KeepsForm shelf shelf
-same_form shelf = record { role = refl; size = refl; made = λ m _. refl; notes = λ saver _. notes_refl shelf }
+same_form shelf = record { role = refl; size = refl; made = λ m _. refl }
 
 form_refl : (o : Option Shelved) → FormStays o o
 form_refl None = refl
@@ -64,7 +63,6 @@ form_then a b c h k = record {
   role = k.role ∙ h.role;
   size = k.size ∙ h.size;
   made = λ m made. k.made m made ∙ h.made m made;
-  notes = λ saver reads. notes_trans a b c (h.notes saver reads) (k.notes saver (h.role ∙ reads));
 }
 
 form_trans : (a b c : Option Shelved) → FormStays a b → FormStays b c → FormStays a c
@@ -269,7 +267,6 @@ module _ (saver : ℕ) (key : List Part) (edit : Ops → Ops) (old new : Shelves
     role = change.role;
     size = ap (λ table. table.size) change.table;
     made = λ m _. ap (λ (table : Tabled). map.get table.hits m) change.table;
-    notes = λ other _. notes_same shelf after change.readings change.notes;
   })
 
   -- hits and readings stay

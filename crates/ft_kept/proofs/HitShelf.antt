@@ -1,13 +1,16 @@
 -- One shelf is written back, of a trigger that reads nothing, on which a hit came or went.
-use Rattle.std.proofs.Common.{◌≡◌, ℕ, sym, ap, subst, ◌∙◌, Some, None, Option, inl, inr}
-use Rattle.std.specs.Prelude.{◌⊎◌, List}
+use Rattle.std.proofs.Common.{◌≡◌, ℕ, false, cond, List, [], map as list_map, refl, sym, ap, subst, ◌∙◌, Some, None, Option, inl, inr}
+use Rattle.std.specs.Prelude.{◌⊎◌, ◌||◌}
+use Rattle.std.specs.List.{list_any}
 use Rattle.std.specs.Cmp.{nat_cmp_total}
 use Rattle.std.specs.FinMap as map
 use Rattle.std.specs.FinMap.{nat_cmp-IsAntisymmetric}
-use Rattle.std.proofs.lemmas.Bool.{true≢false}
+use Rattle.std.proofs.lemmas.Bool.{eq-eqb, true≢false}
+use Rattle.ft_changes.proofs.Leading.{SameFindings}
 use Rattle.ft_fields.specs.Traced.{Traced}
 use Rattle.ft_fields.specs.declared.pos.Pos.{Pos}
 use Rattle.ft_hits.specs.declared.mark.Mark.{Mark}
+use Rattle.ft_keys.specs.Orders.{key_cmp_total}
 use Rattle.ft_keys.specs.declared.key.Part.{Part}
 use Rattle.ft_pairs.specs.Source.{Ops}
 use Rattle.ft_pairs.specs.declared.at.At.{At}
@@ -18,21 +21,26 @@ use Rattle.ft_shelves.specs.Changes.{IsFree, readings_after, table_with}
 use Rattle.ft_shelves.specs.Shelves.{Readings, Shelved, Shelves, kept_on, role_on}
 use Rattle.ft_shelves.specs.declared.sign.Sign.{Sign}
 use Rattle.ft_shelves.specs.declared.sign.Sign.TheVariants.{Insert, Retract}
+use Rattle.ft_table.specs.Hits.{same_key}
 use Rattle.ft_table.specs.Spots.{traced}
 use Rattle.ft_table.specs.Tabled.{Tabled}
 use Rattle.ft_table.specs.Values.{ValuesBy, values_by}
 use Rattle.ft_kept.specs.Acts.{Acts}
+use Rattle.ft_kept.specs.Changes.{HitsStayBut, Tells, Told, keys_for}
 use Rattle.ft_kept.specs.Entries.{HitsHere, IsEntry, IsRight, hits_here, read_here}
 use Rattle.ft_kept.specs.Signs.{act_before, act_after}
 use Rattle.ft_kept.specs.Views.{triggers_of}
 use Rattle.ft_kept.specs.declared.act.Act.{Act}
 use Rattle.ft_kept.specs.declared.act.Scene.{Scene}
+use Rattle.ft_kept.specs.declared.changes.KeyChange.{KeyChange}
 use Rattle.ft_kept.specs.inner.Changing.{MayChange, acts_after, change_of}
 use Rattle.ft_kept.specs.inner.Edits.{StaysBut}
-use Rattle.ft_shelves.proofs.Decided.{decided}
+use Rattle.ft_kept.specs.inner.Telling.{HasToldOf, own_key}
+use Rattle.ft_shelves.proofs.Decided.{at_decided, decided, itself}
 use Rattle.ft_kept.proofs.Forms.{hits_by, read_by, same_hits, same_read}
 use Rattle.ft_kept.proofs.OneHit.{as_plain, as_saver, entry_after, hits_apart, mark_at, reads_apart}
 use Rattle.ft_kept.proofs.Putting.{values_there}
+use Rattle.ft_kept.proofs.Told.{told_keys}
 use Rattle.ft_kept.proofs.Views.{set_here}
 
 -- the role is that of a trigger that reads nothing
@@ -48,6 +56,21 @@ module _ (values : ValuesBy) (ops later : Variable → Ops) (at : At) (hits : Hi
   pub from_plain : (role : Role) → ReadsNothing role → IsEntry values ops at Plain act hits read → IsEntry values later at role act hits read
   from_plain role (inl plain) e = subst (λ r. IsEntry values later at r act hits read) (sym plain) (as_plain values ops later at hits read act (as_saver values ops ops at hits read act e))
   from_plain role (inr saves) e = subst (λ r. IsEntry values later at r act hits read) (sym saves) (as_saver values ops later at hits read act e)
+
+-- and nothing is read there
+no_read : (values : ValuesBy) (ops : Variable → Ops) (at : At) (act : Option (List Part × Traced)) (hits : HitsHere) (read : Option Pos) → IsEntry values ops at Plain act hits read → read ≡ None
+no_read values ops at None hits read e = e.0
+no_read values ops at (Some a) hits read e = e.0
+
+-- a key that isn't told of its own hits is another
+not_own_key : (role : Role) → ReadsNothing role → (id : ℕ) (mark : Mark) (key : List Part) → list_any (same_key mark.key) (keys_for role id (own_key id key)) ≡ false → mark.key ≡ key → ⊥
+not_own_key role unread id mark key none here = true≢false (
+    sym (ap (λ b. list_any (same_key mark.key) (list_map (λ (c : KeyChange). c.key) (cond b (own_key id key) []))) (eq-eqb id id refl)
+    ∙ ap (λ k. same_key mark.key k || false) (sym here) ∙ ap (λ b. b || false) (itself key_cmp_total mark.key))
+    ∙ sym (elim unread [
+      | inl plain ↦ ap (λ r. list_any (same_key mark.key) (keys_for r id (own_key id key))) plain
+      | inr saves ↦ ap (λ r. list_any (same_key mark.key) (keys_for r id (own_key id key))) saves
+    ]) ∙ none)
 
 module _ (scene : Scene) (act : Act) (sign : Sign) (acts : Acts) (wanted : Role) (unread : ReadsNothing wanted) (old : Shelves) (may : MayChange scene act sign acts wanted old)
     (shelf : Shelved) (was : map.get old act.at.trigger ≡ Some shelf) where
@@ -108,3 +131,26 @@ module _ (scene : Scene) (act : Act) (sign : Sign) (acts : Acts) (wanted : Role)
     pub here_right : IsRight (role_on old) values (acts_after sign act acts) (kept_on new) at
     here_right = subst (λ (x : Role × Option (List Part × Traced)). IsEntry values (kept_on new).ops at x.0 x.1 (hits_here (kept_on new) at) (read_here (kept_on new) at))
         (λ i. (sym may.role i, sym (set_here acts at (act_after sign own)) i)) here_after
+
+    -- hits stay but under its key
+    pub own_stay : HitsStayBut (own_key id act.key) old new
+    own_stay i mark none = elim (decided nat_cmp_total nat_cmp-IsAntisymmetric i id) [
+      | inl same ↦ subst (λ x. (kept_on new).hits x mark ≡ (kept_on old).hits x mark) (sym same)
+          (hits_by new id (Some now) is mark ∙ ap (λ (t : Tabled). map.get t.hits mark) table_is
+          ∙ hits_apart act sign shelf.table mark (λ e. not_own_key wanted unread id mark act.key (subst (λ (x : Role × ℕ). list_any (same_key mark.key) (keys_for x.0 x.1 (own_key id act.key)) ≡ false) (λ j. ((ap (role_on old) same ∙ may.role) j, same j)) none) (ap (λ (m : Mark). m.key) e))
+          ∙ sym (hits_by old id (Some shelf) was mark))
+      | inr other ↦ same_hits old new i (others i other) mark
+    ]
+
+    -- and readings found what they find
+    pub found_same : SameFindings (kept_on old).read (kept_on new).read
+    found_same i p = elim (at_decided (record { pos = p; trigger = i }) at) [
+      | inl same ↦ subst (λ (q : At). (kept_on new).read q.trigger q.pos ≡ (kept_on old).read q.trigger q.pos) (sym same)
+          (no_read values (kept_on new).ops at (act_after sign own) (hits_here (kept_on new) at) (read_here (kept_on new) at) (to_plain values (kept_on new).ops (kept_on new).ops at (hits_here (kept_on new) at) (read_here (kept_on new) at) (act_after sign own) wanted unread here_after)
+          ∙ sym (read_by old id (Some shelf) was at.pos ∙ no_read values (kept_on old).ops at (act_before sign own) (λ k. map.get shelf.table.hits (mark_at act k)) (map.get shelf.readings at.pos) here_before))
+      | inr apart ↦ (stays (record { pos = p; trigger = i }) apart).1
+    ]
+
+    -- so its key tells what changed
+    pub own_told : (before after : Told) → Tells (own_key id act.key) before.keys after.keys → after.readings ≡ before.readings → HasToldOf (own_key id act.key) before after old new
+    own_told before after tells readings = told_keys (own_key id act.key) before after old new tells readings own_stay found_same

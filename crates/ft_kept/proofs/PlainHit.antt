@@ -12,7 +12,7 @@ use Rattle.ft_pairs.specs.declared.role.Variable.{Variable}
 use Rattle.ft_table.specs.Tabled.{is_in}
 use Rattle.ft_table.specs.Values.{values_by}
 use Rattle.ft_shelves.specs.Changes.{with_change}
-use Rattle.ft_shelves.specs.Shelves.{FormsStay, NotesStay, Shelved, Shelves, admits_on, is_saver, kept_on, role_on}
+use Rattle.ft_shelves.specs.Shelves.{FormsStay, Shelved, Shelves, admits_on, is_saver, kept_on, role_on}
 use Rattle.ft_shelves.specs.declared.sign.Sign.{Sign}
 use Rattle.ft_kept.specs.Acts.{Acts, op_of}
 use Rattle.ft_kept.specs.Entries.{IsKept}
@@ -25,11 +25,9 @@ use Rattle.ft_shelves.proofs.Decided.{at_decided, none_not_some}
 use Rattle.ft_kept.proofs.FewPuts.{savers_but}
 use Rattle.ft_kept.proofs.Forms.{admits_by, by_id, edited, ops_by, role_at, roles_stay, same_admits, same_ops, shelved_stay}
 use Rattle.ft_kept.proofs.HitShelf.{here_right, stays}
-use Rattle.ft_kept.proofs.Noting.{notes_plain}
 use Rattle.ft_kept.proofs.OneHit.{made_stay, size_stays}
 use Rattle.ft_kept.proofs.Owing.{kept_as, one_act_right, op_elsewhere, op_none, owes_more}
 use Rattle.ft_kept.proofs.Putting.{never_switched, unwritten, written}
-use Rattle.ft_kept.proofs.Quiet.{quiet_written}
 use Rattle.ft_kept.proofs.Reading.{held_changes, one_changes}
 
 module _ (scene : Scene) (act : Act) (sign : Sign) (acts : Acts) (old : Shelves) (may : MayChange scene act sign acts Plain old) (shelf : Shelved) (was : map.get old act.at.trigger ≡ Some shelf) where
@@ -75,7 +73,6 @@ module _ (scene : Scene) (act : Act) (sign : Sign) (acts : Acts) (old : Shelves)
       role = ap (λ (s : Shelved). s.role) changes;
       size = ap (λ (s : Shelved). s.table.size) changes ∙ size_stays act sign shelf.table;
       made = λ m made. ap (λ (s : Shelved). map.get s.table.hits m) changes ∙ made_stay act sign shelf.table m made;
-      notes = notes_plain shelf now role_is;
     })
 
     -- operations stay
@@ -113,6 +110,3 @@ module _ (scene : Scene) (act : Act) (sign : Sign) (acts : Acts) (old : Shelves)
                 (here_right scene act sign acts Plain (inl refl) old may shelf was new now is others table readings)));
           };
         }
-
-    pub quiet : NotesStay old new
-    quiet = quiet_written old new at.trigger shelf now was is others (ap (λ (s : Shelved). s.notes) changes)

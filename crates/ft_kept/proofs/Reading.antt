@@ -21,11 +21,13 @@ use Rattle.ft_kept.specs.declared.act.Scene.{Scene}
 use Rattle.ft_shelves.specs.declared.sign.Sign.{Sign}
 use Rattle.ft_shelves.specs.declared.sign.Sign.TheVariants.{Insert, Retract}
 use Rattle.ft_kept.specs.Views.{triggers_of}
-use Rattle.ft_kept.specs.inner.Changing.{MayChange, HasChanged}
+use Rattle.ft_kept.specs.Changes.{HasToldFew, Told}
+use Rattle.ft_kept.specs.inner.Changing.{MayChange, HasChanged, asked_at}
 use Rattle.ft_kept.specs.inner.Edits.{ReadersChange, StaysBut}
 use Rattle.ft_kept.specs.inner.OneAct.{IsOneAct}
 use Rattle.ft_kept.specs.inner.Owed.{is_next_read, is_switched}
 use Rattle.ft_kept.specs.inner.Settling.{IsPartly, Pays, without_next_read}
+use Rattle.ft_kept.specs.inner.Telling.{HasReread, HasToldOf, variable_key}
 use Rattle.ft_kept.specs.Repairs.{AreShelved}
 use Rattle.ft_pairs.specs.Roles.{variable_of}
 use Rattle.ft_shelves.specs.Changes.{is_insert, op_after, set_op}
@@ -42,6 +44,7 @@ use Rattle.ft_kept.proofs.FewPuts.{reading_savers}
 use Rattle.ft_kept.proofs.NextThere.{next_there}
 use Rattle.ft_kept.proofs.Owing.{kept_as, one_act_right, op_absent, op_elsewhere, op_none, op_read, owes_more, right_own}
 use Rattle.ft_kept.proofs.Putting.{never_switched}
+use Rattle.ft_kept.proofs.Told.{few_reading, reread_same, reread_told, reread_trans, told_few}
 use Rattle.ft_kept.proofs.Views.{set_apart, set_here, set_held}
 
 never_both : (a : Bool) → (a && not a) ≡ true → false ≡ true
@@ -199,6 +202,15 @@ module _ (scene : Scene) (act : Act) (sign : Sign) (acts : Acts) (saver : ℕ) (
 
       pub still_shelved : AreShelved (triggers_of scene) settled
       still_shelved = shelved_stay (triggers_of scene) old settled settled_forms may.views.shelved
+
+      -- its own reading and the next one are told, under the key of their variable
+      pub told : (new : Shelves) (before mid after : Told) → HasReread variable before mid put settled → HasToldOf (variable_key variable) mid after settled new
+          → HasToldFew (asked_at act) before after old new
+      told new before mid after first last = told_few (asked_at act) (variable_key variable) before after old new (few_reading (role_on old) at.trigger act.trigger.now saver may.role act.key)
+          (reread_told variable before mid after old settled new settled_forms
+          (reread_trans variable before before mid old put settled put_forms
+          (reread_same variable before before old put refl refl (read_hits saver act.key (set_op at (op_after sign Read)) old put h) (read_readings saver act.key (set_op at (op_after sign Read)) old put h)) first)
+          last)
 
       module _ (new : Shelves) (last : ReadersChange settled new)
           (pays : (next : Option (At × Op)) → IsNext ((kept_on settled).ops variable) (Some at) next → Pays (triggers_of scene) lanes settled new (without_next_read next)) where

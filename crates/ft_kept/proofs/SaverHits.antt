@@ -41,7 +41,6 @@ use Rattle.ft_kept.specs.inner.Settling.{HasChangedOwing}
 use Rattle.ft_shelves.proofs.Decided.{at_decided, decided}
 use Rattle.ft_kept.proofs.Following.{Told, all_follow, none_outside, others_stay}
 use Rattle.ft_kept.proofs.Forms.{admits_by, edited, hits_by, ops_by, role_at, same_admits, same_ops}
-use Rattle.ft_kept.proofs.Noting.{notes_saver}
 use Rattle.ft_kept.proofs.HitShelf.{here_after, here_before, here_right, stays}
 use Rattle.ft_kept.proofs.OneHit.{made_stay, mark_at, mark_is, sign_is, size_stays}
 use Rattle.ft_kept.proofs.Owing.{one_act_right, op_absent}
@@ -136,7 +135,6 @@ module _ (scene : Scene) (act : Act) (sign : Sign) (acts : Acts) (old : Shelves)
         role = ap (λ (s : Shelved). s.role) follows.shelf;
         size = ap (λ (t : Tabled). t.size) table_is ∙ size_stays act sign shelf.table;
         made = λ m made. ap (λ (t : Tabled). map.get t.hits m) table_is ∙ made_stay act sign shelf.table m made;
-        notes = notes_saver shelf now shelf_saves;
       })
 
       admits_new : (k : List Part) → admits_on new id k ≡ is_in now.table k

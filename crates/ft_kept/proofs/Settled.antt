@@ -1,4 +1,4 @@
--- One shelf is written back whose reading at one place was noted, whose hit and reading there were taken, and put again where the reading finds a saving.
+-- One shelf is written back whose hit and reading at one place were taken, and put again where the reading finds a saving.
 use Rattle.std.proofs.Common.{◌≡◌, ℕ, ℤ, Bool, true, false, cond, List, refl, sym, ap, ◌∙◌, Some, None, Option, option_map, inl, inr}
 use Rattle.std.specs.Prelude.{is_some}
 use Rattle.std.specs.Option.{option_map_or}
@@ -26,9 +26,9 @@ use Rattle.ft_table.specs.Spots.{traced}
 use Rattle.ft_kept.specs.Entries.{HitsHere, hits_here, read_here, one_hit, IsEntry, IsOwn}
 use Rattle.ft_kept.specs.inner.Edits.{StaysBut}
 use Rattle.ft_kept.specs.Repairs.{AreShelved}
-use Rattle.ft_shelves.specs.Shelves.{KeepsNotes, MadeStay, Shelved, Shelves, role_on, kept_on}
+use Rattle.ft_shelves.specs.Shelves.{MadeStay, Shelved, Shelves, role_on, kept_on}
 use Rattle.ft_kept.specs.inner.Edits.{ReadersChange}
-use Rattle.ft_shelves.specs.Edits.{with_hit_on, with_note, without_hit_on}
+use Rattle.ft_shelves.specs.Edits.{with_hit_on, without_hit_on}
 use Rattle.ft_table.specs.Values.{ValuesBy}
 use Rattle.ft_pairs.specs.declared.role.Role.TheVariants.{Reads}
 use Rattle.ft_pairs.specs.declared.role.Variable.{Variable}
@@ -37,7 +37,6 @@ use Rattle.ft_shelves.proofs.Decided.{none_not_some}
 use Rattle.ft_kept.specs.Signs.{FindsBy, act_after}
 use Rattle.ft_shelves.specs.declared.sign.Sign.{Sign}
 use Rattle.ft_shelves.specs.declared.sign.Sign.TheVariants.{Insert, Retract}
-use Rattle.ft_kept.proofs.Noting.{notes_noted}
 use Rattle.ft_kept.proofs.Paid.{own_same, agreed_source}
 
 -- ---- a reader's entry
@@ -62,11 +61,11 @@ module _ (values : ValuesBy) (ops : Variable → Ops) (at : At) (saver : ℕ) (k
     λ k. own k ∙ ap (λ (o : Option Pos). one_hit key (option_map (λ saved. values at.trigger at.pos event (Some saved)) o) k) (sym found),
   )
 
--- ---- a shelf's reading at a place is noted, it and its hit are taken, and put again
+-- ---- a shelf's reading at a place and its hit are taken, and put again
 
 module _ (pos : Pos) (key : List Part) (shelf : Shelved) where
   abbrev pub cleared : Shelved
-  cleared = without_hit_on (record { spot = traced pos; key = key }) (with_note pos shelf)
+  cleared = without_hit_on (record { spot = traced pos; key = key }) shelf
 
   pub cleared_hit : (event : Traced) → IsOwn (Some (key, event)) (λ k. map.get shelf.table.hits (record { spot = traced pos; key = k })) → (k : List Part) → map.get cleared.table.hits (record { spot = traced pos; key = k }) ≡ None
   cleared_hit event own k = elim (same_key k key) as (λ b. same_key k key ≡ b → map.get cleared.table.hits (record { spot = traced pos; key = k }) ≡ None) [
@@ -91,14 +90,14 @@ module _ (pos : Pos) (key : List Part) (shelf : Shelved) where
   pub cleared_others : (mark : Mark) → (mark.spot.pos ≡ pos → ⊥) → map.get cleared.table.hits mark ≡ map.get shelf.table.hits mark
   cleared_others mark other = get-remove_other mark_cmp_total mark_same shelf.table.hits (record { spot = traced pos; key = key }) mark (λ same. other (ap (λ (m : Mark). m.spot.pos) same))
 
+  pub cleared_keys : (mark : Mark) → (mark.key ≡ key → ⊥) → map.get cleared.table.hits mark ≡ map.get shelf.table.hits mark
+  cleared_keys mark other = get-remove_other mark_cmp_total mark_same shelf.table.hits (record { spot = traced pos; key = key }) mark (λ same. other (ap (λ (m : Mark). m.key) same))
+
   pub cleared_made : MadeStay shelf.table.hits cleared.table.hits
   cleared_made = made_without shelf.table.hits pos key
 
   pub cleared_readings : (p : Pos) → (p ≡ pos → ⊥) → map.get cleared.readings p ≡ map.get shelf.readings p
   cleared_readings p other = get-remove_other pos_cmp_total pos_same shelf.readings pos p other
-
-  pub cleared_notes : KeepsNotes shelf cleared
-  cleared_notes = notes_noted pos shelf cleared refl cleared_readings
 
   module _ (values : List ℤ) (saved : Pos) where
     abbrev pub filled : Shelved
@@ -123,22 +122,26 @@ module _ (pos : Pos) (key : List Part) (shelf : Shelved) where
         get-insert_other mark_cmp_total mark_same cleared.table.hits (record { spot = traced pos; key = key }) values mark (λ same. other (ap (λ (m : Mark). m.spot.pos) same))
         ∙ cleared_others mark other
 
+    pub filled_keys : (mark : Mark) → (mark.key ≡ key → ⊥) → map.get filled.table.hits mark ≡ map.get shelf.table.hits mark
+    filled_keys mark other =
+        get-insert_other mark_cmp_total mark_same cleared.table.hits (record { spot = traced pos; key = key }) values mark (λ same. other (ap (λ (m : Mark). m.key) same))
+        ∙ cleared_keys mark other
+
     pub filled_made : MadeStay shelf.table.hits filled.table.hits
     filled_made m made = made_with cleared.table.hits pos key values m made ∙ cleared_made m made
 
     pub filled_readings : (p : Pos) → (p ≡ pos → ⊥) → map.get filled.readings p ≡ map.get shelf.readings p
     filled_readings p other = get-insert_other pos_cmp_total pos_same cleared.readings pos saved p other ∙ cleared_readings p other
 
-    pub filled_notes : KeepsNotes shelf filled
-    filled_notes = notes_noted pos shelf filled refl filled_readings
-
 -- ---- and written back
 
--- a reading was made right: only what readers have changed, nothing but it, and it is right
-pub record IsSettled (values : ValuesBy) (at : At) (saver : ℕ) (act : Option (List Part × Traced)) (old new : Shelves) : Type 0 where
+-- a reading under a key was made right: only what readers have changed, nothing but it, it is right, and it found this
+pub record IsSettled (values : ValuesBy) (at : At) (saver : ℕ) (key : List Part) (act : Option (List Part × Traced)) (found : Option Pos) (old new : Shelves) : Type 0 where
   pub readers : ReadersChange old new
   pub others : StaysBut at (kept_on old) (kept_on new)
   pub right : IsEntry values (kept_on new).ops at (Reads saver) act (hits_here (kept_on new) at) (read_here (kept_on new) at)
+  pub keys : (id : ℕ) (mark : Mark) → (id ≡ at.trigger → mark.key ≡ key → ⊥) → (kept_on new).hits id mark ≡ (kept_on old).hits id mark
+  pub finds : read_here (kept_on new) at ≡ found
 
 module _ (old new : Shelves) (at : At) (shelf after : Shelved) (was : map.get old at.trigger ≡ Some shelf) (is : new ≡ map.insert old at.trigger after) where
   there : map.get new at.trigger ≡ Some after
@@ -147,8 +150,8 @@ module _ (old new : Shelves) (at : At) (shelf after : Shelved) (was : map.get ol
   elsewhere : (i : ℕ) → (i ≡ at.trigger → ⊥) → map.get new i ≡ map.get old i
   elsewhere i other = ap (λ (shelves : Shelves). map.get shelves i) is ∙ get-insert_other nat_cmp_total exact_unsigned old at.trigger after i other
 
-  pub written_readers : (saver : ℕ) → shelf.role ≡ Reads saver → after.role ≡ shelf.role → after.table.size ≡ shelf.table.size → MadeStay shelf.table.hits after.table.hits → KeepsNotes shelf after → after.ops ≡ shelf.ops → ReadersChange old new
-  written_readers saver reads role size made notes ops = edited_reader old new at.trigger shelf after was there elsewhere saver reads (record { role = role; size = size; made = made; notes = λ _ _. notes }) ops
+  pub written_readers : (saver : ℕ) → shelf.role ≡ Reads saver → after.role ≡ shelf.role → after.table.size ≡ shelf.table.size → MadeStay shelf.table.hits after.table.hits → after.ops ≡ shelf.ops → ReadersChange old new
+  written_readers saver reads role size made ops = edited_reader old new at.trigger shelf after was there elsewhere saver reads (record { role = role; size = size; made = made }) ops
 
   abbrev Stays : At → Type 0
   Stays q = ((key : List Part) → hits_here (kept_on new) q key ≡ hits_here (kept_on old) q key) × (read_here (kept_on new) q ≡ read_here (kept_on old) q)
@@ -166,6 +169,13 @@ module _ (old new : Shelves) (at : At) (shelf after : Shelved) (was : map.get ol
       (λ i far here. let same : map.get new q.trigger ≡ map.get old q.trigger = elsewhere q.trigger (λ e. far (here ∙ e)) in
       (λ key. same_hits old new q.trigger same (record { spot = traced q.pos; key = key }), same_read old new q.trigger same q.pos))
       q.trigger refl
+
+  pub written_keys : (key : List Part) → ((mark : Mark) → (mark.key ≡ key → ⊥) → map.get after.table.hits mark ≡ map.get shelf.table.hits mark)
+      → (id : ℕ) (mark : Mark) → (id ≡ at.trigger → mark.key ≡ key → ⊥) → (kept_on new).hits id mark ≡ (kept_on old).hits id mark
+  written_keys key stays id mark other = by_id (λ i. (i ≡ at.trigger → mark.key ≡ key → ⊥) → (kept_on new).hits i mark ≡ (kept_on old).hits i mark) at.trigger
+      (λ own. hits_by new at.trigger (Some after) there mark ∙ stays mark (own refl) ∙ sym (hits_by old at.trigger (Some shelf) was mark))
+      (λ i far own. same_hits old new i (elsewhere i far) mark)
+      id other
 
   -- what is kept there is what the shelf has
   pub written_hits : (key : List Part) → hits_here (kept_on new) at key ≡ map.get after.table.hits (record { spot = traced at.pos; key = key })
@@ -206,9 +216,9 @@ module _ (values : ValuesBy) (old new : Shelves) (at : At) (saver : ℕ) (key : 
       (readers_ops old new readers (record { saver = saver; key = key })) at
 
   -- where the reading finds nothing, its hit is taken
-  pub settled_unset : new ≡ map.insert old at.trigger (cleared at.pos key shelf) → IsSource ((kept_on old).ops (record { saver = saver; key = key })) at None → IsSettled values at saver (Some (key, event)) old new
+  pub settled_unset : new ≡ map.insert old at.trigger (cleared at.pos key shelf) → IsSource ((kept_on old).ops (record { saver = saver; key = key })) at None → IsSettled values at saver key (Some (key, event)) None old new
   settled_unset is source =
-      let readers = written_readers old new at shelf (cleared at.pos key shelf) was is saver (reads_there old at.trigger saver shelf reads was) refl refl (cleared_made at.pos key shelf) (cleared_notes at.pos key shelf) refl in
+      let readers = written_readers old new at shelf (cleared at.pos key shelf) was is saver (reads_there old at.trigger saver shelf reads was) refl refl (cleared_made at.pos key shelf) refl in
       record {
         readers = readers;
         others = written_others old new at shelf (cleared at.pos key shelf) was is (cleared_others at.pos key shelf) (cleared_readings at.pos key shelf);
@@ -216,30 +226,34 @@ module _ (values : ValuesBy) (old new : Shelves) (at : At) (saver : ℕ) (key : 
             (source_stays readers None source)
             (written_read old new at shelf (cleared at.pos key shelf) was is ∙ cleared_read at.pos key shelf)
             (λ k. written_hits old new at shelf (cleared at.pos key shelf) was is k ∙ cleared_hit at.pos key shelf event shelf_own k);
+        keys = written_keys old new at shelf (cleared at.pos key shelf) was is key (cleared_keys at.pos key shelf);
+        finds = written_read old new at shelf (cleared at.pos key shelf) was is ∙ cleared_read at.pos key shelf;
       }
 
   -- where it goes, its hit is taken
-  pub settled_gone : new ≡ map.insert old at.trigger (cleared at.pos key shelf) → IsSettled values at saver None old new
+  pub settled_gone : new ≡ map.insert old at.trigger (cleared at.pos key shelf) → IsSettled values at saver key None None old new
   settled_gone is = record {
-    readers = written_readers old new at shelf (cleared at.pos key shelf) was is saver (reads_there old at.trigger saver shelf reads was) refl refl (cleared_made at.pos key shelf) (cleared_notes at.pos key shelf) refl;
+    readers = written_readers old new at shelf (cleared at.pos key shelf) was is saver (reads_there old at.trigger saver shelf reads was) refl refl (cleared_made at.pos key shelf) refl;
     others = written_others old new at shelf (cleared at.pos key shelf) was is (cleared_others at.pos key shelf) (cleared_readings at.pos key shelf);
     right = (
       written_read old new at shelf (cleared at.pos key shelf) was is ∙ cleared_read at.pos key shelf,
       λ k. written_hits old new at shelf (cleared at.pos key shelf) was is k ∙ cleared_hit at.pos key shelf event shelf_own k,
     );
+    keys = written_keys old new at shelf (cleared at.pos key shelf) was is key (cleared_keys at.pos key shelf);
+    finds = written_read old new at shelf (cleared at.pos key shelf) was is ∙ cleared_read at.pos key shelf;
   }
 
   -- where nothing is found, its hit is taken
-  pub settled_none : (sign : Sign) → new ≡ map.insert old at.trigger (cleared at.pos key shelf) → FindsBy sign ((kept_on old).ops (record { saver = saver; key = key })) at None → IsSettled values at saver (act_after sign (key, event)) old new
+  pub settled_none : (sign : Sign) → new ≡ map.insert old at.trigger (cleared at.pos key shelf) → FindsBy sign ((kept_on old).ops (record { saver = saver; key = key })) at None → IsSettled values at saver key (act_after sign (key, event)) None old new
   settled_none Insert is finds = settled_unset is finds
   settled_none Retract is finds = settled_gone is
 
   -- where it finds a saving, its hit is put again
   pub settled_set : (saved : At) (added : List ℤ) → added ≡ values at.trigger at.pos event (Some saved.pos) → new ≡ map.insert old at.trigger (filled at.pos key shelf added saved.pos)
-      → IsSource ((kept_on old).ops (record { saver = saver; key = key })) at (Some saved) → IsSettled values at saver (Some (key, event)) old new
+      → IsSource ((kept_on old).ops (record { saver = saver; key = key })) at (Some saved) → IsSettled values at saver key (Some (key, event)) (Some saved.pos) old new
   settled_set saved added adds is source =
       let after = filled at.pos key shelf added saved.pos in
-      let readers = written_readers old new at shelf after was is saver (reads_there old at.trigger saver shelf reads was) refl refl (filled_made at.pos key shelf added saved.pos) (filled_notes at.pos key shelf added saved.pos) refl in
+      let readers = written_readers old new at shelf after was is saver (reads_there old at.trigger saver shelf reads was) refl refl (filled_made at.pos key shelf added saved.pos) refl in
       record {
         readers = readers;
         others = written_others old new at shelf after was is (filled_others at.pos key shelf added saved.pos) (filled_readings at.pos key shelf added saved.pos);
@@ -247,10 +261,12 @@ module _ (values : ValuesBy) (old new : Shelves) (at : At) (saver : ℕ) (key : 
             (source_stays readers (Some saved) source)
             (written_read old new at shelf after was is ∙ filled_read at.pos key shelf added saved.pos)
             (λ k. written_hits old new at shelf after was is k ∙ filled_hit at.pos key shelf added saved.pos event shelf_own k ∙ ap (λ v. one_hit key (Some v) k) adds);
+        keys = written_keys old new at shelf after was is key (filled_keys at.pos key shelf added saved.pos);
+        finds = written_read old new at shelf after was is ∙ filled_read at.pos key shelf added saved.pos;
       }
 
   -- only one that comes or stays finds a saving
   pub settled_some : (sign : Sign) (saved : At) (added : List ℤ) → added ≡ values at.trigger at.pos event (Some saved.pos) → new ≡ map.insert old at.trigger (filled at.pos key shelf added saved.pos)
-      → FindsBy sign ((kept_on old).ops (record { saver = saver; key = key })) at (Some saved) → IsSettled values at saver (act_after sign (key, event)) old new
+      → FindsBy sign ((kept_on old).ops (record { saver = saver; key = key })) at (Some saved) → IsSettled values at saver key (act_after sign (key, event)) (Some saved.pos) old new
   settled_some Insert saved added adds is finds = settled_set saved added adds is finds
   settled_some Retract saved added adds is finds = absurd (none_not_some (Some saved) saved finds refl)

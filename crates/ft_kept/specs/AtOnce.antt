@@ -17,10 +17,9 @@ use Rattle.ft_kept.specs.Entries.{IsKept}
 use Rattle.ft_shelves.specs.Shelves.{Shelved, Shelves, role_on, admits_on, kept_on}
 pub use Rattle.ft_shelves.specs.Joining.{AreGroupsOf}
 
--- nothing is kept of a trigger yet: no hits are on its shelf and no notes are taken; what it saves has no operation; what it reads no other trigger reads
+-- nothing is kept of a trigger yet: no hits are on its shelf; what it saves has no operation; what it reads no other trigger reads
 pub record IsBare (id : ℕ) (shelves : Shelves) : Type 0 where
   pub hits : (shelf : Shelved) → map.get shelves id ≡ Some shelf → shelf.table.hits ≡ map.empty
-  pub notes : (shelf : Shelved) → map.get shelves id ≡ Some shelf → shelf.notes ≡ None
   pub saves : role_on shelves id ≡ Saves → (key : List Part) (at : At) → (kept_on shelves).ops (record { saver = id; key = key }) at ≡ None
   pub alone : (saver other : ℕ) → role_on shelves id ≡ Reads saver → role_on shelves other ≡ Reads saver → other ≡ id
 

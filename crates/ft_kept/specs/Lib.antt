@@ -1,5 +1,5 @@
-pub mod Acted
 pub mod Acts
+pub mod Changes
 pub mod Input
 pub mod AtOnce
 pub mod Bounds
@@ -10,6 +10,7 @@ pub mod Repairs
 pub mod Views
 pub mod Signs
 pub mod inner
+pub use Rattle.ft_changes.specs.Findings
 pub use Rattle.ft_fields.specs.Places
 pub use Rattle.ft_fields.specs.Traced
 pub use Rattle.ft_groups.specs.Grouped

@@ -7,3 +7,4 @@ pub mod JoiningReads
 pub mod OneAct
 pub mod Owed
 pub mod Settling
+pub mod Telling

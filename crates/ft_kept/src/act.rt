@@ -34,9 +34,11 @@ pub(crate) struct Attached<'a> {
     pub(crate) trigger: &'a Trigger,
 }
 
-/// What a trigger does at an event that is a hit of it: it counts the event under a key.
+/// What a trigger does at an event that is a hit of it, put in or taken away: it counts the event
+/// under a key.
 #[derive(Clone, Copy)]
 pub(crate) struct Act<'a> {
+    pub(crate) sign: Sign,
     pub(crate) trigger: &'a Trigger,
     pub(crate) at: At,
     pub(crate) event: &'a Event,

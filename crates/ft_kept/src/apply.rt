@@ -1,12 +1,12 @@
 //! One event more or less: what is kept is repaired at one trigger, or at all triggers of an event.
 
-ghost use Rattle.std.specs.Prelude.{◌≡◌, ◌+◌, ◌*◌, ◌≤◌, ◌⊎◌, Some, Ok, OnOk, option_and_then};
+ghost use Rattle.std.specs.Prelude.{◌≡◌, ◌+◌, ◌*◌, ◌≤◌, ◌⊎◌, [], ◌∷◌, Some, Ok, OnOk, option_and_then};
 ghost use Rattle.std.specs.FinMap as map;
 ghost use Rattle.ft_hist.specs.Hit.{hit};
 ghost use Rattle.ft_hist.specs.Steps.{StepsGrow};
 ghost use Rattle.ft_hist.specs.Tests.{count_on, asked};
 ghost use Rattle.ft_pairs.specs.declared.role.Role.TheVariants.{Plain};
-ghost use Rattle.ft_kept.specs.Acted.{Gathers, act_as, acting_of};
+ghost use Rattle.ft_kept.specs.Changes.{HasToldFew};
 ghost use Rattle.ft_kept.specs.Acts.{Acts};
 ghost use Rattle.ft_kept.specs.Bounds.{SaverMoves, SomeSaverMoves, OtherSaversStay};
 ghost use Rattle.ft_kept.specs.Input.{input_of, AreViews};
@@ -14,12 +14,12 @@ ghost use Rattle.ft_kept.specs.Memory.{ActsPlainly, IsPlainHit};
 ghost use Rattle.ft_kept.specs.Repairs.{IsHeldAt};
 ghost use Rattle.ft_kept.specs.Signs.{event_before, event_after, table_edit, NeedsNoMemory, NeedsNoMemoryAt};
 ghost use Rattle.ft_kept.specs.Views.{HasAt, act_under, set, triggers_of, with_event};
-ghost use Rattle.ft_kept.specs.inner.Changing.{MayChange, HasChanged};
-ghost use Rattle.ft_shelves.specs.Shelves.{FormsStay, NotesStay, role_on};
+ghost use Rattle.ft_kept.specs.inner.Changing.{MayChange, HasChanged, asked_at};
+ghost use Rattle.ft_shelves.specs.Shelves.{FormsStay, role_on};
 ghost use Rattle.ft_shelves.specs.declared.sign.Sign.TheVariants.{Retract};
 
 use crate::act::{Act, Attached, Delta, Scene};
-use crate::acted::Acted;
+use crate::changes::Changes;
 use crate::hits::change_hit;
 use crate::readings::change_reading;
 use crate::saver::change_saving;
@@ -27,21 +27,20 @@ use crate::tables::Tables;
 use ft_hist::{Trigger, Work};
 use ft_maps::entries;
 use ft_pairs::{At, Role};
-use ft_shelves::Sign;
 use std::alloc::AllocError;
 
 impl Tables {
     /// An event that is held is put in or taken away at each trigger that it is a hit of, in order
-    /// of id, and each of these with its key is gathered after others. Afterwards the tables are
-    /// views of the same input except for that event. Tests it against the triggers on its name
-    /// alone. Refused for memory, and then the tables are of no use any more: an event that is put
-    /// in takes none where no trigger hits it, and one that is taken away takes none, except for
-    /// what is gathered, where triggers without a variable alone hit it.
+    /// of id, and what that changes is told after what was. Afterwards the tables are views of the
+    /// same input except for that event. Tests it against the triggers on its name alone. Refused
+    /// for memory, and then the tables are of no use any more: an event that is put in takes none
+    /// where no trigger hits it, and one that is taken away takes none, except for what is told,
+    /// where triggers without a variable alone hit it.
     pub fn apply(
         &mut self,
         scene: &Scene<'_>,
         delta: &Delta<'_>,
-        acted: &mut Acted,
+        changes: &mut Changes,
         work: &mut Work,
     ) -> Result<(), AllocError>
         requires views { AreViews (triggers_of scene.now) scene.now.lanes.now self.old }
@@ -53,8 +52,8 @@ impl Tables {
         ensures input { OnOk result (input_of scene.now.lanes.now self.new
             ≡ with_event (triggers_of scene.now) (input_of scene.now.lanes.now self.old)
             delta.now.pos (event_after delta.now.sign delta.now.event.now)) }
-        ensures acted { OnOk result (Gathers (acting_of (triggers_of scene.now) delta.now.event.now)
-            acted.old acted.new) }
+        ensures told { OnOk result (HasToldFew (map.entries (triggers_of scene.now))
+            changes.old changes.new self.old self.new) }
         ensures evals { work.new.evals
             ≤ work.old.evals + count_on (triggers_of scene.now) delta.now.event.now }
         ensures puts { (work.new.puts
@@ -64,12 +63,12 @@ impl Tables {
         ensures memory { NeedsNoMemory delta.now.sign (triggers_of scene.now) self.old
             delta.now.event.now → result ≡ Ok tt }
         ensures quiet { IsPlainHit (triggers_of scene.now) self.old delta.now.event.now
-            → OnOk result (NotesStay self.old self.new) }
+            → changes.new.readings ≡ changes.old.readings }
         ensures grow { StepsGrow work.old work.new }
     {
         for (id, trigger) in entries(scene.triggers) {
             let attached = Attached { id: *id, trigger };
-            apply_at(self, scene, &attached, delta, acted, work)?;
+            apply_at(self, scene, &attached, delta, changes, work)?;
         }
         Ok(())
     }
@@ -107,24 +106,22 @@ impl Tables {
             trigger.now self.old id }
         ensures memory { NeedsNoMemoryAt delta.now.sign self.old id trigger.now delta.now.event.now
             → result ≡ Ok tt }
-        ensures quiet { ActsPlainly self.old id trigger.now delta.now.event.now
-            → OnOk result (NotesStay self.old self.new) }
         ensures grow { StepsGrow work.old work.new }
     {
         let attached = Attached { id, trigger };
-        apply_at(self, scene, &attached, delta, &mut Acted::unasked(), work)
+        apply_at(self, scene, &attached, delta, &mut Changes::unasked(), work)
     }
 }
 
 /// An event that is held is put in or taken away at one attached trigger, where it is a hit of it,
-/// and the trigger with its key is gathered after others. Tests it where the trigger is on its name
-/// alone. Refused for memory.
+/// and what that changes is told after what was. Tests it where the trigger is on its name alone.
+/// Refused for memory.
 fn apply_at(
     tables: &mut Tables,
     scene: &Scene<'_>,
     attached: &Attached<'_>,
     delta: &Delta<'_>,
-    acted: &mut Acted,
+    changes: &mut Changes,
     work: &mut Work,
 ) -> Result<(), AllocError>
     requires views { AreViews (triggers_of scene.now) scene.now.lanes.now tables.old }
@@ -142,8 +139,8 @@ fn apply_at(
         (record { pos = delta.now.pos; trigger = attached.now.id })
         (option_and_then (act_under attached.now.trigger.now)
         (event_after delta.now.sign delta.now.event.now))) }
-    ensures acted { OnOk result (Gathers (act_as attached.now.id
-        (hit attached.now.trigger.now delta.now.event.now)) acted.old acted.new) }
+    ensures told { OnOk result (HasToldFew ((attached.now.id, attached.now.trigger.now) ∷ [])
+        changes.old changes.new tables.old tables.new) }
     ensures evals { work.new.evals
         ≡ work.old.evals + asked attached.now.trigger.now delta.now.event.now }
     ensures puts { (work.new.puts
@@ -153,14 +150,14 @@ fn apply_at(
     ensures memory { NeedsNoMemoryAt delta.now.sign tables.old attached.now.id attached.now.trigger.now
         delta.now.event.now → result ≡ Ok tt }
     ensures quiet { ActsPlainly tables.old attached.now.id attached.now.trigger.now delta.now.event.now
-        → OnOk result (NotesStay tables.old tables.new) }
+        → changes.new.readings ≡ changes.old.readings }
     ensures grow { StepsGrow work.old work.new }
 {
     let Some(key) = attached.trigger.key_of(delta.event, work) else {
         return Ok(());
     };
-    acted.add(attached.id, key);
     let act = Act {
+        sign: delta.sign,
         trigger: attached.trigger,
         at: At {
             pos: delta.pos,
@@ -169,7 +166,7 @@ fn apply_at(
         event: delta.event,
         key,
     };
-    change_act(tables, scene, &act, delta.sign, work)
+    change_act(tables, scene, &act, changes, work)
 }
 
 /// An act of a trigger comes or goes. Refused for memory, which one of a trigger without a variable
@@ -178,27 +175,30 @@ fn change_act(
     tables: &mut Tables,
     scene: &Scene<'_>,
     act: &Act<'_>,
-    sign: Sign,
+    changes: &mut Changes,
     work: &mut Work,
 ) -> Result<(), AllocError>
     ghost acts: { Acts }
-    requires may { MayChange scene.now act.now sign acts
+    requires may { MayChange scene.now act.now act.now.sign acts
         (role_on tables.old act.now.at.trigger) tables.old }
     requires hit { hit act.now.trigger.now act.now.event.now ≡ Some act.now.key }
-    ensures changed { OnOk result (HasChanged scene.now act.now sign acts tables.old tables.new) }
+    ensures changed { OnOk result (HasChanged scene.now act.now act.now.sign acts
+        tables.old tables.new) }
+    ensures told { OnOk result (HasToldFew (asked_at act.now) changes.old changes.new
+        tables.old tables.new) }
     ensures quiet { role_on tables.old act.now.at.trigger ≡ Plain
-        → OnOk result (NotesStay tables.old tables.new) }
-    ensures memory { sign ≡ Retract → role_on tables.old act.now.at.trigger ≡ Plain
+        → changes.new.readings ≡ changes.old.readings }
+    ensures memory { act.now.sign ≡ Retract → role_on tables.old act.now.at.trigger ≡ Plain
         → result ≡ Ok tt }
     ensures puts { (work.new.puts ≤ work.old.puts + 3)
-        ⊎ SaverMoves (table_edit sign act.now.at.pos act.now.event.now) act.now.trigger.now
+        ⊎ SaverMoves (table_edit act.now.sign act.now.at.pos act.now.event.now) act.now.trigger.now
         tables.old act.now.at.trigger }
     ensures evals { work.new.evals ≡ work.old.evals }
     ensures grow { StepsGrow work.old work.new }
 {
     match tables.role(act.at.trigger) {
-        Role::Plain => change_hit(tables, scene, act, sign, work),
-        Role::Saves => change_saving(tables, scene, act, sign, work),
-        Role::Reads(saver) => change_reading(tables, scene, saver, act, sign, work),
+        Role::Plain => change_hit(tables, scene, act, changes, work),
+        Role::Saves => change_saving(tables, scene, act, changes, work),
+        Role::Reads(saver) => change_reading(tables, scene, saver, act, changes, work),
     }
 }

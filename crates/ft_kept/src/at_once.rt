@@ -36,7 +36,7 @@ impl Tables {
         let Some(shelf) = self.shelf(id) else {
             return true;
         };
-        shelf.is_unused()
+        shelf.has_no_hits()
             && match shelf.role() {
                 Role::Plain => true,
                 Role::Saves => shelf.has_no_ops(),

@@ -9,14 +9,15 @@
 //! tables.add(1, Role::Saves, 2048)?;
 //! tables.add(2, Role::Reads(1), 2048)?;
 //! let scene = Scene { triggers: &triggers, lanes: &lanes };
-//! let mut acted = Acted::new(alloc);
+//! let mut changes = Changes::unasked().with_keys(alloc).with_readings(alloc);
 //! let mut work = Work::new();
 //! if let Some(event) = lanes.get(pos.cpu, pos.line) {
 //!     let delta = Delta { sign: Sign::Insert, pos, event: &event };
-//!     tables.apply(&scene, &delta, &mut acted, &mut work)?;
+//!     tables.apply(&scene, &delta, &mut changes, &mut work)?;
 //! }
-//! // The triggers that act at the event, each with its key, where memory for them was found.
-//! let acting = acted.all();
+//! // Under which keys hits changed, and what readings found before and find now, where memory for
+//! // them was found.
+//! let (keys, readings) = (changes.keys(), changes.readings());
 //! if let Some(shelf) = tables.shelf(2) {
 //!     let found = shelf.readings().get(&pos);
 //! }
@@ -44,11 +45,15 @@
 //!   such triggers, at most 3m is put into tables and pairs, unless the event's hit moves a key
 //!   into some saver's table or out of it (`specs/Bounds.antt`). Lets through: any walks and
 //!   look-ups, and any work where readings are kept. None of these is counted.
-//! - Clause `quiet`: where only triggers without a variable hit the event, notes stay as they are.
-//! - Clause `acted`: after what `Acted` has gathered stand the triggers that the event is a hit
-//!   of, in order of id, each with the hit's key (`specs/Acted.antt`). Lets through: gathering
-//!   nothing any more, at any time. That only running out of memory does it is seen in the source.
-//! - `Tables::apply_to`: as `apply`, at one trigger, with no gathering; the other savers' tables
+//! - Clause `told`: what `Changes` tells after what it told says how the shelves changed
+//!   (`specs/Changes.antt`): each trigger's hits stay but under the keys that are told of it; and
+//!   the readings that are told *lead* from what all readings found to what they find, each having
+//!   found what its change says. Few keys are told: one of each trigger's own hits; of a saver's
+//!   readers one for each of them, and two more. Lets through: telling no keys, or no readings, any
+//!   more, at any time. That only running out of memory does it is seen in the source.
+//! - Clause `quiet`: where only triggers without a variable hit the event, what is told of readings
+//!   stays as it is.
+//! - `Tables::apply_to`: as `apply`, at one trigger, and nothing is told; the other savers' tables
 //!   stay. Lets through: what `apply` does.
 //! - `Tables::acts_come`, clause `right`: all acts of a trigger of which nothing is kept yet, by
 //!   its events grouped by key: where the shelves hold what the acts of the others say, they hold
@@ -58,8 +63,8 @@
 //! - `Tables::is_bare`: where it says so, nothing is kept of the trigger, no operation stands on
 //!   what it saves, and no other trigger reads what it reads. Lets through: saying no; then the
 //!   acts come one by one.
-//! - `Tables::new`, `add`, `drop_shelf`, `take_notes`, `drop_notes`, `shelf`, `Acted::new`,
-//!   `unasked`, `all`: exact. `add` lets through: running out of memory at any time.
+//! - `Tables::new`, `add`, `drop_shelf`, `shelf`, `Changes::unasked`, `with_keys`, `with_readings`,
+//!   `keys`, `readings`: exact. `add` lets through: running out of memory at any time.
 //!
 //! That only what an event touches is repaired (its own hit and operation, the next reading, the
 //! readings of keys that moved) is how the source does it. The clauses bound the puts and say
@@ -67,10 +72,10 @@
 #![tactic(auto)]
 
 mod act;
-mod acted;
 mod apply;
 mod at_once;
 mod at_once_read;
+mod changes;
 mod hits;
 mod moved;
 mod readings;
@@ -79,6 +84,6 @@ mod settle;
 mod tables;
 
 pub use act::{Delta, Scene};
-pub use acted::{Acted, Acting};
+pub use changes::{Changes, KeyChange, Whose};
 pub use ft_shelves::{Shelf, Sign};
 pub use tables::Tables;

@@ -9,8 +9,10 @@ ghost use Rattle.ft_shelves.specs.Shelves.{kept_on};
 ghost use Rattle.ft_kept.specs.inner.Acting.{CanSettle, Paid, own_variable};
 ghost use Rattle.ft_kept.specs.inner.Edits.{ReadersChange};
 ghost use Rattle.ft_kept.specs.inner.Settling.{without_moved};
+ghost use Rattle.ft_kept.specs.inner.Telling.{HasToldOf, moved_keys};
 
 use crate::act::{Act, Scene};
+use crate::changes::Changes;
 use crate::settle::{settle_key, settle_next};
 use crate::tables::Tables;
 use ft_hist::Work;
@@ -25,6 +27,7 @@ pub(crate) fn settle_moved(
     scene: &Scene<'_>,
     act: &Act<'_>,
     moved: Moved,
+    changes: &mut Changes,
     work: &mut Work,
 ) -> Result<(), AllocError>
     requires { CanSettle scene.now tables.old }
@@ -33,21 +36,29 @@ pub(crate) fn settle_moved(
         → IsNext ((kept_on tables.old).ops (own_variable act.now)) (Some act.now.at) next
         → Paid scene.now tables.old tables.new
         (without_moved tables.old act.now.at.trigger act.now.key moved next)) }
+    ensures told { OnOk result (HasToldOf (moved_keys act.now.at.trigger act.now.key moved)
+        changes.old changes.new tables.old tables.new) }
     ensures puts { moved.own ≡ false → moved.other ≡ None → work.new.puts ≤ work.old.puts + 1 }
     ensures evals { work.new.evals ≡ work.old.evals }
     ensures grow { StepsGrow work.old work.new }
 {
     let saver = act.at.trigger;
     if let Some(other) = moved.other {
-        settle_key(tables, scene, &Variable { saver, key: other }, work)?;
+        settle_key(
+            tables,
+            scene,
+            &Variable { saver, key: other },
+            changes,
+            work,
+        )?;
     }
     let variable = Variable {
         saver,
         key: act.key,
     };
     if moved.own {
-        settle_key(tables, scene, &variable, work)
+        settle_key(tables, scene, &variable, changes, work)
     } else {
-        settle_next(tables, scene, &variable, act.at, work)
+        settle_next(tables, scene, &variable, act.at, changes, work)
     }
 }

@@ -4,14 +4,15 @@ ghost use Rattle.std.specs.Prelude.{◌≡◌, ◌+◌, ◌≤◌, OnOk};
 ghost use Rattle.ft_hist.specs.Steps.{StepsGrow};
 ghost use Rattle.ft_pairs.specs.declared.role.Role.TheVariants.{Reads};
 ghost use Rattle.ft_kept.specs.Acts.{Acts};
-ghost use Rattle.ft_kept.specs.inner.Changing.{MayChange, HasChanged};
+ghost use Rattle.ft_kept.specs.Changes.{HasToldFew};
+ghost use Rattle.ft_kept.specs.inner.Changing.{MayChange, HasChanged, asked_at};
 
 use crate::act::{Act, Scene};
+use crate::changes::Changes;
 use crate::settle::{Reading, settle, settle_next};
 use crate::tables::Tables;
 use ft_hist::Work;
 use ft_pairs::Variable;
-use ft_shelves::Sign;
 use std::alloc::AllocError;
 
 /// A reading of a key comes or goes: its read stands among the operations on the variable or not,
@@ -21,12 +22,15 @@ pub(crate) fn change_reading(
     scene: &Scene<'_>,
     saver: u32,
     act: &Act<'_>,
-    sign: Sign,
+    changes: &mut Changes,
     work: &mut Work,
 ) -> Result<(), AllocError>
     ghost acts: { Acts }
-    requires { MayChange scene.now act.now sign acts (Reads saver) tables.old }
-    ensures changed { OnOk result (HasChanged scene.now act.now sign acts tables.old tables.new) }
+    requires { MayChange scene.now act.now act.now.sign acts (Reads saver) tables.old }
+    ensures changed { OnOk result (HasChanged scene.now act.now act.now.sign acts
+        tables.old tables.new) }
+    ensures told { OnOk result (HasToldFew (asked_at act.now) changes.old changes.new
+        tables.old tables.new) }
     ensures puts { work.new.puts ≤ work.old.puts + 3 }
     ensures evals { work.new.evals ≡ work.old.evals }
     ensures grow { StepsGrow work.old work.new }
@@ -40,7 +44,7 @@ pub(crate) fn change_reading(
         at: act.at,
         event: act.event,
     };
-    tables.change_read(&variable, act.at, sign, work)?;
-    settle(tables, scene, &reading, sign, work)?;
-    settle_next(tables, scene, &variable, act.at, work)
+    tables.change_read(&variable, act.at, act.sign, work)?;
+    settle(tables, scene, &reading, act.sign, changes, work)?;
+    settle_next(tables, scene, &variable, act.at, changes, work)
 }

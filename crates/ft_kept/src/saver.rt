@@ -6,9 +6,13 @@ ghost use Rattle.ft_pairs.specs.declared.role.Role.TheVariants.{Saves};
 ghost use Rattle.ft_shelves.specs.Changes.{table_with};
 ghost use Rattle.ft_kept.specs.Acts.{Acts};
 ghost use Rattle.ft_kept.specs.Bounds.{TableMoves};
-ghost use Rattle.ft_kept.specs.inner.Changing.{MayChange, HasChanged, ChangedOwing, change_of};
+ghost use Rattle.ft_kept.specs.Changes.{HasToldFew};
+ghost use Rattle.ft_kept.specs.inner.Changing.{MayChange, HasChanged, ChangedOwing};
+ghost use Rattle.ft_kept.specs.inner.Changing.{asked_at, change_of};
+ghost use Rattle.ft_kept.specs.inner.Telling.{HasToldOf, own_key};
 
 use crate::act::{Act, Scene};
+use crate::changes::{Changes, Whose};
 use crate::moved::settle_moved;
 use crate::tables::Tables;
 use ft_hist::Work;
@@ -21,41 +25,47 @@ pub(crate) fn change_saving(
     tables: &mut Tables,
     scene: &Scene<'_>,
     act: &Act<'_>,
-    sign: Sign,
+    changes: &mut Changes,
     work: &mut Work,
 ) -> Result<(), AllocError>
     ghost acts: { Acts }
-    requires { MayChange scene.now act.now sign acts Saves tables.old }
-    ensures changed { OnOk result (HasChanged scene.now act.now sign acts tables.old tables.new) }
+    requires { MayChange scene.now act.now act.now.sign acts Saves tables.old }
+    ensures changed { OnOk result (HasChanged scene.now act.now act.now.sign acts
+        tables.old tables.new) }
+    ensures told { OnOk result (HasToldFew (asked_at act.now) changes.old changes.new
+        tables.old tables.new) }
     ensures puts { (work.new.puts ≤ work.old.puts + 3)
-        ⊎ TableMoves (table_with (change_of sign act.now)) tables.old act.now.at.trigger }
+        ⊎ TableMoves (table_with (change_of act.now.sign act.now)) tables.old act.now.at.trigger }
     ensures evals { work.new.evals ≡ work.old.evals }
     ensures grow { StepsGrow work.old work.new }
 {
-    let moved = change_shelf(tables, scene, act, sign, work)?;
-    settle_moved(tables, scene, act, moved, work)
+    let moved = change_shelf(tables, scene, act, changes, work)?;
+    settle_moved(tables, scene, act, moved, changes, work)
 }
 
-/// A saver's hit comes to its shelf or goes, with which the operations on what it saves follow the
-/// keys of its table. What readings found is not made right yet. Answers which keys moved. Refused
-/// for memory.
+/// A saver's hit comes to its shelf or goes, and its key is told. With it the operations on what it
+/// saves follow the keys of its table. What readings found is not made right yet. Answers which keys
+/// moved. Refused for memory.
 fn change_shelf(
     tables: &mut Tables,
     scene: &Scene<'_>,
     act: &Act<'_>,
-    sign: Sign,
+    changes: &mut Changes,
     work: &mut Work,
 ) -> Result<Moved, AllocError>
     ghost acts: { Acts }
-    requires { MayChange scene.now act.now sign acts Saves tables.old }
-    ensures owing { IfOk result (λ moved. ChangedOwing scene.now act.now sign acts moved
+    requires { MayChange scene.now act.now act.now.sign acts Saves tables.old }
+    ensures owing { IfOk result (λ moved. ChangedOwing scene.now act.now act.now.sign acts moved
         tables.old tables.new) }
+    ensures told { IfOk result (λ moved. HasToldOf (own_key act.now.at.trigger act.now.key)
+        changes.old changes.new tables.old tables.new) }
     ensures puts { (work.new.puts ≤ work.old.puts + 2)
-        ⊎ TableMoves (table_with (change_of sign act.now)) tables.old act.now.at.trigger }
+        ⊎ TableMoves (table_with (change_of act.now.sign act.now)) tables.old act.now.at.trigger }
     ensures evals { work.new.evals ≡ work.old.evals }
     ensures grow { StepsGrow work.old work.new }
 {
-    let change = hit_change(act, sign);
+    changes.tell_key(Whose::Trigger(act.at.trigger), act.key);
+    let change = hit_change(act);
     match tables.shelf_mut(act.at.trigger) {
         Some(shelf) => change_saver_hit(shelf, act.at.trigger, change, work),
         // Each saver has a shelf.
@@ -68,12 +78,12 @@ fn change_shelf(
 
 /// An act as a change of its trigger's hits, where it reads nothing. Its values are worked out only
 /// where it comes.
-pub(crate) fn hit_change(act: &Act<'_>, sign: Sign) -> HitChange
+pub(crate) fn hit_change(act: &Act<'_>) -> HitChange
     requires stamped { act.now.event.now.stamp ≡ act.now.at.pos.stamp }
-    ensures { result ≡ change_of sign act.now }
+    ensures { result ≡ change_of act.now.sign act.now }
 {
     let spot = Spot::traced(act.at.pos);
-    match sign {
+    match act.sign {
         Sign::Insert => { HitChange::Insert(hit_with(act.trigger, act.event, spot, act.key, None)) }
         Sign::Retract => HitChange::Retract(Mark { spot, key: act.key }),
     }

@@ -15,11 +15,15 @@ ghost use Rattle.ft_kept.specs.inner.Acting.{CanSettle, Paid};
 ghost use Rattle.ft_kept.specs.Views.{triggers_of};
 ghost use Rattle.ft_kept.specs.inner.Edits.{ReadersChange, StaysBut};
 ghost use Rattle.ft_kept.specs.inner.Settling.{without_next_read, without_reads_of};
+ghost use Rattle.ft_kept.specs.inner.Telling.{HasReread, HasToldOf, variable_key};
 
 use crate::act::Scene;
+use crate::changes::{Changes, Whose};
 use crate::tables::Tables;
+use ft_changes::ReadingChange;
 use ft_fields::Event;
 use ft_hist::Work;
+use ft_maps::get;
 use ft_pairs::{At, Op, Variable, one_next};
 use ft_shelves::Sign;
 use ft_table::{Spot, hit_with};
@@ -39,6 +43,7 @@ pub(crate) fn settle(
     scene: &Scene<'_>,
     reading: &Reading<'_>,
     sign: Sign,
+    changes: &mut Changes,
     work: &mut Work,
 ) -> Result<(), AllocError>
     requires shelved { AreShelved (triggers_of scene.now) tables.old }
@@ -52,6 +57,8 @@ pub(crate) fn settle(
         (kept_on tables.new).ops reading.now.at (Reads reading.now.variable.saver)
         (act_after sign (reading.now.variable.key, reading.now.event.now))
         (hits_here (kept_on tables.new) reading.now.at) (read_here (kept_on tables.new) reading.now.at)) }
+    ensures told { OnOk result (HasReread reading.now.variable changes.old changes.new
+        tables.old tables.new) }
     ensures puts { work.new.puts ≤ work.old.puts + 1 }
     ensures evals { work.new.evals ≡ work.old.evals }
     ensures grow { StepsGrow work.old work.new }
@@ -65,7 +72,12 @@ pub(crate) fn settle(
     let Some(shelf) = tables.shelf_mut(at.trigger) else {
         return Ok(());
     };
-    shelf.note(at.pos)?;
+    changes.tell_reading(ReadingChange {
+        id: at.trigger,
+        pos: at.pos,
+        before: get(shelf.readings(), &at.pos).copied(),
+        after: found.map(|saved| saved.pos),
+    });
     shelf.take_hit(at.pos, key);
     match found {
         None => Ok(()),
@@ -88,34 +100,44 @@ fn found_at(tables: &Tables, variable: &Variable, at: At, sign: Sign) -> Option<
     }
 }
 
+/// An operation that stands on a variable at a place.
+#[derive(Clone, Copy)]
+pub(crate) struct Operation {
+    pub(crate) variable: Variable,
+    pub(crate) at: At,
+    pub(crate) op: Op,
+}
+
 /// Makes the reading of an operation right, if it is a read. Refused for memory.
 fn settle_op(
     tables: &mut Tables,
     scene: &Scene<'_>,
-    variable: &Variable,
-    at: At,
-    op: Op,
+    operation: Operation,
+    changes: &mut Changes,
     work: &mut Work,
 ) -> Result<(), AllocError>
     requires can { CanSettle scene.now tables.old }
-    requires there { (kept_on tables.old).ops variable.now at ≡ Some op }
+    requires there { (kept_on tables.old).ops operation.variable operation.at ≡ Some operation.op }
     ensures readers { OnOk result (ReadersChange tables.old tables.new) }
     ensures right { OnOk result (Paid scene.now tables.old tables.new
-        (without_next_read (Some (at, op)))) }
+        (without_next_read (Some (operation.at, operation.op)))) }
+    ensures told { OnOk result (HasReread operation.variable changes.old changes.new
+        tables.old tables.new) }
     ensures puts { work.new.puts ≤ work.old.puts + 1 }
     ensures evals { work.new.evals ≡ work.old.evals }
     ensures grow { StepsGrow work.old work.new }
 {
+    let Operation { variable, at, op } = operation;
     match op {
         Op::Save => Ok(()),
         Op::Read => match scene.lanes.get(at.pos.cpu, at.pos.line) {
             Some(event) => {
                 let reading = Reading {
-                    variable: *variable,
+                    variable,
                     at,
                     event: &event,
                 };
-                settle(tables, scene, &reading, Sign::Insert, work)
+                settle(tables, scene, &reading, Sign::Insert, changes, work)
             }
             None => Ok(()),
         },
@@ -123,12 +145,13 @@ fn settle_op(
 }
 
 /// Makes the reading right that is the next operation on a variable after a place, if that is a
-/// read. Refused for memory.
+/// read. The variable's key is told. Refused for memory.
 pub(crate) fn settle_next(
     tables: &mut Tables,
     scene: &Scene<'_>,
     variable: &Variable,
     at: At,
+    changes: &mut Changes,
     work: &mut Work,
 ) -> Result<(), AllocError>
     requires { CanSettle scene.now tables.old }
@@ -136,35 +159,51 @@ pub(crate) fn settle_next(
     ensures right { OnOk result ((next : Option (At × Op))
         → IsNext ((kept_on tables.old).ops variable.now) (Some at) next
         → Paid scene.now tables.old tables.new (without_next_read next)) }
+    ensures told { OnOk result (HasToldOf (variable_key variable.now) changes.old changes.new
+        tables.old tables.new) }
     ensures puts { work.new.puts ≤ work.old.puts + 1 }
     ensures evals { work.new.evals ≡ work.old.evals }
     ensures grow { StepsGrow work.old work.new }
 {
     // There is one next operation at most, so the one found here is the one that callers mean.
     one_next();
+    changes.tell_key(Whose::ReadersOf(variable.saver), variable.key);
     match tables.next_op(variable, Some(at)) {
-        Some((at, op)) => settle_op(tables, scene, variable, at, op, work),
+        Some((at, op)) => {
+            let variable = *variable;
+            settle_op(tables, scene, Operation { variable, at, op }, changes, work)
+        }
         None => Ok(()),
     }
 }
 
-/// Makes each reading of a variable right, by a walk over its operations. Refused for memory.
+/// Makes each reading of a variable right, by a walk over its operations. The variable's key is
+/// told. Refused for memory.
 pub(crate) fn settle_key(
     tables: &mut Tables,
     scene: &Scene<'_>,
     variable: &Variable,
+    changes: &mut Changes,
     work: &mut Work,
 ) -> Result<(), AllocError>
     requires { CanSettle scene.now tables.old }
     ensures readers { OnOk result (ReadersChange tables.old tables.new) }
     ensures right { OnOk result (Paid scene.now tables.old tables.new
         (without_reads_of tables.old variable.now)) }
+    ensures told { OnOk result (HasToldOf (variable_key variable.now) changes.old changes.new
+        tables.old tables.new) }
     ensures evals { work.new.evals ≡ work.old.evals }
     ensures grow { StepsGrow work.old work.new }
 {
+    changes.tell_key(Whose::ReadersOf(variable.saver), variable.key);
     let mut next = tables.next_op(variable, None);
     while let Some((at, op)) = next {
-        settle_op(tables, scene, variable, at, op, work)?;
+        let operation = Operation {
+            variable: *variable,
+            at,
+            op,
+        };
+        settle_op(tables, scene, operation, changes, work)?;
         next = tables.next_op(variable, Some(at));
     }
     Ok(())

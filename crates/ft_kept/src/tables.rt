@@ -9,7 +9,7 @@ ghost use Rattle.ft_pairs.specs.Next.{IsNext};
 ghost use Rattle.ft_pairs.specs.Source.{IsSource};
 ghost use Rattle.ft_pairs.specs.declared.at.Op.TheVariants.{Read};
 ghost use Rattle.ft_shelves.specs.Changes.{is_insert, op_after, set_op};
-ghost use Rattle.ft_shelves.specs.Shelves.{AddsShelf, ChangesShelf, DropsNotes, TakesNotes, role_on, kept_on};
+ghost use Rattle.ft_shelves.specs.Shelves.{AddsShelf, ChangesShelf, role_on, kept_on};
 ghost use Rattle.ft_shelves.specs.Edits.{OpsChange};
 ghost use Rattle.ft_shelves.specs.contracts.shelf.Shelf as shelf;
 ghost use Rattle.ft_kept.specs.contracts.tables.Tables.{the_row};
@@ -71,26 +71,6 @@ impl Tables {
         ensures { self.new ≡ map.remove self.old id }
     {
         take(&mut self.shelves, &id);
-    }
-
-    /// Takes notes from now on of what a trigger's readings had found before they changed, if it has
-    /// a shelf. Takes no memory.
-    pub fn take_notes(&mut self, id: u32)
-        ensures { ChangesShelf id TakesNotes self.old self.new }
-    {
-        let alloc = self.alloc;
-        if let Some(shelf) = self.shelf_mut(id) {
-            shelf.take_notes(alloc);
-        }
-    }
-
-    /// Takes no notes any more of a trigger's readings, and drops those that were taken.
-    pub fn drop_notes(&mut self, id: u32)
-        ensures { ChangesShelf id DropsNotes self.old self.new }
-    {
-        if let Some(shelf) = self.shelf_mut(id) {
-            shelf.drop_notes();
-        }
     }
 
     /// The shelf of a trigger.

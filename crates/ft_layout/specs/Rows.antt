@@ -3,7 +3,7 @@ use Rattle.std.specs.Prelude.{ℕ, pos, List, [], ◌∷◌, length, Option, is_
 use Rattle.std.specs.Option.{option_map_or}
 use Rattle.ft_keys.specs.declared.key.Part.{Part}
 use Rattle.ft_keys.specs.declared.key.Part.TheVariants.{Num, Log2, Bucket, Text}
-use Rattle.ft_rivals.specs.declared.changed.Changed.{Changed}
+use Rattle.ft_changes.specs.declared.changed.Changed.{Changed}
 use Rattle.ft_rows.specs.Counted.{Counted}
 use Rattle.ft_rows.specs.declared.row.Totals.{Totals}
 use Rattle.ft_layout.specs.Names.{name_layout}

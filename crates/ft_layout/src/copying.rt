@@ -12,10 +12,10 @@ use crate::events::{EventLayout, TriggerLayout};
 use crate::places::{LatencyLayout, PlaceLayout};
 use crate::rows::{ChangedLayout, RowLayout};
 use ft_base::AttachedTrigger;
+use ft_changes::Changed;
 use ft_fields::Pos;
 use ft_lanes::Lanes;
 use ft_replay::Pair;
-use ft_rivals::Changed;
 use ft_rows::Row;
 
 /// A way to show the items of an answer to C.

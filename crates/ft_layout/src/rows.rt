@@ -5,8 +5,8 @@ ghost use Rattle.std.specs.Option.{option_map, option_map_or};
 ghost use Rattle.ft_layout.specs.Rows.{totals_layout, part_layout, no_part, part_at, key_layout, row_layout, changed_layout, report_layout};
 
 use crate::names::NameLayout;
+use ft_changes::Changed;
 use ft_keys::{Key, Part};
-use ft_rivals::Changed;
 use ft_rows::{Row, Totals};
 
 /// What a table holds beside its rows.

@@ -1,11 +1,8 @@
 -- What each trigger counts of the made events, one by one.
-use Rattle.std.proofs.Common.{◌≡◌, ℕ, true, false, cond, List, [], ◌∷◌, refl, sym, ap, subst, ◌∙◌, Some, None, Option, unwrap_or}
-use Rattle.std.specs.Prelude.{fold, is_some, option_map}
-use Rattle.std.specs.List.{AllByRecursion}
+use Rattle.std.proofs.Common.{◌≡◌, ℕ, false, cond, List, [], ◌∷◌, refl, sym, ap, ◌∙◌, Some, None, Option}
+use Rattle.std.specs.Prelude.{⊤, fold, option_map}
 use Rattle.std.specs.Option.{option_map_or}
-use Rattle.std.proofs.lemmas.Bool.{true≢false}
-use Rattle.std.specs.declared.cmp.Ordering.TheVariants.{Less}
-use Rattle.std.specs.Ordering.{nat_cmp, eq_by_cmp, is_eq}
+use Rattle.std.specs.Ordering.{nat_cmp, eq_by_cmp}
 use Rattle.std.specs.Cmp.{nat_cmp_total}
 use Rattle.std.specs.FinMap as map
 use Rattle.std.specs.FinMap.{find, get-entries, get-insert, nat_cmp-IsAntisymmetric}
@@ -13,7 +10,7 @@ use Rattle.ft_fields.specs.Traced.{Traced}
 use Rattle.ft_keys.specs.declared.key.Part.{Part}
 use Rattle.ft_hist.specs.Hist.{Hist}
 use Rattle.ft_hist.specs.Hit.{hit}
-use Rattle.ft_maps.specs.Entries.{same_from_tie, get-insert_same}
+use Rattle.ft_maps.specs.Entries.{get-insert_same}
 use Rattle.ft_hits.specs.declared.spot.Spot.{Spot}
 use Rattle.ft_base.specs.Base.{Triggers}
 use Rattle.ft_base.proofs.Apart.{AreApart, entries_apart}
@@ -25,6 +22,7 @@ use Rattle.ft_made.specs.Making.{tell_made, count_made, count_at, goes_past}
 use Rattle.ft_made.specs.ReplayMaking.{replay_making}
 use Rattle.ft_made.specs.MadeEvents.{made_list, made_events}
 use Rattle.ft_made.proofs.Order.{entries-made}
+use Rattle.ft_made.proofs.Sorted.{fold_look}
 use Rattle.ft_made.proofs.Turns.{made-is}
 
 option_same : {X : Type 0} (o : Option X) → o ≡ option_map (λ (x : X). x) o
@@ -61,53 +59,37 @@ module _ (made : Spot × Traced) where
 
   -- ---- all triggers
 
-  others_stay : (q : ℕ) (m : Tallies) (ts : List (ℕ × Hist)) → AllByRecursion (λ u. nat_cmp q u.0 ≡ Less) ts → map.get (fold (count_at made) m ts) q ≡ map.get m q
-  others_stay q m [] h = refl
-  others_stay q m (t ∷ ts) h = others_stay q (count_at made m t) ts h.1 ∙ other_tally q m t (ap is_eq h.0)
+  -- what a trigger's tally becomes, if it has one
+  abbrev counts : Option Tally → Hist → Option Tally
+  counts tally hist = option_map (λ so_far. count_made hist so_far made) tally
 
-  none_stays : (q : ℕ) (m : Tallies) (ts : List (ℕ × Hist)) → find nat_cmp q ts ≡ None → map.get (fold (count_at made) m ts) q ≡ map.get m q
-  none_stays q m [] h = refl
-  none_stays q m (t ∷ ts) h = elim (eq_by_cmp nat_cmp q t.0) as (λ b. eq_by_cmp nat_cmp q t.0 ≡ b → cond b (Some t.1) (find nat_cmp q ts) ≡ None → map.get (fold (count_at made) m (t ∷ ts)) q ≡ map.get m q) [
-    | true ↦ λ _ found. absurd (true≢false (ap is_some found))
-    | false ↦ λ other rest. none_stays q (count_at made m t) ts rest ∙ other_tally q m t other
-  ] refl h
-
-  one_told : (q : ℕ) (hist : Hist) (m : Tallies) (ts : List (ℕ × Hist)) → AreApart nat_cmp ts → find nat_cmp q ts ≡ Some hist
-      → map.get (fold (count_at made) m ts) q ≡ option_map (λ tally. count_made hist tally made) (map.get m q)
-  one_told q hist m [] apart found = absurd (true≢false (sym (ap is_some found)))
-  one_told q hist m (t ∷ ts) apart found = elim (eq_by_cmp nat_cmp q t.0) as (λ b. eq_by_cmp nat_cmp q t.0 ≡ b → cond b (Some t.1) (find nat_cmp q ts) ≡ Some hist
-      → map.get (fold (count_at made) m (t ∷ ts)) q ≡ option_map (λ tally. count_made hist tally made) (map.get m q)) [
-        | true ↦ λ tie is.
-            let same : q ≡ t.0 = same_from_tie nat_cmp-IsAntisymmetric q t.0 tie in
-            others_stay q (count_at made m t) ts (subst (λ n. AllByRecursion (λ u. nat_cmp n u.0 ≡ Less) ts) (sym same) apart.0)
-            ∙ ap (map.get (count_at made m t)) same
-            ∙ own_tally m t
-            ∙ ap (λ (h : Hist). option_map (λ tally. count_made h tally made) (map.get m t.0)) (ap (λ o. unwrap_or o hist) is)
-            ∙ ap (λ n. option_map (λ tally. count_made hist tally made) (map.get m n)) (sym same)
-        | false ↦ λ other rest.
-            one_told q hist (count_at made m t) ts apart.1 rest
-            ∙ ap (option_map (λ tally. count_made hist tally made)) (other_tally q m t other)
-      ] refl found
+  all_count : (q : ℕ) (m : Tallies) (ts : List (ℕ × Hist)) → AreApart nat_cmp ts
+      → map.get (fold (count_at made) m ts) q ≡ option_map_or (counts (map.get m q)) (find nat_cmp q ts) (map.get m q)
+  all_count q m ts apart =
+      fold_look nat_cmp nat_cmp-IsAntisymmetric (count_at made) (λ m ts. ⊤) (λ m t ts above fact. tt) (λ q m. map.get m q) (λ q hist tally. counts tally hist)
+      (λ m t ts fact. own_tally m t) other_tally q m ts apart tt
 
 -- ---- all made events
 
 module _ (triggers : Triggers) where
+  once : (x : Spot × Traced) (q : ℕ) (m : Tallies) → map.get (goes_past triggers m x) q ≡ option_map_or (counts x (map.get m q)) (map.get triggers q) (map.get m q)
+  unfolding goes_past
+  once x q m = all_count x q m (map.entries triggers) (entries_apart nat_cmp triggers) ∙ ap (λ o. option_map_or (counts x (map.get m q)) o (map.get m q)) (sym (get-entries triggers q))
+
   all_told : (q : ℕ) (hist : Hist) (attached : map.get triggers q ≡ Some hist) (m : Tallies) (xs : List (Spot × Traced))
       → map.get (fold (goes_past triggers) m xs) q ≡ option_map (λ tally. fold (count_made hist) tally xs) (map.get m q)
-  unfolding goes_past
   all_told q hist attached m [] = option_same (map.get m q)
   all_told q hist attached m (x ∷ xs) =
       all_told q hist attached (goes_past triggers m x) xs
-      ∙ ap (option_map (λ tally. fold (count_made hist) tally xs)) (one_told x q hist m (map.entries triggers) (entries_apart nat_cmp triggers) (sym (get-entries triggers q) ∙ attached))
+      ∙ ap (option_map (λ tally. fold (count_made hist) tally xs)) (once x q m ∙ ap (λ o. option_map_or (counts x (map.get m q)) o (map.get m q)) attached)
       ∙ elim (map.get m q) as (λ o. option_map (λ tally. fold (count_made hist) tally xs) (option_map (λ tally. count_made hist tally x) o) ≡ option_map (λ tally. fold (count_made hist) (count_made hist tally x) xs) o) [
         | None ↦ refl
         | Some tally ↦ refl
       ]
 
   none_told : (q : ℕ) → map.get triggers q ≡ None → (m : Tallies) (xs : List (Spot × Traced)) → map.get (fold (goes_past triggers) m xs) q ≡ map.get m q
-  unfolding goes_past
   none_told q none m [] = refl
-  none_told q none m (x ∷ xs) = none_told q none (goes_past triggers m x) xs ∙ none_stays x q m (map.entries triggers) (sym (get-entries triggers q) ∙ none)
+  none_told q none m (x ∷ xs) = none_told q none (goes_past triggers m x) xs ∙ once x q m ∙ ap (λ o. option_map_or (counts x (map.get m q)) o (map.get m q)) none
 
 module _ (triggers : Triggers) (events : Events) where
   pub made_count : (id : ℕ) (hist : Hist) → map.get triggers id ≡ Some hist

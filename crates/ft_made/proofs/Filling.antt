@@ -1,11 +1,13 @@
 -- A table that is filled reading by reading holds just what the made events add.
-use Rattle.std.proofs.Common.{◌≡◌, ℕ, Bool, true, false, cond, List, [], ◌∷◌, map as list_map, refl, sym, ap, subst, ◌∙◌, Some, None, Option}
+use Rattle.std.proofs.Common.{◌≡◌, ℕ, false, cond, List, [], ◌∷◌, map as list_map, refl, sym, ap, subst, ◌∙◌, Some, None, Option}
 use Rattle.std.specs.Prelude.{ℤ, ◌&&◌, IfSome, fold, option_and_then, option_map, if◌then◌else◌}
 use Rattle.std.specs.List.{AllByRecursion}
 use Rattle.std.specs.Option.{option_map_or}
 use Rattle.std.specs.declared.cmp.Ordering.TheVariants.{Less}
 use Rattle.std.specs.Ordering.{nat_cmp, is_eq, eq_by_cmp, ordering_then}
 use Rattle.std.specs.Cmp.{nat_cmp_total}
+use Rattle.std.proofs.Math.Bool.{and-false}
+use Rattle.std.proofs.lemmas.List.Folds.{fold-map}
 use Rattle.std.proofs.lemmas.Cmp.{tied_itself}
 use Rattle.std.specs.FinMap as map
 use Rattle.std.specs.FinMap.{FinMap, find, get-empty, get-entries, get-insert, nat_cmp-IsAntisymmetric}
@@ -17,7 +19,6 @@ use Rattle.ft_hist.specs.Made.{made_event, made_of}
 use Rattle.ft_keys.specs.Parts.{key_cmp}
 use Rattle.ft_keys.specs.declared.key.Part.{Part}
 use Rattle.ft_lanes.specs.Held.{Lanes}
-use Rattle.ft_maps.specs.Entries.{same_from_tie}
 use Rattle.ft_table.specs.Growth.{with_hit}
 use Rattle.ft_table.specs.Hits.{same_key}
 use Rattle.ft_table.specs.Marks.{mark_cmp, mark_cmp_total}
@@ -36,13 +37,10 @@ use Rattle.ft_made.specs.MadeEvents.{made_by}
 use Rattle.ft_made.specs.MadeHits.{made_hit, values_of_made}
 use Rattle.ft_made.specs.MadeTables.{IsMadeTable, ArePairsOf, found_in, with_made}
 use Rattle.ft_made.specs.inner.Pairs.{spot_by, made_of_pair, with_pair, with_pairs, with_maker, AreFree, IsIdle}
-use Rattle.ft_made.proofs.Sorted.{all_list_map}
+use Rattle.ft_made.proofs.Sorted.{all_list_map, fold_look}
+use Rattle.ft_made.proofs.Views.{fold_still, nothing}
 
 -- ---- one made event
-
-and_false : (b : Bool) → (b && false) ≡ false
-and_false true = refl
-and_false false = refl
 
 -- it has the stamp of the place that it is made at
 pub made_stamp : (maker : Hist) (pos : Pos) (event : Traced) (saved : Pos) → pos.stamp ≡ event.stamp → IfSome (made_of maker pos event saved) (λ made. pos.stamp ≡ made.stamp)
@@ -76,13 +74,11 @@ module _ (hist : Hist) where
 
 -- ---- one trigger's readings
 
--- nothing is found below all entries
-none_after : {X : Type 0} (p : Pos) (es : List (Pos × X)) → AllByRecursion (λ q. pos_cmp p q.0 ≡ Less) es → find pos_cmp p es ≡ None
-none_after p [] above = refl
-none_after p (e ∷ es) above = ap (λ o. cond (is_eq o) (Some e.1) (find pos_cmp p es)) above.0 ∙ none_after p es above.1
-
 abbrev pair_from : Pos × Pos → Pair
 pair_from e = record { saved = e.1; read = e.0 }
+
+abbrev mark_at : ℕ → Pos → List Part → Mark
+mark_at id pos key = record { spot = record { pos = pos; maker = id }; key = key }
 
 module _ (lanes : Lanes) (hist : Hist) (id : ℕ) (maker : Hist) where
   other_place : (p q : Pos) → eq_by_cmp pos_cmp p q ≡ false → eq_by_cmp spot_cmp (record { pos = p; maker = id }) (record { pos = q; maker = id }) ≡ false
@@ -100,10 +96,10 @@ module _ (lanes : Lanes) (hist : Hist) (id : ℕ) (maker : Hist) where
   )
 
   -- a table without hits of the trigger is free at readings in order
-  pub idle_free : (table : Tabled) → IsIdle id table → (es : List (Pos × Pos)) → AreApart pos_cmp es → AreFree id (list_map pair_from es) table
+  idle_free : (table : Tabled) → IsIdle id table → (es : List (Pos × Pos)) → AreApart pos_cmp es → AreFree id (list_map pair_from es) table
   idle_free table idle [] apart = tt
   idle_free table idle (e ∷ es) apart = (
-    λ key. idle (record { spot = record { pos = e.0; maker = id }; key = key }) refl,
+    λ key. idle (mark_at id e.0 key) refl,
     (all_list_map (λ (other : Pair). pos_cmp e.0 other.read ≡ Less) pair_from es apart.0, idle_free table idle es apart.1),
   )
 
@@ -111,40 +107,26 @@ module _ (lanes : Lanes) (hist : Hist) (id : ℕ) (maker : Hist) where
   pub pairs_free : (table : Tabled) → IsIdle id table → (pairs : List Pair) → ((readings : FinMap pos_cmp Pos) × (pairs ≡ pairs_in readings)) → AreFree id pairs table
   pairs_free table idle pairs (readings, are) = subst (λ (ps : List Pair). AreFree id ps table) (sym are) (idle_free table idle (map.entries readings) (entries_apart pos_cmp readings))
 
-  abbrev mark_at : Pos → List Part → Mark
-  mark_at pos key = record { spot = record { pos = pos; maker = id }; key = key }
-
   -- what the reading adds that found a saving
   abbrev adds : Pos → List Part → Pos → Option (List ℤ)
-  adds pos key saved = values_of_made hist (mark_at pos key) (made_of_pair lanes maker (pair_from (pos, saved)))
+  adds pos key saved = values_of_made hist (mark_at id pos key) (made_of_pair lanes maker (pair_from (pos, saved)))
 
   look_pairs : (es : List (Pos × Pos)) → AreApart pos_cmp es → (table : Tabled) → AreFree id (list_map pair_from es) table → (pos : Pos) (key : List Part)
-      → map.get (with_pairs lanes hist id maker table (list_map pair_from es)).hits (mark_at pos key) ≡ option_map_or (adds pos key) (find pos_cmp pos es) (map.get table.hits (mark_at pos key))
-  look_pairs [] apart table free pos key = refl
-  look_pairs (e ∷ es) apart table free pos key =
-      let put : Tabled = with_pair lanes hist id maker table (pair_from e) in
-      look_pairs es apart.1 put (free_later table (pair_from e) (list_map pair_from es) free.1.0 free.1.1) pos key
-      ∙ elim (eq_by_cmp pos_cmp pos e.0) as (λ b. eq_by_cmp pos_cmp pos e.0 ≡ b → option_map_or (adds pos key) (find pos_cmp pos es) (map.get put.hits (mark_at pos key))
-      ≡ option_map_or (adds pos key) (cond b (Some e.1) (find pos_cmp pos es)) (map.get table.hits (mark_at pos key))) [
-        | true ↦ λ tie.
-            let same : pos ≡ e.0 = same_from_tie pos_same pos e.0 tie in
-            ap (λ o. option_map_or (adds pos key) o (map.get put.hits (mark_at pos key))) (none_after pos es (subst (λ p. AllByRecursion (λ q. pos_cmp p q.0 ≡ Less) es) (sym same) apart.0))
-            ∙ subst (λ p. map.get put.hits (mark_at p key) ≡ adds p key e.1) (sym same) (put_at hist table (spot_by id (pair_from e)) (made_of_pair lanes maker (pair_from e)) key (free.0 key))
-        | false ↦ λ other.
-            ap (option_map_or (adds pos key) (find pos_cmp pos es)) (put_other hist table (spot_by id (pair_from e)) (made_of_pair lanes maker (pair_from e)) (mark_at pos key) (other_place pos e.0 other))
-      ] refl
+      → map.get (with_pairs lanes hist id maker table (list_map pair_from es)).hits (mark_at id pos key) ≡ option_map_or (adds pos key) (find pos_cmp pos es) (map.get table.hits (mark_at id pos key))
+  look_pairs es apart table free pos key =
+      ap (λ (t : Tabled). map.get t.hits (mark_at id pos key)) (fold-map (with_pair lanes hist id maker) pair_from table es)
+      ∙ fold_look pos_cmp pos_same (λ t e. with_pair lanes hist id maker t (pair_from e)) (λ t es. AreFree id (list_map pair_from es) t)
+      (λ t e es above free. free_later t (pair_from e) (list_map pair_from es) free.1.0 free.1.1)
+      (λ q t. map.get t.hits (mark_at id q key)) (λ q saved was. adds q key saved)
+      (λ t e es free. put_at hist t (spot_by id (pair_from e)) (made_of_pair lanes maker (pair_from e)) key (free.0 key))
+      (λ q t e untied. put_other hist t (spot_by id (pair_from e)) (made_of_pair lanes maker (pair_from e)) (mark_at id q key) (other_place q e.0 untied))
+      pos table es apart free
 
   -- the hits of events that others made stay
   look_others : (pairs : List Pair) (table : Tabled) (mark : Mark) → eq_by_cmp nat_cmp mark.spot.maker id ≡ false → map.get (with_pairs lanes hist id maker table pairs).hits mark ≡ map.get table.hits mark
-  look_others [] table mark other = refl
-  look_others (pair ∷ pairs) table mark other =
-      look_others pairs (with_pair lanes hist id maker table pair) mark other
-      ∙ put_other hist table (spot_by id pair) (made_of_pair lanes maker pair) mark
-      (tied_then (pos_cmp mark.spot.pos pair.read) (nat_cmp mark.spot.maker id) ∙ ap (λ b. eq_by_cmp pos_cmp mark.spot.pos pair.read && b) other ∙ and_false (eq_by_cmp pos_cmp mark.spot.pos pair.read))
-
-  size_pairs : (pairs : List Pair) (table : Tabled) → (with_pairs lanes hist id maker table pairs).size ≡ table.size
-  size_pairs [] table = refl
-  size_pairs (pair ∷ pairs) table = size_pairs pairs (with_pair lanes hist id maker table pair) ∙ put_size hist table (spot_by id pair) (made_of_pair lanes maker pair)
+  look_others pairs table mark other = fold_still (λ (t : Tabled). map.get t.hits mark) (with_pair lanes hist id maker) (λ t pair.
+      put_other hist t (spot_by id pair) (made_of_pair lanes maker pair) mark
+      (tied_then (pos_cmp mark.spot.pos pair.read) (nat_cmp mark.spot.maker id) ∙ ap (λ b. eq_by_cmp pos_cmp mark.spot.pos pair.read && b) other ∙ and-false (eq_by_cmp pos_cmp mark.spot.pos pair.read))) table pairs
 
 -- ---- all triggers' readings
 
@@ -156,11 +138,7 @@ new_table hist = record { hits = map.empty; size = hist.size }
 pub new_idle : (hist : Hist) (id : ℕ) → IsIdle id (new_table hist)
 new_idle hist id mark is = get-empty {X = List ℤ} mark_cmp mark
 
-pub nothing : {A B : Type 0} (f : A → Option B) → ((a : A) → f a ≡ None) → (o : Option A) → option_and_then f o ≡ None
-nothing f h None = refl
-nothing f h (Some a) = h a
-
-pub in_turn : {A B C : Type 0} (f : A → B → Option C) (a : Option A) (b : Option B) → option_and_then (λ y. option_and_then (λ x. f x y) a) b ≡ option_and_then (λ x. option_and_then (f x) b) a
+in_turn : {A B C : Type 0} (f : A → B → Option C) (a : Option A) (b : Option B) → option_and_then (λ y. option_and_then (λ x. f x y) a) b ≡ option_and_then (λ x. option_and_then (f x) b) a
 in_turn f None None = refl
 in_turn f None (Some y) = refl
 in_turn f (Some x) None = refl
@@ -176,7 +154,7 @@ module _ (lanes : Lanes) (hist : Hist) (pairs : ℕ → List Pair) where
   maker_size : (table : Tabled) (t : ℕ × Hist) → (with_maker lanes hist pairs table t).size ≡ table.size
   maker_size table t = elim t.1.onmatch as (λ o. (option_map_or (λ onmatch. with_pairs lanes hist t.0 t.1 table (pairs t.0)) o table).size ≡ table.size) [
     | None ↦ refl
-    | Some onmatch ↦ size_pairs lanes hist t.0 t.1 (pairs t.0) table
+    | Some onmatch ↦ fold_still (λ (u : Tabled). u.size) (with_pair lanes hist t.0 t.1) (λ u pair. put_size hist u (spot_by t.0 pair) (made_of_pair lanes t.1 pair)) table (pairs t.0)
   ]
 
   -- those after a trigger stay without hits
@@ -195,14 +173,14 @@ module _ (lanes : Lanes) (hist : Hist) (pairs : ℕ → List Pair) where
     none_from : (maker : Hist) (s : Spot) → maker.onmatch ≡ None → made_from maker s ≡ None
     none_from maker s none = nothing _ (λ saved. nothing _ (λ event. ap (option_map (made_event s.pos event saved)) none) (held_at lanes s.pos)) (found_in found s.maker s.pos)
 
-    or_none : (mark : Mark) (f : Pos → Option Traced) (o : Option Pos) → option_map_or (λ saved. values_of_made hist mark (f saved)) o None ≡ values_of_made hist mark (option_and_then f o)
+    or_none : {X : Type 0} (mark : Mark) (f : X → Option Traced) (o : Option X) → option_map_or (λ x. values_of_made hist mark (f x)) o None ≡ values_of_made hist mark (option_and_then f o)
     or_none mark f None = refl
-    or_none mark f (Some saved) = refl
+    or_none mark f (Some x) = refl
 
     maker_own : (table : Tabled) (t : ℕ × Hist) → IsIdle t.0 table → pairs t.0 ≡ pairs_in (found t.0) → (pos : Pos) (key : List Part)
-        → map.get (with_maker lanes hist pairs table t).hits (mark_at lanes hist t.0 t.1 pos key) ≡ values_of_made hist (mark_at lanes hist t.0 t.1 pos key) (made_from t.1 (record { pos = pos; maker = t.0 }))
+        → map.get (with_maker lanes hist pairs table t).hits (mark_at t.0 pos key) ≡ values_of_made hist (mark_at t.0 pos key) (made_from t.1 (record { pos = pos; maker = t.0 }))
     maker_own table t idle are pos key =
-        let mark : Mark = mark_at lanes hist t.0 t.1 pos key in
+        let mark : Mark = mark_at t.0 pos key in
         elim t.1.onmatch as (λ o. t.1.onmatch ≡ o → map.get (option_map_or (λ onmatch. with_pairs lanes hist t.0 t.1 table (pairs t.0)) o table).hits mark ≡ values_of_made hist mark (made_from t.1 mark.spot)) [
           | None ↦ λ none. idle mark refl ∙ sym (ap (values_of_made hist mark) (none_from t.1 mark.spot none))
           | Some onmatch ↦ λ _.
@@ -214,39 +192,21 @@ module _ (lanes : Lanes) (hist : Hist) (pairs : ℕ → List Pair) where
               ∙ or_none mark (λ saved. made_of_pair lanes t.1 (pair_from (pos, saved))) (map.get (found t.0) pos)
         ] refl
 
-    look_makers : (ts : List (ℕ × Hist)) → AreApart nat_cmp ts → AllByRecursion (λ t. pairs t.0 ≡ pairs_in (found t.0)) ts → (table : Tabled) → AllByRecursion (λ t. IsIdle t.0 table) ts → (mark : Mark)
-        → map.get (fold (with_maker lanes hist pairs) table ts).hits mark ≡ option_map_or (λ maker. values_of_made hist mark (made_from maker mark.spot)) (find nat_cmp mark.spot.maker ts) (map.get table.hits mark)
-    look_makers [] apart are table idle mark = refl
-    look_makers (t ∷ ts) apart are table idle mark =
-        let put : Tabled = with_maker lanes hist pairs table t in
-        let adds_by : Hist → Option (List ℤ) = λ maker. values_of_made hist mark (made_from maker mark.spot) in
-        look_makers ts apart.1 are.1 put (idle_later table t ts apart.0 idle.1) mark
-        ∙ elim (eq_by_cmp nat_cmp mark.spot.maker t.0) as (λ b. eq_by_cmp nat_cmp mark.spot.maker t.0 ≡ b → option_map_or adds_by (find nat_cmp mark.spot.maker ts) (map.get put.hits mark)
-        ≡ option_map_or adds_by (cond b (Some t.1) (find nat_cmp mark.spot.maker ts)) (map.get table.hits mark)) [
-          | true ↦ λ tie.
-              let same : mark.spot.maker ≡ t.0 = same_from_tie nat_cmp-IsAntisymmetric mark.spot.maker t.0 tie in
-              ap (λ o. option_map_or adds_by o (map.get put.hits mark)) (none_behind mark.spot.maker t ts same apart.0)
-              ∙ own_at table t idle.0 are.0 mark same
-          | false ↦ λ other. ap (option_map_or adds_by (find nat_cmp mark.spot.maker ts)) (maker_others table t mark other)
-        ] refl
-      where
-        none_above : {X : Type 0} (k : ℕ) (es : List (ℕ × X)) → AllByRecursion (λ q. nat_cmp k q.0 ≡ Less) es → find nat_cmp k es ≡ None
-        none_above k [] above = refl
-        none_above k (e ∷ es) above = ap (λ o. cond (is_eq o) (Some e.1) (find nat_cmp k es)) above.0 ∙ none_above k es above.1
+    -- the readings of some triggers are these, and a table has no event that they made
+    abbrev AreToCome : Tabled → List (ℕ × Hist) → Type 0
+    AreToCome table ts = AllByRecursion (λ t. pairs t.0 ≡ pairs_in (found t.0)) ts × AllByRecursion (λ t. IsIdle t.0 table) ts
 
-        none_behind : (k : ℕ) (t : ℕ × Hist) (ts : List (ℕ × Hist)) → k ≡ t.0 → AllByRecursion (λ q. nat_cmp t.0 q.0 ≡ Less) ts → find nat_cmp k ts ≡ None
-        none_behind k t ts same above = none_above k ts (subst (λ n. AllByRecursion (λ q. nat_cmp n q.0 ≡ Less) ts) (sym same) above)
-
-        own_at : (table : Tabled) (t : ℕ × Hist) → IsIdle t.0 table → pairs t.0 ≡ pairs_in (found t.0) → (mark : Mark) → mark.spot.maker ≡ t.0
-            → map.get (with_maker lanes hist pairs table t).hits mark ≡ values_of_made hist mark (made_from t.1 mark.spot)
-        own_at table t idle are mark same =
-            subst (λ n. map.get (with_maker lanes hist pairs table t).hits (record { spot = record { pos = mark.spot.pos; maker = n }; key = mark.key })
-            ≡ values_of_made hist (record { spot = record { pos = mark.spot.pos; maker = n }; key = mark.key }) (made_from t.1 (record { pos = mark.spot.pos; maker = n }))) (sym same)
-            (maker_own table t idle are mark.spot.pos mark.key)
-
-    size_makers : (ts : List (ℕ × Hist)) (table : Tabled) → (fold (with_maker lanes hist pairs) table ts).size ≡ table.size
-    size_makers [] table = refl
-    size_makers (t ∷ ts) table = size_makers ts (with_maker lanes hist pairs table t) ∙ maker_size table t
+    look_makers : (ts : List (ℕ × Hist)) → AreApart nat_cmp ts → (table : Tabled) → AreToCome table ts → (pos : Pos) (key : List Part) (id : ℕ)
+        → map.get (fold (with_maker lanes hist pairs) table ts).hits (mark_at id pos key)
+        ≡ option_map_or (λ maker. values_of_made hist (mark_at id pos key) (made_from maker (record { pos = pos; maker = id }))) (find nat_cmp id ts)
+        (map.get table.hits (mark_at id pos key))
+    look_makers ts apart table to_come pos key id =
+        fold_look nat_cmp nat_cmp-IsAntisymmetric (with_maker lanes hist pairs) AreToCome (λ table t ts above to_come. (to_come.0.1, idle_later table t ts above to_come.1.1))
+        (λ id table. map.get table.hits (mark_at id pos key))
+        (λ id maker was. values_of_made hist (mark_at id pos key) (made_from maker (record { pos = pos; maker = id })))
+        (λ table t ts to_come. maker_own table t to_come.1.0 to_come.0.0 pos key)
+        (λ id table t untied. maker_others table t (mark_at id pos key) untied)
+        id table ts apart to_come
 
     module _ (triggers : Triggers) where
       made_by-is : (s : Spot) → option_and_then (λ maker. made_from maker s) (map.get triggers s.maker) ≡ made_by triggers (merged lanes) (found_in found) s
@@ -258,18 +218,16 @@ module _ (lanes : Lanes) (hist : Hist) (pairs : ℕ → List Pair) where
           ]
           ∙ ap (option_and_then (λ event. option_and_then (λ maker. option_and_then (made_of maker s.pos event) (found_in found s.maker s.pos)) (map.get triggers s.maker))) (sym (merged_at s.pos lanes))
 
-      or_nothing : (mark : Mark) (o : Option Hist) → option_map_or (λ maker. values_of_made hist mark (made_from maker mark.spot)) o None ≡ values_of_made hist mark (option_and_then (λ maker. made_from maker mark.spot) o)
-      or_nothing mark None = refl
-      or_nothing mark (Some maker) = refl
-
       pub filled : ArePairsOf triggers pairs found → IsMadeTable triggers (merged lanes) (found_in found) hist (fold (with_maker lanes hist pairs) (new_table hist) (map.entries triggers))
       filled are = record {
-        size = size_makers (map.entries triggers) (new_table hist);
+        size = fold_still (λ (t : Tabled). t.size) (with_maker lanes hist pairs) maker_size (new_table hist) (map.entries triggers);
         hits = λ mark.
-            look_makers (map.entries triggers) (entries_apart nat_cmp triggers) (all_map _ _ (λ t there. are t.0 t.1 there) (map.entries triggers) (entries_found nat_cmp nat_cmp_total triggers)) (new_table hist)
-            (all_of (λ (t : ℕ × Hist). IsIdle t.0 (new_table hist)) (λ t. new_idle hist t.0) (map.entries triggers)) mark
+            look_makers (map.entries triggers) (entries_apart nat_cmp triggers) (new_table hist) (
+              all_map _ _ (λ t there. are t.0 t.1 there) (map.entries triggers) (entries_found nat_cmp nat_cmp_total triggers),
+              all_of (λ (t : ℕ × Hist). IsIdle t.0 (new_table hist)) (λ t. new_idle hist t.0) (map.entries triggers),
+            ) mark.spot.pos mark.key mark.spot.maker
             ∙ ap (λ o. option_map_or (λ maker. values_of_made hist mark (made_from maker mark.spot)) o (map.get (new_table hist).hits mark)) (sym (get-entries triggers mark.spot.maker))
             ∙ ap (option_map_or (λ maker. values_of_made hist mark (made_from maker mark.spot)) (map.get triggers mark.spot.maker)) (get-empty {X = List ℤ} mark_cmp mark)
-            ∙ or_nothing mark (map.get triggers mark.spot.maker)
+            ∙ or_none mark (λ maker. made_from maker mark.spot) (map.get triggers mark.spot.maker)
             ∙ ap (values_of_made hist mark) (made_by-is mark.spot);
       }

@@ -19,7 +19,6 @@ use Rattle.ft_table.specs.Hits.{Hits}
 use Rattle.ft_table.specs.Marks.{mark_cmp_total, mark_same}
 use Rattle.ft_table.specs.Spots.{spot_cmp, spot_cmp_total}
 use Rattle.ft_table.specs.Tabled.{Tabled}
-use Rattle.ft_table.specs.Values.{values_at}
 use Rattle.ft_base.specs.Base.{Triggers}
 use Rattle.ft_base.proofs.Apart.{all_map, entries_found}
 use Rattle.ft_replay.specs.Merged.{Events}
@@ -32,9 +31,11 @@ use Rattle.ft_made.specs.Making.{tell_made, count_made}
 use Rattle.ft_made.specs.ReplayMaking.{replay_making}
 use Rattle.ft_made.specs.MadeEvents.{made_by, made_at, made_events}
 use Rattle.ft_made.specs.MadeHits.{made_hit, made_hit_at, made_hits, made_hits_of, values_made, values_of_made}
-use Rattle.ft_made.specs.MadeTables.{Readings, IsMadeTable}
+use Rattle.ft_changes.specs.Findings.{Findings}
+use Rattle.ft_made.specs.MadeTables.{IsMadeTable}
 use Rattle.ft_made.specs.Laws.{AreFound}
 use Rattle.ft_made.proofs.Counting.{made_count}
+use Rattle.ft_made.proofs.MadeTables.{hit_under}
 use Rattle.ft_made.proofs.Order.{get-made}
 use Rattle.ft_made.proofs.Same.{made_found}
 use Rattle.ft_made.proofs.Views.{fold_option}
@@ -47,18 +48,14 @@ module _ (triggers : Triggers) (events : Events) (hist : Hist) where
   abbrev hit_of : Spot → Option TriggerHit
   hit_of = made_hit_at triggers events hist
 
-  -- the hit of a key, at a spot
-  abbrev hit_under : Spot → Traced → List Part → TriggerHit
-  hit_under s event key = record { spot = s; key = key; saved = None; values = values_at hist s.pos event None }
-
   -- ---- where the hits stand
 
   -- what holds of a hit of every key holds of the hit at a spot
-  each_hit : (P : TriggerHit → Type 0) (s : Spot) → ((event : Traced) (key : List Part) → P (hit_under s event key)) → IfSome (hit_of s) P
+  each_hit : (P : TriggerHit → Type 0) (s : Spot) → ((event : Traced) (key : List Part) → P (hit_under hist s event key)) → IfSome (hit_of s) P
   unfolding made_hit_at
   each_hit P s h = elim (made_at triggers events s) as (λ o. IfSome (option_and_then (made_hit hist s) o) P) [
     | None ↦ tt
-    | Some event ↦ elim (hit hist event) as (λ o. IfSome (option_map (hit_under s event) o) P) [ None ↦ tt | Some key ↦ h event key ]
+    | Some event ↦ elim (hit hist event) as (λ o. IfSome (option_map (hit_under hist s event) o) P) [ None ↦ tt | Some key ↦ h event key ]
   ]
 
   hit-spot : (s : Spot) → IfSome (hit_of s) (λ found. found.spot ≡ s)
@@ -96,7 +93,7 @@ module _ (triggers : Triggers) (events : Events) (hist : Hist) where
   one_counted : (tally : Tally) (e : Spot × Traced) → made_at triggers events e.0 ≡ Some e.1 → count_made hist tally e ≡ option_map_or (counted hist.size tally) (hit_of e.0) tally
   unfolding made_hit_at
   one_counted tally e there =
-      elim (hit hist e.1) as (λ o. option_map_or (λ key. tell_made hist e key tally) o tally ≡ option_map_or (counted hist.size tally) (option_map (hit_under e.0 e.1) o) tally) [ None ↦ refl | Some key ↦ refl ]
+      elim (hit hist e.1) as (λ o. option_map_or (λ key. tell_made hist e key tally) o tally ≡ option_map_or (counted hist.size tally) (option_map (hit_under hist e.0 e.1) o) tally) [ None ↦ refl | Some key ↦ refl ]
       ∙ ap (λ o. option_map_or (counted hist.size tally) (option_and_then (made_hit hist e.0) o) tally) (sym there)
 
   all_counted : (tally : Tally) (es : List (Spot × Traced)) → AllByRecursion (λ e. made_at triggers events e.0 ≡ Some e.1) es
@@ -152,7 +149,7 @@ module _ (triggers : Triggers) (events : Events) (hist : Hist) where
       tally-made_found found are values is = tally-made_kept values (λ m. is m ∙ ap (values_of_made hist m) (made_found triggers events found are m.spot))
 
       -- and that of a table that holds just this
-      pub tally-made_table : (found : Readings) → AreFound triggers events found → (table : Tabled) → IsMadeTable triggers events found hist table
+      pub tally-made_table : (found : Findings) → AreFound triggers events found → (table : Tabled) → IsMadeTable triggers events found hist table
           → map.get (replay_making triggers events).made id ≡ Some (tally_of table [])
       tally-made_table found are table is =
           tally-made_found found are table.hits is.hits

@@ -1,5 +1,5 @@
 -- What follows of a table that holds just what made events add.
-use Rattle.std.proofs.Common.{◌≡◌, Bool, true, false, cond, List, refl, sym, ap, subst, ◌∙◌, Some, None, Option}
+use Rattle.std.proofs.Common.{◌≡◌, ◌⊎◌, ⊎_elim, inl, inr, Bool, true, false, cond, List, refl, sym, ap, subst, ◌∙◌, Some, None, Option}
 use Rattle.std.specs.Prelude.{ℤ, ◌&&◌, IsSome, option_map, option_and_then, if◌then◌else◌}
 use Rattle.std.proofs.lemmas.Bool.{true≢false}
 use Rattle.std.specs.Option.{option_map_or}
@@ -31,29 +31,35 @@ use Rattle.ft_replay.proofs.Places.{tied_then}
 use Rattle.ft_made.specs.Laws.{MadeTablesChange, MadeTablesFit, PutMadeChanges, TakeMadeChanges}
 use Rattle.ft_made.specs.MadeEvents.{made_by}
 use Rattle.ft_made.specs.MadeHits.{made_hit, values_of_made}
-use Rattle.ft_made.specs.MadeTables.{Readings, IsMadeTable, ChangesMade, HoldsMade, without_made}
+use Rattle.ft_changes.specs.Findings.{Findings}
+use Rattle.ft_made.specs.MadeTables.{IsMadeTable, ChangesMade, HoldsMade, without_made}
 use Rattle.ft_made.proofs.Filling.{put_at, put_other, put_size}
 
 -- ---- keys fit
 
--- the hit of a key, at a mark
-abbrev pub hit_under : Hist → Mark → Traced → List Part → TriggerHit
-hit_under hist mark event key = record { spot = mark.spot; key = key; saved = None; values = values_at hist mark.spot.pos event None }
+-- the hit of a key, at a spot
+abbrev pub hit_under : Hist → Spot → Traced → List Part → TriggerHit
+hit_under hist spot event key = record { spot = spot; key = key; saved = None; values = values_at hist spot.pos event None }
 
 -- what a hit adds under a key, where that is the hit's
 abbrev pub adds_under : List Part → TriggerHit → Option (List ℤ)
 adds_under key found = if same_key key found.key then Some found.values else None
 
+-- a made event adds nothing at a mark, or it is a hit of the mark's key
+pub none_or_its : (hist : Hist) (mark : Mark) (made : Option Traced) → (values_of_made hist mark made ≡ None) ⊎ (option_and_then (hit hist) made ≡ Some mark.key)
+none_or_its hist mark None = inl refl
+none_or_its hist mark (Some event) = elim (hit hist event) as (λ o. (option_and_then (adds_under mark.key) (option_map (hit_under hist mark.spot event) o) ≡ None) ⊎ (o ≡ Some mark.key)) [
+  | None ↦ inl refl
+  | Some key ↦ elim (same_key mark.key key) as (λ b. same_key mark.key key ≡ b → ((if b then Some (values_at hist mark.spot.pos event None) else None) ≡ None) ⊎ (Some key ≡ Some mark.key)) [
+    | true ↦ λ tie. inr (ap Some (sym (same_from_tie key_same mark.key key tie)))
+    | false ↦ λ _. inl refl
+  ] refl
+]
+
 module _ (fits : (hist : Hist) (event : Traced) (parts : List Part) → hit hist event ≡ Some parts → KeyFits hist.keys parts) where
   fit_under : (hist : Hist) (mark : Mark) (made : Option Traced) → IsSome (values_of_made hist mark made) → KeyFits hist.keys mark.key
   fit_under hist mark None some = absurd (true≢false (sym some))
-  fit_under hist mark (Some event) some = elim (hit hist event) as (λ o. hit hist event ≡ o → IsSome (option_and_then (adds_under mark.key) (option_map (hit_under hist mark event) o)) → KeyFits hist.keys mark.key) [
-    | None ↦ λ _ some. absurd (true≢false (sym some))
-    | Some key ↦ λ is some. elim (same_key mark.key key) as (λ b. same_key mark.key key ≡ b → IsSome (if b then Some (values_at hist mark.spot.pos event None) else None) → KeyFits hist.keys mark.key) [
-      | true ↦ λ tie _. subst (KeyFits hist.keys) (sym (same_from_tie key_same mark.key key tie)) (fits hist event key is)
-      | false ↦ λ _ some. absurd (true≢false (sym some))
-    ] refl some
-  ] refl some
+  fit_under hist mark (Some event) some = ⊎_elim (λ none. absurd (true≢false (sym (subst IsSome none some)))) (fits hist event mark.key) (none_or_its hist mark (Some event))
 
   pub made_fit : MadeTablesFit
   made_fit triggers events found hist table is mark some = fit_under hist mark (made_by triggers events found mark.spot) (subst IsSome (is.hits mark) some)
@@ -63,7 +69,7 @@ module _ (fits : (hist : Hist) (event : Traced) (parts : List Part) → hit hist
 apart_from : (a b : Spot) → eq_by_cmp spot_cmp a b ≡ false → a ≡ b → ⊥
 apart_from a b other same = true≢false (sym ((eq_by_cmp_equiv spot_cmp_total).refl b) ∙ ap (λ (s : Spot). eq_by_cmp spot_cmp s b) (sym same) ∙ other)
 
-module _ (triggers others : Triggers) (events more : Events) (found later : Readings) (hist : Hist) (spot : Spot) (before after : Tabled)
+module _ (triggers others : Triggers) (events more : Events) (found later : Findings) (hist : Hist) (spot : Spot) (before after : Tabled)
     (is : IsMadeTable triggers events found hist before) (changes : ChangesMade hist spot (made_by others more later spot) before after)
     (same : (other : Spot) → (other ≡ spot → ⊥) → made_by others more later other ≡ made_by triggers events found other) where
   abbrev holds : Mark → Type 0

@@ -1,6 +1,6 @@
 -- Made events stand in order of their spots, one at each, and by spot they are what readings make.
 use Rattle.std.proofs.Common.{◌≡◌, ℕ, Bool, true, false, cond, List, [], ◌∷◌, map as list_map, refl, sym, ap, ◌∙◌, Some, None, Option}
-use Rattle.std.specs.Prelude.{◌&&◌, ◌||◌, is_some, option_and_then}
+use Rattle.std.specs.Prelude.{◌&&◌, ◌||◌, is_some}
 use Rattle.std.specs.List.{AllByRecursion, flat_map, list_any}
 use Rattle.std.specs.List.Sorted.{IsStrictlySortedBy}
 use Rattle.std.specs.Map.{keys_of}
@@ -24,6 +24,7 @@ use Rattle.ft_base.proofs.Apart.{AreApart, entries_apart, all_of, all_map}
 use Rattle.ft_replay.specs.Merged.{Events}
 use Rattle.ft_replay.proofs.Places.{tied_then}
 use Rattle.ft_made.specs.MadeEvents.{made_at, spots_at, spots, made_list, made_events}
+use Rattle.ft_made.proofs.Views.{nothing}
 use Rattle.ft_made.proofs.Sorted.{standing_sorted, find-standing, sorted_append, all_list_map, all_flat_map}
 
 -- ---- the spots ascend
@@ -87,10 +88,6 @@ module _ (triggers : Triggers) (q : Spot) where
   has_spot events held attached = in_events attached (map.entries events) (ap is_some (sym (get-entries events q.pos)) ∙ held)
 
 -- ---- the made events, by spot
-
-nothing : {A B : Type 0} (f : A → Option B) → ((a : A) → f a ≡ None) → (o : Option A) → option_and_then f o ≡ None
-nothing f h None = refl
-nothing f h (Some a) = h a
 
 module _ (triggers : Triggers) (events : Events) where
   pub list-sorted : IsStrictlySortedBy spot_cmp (keys_of (made_list triggers events))

@@ -1,15 +1,16 @@
--- Keys in order, with what stands at each where something does.
-use Rattle.std.proofs.Common.{◌≡◌, Bool, true, false, cond, List, [], ◌∷◌, ◌++◌, map as list_map, refl, sym, ap, ◌∙◌, Some, None, Option}
-use Rattle.std.specs.Prelude.{◌||◌, option_map, filter_map}
+-- Keys in order, with what stands at each where something does, and folds over them.
+use Rattle.std.proofs.Common.{◌≡◌, Bool, true, false, cond, List, [], ◌∷◌, ◌++◌, map as list_map, refl, sym, ap, subst, ◌∙◌, Some, None, Option}
+use Rattle.std.specs.Prelude.{◌||◌, fold, option_map, filter_map}
 use Rattle.std.specs.List.{AllByRecursion, cons_option, flat_map, list_any}
 use Rattle.std.specs.List.Sorted.{IsStrictlySortedBy}
+use Rattle.std.specs.Option.{option_map_or}
 use Rattle.std.specs.Map.{keys_of}
 use Rattle.std.specs.declared.cmp.Ordering.{Ordering}
 use Rattle.std.specs.declared.cmp.Ordering.TheVariants.{Less}
-use Rattle.std.specs.Ordering.{eq_by_cmp}
+use Rattle.std.specs.Ordering.{eq_by_cmp, is_eq}
 use Rattle.std.specs.FinMap.{IsAntisymmetric, find}
 use Rattle.ft_maps.specs.Entries.{same_from_tie}
-use Rattle.ft_base.proofs.Apart.{all_append}
+use Rattle.ft_base.proofs.Apart.{AreApart, all_append}
 
 module _ {K X : Type 0} (R : K → K → Ordering) (f : K → Option X) where
   -- a key with what stands there, if something does
@@ -52,6 +53,34 @@ module _ {K X : Type 0} (R : K → K → Ordering) (f : K → Option X) where
     | true ↦ λ tie. at_first k q (filter_map standing ks) (list_any (eq_by_cmp R q) ks) tie (same_from_tie same q k tie) (find-standing same ks q) (f k) refl
     | false ↦ λ other. at_later k q (filter_map standing ks) other (f k) ∙ find-standing same ks q
   ] refl
+
+-- behind the entry of a key there is no other of it
+none_above : {K X : Type 0} (R : K → K → Ordering) (k : K) (es : List (K × X)) → AllByRecursion (λ q. R k q.0 ≡ Less) es → find R k es ≡ None
+none_above R k [] above = refl
+none_above R k (e ∷ es) above = ap (λ o. cond (is_eq o) (Some e.1) (find R k es)) above.0 ∙ none_above R k es above.1
+
+none_behind : {K X : Type 0} (R : K → K → Ordering) (k : K) (e : K × X) (es : List (K × X)) → k ≡ e.0 → AllByRecursion (λ q. R e.0 q.0 ≡ Less) es → find R k es ≡ None
+none_behind R k e es same above = none_above R k es (subst (λ q. AllByRecursion (λ p. R q p.0 ≡ Less) es) (sym same) above)
+
+-- ---- folds over such keys
+
+-- what is read at a key of a fold, where the entry of the key alone changes it, and where a fact is passed on that each step needs
+module _ {K X S V : Type 0} (R : K → K → Ordering) (same : IsAntisymmetric R) (step : S → K × X → S) (Fact : S → List (K × X) → Type 0)
+    (pass : (s : S) (e : K × X) (es : List (K × X)) → AllByRecursion (λ q. R e.0 q.0 ≡ Less) es → Fact s (e ∷ es) → Fact (step s e) es)
+    (look : K → S → V) (own : K → X → V → V) (mine : (s : S) (e : K × X) (es : List (K × X)) → Fact s (e ∷ es) → look e.0 (step s e) ≡ own e.0 e.1 (look e.0 s))
+    (other : (q : K) (s : S) (e : K × X) → eq_by_cmp R q e.0 ≡ false → look q (step s e) ≡ look q s) where
+  pub fold_look : (q : K) (s : S) (es : List (K × X)) → AreApart R es → Fact s es → look q (fold step s es) ≡ option_map_or (λ x. own q x (look q s)) (find R q es) (look q s)
+  fold_look q s [] apart fact = refl
+  fold_look q s (e ∷ es) apart fact =
+      let told : V → Option X → V = λ v o. option_map_or (λ x. own q x v) o v in
+      fold_look q (step s e) es apart.1 (pass s e es apart.0 fact)
+      ∙ elim (eq_by_cmp R q e.0) as (λ b. eq_by_cmp R q e.0 ≡ b → told (look q (step s e)) (find R q es) ≡ told (look q s) (cond b (Some e.1) (find R q es))) [
+        | true ↦ λ tie.
+            let is : q ≡ e.0 = same_from_tie same q e.0 tie in
+            ap (told (look q (step s e))) (none_behind R q e es is apart.0)
+            ∙ subst (λ k. look k (step s e) ≡ own k e.1 (look k s)) (sym is) (mine s e es fact)
+        | false ↦ λ untied. ap (λ v. told v (find R q es)) (other q s e untied)
+      ] refl
 
 -- ---- lists one after the other
 

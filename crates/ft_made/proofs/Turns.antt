@@ -26,7 +26,7 @@ use Rattle.ft_made.specs.MadeEvents.{made_at, made_there, spots_at, spots, made_
 use Rattle.ft_made.specs.Laws.{MakeNone}
 use Rattle.ft_made.proofs.Before.{begin, before-is}
 use Rattle.ft_made.proofs.Making.{made_now-is}
-use Rattle.ft_made.proofs.Views.{seen_fold, fold_option}
+use Rattle.ft_made.proofs.Views.{seen_fold, fold_option, nothing}
 
 -- ---- the held events
 
@@ -91,10 +91,6 @@ module _ (triggers : Triggers) (events : Events) where
 
 -- ---- where none is made
 
-nothing_made : (f : Pos → Option Traced) → ((saved : Pos) → f saved ≡ None) → (o : Option Pos) → option_and_then f o ≡ None
-nothing_made f none None = refl
-nothing_made f none (Some saved) = none saved
-
 module _ (triggers : Triggers) (events : Events) (none : MakeNone triggers) where
   none_at : (spot : Spot) → made_at triggers events spot ≡ None
   unfolding made_at
@@ -102,7 +98,7 @@ module _ (triggers : Triggers) (events : Events) (none : MakeNone triggers) wher
     | None ↦ refl
     | Some event ↦ elim (map.get triggers spot.maker) as (λ o. map.get triggers spot.maker ≡ o → option_and_then (λ hist. option_and_then (made_of hist spot.pos event) (saving_found triggers events spot.maker spot.pos)) o ≡ None) [
       | None ↦ λ _. refl
-      | Some hist ↦ λ attached. nothing_made (made_of hist spot.pos event) (λ saved. ap (option_map (made_event spot.pos event saved)) (none spot.maker hist attached)) (saving_found triggers events spot.maker spot.pos)
+      | Some hist ↦ λ attached. nothing (made_of hist spot.pos event) (λ saved. ap (option_map (made_event spot.pos event saved)) (none spot.maker hist attached)) (saving_found triggers events spot.maker spot.pos)
     ] refl
   ]
 

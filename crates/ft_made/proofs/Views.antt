@@ -1,6 +1,6 @@
--- What is read off a fold, and one item more of a fold or of a list.
+-- What is read off a fold, one item more of a fold or of a list, and what makes nothing.
 use Rattle.std.proofs.Common.{◌≡◌, List, [], ◌∷◌, ◌++◌, refl, sym, ap, ◌∙◌, Some, None, Option}
-use Rattle.std.specs.Prelude.{fold}
+use Rattle.std.specs.Prelude.{fold, option_and_then}
 use Rattle.std.specs.List.{cons_option, flat_map}
 use Rattle.std.specs.Option.{option_map_or}
 use Rattle.std.proofs.lemmas.List.{append-nil, append_assoc}
@@ -10,6 +10,11 @@ pub seen_fold : {S T X : Type 0} (p : S → T) (f : S → X → S) (g : T → X 
 seen_fold p f g same s [] = refl
 seen_fold p f g same s (x ∷ xs) = seen_fold p f g same (f s x) xs ∙ ap (λ t. fold g t xs) (same s x)
 
+-- a view that each step leaves as it is
+pub fold_still : {S T X : Type 0} (p : S → T) (f : S → X → S) → ((s : S) (x : X) → p (f s x) ≡ p s) → (s : S) (xs : List X) → p (fold f s xs) ≡ p s
+fold_still p f same s [] = refl
+fold_still p f same s (x ∷ xs) = fold_still p f same (f s x) xs ∙ same s x
+
 -- one more at the front, if there is one
 pub fold_option : {S X : Type 0} (g : S → X → S) (s : S) (o : Option X) (xs : List X) → fold g (option_map_or (g s) o s) xs ≡ fold g s (cons_option o xs)
 fold_option g s None xs = refl
@@ -18,6 +23,11 @@ fold_option g s (Some x) xs = refl
 -- where a fold of some items leads, one step and the fold of the others lead
 pub fold_step : {S X : Type 0} (g : S → X → S) (s t whole : S) (x : X) (rest all : List X) → t ≡ g s x → all ≡ x ∷ rest → fold g s all ≡ whole → fold g t rest ≡ whole
 fold_step g s t whole x rest all step more is = ap (λ u. fold g u rest) step ∙ sym (ap (fold g s) more) ∙ is
+
+-- what makes nothing of anything makes nothing
+pub nothing : {A B : Type 0} (f : A → Option B) → ((a : A) → f a ≡ None) → (o : Option A) → option_and_then f o ≡ None
+nothing f h None = refl
+nothing f h (Some a) = h a
 
 -- ---- lists made one after the other
 
@@ -29,10 +39,6 @@ module _ {X Y : Type 0} (f : X → List Y) where
       ∙ append_assoc found (f x) (flat_map f rest)
       ∙ sym (ap (λ (xs : List X). found ++ flat_map f xs) is)
       ∙ goal
-
-  -- it has none
-  pub flat_skip : (found all : List Y) (x : X) (rest left : List X) → left ≡ x ∷ rest → f x ≡ [] → found ++ flat_map f left ≡ all → found ++ flat_map f rest ≡ all
-  flat_skip found all x rest left is none goal = flat_step found found all x rest left is (sym (append-nil found) ∙ ap (λ (ys : List Y). found ++ ys) (sym none)) goal
 
   -- none is left
   pub flat_done : (found all : List Y) (left : List X) → left ≡ [] → found ++ flat_map f left ≡ all → found ≡ all

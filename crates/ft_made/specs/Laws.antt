@@ -9,7 +9,7 @@ use Rattle.ft_fields.specs.declared.pos.Pos.{Pos}
 use Rattle.ft_fields.specs.Traced.{Traced}
 use Rattle.ft_keys.specs.declared.key.Part.{Part}
 use Rattle.ft_hist.specs.Hist.{Hist}
-use Rattle.ft_rivals.specs.Rivals.{AreTablesButFor}
+use Rattle.ft_changes.specs.Rivals.{AreTablesButFor}
 use Rattle.ft_table.specs.Hits.{Hits}
 use Rattle.ft_table.specs.Rows.{AllFit}
 use Rattle.ft_table.specs.Tabled.{Tabled}
@@ -31,8 +31,10 @@ use Rattle.ft_made.specs.Making.{count_made}
 use Rattle.ft_made.specs.ReplayMaking.{replay_making}
 use Rattle.ft_made.specs.MadeEvents.{made_by, made_at, made_list, made_events}
 use Rattle.ft_made.specs.MadeHits.{made_hits_of, values_made, values_of_made}
-use Rattle.ft_made.specs.MadeTables.{Readings, IsMadeTable, AreInOrder, ArePairsOf, AreReplayed, found_in, ChangesMade, HoldsMade, IsFreeAt, with_made, without_made}
-use Rattle.ft_made.specs.Turning.{HaveKey, HaveTurned, keys_turned, made_as}
+use Rattle.ft_changes.specs.Findings.{Findings, Lead}
+use Rattle.ft_changes.specs.declared.changed.ReadingChange.{ReadingChange}
+use Rattle.ft_made.specs.MadeTables.{IsMadeTable, AreInOrder, ArePairsOf, AreReplayed, found_in, ChangesMade, HoldsMade, IsFreeAt, with_made, without_made}
+use Rattle.ft_made.specs.Turning.{HaveTurned, keys_turned}
 
 -- ---- two replays, one after the other
 
@@ -89,12 +91,12 @@ SameIsMade = (triggers others : Triggers) (events more : Events) (at : At)
     → made_at others more (spot_of at) ≡ made_at triggers events (spot_of at)
 
 -- these savings are, by trigger and place, what the attached triggers' readings find
-abbrev pub AreFound : Triggers → Events → Readings → Type 0
+abbrev pub AreFound : Triggers → Events → Findings → Type 0
 AreFound triggers events found = (id : ℕ) (hist : Hist) → map.get triggers id ≡ Some hist → (pos : Pos) → found id pos ≡ saving_found triggers events id pos
 
 -- such savings make the same events
 abbrev pub FoundMakeAll : Type 0
-FoundMakeAll = (triggers : Triggers) (events : Events) (found : Readings) → AreFound triggers events found
+FoundMakeAll = (triggers : Triggers) (events : Events) (found : Findings) → AreFound triggers events found
     → (spot : Spot) → made_by triggers events found spot ≡ made_at triggers events spot
 
 -- ---- maps that are kept beside the events
@@ -112,14 +114,14 @@ KeptAreTallied = (triggers : Triggers) (events : Events) (id : ℕ) (hist : Hist
 
 -- savings that are what the attached triggers' readings find, and a map that holds what the events made of them add, give it too
 abbrev pub ReadingsAreTallied : Type 0
-ReadingsAreTallied = (triggers : Triggers) (events : Events) (found : Readings) → AreFound triggers events found
+ReadingsAreTallied = (triggers : Triggers) (events : Events) (found : Findings) → AreFound triggers events found
     → (id : ℕ) (hist : Hist) → map.get triggers id ≡ Some hist
     → (values : Hits) → ((mark : Mark) → map.get values mark ≡ values_of_made hist mark (made_by triggers events found mark.spot))
     → map.get (replay_making triggers events).made id ≡ Some (tally_of (table_for hist values) [])
 
 -- and so does a table that holds just what these events add
 abbrev pub TablesAreTallied : Type 0
-TablesAreTallied = (triggers : Triggers) (events : Events) (found : Readings) → AreFound triggers events found
+TablesAreTallied = (triggers : Triggers) (events : Events) (found : Findings) → AreFound triggers events found
     → (id : ℕ) (hist : Hist) → map.get triggers id ≡ Some hist
     → (table : Tabled) → IsMadeTable triggers events found hist table
     → map.get (replay_making triggers events).made id ≡ Some (tally_of table [])
@@ -137,11 +139,11 @@ ReplayedAreTallied = (triggers : Triggers) (events : Events) (pairs : ℕ → Li
 
 -- the keys of such a table fit its trigger's key items
 abbrev pub MadeTablesFit : Type 0
-MadeTablesFit = (triggers : Triggers) (events : Events) (found : Readings) (hist : Hist) (table : Tabled) → IsMadeTable triggers events found hist table → AllFit table hist
+MadeTablesFit = (triggers : Triggers) (events : Events) (found : Findings) (hist : Hist) (table : Tabled) → IsMadeTable triggers events found hist table → AllFit table hist
 
 -- a table that is one stays one as what is made at one spot changes, where what it holds there is changed
 abbrev pub MadeTablesChange : Type 0
-MadeTablesChange = (triggers others : Triggers) (events more : Events) (found later : Readings) (hist : Hist) (spot : Spot) (before after : Tabled)
+MadeTablesChange = (triggers others : Triggers) (events more : Events) (found later : Findings) (hist : Hist) (spot : Spot) (before after : Tabled)
     → IsMadeTable triggers events found hist before → ChangesMade hist spot (made_by others more later spot) before after
     → ((other : Spot) → (other ≡ spot → ⊥) → made_by others more later other ≡ made_by triggers events found other)
     → IsMadeTable others more later hist after
@@ -158,11 +160,11 @@ TakeMadeChanges = (hist : Hist) (spot : Spot) (made : Option Traced) (table : Ta
 
 -- what readings make by what they found, and by what they find later, makes tables that differ by hits of such keys alone
 abbrev pub TurnedButForKeys : Type 0
-TurnedButForKeys = (triggers : Triggers) (events : Events) (found later : Readings) (hist : Hist) (keys : List (List Part)) (before after : Tabled)
+TurnedButForKeys = (triggers : Triggers) (events : Events) (found later : Findings) (hist : Hist) (keys : List (List Part)) (before after : Tabled)
     → IsMadeTable triggers events found hist before → IsMadeTable triggers events later hist after → HaveTurned triggers events found later hist keys
     → AreTablesButFor keys before after
 
--- the keys of a turn have those of what was made at each noted place, and of what is made there now
+-- where changes lead from what readings found to what they find, the keys of the changes are such keys
 abbrev pub KeysAreTurned : Type 0
-KeysAreTurned = (events : Events) (hist maker : Hist) (notes : FinMap pos_cmp (Option Pos)) (readings : FinMap pos_cmp Pos) (pos : Pos) (had : Option Pos) → map.get notes pos ≡ Some had
-    → HaveKey hist (made_as events maker pos had) (keys_turned events hist maker notes readings) × HaveKey hist (made_as events maker pos (map.get readings pos)) (keys_turned events hist maker notes readings)
+KeysAreTurned = (triggers : Triggers) (events : Events) (hist : Hist) (changes : List ReadingChange) (found now : Findings) → Lead changes found now
+    → HaveTurned triggers events found now hist (keys_turned triggers events hist changes)

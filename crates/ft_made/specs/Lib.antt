@@ -16,5 +16,5 @@ pub use Rattle.ft_replay.specs.Merged
 pub use Rattle.ft_replay.specs.Named
 pub use Rattle.ft_replay.specs.Replay
 pub use Rattle.ft_replay.specs.Tally
-pub use Rattle.ft_rivals.specs.Rivals
+pub use Rattle.ft_changes.specs.Rivals
 pub use Rattle.ft_table.specs.Spots

@@ -8,6 +8,7 @@ use Rattle.ft_fields.specs.Places.{pos_cmp}
 use Rattle.ft_fields.specs.declared.pos.Pos.{Pos}
 use Rattle.ft_keys.specs.declared.key.Part.{Part}
 use Rattle.ft_hist.specs.Hist.{Hist}
+use Rattle.ft_changes.specs.Findings.{Findings}
 use Rattle.ft_hits.specs.declared.mark.Mark.{Mark}
 use Rattle.ft_hits.specs.declared.spot.Spot.{Spot}
 use Rattle.ft_table.specs.Growth.{with_hit}
@@ -23,12 +24,8 @@ use Rattle.ft_made.specs.MadeHits.{made_hit, values_of_made}
 
 -- ---- the whole table
 
--- what is kept of readings: the place of the saving that each found, by the trigger that reads and the place of the reading
-abbrev pub Readings : Type 0
-Readings = ℕ → Pos → Option Pos
-
 -- a table holds just what the events made of these readings add: it is the one of a trigger that counts them (kernel: histogram.rst, synthetic events)
-pub record IsMadeTable (triggers : Triggers) (events : Events) (found : Readings) (hist : Hist) (table : Tabled) : Type 0 where
+pub record IsMadeTable (triggers : Triggers) (events : Events) (found : Findings) (hist : Hist) (table : Tabled) : Type 0 where
   pub size : table.size ≡ hist.size
   pub hits : (mark : Mark) → map.get table.hits mark ≡ values_of_made hist mark (made_by triggers events found mark.spot)
 
@@ -47,7 +44,7 @@ abbrev pub AreReplayed : Triggers → Events → (ℕ → List Pair) → Type 0
 AreReplayed triggers events pairs = (id : ℕ) (hist : Hist) → map.get triggers id ≡ Some hist → pairs id ≡ pairs_of triggers events id
 
 -- the place of the saving that each reading found
-abbrev pub found_in : (ℕ → FinMap pos_cmp Pos) → Readings
+abbrev pub found_in : (ℕ → FinMap pos_cmp Pos) → Findings
 found_in readings id pos = map.get (readings id) pos
 
 -- ---- one made event

@@ -1,71 +1,62 @@
--- Tables of made events, mended where readings changed, by notes of what these had found.
-use Rattle.std.specs.Prelude.{◌≡◌, ◌⊎◌, ◌==◌, ◌++◌, ℕ, true, List, [], Option, Some, option_and_then, if◌then◌else◌}
+-- Tables of made events, changed as readings change, and the keys that this bears on.
+use Rattle.std.specs.Prelude.{◌≡◌, ◌⊎◌, ◌++◌, true, List, [], Option, Some, option_and_then}
 use Rattle.std.specs.List.{cons_option, flat_map}
-use Rattle.std.specs.Option.{option_map_or}
-use Rattle.std.specs.FinMap as map
-use Rattle.std.specs.FinMap.{FinMap}
-use Rattle.ft_fields.specs.Places.{pos_cmp}
 use Rattle.ft_fields.specs.Traced.{Traced}
+use Rattle.ft_changes.specs.Findings.{Findings, Lead}
+use Rattle.ft_changes.specs.Rivals.{is_of}
+use Rattle.ft_changes.specs.declared.changed.ReadingChange.{ReadingChange}
 use Rattle.ft_fields.specs.declared.pos.Pos.{Pos}
-use Rattle.ft_keys.specs.declared.key.Part.{Part}
 use Rattle.ft_hist.specs.Hist.{Hist}
 use Rattle.ft_hist.specs.Hit.{hit}
-use Rattle.ft_hist.specs.Made.{made_of}
 use Rattle.ft_hits.specs.declared.spot.Spot.{Spot}
+use Rattle.ft_keys.specs.declared.key.Part.{Part}
 use Rattle.ft_table.specs.Tabled.{Tabled}
-use Rattle.ft_rivals.specs.Rivals.{is_of}
 use Rattle.ft_base.specs.Base.{Triggers}
 use Rattle.ft_replay.specs.Merged.{Events}
 use Rattle.ft_made.specs.MadeEvents.{made_by}
-use Rattle.ft_made.specs.MadeTables.{Readings, IsMadeTable}
+use Rattle.ft_made.specs.MadeTables.{IsMadeTable}
 
 -- ---- tables
 
--- notes tell what some of a trigger's readings found
-abbrev pub AreNoted : ℕ → FinMap pos_cmp (Option Pos) → Readings → Type 0
-AreNoted id notes found = (pos : Pos) (had : Option Pos) → map.get notes pos ≡ Some had → found id pos ≡ had
-
--- the readings of one trigger of which notes tell find what these say, and all others what they found
-abbrev pub turned : ℕ → FinMap pos_cmp (Option Pos) → FinMap pos_cmp Pos → Readings → Readings
-turned id notes readings found other pos = if other == id then option_map_or (λ had. map.get readings pos) (map.get notes pos) (found id pos) else found other pos
-
--- a table is made of readings of which notes tell what they found
-pub record CanTurn (events : Events) (id : ℕ) (maker : Hist) (notes : FinMap pos_cmp (Option Pos)) (hist : Hist) (table : Tabled) : Type 0 where
-  pub triggers : Triggers
-  pub found : Readings
-  pub attached : map.get triggers id ≡ Some maker
-  pub noted : AreNoted id notes found
+-- a table is made of what readings found, from which these changes lead on
+pub record CanTurn (triggers : Triggers) (events : Events) (changes : List ReadingChange) (hist : Hist) (table : Tabled) : Type 0 where
+  pub found : Findings
+  pub now : Findings
+  pub lead : Lead changes found now
   pub made : IsMadeTable triggers events found hist table
 
--- whatever readings it was made of, of which notes tell what they found, it is made of the turned ones
-abbrev pub HasTurned : Events → ℕ → Hist → FinMap pos_cmp (Option Pos) → FinMap pos_cmp Pos → Hist → Tabled → Tabled → Type 0
-HasTurned events id maker notes readings hist old new =
-    (triggers : Triggers) (found : Readings) → map.get triggers id ≡ Some maker → AreNoted id notes found
-    → IsMadeTable triggers events found hist old → IsMadeTable triggers events (turned id notes readings found) hist new
+-- whatever readings found of which it was made, it is made of what the changes lead to
+abbrev pub HasTurned : Triggers → Events → List ReadingChange → Hist → Tabled → Tabled → Type 0
+HasTurned triggers events changes hist old new =
+    (found now : Findings) → Lead changes found now → IsMadeTable triggers events found hist old → IsMadeTable triggers events now hist new
 
 -- ---- keys
 
--- the event that a trigger makes at a place, where its reading there found this saving, or none (kernel: histogram.rst, `onmatch`)
-abbrev pub made_as : Events → Hist → Pos → Option Pos → Option Traced
-made_as events maker pos found = option_and_then (λ event. option_and_then (made_of maker pos event) found) (map.get events pos)
+-- the spot of what a changed reading makes
+abbrev pub spot_of : ReadingChange → Spot
+spot_of change = record { pos = change.pos; maker = change.id }
+
+-- the event that is made there, where the reading finds this saving, or none (kernel: histogram.rst, `onmatch`)
+abbrev pub made_as : Triggers → Events → ReadingChange → Option Pos → Option Traced
+made_as triggers events change found = made_by triggers events (λ id pos. found) (spot_of change)
 
 -- the key under which a trigger counts an event, if one is made and is a hit (kernel: histogram.rst, synthetic events)
 abbrev pub keys_of_made : Hist → Option Traced → List (List Part)
 keys_of_made hist made = cons_option (option_and_then (hit hist) made) []
 
--- the keys under which it counts what was made at a noted place, and what is made there now
-abbrev pub keys_at : Events → Hist → Hist → FinMap pos_cmp Pos → Pos × Option Pos → List (List Part)
-keys_at events hist maker readings note = keys_of_made hist (made_as events maker note.0 note.1) ++ keys_of_made hist (made_as events maker note.0 (map.get readings note.0))
+-- the keys under which it counts what a reading made before it changed, and what it makes now
+abbrev pub keys_at : Triggers → Events → Hist → ReadingChange → List (List Part)
+keys_at triggers events hist change = keys_of_made hist (made_as triggers events change change.before) ++ keys_of_made hist (made_as triggers events change change.after)
 
--- the same at all noted places
-unfoldable pub keys_turned : Events → Hist → Hist → FinMap pos_cmp (Option Pos) → FinMap pos_cmp Pos → List (List Part)
-keys_turned events hist maker notes readings = flat_map (keys_at events hist maker readings) (map.entries notes)
+-- the same of all changes
+unfoldable pub keys_turned : Triggers → Events → Hist → List ReadingChange → List (List Part)
+keys_turned triggers events hist changes = flat_map (keys_at triggers events hist) changes
 
 -- the key under which a trigger counts an event, if one is made and is a hit, is one of some
 abbrev pub HaveKey : Hist → Option Traced → List (List Part) → Type 0
 HaveKey hist made keys = (key : List Part) → option_and_then (hit hist) made ≡ Some key → is_of keys key ≡ true
 
 -- keys have those under which a trigger counts what readings make by what they found, and by what they find later, wherever these make different events
-abbrev pub HaveTurned : Triggers → Events → Readings → Readings → Hist → List (List Part) → Type 0
+abbrev pub HaveTurned : Triggers → Events → Findings → Findings → Hist → List (List Part) → Type 0
 HaveTurned triggers events found later hist keys =
     (spot : Spot) → (made_by triggers events later spot ≡ made_by triggers events found spot) ⊎ (HaveKey hist (made_by triggers events found spot) keys × HaveKey hist (made_by triggers events later spot) keys)

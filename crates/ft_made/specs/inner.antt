@@ -1,3 +1,2 @@
--- Words of private functions: tables filled and turned reading by reading.
+-- Words of private functions: tables of made events, filled reading by reading.
 pub mod Pairs
-pub mod Turns

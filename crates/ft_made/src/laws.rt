@@ -77,8 +77,8 @@ pub fn replayed_pairs()
 }
 
 /// A law: what readings make by what they found, and by what they find later, makes tables that
-/// differ by hits of those keys alone under which the made events are counted that differ. The keys of
-/// a turn have these wherever something is noted.
+/// differ by hits of those keys alone under which the made events are counted that differ. Where
+/// changes lead from the ones to the others, the keys of the changes have these.
 pub fn turned_keys()
     ensures tables { TurnedButForKeys }
     ensures keys { KeysAreTurned }

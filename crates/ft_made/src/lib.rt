@@ -4,8 +4,8 @@
 //! The laws say that replaying with made events is two replays, one after the other: the held
 //! events go past as if none were made, and what their readings find says which events are made;
 //! these are counted in order of their spots. So a trigger that counts made events needs no replay:
-//! its table is made of what is kept of readings. Where notes tell what readings had found before they
-//! changed, the table changes at the noted places alone; notes also tell the keys whose hits change.
+//! its table is made of what is kept of readings. As readings change, it changes at their places
+//! alone; the changes also tell the keys whose hits change.
 //!
 //! ```ignore
 //! let mut table = made_table(rt.alloc(), lanes, triggers, &readings, trigger, &mut work)?;
@@ -14,10 +14,9 @@
 //!     let spot = Spot { pos: read, maker: 2 };
 //!     put_made(&mut table, trigger, spot, &made, &mut work)?;
 //! }
-//! // Later readings of it changed: notes tell what they had found.
-//! let turn = Turn { notes, readings };
-//! put_turned_keys(&mut keys, lanes, trigger, maker, turn, &mut work)?;
-//! turn_made(&mut table, lanes, trigger, 2, maker, turn, &mut work)?;
+//! // Later readings changed: what they had found and what they find.
+//! put_turned_keys(&mut keys, lanes, triggers, trigger, &changes, &mut work)?;
+//! turn_made(&mut table, lanes, triggers, trigger, &changes, &mut work)?;
 //! ```
 //!
 //! # Contracts
@@ -48,17 +47,17 @@
 //! - Law `turned_keys`: take the table of what readings make by what they found, and the one by
 //!   what they find later. They have one size, and the same hits of all keys outside a list, where
 //!   the list has the keys of what is made either way wherever it differs. The list that
-//!   `put_turned_keys` gives has them at each noted place (`specs/Turning.antt`).
+//!   `put_turned_keys` gives is such a list, where changes lead from the ones to the others
+//!   (`specs/Turning.antt`, `ft_changes/specs/Findings.antt`).
 //! - `made_table`: such a table, of held events and of what is kept of readings in pairs (trait
 //!   `KeptReadings`); no step where no trigger has an onmatch part. Lets through: running out of
 //!   memory at any time; any number of steps where one has.
-//! - `turn_made`: takes a table that was made of readings, of which notes tell what some had found;
-//!   gives the one that is made of what these find. Where nothing is noted, it succeeds, changes
-//!   nothing and takes no step. Lets through: elsewhere, running out of memory, and then nothing is
-//!   said of the table; any number of steps.
-//! - `put_turned_keys`: adds the keys under which a trigger counts what another made at noted
-//!   places, and what that makes there; exact. Lets through: running out of memory at any time; any
-//!   number of steps.
+//! - `turn_made`: takes a table that was made of what readings found; gives the one that is made of
+//!   what changes lead to from there. Where nothing changed, it succeeds, changes nothing and takes
+//!   no step. Lets through: elsewhere, running out of memory, and then nothing is said of the
+//!   table; any number of steps.
+//! - `put_turned_keys`: adds the keys under which a trigger counts what changed readings made, and
+//!   what they make; exact. Lets through: running out of memory at any time; any number of steps.
 //! - `put_made`, `take_made`: the table with, or without, the hit that an event made at a spot is;
 //!   exact. One test where the trigger is on its name, and one put at most. `put_made` lets
 //!   through: running out of memory at any time, and then the table is as it was.
@@ -74,4 +73,4 @@ pub use laws::{
 };
 pub use readings::KeptReadings;
 pub use tables::{made_table, put_made, take_made};
-pub use turning::{Turn, put_turned_keys, turn_made};
+pub use turning::{put_turned_keys, turn_made};

@@ -1,97 +1,84 @@
 //! Tables of made events, turned from what readings had found to what they find.
 
-ghost use Rattle.std.specs.Prelude.{◌≡◌, ◌++◌, IfSome, Ok, OnOk};
-ghost use Rattle.std.specs.FinMap as map;
-ghost use Rattle.ft_fields.specs.Places.{pos_cmp};
+ghost use Rattle.std.specs.Prelude.{◌≡◌, ◌++◌, [], IfSome, Ok, OnOk};
+ghost use Rattle.std.specs.Ordering.{nat_cmp};
 ghost use Rattle.ft_hist.specs.Steps.{StepsGrow};
 ghost use Rattle.ft_maps.specs.Seen.{seen};
 ghost use Rattle.ft_replay.specs.Merged.{merged};
 ghost use Rattle.ft_made.specs.MadeTables.{ChangesMade, HoldsMade, IsFreeAt};
 ghost use Rattle.ft_made.specs.MadeTables.{with_made, without_made};
-ghost use Rattle.ft_made.specs.Turning.{CanTurn, HasTurned, keys_of_made, keys_turned};
-ghost use Rattle.ft_made.specs.inner.Turns.{made_found};
+ghost use Rattle.ft_made.specs.Turning.{CanTurn, HasTurned, keys_of_made, keys_turned, made_as};
 
 use crate::tables::{made_of_pair, put_made, take_made};
+use ft_changes::ReadingChange;
 use ft_fields::{Event, Pos};
 use ft_hist::{Key, Trigger, Work};
 use ft_lanes::Lanes;
-use ft_maps::{entries, get};
+use ft_maps::get;
 use ft_replay::Pair;
 use ft_table::{Spot, Table};
 use std::alloc::AllocError;
 use std::collections::BTreeMap;
 
-/// What readings of one trigger had found before they changed, as notes tell it, and what they find.
-#[derive(Clone, Copy)]
-pub struct Turn<'a> {
-    /// What the readings had found that changed, by their places: the place of the saving, if any.
-    pub notes: &'a BTreeMap<Pos, Option<Pos>>,
-    /// What all readings find, by their places: the place of the saving. The others find none.
-    pub readings: &'a BTreeMap<Pos, Pos>,
-}
-
-/// Turns the table of a trigger that counts made events from what another's readings had found to
-/// what they find: at each place that is noted, the hit of the event that was made is taken out, and
-/// that of the event that is made now is put in. Where nothing is noted, it takes neither memory nor
-/// steps. Refused for memory, and then the table is good for nothing.
+/// Turns the table of a trigger that counts made events from what readings had found to what they
+/// find, one change after the other: the hit of the event that the reading made is taken out, and
+/// that of the event that it makes now is put in. Where nothing changed, it takes neither memory
+/// nor steps. Refused for memory, and then the table is good for nothing.
 pub fn turn_made(
     table: &mut Table,
     lanes: &Lanes,
+    triggers: &BTreeMap<u32, Trigger>,
     trigger: &Trigger,
-    id: u32,
-    maker: &Trigger,
-    turn: Turn<'_>,
+    changes: &[ReadingChange],
     work: &mut Work,
 ) -> Result<(), AllocError>
-    requires { CanTurn (merged lanes.now) id maker.now (seen pos_cmp turn.notes.now) trigger.now
+    requires { CanTurn (seen nat_cmp triggers.now) (merged lanes.now) changes.now trigger.now
         table.old }
-    ensures turned { OnOk result (HasTurned (merged lanes.now) id maker.now
-        (seen pos_cmp turn.entry.notes.now) (seen pos_cmp turn.entry.readings.now) trigger.now
-        table.old table.new) }
-    ensures idle { seen pos_cmp turn.entry.notes.now ≡ map.empty
+    ensures turned { OnOk result (HasTurned (seen nat_cmp triggers.now) (merged lanes.now)
+        changes.now trigger.now table.old table.new) }
+    ensures idle { changes.now ≡ []
         → (result ≡ Ok tt) × ((table.new ≡ table.old) × (work.new ≡ work.old)) }
     ensures grow { StepsGrow work.old work.new }
 {
-    for (pos, had) in entries(turn.notes) {
-        let before = made_of_found(lanes, maker, *pos, *had);
-        let after = made_of_found(lanes, maker, *pos, get(turn.readings, pos).copied());
+    for change in changes {
+        let before = made_of_change(lanes, triggers, change, change.before);
+        let after = made_of_change(lanes, triggers, change, change.after);
         let spot = Spot {
-            pos: *pos,
-            maker: id,
+            pos: change.pos,
+            maker: change.id,
         };
         turn_spot(table, trigger, spot, before, after, work)?;
     }
     Ok(())
 }
 
-/// Adds the keys under which a trigger counts what another trigger makes at noted places, to others:
-/// of the events that it made of what its readings had found, and of those that it makes of what they
-/// find, as often as there are such. Hits under other keys stay when the trigger's table is turned.
-/// Refused for memory.
+/// Adds the keys under which a trigger counts what changed readings made, to others: of the events
+/// that they made of what they had found, and of those that they make of what they find, as often
+/// as there are such. Hits under other keys stay when the trigger's table is turned. Refused for
+/// memory.
 pub fn put_turned_keys(
     keys: &mut Vec<Key>,
     lanes: &Lanes,
+    triggers: &BTreeMap<u32, Trigger>,
     trigger: &Trigger,
-    maker: &Trigger,
-    turn: Turn<'_>,
+    changes: &[ReadingChange],
     work: &mut Work,
 ) -> Result<(), AllocError>
     ensures keys { OnOk result (keys.new.items ≡ keys.old.items
-        ++ keys_turned (merged lanes.now) trigger.now maker.now (seen pos_cmp turn.entry.notes.now)
-        (seen pos_cmp turn.entry.readings.now)) }
+        ++ keys_turned (seen nat_cmp triggers.now) (merged lanes.now) trigger.now changes.now) }
     ensures grow { StepsGrow work.old work.new }
 {
-    for (pos, had) in entries(turn.notes) {
-        let before = made_of_found(lanes, maker, *pos, *had);
-        let after = made_of_found(lanes, maker, *pos, get(turn.readings, pos).copied());
+    for change in changes {
+        let before = made_of_change(lanes, triggers, change, change.before);
+        let after = made_of_change(lanes, triggers, change, change.after);
         put_key(keys, trigger, before, work)?;
         put_key(keys, trigger, after, work)?;
     }
     Ok(())
 }
 
-/// Adds to keys the one under which a trigger counts an event, if one was made and is a hit. Refused
-/// for memory.
+/// Adds to keys the one under which a trigger counts an event, if one was made and is a hit.
+/// Refused for memory.
 fn put_key(
     keys: &mut Vec<Key>,
     trigger: &Trigger,
@@ -160,14 +147,25 @@ fn put_any(
     }
 }
 
-/// The event that a trigger makes at a place, where its reading there found this saving, or none:
-/// it has the place's stamp.
-fn made_of_found(lanes: &Lanes, maker: &Trigger, pos: Pos, found: Option<Pos>) -> Option<Event>
-    ensures made { result ≡ made_found lanes.now maker.now pos found }
-    ensures stamped { IfSome result (λ made. pos.stamp ≡ made.stamp) }
+/// The event that a changed reading makes where it finds this saving, or none: it has the place's
+/// stamp. A trigger without an onmatch part makes none, and nothing is looked up.
+fn made_of_change(
+    lanes: &Lanes,
+    triggers: &BTreeMap<u32, Trigger>,
+    change: &ReadingChange,
+    found: Option<Pos>,
+) -> Option<Event>
+    ensures made { result ≡ made_as (seen nat_cmp triggers.now) (merged lanes.now) change.now found }
+    ensures stamped { IfSome result (λ made. change.now.pos.stamp ≡ made.stamp) }
 {
-    match found {
-        Some(saved) => made_of_pair(lanes, maker, Pair { saved, read: pos }),
-        None => None,
-    }
+    let maker = get(triggers, &change.id)?;
+    maker.onmatch()?;
+    made_of_pair(
+        lanes,
+        maker,
+        Pair {
+            saved: found?,
+            read: change.pos,
+        },
+    )
 }

@@ -1,6 +1,6 @@
 //! Files that are read in pieces, or fail in mid-stream.
 
-use ft_words::{FileFault, read_whole};
+use ft_script::{FileFault, read_whole};
 use std::alloc::Global;
 use std::io;
 use std::io::{ErrorKind, Read};

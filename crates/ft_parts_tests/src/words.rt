@@ -1,6 +1,6 @@
 //! What lists of words name.
 
-use ft_words::{WordsFault, read_words};
+use ft_script::{WordsFault, read_words};
 use std::alloc::Global;
 
 /// The script, if it is no standard input, and the traces.

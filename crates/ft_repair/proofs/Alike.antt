@@ -11,7 +11,7 @@ use Rattle.ft_fields.specs.Traced.{Traced}
 use Rattle.ft_fields.specs.declared.pos.Pos.{Pos}
 use Rattle.ft_hist.specs.Hist.{Hist}
 use Rattle.ft_keys.specs.declared.key.Part.{Part}
-use Rattle.ft_maps.specs.Entries.{get-remove_same, get-remove_other, same_from_tie}
+use Rattle.ft_maps.specs.Entries.{get-remove_same, get-remove_other}
 use Rattle.ft_pairs.specs.ByKey.{ops_of}
 use Rattle.ft_pairs.specs.Source.{Ops}
 use Rattle.ft_pairs.specs.declared.at.At.{At}
@@ -24,7 +24,8 @@ use Rattle.ft_kept.specs.Entries.{HitsHere, Finds, IsEntry, IsKept, IsRight, hit
 use Rattle.ft_pairs.specs.Roles.{Admits, op_as}
 use Rattle.ft_kept.specs.Shelves.{Shelved, Shelves, Kept, admits_on, is_saver, kept_on}
 use Rattle.ft_table.specs.Values.{ValuesBy, values_at, values_by}
-use Rattle.ft_pairs.specs.Variables.{variable_cmp, variable_same}
+use Rattle.ft_pairs.specs.Variables.{variable_cmp, variable_cmp_total, variable_same}
+use Rattle.ft_shelves.proofs.Decided.{untied}
 use Rattle.ft_pairs.specs.declared.role.Role.{Role}
 use Rattle.ft_pairs.specs.declared.role.Role.TheVariants.{Plain, Saves, Reads}
 use Rattle.ft_pairs.specs.declared.role.Variable.{Variable}
@@ -41,7 +42,7 @@ pub acts_same : (old new : Triggers) (events : Events) (at : At) → map.get new
 unfolding acts_of
 acts_same old new events at same = ap (λ (hist : Option Hist). option_and_then (λ (e : Traced). act_in hist e) (map.get events at.pos)) same
 
-never_any : {X Y : Type 0} (o : Option X) → ◌≡◌ {A = Option Y} (option_and_then (λ _. None) o) None
+pub never_any : {X Y : Type 0} (o : Option X) → ◌≡◌ {A = Option Y} (option_and_then (λ _. None) o) None
 never_any None = refl
 never_any (Some x) = refl
 
@@ -69,20 +70,6 @@ module _ (old new : Shelves) (id : ℕ) (same : map.get new id ≡ map.get old i
   unfolding admits_on
   same_admits key = ap (λ (o : Option Shelved). option_map_or (λ (s : Shelved). is_saver s.role && is_in s.table key) o false) same
 
--- where there is no shelf, nothing is kept
-module _ (shelves : Shelves) (id : ℕ) (none : map.get shelves id ≡ None) where
-  pub no_hits : (pos : Pos) (key : List Part) → hits_here (kept_on shelves) (record { pos = pos; trigger = id }) key ≡ None
-  unfolding kept_on
-  no_hits pos key = ap (λ (o : Option Shelved). option_and_then (λ (s : Shelved). map.get s.table.hits (record { spot = traced pos; key = key })) o) none
-
-  pub no_read : (pos : Pos) → read_here (kept_on shelves) (record { pos = pos; trigger = id }) ≡ None
-  unfolding kept_on
-  no_read pos = ap (λ (o : Option Shelved). option_and_then (λ (s : Shelved). map.get s.readings pos) o) none
-
-  pub no_ops : (key : List Part) (at : At) → (kept_on shelves).ops (record { saver = id; key = key }) at ≡ None
-  unfolding kept_on
-  no_ops key at = ap (λ (o : Option Shelved). option_and_then (λ (s : Shelved). ops_of s.ops key at) o) none
-
 -- ---- operations
 
 pub op_as_same : (old new : Admits) (id : ℕ) → ((key : List Part) → new id key ≡ old id key) → (role : Role) (variable : Variable) (key : List Part) → op_as new role variable id key ≡ op_as old role variable id key
@@ -90,17 +77,25 @@ op_as_same old new id same Plain variable key = refl
 op_as_same old new id same Saves variable key = ap (λ (b : Bool). cond (eq_by_cmp variable_cmp variable (record { saver = id; key = key })) (cond b (Some Save) None) None) (same key)
 op_as_same old new id same (Reads saver) variable key = refl
 
-abbrev pub by_act : Admits → Role → Variable → At → List Part × Traced → Option Op
+abbrev by_act : Admits → Role → Variable → At → List Part × Traced → Option Op
 by_act admits role variable at act = op_as admits role variable at.trigger act.0
 
--- an act of a trigger with the same role and the same shelf is the same operation
+-- an act that stays is the same operation, where its trigger does the same
+pub op_stays_there : (role more : ℕ → Role) (old new : Admits) (acts others : Acts) (variable : Variable) (at : At) → more at.trigger ≡ role at.trigger → others at ≡ acts at
+    → ((key : List Part) → op_as new (role at.trigger) variable at.trigger key ≡ op_as old (role at.trigger) variable at.trigger key)
+    → op_of more new others variable at ≡ op_of role old acts variable at
+unfolding op_of
+op_stays_there role more old new acts others variable at as_role act same =
+    (λ i. option_and_then (by_act new (as_role i) variable at) (act i))
+    ∙ ap (λ (f : List Part × Traced → Option Op). option_and_then f (acts at)) (λ i x. same x.0 i)
+
+-- so it is with the same role and the same shelf
 pub op_same : (role more : ℕ → Role) (old new : Shelves) (acts others : Acts) (variable : Variable) (at : At)
     → more at.trigger ≡ role at.trigger → map.get new at.trigger ≡ map.get old at.trigger → others at ≡ acts at
     → op_of more (admits_on new) others variable at ≡ op_of role (admits_on old) acts variable at
-unfolding op_of
 op_same role more old new acts others variable at as_role shelf act =
-    (λ i. option_and_then (by_act (admits_on new) (as_role i) variable at) (act i))
-    ∙ ap (λ (f : List Part × Traced → Option Op). option_and_then f (acts at)) (λ i x. op_as_same (admits_on old) (admits_on new) at.trigger (same_admits old new at.trigger shelf) (role at.trigger) variable x.0 i)
+    op_stays_there role more (admits_on old) (admits_on new) acts others variable at as_role act
+    (op_as_same (admits_on old) (admits_on new) at.trigger (same_admits old new at.trigger shelf) (role at.trigger) variable)
 
 -- no act, no operation
 pub no_op_there : (role : ℕ → Role) (admits : Admits) (acts : Acts) (variable : Variable) (at : At) → acts at ≡ None → op_of role admits acts variable at ≡ None
@@ -109,11 +104,7 @@ no_op_there role admits acts variable at none = ap (λ (o : Option (List Part ×
 
 -- a variable of one saver is no other's
 apart_variables : (variable : Variable) (saver : ℕ) (key : List Part) → (saver ≡ variable.saver → ⊥) → eq_by_cmp variable_cmp variable (record { saver = saver; key = key }) ≡ false
-apart_variables variable saver key apart =
-    elim (eq_by_cmp variable_cmp variable (record { saver = saver; key = key })) as (λ (b : Bool). eq_by_cmp variable_cmp variable (record { saver = saver; key = key }) ≡ b → b ≡ false) [
-      | true ↦ λ tie. absurd (apart (sym (ap (λ (v : Variable). v.saver) (same_from_tie variable_same variable (record { saver = saver; key = key }) tie))))
-      | false ↦ λ _. refl
-    ] refl
+apart_variables variable saver key apart = untied variable_cmp_total variable_same variable (record { saver = saver; key = key }) (λ same. apart (sym (ap (λ (v : Variable). v.saver) same)))
 
 -- a trigger that neither saves a variable nor reads it does nothing to it
 op_as_none : (admits : Admits) (role : Role) (variable : Variable) (id : ℕ) (key : List Part) → (role ≡ Saves → id ≡ variable.saver → ⊥) → (role ≡ Reads variable.saver → ⊥) → op_as admits role variable id key ≡ None
@@ -206,10 +197,6 @@ module _ (triggers : Triggers) (id : ℕ) where
       (rest_same q)
       (cases_eq q id))
 
-  module _ (events : Events) where
-    -- the one has no acts among those of the others
-    pub rest_no_act : (at : At) → at.trigger ≡ id → acts_of rest events at ≡ None
-    rest_no_act at same = no_act_of rest events at (rest_none at.trigger same)
-
-    pub rest_act : (at : At) → (at.trigger ≡ id → ⊥) → acts_of rest events at ≡ acts_of triggers events at
-    rest_act at apart = acts_same triggers rest events at (rest_same at.trigger apart)
+  -- the one has no acts among those of the others
+  pub rest_no_act : (events : Events) (at : At) → at.trigger ≡ id → acts_of rest events at ≡ None
+  rest_no_act events at same = no_act_of rest events at (rest_none at.trigger same)

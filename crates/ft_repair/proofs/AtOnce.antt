@@ -1,16 +1,12 @@
 -- All acts of an idle trigger come at once, from a list of events with its own.
-use Rattle.std.proofs.Common.{◌≡◌, ℕ, Bool, true, false, cond, refl, sym, ap, subst, ◌∙◌, List, [], ◌∷◌, Option, Some, None, unwrap_or}
+use Rattle.std.proofs.Common.{◌≡◌, ℕ, Bool, true, false, refl, sym, ap, subst, ◌∙◌, List, Option, Some, None}
 use Rattle.std.specs.Prelude.{if◌then◌else◌}
-use Rattle.std.specs.List.{list_any}
-use Rattle.std.specs.Ordering.{nat_cmp, eq_by_cmp}
 use Rattle.std.specs.FinMap as map
-use Rattle.std.specs.FinMap.{find, get-entries}
-use Rattle.std.proofs.lemmas.Bool.{or_parts, eq-eqb, ne_eqb, true≢false}
+use Rattle.std.proofs.lemmas.Bool.{eq-eqb, ne_eqb}
 use Rattle.ft_fields.specs.Traced.{Traced}
 use Rattle.ft_fields.specs.declared.event.Name.{Name}
 use Rattle.ft_fields.specs.declared.pos.Pos.{Pos}
 use Rattle.ft_hist.specs.Hist.{Hist}
-use Rattle.ft_hist.specs.Hit.{same_name}
 use Rattle.ft_groups.specs.Grouped.{Grouped, AreGrouped}
 use Rattle.ft_keys.specs.declared.key.Part.{Part}
 use Rattle.ft_kept.specs.Acts.{Acts, AreHeld, acts_of}
@@ -30,27 +26,9 @@ use Rattle.ft_repair.specs.inner.Joining.{HasItsEvents, is_one, with_trigger}
 use Rattle.ft_repair.specs.inner.KeptFor.{AreKeptFor}
 use Rattle.ft_repair.proofs.HeldActs.{held_is}
 use Rattle.ft_repair.proofs.ShelfForms.{shelves_stay}
-use Rattle.ft_repair.proofs.OneTrigger.{IsAmong, act_by, all_acts_held, on_held, own_acts}
+use Rattle.ft_repair.proofs.OneTrigger.{IsAmong, act_by, among_all, all_acts_held, on_held, own_acts}
 
--- the name of an attached trigger is one on which some trigger is
-among_all : (triggers : Triggers) (id : ℕ) (hist : Hist) → map.get triggers id ≡ Some hist → IsAmong hist (is_on triggers)
-unfolding is_on
-among_all triggers id hist attached name same =
-    elim (is_on triggers name) as (λ (b : Bool). is_on triggers name ≡ b → b ≡ true) [
-      | true ↦ λ _. refl
-      | false ↦ λ none. absurd (true≢false (sym same ∙ others (map.entries triggers) none (sym (get-entries triggers id) ∙ attached)))
-    ] refl
-  where
-    others : (es : List (ℕ × Hist)) → list_any (λ attached. same_name attached.1.event name) es ≡ false → find nat_cmp id es ≡ Some hist → same_name hist.event name ≡ false
-    others [] none found = let both : ◌≡◌ {A = Option Hist} None (Some hist) = found in absurd cc
-    others (e ∷ es) none found =
-        let parts = or_parts (same_name e.1.event name) (list_any (λ (attached : ℕ × Hist). same_name attached.1.event name) es) none in
-        elim (eq_by_cmp nat_cmp id e.0) as (λ (b : Bool). cond b (Some e.1) (find nat_cmp id es) ≡ Some hist → same_name hist.event name ≡ false) [
-          | true ↦ λ here. ap (λ (h : Hist). same_name h.event name) (sym (ap (λ (o : Option Hist). unwrap_or o e.1) here)) ∙ parts.0
-          | false ↦ λ later. others es parts.1 later
-        ] found
-
--- and so the named events are a list with its own
+-- the named events are a list with an attached trigger's own
 pub named_listed : (triggers : Triggers) (lanes : Lanes) (id : ℕ) (hist : Hist) → map.get triggers id ≡ Some hist
     → (es : List (Pos × Traced)) → es ≡ map.entries (named triggers (merged lanes)) → HasItsEvents lanes hist es
 unfolding named events_on

@@ -59,9 +59,10 @@ module _ (triggers : Triggers) (lanes : Lanes) (mine : ℕ → Bool) (sign : Sig
     pub changes : AllByRecursion Changes rest
     pub apart : IsDistinct (eq_by_cmp pos_cmp) (keys_of rest)
 
+module _ {triggers : Triggers} {lanes : Lanes} {mine : ℕ → Bool} {sign : Sign} {first last : Acts} where
   -- at first all are left
   pub changing_all : (es : List (Pos × Traced)) (shelves : Shelves) → AreKeptFor triggers lanes first shelves → ((at : At) → left_of mine es at ≡ false → first at ≡ last at)
-      → AllByRecursion Changes es → IsDistinct (eq_by_cmp pos_cmp) (keys_of es) → IsChanging es shelves
+      → AllByRecursion (Changes triggers lanes mine sign first last) es → IsDistinct (eq_by_cmp pos_cmp) (keys_of es) → IsChanging triggers lanes mine sign first last es shelves
   changing_all es shelves kept same changes apart = record {
     kept = subst (λ (input : Acts). AreKeptFor triggers lanes input shelves) (λ i at. starts at i) kept;
     changes = changes;
@@ -74,7 +75,11 @@ module _ (triggers : Triggers) (lanes : Lanes) (mine : ℕ → Bool) (sign : Sig
         | false ↦ λ out. same at out
       ] refl
 
-  module _ (e : Pos × Traced) (rest : List (Pos × Traced)) (old : Shelves) (is : IsChanging (e ∷ rest) old) where
+  -- the first of those that are left
+  pub next_of : {es rest : List (Pos × Traced)} {e : Pos × Traced} {shelves : Shelves} → es ≡ e ∷ rest → IsChanging triggers lanes mine sign first last es shelves → IsChanging triggers lanes mine sign first last (e ∷ rest) shelves
+  next_of {shelves = shelves} more = subst (λ (es : List (Pos × Traced)). IsChanging triggers lanes mine sign first last es shelves) more
+
+  module _ {e : Pos × Traced} {rest : List (Pos × Traced)} {old : Shelves} (is : IsChanging triggers lanes mine sign first last (e ∷ rest) old) where
     abbrev now : Acts
     now = between first last (left_of mine (e ∷ rest))
 
@@ -121,7 +126,7 @@ module _ (triggers : Triggers) (lanes : Lanes) (mine : ℕ → Bool) (sign : Sig
         by false true apart own = refl
         by false false apart other = refl
 
-    pub changing_fewer : (new : Shelves) → FormsStay old new → AreViews triggers lanes new → input_of lanes new ≡ with_some triggers (input_of lanes old) e.0 (event_after sign e.1) mine → IsChanging rest new
+    pub changing_fewer : (new : Shelves) → FormsStay old new → AreViews triggers lanes new → input_of lanes new ≡ with_some triggers (input_of lanes old) e.0 (event_after sign e.1) mine → IsChanging triggers lanes mine sign first last rest new
     changing_fewer new forms views gives = record {
       kept = changed_for triggers lanes later old new is.kept.each forms views (gives ∙ ap (λ (input : Acts). with_some triggers input e.0 (event_after sign e.1) mine) tells ∙ (λ i q. changed_at q i));
       changes = is.changes.1;
@@ -129,8 +134,10 @@ module _ (triggers : Triggers) (lanes : Lanes) (mine : ℕ → Bool) (sign : Sig
     }
 
   -- at last none is left
-  pub changing_none : (shelves : Shelves) → IsChanging [] shelves → AreKeptFor triggers lanes last shelves
-  changing_none shelves is = subst (λ (input : Acts). AreKeptFor triggers lanes input shelves) (λ i at. ends at (mine at.trigger) i) is.kept
+  pub changing_none : {es : List (Pos × Traced)} {shelves : Shelves} → es ≡ [] → IsChanging triggers lanes mine sign first last es shelves → AreKeptFor triggers lanes last shelves
+  changing_none {shelves = shelves} none is =
+      subst (λ (input : Acts). AreKeptFor triggers lanes input shelves) (λ i at. ends at (mine at.trigger) i)
+      (subst (λ (es : List (Pos × Traced)). IsChanging triggers lanes mine sign first last es shelves) none is).kept
     where
       ends : (at : At) (own : Bool) → cond (own && false) (first at) (last at) ≡ last at
       ends at true = refl
@@ -166,11 +173,12 @@ module _ (triggers : Triggers) (id : ℕ) (hist : Hist) (attached : map.get trig
         | inr apart ↦ set_apart input here act q apart ∙ elsewhere q apart (eq_by_cmp pos_cmp q.pos pos) (is_one id q.trigger) refl refl
       ]
 
-  module _ (lanes : Lanes) (sign : Sign) (first last : Acts) (e : Pos × Traced) (rest : List (Pos × Traced)) (old : Shelves) (is : IsChanging triggers lanes (is_one id) sign first last (e ∷ rest) old) where
-    pub its_before : input_of lanes old (record { pos = e.0; trigger = id }) ≡ option_and_then (act_under hist) (event_before sign e.1)
-    its_before = next_before triggers lanes (is_one id) sign first last e rest old is id (eq-eqb id id refl) ∙ attached_act triggers id hist attached (event_before sign e.1)
+module _ {triggers : Triggers} (id : ℕ) {hist : Hist} (attached : map.get triggers id ≡ Some hist)
+    {lanes : Lanes} {sign : Sign} {first last : Acts} {e : Pos × Traced} {rest : List (Pos × Traced)} {old : Shelves} (is : IsChanging triggers lanes (is_one id) sign first last (e ∷ rest) old) where
+  pub its_before : input_of lanes old (record { pos = e.0; trigger = id }) ≡ option_and_then (act_under hist) (event_before sign e.1)
+  its_before = next_before is id (eq-eqb id id refl) ∙ attached_act triggers id hist attached (event_before sign e.1)
 
-    pub its_fewer : (new : Shelves) → FormsStay old new → AreViews triggers lanes new
-        → input_of lanes new ≡ set (input_of lanes old) (record { pos = e.0; trigger = id }) (option_and_then (act_under hist) (event_after sign e.1)) → IsChanging triggers lanes (is_one id) sign first last rest new
-    its_fewer new forms views gives =
-        changing_fewer triggers lanes (is_one id) sign first last e rest old is new forms views (gives ∙ set_alone (input_of lanes old) e.0 (event_after sign e.1))
+  pub its_fewer : (new : Shelves) → FormsStay old new → AreViews triggers lanes new
+      → input_of lanes new ≡ set (input_of lanes old) (record { pos = e.0; trigger = id }) (option_and_then (act_under hist) (event_after sign e.1)) → IsChanging triggers lanes (is_one id) sign first last rest new
+  its_fewer new forms views gives =
+      changing_fewer is new forms views (gives ∙ set_alone triggers id hist attached (input_of lanes old) e.0 (event_after sign e.1))

@@ -12,9 +12,9 @@ use Rattle.ft_pairs.specs.declared.role.Role.TheVariants.{Plain, Saves, Reads}
 use Rattle.ft_base.specs.After.{after_remove, reader_on}
 use Rattle.ft_base.specs.Base.{Base, Triggers}
 use Rattle.ft_base.specs.declared.refused.Refused.{Refused}
-use Rattle.ft_base.specs.OneTrigger.{reads_from, is_in_family}
+use Rattle.ft_base.specs.OneTrigger.{is_kin, reads_from, is_in_family}
 use Rattle.ft_base.specs.Reachable.{HasSaver, HasSavers}
-use Rattle.ft_base.specs.Roles.{saves_name, role_of, role_at}
+use Rattle.ft_base.specs.Roles.{is_reader, saves_name, role_of, role_at}
 use Rattle.ft_base.proofs.Cases.{remove-ok}
 use Rattle.ft_base.proofs.Savers.{reads_of, saver-saves}
 
@@ -38,6 +38,31 @@ module _ (triggers : Triggers) (id : ℕ) where
         | false ↦ λ _ reads. inr (reads_from_is id (role_at triggers other) reads)
       ] refl inside
 
+-- the role of a trigger that is attached
+pub role_there : (triggers : Triggers) (id : ℕ) (hist : Hist) → map.get triggers id ≡ Some hist → role_at triggers id ≡ role_of triggers hist.variable
+unfolding role_at
+role_there triggers id hist there = ap (λ (o : Option Hist). option_map_or (λ (h : Hist). role_of triggers h.variable) o Plain) there
+
+-- a trigger with a variable is attached
+pub attached_as : (triggers : Triggers) (id : ℕ) → (role_at triggers id ≡ Plain → ⊥) → (hist : Hist) × (map.get triggers id ≡ Some hist)
+unfolding role_at
+attached_as triggers id some = elim (map.get triggers id) as (λ (o : Option Hist). (option_map_or (λ (h : Hist). role_of triggers h.variable) o Plain ≡ Plain → ⊥) → (hist : Hist) × (o ≡ Some hist)) [
+  | None ↦ λ not. absurd (not refl)
+  | Some hist ↦ λ _. (hist, refl)
+] some
+
+pub saves_some : (role : Role) → role ≡ Saves → role ≡ Plain → ⊥
+saves_some role is plain = let both : ◌≡◌ {A = Role} Saves Plain = sym is ∙ plain in absurd cc
+
+pub reads_some : (role : Role) (saver : ℕ) → role ≡ Reads saver → role ≡ Plain → ⊥
+reads_some role saver is plain = let both : ◌≡◌ {A = Role} (Reads saver) Plain = sym is ∙ plain in absurd cc
+
+-- one whose variable is not read is no reader
+pub not_reads : (triggers : Triggers) (variable : Option Var) → is_reader variable ≡ false → (saver : ℕ) → role_of triggers variable ≡ Reads saver → ⊥
+not_reads triggers variable quiet saver is =
+    let reads = reads_of triggers variable saver is in
+    true≢false (sym (ap is_reader reads.1.1.0) ∙ quiet)
+
 -- a trigger that saves a name is a saver
 saves_role : (triggers : Triggers) (name : List ℕ) (variable : Option Var) → saves_name name variable ≡ true → role_of triggers variable ≡ Saves
 saves_role triggers name None saves = let both : ◌≡◌ {A = Bool} false true = saves in absurd cc
@@ -45,22 +70,18 @@ saves_role triggers name (Some (vars.Saves label)) saves = refl
 saves_role triggers name (Some (vars.Reads own source)) saves = let both : ◌≡◌ {A = Bool} false true = saves in absurd cc
 
 saver_of_hist : (triggers : Triggers) → HasSavers triggers → (reader : ℕ) (hist : Hist) (saver : ℕ) → map.get triggers reader ≡ Some hist → role_of triggers hist.variable ≡ Reads saver → role_at triggers saver ≡ Saves
-unfolding role_at
 saver_of_hist triggers savers reader hist saver there is =
     let reads = reads_of triggers hist.variable saver is in
     let has : HasSaver triggers hist reads.1.0 = savers reader hist reads.0 reads.1.0 there reads.1.1.0 in
     let same : has.id ≡ saver = ap (λ (o : Option ℕ). unwrap_or o 0) (sym has.named) ∙ reads.1.1.1 in
-    ap (λ (o : Option Hist). option_map_or (λ (h : Hist). role_of triggers h.variable) o Plain) (ap (map.get triggers) (sym same) ∙ has.attached)
+    role_there triggers saver has.saver (ap (map.get triggers) (sym same) ∙ has.attached)
     ∙ saves_role triggers reads.1.0 has.saver.variable (saver-saves triggers reads.1.0 has.id has.saver has.attached has.named)
 
 -- what is read is a saver's
 pub read_saves : (triggers : Triggers) → HasSavers triggers → (reader saver : ℕ) → role_at triggers reader ≡ Reads saver → role_at triggers saver ≡ Saves
-unfolding role_at
 read_saves triggers savers reader saver is =
-    elim (map.get triggers reader) as (λ (o : Option Hist). map.get triggers reader ≡ o → option_map_or (λ (h : Hist). role_of triggers h.variable) o Plain ≡ Reads saver → role_at triggers saver ≡ Saves) [
-      | None ↦ λ _ h. let both : ◌≡◌ {A = Role} Plain (Reads saver) = h in absurd cc
-      | Some hist ↦ λ there h. saver_of_hist triggers savers reader hist saver there h
-    ] refl is
+    let attached = attached_as triggers reader (reads_some (role_at triggers reader) saver is) in
+    saver_of_hist triggers savers reader attached.0 saver attached.1 (sym (role_there triggers reader attached.0 attached.1) ∙ is)
 
 -- who reads a saver of the family is of the family
 pub closed : (triggers : Triggers) (id : ℕ) → HasSavers triggers → (reader saver : ℕ) → is_in_family triggers id reader ≡ false → is_in_family triggers id saver ≡ true → role_at triggers reader ≡ Reads saver → ⊥
@@ -71,15 +92,13 @@ closed triggers id savers reader saver out inside reads = ⊎_elim
 
 -- a trigger that is attached and can't be removed reads nothing
 pub quiet : (base : Base) (id : ℕ) (hist : Hist) (refused : Refused) → map.get base.triggers id ≡ Some hist → after_remove base id ≡ Err refused → (saver : ℕ) → role_at base.triggers id ≡ Reads saver → ⊥
-unfolding role_at
 quiet base id hist refused attached fails saver is =
-    let role : role_of base.triggers hist.variable ≡ Reads saver = sym (ap (λ (o : Option Hist). option_map_or (λ (h : Hist). role_of base.triggers h.variable) o Plain) attached) ∙ is in
+    let role : role_of base.triggers hist.variable ≡ Reads saver = sym (role_there base.triggers id hist attached) ∙ is in
     let reads = reads_of base.triggers hist.variable saver role in
     let removed = remove-ok base id hist attached (ap (reader_on base.triggers) reads.1.1.0) in
     let both : ◌≡◌ {A = Result (Base × ℕ) Refused} (Ok (record base { triggers = map.remove base.triggers id }, id)) (Err refused) = sym removed ∙ fails in
     absurd cc
 
--- the role of a trigger that is attached
-pub role_there : (triggers : Triggers) (id : ℕ) (hist : Hist) → map.get triggers id ≡ Some hist → role_at triggers id ≡ role_of triggers hist.variable
-unfolding role_at
-role_there triggers id hist there = ap (λ (o : Option Hist). option_map_or (λ (h : Hist). role_of triggers h.variable) o Plain) there
+-- whether an attached trigger is of a family, by its role
+pub in_family : (triggers : Triggers) (id : ℕ) (e : ℕ × Hist) → map.get triggers e.0 ≡ Some e.1 → {role : Role} → role ≡ role_of triggers e.1.variable → {kin is : Bool} → kin ≡ is_kin id e.0 role → kin ≡ is → is_in_family triggers id e.0 ≡ is
+in_family triggers id e attached role kin is = ap (is_kin id e.0) (role_there triggers e.0 e.1 attached ∙ sym role) ∙ sym kin ∙ is

@@ -1,13 +1,10 @@
--- The acts at merged events: their events are held, and no other than those of named events are there.
-use Rattle.std.proofs.Common.{◌≡◌, ℕ, Bool, true, false, cond, List, [], ◌∷◌, refl, sym, ap, ◌∙◌, Option, Some, None, unwrap_or}
+-- The acts at merged events: their events are held.
+use Rattle.std.proofs.Common.{◌≡◌, Bool, true, false, cond, List, refl, sym, ap, ◌∙◌, Option, Some, None, unwrap_or}
 use Rattle.std.specs.Prelude.{◌==◌, ◌&&◌, if◌then◌else◌, option_map, option_and_then}
-use Rattle.std.specs.List.{list_any}
-use Rattle.std.specs.Ordering.{nat_cmp, eq_by_cmp}
+use Rattle.std.specs.Ordering.{eq_by_cmp}
 use Rattle.std.specs.FinMap as map
-use Rattle.std.specs.FinMap.{get-entries, get-remove}
-use Rattle.std.specs.FinMap.Entries as entries
-use Rattle.std.proofs.lemmas.Bool.{eqb-true, or_parts}
-use Rattle.std.proofs.lemmas.Map.Entries.{option_filter}
+use Rattle.std.specs.FinMap.{get-remove}
+use Rattle.std.proofs.lemmas.Bool.{eqb-true}
 use Rattle.ft_fields.specs.Places.{pos_cmp, pos_cmp_total}
 use Rattle.ft_fields.specs.Traced.{Traced, name_of}
 use Rattle.ft_fields.specs.declared.pos.Pos.{Pos}
@@ -16,11 +13,10 @@ use Rattle.ft_hist.specs.Hit.{hit, key_of, passes_filter, same_name}
 use Rattle.ft_keys.specs.declared.key.Part.{Part}
 use Rattle.ft_lanes.specs.Held.{Lanes, event_at}
 use Rattle.ft_kept.specs.Acts.{AreHeld, acts_of}
-use Rattle.ft_kept.specs.Views.{HasAt, act_at}
+use Rattle.ft_kept.specs.Views.{act_at}
 use Rattle.ft_pairs.specs.declared.at.At.{At}
 use Rattle.ft_base.specs.Base.{Triggers}
 use Rattle.ft_replay.specs.Merged.{Events, merged, held_at}
-use Rattle.ft_replay.specs.Named.{is_on, is_named}
 use Rattle.ft_replay.proofs.Places.{merged_at}
 
 -- ---- acts are held
@@ -73,44 +69,11 @@ acts_held triggers lanes events all at key event is =
       | Some own ↦ λ there e. held_is lanes at.pos event (all at.pos event (there ∙ ap (λ (x : Traced). Some x) (act_event (map.get triggers at.trigger) own key event e)))
     ] refl is
 
--- the acts at a place are those at its event
-pub acts_there : (triggers : Triggers) (events : Events) (pos : Pos) (event : Option Traced) → map.get events pos ≡ event → HasAt triggers (acts_of triggers events) pos event
-unfolding acts_of
-acts_there triggers events pos event there id = ap (act_at triggers id) there
-
--- and alike, where the events are
+-- acts are alike, where the events are
 pub acts_alike : (triggers : Triggers) (events others : Events) (at : At) → map.get events at.pos ≡ map.get others at.pos → acts_of triggers events at ≡ acts_of triggers others at
 unfolding acts_of
 acts_alike triggers events others at same = ap (act_at triggers at.trigger) same
 
--- ---- acts are of named events
-
-unasked : (test : ℕ × Hist → Bool) (es : List (ℕ × Hist)) (id : ℕ) (hist : Hist) → list_any test es ≡ false → entries.find nat_cmp id es ≡ Some hist → (k : ℕ) × (test (k, hist) ≡ false)
-unasked test [] id hist none found = let both : ◌≡◌ {A = Option Hist} None (Some hist) = found in absurd cc
-unasked test (e ∷ es) id hist none found =
-    let parts = or_parts (test e) (list_any test es) none in
-    elim (eq_by_cmp nat_cmp id e.0) as (λ (b : Bool). cond b (Some e.1) (entries.find nat_cmp id es) ≡ Some hist → (k : ℕ) × (test (k, hist) ≡ false)) [
-      | true ↦ λ here. (e.0, ap (λ (h : Hist). test (e.0, h)) (sym (ap (λ (o : Option Hist). unwrap_or o e.1) here)) ∙ parts.0)
-      | false ↦ λ later. unasked test es id hist parts.1 later
-    ] found
-
+-- an event of another name is no hit
 pub no_hit : (hist : Hist) (event : Traced) → same_name hist.event (name_of event.body) ≡ false → hit hist event ≡ None
 no_hit hist event other = ap (λ (b : Bool). if b && passes_filter hist.filter event then key_of hist.keys event else None) other
-
-idle_in : (triggers : Triggers) (id : ℕ) (event : Traced) → is_named triggers event ≡ false → act_in (map.get triggers id) event ≡ None
-unfolding is_on
-idle_in triggers id event none =
-    elim (map.get triggers id) as (λ (o : Option Hist). map.get triggers id ≡ o → act_in o event ≡ None) [
-      | None ↦ λ _. refl
-      | Some hist ↦ λ there.
-          let other = unasked (λ attached. same_name attached.1.event (name_of event.body)) (map.entries triggers) id hist none (sym (get-entries triggers id) ∙ there) in
-          ap (with_event event) (no_hit hist event other.1)
-    ] refl
-
-pub named_at : (triggers : Triggers) (id : ℕ) (o : Option Traced) → option_and_then (λ (e : Traced). act_in (map.get triggers id) e) (option_filter (is_named triggers) o) ≡ option_and_then (λ (e : Traced). act_in (map.get triggers id) e) o
-named_at triggers id None = refl
-named_at triggers id (Some event) =
-    elim (is_named triggers event) as (λ (b : Bool). is_named triggers event ≡ b → option_and_then (λ (e : Traced). act_in (map.get triggers id) e) (cond b (Some event) None) ≡ act_in (map.get triggers id) event) [
-      | true ↦ λ _. refl
-      | false ↦ λ none. sym (idle_in triggers id event none)
-    ] refl

@@ -1,24 +1,19 @@
 -- A family gets new shelves: nothing is kept of it, and of the others all stays.
-use Rattle.std.proofs.Common.{◌≡◌, ℕ, Bool, true, false, true≢false, inr, List, refl, sym, ap, subst, ◌∙◌, Option, Some, None}
-use Rattle.std.specs.Prelude.{option_and_then, if◌then◌else◌}
+use Rattle.std.proofs.Common.{◌≡◌, ℕ, Bool, true, false, true≢false, refl, sym, ap, subst, ◌∙◌, Option, Some, None}
+use Rattle.std.specs.Prelude.{option_and_then}
 use Rattle.std.specs.Ordering.{nat_cmp}
 use Rattle.std.specs.FinMap as map
 use Rattle.std.specs.FinMap.{get-empty}
 use Rattle.ft_fields.specs.declared.pos.Pos.{Pos}
 use Rattle.ft_fields.specs.Places.{pos_cmp}
 use Rattle.ft_hist.specs.Hist.{Hist}
-use Rattle.ft_keys.specs.declared.key.Part.{Part}
 use Rattle.ft_lanes.specs.Held.{Lanes}
 use Rattle.ft_pairs.specs.ByKey.{ops_of}
-use Rattle.ft_pairs.specs.declared.at.At.{At}
 use Rattle.ft_pairs.specs.declared.role.Role.TheVariants.{Reads}
-use Rattle.ft_pairs.specs.declared.role.Variable.{Variable}
 use Rattle.ft_table.specs.Tabled.{Tabled}
-use Rattle.ft_table.specs.Values.{values_by}
 use Rattle.ft_table.specs.Spots.{traced}
-use Rattle.ft_kept.specs.Acts.{Acts, acts_of, op_of}
-use Rattle.ft_kept.specs.Entries.{IsRight, hits_here, read_here}
-use Rattle.ft_kept.specs.Shelves.{Shelved, Shelves, admits_on, kept_on}
+use Rattle.ft_kept.specs.Acts.{Acts, acts_of}
+use Rattle.ft_kept.specs.Shelves.{Shelved, Shelves, kept_on}
 use Rattle.ft_base.specs.Base.{Triggers}
 use Rattle.ft_base.specs.Reachable.{HasSavers}
 use Rattle.ft_base.specs.Roles.{role_at}
@@ -29,19 +24,16 @@ use Rattle.ft_repair.specs.inner.Joining.{AreRenewed, HasNewShelf}
 use Rattle.ft_repair.specs.inner.KeptFor.{AreKeptFor}
 use Rattle.ft_repair.proofs.KeptFor.{for_kept, right_for}
 use Rattle.ft_repair.proofs.OneTrigger.{outside_held}
-use Rattle.ft_repair.proofs.Alike.{no_act_of, same_ops, no_hits, no_read, no_ops, op_same, no_op_there, no_op_of, right_moves, right_none}
+use Rattle.ft_repair.proofs.Alike.{no_act_of}
+use Rattle.ft_repair.proofs.Outside.{IsBare, kept_bare}
 
--- nothing is kept of a trigger
-record IsBare (shelves : Shelves) (id : ℕ) : Type 0 where
-  hits : (pos : Pos) (key : List Part) → hits_here (kept_on shelves) (record { pos = pos; trigger = id }) key ≡ None
-  read : (pos : Pos) → read_here (kept_on shelves) (record { pos = pos; trigger = id }) ≡ None
-  ops : (key : List Part) (at : At) → (kept_on shelves).ops (record { saver = id; key = key }) at ≡ None
-
-bare_none : (shelves : Shelves) (id : ℕ) → map.get shelves id ≡ None → IsBare shelves id
+-- without a shelf, or on a new one, nothing is kept
+pub bare_none : (shelves : Shelves) (id : ℕ) → map.get shelves id ≡ None → IsBare shelves id
+unfolding kept_on
 bare_none shelves id none = record {
-  hits = no_hits shelves id none;
-  read = no_read shelves id none;
-  ops = no_ops shelves id none;
+  hits = λ pos key. ap (option_and_then (λ (s : Shelved). map.get s.table.hits (record { spot = traced pos; key = key }))) none;
+  read = λ pos. ap (option_and_then (λ (s : Shelved). map.get s.readings pos)) none;
+  ops = λ key at. ap (option_and_then (λ (s : Shelved). ops_of s.ops key at)) none;
 }
 
 bare_new : (triggers : Triggers) (hist : Hist) (shelves : Shelves) (id : ℕ) → HasNewShelf triggers hist (map.get shelves id) → IsBare shelves id
@@ -69,12 +61,6 @@ its_new triggers hist shelf has = (
 
 module _ (triggers : Triggers) (lanes : Lanes) (family : ℕ → Bool) (old new : Shelves) (outside : AreKeptOutside family triggers lanes old) (renewed : AreRenewed triggers family old new)
     (closed : (reader saver : ℕ) → family reader ≡ false → family saver ≡ true → role_at triggers reader ≡ Reads saver → ⊥) where
-  abbrev acts : Acts
-  acts = acts_outside family triggers lanes
-
-  no_act : (at : At) → family at.trigger ≡ true → acts at ≡ None
-  no_act at inside = ap (λ (b : Bool). if b then None else acts_of triggers (merged lanes) at) inside
-
   bare : (id : ℕ) → family id ≡ true → IsBare new id
   bare id inside =
       elim (map.get triggers id) as (λ (o : Option Hist). map.get triggers id ≡ o → IsBare new id) [
@@ -96,48 +82,9 @@ module _ (triggers : Triggers) (lanes : Lanes) (family : ℕ → Bool) (old new 
         | false ↦ λ out. subst (HasItsShelf triggers (map.get triggers id)) (sym (renewed.stay id out)) (outside.each id out)
       ] refl
 
-  -- who acts on a variable of the family is inside
-  none_done : (variable : Variable) (at : At) → family variable.saver ≡ true → op_of (role_at triggers) (admits_on new) acts variable at ≡ None
-  none_done variable at inside =
-      elim (family at.trigger) as (λ (b : Bool). family at.trigger ≡ b → op_of (role_at triggers) (admits_on new) acts variable at ≡ None) [
-        | true ↦ λ there. no_op_there (role_at triggers) (admits_on new) acts variable at (no_act at there)
-        | false ↦ λ out. no_op_of (role_at triggers) (admits_on new) acts variable at
-            (λ _ same. true≢false (sym inside ∙ ap family (sym same) ∙ out))
-            (λ reads. closed at.trigger variable.saver out inside reads)
-      ] refl
-
-  op_stays : (variable : Variable) (at : At) → op_of (role_at triggers) (admits_on new) acts variable at ≡ op_of (role_at triggers) (admits_on old) acts variable at
-  op_stays variable at =
-      elim (family at.trigger) as (λ (b : Bool). family at.trigger ≡ b → op_of (role_at triggers) (admits_on new) acts variable at ≡ op_of (role_at triggers) (admits_on old) acts variable at) [
-        | true ↦ λ there. no_op_there (role_at triggers) (admits_on new) acts variable at (no_act at there) ∙ sym (no_op_there (role_at triggers) (admits_on old) acts variable at (no_act at there))
-        | false ↦ λ out. op_same (role_at triggers) (role_at triggers) old new acts acts variable at refl (renewed.stay at.trigger out) refl
-      ] refl
-
-  ops : (variable : Variable) (at : At) → (kept_on new).ops variable at ≡ op_of (role_at triggers) (admits_on new) acts variable at
-  ops variable at =
-      elim (family variable.saver) as (λ (b : Bool). family variable.saver ≡ b → (kept_on new).ops variable at ≡ op_of (role_at triggers) (admits_on new) acts variable at) [
-        | true ↦ λ inside. (bare variable.saver inside).ops variable.key at ∙ sym (none_done variable at inside)
-        | false ↦ λ out. same_ops old new variable.saver (renewed.stay variable.saver out) variable.key at ∙ outside.ops variable at out ∙ sym (op_stays variable at)
-      ] refl
-
-  -- a trigger outside reads a saver outside
-  saver_stays : (at : At) → family at.trigger ≡ false → (saver : ℕ) → role_at triggers at.trigger ≡ Reads saver → map.get new saver ≡ map.get old saver
-  saver_stays at out saver reads =
-      elim (family saver) as (λ (b : Bool). family saver ≡ b → map.get new saver ≡ map.get old saver) [
-        | true ↦ λ inside. absurd (closed at.trigger saver out inside reads)
-        | false ↦ λ there. renewed.stay saver there
-      ] refl
-
-  right : (at : At) → IsRight (role_at triggers) (values_by triggers) acts (kept_on new) at
-  right at =
-      elim (family at.trigger) as (λ (b : Bool). family at.trigger ≡ b → IsRight (role_at triggers) (values_by triggers) acts (kept_on new) at) [
-        | true ↦ λ inside. right_none (role_at triggers) (values_by triggers) acts (kept_on new) at (no_act at inside) ((bare at.trigger inside).read at.pos) (λ key. (bare at.trigger inside).hits at.pos key)
-        | false ↦ λ out. right_moves triggers triggers acts acts old new at refl refl refl (renewed.stay at.trigger out)
-            (λ saver reads key i q. same_ops old new saver (saver_stays at out saver reads) key q i) (outside.entries at out)
-      ] refl
-
-  pub renewed_idle : HasSavers triggers → AreKeptFor triggers lanes acts new
-  renewed_idle savers = right_for triggers lanes savers acts (outside_held triggers lanes family) new its (record { ops = ops; entries = λ at. inr (right at) })
+  pub renewed_idle : HasSavers triggers → AreKeptFor triggers lanes (acts_outside family triggers lanes) new
+  renewed_idle savers = right_for triggers lanes savers (acts_outside family triggers lanes) (outside_held triggers lanes family) new its
+      (kept_bare triggers triggers lanes family old new outside (λ _ _. refl) (λ _ _. refl) renewed.stay bare closed)
 
 -- ---- all get new shelves
 

@@ -32,6 +32,7 @@ use Rattle.ft_replay.specs.Operations.{is_admitted, ops_on}
 use Rattle.ft_replay.specs.Replay.{replay}
 use Rattle.ft_base.specs.Roles.{role_of, role_at}
 use Rattle.ft_repair.proofs.ByRole.{hit_with, no_event, no_key, by_role}
+use Rattle.ft_repair.proofs.Families.{role_there}
 use Rattle.ft_replay.proofs.Matched.{matched}
 
 -- what a reading finds is one thing
@@ -62,11 +63,6 @@ abbrev with_event : Traced → List Part → List Part × Traced
 with_event event key = (key, event)
 
 module _ (triggers : Triggers) (events : Events) where
-  -- an attached trigger has the role that its variable gives it
-  pub role-is : (id : ℕ) (hist : Hist) → map.get triggers id ≡ Some hist → role_at triggers id ≡ role_of triggers hist.variable
-  unfolding role_at
-  role-is id hist attached = ap (λ (o : Option Hist). option_map_or (λ h. role_of triggers h.variable) o Plain) attached
-
   values-are : (id : ℕ) (hist : Hist) → map.get triggers id ≡ Some hist → (at : Pos) (event : Traced) (saved : Option Pos) → values_by triggers id at event saved ≡ values_at hist at event saved
   unfolding values_by
   values-are id hist attached at event saved = ap (λ (o : Option Hist). option_map_or (λ h. values_at h at event saved) o []) attached
@@ -130,7 +126,7 @@ module _ (triggers : Triggers) (events : Events) (admits : Admits) (kept : Kept)
     entry : (act : Option (List Part × Traced)) → acts_of triggers events at ≡ act → IsKeptOf (role_of triggers hist.variable) act
     entry act is = elim (right.entries at) [
       | inl owed ↦ let never : ◌≡◌ {A = Bool} false true = owed.0 in cc
-      | inr e ↦ subst (λ (x : Role × Option (List Part × Traced)). IsKeptOf x.0 x.1) (λ i. (role-is triggers events id hist attached i, is i)) e
+      | inr e ↦ subst (λ (x : Role × Option (List Part × Traced)). IsKeptOf x.0 x.1) (λ i. (role_there triggers id hist attached i, is i)) e
     ]
 
     -- what a hit adds under its key, and what it read

@@ -3,7 +3,6 @@ use Rattle.std.proofs.Common.{◌≡◌, ℕ, Bool, true, false, cond, List, ref
 use Rattle.std.specs.Prelude.{◌==◌, ◌&&◌, IsSome, IfSome, if◌then◌else◌, option_and_then}
 use Rattle.std.specs.Option.{option_map_or}
 use Rattle.std.specs.FinMap as map
-use Rattle.std.proofs.lemmas.Option.{same_Some}
 use Rattle.ft_fields.specs.Traced.{Traced}
 use Rattle.ft_fields.specs.declared.pos.Pos.{Pos}
 use Rattle.ft_hist.specs.Fitting.{KeyFits}
@@ -31,23 +30,22 @@ use Rattle.ft_replay.specs.Operations.{is_admitted, ops_on}
 use Rattle.ft_replay.specs.Replay.{replay}
 use Rattle.ft_base.specs.Roles.{role_at}
 use Rattle.ft_replay.specs.Tally.{tally_of}
+use Rattle.ft_repair.proofs.Families.{role_there}
+use Rattle.ft_repair.proofs.ShelfForms.{own_shelf}
 use Rattle.ft_repair.proofs.Spots.{mark_at, each_mark, none_made}
 use Rattle.ft_repair.proofs.ByRole.{key_fits}
-use Rattle.ft_repair.proofs.KeptEntries.{OneSource, AdmitsAsReplayed, IsReplayedAt, role-is, ops-are, as-replayed}
+use Rattle.ft_repair.proofs.KeptEntries.{OneSource, AdmitsAsReplayed, IsReplayedAt, ops-are, as-replayed}
 use Rattle.ft_replay.proofs.KeptMaps.{values-are}
 use Rattle.ft_replay.proofs.Replaying.{admitted-in, tally-kept}
 
 module _ (rows : RowsGrow) (totals : TotalsGrow) (members : InGrows) (one : OneSource) (triggers : Triggers) (events : Events) (shelves : Shelves) (kept : AreKept triggers events shelves) where
-  -- an attached trigger has a shelf
+  -- an attached trigger has its shelf
   has_shelf : (id : ℕ) (hist : Hist) → map.get triggers id ≡ Some hist → HasItsShelf triggers (Some hist) (map.get shelves id)
   has_shelf id hist attached = subst (λ o. HasItsShelf triggers o (map.get shelves id)) attached (kept.each id)
 
   module _ (id : ℕ) (hist : Hist) (shelf : Shelved) (attached : map.get triggers id ≡ Some hist) (there : map.get shelves id ≡ Some shelf) where
-    -- and that is its own
     own : IsShelfOf triggers hist shelf
-    own =
-        let has : HasItsShelf triggers (Some hist) (map.get shelves id) = has_shelf id hist attached in
-        subst (IsShelfOf triggers hist) (same_Some _ _ (sym has.1.0 ∙ there)) has.1.1
+    own = own_shelf triggers hist shelf (map.get triggers id) (map.get shelves id) attached there (kept.each id)
 
     hits-on : (mark : Mark) → (kept_on shelves).hits id mark ≡ map.get shelf.table.hits mark
     unfolding kept_on
@@ -74,7 +72,7 @@ module _ (rows : RowsGrow) (totals : TotalsGrow) (members : InGrows) (one : OneS
     unfolding admits_on
     admits-is replayed saves key =
         ap (λ (o : Option Shelved). option_map_or (λ s. is_saver s.role && is_in s.table key) o false) there
-        ∙ ap (λ (r : Role). is_saver r && is_in shelf.table key) (own.role ∙ sym (role-is triggers events id hist attached) ∙ saves)
+        ∙ ap (λ (r : Role). is_saver r && is_in shelf.table key) (own.role ∙ sym (role_there triggers id hist attached) ∙ saves)
         ∙ ap (λ (t : Tabled). is_in t key) (sym table-is)
         ∙ ap (λ (hits : Hits). is_in (table_for hist hits) key) (values-are triggers events id shelf.table.hits (hits-replayed replayed))
         ∙ sym (admitted-in rows totals members triggers events id hist attached key)
@@ -85,7 +83,7 @@ module _ (rows : RowsGrow) (totals : TotalsGrow) (members : InGrows) (one : OneS
       let has : HasItsShelf triggers (Some hist) (map.get shelves id) = has_shelf id hist attached in
       admits-is id hist has.0 attached has.1.0
       (λ at. as-replayed triggers events (admits_on shelves) (kept_on shelves) kept.kept one id hist attached at
-      (λ saver reads. absurd (no_reader saver (sym saves ∙ role-is triggers events id hist attached ∙ reads)))) saves key
+      (λ saver reads. absurd (no_reader saver (sym saves ∙ role_there triggers id hist attached ∙ reads)))) saves key
     where
       no_reader : (saver : ℕ) → ◌≡◌ {A = Role} Saves (Reads saver) → ⊥
       no_reader saver same = absurd cc

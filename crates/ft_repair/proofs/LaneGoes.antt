@@ -1,7 +1,7 @@
 -- The events of a lane go from what is kept, one by one.
-use Rattle.std.proofs.Common.{◌≡◌, ◌+◌, ◌≤◌, ℕ, Bool, true, false, cond, List, [], ◌∷◌, refl, sym, ap, ◌∙◌, Option, Some, None, option_map, unwrap_or, arith}
-use Rattle.std.specs.Prelude.{◌==◌, ◌&&◌, if◌then◌else◌, map as list_map, option_and_then}
-use Rattle.std.specs.List.{AllByRecursion, IsDistinct, sum_by}
+use Rattle.std.proofs.Common.{◌≡◌, ℕ, Bool, true, false, cond, List, [], ◌∷◌, refl, sym, ap, ◌∙◌, Option, Some, None, option_map, unwrap_or}
+use Rattle.std.specs.Prelude.{◌&&◌, map as list_map, option_and_then}
+use Rattle.std.specs.List.{AllByRecursion, IsDistinct}
 use Rattle.std.specs.List.Sorted.{IsStrictlySortedBy}
 use Rattle.std.specs.Ordering.{nat_cmp, is_eq, eq_by_cmp}
 use Rattle.std.specs.Cmp.{nat_cmp_total}
@@ -9,19 +9,23 @@ use Rattle.std.specs.Map.{keys_of}
 use Rattle.std.specs.FinMap as map
 use Rattle.std.specs.FinMap.{find, get-entries, get-remove, entries_sorted, same_map, nat_cmp-IsAntisymmetric}
 use Rattle.std.specs.declared.cmp.Ordering.TheVariants.{Less}
-use Rattle.std.proofs.lemmas.List.Sums.{sum_by-cons}
+use Rattle.std.specs.Map.Iter.{TakesFirst}
+use Rattle.std.proofs.lemmas.Map.Iter.{rest_more}
 use Rattle.std.proofs.lemmas.Map.Keys.{sorted_head, sorted_tail}
 use Rattle.ft_fields.specs.Traced.{Traced}
 use Rattle.ft_fields.specs.Places.{pos_cmp, pos_cmp_total}
 use Rattle.ft_fields.specs.declared.pos.Pos.{Pos}
-use Rattle.ft_hist.specs.Tests.{count_on}
+use Rattle.ft_kept.proofs.Events.{has_at}
 use Rattle.ft_kept.specs.Acts.{Acts, acts_of}
 use Rattle.ft_kept.specs.Memory as memory
 use Rattle.ft_kept.specs.Shelves.{Shelves}
 use Rattle.ft_shelves.specs.declared.sign.Sign.TheVariants.{Retract}
 use Rattle.ft_shelves.proofs.Decided.{itself}
 use Rattle.ft_lanes.specs.Held.{Lane, Lanes, event_at}
-use Rattle.ft_maps.specs.Entries.{get-remove_same, same_from_tie, strictly_sorted}
+use Rattle.ft_lanes.specs.Walks.{shown}
+use Rattle.ft_maps.specs.Entries.{get-remove_same, strictly_sorted}
+use Rattle.ft_store.specs.Stored.{held}
+use Rattle.ft_store.specs.declared.stored.Stored.{Stored}
 use Rattle.ft_base.specs.Base.{Triggers}
 use Rattle.ft_base.specs.Reachable.{HasSavers}
 use Rattle.ft_base.proofs.Apart.{all_map, entries_found}
@@ -30,21 +34,10 @@ use Rattle.ft_replay.specs.Merged.{merged, place_of}
 use Rattle.ft_replay.proofs.Places.{merged_at}
 use Rattle.ft_repair.specs.KeptShelves.{AreKept}
 use Rattle.ft_repair.proofs.Changing.{Changes, IsChanging, changing_all, changing_none, none_left}
-use Rattle.ft_repair.proofs.HeldActs.{acts_alike, acts_there, held_is, merged_held}
+use Rattle.ft_repair.proofs.HeldActs.{acts_alike, held_is, merged_held}
 use Rattle.ft_repair.proofs.KeptFor.{for_kept, kept_for}
-use Rattle.ft_repair.proofs.MergedLanes.{placed_there, tie_at}
+use Rattle.ft_repair.proofs.MergedLanes.{in_lane, on_stamp, placed_there, tie_at, tie_nat}
 use Rattle.ft_repair.proofs.ShelfForms.{plain_shelf}
-
-tie_nat : (a b : ℕ) → eq_by_cmp nat_cmp a b ≡ true → a ≡ b
-tie_nat = same_from_tie nat_cmp-IsAntisymmetric
-
--- an event, where it has this stamp
-abbrev on_stamp : ℕ → Traced → Option Traced
-on_stamp stamp e = if e.stamp == stamp then Some e else None
-
--- the event of a line, by the lane
-abbrev in_lane : ℕ → Option Lane → Option Traced
-in_lane line lane = option_and_then (λ (l : Lane). map.get l.events line) lane
 
 never : (a b : Bool) → (a && (b && false)) ≡ false
 never true true = refl
@@ -118,8 +111,8 @@ module _ (triggers : Triggers) (lanes : Lanes) (cpu : ℕ) where
     line_goes : (e : ℕ × Traced) → map.get lane.events e.0 ≡ Some e.1 → Changes triggers lanes (λ _. true) Retract first last (place_of cpu e, e.1)
     line_goes e is = record {
       held = (line_held e is, refl);
-      before = λ id _. acts_there triggers (merged lanes) (place_of cpu e) (Some e.1) (placed_there lanes cpu e.0 e.1 (line_held e is)) id;
-      after = λ id _. acts_there triggers (merged others) (place_of cpu e) None (none_then (place_of cpu e) refl) id;
+      before = λ id _. has_at triggers (merged lanes) (place_of cpu e) (Some e.1) (placed_there lanes cpu e.0 e.1 (line_held e is)) id;
+      after = λ id _. has_at triggers (merged others) (place_of cpu e) None (none_then (place_of cpu e) refl) id;
     }
 
     -- at a place of none of its lines nothing changes
@@ -132,24 +125,28 @@ module _ (triggers : Triggers) (lanes : Lanes) (cpu : ℕ) where
         nothing : q.cpu ≡ cpu → (o : Option Traced) → map.get (merged lanes) q ≡ o → o ≡ None
         nothing own None is = refl
         nothing own (Some x) is =
-            let held = held_is lanes q x (merged_held lanes q x is) in
-            absurd (stands cpu q x own held.1 (map.entries lane.events) (sym (ap (in_lane q.line) (ap (map.get lanes) own ∙ there) ∙ get-entries lane.events q.line) ∙ held.0) none)
+            let there_now = held_is lanes q x (merged_held lanes q x is) in
+            absurd (stands cpu q x own there_now.1 (map.entries lane.events) (sym (ap (in_lane q.line) (ap (map.get lanes) own ∙ there) ∙ get-entries lane.events q.line) ∙ there_now.0) none)
 
     -- first all are left
     pub going_all : HasSavers triggers → (shelves : Shelves) → AreKept triggers (merged lanes) shelves → IsGoing (map.entries lane.events) shelves
-    going_all savers shelves kept = changing_all triggers lanes (λ _. true) Retract first last (placed cpu (map.entries lane.events)) shelves
+    going_all savers shelves kept = changing_all (placed cpu (map.entries lane.events)) shelves
         (kept_for triggers lanes savers (merged lanes) (merged_held lanes) shelves kept)
         (λ at out. acts_alike triggers (merged lanes) (merged others) at (same_elsewhere at.pos (none_left (find pos_cmp at.pos (placed cpu (map.entries lane.events))) out)))
         (all_placed cpu _ (map.entries lane.events) (all_map _ _ line_goes (map.entries lane.events) (entries_found nat_cmp nat_cmp_total lane.events)))
         (lines_apart cpu (map.entries lane.events) (strictly_sorted nat_cmp (map.entries lane.events) (entries_sorted lane.events)))
 
   -- where the lane is of plain hits, so is its event
-  pub going_plain : (e : ℕ × Traced) (rest : List (ℕ × Traced)) (shelves : Shelves) → IsGoing (e ∷ rest) shelves → IsPlainLane triggers lanes cpu → memory.IsPlainHit triggers shelves e.1
-  going_plain e rest shelves is plain id hist attached key hits = plain_shelf triggers shelves is.kept.each id hist attached (plain e.0 e.1 is.changes.0.held.0 id hist attached key hits)
+  pub going_plain : (e : ℕ × Traced) (rest : List (ℕ × Traced)) {shelves : Shelves} → IsGoing (e ∷ rest) shelves → IsPlainLane triggers lanes cpu → memory.IsPlainHit triggers shelves e.1
+  going_plain e rest {shelves} is plain id hist attached key hits = plain_shelf triggers shelves is.kept.each id hist attached (plain e.0 e.1 is.changes.0.held.0 id hist attached key hits)
 
   -- at last they are all gone
-  pub going_none : (shelves : Shelves) → IsGoing [] shelves → AreKept triggers (merged others) shelves
-  going_none shelves is = for_kept triggers lanes (merged others) shelves (changing_none triggers lanes (λ _. true) Retract first last shelves is)
+  pub going_none : {lines : List (ℕ × Traced)} {shelves : Shelves} → lines ≡ [] → IsGoing lines shelves → AreKept triggers (merged others) shelves
+  going_none {shelves = shelves} none is = for_kept triggers lanes (merged others) shelves (changing_none (ap (placed cpu) none) is)
+
+-- the line that a walk comes to is the first of those that are left
+pub line_next : (lines rest : List (ℕ × Traced)) (next : Option (ℕ × Stored)) (x : ℕ × Stored) (event : Traced) → next ≡ Some x → TakesFirst shown lines next rest → event ≡ held x.1 → lines ≡ (x.0, event) ∷ rest
+line_next lines rest next x event is steps unpacked = rest_more shown lines rest next x is steps ∙ ap (λ (e : Traced). (x.0, e) ∷ rest) (sym unpacked)
 
 -- a lane that isn't held is gone
 pub no_lane : (lanes : Lanes) (cpu : ℕ) → map.get lanes cpu ≡ None → map.remove lanes cpu ≡ lanes
@@ -171,13 +168,3 @@ no_lines (Some lane) is = absurd cc
 pub its_lines : (held : Option Lane) (lines : List (ℕ × Traced)) → Some lines ≡ lines_of held → (lane : Lane) × ((held ≡ Some lane) × (lines ≡ map.entries lane.events))
 its_lines None lines is = absurd cc
 its_lines (Some lane) lines is = (lane, (refl, ap (λ (o : Option (List (ℕ × Traced))). unwrap_or o lines) is))
-
--- ---- what it costs
-
--- how many triggers are on the name of each event of some lines, taken together
-abbrev pub count_lines : Triggers → List (ℕ × Traced) → ℕ
-count_lines triggers lines = sum_by (λ entry. count_on triggers entry.1) lines
-
--- one more is tested
-pub tests_fewer : (triggers : Triggers) (e : ℕ × Traced) (rest : List (ℕ × Traced)) (all old now next : ℕ) → now + count_lines triggers (e ∷ rest) ≤ old + all → next ≤ now + count_on triggers e.1 → next + count_lines triggers rest ≤ old + all
-tests_fewer triggers e rest all old now next before more = omega (arith, before, more, sum_by-cons (λ (entry : ℕ × Traced). count_on triggers entry.1) e rest)

@@ -1,25 +1,24 @@
 -- The events of new lanes come to what is kept of the others.
-use Rattle.std.proofs.Common.{◌≡◌, ◌+◌, ◌≤◌, ℕ, Bool, true, false, cond, List, [], ◌∷◌, refl, sym, ap, ◌∙◌, Option, Some, None, is_some, arith}
-use Rattle.std.specs.Prelude.{◌==◌, ◌||◌, not, option_and_then, if◌then◌else◌}
+use Rattle.std.proofs.Common.{◌≡◌, ◌+◌, ℕ, Bool, true, false, cond, List, [], ◌∷◌, refl, sym, ap, ◌∙◌, Option, Some, None, is_some}
+use Rattle.std.specs.Prelude.{◌||◌, not, option_and_then}
 use Rattle.std.specs.List.{sum_by}
 use Rattle.std.specs.Ordering.{nat_cmp, eq_by_cmp}
 use Rattle.std.specs.Cmp.{nat_cmp_total, nat_eq_equiv, unsigned_tied}
 use Rattle.std.specs.Map.{keys_of}
 use Rattle.std.specs.FinMap as map
-use Rattle.std.specs.FinMap.{find, get-entries, entries_sorted, same_map, nat_cmp-IsAntisymmetric}
+use Rattle.std.specs.FinMap.{find, get-entries, same_map, nat_cmp-IsAntisymmetric}
 use Rattle.std.proofs.lemmas.List.Sums.{sum_by-cons}
 use Rattle.std.proofs.lemmas.Map.Entries.{option_filter}
-use Rattle.std.proofs.lemmas.Map.Keys.{IsDistinct-from_sorted}
 use Rattle.ft_fields.specs.Traced.{Traced}
 use Rattle.ft_fields.specs.Places.{pos_cmp, pos_cmp_total}
 use Rattle.ft_fields.specs.declared.pos.Pos.{Pos}
 use Rattle.ft_hist.specs.Tests.{count_on}
+use Rattle.ft_kept.proofs.Events.{has_at}
 use Rattle.ft_kept.specs.Acts.{Acts, acts_of}
 use Rattle.ft_kept.specs.Shelves.{Shelves}
 use Rattle.ft_shelves.specs.declared.sign.Sign.TheVariants.{Insert}
 use Rattle.ft_lanes.specs.Held.{Lane, Lanes}
 use Rattle.ft_lanes.specs.Loaded.{with_lanes, first_held}
-use Rattle.ft_maps.specs.Entries.{strictly_sorted}
 use Rattle.ft_pairs.specs.declared.at.At.{At}
 use Rattle.ft_base.specs.Base.{Triggers}
 use Rattle.ft_base.specs.Reachable.{HasSavers}
@@ -34,16 +33,10 @@ use Rattle.ft_replay.proofs.Naming.{named_all}
 use Rattle.ft_replay.proofs.Places.{merged_at}
 use Rattle.ft_replay.proofs.Placing.{get-named}
 use Rattle.ft_repair.proofs.Changing.{Changes, IsChanging, changing_all, changing_none, none_left}
-use Rattle.ft_repair.proofs.HeldActs.{act_in, acts_there, held_is, named_at}
+use Rattle.ft_repair.proofs.HeldActs.{act_in, held_is}
 use Rattle.ft_repair.proofs.KeptFor.{for_kept, kept_for}
-
--- an event, where it has this stamp
-abbrev on_stamp : ℕ → Traced → Option Traced
-on_stamp stamp e = if e.stamp == stamp then Some e else None
-
--- the event of a line, by the lane
-abbrev in_lane : ℕ → Option Lane → Option Traced
-in_lane line lane = option_and_then (λ (l : Lane). map.get l.events line) lane
+use Rattle.ft_repair.proofs.MergedLanes.{in_lane, on_stamp}
+use Rattle.ft_repair.proofs.OneTrigger.{entries_apart, named_at}
 
 pub there_if : {X : Type 0} (b : Bool) (o : Option X) (x : X) → cond b o None ≡ Some x → (b ≡ true) × (o ≡ Some x)
 there_if true o x is = (refl, is)
@@ -87,8 +80,8 @@ module _ (lanes : Lanes) where
         let there = there_if (other e.0.cpu) (held_at lanes e.0) e.1 (sym (chosen_at other e.0) ∙ is) in
         record {
           held = held_is lanes e.0 e.1 there.1;
-          before = λ id _. acts_there triggers (merged (lanes_of cpus lanes)) e.0 None (chosen_at (is_among cpus) e.0 ∙ none_if (is_among cpus e.0.cpu) (held_at lanes e.0) there.0) id;
-          after = λ id _. acts_there triggers (merged lanes) e.0 (Some e.1) (merged_at e.0 lanes ∙ there.1) id;
+          before = λ id _. has_at triggers (merged (lanes_of cpus lanes)) e.0 None (chosen_at (is_among cpus) e.0 ∙ none_if (is_among cpus e.0.cpu) (held_at lanes e.0) there.0) id;
+          after = λ id _. has_at triggers (merged lanes) e.0 (Some e.1) (merged_at e.0 lanes ∙ there.1) id;
         }
 
     -- where no event comes, the acts are there or no trigger is on the event's name
@@ -108,24 +101,25 @@ module _ (lanes : Lanes) where
 
     -- first all are left
     pub coming_all : HasSavers triggers → (shelves : Shelves) → AreKept triggers (merged (lanes_of cpus lanes)) shelves → AreComing (map.entries coming) shelves
-    coming_all savers shelves kept = changing_all triggers lanes (λ _. true) Insert first last (map.entries coming) shelves
+    coming_all savers shelves kept = changing_all (map.entries coming) shelves
         (kept_for triggers lanes savers (merged (lanes_of cpus lanes)) (λ pos event is. (there_if (is_among cpus pos.cpu) (held_at lanes pos) event (sym (chosen_at (is_among cpus) pos) ∙ is)).1) shelves kept)
         (λ at out. same_elsewhere at (none_left (find pos_cmp at.pos (map.entries coming)) out))
         (named_all triggers (Changes triggers lanes (λ _. true) Insert first last) (merged (lanes_but cpus lanes)) (all_map _ _ event_comes (map.entries (merged (lanes_but cpus lanes))) (entries_found pos_cmp pos_cmp_total (merged (lanes_but cpus lanes)))))
-        (IsDistinct-from_sorted pos_cmp (map.keys coming) (strictly_sorted pos_cmp (map.entries coming) (entries_sorted coming)))
+        (entries_apart coming)
 
     -- at last all have come
-    pub coming_none : (shelves : Shelves) → AreComing [] shelves → AreKept triggers (merged lanes) shelves
-    coming_none shelves is = for_kept triggers lanes (merged lanes) shelves (changing_none triggers lanes (λ _. true) Insert first last shelves is)
+    pub coming_none : {es : List (Pos × Traced)} {shelves : Shelves} → es ≡ [] → AreComing es shelves → AreKept triggers (merged lanes) shelves
+    coming_none {shelves = shelves} none is = for_kept triggers lanes (merged lanes) shelves (changing_none none is)
 
 -- ---- what it costs
 
 -- how many triggers are on the name of each of some events, taken together
-abbrev pub count_events : Triggers → List (Pos × Traced) → ℕ
+abbrev pub count_events : {K : Type 0} → Triggers → List (K × Traced) → ℕ
 count_events triggers events = sum_by (λ entry. count_on triggers entry.1) events
 
-pub tests_more : (triggers : Triggers) (e : Pos × Traced) (rest : List (Pos × Traced)) (all old now next : ℕ) → now + count_events triggers (e ∷ rest) ≤ old + all → next ≤ now + count_on triggers e.1 → next + count_events triggers rest ≤ old + all
-tests_more triggers e rest all old now next before more = omega (arith, before, more, sum_by-cons (λ (entry : Pos × Traced). count_on triggers entry.1) e rest)
+-- those of the first are counted with those of the rest
+pub counted : {K : Type 0} (triggers : Triggers) {es rest : List (K × Traced)} {e : K × Traced} → es ≡ e ∷ rest → count_events triggers es ≡ count_on triggers e.1 + count_events triggers rest
+counted {K} triggers {rest = rest} {e = e} more = ap (count_events triggers) more ∙ sum_by-cons (λ (entry : K × Traced). count_on triggers entry.1) e rest
 
 -- ---- what was held before a load
 

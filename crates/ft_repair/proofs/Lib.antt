@@ -22,4 +22,5 @@ mod SaverKeys
 pub mod Repaired
 mod LaneGoes
 mod KeptFor
+mod Telling
 mod Changing

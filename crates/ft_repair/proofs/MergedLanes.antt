@@ -6,7 +6,7 @@ use Rattle.std.specs.Ordering.{nat_cmp, is_eq, eq_by_cmp, ordering_then}
 use Rattle.std.specs.Cmp.{nat_cmp_total, nat_eq_equiv, unsigned_tied, eq_by_cmp_equiv}
 use Rattle.std.specs.FinMap as map
 use Rattle.std.specs.FinMap.{get-empty, get-insert, get-remove, same_map, nat_cmp-IsAntisymmetric}
-use Rattle.std.proofs.lemmas.Bool.{eq-eqb}
+use Rattle.std.proofs.lemmas.Bool.{and_parts, eq-eqb}
 use Rattle.ft_fields.specs.Traced.{Traced}
 use Rattle.ft_fields.specs.Places.{pos_cmp, pos_cmp_total, pos_same}
 use Rattle.ft_fields.specs.declared.pos.Pos.{Pos}
@@ -18,13 +18,14 @@ use Rattle.ft_replay.specs.Merged.{Events, merged, held_at}
 use Rattle.ft_base.specs.Reachable.{IsReachable}
 use Rattle.ft_replay.proofs.Places.{merged_at, tied_then}
 
-tie_nat : (a b : ℕ) → eq_by_cmp nat_cmp a b ≡ true → a ≡ b
+-- numbers that tie are one
+pub tie_nat : (a b : ℕ) → eq_by_cmp nat_cmp a b ≡ true → a ≡ b
 tie_nat = same_from_tie nat_cmp-IsAntisymmetric
 
 -- ---- what lines have after an edit
 
 -- the event of a line, by the lane
-abbrev in_lane : ℕ → Option Lane → Option Traced
+abbrev pub in_lane : ℕ → Option Lane → Option Traced
 in_lane line lane = option_and_then (λ (l : Lane). map.get l.events line) lane
 
 event_with : (lanes : Lanes) (event : Traced) (cpu line : ℕ)
@@ -71,7 +72,8 @@ tie_at q pos =
     tied_then (nat_cmp q.stamp pos.stamp) (ordering_then (nat_cmp q.cpu pos.cpu) (nat_cmp q.line pos.line))
     ∙ ap (λ (b : Bool). is_eq (nat_cmp q.stamp pos.stamp) && b) (tied_then (nat_cmp q.cpu pos.cpu) (nat_cmp q.line pos.line))
 
-abbrev on_stamp : ℕ → Traced → Option Traced
+-- an event, where it has this stamp
+abbrev pub on_stamp : ℕ → Traced → Option Traced
 on_stamp stamp e = if e.stamp == stamp then Some e else None
 
 stamp_tie : (stamp : ℕ) (e : Traced) → on_stamp stamp e ≡ cond (is_eq (nat_cmp stamp e.stamp)) (Some e) None
@@ -85,9 +87,9 @@ one_placed true false e old none = refl
 one_placed false true e old none = sym (none refl)
 one_placed false false e old none = refl
 
-split_stamp : (q : ℕ) (line : Bool) (e : Traced) (old : Option Traced) → option_and_then (on_stamp q) (cond line (Some e) old) ≡ cond line (on_stamp q e) (option_and_then (on_stamp q) old)
-split_stamp q true e old = refl
-split_stamp q false e old = refl
+split_stamp : (q : ℕ) (line : Bool) (new old : Option Traced) → option_and_then (on_stamp q) (cond line new old) ≡ cond line (option_and_then (on_stamp q) new) (option_and_then (on_stamp q) old)
+split_stamp q true new old = refl
+split_stamp q false new old = refl
 
 module _ (base : Base) (reachable : IsReachable base) (event : Traced) where
   abbrev new_line : ℕ
@@ -109,12 +111,8 @@ module _ (base : Base) (reachable : IsReachable base) (event : Traced) where
 
   free_place : (q : Pos) → (eq_by_cmp nat_cmp q.cpu event.cpu && eq_by_cmp nat_cmp q.line new_line) ≡ true → held_at base.lanes q ≡ None
   free_place q tie =
-      let parts = both_parts (eq_by_cmp nat_cmp q.cpu event.cpu) (eq_by_cmp nat_cmp q.line new_line) tie in
+      let parts = and_parts (eq_by_cmp nat_cmp q.cpu event.cpu) (eq_by_cmp nat_cmp q.line new_line) tie in
       ap (option_and_then (on_stamp q.stamp)) ((λ i. event_at base.lanes (tie_nat q.cpu event.cpu parts.0 i) (tie_nat q.line new_line parts.1 i)) ∙ free_line)
-    where
-      both_parts : (a b : Bool) → (a && b) ≡ true → (a ≡ true) × (b ≡ true)
-      both_parts true b h = (refl, h)
-      both_parts false b h = let both : ◌≡◌ {A = Bool} false true = h in absurd cc
 
   pub absent_before : map.get (merged base.lanes) new_place ≡ None
   absent_before = merged_at new_place base.lanes ∙ ap (option_and_then (on_stamp event.stamp)) free_line
@@ -126,7 +124,7 @@ module _ (base : Base) (reachable : IsReachable base) (event : Traced) where
       ∙ (λ i. cond (tie_at q new_place i) (Some event) (merged_at q base.lanes i))
       ∙ sym (merged_at q (lanes_with base.lanes event)
       ∙ ap (option_and_then (on_stamp q.stamp)) (event_with base.lanes event q.cpu q.line)
-      ∙ split_stamp q.stamp line event (event_at base.lanes q.cpu q.line)
+      ∙ split_stamp q.stamp line (Some event) (event_at base.lanes q.cpu q.line)
       ∙ ap (λ (o : Option Traced). cond line o (held_at base.lanes q)) (stamp_tie q.stamp event)
       ∙ one_placed (is_eq (nat_cmp q.stamp event.stamp)) line event (held_at base.lanes q) (free_place q)))
 
@@ -147,10 +145,6 @@ put_back events pos event there = same_map pos_cmp_total pos_same (map.insert (m
       | false ↦ λ apart. get-remove pos_cmp_total events pos q ∙ ap (λ (b : Bool). cond b None (map.get events q)) apart
     ] refl)
 
-no_stamp : (q : ℕ) (line : Bool) (old : Option Traced) → option_and_then (on_stamp q) (cond line None old) ≡ cond line None (option_and_then (on_stamp q) old)
-no_stamp q true old = refl
-no_stamp q false old = refl
-
 module _ (lanes : Lanes) (cpu line : ℕ) (event : Traced) (there : event_at lanes cpu line ≡ Some event) (events : Events) where
   abbrev its_place : Pos
   its_place = record { stamp = event.stamp; cpu = cpu; line = line }
@@ -161,12 +155,8 @@ module _ (lanes : Lanes) (cpu line : ℕ) (event : Traced) (there : event_at lan
   -- at its line nothing else is held
   its_line : (q : Pos) → on_line q ≡ true → held_at lanes q ≡ cond (is_eq (nat_cmp q.stamp event.stamp)) (Some event) None
   its_line q tie =
-      let parts = line_parts (eq_by_cmp nat_cmp q.cpu cpu) (eq_by_cmp nat_cmp q.line line) tie in
+      let parts = and_parts (eq_by_cmp nat_cmp q.cpu cpu) (eq_by_cmp nat_cmp q.line line) tie in
       ap (option_and_then (on_stamp q.stamp)) ((λ i. event_at lanes (tie_nat q.cpu cpu parts.0 i) (tie_nat q.line line parts.1 i)) ∙ there) ∙ stamp_tie q.stamp event
-    where
-      line_parts : (a b : Bool) → (a && b) ≡ true → (a ≡ true) × (b ≡ true)
-      line_parts true b h = (refl, h)
-      line_parts false b h = let both : ◌≡◌ {A = Bool} false true = h in absurd cc
 
   gone_by : (stamp line : Bool) (all rest own : Option Traced) → (line ≡ true → all ≡ cond stamp own None) → all ≡ cond (stamp && line) own rest → ((stamp && line) ≡ true → rest ≡ None) → cond line None all ≡ rest
   gone_by true true all rest own held is absent = sym (absent refl)
@@ -179,7 +169,7 @@ module _ (lanes : Lanes) (cpu line : ℕ) (event : Traced) (there : event_at lan
       let tied = tie_at q its_place in
       merged_at q (lanes_without lanes cpu line)
       ∙ ap (option_and_then (on_stamp q.stamp)) (event_without lanes cpu line q.cpu q.line)
-      ∙ no_stamp q.stamp (on_line q) (event_at lanes q.cpu q.line)
+      ∙ split_stamp q.stamp (on_line q) None (event_at lanes q.cpu q.line)
       ∙ gone_by (is_eq (nat_cmp q.stamp event.stamp)) (on_line q) (held_at lanes q) (map.get events q) (Some event) (its_line q)
       (sym (merged_at q lanes) ∙ ap (λ (m : Events). map.get m q) (sym is) ∙ get-insert pos_cmp_total events its_place event q ∙ ap (λ (b : Bool). cond b (Some event) (map.get events q)) tied)
       (λ tie. ap (map.get events) (same_from_tie pos_same q its_place (tied ∙ tie)) ∙ absent))

@@ -1,16 +1,16 @@
 -- One event that comes to what is kept of a base or goes from it, as an edit of the input.
-use Rattle.std.proofs.Common.{◌≡◌, ℕ, ◌+◌, ◌*◌, ◌≤◌, Bool, true, false, cond, refl, sym, ap, subst, ◌∙◌, Option, Some, None, Result, Ok, Err, OnOk, unwrap_or, inl, inr}
+use Rattle.std.proofs.Common.{◌≡◌, ℕ, ◌+◌, ◌*◌, ◌≤◌, Bool, false, cond, refl, sym, ap, subst, ◌∙◌, Option, Some, None, unwrap_or, inl, inr}
 use Rattle.std.specs.Prelude.{◌⊎◌}
 use Rattle.std.specs.Option.{IfSome}
 use Rattle.std.specs.Ordering.{eq_by_cmp}
 use Rattle.std.specs.FinMap as map
 use Rattle.std.specs.FinMap.{get-remove}
-use Rattle.ft_fields.specs.Places.{pos_cmp, pos_cmp_total, pos_same}
+use Rattle.ft_fields.specs.Places.{pos_cmp, pos_cmp_total}
 use Rattle.ft_fields.specs.Traced.{Traced}
 use Rattle.ft_fields.specs.declared.pos.Pos.{Pos}
 use Rattle.ft_hist.specs.Steps.{Steps}
 use Rattle.ft_hist.specs.Tests.{count_on}
-use Rattle.ft_kept.specs.Acted.{Gathered, Gathers, acting_of}
+use Rattle.ft_kept.proofs.Events.{has_at, set_event}
 use Rattle.ft_kept.specs.Acts.{Acts, acts_of}
 use Rattle.ft_kept.specs.Bounds.{SomeSaverMoves}
 use Rattle.ft_kept.specs.Input.{input_of, AreViews}
@@ -18,12 +18,11 @@ use Rattle.ft_kept.specs.Memory as memory
 use Rattle.ft_kept.specs.Repairs.{IsHeldAt}
 use Rattle.ft_kept.specs.Shelves.{Shelves, FormsStay}
 use Rattle.ft_kept.specs.Signs.{event_before, event_after, table_edit, NeedsNoMemory}
-use Rattle.ft_kept.specs.Views.{HasAt, act_at, with_event}
+use Rattle.ft_kept.specs.Views.{HasAt, with_event}
 use Rattle.ft_shelves.specs.declared.sign.Sign.{Sign}
 use Rattle.ft_shelves.specs.declared.sign.Sign.TheVariants.{Insert, Retract}
 use Rattle.ft_lanes.specs.Held.{Lanes, event_at}
-use Rattle.ft_maps.specs.Entries.{get-remove_same, same_from_tie}
-use Rattle.ft_pairs.specs.declared.at.At.{At}
+use Rattle.ft_maps.specs.Entries.{get-remove_same}
 use Rattle.ft_table.specs.Growth.{InGrows, RowsGrow, TotalsGrow}
 use Rattle.ft_base.specs.declared.refused.Place.{Place}
 use Rattle.ft_base.specs.Base.{Base, Triggers}
@@ -33,26 +32,13 @@ use Rattle.ft_answers.specs.Deferral.{IsPlainHit}
 use Rattle.ft_replay.specs.Merged.{Events, merged}
 use Rattle.ft_repair.specs.KeptShelves.{AreKept}
 use Rattle.ft_repair.specs.inner.KeptFor.{AreKeptFor}
-use Rattle.ft_repair.specs.OneEvent.{AreKeptBefore, AreKeptAfter, ChangeCosts, EventNeedsNoMemory, GathersAt, IsPlain, LineNeedsNoMemory, events_before, events_after, pos_at}
-use Rattle.ft_repair.proofs.HeldActs.{AllHeld, acts_there, less_held, merged_held}
+use Rattle.ft_repair.specs.OneEvent.{AreKeptBefore, AreKeptAfter, ChangeCosts, EventNeedsNoMemory, IsPlain, LineNeedsNoMemory, events_before, events_after, pos_at}
+use Rattle.ft_repair.proofs.HeldActs.{AllHeld, less_held, merged_held}
 use Rattle.ft_repair.proofs.KeptEntries.{OneSource}
 use Rattle.ft_repair.proofs.KeptFor.{changed_for, for_kept, input_is, kept_for, views_of}
 use Rattle.ft_repair.proofs.MergedLanes.{placed_there, put_back}
 use Rattle.ft_repair.proofs.SaverKeys.{come_stays, go_stays}
 use Rattle.ft_repair.proofs.ShelfForms.{plain_shelf}
-
--- the acts at events with another one at a place, or with none, are those at other events
-module _ (triggers : Triggers) (events others : Events) (pos : Pos) (event : Option Traced) (here : map.get others pos ≡ event)
-    (apart : (q : Pos) → eq_by_cmp pos_cmp q pos ≡ false → map.get others q ≡ map.get events q) where
-  event_at_place : (q : At) → with_event triggers (acts_of triggers events) pos event q ≡ acts_of triggers others q
-  unfolding acts_of
-  event_at_place q = elim (eq_by_cmp pos_cmp q.pos pos) as (λ (b : Bool). eq_by_cmp pos_cmp q.pos pos ≡ b → cond b (act_at triggers q.trigger event) (act_at triggers q.trigger (map.get events q.pos)) ≡ act_at triggers q.trigger (map.get others q.pos)) [
-    | true ↦ λ tie. ap (act_at triggers q.trigger) (sym here ∙ ap (map.get others) (sym (same_from_tie pos_same q.pos pos tie)))
-    | false ↦ λ other. ap (act_at triggers q.trigger) (sym (apart q.pos other))
-  ] refl
-
-  event_set : with_event triggers (acts_of triggers events) pos event ≡ acts_of triggers others
-  event_set i q = event_at_place q i
 
 -- a base with triggers and lanes that are its own
 abbrev told : Base → Triggers → Lanes → Base
@@ -66,11 +52,11 @@ pub record MayChange (base : Base) (triggers : Triggers) (lanes : Lanes) (sign :
   pub its : pos ≡ pos_at place event
   pub kept : AreKept triggers (events_before sign (merged lanes) pos) shelves
 
-pub may_change : (base : Base) (triggers : Triggers) (lanes : Lanes) → triggers ≡ base.triggers → lanes ≡ base.lanes → HasSavers base.triggers
-    → (sign : Sign) (place : Place) (event : Traced) → Some event ≡ event_at lanes place.cpu place.line → (stamp : ℕ) → stamp ≡ event.stamp
-    → (shelves : Shelves) (kept : Option Shelves) → Some shelves ≡ kept → IfSome kept (AreKeptBefore sign base place)
+pub may_change : (base : Base) {triggers : Triggers} {lanes : Lanes} → triggers ≡ base.triggers → lanes ≡ base.lanes → HasSavers base.triggers
+    → (sign : Sign) (place : Place) {event : Traced} → Some event ≡ event_at lanes place.cpu place.line → {stamp : ℕ} → stamp ≡ event.stamp
+    → {shelves : Shelves} {kept : Option Shelves} → Some shelves ≡ kept → IfSome kept (AreKeptBefore sign base place)
     → MayChange base triggers lanes sign place event (record { stamp = stamp; cpu = place.cpu; line = place.line }) shelves
-may_change base triggers lanes own all savers sign place event found stamp its shelves kept some before =
+may_change base {triggers} {lanes} own all savers sign place {event} found {stamp} its {shelves} {kept} some before =
     let same : told base triggers lanes ≡ base = λ i. record base { triggers = own i; lanes = all i } in
     let awaits : AreKeptBefore sign base place shelves = subst (λ (o : Option Shelves). IfSome o (AreKeptBefore sign base place)) (sym some) before in
     record {
@@ -102,8 +88,8 @@ module _ {base : Base} {triggers : Triggers} {lanes : Lanes} {sign : Sign} {plac
   less q other = get-remove pos_cmp_total all pos q ∙ ap (λ (b : Bool). cond b None (map.get all q)) other
 
   changed : (w : Sign) → with_event triggers (acts_of triggers (events_before w all pos)) pos (event_after w event) ≡ acts_of triggers (events_after w all pos)
-  changed Insert = event_set triggers (map.remove all pos) all pos (Some event) placed (λ q other. sym (less q other))
-  changed Retract = event_set triggers all (map.remove all pos) pos None (get-remove_same pos_cmp_total all pos) less
+  changed Insert = set_event triggers (map.remove all pos) all pos (Some event) placed (λ q other. sym (less q other))
+  changed Retract = set_event triggers all (map.remove all pos) pos None (get-remove_same pos_cmp_total all pos) less
 
   at_first : (w : Sign) → map.get (events_before w all pos) pos ≡ event_before w event
   at_first Insert = get-remove_same pos_cmp_total all pos
@@ -134,7 +120,7 @@ module _ {base : Base} {triggers : Triggers} {lanes : Lanes} {sign : Sign} {plac
   held_here = subst (λ (p : Pos). IsHeldAt lanes p event) (sym may.its) (may.there, refl)
 
   pub has_before : HasAt triggers (input_of lanes shelves) pos (event_before sign event)
-  has_before = subst (λ (input : Acts). HasAt triggers input pos (event_before sign event)) (sym tells) (acts_there triggers (events_before sign all pos) pos (event_before sign event) (at_first sign))
+  has_before = subst (λ (input : Acts). HasAt triggers input pos (event_before sign event)) (sym tells) (has_at triggers (events_before sign all pos) pos (event_before sign event) (at_first sign))
 
   -- ---- and what it gives
 
@@ -143,11 +129,6 @@ module _ {base : Base} {triggers : Triggers} {lanes : Lanes} {sign : Sign} {plac
       subst (λ (p : Pos). AreKept triggers (events_after sign all p) new) (may.its ∙ ap (pos_at place) (one_event other at))
       (for_kept triggers lanes (events_after sign all pos) new (changed_for triggers lanes last shelves new may.kept.each forms views
       (gives ∙ ap (λ (input : Acts). with_event triggers input pos (event_after sign event)) tells ∙ changed sign))))
-
-  -- what is gathered, where the repair went through
-  pub gathers_ok : {E : Type 0} (repaired : Result Unit E) (old new : Gathered) → OnOk repaired (Gathers (acting_of triggers event) old new) → OnOk repaired (GathersAt base place old new)
-  gathers_ok (Ok done) old new is = subst (λ (b : Base). GathersAt b place old new) may.same (λ other at. subst (λ (e : Traced). Gathers (acting_of triggers e) old new) (one_event other at) is)
-  gathers_ok (Err fault) old new is = tt
 
   -- where its hits are plain, its acts are
   pub plain_acts : IsPlain base place → memory.IsPlainHit triggers shelves event

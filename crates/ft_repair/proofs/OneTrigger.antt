@@ -1,16 +1,17 @@
 -- The events on one trigger's name, in a list: at all other places it has no act.
-use Rattle.std.proofs.Common.{◌≡◌, ℕ, Bool, true, false, cond, List, [], ◌∷◌, refl, sym, ap, subst, ◌∙◌, Option, Some, None, is_some}
+use Rattle.std.proofs.Common.{◌≡◌, ℕ, Bool, true, false, cond, List, [], ◌∷◌, refl, sym, ap, subst, ◌∙◌, Option, Some, None, is_some, unwrap_or}
 use Rattle.std.specs.Prelude.{◌&&◌, option_and_then, if◌then◌else◌, IsPermutation}
-use Rattle.std.specs.List.{AllByRecursion, IsDistinct}
-use Rattle.std.specs.Map.{keys_of, lookup}
-use Rattle.std.specs.Ordering.{eq_by_cmp}
+use Rattle.std.specs.List.{AllByRecursion, IsDistinct, list_any}
+use Rattle.std.specs.Map.{keys_of}
+use Rattle.std.specs.Ordering.{nat_cmp, eq_by_cmp}
 use Rattle.std.specs.Cmp.{eq_by_cmp_equiv}
 use Rattle.std.specs.FinMap as map
-use Rattle.std.specs.FinMap.{find, get-entries, get-from_entries, entries_sorted}
-use Rattle.std.proofs.lemmas.Bool.{eqb-true}
+use Rattle.std.specs.FinMap.{find, get-entries, entries_sorted}
+use Rattle.std.specs.FinMap.Entries as entries
+use Rattle.std.proofs.lemmas.Bool.{eqb-true, or_parts, true≢false}
 use Rattle.std.proofs.lemmas.List.Elements.{All-from_recursion, recursion_from_All}
 use Rattle.std.proofs.lemmas.List.Sorted.{All-permutation, IsPermutation-map, IsPermutation-refl}
-use Rattle.std.proofs.lemmas.Map.Entries.{option_filter, lookup-filter-values}
+use Rattle.std.proofs.lemmas.Map.Entries.{option_filter}
 use Rattle.std.proofs.lemmas.Map.Keys.{IsDistinct-from_sorted, IsDistinct-IsPermutation}
 use Rattle.ft_fields.specs.Places.{pos_cmp, pos_cmp_total, pos_same}
 use Rattle.ft_fields.specs.Traced.{Traced, name_of}
@@ -19,6 +20,7 @@ use Rattle.ft_fields.specs.declared.pos.Pos.{Pos}
 use Rattle.ft_hist.specs.Hist.{Hist}
 use Rattle.ft_hist.specs.Hit.{same_name}
 use Rattle.ft_keys.specs.declared.key.Part.{Part}
+use Rattle.ft_kept.proofs.Events.{has_at}
 use Rattle.ft_kept.specs.Acts.{Acts, AreHeld, acts_of}
 use Rattle.ft_kept.specs.Input.{input_of}
 use Rattle.ft_kept.specs.Repairs.{IsHeldAt}
@@ -31,14 +33,15 @@ use Rattle.ft_pairs.specs.declared.at.At.{At}
 use Rattle.ft_base.specs.Base.{Triggers}
 use Rattle.ft_base.proofs.Apart.{all_map, entries_found}
 use Rattle.ft_replay.specs.Merged.{Events, merged}
-use Rattle.ft_replay.specs.Named.{events_on}
-use Rattle.ft_replay.proofs.Placing.{find-moved}
+use Rattle.ft_replay.specs.Named.{is_on, is_named, events_on}
+use Rattle.ft_replay.proofs.Placing.{find-moved, get-on}
 use Rattle.ft_repair.specs.Outside.{acts_outside}
 use Rattle.ft_repair.specs.declared.trigger_joins.Joining.{Joining}
 use Rattle.ft_repair.specs.inner.Joining.{MayJoin, is_one, with_trigger}
 use Rattle.ft_repair.specs.inner.KeptFor.{AreKeptFor}
+use Rattle.ft_repair.proofs.Alike.{never_any}
 use Rattle.ft_repair.proofs.Changing.{IsChanging, changing_all, none_left}
-use Rattle.ft_repair.proofs.HeldActs.{AllHeld, act_in, acts_held, acts_there, held_is, merged_held, no_hit, with_event}
+use Rattle.ft_repair.proofs.HeldActs.{AllHeld, act_in, acts_held, held_is, merged_held, no_hit, with_event}
 
 -- a trigger's act at the event of a place
 abbrev pub act_by : Option Hist → Option Traced → Option (List Part × Traced)
@@ -50,19 +53,6 @@ act_by hist own = option_and_then (λ (e : Traced). act_in hist e) own
 abbrev fits : (Name → Bool) → Traced → Bool
 fits names event = names (name_of event.body)
 
-found : (q : Pos) (es : List (Pos × Traced)) → find pos_cmp q es ≡ lookup (eq_by_cmp pos_cmp q) es
-found q [] = refl
-found q (e ∷ es) = ap (cond (eq_by_cmp pos_cmp q e.0) (Some e.1)) (found q es)
-
--- the event of such a name at a place is the one there, if it has one
-get-events_on : (names : Name → Bool) (events : Events) (q : Pos) → map.get (events_on names events) q ≡ option_filter (fits names) (map.get events q)
-unfolding events_on
-get-events_on names events q =
-    get-from_entries pos_cmp_total _ q
-    ∙ found q _
-    ∙ lookup-filter-values (eq_by_cmp_equiv pos_cmp_total) (fits names) q (map.entries events) (IsDistinct-from_sorted pos_cmp (map.keys events) (strictly_sorted pos_cmp (map.entries events) (entries_sorted events)))
-    ∙ ap (option_filter (fits names)) (sym (found q (map.entries events)) ∙ sym (get-entries events q))
-
 passed : (p : Traced → Bool) (o : Option Traced) (event : Traced) → option_filter p o ≡ Some event → o ≡ Some event
 passed p None event is = is
 passed p (Some own) event is =
@@ -73,7 +63,7 @@ passed p (Some own) event is =
 
 -- such an event is there among all
 merged_there : (lanes : Lanes) (names : Name → Bool) (pos : Pos) (event : Traced) → map.get (events_on names (merged lanes)) pos ≡ Some event → map.get (merged lanes) pos ≡ Some event
-merged_there lanes names pos event is = passed (fits names) (map.get (merged lanes) pos) event (sym (get-events_on names (merged lanes) pos) ∙ is)
+merged_there lanes names pos event is = passed (fits names) (map.get (merged lanes) pos) event (sym (get-on names lanes (merged lanes) pos) ∙ is)
 
 -- events of some names are held, as all are
 pub on_held : (lanes : Lanes) (names : Name → Bool) → AllHeld lanes (events_on names (merged lanes))
@@ -98,6 +88,32 @@ on_names hist names among (Some event) =
       | false ↦ λ _. refl
     ] refl
 
+-- the name of an attached trigger is one on which some trigger is
+unasked : (test : ℕ × Hist → Bool) (es : List (ℕ × Hist)) (id : ℕ) (hist : Hist) → list_any test es ≡ false → entries.find nat_cmp id es ≡ Some hist → (k : ℕ) × (test (k, hist) ≡ false)
+unasked test [] id hist none found = let both : ◌≡◌ {A = Option Hist} None (Some hist) = found in absurd cc
+unasked test (e ∷ es) id hist none found =
+    let parts = or_parts (test e) (list_any test es) none in
+    elim (eq_by_cmp nat_cmp id e.0) as (λ (b : Bool). cond b (Some e.1) (entries.find nat_cmp id es) ≡ Some hist → (k : ℕ) × (test (k, hist) ≡ false)) [
+      | true ↦ λ here. (e.0, ap (λ (h : Hist). test (e.0, h)) (sym (ap (λ (o : Option Hist). unwrap_or o e.1) here)) ∙ parts.0)
+      | false ↦ λ later. unasked test es id hist parts.1 later
+    ] found
+
+pub among_all : (triggers : Triggers) (id : ℕ) (hist : Hist) → map.get triggers id ≡ Some hist → IsAmong hist (is_on triggers)
+unfolding is_on
+among_all triggers id hist attached name same =
+    elim (is_on triggers name) as (λ (b : Bool). is_on triggers name ≡ b → b ≡ true) [
+      | true ↦ λ _. refl
+      | false ↦ λ none. absurd (true≢false (sym same ∙ (unasked (λ own. same_name own.1.event name) (map.entries triggers) id hist none (sym (get-entries triggers id) ∙ attached)).1))
+    ] refl
+
+-- so no acts are at events that are not named
+pub named_at : (triggers : Triggers) (id : ℕ) (own : Option Traced) → act_by (map.get triggers id) (option_filter (is_named triggers) own) ≡ act_by (map.get triggers id) own
+named_at triggers id own =
+    elim (map.get triggers id) as (λ (h : Option Hist). map.get triggers id ≡ h → act_by h (option_filter (is_named triggers) own) ≡ act_by h own) [
+      | None ↦ λ _. never_any (option_filter (is_named triggers) own) ∙ sym (never_any own)
+      | Some hist ↦ λ attached. on_names hist (is_on triggers) (among_all triggers id hist attached) own
+    ] refl
+
 -- the held events on a trigger's name
 abbrev pub own_events : Lanes → Hist → Events
 own_events lanes hist = events_on (same_name hist.event) (merged lanes)
@@ -114,6 +130,10 @@ outside_held triggers lanes idle at key event is =
       | false ↦ λ there. all_acts_held triggers lanes at key event there
     ] is
 
+-- events stand at places apart
+pub entries_apart : (m : Events) → IsDistinct (eq_by_cmp pos_cmp) (map.keys m)
+entries_apart m = IsDistinct-from_sorted pos_cmp (map.keys m) (strictly_sorted pos_cmp (map.entries m) (entries_sorted m))
+
 -- ---- a list of events of names with a trigger's own
 
 module _ (triggers : Triggers) (lanes : Lanes) (id : ℕ) (hist : Hist) (attached : map.get triggers id ≡ Some hist) (names : Name → Bool) (among : IsAmong hist names) where
@@ -128,7 +148,7 @@ module _ (triggers : Triggers) (lanes : Lanes) (id : ℕ) (hist : Hist) (attache
   unfolding acts_of
   own_acts at same =
       let its : map.get triggers at.trigger ≡ Some hist = ap (map.get triggers) same ∙ attached in
-      (λ j. act_by (its j) (get-events_on names (merged lanes) at.pos j))
+      (λ j. act_by (its j) (get-on names lanes (merged lanes) at.pos j))
       ∙ on_names hist names among (map.get (merged lanes) at.pos)
       ∙ ap (λ (h : Option Hist). act_by h (map.get (merged lanes) at.pos)) (sym its)
 
@@ -137,9 +157,6 @@ module _ (triggers : Triggers) (lanes : Lanes) (id : ℕ) (hist : Hist) (attache
   no_act at none = ap (act_by (map.get triggers at.trigger)) none
 
   module _ (es : List (Pos × Traced)) (moved : IsPermutation (map.entries its_events) es) where
-    entries_apart : (m : Events) → IsDistinct (eq_by_cmp pos_cmp) (map.keys m)
-    entries_apart m = IsDistinct-from_sorted pos_cmp (map.keys m) (strictly_sorted pos_cmp (map.entries m) (entries_sorted m))
-
     apart : IsDistinct (eq_by_cmp pos_cmp) (keys_of es)
     apart = IsDistinct-IsPermutation (eq_by_cmp pos_cmp) (eq_by_cmp_equiv pos_cmp_total).symm (map.keys its_events) (keys_of es) (IsPermutation-map (λ e. e.0) (map.entries its_events) es moved) (entries_apart its_events)
 
@@ -156,12 +173,12 @@ module _ (triggers : Triggers) (lanes : Lanes) (id : ℕ) (hist : Hist) (attache
     -- they come, where it has no act yet
     pub joining_all : (input : Acts) (shelves : Shelves) → AreKeptFor triggers lanes input shelves → ((pos : Pos) → input (record { pos = pos; trigger = id }) ≡ None)
         → IsChanging triggers lanes (is_one id) Insert input (with_trigger triggers lanes id input) es shelves
-    joining_all input shelves kept idle = changing_all triggers lanes (is_one id) Insert input (with_trigger triggers lanes id input) es shelves kept
+    joining_all input shelves kept idle = changing_all es shelves kept
         (λ at out. stay at (is_one id at.trigger) refl out)
         (all_map _ _ (λ (e : Pos × Traced) there. record {
           held = held_is lanes e.0 e.1 (merged_held lanes e.0 e.1 there);
           before = λ k own. nothing (record { pos = e.0; trigger = k }) own;
-          after = λ k own. ap (λ (b : Bool). cond b (all (record { pos = e.0; trigger = k })) (input (record { pos = e.0; trigger = k }))) own ∙ acts_there triggers (merged lanes) e.0 (Some e.1) there k;
+          after = λ k own. ap (λ (b : Bool). cond b (all (record { pos = e.0; trigger = k })) (input (record { pos = e.0; trigger = k }))) own ∙ has_at triggers (merged lanes) e.0 (Some e.1) there k;
         }) es each_there)
         apart
       where
@@ -174,11 +191,11 @@ module _ (triggers : Triggers) (lanes : Lanes) (id : ℕ) (hist : Hist) (attache
 
     -- they go, where it has all its acts
     pub leaving_all : (shelves : Shelves) → AreKeptFor triggers lanes all shelves → IsChanging triggers lanes (is_one id) Retract all (acts_outside (is_one id) triggers lanes) es shelves
-    leaving_all shelves kept = changing_all triggers lanes (is_one id) Retract all (acts_outside (is_one id) triggers lanes) es shelves kept
+    leaving_all shelves kept = changing_all es shelves kept
         (λ at out. stay at (is_one id at.trigger) refl out)
         (all_map _ _ (λ (e : Pos × Traced) there. record {
           held = held_is lanes e.0 e.1 (merged_held lanes e.0 e.1 there);
-          before = λ k _. acts_there triggers (merged lanes) e.0 (Some e.1) there k;
+          before = λ k _. has_at triggers (merged lanes) e.0 (Some e.1) there k;
           after = λ k own. ap (λ (b : Bool). cond b None (all (record { pos = e.0; trigger = k }))) own;
         }) es each_there)
         apart

@@ -4,14 +4,13 @@ use Rattle.std.specs.Prelude.{◌==◌, ◌&&◌, if◌then◌else◌}
 use Rattle.std.specs.List.{AllByRecursion, sum_by}
 use Rattle.std.specs.List.Sorted.{IsStrictlySortedBy}
 use Rattle.std.specs.Map.{keys_of}
-use Rattle.std.specs.Ordering.{nat_cmp, is_eq, eq_by_cmp}
-use Rattle.std.specs.Cmp.{eq_by_cmp_equiv, nat_cmp_total}
-use Rattle.std.specs.declared.cmp.Ordering.TheVariants.{Less}
+use Rattle.std.specs.Ordering.{nat_cmp, eq_by_cmp}
+use Rattle.std.specs.Cmp.{eq_by_cmp_equiv, nat_cmp_total, unsigned_tied}
 use Rattle.std.specs.FinMap as map
 use Rattle.std.specs.FinMap.{find, get-entries, get-insert, len-entries, entries_sorted, nat_cmp-IsAntisymmetric}
-use Rattle.std.proofs.lemmas.Bool.{eqb-true, eqb-false, true≢false}
+use Rattle.std.proofs.lemmas.Bool.{eqb-true, true≢false}
 use Rattle.std.proofs.lemmas.List.Sums.{sum_by-cons}
-use Rattle.std.proofs.lemmas.Map.Keys.{sorted_head, sorted_tail}
+use Rattle.std.proofs.lemmas.Map.Keys.{sorted_tail}
 use Rattle.ft_fields.specs.Traced.{Traced, name_of}
 use Rattle.ft_fields.specs.declared.pos.Pos.{Pos}
 use Rattle.ft_hist.specs.Hist.{Hist}
@@ -28,6 +27,7 @@ use Rattle.ft_base.specs.Roles.{role_of}
 use Rattle.ft_base.proofs.Apart.{entries_found}
 use Rattle.ft_answers.specs.Costs.{named_in}
 use Rattle.ft_replay.specs.Merged.{merged}
+use Rattle.ft_replay.proofs.Places.{none_later}
 use Rattle.ft_repair.specs.Outside.{acts_outside}
 use Rattle.ft_repair.specs.inner.Joining.{AreRenewed, HasNewShelf, is_one, with_trigger}
 use Rattle.ft_repair.specs.inner.KeptFor.{AreKeptFor}
@@ -53,49 +53,53 @@ module _ (triggers : Triggers) (family : ℕ → Bool) (old : Shelves) where
     attached = entries_found nat_cmp nat_cmp_total triggers;
   }
 
-  module _ (e : ℕ × Hist) (rest : List (ℕ × Hist)) (now : Shelves) (is : AreRenewedBut (e ∷ rest) now) where
-    -- one that is not of the family
-    pub renewed_skip : family e.0 ≡ false → AreRenewedBut rest now
-    renewed_skip out = record {
-      stay = is.stay;
-      none = is.none;
-      fresh = λ id hist inside there gone. is.fresh id hist inside there
-          (elim (eq_by_cmp nat_cmp id e.0) as (λ (b : Bool). eq_by_cmp nat_cmp id e.0 ≡ b → cond b (Some e.1) (find nat_cmp id rest) ≡ None) [
-            | true ↦ λ tie. absurd (true≢false (sym inside ∙ ap family (same_from_tie nat_cmp-IsAntisymmetric id e.0 tie) ∙ out))
-            | false ↦ λ _. gone
-          ] refl);
+module _ {triggers : Triggers} {family : ℕ → Bool} {old : Shelves} {e : ℕ × Hist} {rest : List (ℕ × Hist)} {now : Shelves} (is : AreRenewedBut triggers family old (e ∷ rest) now) where
+  -- one that is not of the family
+  pub renewed_skip : family e.0 ≡ false → AreRenewedBut triggers family old rest now
+  renewed_skip out = record {
+    stay = is.stay;
+    none = is.none;
+    fresh = λ id hist inside there gone. is.fresh id hist inside there
+        (elim (eq_by_cmp nat_cmp id e.0) as (λ (b : Bool). eq_by_cmp nat_cmp id e.0 ≡ b → cond b (Some e.1) (find nat_cmp id rest) ≡ None) [
+          | true ↦ λ tie. absurd (true≢false (sym inside ∙ ap family (same_from_tie nat_cmp-IsAntisymmetric id e.0 tie) ∙ out))
+          | false ↦ λ _. gone
+        ] refl);
+    attached = is.attached.1;
+  }
+
+  -- one that is
+  module _ (more : Shelves) (adds : AddsShelf e.0 (role_of triggers e.1.variable) e.1.size now more) where
+    at_id : (id : ℕ) → map.get more id ≡ cond (eq_by_cmp nat_cmp id e.0) (Some adds.0) (map.get now id)
+    at_id id = ap (λ (s : Shelves). map.get s id) adds.1.0 ∙ get-insert nat_cmp_total now e.0 adds.0 id
+
+    elsewhere : (id : ℕ) → (id ≡ e.0 → ⊥) → map.get more id ≡ map.get now id
+    elsewhere id apart = at_id id ∙ (elim (eq_by_cmp nat_cmp id e.0) as (λ (b : Bool). eq_by_cmp nat_cmp id e.0 ≡ b → cond b (Some adds.0) (map.get now id) ≡ map.get now id) [
+      | true ↦ λ tie. absurd (apart (same_from_tie nat_cmp-IsAntisymmetric id e.0 tie))
+      | false ↦ λ _. refl
+    ] refl)
+
+    pub renewed_more : family e.0 ≡ true → AreRenewedBut triggers family old rest more
+    renewed_more member = record {
+      stay = λ id out. elsewhere id (λ same. true≢false (sym member ∙ ap family (sym same) ∙ out)) ∙ is.stay id out;
+      none = λ id gone. elsewhere id (λ same. let both : ◌≡◌ {A = Option Hist} None (Some e.1) = sym gone ∙ ap (map.get triggers) same ∙ is.attached.0 in absurd cc) ∙ is.none id gone;
+      fresh = λ id hist inside there gone. elim (eq_by_cmp nat_cmp id e.0) as (λ (b : Bool). eq_by_cmp nat_cmp id e.0 ≡ b → HasNewShelf triggers hist (map.get more id)) [
+        | true ↦ λ tie.
+            let same : id ≡ e.0 = same_from_tie nat_cmp-IsAntisymmetric id e.0 tie in
+            subst (λ (h : Hist). HasNewShelf triggers h (map.get more id)) (ap (λ (o : Option Hist). unwrap_or o hist) (sym is.attached.0 ∙ ap (map.get triggers) (sym same) ∙ there))
+            (adds.0, (at_id id ∙ ap (λ (b : Bool). cond b (Some adds.0) (map.get now id)) tie, adds.1.1))
+        | false ↦ λ other.
+            let kept : map.get more id ≡ map.get now id = at_id id ∙ ap (λ (b : Bool). cond b (Some adds.0) (map.get now id)) other in
+            subst (HasNewShelf triggers hist) (sym kept) (is.fresh id hist inside there (ap (λ (b : Bool). cond b (Some e.1) (find nat_cmp id rest)) other ∙ gone))
+      ] refl;
       attached = is.attached.1;
     }
 
-    -- one that is
-    module _ (more : Shelves) (adds : AddsShelf e.0 (role_of triggers e.1.variable) e.1.size now more) where
-      at_id : (id : ℕ) → map.get more id ≡ cond (eq_by_cmp nat_cmp id e.0) (Some adds.0) (map.get now id)
-      at_id id = ap (λ (s : Shelves). map.get s id) adds.1.0 ∙ get-insert nat_cmp_total now e.0 adds.0 id
+-- the first of those that are left
+pub next_renewed : {triggers : Triggers} {family : ℕ → Bool} {old : Shelves} {es rest : List (ℕ × Hist)} {e : ℕ × Hist} {now : Shelves} → es ≡ e ∷ rest → AreRenewedBut triggers family old es now → AreRenewedBut triggers family old (e ∷ rest) now
+next_renewed {triggers} {family} {old} {now = now} more = subst (λ (es : List (ℕ × Hist)). AreRenewedBut triggers family old es now) more
 
-      elsewhere : (id : ℕ) → (id ≡ e.0 → ⊥) → map.get more id ≡ map.get now id
-      elsewhere id apart = at_id id ∙ (elim (eq_by_cmp nat_cmp id e.0) as (λ (b : Bool). eq_by_cmp nat_cmp id e.0 ≡ b → cond b (Some adds.0) (map.get now id) ≡ map.get now id) [
-        | true ↦ λ tie. absurd (apart (same_from_tie nat_cmp-IsAntisymmetric id e.0 tie))
-        | false ↦ λ _. refl
-      ] refl)
-
-      pub renewed_more : family e.0 ≡ true → AreRenewedBut rest more
-      renewed_more member = record {
-        stay = λ id out. elsewhere id (λ same. true≢false (sym member ∙ ap family (sym same) ∙ out)) ∙ is.stay id out;
-        none = λ id gone. elsewhere id (λ same. let both : ◌≡◌ {A = Option Hist} None (Some e.1) = sym gone ∙ ap (map.get triggers) same ∙ is.attached.0 in absurd cc) ∙ is.none id gone;
-        fresh = λ id hist inside there gone. elim (eq_by_cmp nat_cmp id e.0) as (λ (b : Bool). eq_by_cmp nat_cmp id e.0 ≡ b → HasNewShelf triggers hist (map.get more id)) [
-          | true ↦ λ tie.
-              let same : id ≡ e.0 = same_from_tie nat_cmp-IsAntisymmetric id e.0 tie in
-              subst (λ (h : Hist). HasNewShelf triggers h (map.get more id)) (ap (λ (o : Option Hist). unwrap_or o hist) (sym is.attached.0 ∙ ap (map.get triggers) (sym same) ∙ there))
-              (adds.0, (at_id id ∙ ap (λ (b : Bool). cond b (Some adds.0) (map.get now id)) tie, adds.1.1))
-          | false ↦ λ other.
-              let kept : map.get more id ≡ map.get now id = at_id id ∙ ap (λ (b : Bool). cond b (Some adds.0) (map.get now id)) other in
-              subst (HasNewShelf triggers hist) (sym kept) (is.fresh id hist inside there (ap (λ (b : Bool). cond b (Some e.1) (find nat_cmp id rest)) other ∙ gone))
-        ] refl;
-        attached = is.attached.1;
-      }
-
-  pub renewed_all : (now : Shelves) → AreRenewedBut [] now → AreRenewed triggers family old now
-  renewed_all now is = record { stay = is.stay; none = is.none; fresh = λ id hist inside there. is.fresh id hist inside there refl }
+pub renewed_all : {triggers : Triggers} {family : ℕ → Bool} {old : Shelves} {es : List (ℕ × Hist)} {now : Shelves} → es ≡ [] → AreRenewedBut triggers family old es now → AreRenewed triggers family old now
+renewed_all none is = record { stay = is.stay; none = is.none; fresh = λ id hist inside there. is.fresh id hist inside there (ap (find nat_cmp id) none) }
 
 -- ---- acts, trigger by trigger
 
@@ -155,70 +159,64 @@ module _ (triggers : Triggers) (lanes : Lanes) (family : ℕ → Bool) where
     sorted = strictly_sorted nat_cmp (map.entries triggers) (entries_sorted triggers);
   }
 
-  pub put_all : (shelves : Shelves) → IsPut [] shelves → AreKeptFor triggers lanes (acts_of triggers (merged lanes)) shelves
-  put_all shelves is = is.idle
+-- the first of those that are left
+pub next_put : {triggers : Triggers} {lanes : Lanes} {family : ℕ → Bool} {es rest : List (ℕ × Hist)} {e : ℕ × Hist} {shelves : Shelves} → es ≡ e ∷ rest → IsPut triggers lanes family es shelves → IsPut triggers lanes family (e ∷ rest) shelves
+next_put {triggers} {lanes} {family} {shelves = shelves} more = subst (λ (es : List (ℕ × Hist)). IsPut triggers lanes family es shelves) more
 
-  none_behind : (k : ℕ) (es : List (ℕ × Hist)) → AllByRecursion (λ q. nat_cmp k q ≡ Less) (keys_of es) → find nat_cmp k es ≡ None
-  none_behind k [] h = refl
-  none_behind k (e ∷ es) h = ap (λ (b : Bool). cond b (Some e.1) (find nat_cmp k es)) (ap is_eq h.0) ∙ none_behind k es h.1
+pub put_all : {triggers : Triggers} {lanes : Lanes} {family : ℕ → Bool} {es : List (ℕ × Hist)} {shelves : Shelves} → es ≡ [] → IsPut triggers lanes family es shelves → AreKeptFor triggers lanes (acts_of triggers (merged lanes)) shelves
+put_all {triggers} {lanes} {family} {shelves = shelves} none is = (subst (λ (es : List (ℕ × Hist)). IsPut triggers lanes family es shelves) none is).idle
 
-  module _ (e : ℕ × Hist) (rest : List (ℕ × Hist)) (shelves : Shelves) (is : IsPut (e ∷ rest) shelves) where
-    left_skip : family e.0 ≡ false → (id : ℕ) → left_in family (e ∷ rest) id ≡ left_in family rest id
-    left_skip out id = elim (eq_by_cmp nat_cmp id e.0) as (λ (b : Bool). eq_by_cmp nat_cmp id e.0 ≡ b → (is_some (cond b (Some e.1) (find nat_cmp id rest)) && family id) ≡ (is_some (find nat_cmp id rest) && family id)) [
-      | true ↦ λ tie. none_of id (ap family (same_from_tie nat_cmp-IsAntisymmetric id e.0 tie) ∙ out) true ∙ sym (none_of id (ap family (same_from_tie nat_cmp-IsAntisymmetric id e.0 tie) ∙ out) (is_some (find nat_cmp id rest)))
-      | false ↦ λ _. refl
-    ] refl
-      where
-        none_of : (id : ℕ) → family id ≡ false → (b : Bool) → (b && family id) ≡ false
-        none_of id out true = out
-        none_of id out false = refl
+module _ {triggers : Triggers} {lanes : Lanes} {family : ℕ → Bool} {e : ℕ × Hist} {rest : List (ℕ × Hist)} {shelves : Shelves} (is : IsPut triggers lanes family (e ∷ rest) shelves) where
+  left_skip : family e.0 ≡ false → (id : ℕ) → left_in family (e ∷ rest) id ≡ left_in family rest id
+  left_skip out id = elim (eq_by_cmp nat_cmp id e.0) as (λ (b : Bool). eq_by_cmp nat_cmp id e.0 ≡ b → (is_some (cond b (Some e.1) (find nat_cmp id rest)) && family id) ≡ (is_some (find nat_cmp id rest) && family id)) [
+    | true ↦ λ tie. none_of id (ap family (same_from_tie nat_cmp-IsAntisymmetric id e.0 tie) ∙ out) true ∙ sym (none_of id (ap family (same_from_tie nat_cmp-IsAntisymmetric id e.0 tie) ∙ out) (is_some (find nat_cmp id rest)))
+    | false ↦ λ _. refl
+  ] refl
+    where
+      none_of : (id : ℕ) → family id ≡ false → (b : Bool) → (b && family id) ≡ false
+      none_of id out true = out
+      none_of id out false = refl
 
-    pub put_skip : family e.0 ≡ false → IsPut rest shelves
-    put_skip out = record {
-      idle = idle_alike triggers lanes (left_in family (e ∷ rest)) (left_in family rest) (λ id _ _. left_skip out id) shelves is.idle;
-      attached = is.attached.1;
-      sorted = sorted_tail nat_cmp e.0 (keys_of rest) is.sorted;
-    }
+  pub put_skip : family e.0 ≡ false → IsPut triggers lanes family rest shelves
+  put_skip out = record {
+    idle = idle_alike triggers lanes (left_in family (e ∷ rest)) (left_in family rest) (λ id _ _. left_skip out id) shelves is.idle;
+    attached = is.attached.1;
+    sorted = sorted_tail nat_cmp e.0 (keys_of rest) is.sorted;
+  }
 
-    -- the first of them is idle
-    first_idle : family e.0 ≡ true → left_in family (e ∷ rest) e.0 ≡ true
-    first_idle member = ap (λ (b : Bool). is_some (cond b (Some e.1) (find nat_cmp e.0 rest)) && family e.0) ((eq_by_cmp_equiv nat_cmp_total).refl e.0) ∙ member
+  -- the first of them is idle
+  first_idle : family e.0 ≡ true → left_in family (e ∷ rest) e.0 ≡ true
+  first_idle member = ap (λ (b : Bool). is_some (cond b (Some e.1) (find nat_cmp e.0 rest)) && family e.0) ((eq_by_cmp_equiv nat_cmp_total).refl e.0) ∙ member
 
-    abbrev input : Acts
-    input = acts_outside (left_in family (e ∷ rest)) triggers lanes
+  abbrev input : Acts
+  input = acts_outside (left_in family (e ∷ rest)) triggers lanes
 
-    tells : input_of lanes shelves ≡ input
-    tells = input_is triggers lanes input shelves is.idle
+  tells : input_of lanes shelves ≡ input
+  tells = input_is triggers lanes input shelves is.idle
 
-    -- and so it can join
-    pub told_idle : AreKeptFor triggers lanes (input_of lanes shelves) shelves
-    told_idle = told_for triggers lanes input shelves is.idle
+  -- and so it can join
+  pub told_idle : AreKeptFor triggers lanes (input_of lanes shelves) shelves
+  told_idle = told_for triggers lanes input shelves is.idle
 
-    pub idle_first : family e.0 ≡ true → (pos : Pos) → input_of lanes shelves (record { pos = pos; trigger = e.0 }) ≡ None
-    idle_first member pos =
-        let at : At = record { pos = pos; trigger = e.0 } in
-        ap (λ (input : Acts). input at) tells ∙ ap (λ (b : Bool). if b then None else acts_of triggers (merged lanes) at) (first_idle member)
+  pub idle_first : family e.0 ≡ true → (pos : Pos) → input_of lanes shelves (record { pos = pos; trigger = e.0 }) ≡ None
+  idle_first member pos =
+      let at : At = record { pos = pos; trigger = e.0 } in
+      ap (λ (input : Acts). input at) tells ∙ ap (λ (b : Bool). if b then None else acts_of triggers (merged lanes) at) (first_idle member)
 
-    but_first : (id : ℕ) → but_one e.0 (left_in family (e ∷ rest)) id ≡ left_in family rest id
-    but_first id = elim (id == e.0) as (λ (b : Bool). (id == e.0) ≡ b → cond b false (left_in family (e ∷ rest) id) ≡ left_in family rest id) [
-      | true ↦ λ tie. ap (λ (o : Option Hist). is_some o && family id) (sym (ap (λ (k : ℕ). find nat_cmp k rest) (eqb-true id e.0 tie) ∙ none_behind e.0 rest (sorted_head nat_cmp e.0 (keys_of rest) is.sorted)))
-      | false ↦ λ other. ap (λ (b : Bool). is_some (cond b (Some e.1) (find nat_cmp id rest)) && family id) (untied id (eqb-false id e.0 other))
-    ] refl
-      where
-        untied : (id : ℕ) → (id ≡ e.0 → ⊥) → eq_by_cmp nat_cmp id e.0 ≡ false
-        untied id apart = elim (eq_by_cmp nat_cmp id e.0) as (λ (b : Bool). eq_by_cmp nat_cmp id e.0 ≡ b → b ≡ false) [
-          | true ↦ λ tie. absurd (apart (same_from_tie nat_cmp-IsAntisymmetric id e.0 tie))
-          | false ↦ λ _. refl
-        ] refl
+  but_first : (id : ℕ) → but_one e.0 (left_in family (e ∷ rest)) id ≡ left_in family rest id
+  but_first id = elim (id == e.0) as (λ (b : Bool). (id == e.0) ≡ b → cond b false (left_in family (e ∷ rest) id) ≡ left_in family rest id) [
+    | true ↦ λ tie. ap (λ (o : Option Hist). is_some o && family id) (sym (ap (λ (k : ℕ). find nat_cmp k rest) (eqb-true id e.0 tie) ∙ none_later e.0 e rest is.sorted ((eq_by_cmp_equiv nat_cmp_total).refl e.0)))
+    | false ↦ λ other. ap (λ (b : Bool). is_some (cond b (Some e.1) (find nat_cmp id rest)) && family id) (unsigned_tied id e.0 ∙ other)
+  ] refl
 
-    -- and as it has joined, the rest are left
-    pub put_more : (new : Shelves) → AreKeptFor triggers lanes (with_trigger triggers lanes e.0 (input_of lanes shelves)) new → IsPut rest new
-    put_more new joined = record {
-      idle = idle_alike triggers lanes (but_one e.0 (left_in family (e ∷ rest))) (left_in family rest) (λ id _ _. but_first id) new
-          (subst (λ (input : Acts). AreKeptFor triggers lanes input new) (ap (with_trigger triggers lanes e.0) tells ∙ idle_joined triggers lanes e.0 (left_in family (e ∷ rest))) joined);
-      attached = is.attached.1;
-      sorted = sorted_tail nat_cmp e.0 (keys_of rest) is.sorted;
-    }
+  -- and as it has joined, the rest are left
+  pub put_more : (new : Shelves) → AreKeptFor triggers lanes (with_trigger triggers lanes e.0 (input_of lanes shelves)) new → IsPut triggers lanes family rest new
+  put_more new joined = record {
+    idle = idle_alike triggers lanes (but_one e.0 (left_in family (e ∷ rest))) (left_in family rest) (λ id _ _. but_first id) new
+        (subst (λ (input : Acts). AreKeptFor triggers lanes input new) (ap (with_trigger triggers lanes e.0) tells ∙ idle_joined triggers lanes e.0 (left_in family (e ∷ rest))) joined);
+    attached = is.attached.1;
+    sorted = sorted_tail nat_cmp e.0 (keys_of rest) is.sorted;
+  }
 
 -- ---- tests
 
@@ -233,14 +231,12 @@ asked_once hist event = elim (same_name hist.event (name_of event.body)) as (λ 
   | false ↦ omega arith
 ]
 
-module _ (family : ℕ → Bool) (lanes : Lanes) (e : ℕ × Hist) (rest : List (ℕ × Hist)) where
-  abbrev its_tests : ℕ × Hist → ℕ
-  its_tests x = if family x.0 then named_in lanes x.1 else 0
+module _ (family : ℕ → Bool) (lanes : Lanes) {es rest : List (ℕ × Hist)} {e : ℕ × Hist} (more : es ≡ e ∷ rest) where
+  tests_with : (is : Bool) → family e.0 ≡ is → tests_in family lanes es ≡ (if is then named_in lanes e.1 else 0) + tests_in family lanes rest
+  tests_with is own = ap (tests_in family lanes) more ∙ sum_by-cons (λ (x : ℕ × Hist). if family x.0 then named_in lanes x.1 else 0) e rest ∙ ap (λ (b : Bool). (if b then named_in lanes e.1 else 0) + tests_in family lanes rest) own
 
-  pub tests_member : family e.0 ≡ true → tests_in family lanes (e ∷ rest) ≡ named_in lanes e.1 + tests_in family lanes rest
-  tests_member member = sum_by-cons its_tests e rest ∙ ap (λ (b : Bool). (if b then named_in lanes e.1 else 0) + tests_in family lanes rest) member
+  pub tests_member : family e.0 ≡ true → tests_in family lanes es ≡ named_in lanes e.1 + tests_in family lanes rest
+  tests_member = tests_with true
 
-  pub tests_other : family e.0 ≡ false → tests_in family lanes (e ∷ rest) ≡ tests_in family lanes rest
-  tests_other out =
-      let none : 0 + tests_in family lanes rest ≡ tests_in family lanes rest = omega arith in
-      sum_by-cons its_tests e rest ∙ ap (λ (b : Bool). (if b then named_in lanes e.1 else 0) + tests_in family lanes rest) out ∙ none
+  pub tests_other : family e.0 ≡ false → tests_in family lanes es ≡ 0 + tests_in family lanes rest
+  tests_other = tests_with false

@@ -25,7 +25,8 @@ use Rattle.ft_replay.specs.Replay.{replay}
 use Rattle.ft_base.specs.Roles.{role_at, role_of}
 use Rattle.ft_repair.proofs.ShelfForms.{shelves_role}
 use Rattle.ft_repair.proofs.MergedLanes.{put_back}
-use Rattle.ft_repair.proofs.KeptEntries.{OneSource, role-is}
+use Rattle.ft_repair.proofs.Families.{role_there}
+use Rattle.ft_repair.proofs.KeptEntries.{OneSource}
 use Rattle.ft_repair.proofs.KeptShelves.{table-of}
 use Rattle.ft_replay.proofs.Replaying.{admitted-in}
 use Rattle.ft_repair.proofs.SaverHits.{table-with, table-without}
@@ -56,38 +57,28 @@ module _ (rows : RowsGrow) (totals : TotalsGrow) (members : InGrows) (one : OneS
       ∙ stay
       ∙ admitted-in rows totals members triggers old id hist attached key ∙ sym (ap (λ (t : Tabled). is_in t key) before)
 
-  module _ (events : Events) (pos : Pos) (event : Traced) (absent : map.get events pos ≡ None) where
-    abbrev more : Events
-    more = map.insert events pos event
+  -- where savers keep their keys as events change, and an edit makes of a saver's table what it becomes, none moves
+  savers_stay : (old new : Events) (edit : Hist → Tabled → Tabled)
+      → ((id : ℕ) (hist : Hist) → map.get triggers id ≡ Some hist → role_of triggers hist.variable ≡ Saves → table_for hist (hits_of triggers new id) ≡ edit hist (table_for hist (hits_of triggers old id)))
+      → (shelves : Shelves) → AreKept triggers old shelves → SaversStay triggers old new → SomeSaverMoves edit triggers shelves → ⊥
+  savers_stay old new edit edits shelves kept stay some =
+      let saves : role_at triggers some.id ≡ Saves = sym (shelves_role triggers shelves kept.each some.id) ∙ some.moves.0 in
+      let as_saver : role_of triggers some.hist.variable ≡ Saves = sym (role_there triggers some.id some.hist some.attached) ∙ saves in
+      let table : Tabled = some.moves.1.0 in
+      let was : table ≡ table_for some.hist (hits_of triggers old some.id) = kept_table old shelves kept some.id some.hist table some.attached some.moves.1.1.0 in
+      let now : edit some.hist table ≡ table_for some.hist (hits_of triggers new some.id) = ap (edit some.hist) was ∙ sym (edits some.id some.hist some.attached as_saver) in
+      let key : List Part = some.moves.1.1.1.0 in
+      never_differ (is_in table key) (is_in (edit some.hist table) key)
+      (same_keys old new some.id some.hist table (edit some.hist table) some.attached was now key (stay some.id saves key)) some.moves.1.1.1.1
 
-    -- where savers keep their keys as an event comes, none moves
-    pub come_stays : (shelves : Shelves) → AreKept triggers events shelves → SaversStay triggers events more → SomeSaverMoves (with_hit_of pos event) triggers shelves → ⊥
-    come_stays shelves kept stay some =
-        let saves : role_at triggers some.id ≡ Saves = sym (shelves_role triggers shelves kept.each some.id) ∙ some.moves.0 in
-        let as_saver : role_of triggers some.hist.variable ≡ Saves = sym (role-is triggers events some.id some.hist some.attached) ∙ saves in
-        let table : Tabled = some.moves.1.0 in
-        let was : table ≡ table_for some.hist (hits_of triggers events some.id) = kept_table events shelves kept some.id some.hist table some.attached some.moves.1.1.0 in
-        let now : with_hit_of pos event some.hist table ≡ table_for some.hist (hits_of triggers more some.id) =
-        ap (with_hit_of pos event some.hist) was ∙ sym (table-with triggers some.id some.hist some.attached as_saver events pos event absent) in
-        let key : List Part = some.moves.1.1.1.0 in
-        never_differ (is_in table key) (is_in (with_hit_of pos event some.hist table) key)
-        (same_keys events more some.id some.hist table (with_hit_of pos event some.hist table) some.attached was now key (stay some.id saves key)) some.moves.1.1.1.1
+  -- so as an event comes
+  pub come_stays : (events : Events) (pos : Pos) (event : Traced) → map.get events pos ≡ None → (shelves : Shelves) → AreKept triggers events shelves → SaversStay triggers events (map.insert events pos event)
+      → SomeSaverMoves (with_hit_of pos event) triggers shelves → ⊥
+  come_stays events pos event absent = savers_stay events (map.insert events pos event) (with_hit_of pos event) (λ id hist attached saves. table-with triggers id hist attached saves events pos event absent)
 
-    -- nor as it goes
-    gone_stays : (shelves : Shelves) → AreKept triggers more shelves → SaversStay triggers more events → SomeSaverMoves (without_hit_of pos event) triggers shelves → ⊥
-    gone_stays shelves kept stay some =
-        let saves : role_at triggers some.id ≡ Saves = sym (shelves_role triggers shelves kept.each some.id) ∙ some.moves.0 in
-        let as_saver : role_of triggers some.hist.variable ≡ Saves = sym (role-is triggers events some.id some.hist some.attached) ∙ saves in
-        let table : Tabled = some.moves.1.0 in
-        let was : table ≡ table_for some.hist (hits_of triggers more some.id) = kept_table more shelves kept some.id some.hist table some.attached some.moves.1.1.0 in
-        let now : without_hit_of pos event some.hist table ≡ table_for some.hist (hits_of triggers events some.id) =
-        ap (without_hit_of pos event some.hist) was ∙ sym (table-without triggers some.id some.hist some.attached as_saver events pos event absent) in
-        let key : List Part = some.moves.1.1.1.0 in
-        never_differ (is_in table key) (is_in (without_hit_of pos event some.hist table) key)
-        (same_keys more events some.id some.hist table (without_hit_of pos event some.hist table) some.attached was now key (stay some.id saves key)) some.moves.1.1.1.1
-
+  -- and as it goes
   pub go_stays : (events : Events) (pos : Pos) (event : Traced) → map.get events pos ≡ Some event → (shelves : Shelves) → AreKept triggers events shelves → SaversStay triggers events (map.remove events pos)
       → SomeSaverMoves (without_hit_of pos event) triggers shelves → ⊥
-  go_stays events pos event there shelves kept =
-      subst (λ (all : Events). AreKept triggers all shelves → SaversStay triggers all (map.remove events pos) → SomeSaverMoves (without_hit_of pos event) triggers shelves → ⊥) (put_back events pos event there)
-      (gone_stays (map.remove events pos) pos event (get-remove_same pos_cmp_total events pos) shelves) kept
+  go_stays events pos event there = savers_stay events (map.remove events pos) (without_hit_of pos event) (λ id hist attached saves.
+      subst (λ (all : Events). table_for hist (hits_of triggers (map.remove events pos) id) ≡ without_hit_of pos event hist (table_for hist (hits_of triggers all id))) (put_back events pos event there)
+      (table-without triggers id hist attached saves (map.remove events pos) pos event (get-remove_same pos_cmp_total events pos)))

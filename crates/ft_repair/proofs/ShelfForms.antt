@@ -1,7 +1,8 @@
 -- The shelves of a board's triggers: their roles, and that they stay as events come and go.
-use Rattle.std.proofs.Common.{◌≡◌, ℕ, true, refl, sym, ap, subst, ◌∙◌, Option, Some, None, unwrap_or, is_some}
+use Rattle.std.proofs.Common.{◌≡◌, ℕ, sym, ap, subst, ◌∙◌, Option, Some, None, is_some}
 use Rattle.std.specs.Option.{option_map_or}
 use Rattle.std.specs.FinMap as map
+use Rattle.std.proofs.lemmas.Option.{same_Some}
 use Rattle.ft_hist.specs.Hist.{Hist}
 use Rattle.ft_kept.specs.Acts.{Acts}
 use Rattle.ft_kept.specs.Entries.{IsKept}
@@ -10,11 +11,11 @@ use Rattle.ft_pairs.specs.Roles.{Admits}
 use Rattle.ft_kept.specs.Shelves.{Shelved, Shelves, Kept, FormStays, FormsStay, role_on}
 use Rattle.ft_table.specs.Values.{values_by}
 use Rattle.ft_pairs.specs.declared.role.Role.{Role}
-use Rattle.ft_pairs.specs.declared.role.Role.TheVariants.{Plain, Reads}
-use Rattle.ft_base.proofs.Savers.{reads_of}
+use Rattle.ft_pairs.specs.declared.role.Role.TheVariants.{Plain}
 use Rattle.ft_base.specs.Base.{Triggers}
-use Rattle.ft_repair.specs.KeptShelves.{HasItsShelf}
-use Rattle.ft_base.specs.Reachable.{HasSaver, HasSavers}
+use Rattle.ft_repair.specs.KeptShelves.{HasItsShelf, IsShelfOf}
+use Rattle.ft_repair.proofs.Families.{attached_as, read_saves, role_there, saves_some}
+use Rattle.ft_base.specs.Reachable.{HasSavers}
 use Rattle.ft_base.specs.Roles.{role_of, role_at}
 
 -- each attached trigger has its shelf
@@ -45,6 +46,12 @@ its_stays triggers (Some hist) old new has stays =
       ),
     )
 
+-- the shelf that an attached trigger has
+pub own_shelf : (triggers : Triggers) (hist : Hist) (shelf : Shelved) (o : Option Hist) (there : Option Shelved) → o ≡ Some hist → there ≡ Some shelf → HasItsShelf triggers o there → IsShelfOf triggers hist shelf
+own_shelf triggers hist shelf o there attached is has =
+    let its : HasItsShelf triggers (Some hist) there = subst (λ (x : Option Hist). HasItsShelf triggers x there) attached has in
+    subst (IsShelfOf triggers hist) (same_Some _ _ (sym its.1.0 ∙ is)) its.1.1
+
 pub shelves_stay : (triggers : Triggers) (old new : Shelves) → HaveShelves triggers old → FormsStay old new → HaveShelves triggers new
 shelves_stay triggers old new has stays id = its_stays triggers (map.get triggers id) (map.get old id) (map.get new id) (has id) (stays id)
 
@@ -55,8 +62,7 @@ module _ (triggers : Triggers) (shelves : Shelves) (has : HaveShelves triggers s
 
   -- the shelf of a trigger without a variable has none
   pub plain_shelf : (id : ℕ) (hist : Hist) → map.get triggers id ≡ Some hist → hist.variable ≡ None → role_on shelves id ≡ Plain
-  unfolding role_at
-  plain_shelf id hist there none = shelves_role id ∙ ap (λ (o : Option Hist). option_map_or (λ (h : Hist). role_of triggers h.variable) o Plain) there ∙ ap (role_of triggers) none
+  plain_shelf id hist there none = shelves_role id ∙ role_there triggers id hist there ∙ ap (role_of triggers) none
 
   pub shelves_roles : role_on shelves ≡ role_at triggers
   shelves_roles i id = shelves_role id i
@@ -68,26 +74,9 @@ module _ (triggers : Triggers) (shelves : Shelves) (has : HaveShelves triggers s
   pub by_triggers : (admits : Admits) (acts : Acts) (kept : Kept) → IsKept (role_on shelves) (values_by triggers) admits acts kept → IsKept (role_at triggers) (values_by triggers) admits acts kept
   by_triggers admits acts kept is = subst (λ (role : ℕ → Role). IsKept role (values_by triggers) admits acts kept) shelves_roles is
 
--- ---- a reader's saver has a shelf
-
--- so the saver is attached
-saver_there : (triggers : Triggers) → HasSavers triggers → (id : ℕ) (hist : Hist) (saver : ℕ) → map.get triggers id ≡ Some hist → role_of triggers hist.variable ≡ Reads saver → is_some (map.get triggers saver) ≡ true
-saver_there triggers savers id hist saver there is =
-    let reads = reads_of triggers hist.variable saver is in
-    let has : HasSaver triggers hist reads.1.0 = savers id hist reads.0 reads.1.0 there reads.1.1.0 in
-    let same : has.id ≡ saver = ap (λ (o : Option ℕ). unwrap_or o 0) (sym has.named) ∙ reads.1.1.1 in
-    ap (λ (k : ℕ). is_some (map.get triggers k)) (sym same) ∙ ap is_some has.attached
-
-reader_there : (triggers : Triggers) → HasSavers triggers → (id saver : ℕ) → role_at triggers id ≡ Reads saver → is_some (map.get triggers saver) ≡ true
-unfolding role_at
-reader_there triggers savers id saver is =
-    elim (map.get triggers id) as (λ o. map.get triggers id ≡ o → option_map_or (λ (h : Hist). role_of triggers h.variable) o Plain ≡ Reads saver → is_some (map.get triggers saver) ≡ true) [
-      | None ↦ λ _ h. let both : ◌≡◌ {A = Role} Plain (Reads saver) = h in absurd cc
-      | Some hist ↦ λ there h. saver_there triggers savers id hist saver there h
-    ] refl is
-
+-- a reader's saver has a shelf
 pub all_shelved : (triggers : Triggers) (shelves : Shelves) → HasSavers triggers → HaveShelves triggers shelves → repairs.AreShelved triggers shelves
 all_shelved triggers shelves savers has = record {
   each = λ id. same_there triggers (map.get triggers id) (map.get shelves id) (has id);
-  savers = λ id saver is. same_there triggers (map.get triggers saver) (map.get shelves saver) (has saver) ∙ reader_there triggers savers id saver (sym (shelves_role triggers shelves has id) ∙ is);
+  savers = λ id saver is. same_there triggers (map.get triggers saver) (map.get shelves saver) (has saver) ∙ ap is_some (attached_as triggers saver (saves_some (role_at triggers saver) (read_saves triggers savers id saver (sym (shelves_role triggers shelves has id) ∙ is)))).1;
 }

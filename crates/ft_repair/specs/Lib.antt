@@ -5,6 +5,7 @@ pub mod ButOneLane
 pub mod ButOneTrigger
 pub mod SomeLanes
 pub mod Repaired
+pub mod ReadingsTold
 pub mod Staying
 pub mod inner
 pub use Rattle.ft_kept.specs.Shelves

@@ -4,7 +4,6 @@ use Rattle.std.specs.FinMap as map
 use Rattle.ft_fields.specs.Traced.{Traced}
 use Rattle.ft_fields.specs.declared.pos.Pos.{Pos}
 use Rattle.ft_hist.specs.Steps.{Steps}
-use Rattle.ft_kept.specs.Acted.{Gathered, Gathers, acting_of}
 use Rattle.ft_kept.specs.Shelves.{Shelves}
 use Rattle.ft_shelves.specs.declared.sign.Sign.{Sign}
 use Rattle.ft_shelves.specs.declared.sign.Sign.TheVariants.{Insert, Retract}
@@ -60,7 +59,3 @@ LineNeedsNoMemory sign base place = (event : Traced) × ((event_at base.lanes pl
 -- a line holds an event that is a hit of triggers without a variable alone
 abbrev pub IsPlain : Base → Place → Type 0
 IsPlain base place = (event : Traced) × ((event_at base.lanes place.cpu place.line ≡ Some event) × IsPlainHit base.triggers event)
-
--- the acts at the event of a line are gathered after others
-abbrev pub GathersAt : Base → Place → Gathered → Gathered → Type 0
-GathersAt base place old new = (event : Traced) → event_at base.lanes place.cpu place.line ≡ Some event → Gathers (acting_of base.triggers event) old new

@@ -4,6 +4,7 @@ ghost use Rattle.std.specs.Prelude.{◌≡◌, ◌+◌, ◌≤◌, length, nat_l
 ghost use Rattle.std.specs.FinMap as map;
 ghost use Rattle.ft_hist.specs.Steps.{StepsGrow};
 ghost use Rattle.ft_kept.specs.Shelves.{FormsStay};
+ghost use Rattle.ft_repair.specs.ReadingsTold.{ReadingsTold};
 ghost use Rattle.ft_lanes.specs.Held.{held_in};
 ghost use Rattle.ft_repair.specs.KeptShelves.{AreKeptOf};
 ghost use Rattle.ft_repair.specs.Repaired.{IfBoth};
@@ -13,7 +14,7 @@ use crate::repair::put_back;
 use crate::scene::scene_of;
 use ft_base::Content;
 use ft_hist::Work;
-use ft_kept::{Acted, Delta, Sign, Tables};
+use ft_kept::{Changes, Delta, Sign, Tables};
 use ft_lanes::Lanes;
 use ft_replay::merged_events_but;
 use ft_store::Store;
@@ -47,26 +48,29 @@ fn cpus_of(alloc: Global, lanes: &Lanes) -> Result<Vec<u16>, AllocError>
     Ok(cpus)
 }
 
-/// The events of all lanes but those of some CPUs, which the tables have, come to the tables. Where
-/// memory runs out, the tables are given up.
+/// The events of all lanes but those of some CPUs, which the tables have, come to the tables, and
+/// what that changes is told. Where memory runs out, the tables are given up.
 pub fn let_lanes_come(
     kept: &mut Option<Tables>,
     alloc: Global,
     content: &Content,
     before: &[u16],
+    changes: &mut Changes,
     work: &mut Work,
 )
     requires { IfSome kept.old (AreKeptOfLanes before.now content.now) }
     ensures kept { IfSome kept.new (AreKeptOf content.now) }
     ensures deferred { kept.old ≡ None → kept.new ≡ None }
     ensures forms { IfBoth FormsStay kept.old kept.new }
+    ensures reread { IfBoth (ReadingsTold changes.old.readings changes.new.readings)
+        kept.old kept.new }
     ensures evals { work.new.evals ≤ work.old.evals + count_coming before.now content.now }
     ensures grow { StepsGrow work.old work.new }
 {
     let Some(mut tables) = kept.take() else {
         return;
     };
-    let repaired = put_lanes(&mut tables, alloc, content, before, work);
+    let repaired = put_lanes(&mut tables, alloc, content, before, changes, work);
     put_back(kept, tables, repaired);
 }
 
@@ -77,17 +81,19 @@ fn put_lanes(
     alloc: Global,
     content: &Content,
     before: &[u16],
+    changes: &mut Changes,
     work: &mut Work,
 ) -> Result<(), AllocError>
     requires { AreKeptOfLanes before.now content.now tables.old }
     ensures kept { OnOk result (AreKeptOf content.now tables.new) }
     ensures forms { OnOk result (FormsStay tables.old tables.new) }
+    ensures reread { OnOk result (ReadingsTold changes.old.readings changes.new.readings
+        tables.old tables.new) }
     ensures evals { work.new.evals ≤ work.old.evals + count_coming before.now content.now }
     ensures grow { StepsGrow work.old work.new }
 {
     let scene = scene_of(content);
     let events = merged_events_but(alloc, scene.lanes, scene.triggers, before)?;
-    let mut acted = Acted::unasked();
     for (pos, stored) in &events {
         let event = stored.event();
         let delta = Delta {
@@ -95,7 +101,7 @@ fn put_lanes(
             pos: *pos,
             event: &event,
         };
-        tables.apply(&scene, &delta, &mut acted, work)?;
+        tables.apply(&scene, &delta, changes, work)?;
     }
     Ok(())
 }

@@ -62,7 +62,9 @@ pub fn others_stay()
         → map.get triggers id ≡ Some hist → map.get others id ≡ Some hist
         → is_reader hist.variable ≡ false → (shelf its : Shelved)
         → map.get old id ≡ Some shelf → map.get new id ≡ Some its → its.table ≡ shelf.table }
-{}
+{
+    ft_pairs::laws::one_source();
+}
 
 /// A law: a trigger that reads keeps its table and what its readings found, whatever other triggers
 /// come, go or get another filter, where its saver stays and the triggers that read it are those

@@ -12,7 +12,7 @@
 //! let id = content.attach(trigger)?;
 //! join(&mut kept, alloc, &content, id, work);
 //! let place = content.insert(event)?;
-//! let_change(&mut kept, &content, Sign::Insert, place, &mut Acted::unasked(), work);
+//! let_change(&mut kept, &content, Sign::Insert, place, &mut Changes::unasked(), work);
 //! // The shelves are those of all triggers and events, unless memory ran out on the way.
 //! if kept.is_none() {
 //!     restore(&mut kept, alloc, &content, work);
@@ -26,18 +26,20 @@
 //! (`AreKeptOf`, `specs/KeptShelves.antt`, and its like).
 //!
 //! - `let_change`: the event of a line comes to shelves that are kept of all others, or goes from
-//!   those that are kept of all, by a sign; the triggers that act at it are gathered; what it costs
-//!   is `ChangeCosts` (`specs/OneEvent.antt`). The shelves are never given up as an event comes
-//!   that no trigger hits, or as one goes that only triggers without a variable hit; where only
-//!   such triggers hit it, notes stay as they are. Lets through: giving the shelves up at any other
-//!   event.
+//!   those that are kept of all, by a sign; what that changes is told as `Tables::apply` of
+//!   `ft_kept` says it; what it costs is `ChangeCosts` (`specs/OneEvent.antt`). The shelves are
+//!   never given up as an event comes that no trigger hits, or as one goes that only triggers
+//!   without a variable hit; where only such triggers hit it, no reading is told. Lets through:
+//!   giving the shelves up at any other event.
 //! - `let_lanes_come`, `cpus_before`: the events of all lanes except those of some CPUs come to the
-//!   shelves, with a test at most for each and each trigger on its name; which CPUs are held before
-//!   a load, exact, where fewer events come than are held. Lets through: giving the shelves up, and
-//!   running out of memory, at any time.
-//! - `let_lane_go`: the events of a lane go from the shelves, with as many tests at most. Where
-//!   only triggers without a variable hit these, the shelves are never given up. Lets through:
-//!   giving the shelves up at any other lane.
+//!   shelves, with a test at most for each and each trigger on its name, and the readings that
+//!   change are told (`specs/ReadingsTold.antt`); which CPUs are held before a load, exact, where
+//!   fewer events come than are held. Lets through: giving the shelves up, and running out of
+//!   memory, at any time.
+//! - `let_lane_go`: the events of a lane go from the shelves, with as many tests at most, and the
+//!   readings that change are told. Where only triggers without a variable hit these, the shelves
+//!   are never given up, and no reading is told. Lets through: giving the shelves up at any other
+//!   lane.
 //! - `join`: an attached trigger joins the shelves with those that read what it saves, of which
 //!   nothing need be kept before, with a test at most for each event on their names. Lets through:
 //!   giving the shelves up at any time.

@@ -2,9 +2,11 @@
 
 ghost use Rattle.std.specs.Prelude.{◌≡◌, None, IfSome};
 ghost use Rattle.ft_hist.specs.Steps.{StepsGrow};
-ghost use Rattle.ft_kept.specs.Shelves.{FormsStay, NotesStay};
+ghost use Rattle.std.specs.FinMap as map;
+ghost use Rattle.ft_kept.specs.Changes.{HasToldFew};
+ghost use Rattle.ft_kept.specs.Shelves.{FormsStay};
 ghost use Rattle.ft_repair.specs.OneEvent.{AreKeptBefore, AreKeptAfter, ChangeCosts};
-ghost use Rattle.ft_repair.specs.OneEvent.{LineNeedsNoMemory, IsPlain, GathersAt};
+ghost use Rattle.ft_repair.specs.OneEvent.{LineNeedsNoMemory, IsPlain};
 ghost use Rattle.ft_repair.specs.Repaired.{IfBoth};
 ghost use Rattle.ft_repair.specs.inner.Ended.{if_ok};
 
@@ -12,27 +14,28 @@ use crate::scene::scene_of;
 use ft_base::{Content, Place};
 use ft_fields::Pos;
 use ft_hist::Work;
-use ft_kept::{Acted, Delta, Sign, Tables};
+use ft_kept::{Changes, Delta, Sign, Tables};
 use std::alloc::AllocError;
 
-/// The event of a place, which is held, comes to the tables or goes from them, and the triggers that
-/// act at it are gathered. Where memory runs out, the tables are given up: an event that comes takes
-/// none where no trigger hits it, and one that goes takes none, except for what is gathered, where
-/// triggers without a variable alone hit it.
+/// The event of a place, which is held, comes to the tables or goes from them, and what that changes
+/// is told. Where memory runs out, the tables are given up: an event that comes takes none where no
+/// trigger hits it, and one that goes takes none, except for what is told, where triggers without a
+/// variable alone hit it.
 pub fn let_change(
     kept: &mut Option<Tables>,
     content: &Content,
     sign: Sign,
     place: Place,
-    acted: &mut Acted,
+    changes: &mut Changes,
     work: &mut Work,
 )
     requires { IfSome kept.old (AreKeptBefore sign content.now place) }
     ensures kept { IfSome kept.new (AreKeptAfter sign content.now place) }
     ensures deferred { kept.old ≡ None → kept.new ≡ None }
     ensures forms { IfBoth FormsStay kept.old kept.new }
-    ensures acted { IfSome kept.new (λ _. GathersAt content.now place acted.old acted.new) }
-    ensures quiet { IsPlain content.now place → IfBoth NotesStay kept.old kept.new }
+    ensures told { IfBoth (HasToldFew (map.entries content.now.triggers) changes.old changes.new)
+        kept.old kept.new }
+    ensures quiet { IsPlain content.now place → changes.new.readings ≡ changes.old.readings }
     ensures now { LineNeedsNoMemory sign content.now place → kept.new ≡ None → kept.old ≡ None }
     ensures costs { ChangeCosts sign content.now place work.old work.new }
     ensures grow { StepsGrow work.old work.new }
@@ -55,7 +58,7 @@ pub fn let_change(
         pos: Pos { stamp, cpu, line },
         event: &event,
     };
-    let repaired = tables.apply(&scene, &delta, acted, work);
+    let repaired = tables.apply(&scene, &delta, changes, work);
     put_back(kept, tables, repaired);
 }
 

@@ -1,8 +1,4 @@
-mod Acts
-mod Changing
-mod Entries
-mod Few
 pub mod Ids
 pub mod Once
-pub mod Reported
-mod Rows
+pub mod Rows
+mod Told

@@ -1,135 +1,120 @@
--- Which hits and rows stay as acts change at one place, and how few are named.
-use Rattle.std.proofs.Common.{◌≡◌, ℕ, ◌≤◌, true, false, List, [], ◌++◌, length, refl, sym, ap, subst, ◌∙◌, arith, Some, None, Option, option_and_then, nat_eq}
-use Rattle.std.specs.List.{IsDistinct}
+-- Rows of attached triggers, by the keys of each: none twice, of which triggers they are, and how many of each.
+use Rattle.std.proofs.Common.{◌≡◌, ◌≤◌, ℕ, Bool, true, false, cond, T, List, [], ◌∷◌, ◌++◌, length, refl, sym, ap, subst, ◌∙◌, arith, Some, None, Option, nat_eq}
+use Rattle.std.specs.Prelude.{◌&&◌, ◌||◌}
+use Rattle.std.specs.List.{filter, flat_map, AllByRecursion, IsDistinct}
 use Rattle.std.specs.Option.{option_map_or}
-use Rattle.std.specs.Cmp.{eq_by_cmp_equiv}
+use Rattle.std.specs.Ordering.{nat_cmp}
 use Rattle.std.specs.FinMap as map
-use Rattle.std.proofs.lemmas.Bool.{false_from_ne_true}
-use Rattle.std.proofs.lemmas.List.{length-append}
+use Rattle.std.specs.FinMap.{FinMap, is_sorted, entries_sorted}
+use Rattle.std.proofs.lemmas.Bool.{and_parts, and_right, and_from, true≢false}
+use Rattle.std.proofs.lemmas.List.{append-nil, length-map}
+use Rattle.std.proofs.lemmas.List.Elements.{filter-append}
+use Rattle.std.proofs.lemmas.Map.Views.{any-filter_same}
+use Rattle.std.proofs.Math.Bool.{and-or_distrib_left}
+use Rattle.ft_hist.specs.Hist.{Hist}
+use Rattle.ft_hits.proofs.Flat.{false_and, same_itself}
 use Rattle.ft_keys.specs.declared.key.Part.{Part}
-use Rattle.ft_keys.specs.Orders.{key_cmp_total}
-use Rattle.ft_pairs.specs.Source.{Ops, IsSource}
-use Rattle.ft_pairs.specs.declared.at.At.{At}
-use Rattle.ft_pairs.specs.declared.role.Role.{Role}
-use Rattle.ft_pairs.specs.declared.role.Role.TheVariants.{Plain, Saves, Reads}
+use Rattle.ft_maps.specs.Entries.{and_right as second}
 use Rattle.ft_table.specs.Hits.{same_key}
-use Rattle.ft_table.specs.Rows.{row_at}
-use Rattle.ft_rivals.specs.Rivals.{is_of, rivals, AreTablesButFor, RivalsStay, FewRivals, RivalsAreOthers, RivalsDiffer, RivalsAlone, RowsStayBut}
-use Rattle.ft_kept.specs.Entries.{IsKept}
-use Rattle.ft_kept.specs.Shelves.{Shelved, Shelves, KeepsForm, KeepsNotes, FormStays, FormsStay, role_on, admits_on, kept_on}
-use Rattle.ft_kept.proofs.Forms.{roles_stay}
-use Rattle.ft_kept.specs.declared.acted.Acting.{Acting}
-use Rattle.ft_report.specs.Touched.{keys_by, each_once, own_keys, readers_keys, rivals_on, read_keys, touched_as, touched}
-use Rattle.ft_report.specs.Report.{row_on}
-use Rattle.ft_report.specs.Laws.{OtherHitsStay, OtherRowsStay, ChangesBack, FewNamed, ReadTouched, NamedOnce}
-use Rattle.ft_report.proofs.Changing.{touched_but}
-use Rattle.ft_report.proofs.Once.{not_both, neither, each_distinct, few_each_once, distinct_both}
+use Rattle.ft_changes.specs.Reports.{same_row, is_reported, reported_of}
+use Rattle.ft_changes.specs.Rivals.{is_of}
+use Rattle.ft_changes.specs.declared.changed.Changed.{Changed}
+use Rattle.ft_report.specs.Report.{rows_at, rows_by}
+use Rattle.ft_report.proofs.Ids.{nat_itself, nat_is, of_id, entry, none_behind, one_of_id}
+use Rattle.ft_report.proofs.Once.{distinct_both}
 
--- each trigger keeps its role
-pub same_roles : (old new : Shelves) → FormsStay old new → role_on old ≡ role_on new
-same_roles old new forms = λ i id. sym (roles_stay old new forms id) i
+-- ---- the rows of one trigger
 
--- ---- hits and rows
+reported_at : (id i : ℕ) (key : List Part) (keys : List (List Part)) → is_reported (rows_at i keys) id key ≡ (nat_eq id i && is_of keys key)
+reported_at id i key [] = sym (false_and (nat_eq id i))
+reported_at id i key (k ∷ keys) = ap (λ b. (nat_eq id i && same_key key k) || b) (reported_at id i key keys) ∙ sym (and-or_distrib_left (nat_eq id i) (same_key key k) (is_of keys key))
 
-pub other_hits_stay : ((ops : Ops) (at : At) (a b : Option At) → IsSource ops at a → IsSource ops at b → a ≡ b) → RivalsStay → RivalsAlone → OtherHitsStay
-other_hits_stay one stay alone values pos acting old new change id a b was is =
-    subst (λ (r : ℕ → Role). AreTablesButFor (touched_as (r id) r new acting id) a.table b.table) (same_roles old new change.forms)
-    (touched_but one stay alone values pos acting old new change id a b was is (role_on old id) refl)
+rows_apart : (i : ℕ) (k : List Part) (keys : List (List Part)) → AllByRecursion (λ y. same_key k y ≡ false) keys → AllByRecursion (λ row. same_row (record { id = i; key = k }) row ≡ false) (rows_at i keys)
+rows_apart i k [] apart = tt
+rows_apart i k (y ∷ keys) apart = (and_right (nat_eq i i) (same_key k y) apart.0, rows_apart i k keys apart.1)
 
-pub other_rows_stay : RowsStayBut → OtherHitsStay → RivalsStay → OtherRowsStay
-unfolding rivals_on
-other_rows_stay rows hits stay values pos acting old new change id key none = by (map.get old id) refl (change.forms id) where
-  by : (o : Option Shelved) → map.get old id ≡ o → FormStays o (map.get new id) → row_on new id key ≡ row_on old id key
-  by None was form = ap (option_and_then (λ shelf. row_at shelf.table key)) (form ∙ sym was)
-  by (Some a) was form =
-      let b : Shelved = form.0 in
-      let but : AreTablesButFor (touched new acting id) a.table b.table = hits values pos acting old new change id a b was form.1.0 in
-      let apart = neither (touched new acting id) (rivals_on new id (touched new acting id)) key none in
-      let there : is_of (rivals a.table (touched new acting id)) key ≡ false =
-      ap (λ keys. is_of keys key) (sym (stay a.table b.table (touched new acting id) but)
-      ∙ sym (ap (λ (o : Option Shelved). option_map_or (λ shelf. rivals shelf.table (touched new acting id)) o []) form.1.0)) ∙ apart.1 in
-      ap (option_and_then (λ shelf. row_at shelf.table key)) form.1.0
-      ∙ rows a.table b.table (touched new acting id) key but apart.0 there
-      ∙ sym (ap (option_and_then (λ shelf. row_at shelf.table key)) was)
-
--- ---- back
-
-notes_back : (a b : Shelved) → KeepsNotes a b → KeepsNotes b a
-notes_back a b notes = record { taken = sym notes.taken; had = λ some pos. sym (notes.had (sym notes.taken ∙ some) pos) }
-
-form_back : (a b : Option Shelved) → FormStays a b → FormStays b a
-form_back None b form = subst (λ (o : Option Shelved). FormStays o None) (sym form) refl
-form_back (Some shelf) b form =
-    let back : KeepsForm form.0 shelf = record {
-      role = sym form.1.1.role;
-      size = sym form.1.1.size;
-      made = λ m made. sym (form.1.1.made m made);
-      notes = λ saver reads. notes_back shelf form.0 (form.1.1.notes saver (sym form.1.1.role ∙ reads));
-    } in
-    subst (λ (o : Option Shelved). FormStays o (Some shelf)) (sym form.1.0) (shelf, (refl, back))
-
-pub changes_back : ChangesBack
-changes_back values pos acting old new change =
-    let roles : role_on old ≡ role_on new = same_roles old new change.forms in
-    record {
-      before = change.after;
-      after = change.before;
-      forms = λ id. form_back (map.get old id) (map.get new id) (change.forms id);
-      differ = record { elsewhere = λ at away. sym (change.differ.elsewhere at away); was = change.differ.is; is = change.differ.was };
-      was = subst (λ (r : ℕ → Role). IsKept r values (admits_on new) change.after (kept_on new)) roles change.is;
-      is = subst (λ (r : ℕ → Role). IsKept r values (admits_on old) change.before (kept_on old)) roles change.was;
-    }
-
--- ---- how few
-
-few_there : FewRivals → (keys : List (List Part)) (o : Option Shelved) → length (option_map_or (λ shelf. rivals shelf.table keys) o []) ≤ length keys
-few_there few keys None = omega arith
-few_there few keys (Some shelf) = few shelf.table keys
-
-few_on : FewRivals → (shelves : Shelves) (id : ℕ) (keys : List (List Part)) → length (rivals_on shelves id keys) ≤ length keys
-unfolding rivals_on
-few_on few shelves id keys = few_there few keys (map.get shelves id)
-
-pub few_named : FewRivals → FewNamed
-few_named few shelves acting id =
-    let some = few_on few shelves id (touched shelves acting id) in
-    let sum = length-append (touched shelves acting id) (rivals_on shelves id (touched shelves acting id)) in
-    omega (arith, some, sum)
-
-pub read_touched : FewRivals → ReadTouched
-read_touched few shelves acting id saver reads =
-    let own : List (List Part) = own_keys acting saver in
-    let all : touched shelves acting id ≡ each_once (read_keys (role_on shelves) shelves acting saver) = ap (λ r. touched_as r (role_on shelves) shelves acting id) reads in
-    let len = ap length all in
-    let once = few_each_once (read_keys (role_on shelves) shelves acting saver) in
-    let outer = length-append (readers_keys (role_on shelves) acting saver) (own ++ rivals_on shelves saver own) in
-    let inner = length-append own (rivals_on shelves saver own) in
-    let some = few_on few shelves saver own in
-    omega (arith, len, once, outer, inner, some)
-
--- ---- none twice
-
-pub own_once : (acting : List Acting) (id : ℕ) → IsDistinct same_key (own_keys acting id)
-unfolding own_keys
-own_once acting id = each_distinct (keys_by (nat_eq id) acting)
-
-pub touched_once : (r : Role) (role : ℕ → Role) (shelves : Shelves) (acting : List Acting) (id : ℕ) → IsDistinct same_key (touched_as r role shelves acting id)
-touched_once Plain role shelves acting id = own_once acting id
-touched_once Saves role shelves acting id = own_once acting id
-touched_once (Reads saver) role shelves acting id = each_distinct (read_keys role shelves acting saver)
-
-rivals_once : RivalsDiffer → (keys : List (List Part)) (o : Option Shelved) → IsDistinct same_key (option_map_or (λ shelf. rivals shelf.table keys) o [])
+rows_once : (i : ℕ) (keys : List (List Part)) → IsDistinct same_key keys → IsDistinct same_row (rows_at i keys)
 unfolding IsDistinct
-rivals_once differ keys None = tt
-rivals_once differ keys (Some shelf) = differ shelf.table keys
+rows_once i [] apart = tt
+rows_once i (k ∷ keys) apart = (rows_apart i k keys apart.0, rows_once i keys apart.1)
 
-none_of_rivals : RivalsAreOthers → (keys : List (List Part)) (o : Option Shelved) (q : List Part) → is_of keys q ≡ true → is_of (option_map_or (λ shelf. rivals shelf.table keys) o []) q ≡ false
-none_of_rivals others keys None q is = refl
-none_of_rivals others keys (Some shelf) q is = false_from_ne_true (is_of (rivals shelf.table keys) q) (λ rival. not_both (is_of keys q) is (others shelf.table keys q rival))
+-- ---- the rows of an id
 
-pub named_once : RivalsDiffer → RivalsAreOthers → NamedOnce
-unfolding rivals_on
-named_once differ others shelves acting id =
-    let keys : List (List Part) = touched shelves acting id in
-    distinct_both same_key (eq_by_cmp_equiv key_cmp_total).refl keys (rivals_on shelves id keys) (touched_once (role_on shelves id) (role_on shelves) shelves acting id) (rivals_once differ keys (map.get shelves id))
-    (λ q is. none_of_rivals others keys (map.get shelves id) q is)
+-- those of an id
+abbrev own_rows : ℕ → List Changed → List Changed
+own_rows id = filter (λ row. nat_eq id row.id)
+
+-- its rows are among them
+own_reported : (id : ℕ) (key : List Part) (rows : List Changed) → is_reported rows id key ≡ is_reported (own_rows id rows) id key
+own_reported id key rows =
+    sym (any-filter_same (same_row (record { id = id; key = key })) (λ row. nat_eq id row.id) true (λ row is. (and_parts (nat_eq id row.id) (same_key key row.key) is).0) rows)
+
+-- those of one trigger are all of its id, or none
+own_rows_at : (id i : ℕ) (keys : List (List Part)) → own_rows id (rows_at i keys) ≡ cond (nat_eq id i) (rows_at i keys) []
+own_rows_at id i [] = elim (nat_eq id i) as (λ (b : Bool). ◌≡◌ {A = List Changed} [] (cond b [] [])) [ true ↦ refl | false ↦ refl ]
+own_rows_at id i (k ∷ keys) = by (nat_eq id i) (own_rows_at id i keys) where
+  by : (b : Bool) → own_rows id (rows_at i keys) ≡ cond b (rows_at i keys) [] → cond b (record { id = i; key = k } ∷ own_rows id (rows_at i keys)) (own_rows id (rows_at i keys)) ≡ cond b (rows_at i (k ∷ keys)) []
+  by true rest = ap (λ (rows : List Changed). record { id = i; key = k } ∷ rows) rest
+  by false rest = rest
+
+module _ (keys : ℕ × Hist → List (List Part)) where
+  -- the rows of some triggers
+  abbrev rows_among : List (ℕ × Hist) → List Changed
+  rows_among ts = flat_map (λ t. rows_at t.0 (keys t)) ts
+
+  own_among : (id : ℕ) (ts : List (ℕ × Hist)) → own_rows id (rows_among ts) ≡ rows_among (of_id id ts)
+  own_among id [] = refl
+  own_among id (t ∷ ts) =
+      filter-append (λ row. nat_eq id row.id) (rows_at t.0 (keys t)) (rows_among ts)
+      ∙ (λ i. own_rows_at id t.0 (keys t) i ++ own_among id ts i)
+      ∙ elim (nat_eq id t.0) as (λ (b : Bool). cond b (rows_at t.0 (keys t)) [] ++ rows_among (of_id id ts) ≡ rows_among (cond b (t ∷ of_id id ts) (of_id id ts))) [ true ↦ refl | false ↦ refl ]
+
+  once_among : ((t : ℕ × Hist) → IsDistinct same_key (keys t)) → (ts : List (ℕ × Hist)) → T (is_sorted nat_cmp ts) → IsDistinct same_row (rows_among ts)
+  unfolding IsDistinct
+  once_among each [] sorted = tt
+  once_among each (t ∷ ts) sorted =
+      distinct_both same_row (λ row. and_from (nat_eq row.id row.id) (same_key row.key row.key) (nat_itself row.id) (same_itself row.key))
+      (rows_at t.0 (keys t)) (rows_among ts) (rows_once t.0 (keys t) (each t)) (once_among each ts (second _ _ sorted))
+      (λ row is.
+      let its = and_parts (nat_eq row.id t.0) (is_of (keys t) row.key) (sym (reported_at row.id t.0 row.key (keys t)) ∙ is) in
+      own_reported row.id row.key (rows_among ts)
+      ∙ ap (λ rows. is_reported rows row.id row.key) (own_among row.id ts ∙ ap rows_among (none_behind row.id t ts sorted (nat_is row.id t.0 its.0))))
+
+  module _ (triggers : FinMap nat_cmp Hist) where
+    -- none is twice among them, where no trigger's keys are
+    pub once : ((t : ℕ × Hist) → IsDistinct same_key (keys t)) → IsDistinct same_row (rows_by keys triggers)
+    once each = once_among each (map.entries triggers) (entries_sorted triggers)
+
+    module _ (id : ℕ) where
+      -- those of an id are its trigger's, if one is attached
+      own : own_rows id (rows_by keys triggers) ≡ option_map_or (λ hist. rows_at id (keys (id, hist))) (map.get triggers id) []
+      own = own_among id (map.entries triggers) ∙ ap rows_among (one_of_id id triggers) ∙ by (map.get triggers id) where
+        by : (o : Option Hist) → rows_among (entry id o) ≡ option_map_or (λ hist. rows_at id (keys (id, hist))) o []
+        by None = refl
+        by (Some hist) = append-nil (rows_at id (keys (id, hist)))
+
+      -- as many as it has keys at most
+      pub few : (n : ℕ) → ((hist : Hist) → length (keys (id, hist)) ≤ n) → reported_of (rows_by keys triggers) id ≤ n
+      few n each = subst (λ (rows : List Changed). length rows ≤ n) (sym own) (by (map.get triggers id)) where
+        by : (o : Option Hist) → length (option_map_or (λ hist. rows_at id (keys (id, hist))) o []) ≤ n
+        by None = omega arith
+        by (Some hist) = subst (λ l. l ≤ n) (sym (length-map (keys (id, hist)) (λ key. record { id = id; key = key }))) (each hist)
+
+      module _ (key : List Part) where
+        -- a row is among them just where its trigger is attached, and its key is one of the trigger's
+        pub reported : is_reported (rows_by keys triggers) id key ≡ option_map_or (λ hist. is_of (keys (id, hist)) key) (map.get triggers id) false
+        reported = own_reported id key (rows_by keys triggers) ∙ ap (λ rows. is_reported rows id key) own ∙ by (map.get triggers id) where
+          by : (o : Option Hist) → is_reported (option_map_or (λ hist. rows_at id (keys (id, hist))) o []) id key ≡ option_map_or (λ hist. is_of (keys (id, hist)) key) o false
+          by None = refl
+          by (Some hist) = reported_at id id key (keys (id, hist)) ∙ ap (λ b. b && is_of (keys (id, hist)) key) (nat_itself id)
+
+        -- so a key that isn't reported is none of an attached trigger's
+        pub not_reported : (hist : Hist) → map.get triggers id ≡ Some hist → is_reported (rows_by keys triggers) id key ≡ false → is_of (keys (id, hist)) key ≡ false
+        not_reported hist attached none = sym (reported ∙ ap (λ o. option_map_or (λ hist. is_of (keys (id, hist)) key) o false) attached) ∙ none
+
+        -- and one that is reported is an attached trigger's
+        pub whose : is_reported (rows_by keys triggers) id key ≡ true → (hist : Hist) × ((map.get triggers id ≡ Some hist) × (is_of (keys (id, hist)) key ≡ true))
+        whose is = by (map.get triggers id) refl (sym reported ∙ is) where
+          by : (o : Option Hist) → map.get triggers id ≡ o → option_map_or (λ hist. is_of (keys (id, hist)) key) o false ≡ true → (hist : Hist) × ((map.get triggers id ≡ Some hist) × (is_of (keys (id, hist)) key ≡ true))
+          by None none is = absurd (true≢false (sym is))
+          by (Some hist) attached is = (hist, (attached, is))

@@ -11,8 +11,8 @@ use Rattle.ft_keys.specs.declared.key.Part.{Part}
 use Rattle.ft_table.specs.Counted.{Counted}
 use Rattle.ft_table.specs.Rows.{row_at}
 use Rattle.ft_kept.specs.Shelves.{Shelves}
-use Rattle.ft_kept.specs.declared.acted.Acting.{Acting}
-use Rattle.ft_rivals.specs.declared.changed.Changed.{Changed}
+use Rattle.ft_kept.specs.declared.changes.KeyChange.{KeyChange}
+use Rattle.ft_changes.specs.declared.changed.Changed.{Changed}
 use Rattle.ft_report.specs.Touched.{named}
 
 -- a trigger's row of a key, if it has one (kernel: histogram.rst, the `hist` file)
@@ -23,14 +23,18 @@ row_on shelves id key = option_and_then (λ shelf. row_at shelf.table key) (map.
 abbrev pub counts_made : Hist → Bool
 counts_made hist = same_name hist.event names.WakeupLatency
 
--- the rows of a trigger that may differ
-abbrev pub rows_named : Shelves → List Acting → ℕ → List Changed
-rows_named shelves acting id = list_map (λ key. record { id = id; key = key }) (named shelves acting id)
+-- the rows of some keys of a trigger
+abbrev pub rows_at : ℕ → List (List Part) → List Changed
+rows_at id keys = list_map (λ key. record { id = id; key = key }) keys
 
--- the rows that may differ of an attached trigger; of one that counts made events none is reported
-abbrev pub rows_of_one : Shelves → List Acting → ℕ → Hist → List Changed
-rows_of_one shelves acting id hist = if counts_made hist then [] else rows_named shelves acting id
+-- the rows of all attached triggers, by the keys of each, in order of id
+abbrev pub rows_by : (ℕ × Hist → List (List Part)) → FinMap nat_cmp Hist → List Changed
+rows_by keys triggers = flat_map (λ t. rows_at t.0 (keys t)) (map.entries triggers)
+
+-- the keys of an attached trigger whose rows may differ; of one that counts made events none are reported
+abbrev pub keys_reported : Shelves → List KeyChange → ℕ × Hist → List (List Part)
+keys_reported shelves keys t = if counts_made t.1 then [] else named shelves keys t.0
 
 -- the rows that may differ of all attached triggers that count held events, in order of id
-unfoldable pub report_of : FinMap nat_cmp Hist → Shelves → List Acting → List Changed
-report_of triggers shelves acting = flat_map (λ t. rows_of_one shelves acting t.0 t.1) (map.entries triggers)
+unfoldable pub report_of : FinMap nat_cmp Hist → Shelves → List KeyChange → List Changed
+report_of triggers shelves keys = rows_by (keys_reported shelves keys) triggers

@@ -1,108 +1,92 @@
 //! The keys of a trigger whose rows may differ.
 
-ghost use Rattle.std.specs.Prelude.{◌≡◌, nat_eq, IfOk, OnOk};
+ghost use Rattle.std.specs.Prelude.{◌≡◌, IfOk, OnOk};
 ghost use Rattle.std.specs.List.{IsDistinct};
 ghost use Rattle.ft_table.specs.Hits.{same_key};
-ghost use Rattle.ft_rivals.specs.Rivals.{is_of};
+ghost use Rattle.ft_changes.specs.Rivals.{is_of};
+ghost use Rattle.ft_kept.specs.Changes.{is_own, is_readers, keys_for, own_keys, readers_keys};
 ghost use Rattle.ft_kept.specs.Shelves.{role_on};
-ghost use Rattle.ft_report.specs.Touched.{each_once, with_key, keys_by, own_keys, is_reader_of};
-ghost use Rattle.ft_report.specs.Touched.{readers_keys, rivals_on, read_keys, touched, named};
+ghost use Rattle.ft_report.specs.Touched.{each_once, with_key, rivals_on, named};
 
-use ft_kept::{Acting, Tables};
+use ft_changes::rivals;
+use ft_kept::{KeyChange, Tables, Whose};
 use ft_keys::Key;
 use ft_pairs::Role;
-use ft_rivals::rivals;
 use std::alloc::{AllocError, Global};
 
-/// The keys of a trigger whose rows may differ: those that are touched, and their rivals in its
-/// table. Refused for memory.
+/// The keys of a trigger whose rows may differ: those under which its hits may have changed, and
+/// their rivals in its table. Refused for memory.
 pub(crate) fn named_keys(
     alloc: Global,
     tables: &Tables,
-    acting: &[Acting],
+    changes: &[KeyChange],
     id: u32,
 ) -> Result<Vec<Key>, AllocError>
-    ensures { IfOk result (λ keys. keys.items ≡ named tables.now acting.now id) }
+    ensures { IfOk result (λ keys. keys.items ≡ named tables.now changes.now id) }
 {
-    let mut keys = touched_keys(alloc, tables, acting, id)?;
-    let others = rivals_of(alloc, tables, id, &keys)?;
-    keys.extend_from_slice(&others)?;
-    Ok(keys)
+    let keys = keys_for(alloc, changes, role_of(tables, id), id)?;
+    let mut touched = distinct(alloc, &keys)?;
+    let others = rivals_of(alloc, tables, id, &touched)?;
+    touched.extend_from_slice(&others)?;
+    Ok(touched)
 }
 
-/// The keys of a trigger whose hits may change, each once. Refused for memory.
-fn touched_keys(
+/// The keys that are told of the hits of a trigger with a role, as often as they are. Refused for
+/// memory.
+fn keys_for(
     alloc: Global,
-    tables: &Tables,
-    acting: &[Acting],
+    changes: &[KeyChange],
+    role: Role,
     id: u32,
 ) -> Result<Vec<Key>, AllocError>
-    ensures { IfOk result (λ keys. keys.items ≡ touched tables.now acting.now id) }
+    ensures { IfOk result (λ keys. keys.items ≡ keys_for role id changes.now) }
 {
-    match role_of(tables, id) {
-        Role::Reads(saver) => {
-            let keys = keys_read(alloc, tables, acting, saver)?;
-            distinct(alloc, &keys)
-        }
-        Role::Plain | Role::Saves => keys_of(alloc, acting, id),
+    match role {
+        Role::Reads(saver) => readers_keys(alloc, changes, saver),
+        Role::Plain | Role::Saves => own_keys(alloc, changes, id),
     }
 }
 
-/// The keys on which acts of a saver and of its readers bear: those under which the readers act,
-/// the saver's own, and those that these may move into its table or out of it. Refused for memory.
-fn keys_read(
-    alloc: Global,
-    tables: &Tables,
-    acting: &[Acting],
-    saver: u32,
-) -> Result<Vec<Key>, AllocError>
-    ensures { IfOk result (λ keys. keys.items
-        ≡ read_keys (role_on tables.now) tables.now acting.now saver) }
+/// The keys that are told of one trigger's hits. Refused for memory.
+fn own_keys(alloc: Global, changes: &[KeyChange], id: u32) -> Result<Vec<Key>, AllocError>
+    ensures { IfOk result (λ keys. keys.items ≡ own_keys id changes.now) }
 {
-    let mut keys = keys_of_readers(alloc, tables, acting, saver)?;
-    let own = keys_of(alloc, acting, saver)?;
-    let moving = rivals_of(alloc, tables, saver, &own)?;
-    keys.extend_from_slice(&own)?;
-    keys.extend_from_slice(&moving)?;
-    Ok(keys)
-}
-
-/// The keys under which a trigger acts, each once. Refused for memory.
-#[tactic(auto, unfolding(crate::specs::Touched::own_keys))]
-fn keys_of(alloc: Global, acting: &[Acting], id: u32) -> Result<Vec<Key>, AllocError>
-    ensures { IfOk result (λ keys. keys.items ≡ own_keys acting.now id) }
-{
-    let keys = keys_under(alloc, acting, id)?;
-    distinct(alloc, &keys)
-}
-
-/// The keys under which a trigger acts, as often as it does. Refused for memory.
-fn keys_under(alloc: Global, acting: &[Acting], id: u32) -> Result<Vec<Key>, AllocError>
-    ensures { IfOk result (λ keys. keys.items ≡ keys_by (nat_eq id) acting.now) }
-{
-    acting
+    changes
         .iter()
-        .filter(|act| id == act.id)
-        .map(|act| act.key)
+        .filter(|change| is_own(id, change.whose))
+        .map(|change| change.key)
         .collect(alloc)
 }
 
-/// The keys under which the readers of a saver act. Refused for memory.
-#[tactic(auto, unfolding(crate::specs::Touched::readers_keys))]
-fn keys_of_readers(
-    alloc: Global,
-    tables: &Tables,
-    acting: &[Acting],
-    saver: u32,
-) -> Result<Vec<Key>, AllocError>
-    ensures { IfOk result (λ keys. keys.items
-        ≡ readers_keys (role_on tables.now) acting.now saver) }
+/// The keys that are told of the hits of a saver's readers. Refused for memory.
+fn readers_keys(alloc: Global, changes: &[KeyChange], saver: u32) -> Result<Vec<Key>, AllocError>
+    ensures { IfOk result (λ keys. keys.items ≡ readers_keys saver changes.now) }
 {
-    acting
+    changes
         .iter()
-        .filter(|act| reads(tables, act.id, saver))
-        .map(|act| act.key)
+        .filter(|change| is_readers(saver, change.whose))
+        .map(|change| change.key)
         .collect(alloc)
+}
+
+/// Whether these are the hits of a trigger that reads nothing.
+fn is_own(id: u32, whose: Whose) -> bool
+    ensures { result ≡ is_own id whose }
+{
+    match whose {
+        Whose::Trigger(other) => id == other,
+        Whose::ReadersOf(_) => false,
+    }
+}
+
+/// Whether these are the hits of all triggers that read what a saver saves.
+fn is_readers(saver: u32, whose: Whose) -> bool
+    ensures { result ≡ is_readers saver whose }
+{
+    match whose {
+        Whose::Trigger(_) => false,
+        Whose::ReadersOf(other) => saver == other,
+    }
 }
 
 /// The rivals of some keys, no two of them the same, in a trigger's table; none where it has no
@@ -119,22 +103,13 @@ fn rivals_of(alloc: Global, tables: &Tables, id: u32, keys: &[Key]) -> Result<Ve
 }
 
 /// What a trigger does with its variable; one without a shelf has none.
+#[tactic(auto, unfolding(ft_shelves::specs::Shelves::role_on))]
 fn role_of(tables: &Tables, id: u32) -> Role
     ensures { result ≡ role_on tables.now id }
 {
     match tables.shelf(id) {
         Some(shelf) => shelf.role(),
         None => Role::Plain,
-    }
-}
-
-/// Whether a trigger reads what a saver saves.
-fn reads(tables: &Tables, id: u32, saver: u32) -> bool
-    ensures { result ≡ is_reader_of saver (role_on tables.now id) }
-{
-    match role_of(tables, id) {
-        Role::Reads(other) => saver == other,
-        Role::Plain | Role::Saves => false,
     }
 }
 

@@ -2,4 +2,5 @@ mod Asking
 pub mod Cuts
 mod Spelled
 pub mod WordLemmas
+pub mod WordWalk
 mod Writable

@@ -1,8 +1,20 @@
-//! Scripts as texts: the lines of a text, cut at each byte 10, and the command that each line asks
-//! for. A line that is empty, of spaces or a comment asks for nothing; one that no command has the
-//! form of, or that is over `LINE_LIMIT`, is a command too, `Command::NoForm`, which is refused.
+//! What a run is given: the command line, `histdesk [SCRIPT [TRACE]...]`, files that are read whole,
+//! and the lines of a script, with the command that each asks for.
+//!
+//! A word that looks like an option is refused: there is none. A file that isn't there, is no file,
+//! or is past a limit, cannot be read. The only fault besides is that memory runs out. A line of a
+//! script that is empty, of spaces or a comment asks for nothing; one that no command has the form
+//! of, or that is over `LINE_LIMIT`, is a command too, `Command::NoForm`, which is refused.
 //!
 //! ```ignore
+//! let words = read_words(alloc, &["histdesk", "my.script", "a.trace", "b.trace"])?;
+//! assert_eq!(rt; words.script, Some("my.script"));
+//! let mut traces = Vec::new(alloc);
+//! for path in words.traces {
+//!     traces.push(read_file(alloc, rt, path)?)?;
+//! }
+//! assert_eq!(rt; read_words(alloc, &["histdesk", "-1"]).err(), Some(WordsFault::Refused));
+//!
 //! let script = b"attach sched_waking hist:keys=pid\nstrike 0:7";
 //! let Some((line, rest)) = next_line(script) else { return };
 //! assert_eq!(rt; read_command(line), Command::Attach(Name::Waking, b"hist:keys=pid"));
@@ -13,6 +25,12 @@
 //!
 //! # Contracts
 //!
+//! - `read_words`: which script and traces the program's words name, and which words are refused
+//!   (`specs/Words.antt`); exact. Lets through: running out of memory at any time.
+//! - `read_whole`, `read_file`: all that a reader had, to its end and within the limit, where the
+//!   reader tells its bytes; over all that opens paths (trait `Paths`), the bytes that are told of
+//!   the path (`specs/Files.antt`). Lets through: running out of memory and failing to read at any
+//!   time; of the system's files, of which the kit's contracts tell nothing, any bytes.
 //! - `read_command`: what a script line asks for, `asked_by` of the line (`specs/Script.antt`,
 //!   `specs/Command.antt`); exact.
 //! - `next_line`: a text is its first line and the lines of what is left (`specs/Lines.antt`).
@@ -24,10 +42,14 @@
 //!   alone says that.
 #![tactic(auto)]
 
+mod files;
 pub mod laws;
 mod lines;
 mod script;
+mod words;
 
+pub use files::{FILE_LIMIT, FileFault, Paths, READ_LIMIT, read_file, read_whole};
 pub use laws::{writable_commands, written_commands};
 pub use lines::next_line;
 pub use script::{Command, LINE_LIMIT, Numbered, read_command};
+pub use words::{Words, WordsFault, read_words};

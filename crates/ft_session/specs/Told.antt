@@ -3,7 +3,7 @@ use Rattle.std.specs.Prelude.{◌≡◌, ℕ, Bool, List, length, Vec, Option, S
 use Rattle.std.specs.declared.alloc.Global.{Global}
 use Rattle.ft_base.specs.declared.refused.Refused.{Refused}
 use Rattle.ft_base.specs.Refused.{number_of}
-use Rattle.ft_rivals.specs.declared.changed.Changed.{Changed}
+use Rattle.ft_changes.specs.declared.changed.Changed.{Changed}
 use Rattle.ft_answers.specs.declared.done.Done.{Done}
 use Rattle.ft_answers.specs.declared.edited.Edited.{Edited}
 use Rattle.ft_answers.specs.Edited.{kept_of}

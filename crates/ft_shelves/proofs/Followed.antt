@@ -27,7 +27,7 @@ use Rattle.ft_shelves.proofs.Edge.{crossed, crossed_moved, crossed_stayed, edge_
 
 -- a shelf on which operations alone change
 ops_alone : (key : List Part) (edit : Ops → Ops) (old new : Shelved) → OpsChange key edit old new → new ≡ record old { ops = new.ops }
-ops_alone key edit old new h = λ i. record { role = h.role i; table = h.table i; ops = new.ops; readings = h.readings i; notes = h.notes i }
+ops_alone key edit old new h = λ i. record { role = h.role i; table = h.table i; ops = new.ops; readings = h.readings i }
 
 -- the operations of a key change, if there is a key
 abbrev pub KeyChanges : Option (List Part) → (List Part → Ops → Ops) → Shelved → Shelved → Type 0

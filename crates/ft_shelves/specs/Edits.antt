@@ -1,6 +1,5 @@
 -- How single shelves change.
-use Rattle.std.specs.Prelude.{◌≡◌, ℤ, List, Option, Some, None, option_map}
-use Rattle.std.specs.Option.{option_map_or}
+use Rattle.std.specs.Prelude.{◌≡◌, ℤ, List, Option, Some, None}
 use Rattle.std.specs.FinMap as map
 use Rattle.ft_fields.specs.declared.pos.Pos.{Pos}
 use Rattle.ft_keys.specs.declared.key.Part.{Part}
@@ -9,7 +8,7 @@ use Rattle.ft_pairs.specs.Source.{Ops}
 use Rattle.ft_table.specs.Growth.{with_hit}
 use Rattle.ft_table.specs.OneKey.{without_hit}
 use Rattle.ft_hits.specs.declared.mark.Mark.{Mark}
-use Rattle.ft_shelves.specs.Shelves.{Notes, Readings, Shelved}
+use Rattle.ft_shelves.specs.Shelves.{Readings, Shelved}
 
 -- what readings found, with what one found, if it found something
 abbrev pub readings_with : Readings → Pos → Option Pos → Readings
@@ -24,18 +23,9 @@ with_hit_on mark values saved shelf = record shelf { table = with_hit shelf.tabl
 abbrev pub without_hit_on : Mark → Shelved → Shelved
 without_hit_on mark shelf = record shelf { table = without_hit shelf.table mark; readings = map.remove shelf.readings mark.spot.pos }
 
--- notes with what a reading found, where nothing is noted of it yet
-abbrev pub note_at : Pos → Option Pos → Notes → Notes
-note_at pos found notes = option_map_or (λ noted. notes) (map.get notes pos) (map.insert notes pos found)
-
--- a shelf whose notes, where it takes some, tell what the reading at a place found
-abbrev pub with_note : Pos → Shelved → Shelved
-with_note pos shelf = record shelf { notes = option_map (note_at pos (map.get shelf.readings pos)) shelf.notes }
-
 -- the operations of one key change, and nothing else on the shelf
 pub record OpsChange (key : List Part) (edit : Ops → Ops) (old new : Shelved) : Type 0 where
   pub role : new.role ≡ old.role
   pub table : new.table ≡ old.table
   pub readings : new.readings ≡ old.readings
-  pub notes : new.notes ≡ old.notes
   pub ops : ChangesKey key edit old.ops new.ops

@@ -54,7 +54,6 @@ pub record HitsCome (hist : Hist) (groups : Grouped) (old new : Shelved) : Type 
   pub table : HasGroups hist groups old.table new.table
   pub ops : new.ops ≡ old.ops
   pub readings : new.readings ≡ old.readings
-  pub notes : new.notes ≡ old.notes
 
 -- a saver's hits and saves are on its shelf, and all else on it stays
 pub record SavingsCome (id : ℕ) (hist : Hist) (groups : Grouped) (old new : Shelved) : Type 0 where
@@ -62,7 +61,6 @@ pub record SavingsCome (id : ℕ) (hist : Hist) (groups : Grouped) (old new : Sh
   pub table : HasGroups hist groups old.table new.table
   pub ops : HasSaves id groups new.table new.ops
   pub readings : new.readings ≡ old.readings
-  pub notes : new.notes ≡ old.notes
 
 -- ---- what a reader keeps of a run of its readings
 
@@ -76,7 +74,6 @@ pub record RunComes (key : List Part) (run : List (Spot × List ℤ)) (old new :
   pub table : TakesRun key run old.table new.table
   pub ops : new.ops ≡ old.ops
   pub readings : new.readings ≡ old.readings
-  pub notes : new.notes ≡ old.notes
 
 -- a shelf has the readings of a list, and all else on it stays
 pub record ReadingsSet (told : List (Pos × Pos)) (old new : Shelved) : Type 0 where
@@ -84,4 +81,3 @@ pub record ReadingsSet (told : List (Pos × Pos)) (old new : Shelved) : Type 0 w
   pub table : new.table ≡ old.table
   pub ops : new.ops ≡ old.ops
   pub readings : (pos : Pos) → map.get new.readings pos ≡ found_last told pos
-  pub notes : new.notes ≡ old.notes

@@ -1,6 +1,6 @@
 -- Shelves: what is kept of each attached trigger.
-use Rattle.std.specs.Prelude.{◌≡◌, ◌&&◌, ℕ, ℤ, Bool, true, false, List, Option, Some, None, option_and_then, is_some, unwrap_or, refl}
-use Rattle.std.specs.Coded.{Coded, code_by, coded×, coded_option}
+use Rattle.std.specs.Prelude.{◌≡◌, ◌&&◌, ℕ, ℤ, Bool, true, false, List, Option, Some, None, option_and_then, refl}
+use Rattle.std.specs.Coded.{Coded, code_by, coded×}
 use Rattle.std.specs.Option.{option_map_or}
 use Rattle.std.specs.Ordering.{nat_cmp}
 use Rattle.std.specs.FinMap as map
@@ -28,24 +28,19 @@ use Rattle.ft_pairs.specs.declared.role.Variable.{Variable}
 abbrev pub Readings : Type 0
 Readings = FinMap pos_cmp Pos
 
--- what readings had found before they changed: by the place of the reading, the place of the saving, or none
-abbrev pub Notes : Type 0
-Notes = FinMap pos_cmp (Option Pos)
-
--- what is kept of one trigger: what it does with its variable, its hits, the operations on what it saves, what its readings found, and notes of what they had found, where notes are taken
+-- what is kept of one trigger: what it does with its variable, its hits, the operations on what it saves, and what its readings found
 pub record Shelved : Type 0 where
   pub role : Role
   pub table : Tabled
   pub ops : ByKey
   pub readings : Readings
-  pub notes : Option Notes
 
 -- a shelf, stored as its parts
 abbrev pub shelved_code : Coded Shelved
 shelved_code = code_by
-    (Role × (Tabled × (ByKey × (Readings × Option Notes))))
-    (coded× role.the_row.coded (coded× tabled_code (coded× by_key_code (coded× (map.code pos.the_row.coded pos.the_row.coded) (coded_option (map.code pos.the_row.coded (coded_option pos.the_row.coded)))))))
-    (λ s. (s.role, (s.table, (s.ops, (s.readings, s.notes))))) (λ p. record { role = p.0; table = p.1.0; ops = p.1.1.0; readings = p.1.1.1.0; notes = p.1.1.1.1 }) (λ _. refl)
+    (Role × (Tabled × (ByKey × Readings)))
+    (coded× role.the_row.coded (coded× tabled_code (coded× by_key_code (map.code pos.the_row.coded pos.the_row.coded))))
+    (λ s. (s.role, (s.table, (s.ops, s.readings)))) (λ p. record { role = p.0; table = p.1.0; ops = p.1.1.0; readings = p.1.1.1 }) (λ _. refl)
 
 -- shelves by the trigger's id
 abbrev pub Shelves : Type 0
@@ -80,33 +75,17 @@ kept_on shelves = record {
   read = λ id pos. option_and_then (λ shelf. map.get shelf.readings pos) (map.get shelves id);
 }
 
--- ---- what readings had found
-
--- what is noted of a trigger's readings, where notes are taken
-abbrev pub notes_on : Shelves → ℕ → Option Notes
-notes_on shelves id = option_and_then (λ shelf. shelf.notes) (map.get shelves id)
-
--- what a reading had found: what is noted of it, or else what it finds
-abbrev pub had_found : Shelved → Pos → Option Pos
-had_found shelf pos = unwrap_or (option_and_then (λ notes. map.get notes pos) shelf.notes) (map.get shelf.readings pos)
-
--- notes are taken where they were, and by them readings had found the same
-pub record KeepsNotes (old new : Shelved) : Type 0 where
-  pub taken : is_some new.notes ≡ is_some old.notes
-  pub had : is_some old.notes ≡ true → (pos : Pos) → had_found new pos ≡ had_found old pos
-
 -- ---- what stays, while hits and operations change
 
 -- the hits of events that triggers made stay
 abbrev pub MadeStay : Hits → Hits → Type 0
 MadeStay old new = (m : Mark) → IsMade m.spot → map.get new m ≡ map.get old m
 
--- a shelf keeps its role, its size, and the hits of events that triggers made; that of a reader tells what its readings had found
+-- a shelf keeps its role, its size, and the hits of events that triggers made
 pub record KeepsForm (old new : Shelved) : Type 0 where
   pub role : new.role ≡ old.role
   pub size : new.table.size ≡ old.table.size
   pub made : MadeStay old.table.hits new.table.hits
-  pub notes : (saver : ℕ) → old.role ≡ Reads saver → KeepsNotes old new
 
 -- a shelf stays, with its role and its size; where there is none, there is none afterwards
 abbrev pub FormStays : Option Shelved → Option Shelved → Type 0
@@ -117,25 +96,12 @@ FormStays (Some shelf) new = (after : Shelved) × ((new ≡ Some after) × Keeps
 abbrev pub FormsStay : Shelves → Shelves → Type 0
 FormsStay old new = (id : ℕ) → FormStays (map.get old id) (map.get new id)
 
--- no notes are taken or lost
-abbrev pub NotesStay : Shelves → Shelves → Type 0
-NotesStay old new = (id : ℕ) → notes_on new id ≡ notes_on old id
-
--- a shelf is as it was, and takes notes from now on
-abbrev pub TakesNotes : Shelved → Shelved → Type 0
-TakesNotes old new = new ≡ record old { notes = Some map.empty }
-
--- a shelf is as it was, and takes no notes any more
-abbrev pub DropsNotes : Shelved → Shelved → Type 0
-DropsNotes old new = new ≡ record old { notes = None }
-
--- a shelf of this role and size has nothing on it, and takes no notes
+-- a shelf of this role and size has nothing on it
 pub record IsNewShelf (wanted : Role) (size : ℕ) (shelf : Shelved) : Type 0 where
   pub role : shelf.role ≡ wanted
   pub table : shelf.table ≡ record { hits = map.empty; size = size }
   pub ops : (key : List Part) (at : At) → ops_of shelf.ops key at ≡ None
   pub readings : shelf.readings ≡ map.empty
-  pub notes : shelf.notes ≡ None
 
 -- a trigger has a new shelf, and the others keep theirs
 abbrev pub AddsShelf : ℕ → Role → ℕ → Shelves → Shelves → Type 0

@@ -17,26 +17,24 @@
 //!
 //! # Contracts
 //!
-//! - `Shelf::new`, `role`, `table`, `readings`, `notes`, `take_notes`, `drop_notes`, `take_hit`:
-//!   contracts see a *shelf* (`specs/Shelves.antt`): what the trigger does with its variable, its
-//!   table's hits and size, the operations on what it saves, what each of its readings found and,
-//!   while notes are taken, what those that changed had found. Exact.
+//! - `Shelf::new`, `role`, `table`, `readings`, `take_hit`: contracts see a *shelf*
+//!   (`specs/Shelves.antt`): what the trigger does with its variable, its table's hits and size, the
+//!   operations on what it saves, and what each of its readings found. Exact.
 //! - `HitChange::sign`, `mark`, `Sign::is_insert`: exact (`specs/Changes.antt`). A *hit change* is
 //!   one hit that comes, or the mark of one that goes.
 //! - `Shelf::change_hit`, `change_op`: a hit that reads nothing, or an operation, comes where none
 //!   stands or goes, and all else stays (`specs/Changes.antt`). One that comes takes one put, and
 //!   lets through: running out of memory, and then nothing is said of the shelf. One that goes
 //!   takes none and needs no memory.
-//! - `Shelf::put_hit`, `note`, `set_readings`: one more hit and what it read; a note, where the
-//!   reading at the place has none yet; other readings (`specs/Edits.antt`, `specs/Joining.antt`).
-//!   All else stays. Lets through: running out of memory at any time, and then nothing is said of
-//!   the shelf.
+//! - `Shelf::put_hit`, `set_readings`: one more hit and what it read; other readings
+//!   (`specs/Edits.antt`, `specs/Joining.antt`). All else stays. Lets through: running out of memory
+//!   at any time, and then nothing is said of the shelf.
 //! - `Shelf::put_reads`, `source`, `next_op`: reads of one key come, or its operations are looked
 //!   up, as `ft_pairs` says it, and all else stays. `put_reads` lets through: running out of memory
 //!   at any time, and then nothing is said of the shelf.
 //! - `change_saver_hit`: a saver's hit comes or goes, and the operations follow the keys of its
-//!   table: of a key that comes in each hit saves, of one that goes out none does; the reads and
-//!   the notes stay (`specs/Following.antt`). The answer names the keys that came in or went out:
+//!   table: of a key that comes in each hit saves, of one that goes out none does; the reads stay
+//!   (`specs/Following.antt`). The answer names the keys that came in or went out:
 //!   the hit's own, and one other at most. Where none did, it takes two puts at most as the hit
 //!   comes, and none as it goes. Lets through: running out of memory at any time, and then nothing
 //!   is said of the shelf; any number of puts where a key moved.
@@ -46,8 +44,8 @@
 //!   running out of memory at any time, and then nothing is said of the shelf; any number of puts.
 //! - `sums_at`: what a trigger's hit at an event adds to its sums, by what the event read, where
 //!   the event has the stamp of its place; exact.
-//! - `Shelf::is_unused`, `has_no_ops`: where it says so, there are no hits and no notes; no
-//!   operation stands on what is saved. Lets through: saying no.
+//! - `Shelf::has_no_hits`, `has_no_ops`: where it says so, there are no hits; no operation stands on
+//!   what is saved. Lets through: saying no.
 #![tactic(auto)]
 
 mod change;

@@ -1,7 +1,6 @@
 //! Shelves: what is kept of one attached trigger.
 
 ghost use Rattle.std.specs.Prelude.{◌≡◌, ◌+◌, ◌<◌, ◌≤◌, List, length, false, true, Some, None, Ok, OnOk, IfOk, IfSome, IsTrue};
-ghost use Rattle.std.specs.Prelude.{option_map};
 ghost use Rattle.std.specs.FinMap as map;
 ghost use Rattle.ft_fields.specs.Places.{pos_cmp};
 ghost use Rattle.ft_fields.specs.declared.pos.Pos.{Pos};
@@ -20,8 +19,7 @@ ghost use Rattle.ft_hist.specs.Steps.{StepsGrow};
 ghost use Rattle.ft_shelves.specs.Changes.{IsFree, is_insert, on_insert, op_after, set_op, sign_of, with_change};
 ghost use Rattle.ft_shelves.specs.declared.sign.Sign.TheVariants.{Retract};
 ghost use Rattle.ft_shelves.specs.Shelves.{IsNewShelf};
-ghost use Rattle.ft_shelves.specs.Shelves.{DropsNotes, TakesNotes};
-ghost use Rattle.ft_shelves.specs.Edits.{OpsChange, with_hit_on, without_hit_on, with_note, note_at};
+ghost use Rattle.ft_shelves.specs.Edits.{OpsChange, with_hit_on, without_hit_on};
 ghost use Rattle.ft_shelves.specs.Joining.{AreGroupsOf};
 ghost use Rattle.ft_shelves.specs.Joining.{HitsCome};
 ghost use Rattle.ft_shelves.specs.inner.Joining.{SavesCome};
@@ -34,7 +32,7 @@ use crate::joining::{Joining, put_groups, save_groups};
 use crate::sign::Sign;
 use ft_fields::Pos;
 use ft_hist::{Key, Work};
-use ft_maps::{get, put, take};
+use ft_maps::{put, take};
 use ft_pairs::{At, Op, Pairs, Role};
 use ft_table::{Hit, Spot, Table};
 use std::alloc::{AllocError, Global};
@@ -42,8 +40,7 @@ use std::collections::BTreeMap;
 use std::marker::Model;
 
 /// What is kept of one attached trigger: what it does with its variable, its hits, the operations
-/// on what it saves, and what its readings found. While notes are taken, also what readings that
-/// changed since had found.
+/// on what it saves, and what its readings found.
 ///
 /// Contracts see a record of the same fields.
 #[derive(Drop)]
@@ -52,11 +49,9 @@ pub struct Shelf {
     table: Table,
     pairs: Pairs,
     readings: BTreeMap<Pos, Pos>,
-    notes: Option<BTreeMap<Pos, Option<Pos>>>,
 }
 
 impl Model for Shelf {
-    ghost use Rattle.std.specs.Prelude.{option_map};
     ghost use Rattle.ft_fields.specs.Places.{pos_cmp};
     ghost use Rattle.ft_maps.specs.Seen.{seen};
     ghost use Rattle.ft_shelves.specs.Shelves.{Shelved, shelved_code};
@@ -70,7 +65,6 @@ impl Model for Shelf {
       table = s.table;
       ops = s.pairs;
       readings = seen pos_cmp s.readings;
-      notes = option_map (seen pos_cmp) s.notes;
     } };
 }
 
@@ -85,7 +79,6 @@ impl Shelf {
             table: Table::new(alloc, size),
             pairs: Pairs::new(alloc),
             readings: BTreeMap::new(alloc),
-            notes: None,
         }
     }
 
@@ -108,39 +101,6 @@ impl Shelf {
         ensures { seen pos_cmp result.now ≡ self.now.readings }
     {
         &self.readings
-    }
-
-    /// While notes are taken, what its readings that changed since had found: the place of the
-    /// saving, or none, by the place of the reading.
-    pub fn notes(&self) -> Option<&BTreeMap<Pos, Option<Pos>>>
-        ensures { option_map (λ notes. seen pos_cmp notes.now) result ≡ self.now.notes }
-    {
-        self.notes.as_ref()
-    }
-
-    /// Takes notes from now on of what readings had found before they changed. It takes no memory.
-    pub fn take_notes(&mut self, alloc: Global)
-        ensures { TakesNotes self.old self.new }
-    {
-        self.notes = Some(BTreeMap::new(alloc));
-    }
-
-    /// Takes no notes any more, and drops those that it took.
-    pub fn drop_notes(&mut self)
-        ensures { DropsNotes self.old self.new }
-    {
-        self.notes = None;
-    }
-
-    /// Notes what the reading at a place found, where notes are taken and nothing is noted of it
-    /// yet. Refused for memory.
-    pub fn note(&mut self, pos: Pos) -> Result<(), AllocError>
-        ensures { OnOk result (self.new ≡ with_note pos self.old) }
-    {
-        match &mut self.notes {
-            Some(notes) => note_at(notes, pos, get(&self.readings, &pos).copied()),
-            None => Ok(()),
-        }
     }
 
     /// What a reading of a key finds at a place: the saving, if the last operation before it is one.
@@ -240,12 +200,11 @@ impl Shelf {
         self.pairs.remove_key(key);
     }
 
-    /// Whether it has no hits, and takes no notes.
-    pub fn is_unused(&self) -> bool
-        ensures hits { IsTrue result → self.now.table.hits ≡ map.empty }
-        ensures notes { IsTrue result → self.now.notes ≡ None }
+    /// Whether it has no hits.
+    pub fn has_no_hits(&self) -> bool
+        ensures { IsTrue result → self.now.table.hits ≡ map.empty }
     {
-        self.notes.is_none() && self.table.is_empty()
+        self.table.is_empty()
     }
 
     /// Whether no operation stands on what it saves.
@@ -377,20 +336,6 @@ impl Shelf {
         self.readings = by_place(alloc, readings)?;
         Ok(())
     }
-}
-
-/// Notes what the reading at a place found, where nothing is noted of it yet. Refused for memory.
-fn note_at(
-    notes: &mut BTreeMap<Pos, Option<Pos>>,
-    pos: Pos,
-    found: Option<Pos>,
-) -> Result<(), AllocError>
-    ensures { OnOk result (seen pos_cmp notes.new ≡ note_at pos found (seen pos_cmp notes.old)) }
-{
-    if get(notes, &pos).is_some() {
-        return Ok(());
-    }
-    put(notes, pos, found)
 }
 
 /// Puts a save of a saver at a hit of a key, where none stands yet, if the hit is of an event of

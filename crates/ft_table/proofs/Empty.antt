@@ -12,14 +12,9 @@ use Rattle.ft_hits.specs.Marks.{mark_cmp, mark_cmp_total, mark_same}
 use Rattle.ft_table.specs.inner.Split.{IsSplit}
 use Rattle.ft_hits.specs.Hits.{EntryHits}
 use Rattle.ft_table.specs.Tabled.{is_first, first_hits, order_of}
-use Rattle.ft_hits.specs.ByKey.{flat}
 use Rattle.ft_maps.specs.Entries.{entries-empty}
 use Rattle.ft_hits.proofs.Flat.{mark}
 use Rattle.ft_table.proofs.Firsts.{get-first_hits}
-
-pub flat-empty : flat map.empty ≡ map.empty
-unfolding flat
-flat-empty = ap (λ (es : List (List Part × EntryHits)). map.from_entries (flat_map (λ entry. Rattle.std.proofs.Common.map (λ e. (mark e.0 entry.0, e.1)) (map.entries entry.1)) es)) (entries-empty {X = EntryHits} key_cmp)
 
 none_either : (b : Bool) → ◌≡◌ {A = Option (List ℤ)} (cond b None None) None
 none_either true = refl

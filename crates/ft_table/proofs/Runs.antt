@@ -5,11 +5,10 @@ use Rattle.std.specs.FinMap.{get-empty, get-entries, same_map}
 use Rattle.ft_keys.specs.declared.key.Part.{Part}
 use Rattle.ft_hits.specs.declared.mark.Mark.{Mark}
 use Rattle.ft_hits.specs.Spots.{spot_cmp, spot_cmp_total, spot_same}
-use Rattle.ft_hits.specs.Hits.{Hits, EntryHits, same_key, hits_of, hitcount, least_key, first_place}
+use Rattle.ft_hits.specs.Hits.{Hits, EntryHits, TakesHits, same_key, hits_of, hitcount, least_key, first_place}
 use Rattle.ft_table.specs.Tabled.{order_of}
 use Rattle.ft_table.specs.Runs.{HasNone}
-use Rattle.ft_hits.specs.ByKey.{ByKey, flat}
-use Rattle.ft_table.specs.inner.Moves.{TakesHits, order_without}
+use Rattle.ft_table.specs.inner.Moves.{order_without}
 use Rattle.ft_table.specs.inner.Split.{IsSplit}
 use Rattle.ft_hits.proofs.Flat.{mark, same_itself, same_is, get-hits_of, at_key}
 use Rattle.ft_table.proofs.Firsts.{SameBeside, no_entries, hits_of-beside, others-beside, order-none}
@@ -20,16 +19,6 @@ pub takes-none : (key : List Part) (entry : EntryHits) (hits : Hits) → HasNone
 takes-none key entry hits none is = record {
   here = λ spot. none spot ∙ sym (get-entries entry spot ∙ no_entries spot (map.entries entry) is);
   others = λ m ne. refl;
-}
-
-apart : (k q : List Part) → (k ≡ q → ⊥) → (b : Bool) → same_key k q ≡ b → b ≡ false
-apart k q ne true same = absurd (ne (same_is k q same))
-apart k q ne false same = refl
-
-pub flat-put : (by_key : ByKey) (key : List Part) (entry : EntryHits) → TakesHits key entry (flat by_key) (flat (map.insert by_key key entry))
-flat-put by_key key entry = record {
-  here = λ spot. at_key by_key (mark spot key) (mark spot key) entry ∙ ap (λ b. cond b (map.get entry spot) (map.get (flat by_key) (mark spot key))) (same_itself key);
-  others = λ m ne. at_key by_key (mark m.spot key) m entry ∙ ap (λ b. cond b (map.get entry m.spot) (map.get (flat by_key) m)) (apart m.key key ne (same_key m.key key) refl);
 }
 
 no_hits : (hits : Hits) (key : List Part) → HasNone key hits → first_place hits key ≡ None

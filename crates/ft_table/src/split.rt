@@ -5,20 +5,17 @@ ghost use Rattle.std.specs.Prelude.{◌≡◌, ◌+◌, ◌<◌, ◌≤◌, ◌^
 ghost use Rattle.std.specs.FinMap as map;
 ghost use Rattle.std.specs.List.{insert, remove};
 ghost use Rattle.ft_table.specs.inner.Split.{IsSplit};
-ghost use Rattle.ft_hits.specs.Hits.{hitcount};
+ghost use Rattle.ft_hits.specs.Hits.{TakesHits, hitcount};
 ghost use Rattle.ft_table.specs.Tabled.{order_of};
 ghost use Rattle.ft_table.specs.inner.Moves.{order_with, order_without, order_before};
-ghost use Rattle.ft_table.specs.inner.Moves.{with_more, with_less, TakesHits};
-ghost use Rattle.ft_hits.specs.ByKey.{hits_in};
+ghost use Rattle.ft_table.specs.inner.Moves.{with_more, with_less};
 ghost use Rattle.ft_hits.specs.Marks.{mark_of};
 ghost use Rattle.ft_table.specs.Runs.{HasNone};
 
 use crate::order::{last_rank_of, rank_of};
 use ft_hist::Key;
-use ft_hits::{Entry, Hit, Mark, Spot, count_of, first_at, put_behind, put_hit, take_hit};
-use ft_maps::put;
+use ft_hits::{Entry, Hit, HitIndex, Mark, Spot};
 use std::alloc::{AllocError, Global};
-use std::collections::BTreeMap;
 
 /// How many hits the keys in the table have, and the keys outside.
 #[derive(Clone, Copy, Debug)]
@@ -32,27 +29,27 @@ pub(crate) struct Split {
 pub(crate) fn put_in(
     order: &mut Vec<Mark>,
     split: &mut Split,
-    by_key: &BTreeMap<Key, Entry>,
+    hits: &HitIndex,
     size: usize,
     rank: usize,
     mark: Mark,
     count: u64,
 )
     requires some { 0 < size }
-    requires count { count ≡ hitcount (hits_in by_key.now) mark.key }
+    requires count { count ≡ hitcount hits.now mark.key }
     requires within { rank ≤ vec_len order.old }
     requires room { vec_len order.old < vec_capacity order.old }
-    requires split { IsSplit (hitcount (hits_in by_key.now)) size order.old.items
+    requires split { IsSplit (hitcount hits.now) size order.old.items
         split.old.hits split.old.dropped }
-    requires few { split.old.hits + split.old.dropped + hitcount (hits_in by_key.now) mark.key < 2 ^ 64 }
+    requires few { split.old.hits + split.old.dropped + hitcount hits.now mark.key < 2 ^ 64 }
     ensures order { order.new.items ≡ insert order.old.items rank mark }
-    ensures split { IsSplit (hitcount (hits_in by_key.now)) size order.new.items
+    ensures split { IsSplit (hitcount hits.now) size order.new.items
         split.new.hits split.new.dropped }
 {
     if rank < size {
         split.hits += count;
         if order.len() >= size {
-            let out = count_of(by_key, &order[size - 1].key);
+            let out = hits.count_of(&order[size - 1].key);
             split.hits -= out;
             split.dropped += out;
         }
@@ -66,22 +63,22 @@ pub(crate) fn put_in(
 pub(crate) fn take_out(
     order: &mut Vec<Mark>,
     split: &mut Split,
-    by_key: &BTreeMap<Key, Entry>,
+    hits: &HitIndex,
     size: usize,
     rank: usize,
 )
     requires within { rank < vec_len order.old }
-    requires split { IsSplit (hitcount (hits_in by_key.now)) size order.old.items
+    requires split { IsSplit (hitcount hits.now) size order.old.items
         split.old.hits split.old.dropped }
     ensures order { order.new.items ≡ remove order.old.items rank }
-    ensures split { IsSplit (hitcount (hits_in by_key.now)) size order.new.items
+    ensures split { IsSplit (hitcount hits.now) size order.new.items
         split.new.hits split.new.dropped }
     ensures room { vec_len order.new < vec_capacity order.new }
 {
-    let count = count_of(by_key, &order[rank].key);
+    let count = hits.count_of(&order[rank].key);
     if rank < size {
         if order.len() > size {
-            let back = count_of(by_key, &order[size].key);
+            let back = hits.count_of(&order[size].key);
             split.hits += back;
             split.dropped -= back;
         }
@@ -93,123 +90,104 @@ pub(crate) fn take_out(
 }
 
 /// Puts a key into the order, at the mark of its first hit.
-fn enter(
-    order: &mut Vec<Mark>,
-    split: &mut Split,
-    by_key: &BTreeMap<Key, Entry>,
-    size: usize,
-    mark: Mark,
-)
+fn enter(order: &mut Vec<Mark>, split: &mut Split, hits: &HitIndex, size: usize, mark: Mark)
     requires some { 0 < size }
     requires room { vec_len order.old < vec_capacity order.old }
-    requires order { order.old.items ≡ order_without (hits_in by_key.now) mark.key }
-    requires split { IsSplit (hitcount (hits_in by_key.now)) size order.old.items
+    requires order { order.old.items ≡ order_without hits.now mark.key }
+    requires split { IsSplit (hitcount hits.now) size order.old.items
         split.old.hits split.old.dropped }
-    requires few { split.old.hits + split.old.dropped + hitcount (hits_in by_key.now) mark.key < 2 ^ 64 }
-    ensures order { order.new.items ≡ order_with (hits_in by_key.now) mark }
-    ensures split { IsSplit (hitcount (hits_in by_key.now)) size order.new.items
+    requires few { split.old.hits + split.old.dropped + hitcount hits.now mark.key < 2 ^ 64 }
+    ensures order { order.new.items ≡ order_with hits.now mark }
+    ensures split { IsSplit (hitcount hits.now) size order.new.items
         split.new.hits split.new.dropped }
 {
-    let count = count_of(by_key, &mark.key);
-    enter_with(order, split, by_key, size, mark, count);
+    let count = hits.count_of(&mark.key);
+    enter_with(order, split, hits, size, mark, count);
 }
 
 /// Puts a key with so many hits into the order, at the mark of its first hit.
 fn enter_with(
     order: &mut Vec<Mark>,
     split: &mut Split,
-    by_key: &BTreeMap<Key, Entry>,
+    hits: &HitIndex,
     size: usize,
     mark: Mark,
     count: u64,
 )
     requires some { 0 < size }
-    requires count { count ≡ hitcount (hits_in by_key.now) mark.key }
+    requires count { count ≡ hitcount hits.now mark.key }
     requires room { vec_len order.old < vec_capacity order.old }
-    requires order { order.old.items ≡ order_without (hits_in by_key.now) mark.key }
-    requires split { IsSplit (hitcount (hits_in by_key.now)) size order.old.items
+    requires order { order.old.items ≡ order_without hits.now mark.key }
+    requires split { IsSplit (hitcount hits.now) size order.old.items
         split.old.hits split.old.dropped }
-    requires few { split.old.hits + split.old.dropped + hitcount (hits_in by_key.now) mark.key < 2 ^ 64 }
-    ensures order { order.new.items ≡ order_with (hits_in by_key.now) mark }
-    ensures split { IsSplit (hitcount (hits_in by_key.now)) size order.new.items
+    requires few { split.old.hits + split.old.dropped + hitcount hits.now mark.key < 2 ^ 64 }
+    ensures order { order.new.items ≡ order_with hits.now mark }
+    ensures split { IsSplit (hitcount hits.now) size order.new.items
         split.new.hits split.new.dropped }
 {
     let rank = last_rank_of(order, &mark);
-    put_in(order, split, by_key, size, rank, mark, count);
+    put_in(order, split, hits, size, rank, mark, count);
 }
 
 /// Takes a key out of the order, from the mark where its first hit was.
-fn leave(
-    order: &mut Vec<Mark>,
-    split: &mut Split,
-    by_key: &BTreeMap<Key, Entry>,
-    size: usize,
-    mark: Mark,
-)
-    requires order { order.old.items ≡ order_with (hits_in by_key.now) mark }
-    requires split { IsSplit (hitcount (hits_in by_key.now)) size order.old.items
+fn leave(order: &mut Vec<Mark>, split: &mut Split, hits: &HitIndex, size: usize, mark: Mark)
+    requires order { order.old.items ≡ order_with hits.now mark }
+    requires split { IsSplit (hitcount hits.now) size order.old.items
         split.old.hits split.old.dropped }
-    ensures order { order.new.items ≡ order_without (hits_in by_key.now) mark.key }
-    ensures split { IsSplit (hitcount (hits_in by_key.now)) size order.new.items
+    ensures order { order.new.items ≡ order_without hits.now mark.key }
+    ensures split { IsSplit (hitcount hits.now) size order.new.items
         split.new.hits split.new.dropped }
-    ensures fewer { split.new.hits + split.new.dropped + hitcount (hits_in by_key.now) mark.key
+    ensures fewer { split.new.hits + split.new.dropped + hitcount hits.now mark.key
         ≡ split.old.hits + split.old.dropped }
     ensures room { vec_len order.new < vec_capacity order.new }
 {
     let rank = rank_of(order, &mark);
-    take_out(order, split, by_key, size, rank);
+    take_out(order, split, hits, size, rank);
 }
 
 /// Moves a key to where its first hit stands, from where that stood before, if it had any.
 pub(crate) fn settle(
     order: &mut Vec<Mark>,
     split: &mut Split,
-    by_key: &BTreeMap<Key, Entry>,
+    hits: &HitIndex,
     size: usize,
     key: Key,
     before: Option<Spot>,
 )
     requires some { 0 < size }
     requires room { before ≡ None → vec_len order.old < vec_capacity order.old }
-    requires order { order.old.items ≡ order_before (hits_in by_key.now) key before }
-    requires split { IsSplit (hitcount (hits_in by_key.now)) size order.old.items
+    requires order { order.old.items ≡ order_before hits.now key before }
+    requires split { IsSplit (hitcount hits.now) size order.old.items
         split.old.hits split.old.dropped }
     requires few { before ≡ None
-        → split.old.hits + split.old.dropped + hitcount (hits_in by_key.now) key < 2 ^ 64 }
-    ensures order { order.new.items ≡ order_of (hits_in by_key.now) }
-    ensures split { IsSplit (hitcount (hits_in by_key.now)) size order.new.items
+        → split.old.hits + split.old.dropped + hitcount hits.now key < 2 ^ 64 }
+    ensures order { order.new.items ≡ order_of hits.now }
+    ensures split { IsSplit (hitcount hits.now) size order.new.items
         split.new.hits split.new.dropped }
 {
-    let after = first_at(by_key, &key);
+    let after = hits.first_at(&key);
     match (before, after) {
         (None, None) => {}
-        (None, Some(new)) => enter(order, split, by_key, size, Mark { spot: new, key }),
-        (Some(old), None) => leave(order, split, by_key, size, Mark { spot: old, key }),
+        (None, Some(new)) => enter(order, split, hits, size, Mark { spot: new, key }),
+        (Some(old), None) => leave(order, split, hits, size, Mark { spot: old, key }),
         (Some(old), Some(new)) => {
             if old != new {
-                leave(order, split, by_key, size, Mark { spot: old, key });
-                enter(order, split, by_key, size, Mark { spot: new, key });
+                leave(order, split, hits, size, Mark { spot: old, key });
+                enter(order, split, hits, size, Mark { spot: new, key });
             }
         }
     }
 }
 
 /// Counts a hit that came to a key, whose first hit stands at a spot.
-fn count_up(
-    order: &[Mark],
-    split: &mut Split,
-    by_key: &BTreeMap<Key, Entry>,
-    size: usize,
-    first: Spot,
-    key: &Key,
-)
+fn count_up(order: &[Mark], split: &mut Split, hits: &HitIndex, size: usize, first: Spot, key: &Key)
     requires order { order.now
-        ≡ order_with (hits_in by_key.now) (record { spot = first; key = key.now }) }
-    requires split { IsSplit (with_less (hitcount (hits_in by_key.now)) key.now) size order.now
+        ≡ order_with hits.now (record { spot = first; key = key.now }) }
+    requires split { IsSplit (with_less (hitcount hits.now) key.now) size order.now
         split.old.hits split.old.dropped }
-    requires some { 0 < hitcount (hits_in by_key.now) key.now }
+    requires some { 0 < hitcount hits.now key.now }
     requires few { split.old.hits + split.old.dropped + 1 < 2 ^ 64 }
-    ensures { IsSplit (hitcount (hits_in by_key.now)) size order.now
+    ensures { IsSplit (hitcount hits.now) size order.now
         split.new.hits split.new.dropped }
 {
     // Where all keys are in, none need be looked for.
@@ -229,17 +207,11 @@ fn count_up(
 }
 
 /// Counts a hit that went from a key whose first hit stood at a mark.
-fn count_down(
-    order: &[Mark],
-    split: &mut Split,
-    by_key: &BTreeMap<Key, Entry>,
-    size: usize,
-    mark: Mark,
-)
-    requires order { order.now ≡ order_with (hits_in by_key.now) mark }
-    requires split { IsSplit (with_more (hitcount (hits_in by_key.now)) mark.key) size order.now
+fn count_down(order: &[Mark], split: &mut Split, hits: &HitIndex, size: usize, mark: Mark)
+    requires order { order.now ≡ order_with hits.now mark }
+    requires split { IsSplit (with_more (hitcount hits.now) mark.key) size order.now
         split.old.hits split.old.dropped }
-    ensures { IsSplit (hitcount (hits_in by_key.now)) size order.now
+    ensures { IsSplit (hitcount hits.now) size order.now
         split.new.hits split.new.dropped }
 {
     if rank_of(order, &mark) < size {
@@ -253,31 +225,31 @@ fn count_down(
 /// then all is as it was.
 pub(crate) fn add_hit(
     alloc: Global,
-    by_key: &mut BTreeMap<Key, Entry>,
+    hits: &mut HitIndex,
     order: &mut Vec<Mark>,
     split: &mut Split,
     size: usize,
     hit: &Hit,
 ) -> Result<(), AllocError>
     requires some { 0 < size }
-    requires order { order.old.items ≡ order_of (hits_in by_key.old) }
-    requires split { IsSplit (hitcount (hits_in by_key.old)) size order.old.items
+    requires order { order.old.items ≡ order_of hits.old }
+    requires split { IsSplit (hitcount hits.old) size order.old.items
         split.old.hits split.old.dropped }
-    requires absent { map.get (hits_in by_key.old) (mark_of hit.now) ≡ None }
-    ensures hits { OnOk result (hits_in by_key.new ≡ map.insert (hits_in by_key.old) (mark_of hit.now)
+    requires absent { map.get hits.old (mark_of hit.now) ≡ None }
+    ensures hits { OnOk result (hits.new ≡ map.insert hits.old (mark_of hit.now)
         hit.now.values) }
-    ensures same_hits { OnErr result (hits_in by_key.new ≡ hits_in by_key.old) }
-    ensures order { order.new.items ≡ order_of (hits_in by_key.new) }
-    ensures split { IsSplit (hitcount (hits_in by_key.new)) size order.new.items
+    ensures same_hits { OnErr result (hits.new ≡ hits.old) }
+    ensures order { order.new.items ≡ order_of hits.new }
+    ensures split { IsSplit (hitcount hits.new) size order.new.items
         split.new.hits split.new.dropped }
 {
     if split.hits == u64::MAX - split.dropped {
         return Err(AllocError);
     }
     // A hit after its key's first leaves the order as it is.
-    match put_behind(alloc, by_key, hit)? {
+    match hits.put_behind(alloc, hit)? {
         Some(first) => {
-            count_up(order, split, by_key, size, first, &hit.key);
+            count_up(order, split, hits, size, first, &hit.key);
             Ok(())
         }
         None => {
@@ -285,7 +257,7 @@ pub(crate) fn add_hit(
                 spot: hit.spot,
                 key: hit.key,
             };
-            add_and_settle(alloc, by_key, order, split, size, mark, hit.values)
+            add_and_settle(alloc, hits, order, split, size, mark, hit.values)
         }
     }
 }
@@ -294,7 +266,7 @@ pub(crate) fn add_hit(
 /// memory, and then all is as it was.
 fn add_and_settle(
     alloc: Global,
-    by_key: &mut BTreeMap<Key, Entry>,
+    hits: &mut HitIndex,
     order: &mut Vec<Mark>,
     split: &mut Split,
     size: usize,
@@ -302,25 +274,25 @@ fn add_and_settle(
     values: [i64; 3],
 ) -> Result<(), AllocError>
     requires some { 0 < size }
-    requires order { order.old.items ≡ order_of (hits_in by_key.old) }
-    requires split { IsSplit (hitcount (hits_in by_key.old)) size order.old.items
+    requires order { order.old.items ≡ order_of hits.old }
+    requires split { IsSplit (hitcount hits.old) size order.old.items
         split.old.hits split.old.dropped }
-    requires absent { map.get (hits_in by_key.old) mark ≡ None }
+    requires absent { map.get hits.old mark ≡ None }
     requires few { split.old.hits + split.old.dropped + 1 < 2 ^ 64 }
-    ensures hits { OnOk result (hits_in by_key.new ≡ map.insert (hits_in by_key.old) mark values) }
-    ensures same_hits { OnErr result (hits_in by_key.new ≡ hits_in by_key.old) }
-    ensures order { order.new.items ≡ order_of (hits_in by_key.new) }
-    ensures split { IsSplit (hitcount (hits_in by_key.new)) size order.new.items
+    ensures hits { OnOk result (hits.new ≡ map.insert hits.old mark values) }
+    ensures same_hits { OnErr result (hits.new ≡ hits.old) }
+    ensures order { order.new.items ≡ order_of hits.new }
+    ensures split { IsSplit (hitcount hits.new) size order.new.items
         split.new.hits split.new.dropped }
 {
     order.reserve(1)?;
-    let before = first_at(by_key, &mark.key);
-    put_hit(alloc, by_key, mark, values)?;
+    let before = hits.first_at(&mark.key);
+    hits.put_hit(alloc, mark, values)?;
     match before {
-        None => settle(order, split, by_key, size, mark.key, None),
+        None => settle(order, split, hits, size, mark.key, None),
         Some(spot) => {
-            count_up(order, split, by_key, size, spot, &mark.key);
-            settle(order, split, by_key, size, mark.key, Some(spot));
+            count_up(order, split, hits, size, spot, &mark.key);
+            settle(order, split, hits, size, mark.key, Some(spot));
         }
     }
     Ok(())
@@ -329,7 +301,7 @@ fn add_and_settle(
 /// Puts all hits of a key in that has none yet. Refused for memory, or where the counts would pass
 /// 64 bits, and then all is as it was.
 pub(crate) fn add_key(
-    by_key: &mut BTreeMap<Key, Entry>,
+    hits: &mut HitIndex,
     order: &mut Vec<Mark>,
     split: &mut Split,
     size: usize,
@@ -337,14 +309,14 @@ pub(crate) fn add_key(
     entry: Entry,
 ) -> Result<(), AllocError>
     requires some { 0 < size }
-    requires order { order.old.items ≡ order_of (hits_in by_key.old) }
-    requires split { IsSplit (hitcount (hits_in by_key.old)) size order.old.items
+    requires order { order.old.items ≡ order_of hits.old }
+    requires split { IsSplit (hitcount hits.old) size order.old.items
         split.old.hits split.old.dropped }
-    requires absent { HasNone key (hits_in by_key.old) }
-    ensures hits { OnOk result (TakesHits key entry (hits_in by_key.old) (hits_in by_key.new)) }
-    ensures same_hits { OnErr result (hits_in by_key.new ≡ hits_in by_key.old) }
-    ensures order { order.new.items ≡ order_of (hits_in by_key.new) }
-    ensures split { IsSplit (hitcount (hits_in by_key.new)) size order.new.items
+    requires absent { HasNone key hits.old }
+    ensures hits { OnOk result (TakesHits key entry hits.old hits.new) }
+    ensures same_hits { OnErr result (hits.new ≡ hits.old) }
+    ensures order { order.new.items ≡ order_of hits.new }
+    ensures split { IsSplit (hitcount hits.new) size order.new.items
         split.new.hits split.new.dropped }
 {
     let count = entry.len() as u64;
@@ -355,8 +327,8 @@ pub(crate) fn add_key(
         None => Ok(()),
         Some(spot) => {
             order.reserve(1)?;
-            put(by_key, key, entry)?;
-            enter_with(order, split, by_key, size, Mark { spot, key }, count);
+            hits.put_entry(key, entry)?;
+            enter_with(order, split, hits, size, Mark { spot, key }, count);
             Ok(())
         }
     }
@@ -364,36 +336,36 @@ pub(crate) fn add_key(
 
 /// Takes the hit at a mark away, if one stands there.
 pub(crate) fn drop_hit(
-    by_key: &mut BTreeMap<Key, Entry>,
+    hits: &mut HitIndex,
     order: &mut Vec<Mark>,
     split: &mut Split,
     size: usize,
     mark: Mark,
 )
     requires some { 0 < size }
-    requires order { order.old.items ≡ order_of (hits_in by_key.old) }
-    requires split { IsSplit (hitcount (hits_in by_key.old)) size order.old.items
+    requires order { order.old.items ≡ order_of hits.old }
+    requires split { IsSplit (hitcount hits.old) size order.old.items
         split.old.hits split.old.dropped }
-    ensures hits { hits_in by_key.new ≡ map.remove (hits_in by_key.old) mark }
-    ensures order { order.new.items ≡ order_of (hits_in by_key.new) }
-    ensures split { IsSplit (hitcount (hits_in by_key.new)) size order.new.items
+    ensures hits { hits.new ≡ map.remove hits.old mark }
+    ensures order { order.new.items ≡ order_of hits.new }
+    ensures split { IsSplit (hitcount hits.new) size order.new.items
         split.new.hits split.new.dropped }
 {
-    match first_at(by_key, &mark.key) {
+    match hits.first_at(&mark.key) {
         None => {}
         Some(spot) => {
-            if take_hit(by_key, mark) {
+            if hits.take_hit(mark) {
                 count_down(
                     order,
                     split,
-                    by_key,
+                    hits,
                     size,
                     Mark {
                         spot,
                         key: mark.key,
                     },
                 );
-                settle(order, split, by_key, size, mark.key, Some(spot));
+                settle(order, split, hits, size, mark.key, Some(spot));
             }
         }
     }

@@ -3,17 +3,15 @@
 ghost use Rattle.std.specs.Prelude.{◌≡◌, ◌↔◌, ◌+◌, ◌<◌, ◌++◌, length, OnOk, OnErr, IfOk, IsTrue};
 ghost use Rattle.std.specs.Prelude.{map as list_map};
 ghost use Rattle.std.specs.FinMap as map;
-ghost use Rattle.ft_hits.specs.ByKey.{hits_in};
 ghost use Rattle.ft_text.specs.Fronts.{IsFront};
 ghost use Rattle.ft_table.specs.Rows.{row_of};
 
 use crate::order::rank_of;
 use crate::split::{Split, add_hit, add_key, drop_hit};
 use ft_hist::{Key, SortItem, Trigger, Work};
-use ft_hits::{Entry, Hit, Mark, Spot, count_of, count_puts, first_at, holds, next_hit, sums_at};
+use ft_hits::{Entry, Hit, HitIndex, Mark, Spot, count_puts};
 use ft_rows::{Row, Totals, sort_rows, write_heading, write_rows};
 use std::alloc::{AllocError, Global};
-use std::collections::BTreeMap;
 use std::marker::Model;
 
 /// The keys at a table's edge.
@@ -33,7 +31,7 @@ pub struct Edge {
 pub struct Table {
     alloc: Global,
     size: u32,
-    by_key: BTreeMap<Key, Entry>,
+    hits: HitIndex,
     order: Vec<Mark>,
     split: Split,
 }
@@ -74,7 +72,7 @@ impl Table {
         Table {
             alloc,
             size,
-            by_key: BTreeMap::new(alloc),
+            hits: HitIndex::new(alloc),
             order: Vec::new(alloc),
             split: Split {
                 hits: 0,
@@ -98,7 +96,7 @@ impl Table {
         work.tick_put();
         add_hit(
             self.alloc,
-            &mut self.by_key,
+            &mut self.hits,
             &mut self.order,
             &mut self.split,
             self.size as usize,
@@ -127,7 +125,7 @@ impl Table {
         count_puts(&run, work);
         let entry = Entry::of(self.alloc, run)?;
         add_key(
-            &mut self.by_key,
+            &mut self.hits,
             &mut self.order,
             &mut self.split,
             self.size as usize,
@@ -141,7 +139,7 @@ impl Table {
         ensures { self.new ≡ without_hit self.old (record { spot = spot; key = key }) }
     {
         drop_hit(
-            &mut self.by_key,
+            &mut self.hits,
             &mut self.order,
             &mut self.split,
             self.size as usize,
@@ -153,7 +151,7 @@ impl Table {
     pub fn holds(&self, spot: Spot, key: Key) -> bool
         ensures { result ≡ map.contains_key self.now.hits (record { spot = spot; key = key }) }
     {
-        holds(&self.by_key, Mark { spot, key })
+        self.hits.holds(Mark { spot, key })
     }
 
     /// Whether it has no hits at all.
@@ -182,7 +180,7 @@ impl Table {
         ensures { result ≡ list_any (same_key key.now)
             (list_map (λ mark. mark.key) (take place (order_of self.now.hits))) }
     {
-        match first_at(&self.by_key, key) {
+        match self.hits.first_at(key) {
             Some(spot) => rank_of(&self.order, &Mark { spot, key: *key }) < place,
             None => false,
         }
@@ -200,7 +198,7 @@ impl Table {
         ensures { result ≡ row_at self.now key.now }
     {
         if self.is_in(key) {
-            Some(row_of(&self.by_key, key))
+            Some(row_of(&self.hits, key))
         } else {
             None
         }
@@ -212,7 +210,7 @@ impl Table {
         ensures { IfOk result (λ rows. rows.items ≡ rows_of self.now sort.now) }
     {
         let inside = self.order.len().min(self.size as usize);
-        let mut rows = rows_at(self.alloc, &self.by_key, &self.order[..inside])?;
+        let mut rows = rows_at(self.alloc, &self.hits, &self.order[..inside])?;
         sort_rows(&mut rows, sort);
         Ok(rows)
     }
@@ -296,33 +294,29 @@ impl Table {
     pub fn hit_after(&self, key: &Key, after: Option<Spot>) -> Option<Hit>
         ensures { result ≡ hit_after self.now.hits key.now after }
     {
-        next_hit(&self.by_key, key, after)
+        self.hits.next_hit(key, after)
     }
 }
 
 /// What the hits of a key come to.
-fn row_of(by_key: &BTreeMap<Key, Entry>, key: &Key) -> Row
-    ensures { result ≡ row_of (hits_in by_key.now) key.now }
+fn row_of(hits: &HitIndex, key: &Key) -> Row
+    ensures { result ≡ row_of hits.now key.now }
 {
     Row {
         key: *key,
-        hitcount: count_of(by_key, key),
-        sums: sums_at(by_key, key),
+        hitcount: hits.count_of(key),
+        sums: hits.sums_at(key),
     }
 }
 
 /// What the hits of each of some keys come to.
-fn rows_at(
-    alloc: Global,
-    by_key: &BTreeMap<Key, Entry>,
-    marks: &[Mark],
-) -> Result<Vec<Row>, AllocError>
+fn rows_at(alloc: Global, hits: &HitIndex, marks: &[Mark]) -> Result<Vec<Row>, AllocError>
     ensures { IfOk result (λ rows. rows.items
-        ≡ list_map (λ mark. row_of (hits_in by_key.now) mark.key) marks.now) }
+        ≡ list_map (λ mark. row_of hits.now mark.key) marks.now) }
 {
     let mut rows = Vec::with_capacity(alloc, marks.len())?;
     for mark in marks {
-        rows.push(row_of(by_key, &mark.key))?;
+        rows.push(row_of(hits, &mark.key))?;
     }
     Ok(rows)
 }

@@ -13,8 +13,8 @@ use Rattle.std.specs.FinMap.Entries.{is_sorted, below_all}
 use Rattle.std.proofs.lemmas.Bool.{true≢false, eqb-true}
 use Rattle.std.proofs.Math.Bool.{or-false}
 use Rattle.std.proofs.Math.Seq.{drop-cons}
-use Rattle.ft_rivals.specs.declared.changed.Changed.{Changed}
-use Rattle.ft_rivals.specs.Reports.{is_reported}
+use Rattle.ft_changes.specs.declared.changed.Changed.{Changed}
+use Rattle.ft_changes.specs.Reports.{is_reported}
 use Rattle.ft_keys.specs.declared.key.Part.{Part}
 use Rattle.ft_keys.specs.Parts.{key_cmp}
 use Rattle.ft_keys.specs.Orders.{key_cmp_total}

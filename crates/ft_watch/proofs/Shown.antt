@@ -18,8 +18,8 @@ use Rattle.ft_hist.specs.Hist.{Hist}
 use Rattle.ft_maps.specs.Entries.{same_from_tie, strictly_sorted, entries-from_entries}
 use Rattle.ft_rows.specs.Keyed.{KeyedText}
 use Rattle.ft_rows.specs.Text.{row_text}
-use Rattle.ft_rivals.specs.declared.changed.Changed.{Changed}
-use Rattle.ft_rivals.specs.Reports.{is_reported}
+use Rattle.ft_changes.specs.declared.changed.Changed.{Changed}
+use Rattle.ft_changes.specs.Reports.{is_reported}
 use Rattle.ft_base.specs.declared.refused.Refused.{Refused}
 use Rattle.ft_base.specs.declared.refused.Refused.TheVariants.{NoTrigger}
 use Rattle.ft_base.specs.Base.{empty_base}

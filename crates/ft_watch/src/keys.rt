@@ -5,7 +5,7 @@ ghost use Rattle.std.specs.FinMap as map;
 ghost use Rattle.ft_keys.specs.declared.key.Part.{Part};
 ghost use Rattle.ft_keys.specs.Parts.{key_cmp};
 ghost use Rattle.ft_maps.specs.Seen.{seen};
-ghost use Rattle.ft_rivals.specs.Reports.{is_reported};
+ghost use Rattle.ft_changes.specs.Reports.{is_reported};
 
 use ft_desk::Changed;
 use ft_keys::Key;

@@ -1,7 +1,9 @@
 -- What is kept of a base, as edits and answers find it.
-use Rattle.std.specs.Prelude.{◌≡◌, None, IfSome}
+use Rattle.std.specs.Prelude.{◌≡◌, List, Option, None, IfSome}
 use Rattle.std.specs.Option.{is_none}
 use Rattle.std.specs.Ordering.{nat_cmp}
+use Rattle.ft_changes.specs.declared.changed.ReadingChange.{ReadingChange}
+use Rattle.ft_made.specs.MadeTables.{found_in}
 use Rattle.ft_maps.specs.Seen.{seen}
 use Rattle.ft_base.specs.Base.{Base, Triggers}
 use Rattle.ft_replay.specs.Found.{saving_found}
@@ -12,7 +14,8 @@ use Rattle.ft_answers.specs.declared.done.Kept.{Kept}
 use Rattle.ft_repair.specs.KeptShelves.{AreKept}
 use Rattle.ft_board.specs.MadeShelves.{MadeTables, AreMadeBy}
 use Rattle.ft_board.specs.declared.views.Views.{Views}
-use Rattle.ft_board.specs.inner.Mending.{CanMend}
+use Rattle.ft_board.specs.inner.Mending.{CanMendTo}
+use Rattle.ft_board.specs.inner.Readings.{readings_on}
 
 -- the tables of made events, by the trigger's id
 abbrev pub made_in : Views → MadeTables
@@ -26,9 +29,9 @@ AreOf triggers events views = IfSome views.shelves (AreKept triggers events) × 
 abbrev pub AreFresh : Base → Views → Type 0
 AreFresh base views = AreOf base.triggers (merged base.lanes) views
 
--- the tables of made events can be mended, where there are shelves
-abbrev pub CanBeMended : Base → Views → Type 0
-CanBeMended base views = IfSome views.shelves (λ shelves. CanMend base.triggers (merged base.lanes) shelves (made_in views))
+-- the tables of made events can be mended, where there are shelves, by what was told of their readings
+abbrev pub CanBeMended : Base → Option (List ReadingChange) → Views → Type 0
+CanBeMended base told views = IfSome views.shelves (λ shelves. CanMendTo base.triggers (merged base.lanes) told (found_in (readings_on shelves)) (made_in views))
 
 -- how an edit ends: it answers whether there are shelves; where there were none there are none, and no count of steps falls
 abbrev pub EndsAs : Kept → Views → Views → Type 0

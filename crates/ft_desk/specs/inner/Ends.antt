@@ -1,8 +1,8 @@
 -- How the program ends, by what its words name and what is told of its files. All of it is our own choice.
 use Rattle.std.specs.Prelude.{◌≡◌, ⊤, ℕ, List, [], ◌∷◌, ◌++◌, Option, Some, None, Result, Ok, Err}
 use Rattle.std.specs.Option.{option_map_or}
-use Rattle.ft_words.specs.Files.{Told, Bytes, Missing, Untold}
-use Rattle.ft_words.specs.Words.{Named}
+use Rattle.ft_script.specs.Files.{Told, Bytes, Missing, Untold}
+use Rattle.ft_script.specs.Words.{Named}
 use Rattle.ft_desk.specs.declared.running.Status.{Status}
 use Rattle.ft_desk.specs.declared.program.Fault.{Fault}
 use Rattle.ft_desk.specs.declared.program.Fault.TheVariants.{Words, File, Memory, Read, Write}

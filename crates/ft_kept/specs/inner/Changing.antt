@@ -1,6 +1,7 @@
 -- One act that comes or goes.
-use Rattle.std.specs.Prelude.{◌≡◌, ℕ, Some, None, option_map}
+use Rattle.std.specs.Prelude.{◌≡◌, ℕ, List, [], ◌∷◌, Some, None, option_map}
 use Rattle.std.specs.FinMap as map
+use Rattle.ft_hist.specs.Hist.{Hist}
 use Rattle.ft_pairs.specs.declared.role.Role.{Role}
 use Rattle.ft_kept.specs.Acts.{Acts}
 use Rattle.ft_kept.specs.Bounds.{OtherSaversStay, table_on}
@@ -33,6 +34,10 @@ pub record MayChange (scene : Scene) (act : Act) (sign : Sign) (acts : Acts) (wa
 -- the acts as it has come or gone
 abbrev pub acts_after : Sign → Act → Acts → Acts
 acts_after sign act acts = set acts act.at (act_after sign (act.key, act.event.now))
+
+-- it is asked of one trigger
+abbrev pub asked_at : Act → List (ℕ × Hist)
+asked_at act = (act.at.trigger, act.trigger.now) ∷ []
 
 -- it came or went; shelves keep their forms, and other savers their tables
 pub record HasChanged (scene : Scene) (act : Act) (sign : Sign) (acts : Acts) (old new : Shelves) : Type 0 where

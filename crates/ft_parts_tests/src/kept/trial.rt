@@ -10,7 +10,7 @@ ghost use Rattle.ft_maps.specs.Seen.{seen};
 
 use ft_event::{Body, Comm, Event, Name, Pos, Turn, Wake};
 use ft_hist::{Key, Part, Trigger, Work};
-use ft_kept::{Acted, Delta, Scene, Sign, Tables};
+use ft_kept::{Changes, Delta, Scene, Sign, Tables};
 use ft_lanes::Lanes;
 use ft_maps::{get, len, put, take};
 use ft_pairs::Role;
@@ -173,7 +173,7 @@ impl Trial {
             pos,
             event: &event,
         };
-        tables.apply(&scene, &delta, &mut Acted::unasked(), &mut Work::new())?;
+        tables.apply(&scene, &delta, &mut Changes::unasked(), &mut Work::new())?;
         change(&mut come, sign, pos, event)?;
         Ok(Trial {
             triggers,

@@ -10,4 +10,3 @@ pub record SavesCome (id : ℕ) (groups : Grouped) (old new : Shelved) : Type 0 
   pub table : new.table ≡ old.table
   pub ops : HasSaves id groups new.table new.ops
   pub readings : new.readings ≡ old.readings
-  pub notes : new.notes ≡ old.notes

@@ -3,15 +3,14 @@ use Rattle.std.specs.Prelude.{◌≡◌, ◌<◌}
 use Rattle.ft_table.specs.declared.table.Table.TheInside.{Inside}
 use Rattle.ft_hits.specs.Hits.{hitcount}
 use Rattle.ft_table.specs.Tabled.{Tabled, order_of}
-use Rattle.ft_hits.specs.ByKey.{hits_in}
 use Rattle.ft_table.specs.inner.Split.{IsSplit}
 
 -- what contracts see of a table's fields
 abbrev pub table_of : Inside → Tabled
-table_of t = record { hits = hits_in t.by_key; size = t.size }
+table_of t = record { hits = t.hits; size = t.size }
 
 -- there is room for a key, the order is that of the first hits, and the counts are those of the keys in the table and outside
 pub record IsInStep (t : Inside) : Type 0 where
   pub room : 0 < t.size
-  pub order : t.order.items ≡ order_of (hits_in t.by_key)
-  pub split : IsSplit (hitcount (hits_in t.by_key)) t.size t.order.items t.split.hits t.split.dropped
+  pub order : t.order.items ≡ order_of t.hits
+  pub split : IsSplit (hitcount t.hits) t.size t.order.items t.split.hits t.split.dropped

@@ -4,8 +4,7 @@ use Rattle.std.specs.FinMap as map
 use Rattle.ft_hits.specs.declared.spot.Spot.{Spot}
 use Rattle.ft_keys.specs.declared.key.Part.{Part}
 use Rattle.ft_hits.specs.declared.mark.Mark.{Mark}
-use Rattle.ft_hits.specs.Hits.{Hits, EntryHits, same_key}
-use Rattle.ft_table.specs.OneKey.{AreSameBut}
+use Rattle.ft_hits.specs.Hits.{Hits, same_key}
 use Rattle.ft_table.specs.Tabled.{first_hits}
 
 -- the first hits of all keys but one
@@ -24,11 +23,6 @@ order_with hits m = map.keys (map.insert (others hits m.key) m [])
 abbrev pub order_before : Hits → List Part → Option Spot → List Mark
 order_before hits key None = order_without hits key
 order_before hits key (Some spot) = order_with hits (record { spot = spot; key = key })
-
--- a key has these hits, and all other hits stay
-pub record TakesHits (key : List Part) (entry : EntryHits) (old new : Hits) : Type 0 where
-  pub here : (spot : Spot) → map.get new (record { spot = spot; key = key }) ≡ map.get entry spot
-  pub others : AreSameBut key old new
 
 -- counts of hits with one more at a key
 abbrev pub with_more : (List Part → ℕ) → List Part → List Part → ℕ

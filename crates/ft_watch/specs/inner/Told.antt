@@ -9,7 +9,7 @@ use Rattle.std.specs.FinMap.{FinMap}
 use Rattle.ft_keys.specs.contracts.key.Part as part
 use Rattle.ft_keys.specs.declared.key.Part.{Part}
 use Rattle.ft_keys.specs.Parts.{key_cmp}
-use Rattle.ft_rivals.specs.Reports.{is_reported}
+use Rattle.ft_changes.specs.Reports.{is_reported}
 use Rattle.ft_answers.specs.declared.edited.Edited.{Edited}
 use Rattle.ft_answers.specs.Base.{Base}
 use Rattle.ft_script.specs.Script.{Asked}

@@ -1,16 +1,15 @@
-use Rattle.std.proofs.Common.{◌≡◌}
+use Rattle.std.proofs.Common.{option_map}
 use Rattle.std.specs.Ordering.{nat_cmp}
 use Rattle.ft_hist.specs.Steps.{StepsGrow}
 use Rattle.ft_maps.specs.Seen.{seen}
-use Rattle.ft_replay.specs.Merged.{merged}
-use Rattle.ft_answers.specs.Counting.{CountNone}
+use Rattle.ft_board.specs.inner.Mending.{events_in, triggers_in}
 use Rattle.ft_board.proofs.Turning.{AreTurning}
 use Rattle.ft_board.proofs.mend.turn_counting.Given as goal
 
--- each table is turned but those of the triggers that are left; no count of steps fell, and none rose where no trigger counts made events
+-- each table is turned but those of the triggers that are left, and no count of steps fell
 abbrev pub invariant-loop-id : goal.invariant-loop-id
 invariant-loop-id l = record {
-  turned : AreTurning (seen nat_cmp l.scene.triggers.now) (merged l.scene.lanes.now) l.scene.tables.now l.id-iterator (seen nat_cmp l.made);
-  idle : CountNone (seen nat_cmp l.scene.triggers.now) → l.work ≡ l.fn.work;
+  turned : AreTurning (triggers_in l.mending) (events_in l.mending) l.mending.changes.now (seen nat_cmp l.fn.made) (option_map (λ rows. rows.items) l.fn.rows)
+      l.id-iterator (seen nat_cmp l.made) (option_map (λ rows. rows.items) l.rows);
   grow : StepsGrow l.fn.work l.work;
 }

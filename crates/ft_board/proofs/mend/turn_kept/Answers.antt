@@ -8,57 +8,48 @@ use Rattle.std.proofs.lemmas.Result.{on_ok_weaker}
 use Rattle.ft_hist.specs.Hist.{Hist}
 use Rattle.ft_maps.specs.Seen.{seen, get-seen, seen-found}
 use Rattle.ft_table.specs.Tabled.{Tabled}
-use Rattle.ft_replay.specs.Merged.{merged}
-use Rattle.ft_made.specs.MadeTables.{IsMadeTable, found_in}
+use Rattle.ft_made.specs.Turning.{CanTurn}
 use Rattle.ft_board.specs.MadeShelves.{MadeTables, made_on}
-use Rattle.ft_board.specs.inner.Mending.{OthersStay, had_by}
-use Rattle.ft_board.specs.inner.Readings.{readings_on}
-use Rattle.ft_board.proofs.Turning.{others_put, table_absent, table_put, table_there}
+use Rattle.ft_board.specs.inner.Mending.{events_in, triggers_in}
+use Rattle.ft_board.proofs.MadeShelves.{others_put, table_by, table_put}
 use Rattle.ft_board.proofs.mend.turn_kept.Goals as goal
 
-pub turn_makers-requires : goal.turn_makers-requires
-turn_makers-requires c =
-    subst (IsMadeTable (seen nat_cmp c.args.scene.now.triggers.now) (merged c.args.scene.now.lanes.now) (had_by c.args.scene.now.tables.now) c.args.trigger.now)
-    (table_there (seen nat_cmp c.args.made.now) c.args.id c.args.trigger.now c.in-Some.table.now (get-seen nat_cmp_total c.args.made.now c.args.id ∙ sym c.in-Some.ensures.value)) c.requires
+pub turn_table-requires : goal.turn_table-requires
+turn_table-requires c =
+    subst (CanTurn (triggers_in c.args.mending.now) (events_in c.args.mending.now) c.args.mending.now.changes.now c.args.trigger.now)
+    (ap (table_by c.args.trigger.now) (get-seen nat_cmp_total c.args.made.now c.args.id ∙ sym c.in-Some.ensures.value)) c.requires
 
-pub turn_makers-requires-in-None : goal.turn_makers-requires-in-None
-turn_makers-requires-in-None c =
-    subst (IsMadeTable (seen nat_cmp c.args.scene.now.triggers.now) (merged c.args.scene.now.lanes.now) (had_by c.args.scene.now.tables.now) c.args.trigger.now)
-    (table_absent (seen nat_cmp c.args.made.now) c.args.id c.args.trigger.now (get-seen nat_cmp_total c.args.made.now c.args.id ∙ sym c.in-None.ensures.value)
-    ∙ sym (c.new-table.ensures ∙ (λ i. record { hits = map.empty; size = c.size.ensures.value i }))) c.requires
+pub turn_table-requires-in-None : goal.turn_table-requires-in-None
+turn_table-requires-in-None c =
+    subst (CanTurn (triggers_in c.args.mending.now) (events_in c.args.mending.now) c.args.mending.now.changes.now c.args.trigger.now)
+    (ap (table_by c.args.trigger.now) (get-seen nat_cmp_total c.args.made.now c.args.id ∙ sym c.in-None.ensures.value) ∙ sym (c.new-table.ensures ∙ (λ i. record { hits = map.empty; size = c.size.ensures.value i }))) c.requires
 
-pub returns-in-Some-clause-turned : goal.returns-in-Some-clause-turned
-returns-in-Some-clause-turned c =
+pub returns-in-Some : goal.returns-in-Some
+returns-in-Some c =
     let made : MadeTables = seen nat_cmp c.args.made.now in
     let hist : Hist = c.args.trigger.now in
-    let after : Tabled = c.turn_makers.new.table in
-    let written : seen nat_cmp (c.get_mut.follows.lender after) ≡ map.insert made c.args.id after =
+    let after : Tabled = c.turn_table.new.table in
+    let was : made_on made c.args.id hist ≡ c.in-Some.table.now = ap (table_by hist) (get-seen nat_cmp_total c.args.made.now c.args.id ∙ sym c.in-Some.ensures.value) in
+    let put : seen nat_cmp (c.get_mut.follows.lender after) ≡ map.insert made c.args.id after =
     seen-found nat_cmp_total nat_cmp-IsAntisymmetric c.args.made.now (c.get_mut.follows.lender after) c.args.id c.in-Some.table.now after c.in-Some.ensures.value (c.get_mut.follows.holds after) in
-    on_ok_weaker c.turn_makers.result (λ is.
-    subst (IsMadeTable (seen nat_cmp c.args.scene.now.triggers.now) (merged c.args.scene.now.lanes.now) (found_in (readings_on c.args.scene.now.tables.now)) hist)
-    (sym (ap (λ (m : MadeTables). made_on m c.args.id hist) written ∙ table_put made c.args.id hist after)) is) c.turn_makers.ensures.turned
+    record {
+      turned = on_ok_weaker c.turn_table.result (λ is. rw was (rw (table_put made _ c.args.id after put hist) is)) c.turn_table.ensures.turned;
+      others = on_ok_weaker c.turn_table.result (λ _. others_put made _ c.args.id after put) c.turn_table.ensures.turned;
+      rows = on_ok_weaker c.turn_table.result (λ _. rw was c.turn_table.ensures.rows) c.turn_table.ensures.turned;
+      grow = c.turn_table.ensures.grow;
+    }
 
-pub returns-in-Some-clause-others : goal.returns-in-Some-clause-others
-returns-in-Some-clause-others c =
-    let made : MadeTables = seen nat_cmp c.args.made.now in
-    let after : Tabled = c.turn_makers.new.table in
-    let written : seen nat_cmp (c.get_mut.follows.lender after) ≡ map.insert made c.args.id after =
-    seen-found nat_cmp_total nat_cmp-IsAntisymmetric c.args.made.now (c.get_mut.follows.lender after) c.args.id c.in-Some.table.now after c.in-Some.ensures.value (c.get_mut.follows.holds after) in
-    on_ok_weaker c.turn_makers.result (λ _. subst (OthersStay c.args.id made) (sym written) (others_put made c.args.id after)) c.turn_makers.ensures.turned
-
-pub returns-in_ok-turn_makers-in-None-clause-turned : goal.returns-in_ok-turn_makers-in-None-clause-turned
-returns-in_ok-turn_makers-in-None-clause-turned c =
+pub returns-in_ok-turn_table-in-None : goal.returns-in_ok-turn_table-in-None
+returns-in_ok-turn_table-in-None c =
     let made : MadeTables = seen nat_cmp c.args.made.now in
     let hist : Hist = c.args.trigger.now in
-    let after : Tabled = c.turn_makers-in-None.new.table in
-    let still : seen nat_cmp c.get_mut.follows.lender-at-none ≡ made = ap (seen nat_cmp) c.get_mut.follows.holds-at-none in
-    on_ok_weaker c.put.result (λ is.
-    subst (IsMadeTable (seen nat_cmp c.args.scene.now.triggers.now) (merged c.args.scene.now.lanes.now) (found_in (readings_on c.args.scene.now.tables.now)) hist)
-    (sym (ap (λ (m : MadeTables). made_on m c.args.id hist) (is ∙ ap (λ (m : MadeTables). map.insert m c.args.id after) still) ∙ table_put made c.args.id hist after)) c.in_ok-turn_makers-in-None.ensures.turned) c.put.ensures.ok
-
-pub returns-in_ok-turn_makers-in-None-clause-others : goal.returns-in_ok-turn_makers-in-None-clause-others
-returns-in_ok-turn_makers-in-None-clause-others c =
-    let made : MadeTables = seen nat_cmp c.args.made.now in
-    let after : Tabled = c.turn_makers-in-None.new.table in
-    let still : seen nat_cmp c.get_mut.follows.lender-at-none ≡ made = ap (seen nat_cmp) c.get_mut.follows.holds-at-none in
-    on_ok_weaker c.put.result (λ is. subst (OthersStay c.args.id made) (sym (is ∙ ap (λ (m : MadeTables). map.insert m c.args.id after) still)) (others_put made c.args.id after)) c.put.ensures.ok
+    let after : Tabled = c.turn_table-in-None.new.table in
+    let was : made_on made c.args.id hist ≡ c.new-table.result =
+    ap (table_by hist) (get-seen nat_cmp_total c.args.made.now c.args.id ∙ sym c.in-None.ensures.value) ∙ sym (c.new-table.ensures ∙ (λ i. record { hits = map.empty; size = c.size.ensures.value i })) in
+    let still : map.insert (seen nat_cmp c.get_mut.follows.lender-at-none) c.args.id after ≡ map.insert made c.args.id after = ap (λ m. map.insert (seen nat_cmp m) c.args.id after) c.get_mut.follows.holds-at-none in
+    record {
+      turned = on_ok_weaker c.put.result (λ is. rw was (rw (table_put made _ c.args.id after (is ∙ still) hist) c.in_ok-turn_table-in-None.ensures.turned)) c.put.ensures.ok;
+      others = on_ok_weaker c.put.result (λ is. others_put made _ c.args.id after (is ∙ still)) c.put.ensures.ok;
+      rows = on_ok_weaker c.put.result (λ _. rw was c.in_ok-turn_table-in-None.ensures.rows) c.put.ensures.ok;
+      grow = c.in_ok-turn_table-in-None.ensures.grow;
+    }

@@ -1,6 +1,6 @@
 use Rattle.std.proofs.Common.{Vec, Global, Bor, Option, Some, None, Err, ℕ, List, map, option_map, ap, sym, subst}
-use Rattle.ft_words.specs.Files.{Untold}
-use Rattle.ft_words.specs.Words.{Named, shown}
+use Rattle.ft_script.specs.Files.{Untold}
+use Rattle.ft_script.specs.Words.{Named, shown}
 use Rattle.ft_desk.specs.declared.program.Fault.{Fault}
 use Rattle.ft_desk.specs.Program.{TellsFiles, FilesGive}
 use Rattle.ft_desk.specs.inner.Ends.{RunTells, ProgramEnds}

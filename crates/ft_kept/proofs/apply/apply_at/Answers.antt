@@ -1,5 +1,5 @@
 use Rattle.std.proofs.Common.{◌≡◌, ℕ, ◌+◌, ◌*◌, ◌≤◌, Some, None, Option, refl, sym, ap, ◌∙◌, inl, inr, arith}
-use Rattle.std.specs.Prelude.{◌⊎◌, option_and_then, option_map, List}
+use Rattle.std.specs.Prelude.{◌⊎◌, option_and_then, option_map, List, [], ◌∷◌}
 use Rattle.std.proofs.lemmas.Result.{on_ok_weaker}
 use Rattle.ft_fields.specs.Traced.{Traced}
 use Rattle.ft_hist.specs.Hist.{Hist}
@@ -18,6 +18,7 @@ use Rattle.ft_kept.specs.Views.{act_under, set, triggers_of}
 use Rattle.ft_kept.proofs.FewPuts.{hit_asked}
 use Rattle.ft_kept.proofs.Forms.{forms_refl}
 use Rattle.ft_kept.proofs.Input.{acts_are, tells}
+use Rattle.ft_kept.proofs.Told.{few_nothing}
 use Rattle.ft_kept.proofs.Views.{set_same}
 use Rattle.ft_kept.proofs.apply.apply_at.Goals as goal
 
@@ -36,6 +37,9 @@ returns-in_default-clause-input c =
     let none = no_act c.args.attached.now.trigger.now c.args.delta.now.event.now (sym c.key_of.ensures.key ∙ c.in_default.is) c.args.delta.now.sign in
     let at : At = record { pos = c.args.delta.now.pos; trigger = c.args.attached.now.id } in
     sym (set_same (input_of c.args.scene.now.lanes.now c.args.tables.now) at _ (c.requires.before ∙ none.0 ∙ sym none.1))
+
+pub returns-in_default-clause-told : goal.returns-in_default-clause-told
+returns-in_default-clause-told c = few_nothing ((c.args.attached.now.id, c.args.attached.now.trigger.now) ∷ []) c.args.changes.now c.args.tables.now
 
 -- ---- a hit
 

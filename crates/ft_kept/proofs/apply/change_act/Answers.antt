@@ -20,16 +20,16 @@ use Rattle.ft_kept.proofs.OneHit.{inserts_at_most}
 use Rattle.ft_kept.proofs.apply.change_act.Goals as goal
 
 pub change_hit-requires : goal.change_hit-requires
-change_hit-requires g c = subst (λ role. MayChange c.args.scene.now c.args.act.now c.args.sign g.acts role c.args.tables.now) (sym c.role.ensures ∙ c.in-Plain.is) c.requires.0
+change_hit-requires g c = subst (λ role. MayChange c.args.scene.now c.args.act.now c.args.act.now.sign g.acts role c.args.tables.now) (sym c.role.ensures ∙ c.in-Plain.is) c.requires.0
 
 pub change_saving-requires : goal.change_saving-requires
-change_saving-requires g c = subst (λ role. MayChange c.args.scene.now c.args.act.now c.args.sign g.acts role c.args.tables.now) (sym c.role.ensures ∙ c.in-Saves.is) c.requires.0
+change_saving-requires g c = subst (λ role. MayChange c.args.scene.now c.args.act.now c.args.act.now.sign g.acts role c.args.tables.now) (sym c.role.ensures ∙ c.in-Saves.is) c.requires.0
 
 pub change_reading-requires : goal.change_reading-requires
-change_reading-requires g c = subst (λ role. MayChange c.args.scene.now c.args.act.now c.args.sign g.acts role c.args.tables.now) (sym c.role.ensures ∙ c.in-Reads.is) c.requires.0
+change_reading-requires g c = subst (λ role. MayChange c.args.scene.now c.args.act.now c.args.act.now.sign g.acts role c.args.tables.now) (sym c.role.ensures ∙ c.in-Reads.is) c.requires.0
 
 pub returns-in-Plain-clause-puts : goal.returns-in-Plain-clause-puts
-returns-in-Plain-clause-puts g c = inl (omega (arith, c.change_hit.ensures.puts, inserts_at_most c.args.sign 1))
+returns-in-Plain-clause-puts g c = inl (omega (arith, c.change_hit.ensures.puts, inserts_at_most c.args.act.now.sign 1))
 
 -- the table of a saver moves as the event's hit comes or goes
 table_moves : (act : Act) (shelves : Shelves) → hit act.trigger.now act.event.now ≡ Some act.key → (sign : Sign)
@@ -42,5 +42,5 @@ table_moves act shelves one Retract moves =
 pub returns-in-Saves-clause-puts : goal.returns-in-Saves-clause-puts
 returns-in-Saves-clause-puts g c = elim c.change_saving.ensures.puts [
   | inl few ↦ inl few
-  | inr moves ↦ inr (sym c.role.ensures ∙ c.in-Saves.is, table_moves c.args.act.now c.args.tables.now c.requires.1 c.args.sign moves)
+  | inr moves ↦ inr (sym c.role.ensures ∙ c.in-Saves.is, table_moves c.args.act.now c.args.tables.now c.requires.1 c.args.act.now.sign moves)
 ]

@@ -6,8 +6,6 @@ use Rattle.std.specs.Ordering.{nat_cmp}
 use Rattle.std.proofs.lemmas.Result.{on_ok_weaker}
 use Rattle.ft_maps.specs.Seen.{seen}
 use Rattle.ft_kept.proofs.AtOnce.{joined_forms, plain_kept}
-use Rattle.ft_kept.proofs.Forms.{role_at}
-use Rattle.ft_kept.proofs.Noting.{notes_plain}
 use Rattle.ft_kept.proofs.Putting.{written, unwritten, shelved_there}
 use Rattle.ft_kept.proofs.Shelving.{lent_back, lent_was}
 use Rattle.ft_kept.proofs.at_once.hits_come.Goals as goal
@@ -31,8 +29,7 @@ returns-in-Some-clause-joined c =
     let others = unwritten old new id after back in
     let bare = c.requires.joins.bare.hits shelf was in
     on_ok_weaker c.put_groups.result (λ come. record {
-      forms = joined_forms triggers old new id shelf after was is others joining.trigger.now c.requires.joins.attached joining.groups.now come.table come.role come.readings bare
-          (notes_plain shelf after (sym (role_at old id (Some shelf) was) ∙ c.requires.role));
+      forms = joined_forms triggers old new id shelf after was is others joining.trigger.now c.requires.joins.attached joining.groups.now come.table come.role come.readings bare;
       right = λ events grouped before acts all kept. plain_kept triggers old new id shelf after was is others joining.trigger.now c.requires.joins.attached joining.groups.now come.table come.role come.readings
           events grouped before acts all kept c.requires.role come.ops;
     }) c.put_groups.ensures.ok

@@ -1,10 +1,16 @@
 -- First the readings of the other key that moved are made right, then those of the own key or the next one.
-use Rattle.std.proofs.Common.{sym, ap, ◌∙◌}
+use Rattle.std.proofs.Common.{List, Option, sym, ap, subst, ◌∙◌}
 use Rattle.std.proofs.lemmas.Result.{on_ok_weaker}
+use Rattle.ft_keys.specs.declared.key.Part.{Part}
 use Rattle.ft_shelves.specs.Following.{Moves}
+use Rattle.ft_shelves.specs.Shelves.{Shelves}
+use Rattle.ft_kept.specs.Changes.{Told}
 use Rattle.ft_kept.specs.inner.Acting.{CanSettle}
+use Rattle.ft_kept.specs.inner.Telling.{HasToldOf, moved_keys, other_key, variable_key}
 use Rattle.ft_kept.specs.Views.{triggers_of}
+use Rattle.ft_kept.proofs.Forms.{readers_forms}
 use Rattle.ft_kept.proofs.Paying.{IsOtherPaid, other_paid, no_other_paid, paid_shelved, paid_partly, paid_readers, own_pays, next_pays}
+use Rattle.ft_kept.proofs.Told.{told_nothing, told_trans}
 use Rattle.ft_kept.proofs.moved.settle_moved.Goals as goal
 use Rattle.ft_kept.proofs.moved.settle_moved.Goals.{Joined-moved, in-Some+in_ok-settle_key, in_default}
 
@@ -51,3 +57,26 @@ pub returns-else-moved-clause-right : goal.returns-else-moved-clause-right
 returns-else-moved-clause-right c = on_ok_weaker c.settle_next.result
     (λ pays next is_next. next_pays (triggers_of c.args.scene.now) c.args.scene.now.lanes.now c.args.tables.now c.match-moved.tables c.args.act.now.at.trigger c.args.moved (paid (goal.at.returns-else-moved-clause-right c).Joined-moved) c.settle_next.new.tables
     c.args.act.now.key c.args.act.now.at (ap (λ (m : Moves). m.own) (sym c.moved.view_is) ∙ c.if-moved.false) pays next is_next) c.settle_next.ensures.right
+
+-- what is told of the other key that moved
+other_told : (c : goal.Joined-moved) → HasToldOf (other_key c.args.act.now.at.trigger c.args.moved.other) c.args.changes.now c.match-moved.changes c.args.tables.now c.match-moved.tables
+other_told c = elim c.match-moved.branch [
+  | in-Some+in_ok-settle_key w ↦ subst (λ (x : Option (List Part) × (Told × Shelves)). HasToldOf (other_key c.args.act.now.at.trigger x.0) c.args.changes.now x.1.0 c.args.tables.now x.1.1)
+      (λ i. (sym (ap (λ (m : Moves). m.other) (sym c.moved.view_is) ∙ w.in-Some.is) i, (sym w.changes-is i, sym w.tables-is i))) w.in_ok-settle_key.ensures.told
+  | in_default w ↦ subst (λ (x : Option (List Part) × (Told × Shelves)). HasToldOf (other_key c.args.act.now.at.trigger x.0) c.args.changes.now x.1.0 c.args.tables.now x.1.1)
+      (λ i. (sym (ap (λ (m : Moves). m.other) (sym c.moved.view_is) ∙ w.in_default.is) i, (sym w.changes-is i, sym w.tables-is i))) (told_nothing c.args.changes.now c.args.tables.now)
+]
+
+-- and then of the own key
+both_told : (c : goal.Joined-moved) (after : Told) (new : Shelves) → HasToldOf (variable_key (record { saver = c.args.act.now.at.trigger; key = c.args.act.now.key })) c.match-moved.changes after c.match-moved.tables new
+    → HasToldOf (moved_keys c.args.act.now.at.trigger c.args.act.now.key c.args.moved) c.args.changes.now after c.args.tables.now new
+both_told c after new = told_trans (other_key c.args.act.now.at.trigger c.args.moved.other) (variable_key (record { saver = c.args.act.now.at.trigger; key = c.args.act.now.key }))
+    c.args.changes.now c.match-moved.changes after c.args.tables.now c.match-moved.tables new (readers_forms c.args.tables.now c.match-moved.tables (paid c).readers) (other_told c)
+
+pub returns-then-moved-clause-told : goal.returns-then-moved-clause-told
+returns-then-moved-clause-told c = on_ok_weaker c.settle_key-then-moved.result
+    (both_told (goal.at.returns-then-moved-clause-told c).Joined-moved c.settle_key-then-moved.new.changes c.settle_key-then-moved.new.tables) c.settle_key-then-moved.ensures.told
+
+pub returns-else-moved-clause-told : goal.returns-else-moved-clause-told
+returns-else-moved-clause-told c = on_ok_weaker c.settle_next.result
+    (both_told (goal.at.returns-else-moved-clause-told c).Joined-moved c.settle_next.new.changes c.settle_next.new.tables) c.settle_next.ensures.told

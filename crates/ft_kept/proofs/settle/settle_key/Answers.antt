@@ -11,6 +11,7 @@ use Rattle.ft_shelves.specs.Shelves.{role_on, kept_on}
 use Rattle.ft_table.specs.Values.{values_by}
 use Rattle.ft_kept.proofs.Forms.{readers_refl, readers_trans, readers_forms, readers_ops, shelved_stay}
 use Rattle.ft_kept.proofs.Paid.{owes_less, pays_then, pays_partly}
+use Rattle.ft_kept.proofs.Told.{reread_nothing, reread_trans, told_reread}
 use Rattle.ft_kept.proofs.Walks.{on_walk, next_there, walk_begins, walk_ends, walk_goes_on}
 use Rattle.ft_kept.proofs.settle.settle_key.Goals as goal
 
@@ -23,6 +24,7 @@ loop-next-init c =
       right = λ admits acts owed held kept.
           owes_less (role_on c.args.tables.now) (values_by (seen nat_cmp c.args.scene.now.triggers.now)) admits acts (kept_on c.args.tables.now) owed (on_walk ops c.next_op-next.result owed)
           (λ q owes. walk_begins ops q c.next_op-next.result c.next_op-next.ensures.next owed owes) kept;
+      told = reread_nothing c.args.variable.now c.tell_key.new.self c.args.tables.now;
       evals = refl;
       puts = omega arith;
     }
@@ -62,6 +64,7 @@ loop-next-preserved c =
           (subst (λ next. IsKeptBut (role_on first) (values_by (seen nat_cmp c.args.scene.now.triggers.now)) admits acts (kept_on after) (without_next_read (Some step) (on_walk ops next owed))) c.in-Some.is
           (pays_then (seen nat_cmp c.args.scene.now.triggers.now) c.args.scene.now.lanes.now first before (on_walk ops c.loop-next.next)
           (readers_forms first before c.loop-next.invariant.readers) c.loop-next.invariant.right after (without_next_read (Some step)) c.in_ok-settle_op.ensures.right admits acts owed held kept));
+      told = reread_trans c.args.variable.now c.tell_key.new.self c.loop-next.changes c.settle_op.new.changes first before after (readers_forms first before c.loop-next.invariant.readers) c.loop-next.invariant.told c.in_ok-settle_op.ensures.told;
       evals = c.settle_op.ensures.evals ∙ c.loop-next.invariant.evals;
       puts = let before = c.loop-next.invariant.puts in let more = c.settle_op.ensures.grow.puts in omega (arith, before, more);
     }
@@ -74,3 +77,8 @@ returns-clause-right c = λ admits acts owed held kept.
     (λ q owes. walk_ends ops q owed owes)
     (subst (λ next. IsKeptBut (role_on c.args.tables.now) (values_by (seen nat_cmp c.args.scene.now.triggers.now)) admits acts (kept_on c.loop-next.tables) (on_walk ops next owed)) c.in_default.is
     (c.loop-next.invariant.right admits acts owed held kept))
+
+pub returns-clause-told : goal.returns-clause-told
+returns-clause-told c =
+    told_reread c.args.variable.now c.args.changes.now c.tell_key.new.self c.loop-next.changes c.args.tables.now c.loop-next.tables c.tell_key.ensures.keys c.tell_key.ensures.readings
+    c.loop-next.invariant.told

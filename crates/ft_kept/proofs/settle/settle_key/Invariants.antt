@@ -4,6 +4,7 @@ use Rattle.ft_pairs.specs.declared.at.At.{At}
 use Rattle.ft_pairs.specs.declared.at.Op.{Op}
 use Rattle.ft_kept.specs.inner.Acting.{Paid}
 use Rattle.ft_kept.specs.inner.Edits.{ReadersChange, left_on}
+use Rattle.ft_kept.specs.inner.Telling.{HasReread}
 use Rattle.ft_shelves.specs.Shelves.{kept_on}
 use Rattle.ft_kept.proofs.Walks.{on_walk}
 use Rattle.ft_kept.proofs.settle.settle_key.Given as goal
@@ -13,6 +14,7 @@ invariant-loop-next l = record {
   readers : ReadersChange l.fn.tables l.tables;
   there : (step : At × Op) → l.next ≡ Some step → (kept_on l.fn.tables).ops l.variable step.0 ≡ Some step.1;
   right : Paid l.scene l.fn.tables l.tables (on_walk ((kept_on l.fn.tables).ops l.variable) l.next);
+  told : HasReread l.variable l.initial.changes l.changes l.fn.tables l.tables;
   evals : l.work.evals ≡ l.fn.work.evals;
   puts : l.fn.work.puts ≤ l.work.puts;
 }

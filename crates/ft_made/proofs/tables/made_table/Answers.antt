@@ -61,7 +61,7 @@ loop-id-preserved g c =
     let idle : AllByRecursion (λ (x : ℕ × Hist). IsIdle x.0 c.loop-id.table) (e ∷ c.next.new.self) = subst (AllByRecursion (λ (x : ℕ × Hist). IsIdle x.0 c.loop-id.table)) more c.loop-id.invariant.idle in
     let put : c.put_maker.new.table ≡ with_maker lanes hist pairs c.loop-id.table e = c.in_ok-put_maker.ensures.ok in
     record {
-      rest = fold_step (with_maker lanes hist pairs) c.loop-id.table c.put_maker.new.table _ e c.next.new.self c.loop-id.id-iterator put more c.loop-id.invariant.rest;
+      rest = fold_step (with_maker lanes hist pairs) c.loop-id.table c.put_maker.new.table (fold (with_maker lanes hist pairs) (new_table hist) (map.entries triggers)) e c.next.new.self c.loop-id.id-iterator put more c.loop-id.invariant.rest;
       apart = apart.1;
       attached = attached.1;
       idle = subst (λ (t : Tabled). AllByRecursion (λ (x : ℕ × Hist). IsIdle x.0 t) c.next.new.self) (sym put) (idle_later lanes hist pairs c.loop-id.table e c.next.new.self apart.0 idle.1);

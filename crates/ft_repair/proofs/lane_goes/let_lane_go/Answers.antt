@@ -1,9 +1,10 @@
 use Rattle.std.proofs.Common.{sym, subst, Option}
 use Rattle.std.specs.Option.{IfSome}
-use Rattle.ft_kept.specs.Shelves.{Shelves, FormsStay, NotesStay}
+use Rattle.ft_kept.specs.Shelves.{Shelves, FormsStay}
 use Rattle.ft_base.specs.Base.{Base}
 use Rattle.ft_repair.specs.KeptShelves.{AreKeptOf}
 use Rattle.ft_repair.specs.ButOneLane.{AreKeptWithoutLane}
+use Rattle.ft_repair.specs.ReadingsTold.{ReadingsTold}
 use Rattle.ft_repair.proofs.Repaired.{repaired_if, repaired_both, repaired_there}
 use Rattle.ft_repair.proofs.lane_goes.let_lane_go.Goals as goal
 
@@ -23,6 +24,7 @@ pub returns-clause-forms : goal.returns-clause-forms
 returns-clause-forms c =
     repaired_both FormsStay c.in-Some.tables c.take_lane-repaired.new.tables c.take_lane-repaired.result c.args.kept.now c.put_back.new.kept c.in-Some.ensures.value c.put_back.ensures c.take_lane-repaired.ensures.forms
 
-pub returns-clause-quiet : goal.returns-clause-quiet
-returns-clause-quiet c plain =
-    repaired_both NotesStay c.in-Some.tables c.take_lane-repaired.new.tables c.take_lane-repaired.result c.args.kept.now c.put_back.new.kept c.in-Some.ensures.value c.put_back.ensures (c.take_lane-repaired.ensures.quiet plain)
+pub returns-clause-reread : goal.returns-clause-reread
+returns-clause-reread c =
+    repaired_both (ReadingsTold c.args.changes.now.readings c.take_lane-repaired.new.changes.readings) c.in-Some.tables c.take_lane-repaired.new.tables c.take_lane-repaired.result c.args.kept.now c.put_back.new.kept c.in-Some.ensures.value c.put_back.ensures
+    c.take_lane-repaired.ensures.reread

@@ -1,15 +1,14 @@
-use Rattle.std.proofs.Common.{◌≡◌, ◌+◌, ◌≤◌, ℕ, Bool, true, false, List, [], ◌∷◌, refl, sym, ap, subst, ◌∙◌, Option, Some, None, Ok, Err, Result, unwrap_or, arith}
+use Rattle.std.proofs.Common.{◌≡◌, ℕ, Bool, true, false, List, refl, sym, ap, subst, ◌∙◌, Option, Some, None, Ok, Err, Result, unwrap_or, arith}
 use Rattle.std.specs.Result.{result_from_control_flow}
 use Rattle.std.specs.declared.alloc.AllocError.{AllocError}
 use Rattle.std.specs.FinMap as map
-use Rattle.std.proofs.lemmas.Map.Iter.{rest_more, rest_all}
+use Rattle.std.proofs.lemmas.Map.Iter.{rest_all}
 use Rattle.ft_fields.specs.Traced.{Traced}
 use Rattle.ft_fields.specs.declared.pos.Pos.{Pos}
 use Rattle.ft_kept.specs.Input.{input_of}
 use Rattle.ft_kept.specs.Repairs.{IsHeldAt}
 use Rattle.ft_kept.specs.Views.{HasAt, triggers_of, with_event}
 use Rattle.ft_kept.proofs.Forms.{forms_refl, forms_trans}
-use Rattle.ft_shelves.specs.declared.sign.Sign.TheVariants.{Retract}
 use Rattle.ft_lanes.specs.Held.{Lane, Lanes}
 use Rattle.ft_lanes.specs.Walks.{shown}
 use Rattle.ft_base.specs.Base.{Base, Triggers}
@@ -19,8 +18,10 @@ use Rattle.ft_answers.specs.Deferral.{IsPlainLane}
 use Rattle.ft_replay.specs.Merged.{merged, place_of}
 use Rattle.ft_replay.proofs.Stepping.{grow_none, grow_more}
 use Rattle.ft_repair.specs.KeptShelves.{AreKept}
-use Rattle.ft_repair.proofs.Changing.{next_views, next_held, next_before, changing_fewer}
-use Rattle.ft_repair.proofs.LaneGoes.{IsGoing, first, last, placed, going_all, going_plain, going_none, count_lines, no_lane, no_lines, its_lines, tests_fewer}
+use Rattle.ft_repair.proofs.Changing.{next_of, next_views, next_held, next_before, changing_fewer}
+use Rattle.ft_repair.proofs.LaneGoes.{IsGoing, placed, line_next, going_all, going_plain, going_none, no_lane, no_lines, its_lines}
+use Rattle.ft_repair.proofs.LanesCome.{count_events, counted}
+use Rattle.ft_repair.proofs.Telling.{telling_none, telling_more}
 use Rattle.ft_repair.proofs.lane_goes.take_lane.Goals as goal
 
 pub returns-in_default-clause-kept : goal.returns-in_default-clause-kept
@@ -42,60 +43,46 @@ loop-line-init c =
       going = subst (λ (es : List (ℕ × Traced)). IsGoing triggers lanes c.args.cpu es c.args.tables.now) (sym all) (going_all triggers lanes c.args.cpu its.0 its.1.0 savers c.args.tables.now kept);
       evals = λ lane there.
           let same : its.0 ≡ lane = ap (λ (o : Option Lane). unwrap_or o lane) (sym its.1.0 ∙ there) in
-          let counts : count_lines triggers c.into_iter-line-iterator.result ≡ count_on_lane triggers lane = ap (count_lines triggers) all ∙ ap (count_on_lane triggers) same in
+          let counts : count_events triggers c.into_iter-line-iterator.result ≡ count_on_lane triggers lane = ap (count_events triggers) all ∙ ap (count_on_lane triggers) same in
           omega (arith, counts);
       forms = forms_refl c.args.tables.now;
-      quiet = λ plain id. refl;
+      reread = telling_none c.args.changes.now.readings c.args.tables.now;
+      quiet = λ plain. refl;
       grow = grow_none _;
     }
 
 pub apply-requires-clause-views : goal.apply-requires-clause-views
 apply-requires-clause-views c =
-    let triggers : Triggers = triggers_of c.scene_of-scene.result in
-    let lanes : Lanes = c.scene_of-scene.result.lanes.now in
-    let e : ℕ × Traced = (c.in-Some-2.line, c.event-event.result) in
-    let more : c.loop-line.line-iterator ≡ e ∷ c.next.new.self = rest_more shown _ _ _ _ c.in-Some-2.is c.next.ensures.steps ∙ ap (λ (x : ℕ × Traced). x ∷ c.next.new.self) (λ i. (c.in-Some-2.line, sym c.event-event.ensures i)) in
-    let going = subst (λ (es : List (ℕ × Traced)). IsGoing triggers lanes c.args.cpu es c.loop-line.tables) more c.loop-line.invariant.going in
-    next_views triggers lanes (λ _. true) Retract (first triggers lanes c.args.cpu) (last triggers lanes c.args.cpu) (place_of c.args.cpu e, e.1) (placed c.args.cpu c.next.new.self) c.loop-line.tables going
+    let more = line_next _ _ _ _ _ c.in-Some-2.is c.next.ensures.steps c.event-event.ensures in
+    let going = next_of (ap (placed c.args.cpu) more) c.loop-line.invariant.going in
+    next_views going
 
 pub apply-requires-clause-held : goal.apply-requires-clause-held
 apply-requires-clause-held c =
-    let triggers : Triggers = triggers_of c.scene_of-scene.result in
-    let lanes : Lanes = c.scene_of-scene.result.lanes.now in
-    let e : ℕ × Traced = (c.in-Some-2.line, c.event-event.result) in
-    let more : c.loop-line.line-iterator ≡ e ∷ c.next.new.self = rest_more shown _ _ _ _ c.in-Some-2.is c.next.ensures.steps ∙ ap (λ (x : ℕ × Traced). x ∷ c.next.new.self) (λ i. (c.in-Some-2.line, sym c.event-event.ensures i)) in
-    let going = subst (λ (es : List (ℕ × Traced)). IsGoing triggers lanes c.args.cpu es c.loop-line.tables) more c.loop-line.invariant.going in
-    let stamp : c.event.inside.stamp ≡ e.1.stamp = ap (λ (x : Traced). x.stamp) c.event.view_is in
-    let place : place_of c.args.cpu e ≡ (record { stamp = c.event.inside.stamp; cpu = c.args.cpu; line = e.0 }) = λ i. record { stamp = sym stamp i; cpu = c.args.cpu; line = e.0 } in
-    subst (λ (pos : Pos). IsHeldAt lanes pos e.1) place (next_held triggers lanes (λ _. true) Retract (first triggers lanes c.args.cpu) (last triggers lanes c.args.cpu) (place_of c.args.cpu e, e.1) (placed c.args.cpu c.next.new.self) c.loop-line.tables going)
+    let more = line_next _ _ _ _ _ c.in-Some-2.is c.next.ensures.steps c.event-event.ensures in
+    let going = next_of (ap (placed c.args.cpu) more) c.loop-line.invariant.going in
+    let place : place_of c.args.cpu (c.in-Some-2.line, c.event-event.result) ≡ (record { stamp = c.event.inside.stamp; cpu = c.args.cpu; line = c.in-Some-2.line }) = λ i. record { stamp = ap (λ (x : Traced). x.stamp) (sym c.event.view_is) i; cpu = c.args.cpu; line = c.in-Some-2.line } in
+    subst (λ (pos : Pos). IsHeldAt c.scene_of-scene.result.lanes.now pos c.event-event.result) place (next_held going)
 
 pub apply-requires-clause-before : goal.apply-requires-clause-before
 apply-requires-clause-before c =
-    let triggers : Triggers = triggers_of c.scene_of-scene.result in
-    let lanes : Lanes = c.scene_of-scene.result.lanes.now in
-    let e : ℕ × Traced = (c.in-Some-2.line, c.event-event.result) in
-    let more : c.loop-line.line-iterator ≡ e ∷ c.next.new.self = rest_more shown _ _ _ _ c.in-Some-2.is c.next.ensures.steps ∙ ap (λ (x : ℕ × Traced). x ∷ c.next.new.self) (λ i. (c.in-Some-2.line, sym c.event-event.ensures i)) in
-    let going = subst (λ (es : List (ℕ × Traced)). IsGoing triggers lanes c.args.cpu es c.loop-line.tables) more c.loop-line.invariant.going in
-    let stamp : c.event.inside.stamp ≡ e.1.stamp = ap (λ (x : Traced). x.stamp) c.event.view_is in
-    let place : place_of c.args.cpu e ≡ (record { stamp = c.event.inside.stamp; cpu = c.args.cpu; line = e.0 }) = λ i. record { stamp = sym stamp i; cpu = c.args.cpu; line = e.0 } in
-    subst (λ (pos : Pos). HasAt triggers (input_of lanes c.loop-line.tables) pos (Some e.1)) place (λ id. next_before triggers lanes (λ _. true) Retract (first triggers lanes c.args.cpu) (last triggers lanes c.args.cpu) (place_of c.args.cpu e, e.1) (placed c.args.cpu c.next.new.self) c.loop-line.tables going id refl)
+    let more = line_next _ _ _ _ _ c.in-Some-2.is c.next.ensures.steps c.event-event.ensures in
+    let going = next_of (ap (placed c.args.cpu) more) c.loop-line.invariant.going in
+    let place : place_of c.args.cpu (c.in-Some-2.line, c.event-event.result) ≡ (record { stamp = c.event.inside.stamp; cpu = c.args.cpu; line = c.in-Some-2.line }) = λ i. record { stamp = ap (λ (x : Traced). x.stamp) (sym c.event.view_is) i; cpu = c.args.cpu; line = c.in-Some-2.line } in
+    subst (λ (pos : Pos). HasAt (triggers_of c.scene_of-scene.result) (input_of c.scene_of-scene.result.lanes.now c.loop-line.tables) pos (Some c.event-event.result)) place (λ id. next_before going id refl)
 
 pub loop-line-preserved : goal.loop-line-preserved
 loop-line-preserved c =
-    let triggers : Triggers = triggers_of c.scene_of-scene.result in
-    let lanes : Lanes = c.scene_of-scene.result.lanes.now in
-    let e : ℕ × Traced = (c.in-Some-2.line, c.event-event.result) in
-    let more : c.loop-line.line-iterator ≡ e ∷ c.next.new.self = rest_more shown _ _ _ _ c.in-Some-2.is c.next.ensures.steps ∙ ap (λ (x : ℕ × Traced). x ∷ c.next.new.self) (λ i. (c.in-Some-2.line, sym c.event-event.ensures i)) in
-    let going = subst (λ (es : List (ℕ × Traced)). IsGoing triggers lanes c.args.cpu es c.loop-line.tables) more c.loop-line.invariant.going in
-    let stamp : c.event.inside.stamp ≡ e.1.stamp = ap (λ (x : Traced). x.stamp) c.event.view_is in
-    let place : place_of c.args.cpu e ≡ (record { stamp = c.event.inside.stamp; cpu = c.args.cpu; line = e.0 }) = λ i. record { stamp = sym stamp i; cpu = c.args.cpu; line = e.0 } in
+    let more = line_next _ _ _ _ _ c.in-Some-2.is c.next.ensures.steps c.event-event.ensures in
+    let going = next_of (ap (placed c.args.cpu) more) c.loop-line.invariant.going in
+    let place : place_of c.args.cpu (c.in-Some-2.line, c.event-event.result) ≡ (record { stamp = c.event.inside.stamp; cpu = c.args.cpu; line = c.in-Some-2.line }) = λ i. record { stamp = ap (λ (x : Traced). x.stamp) (sym c.event.view_is) i; cpu = c.args.cpu; line = c.in-Some-2.line } in
     record {
-      going = changing_fewer triggers lanes (λ _. true) Retract (first triggers lanes c.args.cpu) (last triggers lanes c.args.cpu) (place_of c.args.cpu e, e.1) (placed c.args.cpu c.next.new.self) c.loop-line.tables going c.apply.new.self c.in_ok-apply.ensures.forms c.in_ok-apply.ensures.views
-          (c.in_ok-apply.ensures.input ∙ ap (λ (pos : Pos). with_event triggers (input_of lanes c.loop-line.tables) pos None) (sym place));
-      evals = λ lane there. tests_fewer triggers e c.next.new.self (count_on_lane triggers lane) c.args.work.now.evals c.loop-line.work.evals c.apply.new.work.evals
-          (subst (λ (es : List (ℕ × Traced)). c.loop-line.work.evals + count_lines triggers es ≤ c.args.work.now.evals + count_on_lane triggers lane) more (c.loop-line.invariant.evals lane there)) c.in_ok-apply.ensures.evals;
+      going = changing_fewer going c.apply.new.self c.in_ok-apply.ensures.forms c.in_ok-apply.ensures.views
+          (c.in_ok-apply.ensures.input ∙ ap (λ (pos : Pos). with_event (triggers_of c.scene_of-scene.result) (input_of c.scene_of-scene.result.lanes.now c.loop-line.tables) pos None) (sym place));
+      evals = λ lane there. let count = counted (triggers_of c.scene_of-scene.result) more in let before = c.loop-line.invariant.evals lane there in omega (arith, before, count, c.in_ok-apply.ensures.evals);
       forms = forms_trans c.args.tables.now c.loop-line.tables c.apply.new.self c.loop-line.invariant.forms c.in_ok-apply.ensures.forms;
-      quiet = λ plain id. c.in_ok-apply.ensures.quiet (going_plain triggers lanes c.args.cpu e c.next.new.self c.loop-line.tables going plain) id ∙ c.loop-line.invariant.quiet plain id;
+      reread = telling_more c.args.changes.now.readings c.loop-line.changes c.apply.new.changes c.args.tables.now c.loop-line.tables c.apply.new.self c.loop-line.invariant.reread c.in_ok-apply.ensures.told.told;
+      quiet = λ plain. c.in_ok-apply.ensures.quiet (going_plain _ _ _ (c.in-Some-2.line, c.event-event.result) c.next.new.self going plain) ∙ c.loop-line.invariant.quiet plain;
       grow = grow_more _ _ _ c.loop-line.invariant.grow c.in_ok-apply.ensures.grow;
     }
 
@@ -106,34 +93,31 @@ went (Err fault) = false
 
 pub returns-in_err-apply-clause-memory : goal.returns-in_err-apply-clause-memory
 returns-in_err-apply-clause-memory c plain =
-    let triggers : Triggers = triggers_of c.scene_of-scene.result in
-    let lanes : Lanes = c.scene_of-scene.result.lanes.now in
-    let e : ℕ × Traced = (c.in-Some-2.line, c.event-event.result) in
-    let more : c.loop-line.line-iterator ≡ e ∷ c.next.new.self = rest_more shown _ _ _ _ c.in-Some-2.is c.next.ensures.steps ∙ ap (λ (x : ℕ × Traced). x ∷ c.next.new.self) (λ i. (c.in-Some-2.line, sym c.event-event.ensures i)) in
-    let going = subst (λ (es : List (ℕ × Traced)). IsGoing triggers lanes c.args.cpu es c.loop-line.tables) more c.loop-line.invariant.going in
-    let hits : IsPlainLane triggers lanes c.args.cpu = subst (λ (held : Triggers × Lanes). IsPlainLane held.0 held.1 c.args.cpu) (λ i. (sym c.scene_of-scene.ensures.triggers i, sym c.scene_of-scene.ensures.lanes i)) plain in
-    let done : c.apply.result ≡ Ok tt = c.apply.ensures.memory (going_plain triggers lanes c.args.cpu e c.next.new.self c.loop-line.tables going hits) in
+    let more = line_next _ _ _ _ _ c.in-Some-2.is c.next.ensures.steps c.event-event.ensures in
+    let going = next_of (ap (placed c.args.cpu) more) c.loop-line.invariant.going in
+    let hits : IsPlainLane (triggers_of c.scene_of-scene.result) c.scene_of-scene.result.lanes.now c.args.cpu = subst (λ (held : Triggers × Lanes). IsPlainLane held.0 held.1 c.args.cpu) (λ i. (sym c.scene_of-scene.ensures.triggers i, sym c.scene_of-scene.ensures.lanes i)) plain in
+    let done : c.apply.result ≡ Ok tt = c.apply.ensures.memory (going_plain _ _ _ (c.in-Some-2.line, c.event-event.result) c.next.new.self going hits) in
     let both : ◌≡◌ {A = Bool} true false = ap went (sym done) ∙ ap went c.branch-apply.ensures ∙ ap (λ flow. went (result_from_control_flow flow)) c.in_err-apply.is in
     absurd cc
 
+pub returns-in_err-apply-clause-quiet : goal.returns-in_err-apply-clause-quiet
+returns-in_err-apply-clause-quiet c plain =
+    let more = line_next _ _ _ _ _ c.in-Some-2.is c.next.ensures.steps c.event-event.ensures in
+    let going = next_of (ap (placed c.args.cpu) more) c.loop-line.invariant.going in
+    let hits : IsPlainLane (triggers_of c.scene_of-scene.result) c.scene_of-scene.result.lanes.now c.args.cpu = subst (λ (held : Triggers × Lanes). IsPlainLane held.0 held.1 c.args.cpu) (λ i. (sym c.scene_of-scene.ensures.triggers i, sym c.scene_of-scene.ensures.lanes i)) plain in
+    c.apply.ensures.quiet (going_plain _ _ _ (c.in-Some-2.line, c.event-event.result) c.next.new.self going hits) ∙ c.loop-line.invariant.quiet hits
+
 pub returns-in_err-apply-clause-evals : goal.returns-in_err-apply-clause-evals
 returns-in_err-apply-clause-evals c lane there =
-    let triggers : Triggers = triggers_of c.scene_of-scene.result in
-    let e : ℕ × Traced = (c.in-Some-2.line, c.event-event.result) in
-    let more : c.loop-line.line-iterator ≡ e ∷ c.next.new.self = rest_more shown _ _ _ _ c.in-Some-2.is c.next.ensures.steps ∙ ap (λ (x : ℕ × Traced). x ∷ c.next.new.self) (λ i. (c.in-Some-2.line, sym c.event-event.ensures i)) in
-    let here : map.get c.scene_of-scene.result.lanes.now c.args.cpu ≡ Some lane = ap (λ (lanes : Lanes). map.get lanes c.args.cpu) c.scene_of-scene.ensures.lanes ∙ there in
-    let tests = tests_fewer triggers e c.next.new.self (count_on_lane triggers lane) c.args.work.now.evals c.loop-line.work.evals c.apply.new.work.evals
-    (subst (λ (es : List (ℕ × Traced)). c.loop-line.work.evals + count_lines triggers es ≤ c.args.work.now.evals + count_on_lane triggers lane) more (c.loop-line.invariant.evals lane here)) c.apply.ensures.evals in
-    omega (arith, tests, ap (λ (ts : Triggers). count_on_lane ts lane) c.scene_of-scene.ensures.triggers)
+    let more = line_next _ _ _ _ _ c.in-Some-2.is c.next.ensures.steps c.event-event.ensures in
+    let before = c.loop-line.invariant.evals lane (ap (λ (lanes : Lanes). map.get lanes c.args.cpu) c.scene_of-scene.ensures.lanes ∙ there) in
+    let count = counted (triggers_of c.scene_of-scene.result) more in
+    omega (arith, before, count, c.apply.ensures.evals, ap (λ (ts : Triggers). count_on_lane ts lane) c.scene_of-scene.ensures.triggers)
 
 pub returns-clause-kept : goal.returns-clause-kept
 returns-clause-kept c =
-    let triggers : Triggers = triggers_of c.scene_of-scene.result in
-    let lanes : Lanes = c.scene_of-scene.result.lanes.now in
-    let none : c.loop-line.line-iterator ≡ [] = rest_all shown _ _ _ c.in-None.is c.next.ensures.steps in
-    let kept : AreKept triggers (merged (map.remove lanes c.args.cpu)) c.loop-line.tables =
-    going_none triggers lanes c.args.cpu c.loop-line.tables (subst (λ (es : List (ℕ × Traced)). IsGoing triggers lanes c.args.cpu es c.loop-line.tables) none c.loop-line.invariant.going) in
-    subst (λ (held : Triggers × Lanes). AreKept held.0 (merged (map.remove held.1 c.args.cpu)) c.loop-line.tables) (λ i. (c.scene_of-scene.ensures.triggers i, c.scene_of-scene.ensures.lanes i)) kept
+    subst (λ (held : Triggers × Lanes). AreKept held.0 (merged (map.remove held.1 c.args.cpu)) c.loop-line.tables) (λ i. (c.scene_of-scene.ensures.triggers i, c.scene_of-scene.ensures.lanes i))
+    (going_none _ _ _ (rest_all shown _ _ _ c.in-None.is c.next.ensures.steps) c.loop-line.invariant.going)
 
 pub returns-clause-quiet : goal.returns-clause-quiet
 returns-clause-quiet c plain =

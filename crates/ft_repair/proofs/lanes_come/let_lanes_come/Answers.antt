@@ -4,6 +4,7 @@ use Rattle.ft_kept.specs.Shelves.{Shelves, FormsStay}
 use Rattle.ft_base.specs.Base.{Base}
 use Rattle.ft_repair.specs.KeptShelves.{AreKeptOf}
 use Rattle.ft_repair.specs.SomeLanes.{AreKeptOfLanes}
+use Rattle.ft_repair.specs.ReadingsTold.{ReadingsTold}
 use Rattle.ft_repair.proofs.Repaired.{repaired_if, repaired_both}
 use Rattle.ft_repair.proofs.lanes_come.let_lanes_come.Goals as goal
 
@@ -19,3 +20,8 @@ returns-clause-kept c =
 pub returns-clause-forms : goal.returns-clause-forms
 returns-clause-forms c =
     repaired_both FormsStay c.in-Some.tables c.put_lanes-repaired.new.tables c.put_lanes-repaired.result c.args.kept.now c.put_back.new.kept c.in-Some.ensures.value c.put_back.ensures c.put_lanes-repaired.ensures.forms
+
+pub returns-clause-reread : goal.returns-clause-reread
+returns-clause-reread c =
+    repaired_both (ReadingsTold c.args.changes.now.readings c.put_lanes-repaired.new.changes.readings) c.in-Some.tables c.put_lanes-repaired.new.tables c.put_lanes-repaired.result c.args.kept.now c.put_back.new.kept c.in-Some.ensures.value c.put_back.ensures
+    c.put_lanes-repaired.ensures.reread

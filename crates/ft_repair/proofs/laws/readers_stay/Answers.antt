@@ -2,17 +2,17 @@ use Rattle.ft_repair.proofs.Staying.{filter_stays, ops_stay, reader_readings, re
 use Rattle.ft_repair.proofs.laws.readers_stay.Goals as goal
 
 pub returns-clause-operations : goal.returns-clause-operations
-returns-clause-operations c = λ triggers others events old new kept will saver alike key at. ops_stay triggers others events old new kept will saver alike key at
+returns-clause-operations c = λ triggers others events old new kept will saver alike key at. ops_stay c.one_source.ensures triggers others events old new kept will saver alike key at
 
 pub returns-clause-table : goal.returns-clause-table
 returns-clause-table c =
     λ triggers others events old new kept will saver alike id reads shelf its there is.
-    reader_table triggers others events old new kept will saver alike c.one_source.ensures id reads shelf its there is
+    reader_table c.one_source.ensures triggers others events old new kept will saver alike id reads shelf its there is
 
 pub returns-clause-readings : goal.returns-clause-readings
 returns-clause-readings c =
     λ triggers others events old new kept will saver alike id reads shelf its there is.
-    reader_readings triggers others events old new kept will saver alike c.one_source.ensures id reads shelf its there is
+    reader_readings c.one_source.ensures triggers others events old new kept will saver alike id reads shelf its there is
 
 pub returns-clause-filter : goal.returns-clause-filter
 returns-clause-filter c =

@@ -1,4 +1,4 @@
-use Rattle.std.proofs.Common.{ℕ, ◌≡◌, ◌∷◌, [], true, List, refl, sym, ap, subst, ◌∙◌}
+use Rattle.std.proofs.Common.{ℕ, ◌≡◌, true, List, refl, sym, ap, subst, ◌∙◌}
 use Rattle.std.specs.Ordering.{nat_cmp}
 use Rattle.std.specs.FinMap as map
 use Rattle.std.specs.Map.Iter.{deref_pair}
@@ -9,7 +9,7 @@ use Rattle.ft_pairs.specs.declared.role.Role.{Role}
 use Rattle.ft_maps.specs.Seen.{seen}
 use Rattle.ft_base.specs.Base.{Triggers}
 use Rattle.ft_base.specs.Roles.{role_of}
-use Rattle.ft_repair.proofs.Putting.{AreRenewedBut, renewed_none, renewed_more, renewed_all}
+use Rattle.ft_repair.proofs.Putting.{AreRenewedBut, next_renewed, renewed_none, renewed_more, renewed_all}
 use Rattle.ft_repair.proofs.rebuild.new_tables.Goals as goal
 
 pub loop-id-init : goal.loop-id-init
@@ -22,15 +22,12 @@ pub loop-id-preserved : goal.loop-id-preserved
 loop-id-preserved c =
     let triggers : Triggers = seen nat_cmp c.args.triggers.now in
     let e : ℕ × Hist = (c.in-Some.id.now, c.in-Some.attached.now) in
-    let more : c.loop-id.id-iterator ≡ e ∷ c.next.new.self = rest_more (deref_pair {K = ℕ} {X = Hist}) _ _ _ _ c.in-Some.is c.next.ensures.steps in
+    let is = next_renewed (rest_more (deref_pair {K = ℕ} {X = Hist}) _ _ _ _ c.in-Some.is c.next.ensures.steps) c.loop-id.invariant in
     let role : c.role_of-role.result ≡ role_of triggers e.1.variable = c.role_of-role.ensures ∙ ap (role_of triggers) c.variable.ensures in
     let adds : AddsShelf e.0 (role_of triggers e.1.variable) e.1.size c.loop-id.tables c.add.new.self =
     subst (λ (n : ℕ). AddsShelf e.0 (role_of triggers e.1.variable) n c.loop-id.tables c.add.new.self) c.size.ensures.value
     (subst (λ (r : Role). AddsShelf e.0 r c.size.result c.loop-id.tables c.add.new.self) role c.in_ok-add.ensures.ok) in
-    renewed_more triggers (λ _. true) map.empty e c.next.new.self c.loop-id.tables (subst (λ (es : List (ℕ × Hist)). AreRenewedBut triggers (λ _. true) map.empty es c.loop-id.tables) more c.loop-id.invariant) c.add.new.self adds refl
+    renewed_more is c.add.new.self adds refl
 
 pub returns : goal.returns
-returns c =
-    let triggers : Triggers = seen nat_cmp c.args.triggers.now in
-    let none : c.loop-id.id-iterator ≡ [] = rest_all (deref_pair {K = ℕ} {X = Hist}) _ _ _ c.in-None.is c.next.ensures.steps in
-    renewed_all triggers (λ _. true) map.empty c.loop-id.tables (subst (λ (es : List (ℕ × Hist)). AreRenewedBut triggers (λ _. true) map.empty es c.loop-id.tables) none c.loop-id.invariant)
+returns c = renewed_all (rest_all (deref_pair {K = ℕ} {X = Hist}) _ _ _ c.in-None.is c.next.ensures.steps) c.loop-id.invariant

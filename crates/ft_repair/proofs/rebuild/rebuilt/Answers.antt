@@ -1,4 +1,4 @@
-use Rattle.std.proofs.Common.{◌≡◌, ℕ, List, [], ◌∷◌, true, refl, sym, ap, subst, ◌∙◌}
+use Rattle.std.proofs.Common.{◌≡◌, ℕ, List, true, refl, sym, ap, subst, ◌∙◌}
 use Rattle.std.specs.FinMap as map
 use Rattle.std.specs.Map.Iter.{deref_pair}
 use Rattle.std.proofs.lemmas.Map.Iter.{rest_more, rest_all}
@@ -13,7 +13,7 @@ use Rattle.ft_repair.proofs.AtOnce.{named_listed}
 use Rattle.ft_replay.specs.Merged.{merged}
 use Rattle.ft_repair.proofs.Joining.{new_idle}
 use Rattle.ft_repair.proofs.KeptFor.{for_kept}
-use Rattle.ft_repair.proofs.Putting.{IsPut, put_none, put_more, put_all, told_idle, idle_first}
+use Rattle.ft_repair.proofs.Putting.{IsPut, next_put, put_none, put_more, put_all, told_idle, idle_first}
 use Rattle.ft_repair.proofs.rebuild.rebuilt.Goals as goal
 
 pub loop-id-init : goal.loop-id-init
@@ -29,36 +29,25 @@ loop-id-init c =
 
 pub put_events-requires : goal.put_events-requires
 put_events-requires c =
-    let triggers : Triggers = triggers_of c.args.scene.now in
-    let lanes : Lanes = c.args.scene.now.lanes.now in
-    let e : ℕ × Hist = (c.in-Some.id.now, c.in-Some.trigger.now) in
-    let more : c.loop-id.id-iterator ≡ e ∷ c.next.new.self = rest_more (deref_pair {K = ℕ} {X = Hist}) _ _ _ _ c.in-Some.is c.next.ensures.steps in
-    let is = subst (λ (es : List (ℕ × Hist)). IsPut triggers lanes (λ _. true) es c.loop-id.tables) more c.loop-id.invariant.put in
+    let is = next_put (rest_more (deref_pair {K = ℕ} {X = Hist}) _ _ _ _ c.in-Some.is c.next.ensures.steps) c.loop-id.invariant.put in
     record {
-      listed = named_listed triggers lanes e.0 e.1 is.attached.0 (entries_by held c.deref.result.now) (ap (entries_by held) c.deref.ensures.value ∙ c.in_ok-events.ensures);
+      listed = named_listed (triggers_of c.args.scene.now) c.args.scene.now.lanes.now c.in-Some.id.now c.in-Some.trigger.now is.attached.0 (entries_by held c.deref.result.now) (ap (entries_by held) c.deref.ensures.value ∙ c.in_ok-events.ensures);
       can = record {
         attached = is.attached.0;
-        kept = told_idle triggers lanes (λ _. true) e c.next.new.self c.loop-id.tables is;
-        idle = idle_first triggers lanes (λ _. true) e c.next.new.self c.loop-id.tables is refl;
+        kept = told_idle is;
+        idle = idle_first is refl;
       };
     }
 
 pub loop-id-preserved : goal.loop-id-preserved
 loop-id-preserved c =
-    let triggers : Triggers = triggers_of c.args.scene.now in
-    let lanes : Lanes = c.args.scene.now.lanes.now in
-    let e : ℕ × Hist = (c.in-Some.id.now, c.in-Some.trigger.now) in
-    let more : c.loop-id.id-iterator ≡ e ∷ c.next.new.self = rest_more (deref_pair {K = ℕ} {X = Hist}) _ _ _ _ c.in-Some.is c.next.ensures.steps in
-    let is = subst (λ (es : List (ℕ × Hist)). IsPut triggers lanes (λ _. true) es c.loop-id.tables) more c.loop-id.invariant.put in
+    let is = next_put (rest_more (deref_pair {K = ℕ} {X = Hist}) _ _ _ _ c.in-Some.is c.next.ensures.steps) c.loop-id.invariant.put in
     record {
-      put = put_more triggers lanes (λ _. true) e c.next.new.self c.loop-id.tables is c.put_events.new.tables c.in_ok-put_events.ensures.joined;
+      put = put_more is c.put_events.new.tables c.in_ok-put_events.ensures.joined;
       grow = grow_more _ _ _ c.loop-id.invariant.grow c.in_ok-put_events.ensures.grow;
     }
 
 pub returns-clause-kept : goal.returns-clause-kept
 returns-clause-kept c =
-    let triggers : Triggers = triggers_of c.args.scene.now in
-    let lanes : Lanes = c.args.scene.now.lanes.now in
-    let none : c.loop-id.id-iterator ≡ [] = rest_all (deref_pair {K = ℕ} {X = Hist}) _ _ _ c.in-None.is c.next.ensures.steps in
-    for_kept triggers lanes (merged lanes) c.loop-id.tables
-    (put_all triggers lanes (λ _. true) c.loop-id.tables (subst (λ (es : List (ℕ × Hist)). IsPut triggers lanes (λ _. true) es c.loop-id.tables) none c.loop-id.invariant.put))
+    for_kept (triggers_of c.args.scene.now) c.args.scene.now.lanes.now (merged c.args.scene.now.lanes.now) c.loop-id.tables
+    (put_all (rest_all (deref_pair {K = ℕ} {X = Hist}) _ _ _ c.in-None.is c.next.ensures.steps) c.loop-id.invariant.put)

@@ -1,4 +1,4 @@
-use Rattle.std.proofs.Common.{ℕ, ◌≡◌, ◌∷◌, [], true, false, List, sym, ap, subst, ◌∙◌, arith}
+use Rattle.std.proofs.Common.{ℕ, ◌≡◌, ◌∷◌, true, false, List, sym, ap, subst, ◌∙◌, arith}
 use Rattle.std.specs.FinMap as map
 use Rattle.std.specs.Map.Iter.{deref_pair}
 use Rattle.std.proofs.lemmas.Map.Iter.{rest_more, rest_all}
@@ -9,8 +9,8 @@ use Rattle.ft_base.specs.Base.{Triggers}
 use Rattle.ft_base.specs.OneTrigger.{is_kin, is_in_family}
 use Rattle.ft_base.specs.Roles.{role_of}
 use Rattle.ft_replay.proofs.Stepping.{grow_none, grow_more}
-use Rattle.ft_repair.proofs.Families.{role_there}
-use Rattle.ft_repair.proofs.Putting.{IsPut, tests_in, put_none, put_skip, put_more, put_all, told_idle, idle_first, tests_member, tests_other}
+use Rattle.ft_repair.proofs.Families.{in_family}
+use Rattle.ft_repair.proofs.Putting.{IsPut, tests_in, next_put, put_none, put_skip, put_more, put_all, told_idle, idle_first, tests_member, tests_other}
 use Rattle.ft_repair.proofs.trigger_joins.put_family.Goals as goal
 
 pub loop-other-init : goal.loop-other-init
@@ -28,32 +28,26 @@ loop-other-init c =
 pub put_acts-requires : goal.put_acts-requires
 put_acts-requires c =
     let triggers : Triggers = triggers_of c.args.scene.now in
-    let lanes : Lanes = c.args.scene.now.lanes.now in
-    let family = is_in_family triggers c.args.id in
     let e : ℕ × Hist = (c.in-Some.other.now, c.in-Some.trigger.now) in
     let more : c.loop-other.other-iterator ≡ e ∷ c.next.new.self = rest_more (deref_pair {K = ℕ} {X = Hist}) _ _ _ _ c.in-Some.is c.next.ensures.steps in
-    let is = subst (λ (es : List (ℕ × Hist)). IsPut triggers lanes family es c.loop-other.tables) more c.loop-other.invariant.put in
-    let role : c.role_of-role.result ≡ role_of triggers e.1.variable = c.role_of-role.ensures ∙ ap (role_of triggers) c.variable.ensures in
-    let member : family e.0 ≡ true = ap (is_kin c.args.id e.0) (role_there triggers e.0 e.1 is.attached.0 ∙ sym role) ∙ sym c.is_kin.ensures ∙ c.if-is_kin.true in
+    let is = next_put more c.loop-other.invariant.put in
+    let member = in_family triggers c.args.id e is.attached.0 (c.role_of-role.ensures ∙ ap (role_of triggers) c.variable.ensures) c.is_kin.ensures c.if-is_kin.true in
     record {
       attached = is.attached.0;
-      kept = told_idle triggers lanes family e c.next.new.self c.loop-other.tables is;
-      idle = idle_first triggers lanes family e c.next.new.self c.loop-other.tables is member;
+      kept = told_idle is;
+      idle = idle_first is member;
     }
 
 pub loop-other-preserved-in-Continue-1 : goal.loop-other-preserved-in-Continue-1
 loop-other-preserved-in-Continue-1 c =
     let triggers : Triggers = triggers_of c.args.scene.now in
-    let lanes : Lanes = c.args.scene.now.lanes.now in
-    let family = is_in_family triggers c.args.id in
     let e : ℕ × Hist = (c.in-Some.other.now, c.in-Some.trigger.now) in
     let more : c.loop-other.other-iterator ≡ e ∷ c.next.new.self = rest_more (deref_pair {K = ℕ} {X = Hist}) _ _ _ _ c.in-Some.is c.next.ensures.steps in
-    let is = subst (λ (es : List (ℕ × Hist)). IsPut triggers lanes family es c.loop-other.tables) more c.loop-other.invariant.put in
-    let role : c.role_of-role.result ≡ role_of triggers e.1.variable = c.role_of-role.ensures ∙ ap (role_of triggers) c.variable.ensures in
-    let member : family e.0 ≡ true = ap (is_kin c.args.id e.0) (role_there triggers e.0 e.1 is.attached.0 ∙ sym role) ∙ sym c.is_kin.ensures ∙ c.if-is_kin.true in
-    let tests = ap (tests_in family lanes) more ∙ tests_member family lanes e c.next.new.self member in
+    let is = next_put more c.loop-other.invariant.put in
+    let member = in_family triggers c.args.id e is.attached.0 (c.role_of-role.ensures ∙ ap (role_of triggers) c.variable.ensures) c.is_kin.ensures c.if-is_kin.true in
+    let tests = tests_member (is_in_family triggers c.args.id) c.args.scene.now.lanes.now more member in
     record {
-      put = put_more triggers lanes family e c.next.new.self c.loop-other.tables is c.put_acts.new.tables c.in_ok-put_acts.ensures.joined;
+      put = put_more is c.put_acts.new.tables c.in_ok-put_acts.ensures.joined;
       evals = omega (arith, c.loop-other.invariant.evals, tests, c.in_ok-put_acts.ensures.evals);
       grow = grow_more _ _ _ c.loop-other.invariant.grow c.in_ok-put_acts.ensures.grow;
     }
@@ -61,27 +55,19 @@ loop-other-preserved-in-Continue-1 c =
 pub loop-other-preserved : goal.loop-other-preserved
 loop-other-preserved c =
     let triggers : Triggers = triggers_of c.args.scene.now in
-    let lanes : Lanes = c.args.scene.now.lanes.now in
-    let family = is_in_family triggers c.args.id in
     let e : ℕ × Hist = (c.in-Some.other.now, c.in-Some.trigger.now) in
     let more : c.loop-other.other-iterator ≡ e ∷ c.next.new.self = rest_more (deref_pair {K = ℕ} {X = Hist}) _ _ _ _ c.in-Some.is c.next.ensures.steps in
-    let is = subst (λ (es : List (ℕ × Hist)). IsPut triggers lanes family es c.loop-other.tables) more c.loop-other.invariant.put in
-    let role : c.role_of-role.result ≡ role_of triggers e.1.variable = c.role_of-role.ensures ∙ ap (role_of triggers) c.variable.ensures in
-    let out : family e.0 ≡ false = ap (is_kin c.args.id e.0) (role_there triggers e.0 e.1 is.attached.0 ∙ sym role) ∙ sym c.is_kin.ensures ∙ c.if-is_kin.false in
-    let tests = ap (tests_in family lanes) more ∙ tests_other family lanes e c.next.new.self out in
+    let is = next_put more c.loop-other.invariant.put in
+    let out = in_family triggers c.args.id e is.attached.0 (c.role_of-role.ensures ∙ ap (role_of triggers) c.variable.ensures) c.is_kin.ensures c.if-is_kin.false in
+    let tests = tests_other (is_in_family triggers c.args.id) c.args.scene.now.lanes.now more out in
     record {
-      put = put_skip triggers lanes family e c.next.new.self c.loop-other.tables is out;
+      put = put_skip is out;
       evals = omega (arith, c.loop-other.invariant.evals, tests);
       grow = c.loop-other.invariant.grow;
     }
 
 pub returns-clause-kept : goal.returns-clause-kept
-returns-clause-kept c =
-    let triggers : Triggers = triggers_of c.args.scene.now in
-    let lanes : Lanes = c.args.scene.now.lanes.now in
-    let family = is_in_family triggers c.args.id in
-    let none : c.loop-other.other-iterator ≡ [] = rest_all (deref_pair {K = ℕ} {X = Hist}) _ _ _ c.in-None.is c.next.ensures.steps in
-    put_all triggers lanes family c.loop-other.tables (subst (λ (es : List (ℕ × Hist)). IsPut triggers lanes family es c.loop-other.tables) none c.loop-other.invariant.put)
+returns-clause-kept c = put_all (rest_all (deref_pair {K = ℕ} {X = Hist}) _ _ _ c.in-None.is c.next.ensures.steps) c.loop-other.invariant.put
 
 pub returns-clause-evals : goal.returns-clause-evals
 returns-clause-evals c = omega (arith, c.loop-other.invariant.evals)
@@ -89,12 +75,9 @@ returns-clause-evals c = omega (arith, c.loop-other.invariant.evals)
 pub returns-in_err-put_acts-clause-evals : goal.returns-in_err-put_acts-clause-evals
 returns-in_err-put_acts-clause-evals c =
     let triggers : Triggers = triggers_of c.args.scene.now in
-    let lanes : Lanes = c.args.scene.now.lanes.now in
-    let family = is_in_family triggers c.args.id in
     let e : ℕ × Hist = (c.in-Some.other.now, c.in-Some.trigger.now) in
     let more : c.loop-other.other-iterator ≡ e ∷ c.next.new.self = rest_more (deref_pair {K = ℕ} {X = Hist}) _ _ _ _ c.in-Some.is c.next.ensures.steps in
-    let is = subst (λ (es : List (ℕ × Hist)). IsPut triggers lanes family es c.loop-other.tables) more c.loop-other.invariant.put in
-    let role : c.role_of-role.result ≡ role_of triggers e.1.variable = c.role_of-role.ensures ∙ ap (role_of triggers) c.variable.ensures in
-    let member : family e.0 ≡ true = ap (is_kin c.args.id e.0) (role_there triggers e.0 e.1 is.attached.0 ∙ sym role) ∙ sym c.is_kin.ensures ∙ c.if-is_kin.true in
-    let tests = ap (tests_in family lanes) more ∙ tests_member family lanes e c.next.new.self member in
+    let is = next_put more c.loop-other.invariant.put in
+    let member = in_family triggers c.args.id e is.attached.0 (c.role_of-role.ensures ∙ ap (role_of triggers) c.variable.ensures) c.is_kin.ensures c.if-is_kin.true in
+    let tests = tests_member (is_in_family triggers c.args.id) c.args.scene.now.lanes.now more member in
     omega (arith, c.loop-other.invariant.evals, tests, c.put_acts.ensures.evals)

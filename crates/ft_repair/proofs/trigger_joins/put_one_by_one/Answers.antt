@@ -1,18 +1,12 @@
-use Rattle.std.proofs.Common.{◌≡◌, ◌+◌, List, [], drop, length, ap, subst, arith}
+use Rattle.std.proofs.Common.{List, length, ap, arith}
 use Rattle.std.proofs.lemmas.List.{drop_all}
 use Rattle.ft_fields.specs.Traced.{Traced}
 use Rattle.ft_fields.specs.declared.pos.Pos.{Pos}
-use Rattle.ft_kept.specs.Input.{input_of}
-use Rattle.ft_kept.specs.Views.{triggers_of}
-use Rattle.ft_shelves.specs.declared.sign.Sign.TheVariants.{Insert}
-use Rattle.ft_lanes.specs.Held.{Lanes}
 use Rattle.ft_maps.specs.Mapped.{entries_by}
 use Rattle.ft_store.specs.Stored.{held}
-use Rattle.ft_base.specs.Base.{Triggers}
 use Rattle.ft_replay.proofs.Stepping.{grow_none, grow_more}
-use Rattle.ft_repair.specs.inner.Joining.{is_one, with_trigger}
-use Rattle.ft_repair.proofs.Changing.{next_views, next_held, its_before, its_fewer, changing_none}
-use Rattle.ft_repair.proofs.OneTrigger.{Joins, joins_all}
+use Rattle.ft_repair.proofs.Changing.{next_of, next_views, next_held, its_before, its_fewer, changing_none}
+use Rattle.ft_repair.proofs.OneTrigger.{joins_all}
 use Rattle.ft_repair.proofs.Putting.{asked_once}
 use Rattle.ft_repair.proofs.Unpacked.{first_left, all_of_them}
 use Rattle.ft_repair.proofs.trigger_joins.put_one_by_one.Goals as goal
@@ -27,11 +21,8 @@ loop-pos-init c =
 
 pub apply_to-requires-clause-views : goal.apply_to-requires-clause-views
 apply_to-requires-clause-views c =
-    let triggers : Triggers = triggers_of c.args.joining.now.scene in
-    let lanes : Lanes = c.args.joining.now.scene.lanes.now in
     let more = first_left c.args.events.now c.loop-pos.pos-index c.loop-pos-item.result c.event-event.result c.loop-pos-test.true c.loop-pos-item.is c.event-event.ensures in
-    let joining = subst (λ (es : List (Pos × Traced)). Joins c.args.joining.now c.args.tables.now es c.loop-pos.tables) more (c.loop-pos.invariant.joining c.requires) in
-    next_views triggers lanes (is_one c.args.joining.now.id) Insert (input_of lanes c.args.tables.now) (with_trigger triggers lanes c.args.joining.now.id (input_of lanes c.args.tables.now)) (c.loop-pos-item.result.0, c.event-event.result) (entries_by held (drop (c.loop-pos.pos-index + 1) c.args.events.now)) c.loop-pos.tables joining
+    next_views (next_of more (c.loop-pos.invariant.joining c.requires))
 
 pub apply_to-requires-clause-attached : goal.apply_to-requires-clause-attached
 apply_to-requires-clause-attached c =
@@ -39,29 +30,19 @@ apply_to-requires-clause-attached c =
 
 pub apply_to-requires-clause-held : goal.apply_to-requires-clause-held
 apply_to-requires-clause-held c =
-    let triggers : Triggers = triggers_of c.args.joining.now.scene in
-    let lanes : Lanes = c.args.joining.now.scene.lanes.now in
     let more = first_left c.args.events.now c.loop-pos.pos-index c.loop-pos-item.result c.event-event.result c.loop-pos-test.true c.loop-pos-item.is c.event-event.ensures in
-    let joining = subst (λ (es : List (Pos × Traced)). Joins c.args.joining.now c.args.tables.now es c.loop-pos.tables) more (c.loop-pos.invariant.joining c.requires) in
-    next_held triggers lanes (is_one c.args.joining.now.id) Insert (input_of lanes c.args.tables.now) (with_trigger triggers lanes c.args.joining.now.id (input_of lanes c.args.tables.now)) (c.loop-pos-item.result.0, c.event-event.result) (entries_by held (drop (c.loop-pos.pos-index + 1) c.args.events.now)) c.loop-pos.tables joining
+    next_held (next_of more (c.loop-pos.invariant.joining c.requires))
 
 pub apply_to-requires-clause-before : goal.apply_to-requires-clause-before
 apply_to-requires-clause-before c =
-    let triggers : Triggers = triggers_of c.args.joining.now.scene in
-    let lanes : Lanes = c.args.joining.now.scene.lanes.now in
     let more = first_left c.args.events.now c.loop-pos.pos-index c.loop-pos-item.result c.event-event.result c.loop-pos-test.true c.loop-pos-item.is c.event-event.ensures in
-    let joining = subst (λ (es : List (Pos × Traced)). Joins c.args.joining.now c.args.tables.now es c.loop-pos.tables) more (c.loop-pos.invariant.joining c.requires) in
-    its_before triggers c.args.joining.now.id c.args.joining.now.trigger.now c.requires.can.attached lanes Insert (input_of lanes c.args.tables.now) (with_trigger triggers lanes c.args.joining.now.id (input_of lanes c.args.tables.now)) (c.loop-pos-item.result.0, c.event-event.result) (entries_by held (drop (c.loop-pos.pos-index + 1) c.args.events.now)) c.loop-pos.tables joining
+    its_before c.args.joining.now.id c.requires.can.attached (next_of more (c.loop-pos.invariant.joining c.requires))
 
 pub loop-pos-preserved : goal.loop-pos-preserved
 loop-pos-preserved c =
-    let triggers : Triggers = triggers_of c.args.joining.now.scene in
-    let lanes : Lanes = c.args.joining.now.scene.lanes.now in
     let more = first_left c.args.events.now c.loop-pos.pos-index c.loop-pos-item.result c.event-event.result c.loop-pos-test.true c.loop-pos-item.is c.event-event.ensures in
     record {
-      joining = λ may.
-          let joining = subst (λ (es : List (Pos × Traced)). Joins c.args.joining.now c.args.tables.now es c.loop-pos.tables) more (c.loop-pos.invariant.joining may) in
-          its_fewer triggers c.args.joining.now.id c.args.joining.now.trigger.now c.requires.can.attached lanes Insert (input_of lanes c.args.tables.now) (with_trigger triggers lanes c.args.joining.now.id (input_of lanes c.args.tables.now)) (c.loop-pos-item.result.0, c.event-event.result) (entries_by held (drop (c.loop-pos.pos-index + 1) c.args.events.now)) c.loop-pos.tables joining c.apply_to.new.self c.in_ok-apply_to.ensures.forms c.in_ok-apply_to.ensures.views c.in_ok-apply_to.ensures.input;
+      joining = λ may. its_fewer c.args.joining.now.id c.requires.can.attached (next_of more (c.loop-pos.invariant.joining may)) c.apply_to.new.self c.in_ok-apply_to.ensures.forms c.in_ok-apply_to.ensures.views c.in_ok-apply_to.ensures.input;
       evals =
           let count = ap (λ (es : List (Pos × Traced)). length es) more in
           omega (arith, c.loop-pos.invariant.evals, count, c.in_ok-apply_to.ensures.evals, asked_once c.args.joining.now.trigger.now c.event-event.result);
@@ -69,12 +50,7 @@ loop-pos-preserved c =
     }
 
 pub returns-clause-joined : goal.returns-clause-joined
-returns-clause-joined c =
-    let triggers : Triggers = triggers_of c.args.joining.now.scene in
-    let lanes : Lanes = c.args.joining.now.scene.lanes.now in
-    let none : entries_by held (drop c.loop-pos.pos-index c.args.events.now) ≡ [] = ap (entries_by held) (drop_all c.loop-pos.pos-index c.args.events.now c.loop-pos-test.false) in
-    let joining = subst (λ (es : List (Pos × Traced)). Joins c.args.joining.now c.args.tables.now es c.loop-pos.tables) none (c.loop-pos.invariant.joining c.requires) in
-    changing_none triggers lanes (is_one c.args.joining.now.id) Insert (input_of lanes c.args.tables.now) (with_trigger triggers lanes c.args.joining.now.id (input_of lanes c.args.tables.now)) c.loop-pos.tables joining
+returns-clause-joined c = changing_none (ap (entries_by held) (drop_all c.loop-pos.pos-index c.args.events.now c.loop-pos-test.false)) (c.loop-pos.invariant.joining c.requires)
 
 pub returns-clause-evals : goal.returns-clause-evals
 returns-clause-evals c =

@@ -1,4 +1,4 @@
-use Rattle.std.proofs.Common.{ℕ, ◌≡◌, ◌∷◌, [], true, false, List, sym, ap, subst, ◌∙◌}
+use Rattle.std.proofs.Common.{ℕ, ◌≡◌, true, false, List, sym, ap, subst, ◌∙◌}
 use Rattle.std.specs.Ordering.{nat_cmp}
 use Rattle.std.specs.Map.Iter.{deref_pair}
 use Rattle.std.proofs.lemmas.Map.Iter.{rest_more, rest_all}
@@ -9,8 +9,8 @@ use Rattle.ft_maps.specs.Seen.{seen}
 use Rattle.ft_base.specs.Base.{Triggers}
 use Rattle.ft_base.specs.OneTrigger.{is_kin, is_in_family}
 use Rattle.ft_base.specs.Roles.{role_of}
-use Rattle.ft_repair.proofs.Families.{role_there}
-use Rattle.ft_repair.proofs.Putting.{AreRenewedBut, renewed_none, renewed_skip, renewed_more, renewed_all}
+use Rattle.ft_repair.proofs.Families.{in_family}
+use Rattle.ft_repair.proofs.Putting.{AreRenewedBut, next_renewed, renewed_none, renewed_skip, renewed_more, renewed_all}
 use Rattle.ft_repair.proofs.trigger_joins.renew_shelves.Goals as goal
 
 pub loop-other-init : goal.loop-other-init
@@ -22,31 +22,22 @@ loop-other-init c =
 pub loop-other-preserved-in-Continue-1 : goal.loop-other-preserved-in-Continue-1
 loop-other-preserved-in-Continue-1 c =
     let triggers : Triggers = seen nat_cmp c.args.triggers.now in
-    let family = is_in_family triggers c.args.id in
     let e : ℕ × Hist = (c.in-Some.other.now, c.in-Some.attached.now) in
-    let more : c.loop-other.other-iterator ≡ e ∷ c.next.new.self = rest_more (deref_pair {K = ℕ} {X = Hist}) _ _ _ _ c.in-Some.is c.next.ensures.steps in
-    let is = subst (λ (es : List (ℕ × Hist)). AreRenewedBut triggers family c.args.tables.now es c.loop-other.tables) more c.loop-other.invariant in
+    let is = next_renewed (rest_more (deref_pair {K = ℕ} {X = Hist}) _ _ _ _ c.in-Some.is c.next.ensures.steps) c.loop-other.invariant in
     let role : c.role_of-role.result ≡ role_of triggers e.1.variable = c.role_of-role.ensures ∙ ap (role_of triggers) c.variable.ensures in
     let adds : AddsShelf e.0 (role_of triggers e.1.variable) e.1.size c.loop-other.tables c.add.new.self =
     subst (λ (n : ℕ). AddsShelf e.0 (role_of triggers e.1.variable) n c.loop-other.tables c.add.new.self) c.size.ensures.value
     (subst (λ (r : Role). AddsShelf e.0 r c.size.result c.loop-other.tables c.add.new.self) role c.in_ok-add.ensures.ok) in
-    let member : family e.0 ≡ true = ap (is_kin c.args.id e.0) (role_there triggers e.0 e.1 is.attached.0 ∙ sym role) ∙ sym c.is_kin.ensures ∙ c.if-is_kin.true in
-    renewed_more triggers family c.args.tables.now e c.next.new.self c.loop-other.tables is c.add.new.self adds member
+    let member = in_family triggers c.args.id e is.attached.0 role c.is_kin.ensures c.if-is_kin.true in
+    renewed_more is c.add.new.self adds member
 
 pub loop-other-preserved : goal.loop-other-preserved
 loop-other-preserved c =
     let triggers : Triggers = seen nat_cmp c.args.triggers.now in
-    let family = is_in_family triggers c.args.id in
     let e : ℕ × Hist = (c.in-Some.other.now, c.in-Some.attached.now) in
-    let more : c.loop-other.other-iterator ≡ e ∷ c.next.new.self = rest_more (deref_pair {K = ℕ} {X = Hist}) _ _ _ _ c.in-Some.is c.next.ensures.steps in
-    let is = subst (λ (es : List (ℕ × Hist)). AreRenewedBut triggers family c.args.tables.now es c.loop-other.tables) more c.loop-other.invariant in
-    let role : c.role_of-role.result ≡ role_of triggers e.1.variable = c.role_of-role.ensures ∙ ap (role_of triggers) c.variable.ensures in
-    let out : family e.0 ≡ false = ap (is_kin c.args.id e.0) (role_there triggers e.0 e.1 is.attached.0 ∙ sym role) ∙ sym c.is_kin.ensures ∙ c.if-is_kin.false in
-    renewed_skip triggers family c.args.tables.now e c.next.new.self c.loop-other.tables is out
+    let is = next_renewed (rest_more (deref_pair {K = ℕ} {X = Hist}) _ _ _ _ c.in-Some.is c.next.ensures.steps) c.loop-other.invariant in
+    let out = in_family triggers c.args.id e is.attached.0 (c.role_of-role.ensures ∙ ap (role_of triggers) c.variable.ensures) c.is_kin.ensures c.if-is_kin.false in
+    renewed_skip is out
 
 pub returns : goal.returns
-returns c =
-    let triggers : Triggers = seen nat_cmp c.args.triggers.now in
-    let family = is_in_family triggers c.args.id in
-    let none : c.loop-other.other-iterator ≡ [] = rest_all (deref_pair {K = ℕ} {X = Hist}) _ _ _ c.in-None.is c.next.ensures.steps in
-    renewed_all triggers family c.args.tables.now c.loop-other.tables (subst (λ (es : List (ℕ × Hist)). AreRenewedBut triggers family c.args.tables.now es c.loop-other.tables) none c.loop-other.invariant)
+returns c = renewed_all (rest_all (deref_pair {K = ℕ} {X = Hist}) _ _ _ c.in-None.is c.next.ensures.steps) c.loop-other.invariant

@@ -1,4 +1,4 @@
-use Rattle.std.proofs.Common.{◌≡◌, ◌+◌, Bool, List, [], drop, Some, sym, ap, subst, ◌∙◌}
+use Rattle.std.proofs.Common.{◌≡◌, Bool, List, Some, sym, ap, subst, ◌∙◌}
 use Rattle.std.specs.Prelude.{IsPermutation}
 use Rattle.std.specs.FinMap as map
 use Rattle.std.proofs.lemmas.List.{drop_all}
@@ -8,9 +8,7 @@ use Rattle.ft_fields.specs.declared.event.Name.{Name}
 use Rattle.ft_fields.specs.declared.pos.Pos.{Pos}
 use Rattle.ft_hist.specs.Hist.{Hist}
 use Rattle.ft_hist.specs.Hit.{same_name}
-use Rattle.ft_kept.specs.Acts.{acts_of}
 use Rattle.ft_kept.specs.Views.{triggers_of}
-use Rattle.ft_shelves.specs.declared.sign.Sign.TheVariants.{Retract}
 use Rattle.ft_lanes.specs.Held.{Lanes}
 use Rattle.ft_maps.specs.Mapped.{entries_by}
 use Rattle.ft_store.specs.Stored.{held}
@@ -24,10 +22,10 @@ use Rattle.ft_repair.specs.KeptShelves.{AreKept}
 use Rattle.ft_repair.specs.Outside.{acts_outside}
 use Rattle.ft_repair.specs.inner.Joining.{is_one}
 use Rattle.ft_repair.specs.inner.KeptFor.{AreKeptFor}
-use Rattle.ft_repair.proofs.Changing.{next_views, next_held, its_before, its_fewer, changing_none}
+use Rattle.ft_repair.proofs.Changing.{next_of, next_views, next_held, its_before, its_fewer, changing_none}
 use Rattle.ft_repair.proofs.HeldActs.{merged_held}
 use Rattle.ft_repair.proofs.KeptFor.{kept_for}
-use Rattle.ft_repair.proofs.OneTrigger.{Leaves, leaving_all, own_events}
+use Rattle.ft_repair.proofs.OneTrigger.{leaving_all, own_events}
 use Rattle.ft_repair.proofs.Unpacked.{first_left}
 use Rattle.ft_repair.proofs.trigger_leaves.take_acts.Goals as goal
 
@@ -53,11 +51,8 @@ loop-pos-init c =
 
 pub apply_to-requires-clause-views : goal.apply_to-requires-clause-views
 apply_to-requires-clause-views c =
-    let triggers : Triggers = triggers_of c.scene_of-scene.result in
-    let lanes : Lanes = c.scene_of-scene.result.lanes.now in
     let more = first_left c.deref-pos-items.result.now c.loop-pos.pos-index c.loop-pos-item.result c.event-event.result c.loop-pos-test.true c.loop-pos-item.is c.event-event.ensures in
-    let leaving = subst (λ (es : List (Pos × Traced)). Leaves triggers lanes c.args.id es c.loop-pos.tables) more c.loop-pos.invariant.leaving in
-    next_views triggers lanes (is_one c.args.id) Retract (acts_of triggers (merged lanes)) (acts_outside (is_one c.args.id) triggers lanes) (c.loop-pos-item.result.0, c.event-event.result) (entries_by held (drop (c.loop-pos.pos-index + 1) c.deref-pos-items.result.now)) c.loop-pos.tables leaving
+    next_views (next_of more c.loop-pos.invariant.leaving)
 
 pub apply_to-requires-clause-attached : goal.apply_to-requires-clause-attached
 apply_to-requires-clause-attached c =
@@ -65,40 +60,25 @@ apply_to-requires-clause-attached c =
 
 pub apply_to-requires-clause-held : goal.apply_to-requires-clause-held
 apply_to-requires-clause-held c =
-    let triggers : Triggers = triggers_of c.scene_of-scene.result in
-    let lanes : Lanes = c.scene_of-scene.result.lanes.now in
     let more = first_left c.deref-pos-items.result.now c.loop-pos.pos-index c.loop-pos-item.result c.event-event.result c.loop-pos-test.true c.loop-pos-item.is c.event-event.ensures in
-    let leaving = subst (λ (es : List (Pos × Traced)). Leaves triggers lanes c.args.id es c.loop-pos.tables) more c.loop-pos.invariant.leaving in
-    next_held triggers lanes (is_one c.args.id) Retract (acts_of triggers (merged lanes)) (acts_outside (is_one c.args.id) triggers lanes) (c.loop-pos-item.result.0, c.event-event.result) (entries_by held (drop (c.loop-pos.pos-index + 1) c.deref-pos-items.result.now)) c.loop-pos.tables leaving
+    next_held (next_of more c.loop-pos.invariant.leaving)
 
 pub apply_to-requires-clause-before : goal.apply_to-requires-clause-before
 apply_to-requires-clause-before c =
-    let triggers : Triggers = triggers_of c.scene_of-scene.result in
-    let lanes : Lanes = c.scene_of-scene.result.lanes.now in
-    let attached : map.get triggers c.args.id ≡ Some c.args.trigger.now = ap (λ (ts : Triggers). map.get ts c.args.id) c.scene_of-scene.ensures.triggers ∙ c.requires.attached in
+    let attached = ap (λ (ts : Triggers). map.get ts c.args.id) c.scene_of-scene.ensures.triggers ∙ c.requires.attached in
     let more = first_left c.deref-pos-items.result.now c.loop-pos.pos-index c.loop-pos-item.result c.event-event.result c.loop-pos-test.true c.loop-pos-item.is c.event-event.ensures in
-    let leaving = subst (λ (es : List (Pos × Traced)). Leaves triggers lanes c.args.id es c.loop-pos.tables) more c.loop-pos.invariant.leaving in
-    its_before triggers c.args.id c.args.trigger.now attached lanes Retract (acts_of triggers (merged lanes)) (acts_outside (is_one c.args.id) triggers lanes) (c.loop-pos-item.result.0, c.event-event.result) (entries_by held (drop (c.loop-pos.pos-index + 1) c.deref-pos-items.result.now)) c.loop-pos.tables leaving
+    its_before c.args.id attached (next_of more c.loop-pos.invariant.leaving)
 
 pub loop-pos-preserved : goal.loop-pos-preserved
 loop-pos-preserved c =
-    let triggers : Triggers = triggers_of c.scene_of-scene.result in
-    let lanes : Lanes = c.scene_of-scene.result.lanes.now in
-    let attached : map.get triggers c.args.id ≡ Some c.args.trigger.now = ap (λ (ts : Triggers). map.get ts c.args.id) c.scene_of-scene.ensures.triggers ∙ c.requires.attached in
+    let attached = ap (λ (ts : Triggers). map.get ts c.args.id) c.scene_of-scene.ensures.triggers ∙ c.requires.attached in
     let more = first_left c.deref-pos-items.result.now c.loop-pos.pos-index c.loop-pos-item.result c.event-event.result c.loop-pos-test.true c.loop-pos-item.is c.event-event.ensures in
-    let leaving = subst (λ (es : List (Pos × Traced)). Leaves triggers lanes c.args.id es c.loop-pos.tables) more c.loop-pos.invariant.leaving in
     record {
-      leaving = its_fewer triggers c.args.id c.args.trigger.now attached lanes Retract (acts_of triggers (merged lanes)) (acts_outside (is_one c.args.id) triggers lanes) (c.loop-pos-item.result.0, c.event-event.result) (entries_by held (drop (c.loop-pos.pos-index + 1) c.deref-pos-items.result.now)) c.loop-pos.tables leaving c.apply_to.new.self c.in_ok-apply_to.ensures.forms c.in_ok-apply_to.ensures.views c.in_ok-apply_to.ensures.input;
+      leaving = its_fewer c.args.id attached (next_of more c.loop-pos.invariant.leaving) c.apply_to.new.self c.in_ok-apply_to.ensures.forms c.in_ok-apply_to.ensures.views c.in_ok-apply_to.ensures.input;
       grow = grow_more _ _ _ c.loop-pos.invariant.grow c.in_ok-apply_to.ensures.grow;
     }
 
 pub returns-clause-left : goal.returns-clause-left
 returns-clause-left c =
-    let triggers : Triggers = triggers_of c.scene_of-scene.result in
-    let lanes : Lanes = c.scene_of-scene.result.lanes.now in
-    let items : List (Pos × Stored) = c.deref-pos-items.result.now in
-    let none : entries_by held (drop c.loop-pos.pos-index items) ≡ [] = ap (entries_by held) (drop_all c.loop-pos.pos-index items c.loop-pos-test.false) in
-    let left : AreKeptFor triggers lanes (acts_outside (is_one c.args.id) triggers lanes) c.loop-pos.tables =
-    changing_none triggers lanes (is_one c.args.id) Retract (acts_of triggers (merged lanes)) (acts_outside (is_one c.args.id) triggers lanes) c.loop-pos.tables
-    (subst (λ (es : List (Pos × Traced)). Leaves triggers lanes c.args.id es c.loop-pos.tables) none c.loop-pos.invariant.leaving) in
-    subst (λ (both : Triggers × Lanes). AreKeptFor both.0 both.1 (acts_outside (is_one c.args.id) both.0 both.1) c.loop-pos.tables) (λ i. (c.scene_of-scene.ensures.triggers i, c.scene_of-scene.ensures.lanes i)) left
+    subst (λ (both : Triggers × Lanes). AreKeptFor both.0 both.1 (acts_outside (is_one c.args.id) both.0 both.1) c.loop-pos.tables) (λ i. (c.scene_of-scene.ensures.triggers i, c.scene_of-scene.ensures.lanes i))
+    (changing_none (ap (entries_by held) (drop_all c.loop-pos.pos-index c.deref-pos-items.result.now c.loop-pos-test.false)) c.loop-pos.invariant.leaving)

@@ -6,7 +6,6 @@ use Rattle.ft_hits.specs.declared.spot.Spot.{Spot}
 use Rattle.ft_keys.specs.declared.key.Part.{Part}
 use Rattle.ft_hits.specs.declared.mark.Mark.{Mark}
 use Rattle.ft_table.specs.inner.Split.{IsSplit}
-use Rattle.ft_hits.specs.ByKey.{hits_in}
 use Rattle.ft_hits.specs.Hits.{Hits, hitcount, first_place}
 use Rattle.ft_table.specs.Tabled.{order_of}
 use Rattle.ft_table.specs.inner.Moves.{order_without, order_before, with_less}
@@ -22,11 +21,11 @@ before hits m v order o is first after e =
 
 pub settle-requires-clause-order : goal.settle-requires-clause-order
 settle-requires-clause-order c =
-    before (hits_in c.args.by_key.now) c.args.mark c.args.values c.reserve.new.self.items None (c.reserve.ensures.items ∙ c.requires.order) (sym c.first_at-before.ensures ∙ c.in-None.is) (hits_in c.put_hit.new.by_key) c.in_ok-put_hit.ensures.ok
+    before c.args.hits.now c.args.mark c.args.values c.reserve.new.self.items None (c.reserve.ensures.items ∙ c.requires.order) (sym c.first_at-before.ensures ∙ c.in-None.is) c.put_hit.new.self c.in_ok-put_hit.ensures.ok
 
 pub settle-requires-clause-split : goal.settle-requires-clause-split
 settle-requires-clause-split c =
-    let hits : Hits = hits_in c.args.by_key.now in
+    let hits : Hits = c.args.hits.now in
     let key = c.args.mark.key in
     let after : Hits = map.insert hits c.args.mark c.args.values in
     let order : c.args.order.now.items ≡ order_without hits key = c.requires.order ∙ order-none hits key (sym c.first_at-before.ensures ∙ c.in-None.is) in
@@ -36,7 +35,7 @@ settle-requires-clause-split c =
 
 pub settle-requires-clause-few : goal.settle-requires-clause-few
 settle-requires-clause-few c _ =
-    let hits : Hits = hits_in c.args.by_key.now in
+    let hits : Hits = c.args.hits.now in
     let one = ap (λ (h : Hits). hitcount h c.args.mark.key) c.in_ok-put_hit.ensures.ok ∙ count-insert hits c.args.mark c.args.values c.requires.absent in
     let none = hitcount-none hits c.args.mark.key (sym c.first_at-before.ensures ∙ c.in-None.is) in
     let few = c.requires.few in
@@ -44,20 +43,20 @@ settle-requires-clause-few c _ =
 
 pub count_up-requires-clause-order : goal.count_up-requires-clause-order
 count_up-requires-clause-order c =
-    before (hits_in c.args.by_key.now) c.args.mark c.args.values c.deref.result.now (Some c.in-Some.spot) (c.deref.ensures.value ∙ c.reserve.ensures.items ∙ c.requires.order) (sym c.first_at-before.ensures ∙ c.in-Some.is) (hits_in c.put_hit.new.by_key) c.in_ok-put_hit.ensures.ok
+    before c.args.hits.now c.args.mark c.args.values c.deref.result.now (Some c.in-Some.spot) (c.deref.ensures.value ∙ c.reserve.ensures.items ∙ c.requires.order) (sym c.first_at-before.ensures ∙ c.in-Some.is) c.put_hit.new.self c.in_ok-put_hit.ensures.ok
 
 pub count_up-requires-clause-split : goal.count_up-requires-clause-split
 count_up-requires-clause-split c =
-    let hits : Hits = hits_in c.args.by_key.now in
-    let counts : hitcount hits ≡ with_less (hitcount (hits_in c.put_hit.new.by_key)) c.args.mark.key =
+    let hits : Hits = c.args.hits.now in
+    let counts : hitcount hits ≡ with_less (hitcount c.put_hit.new.self) c.args.mark.key =
     counts-less hits c.args.mark c.args.values c.requires.absent ∙ ap (λ (h : Hits). with_less (hitcount h) c.args.mark.key) (sym c.in_ok-put_hit.ensures.ok) in
     subst (λ (t : (List Part → ℕ) × List Mark). IsSplit t.0 c.args.size t.1 c.args.split.now.hits c.args.split.now.dropped) (λ i. (counts i, sym (c.deref.ensures.value ∙ c.reserve.ensures.items) i)) c.requires.split
 
 pub count_up-requires-clause-some : goal.count_up-requires-clause-some
 count_up-requires-clause-some c =
-    let one = ap (λ (h : Hits). hitcount h c.args.mark.key) c.in_ok-put_hit.ensures.ok ∙ count-insert (hits_in c.args.by_key.now) c.args.mark c.args.values c.requires.absent in
+    let one = ap (λ (h : Hits). hitcount h c.args.mark.key) c.in_ok-put_hit.ensures.ok ∙ count-insert c.args.hits.now c.args.mark c.args.values c.requires.absent in
     omega (arith, one)
 
 pub settle-requires-in-Some-clause-order : goal.settle-requires-in-Some-clause-order
 settle-requires-in-Some-clause-order c =
-    before (hits_in c.args.by_key.now) c.args.mark c.args.values c.reserve.new.self.items (Some c.in-Some.spot) (c.reserve.ensures.items ∙ c.requires.order) (sym c.first_at-before.ensures ∙ c.in-Some.is) (hits_in c.put_hit.new.by_key) c.in_ok-put_hit.ensures.ok
+    before c.args.hits.now c.args.mark c.args.values c.reserve.new.self.items (Some c.in-Some.spot) (c.reserve.ensures.items ∙ c.requires.order) (sym c.first_at-before.ensures ∙ c.in-Some.is) c.put_hit.new.self c.in_ok-put_hit.ensures.ok

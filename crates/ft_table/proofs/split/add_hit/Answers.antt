@@ -8,7 +8,6 @@ use Rattle.ft_hits.specs.Spots.{spot_cmp}
 use Rattle.ft_keys.specs.declared.key.Part.{Part}
 use Rattle.ft_hits.specs.declared.mark.Mark.{Mark}
 use Rattle.ft_table.specs.inner.Split.{IsSplit}
-use Rattle.ft_hits.specs.ByKey.{hits_in}
 use Rattle.ft_hits.specs.Marks.{mark_of}
 use Rattle.ft_hits.specs.Hits.{Hits, hitcount, first_place}
 use Rattle.ft_table.specs.Tabled.{order_of}
@@ -25,32 +24,32 @@ told P o spot is h = subst (λ (o : Option Spot). IfSome o P) is h
 
 pub count_up-requires-clause-order : goal.count_up-requires-clause-order
 count_up-requires-clause-order c =
-    let hits : Hits = hits_in c.args.by_key.now in
+    let hits : Hits = c.args.hits.now in
     let key = c.args.hit.now.key in
-    let after : hits_in c.put_behind.new.by_key ≡ map.insert hits (mark_of c.args.hit.now) c.args.hit.now.values = inserted _ _ c.in_ok-first.field-0 c.in-Some.first c.in-Some.is c.in_ok-first.ensures.ok in
+    let after : c.put_behind.new.self ≡ map.insert hits (mark_of c.args.hit.now) c.args.hit.now.values = inserted _ _ c.in_ok-first.field-0 c.in-Some.first c.in-Some.is c.in_ok-first.ensures.ok in
     let first = told (λ at. first_place hits key ≡ Some at) c.in_ok-first.field-0 c.in-Some.first c.in-Some.is c.in_ok-first.ensures.first in
     c.deref.ensures.value ∙ c.requires.order ∙ order-before-insert hits (mark_of c.args.hit.now) c.args.hit.now.values (Some c.in-Some.first) first
     ∙ ap (λ (h : Hits). order_before h key (Some c.in-Some.first)) (sym after)
 
 pub count_up-requires-clause-split : goal.count_up-requires-clause-split
 count_up-requires-clause-split c =
-    let hits : Hits = hits_in c.args.by_key.now in
-    let after : hits_in c.put_behind.new.by_key ≡ map.insert hits (mark_of c.args.hit.now) c.args.hit.now.values = inserted _ _ c.in_ok-first.field-0 c.in-Some.first c.in-Some.is c.in_ok-first.ensures.ok in
-    let counts : hitcount hits ≡ with_less (hitcount (hits_in c.put_behind.new.by_key)) c.args.hit.now.key =
+    let hits : Hits = c.args.hits.now in
+    let after : c.put_behind.new.self ≡ map.insert hits (mark_of c.args.hit.now) c.args.hit.now.values = inserted _ _ c.in_ok-first.field-0 c.in-Some.first c.in-Some.is c.in_ok-first.ensures.ok in
+    let counts : hitcount hits ≡ with_less (hitcount c.put_behind.new.self) c.args.hit.now.key =
     counts-less hits (mark_of c.args.hit.now) c.args.hit.now.values c.requires.absent ∙ ap (λ (h : Hits). with_less (hitcount h) c.args.hit.now.key) (sym after) in
     subst (λ (t : (List Part → ℕ) × List Mark). IsSplit t.0 c.args.size t.1 c.args.split.now.hits c.args.split.now.dropped) (λ i. (counts i, sym c.deref.ensures.value i)) c.requires.split
 
 pub count_up-requires-clause-some : goal.count_up-requires-clause-some
 count_up-requires-clause-some c =
-    let hits : Hits = hits_in c.args.by_key.now in
-    let after : hits_in c.put_behind.new.by_key ≡ map.insert hits (mark_of c.args.hit.now) c.args.hit.now.values = inserted _ _ c.in_ok-first.field-0 c.in-Some.first c.in-Some.is c.in_ok-first.ensures.ok in
+    let hits : Hits = c.args.hits.now in
+    let after : c.put_behind.new.self ≡ map.insert hits (mark_of c.args.hit.now) c.args.hit.now.values = inserted _ _ c.in_ok-first.field-0 c.in-Some.first c.in-Some.is c.in_ok-first.ensures.ok in
     let one = ap (λ (h : Hits). hitcount h c.args.hit.now.key) after ∙ count-insert hits (mark_of c.args.hit.now) c.args.hit.now.values c.requires.absent in
     omega (arith, one)
 
 pub returns-in-Some-clause-order : goal.returns-in-Some-clause-order
 returns-in-Some-clause-order c =
-    let hits : Hits = hits_in c.args.by_key.now in
-    let after : hits_in c.put_behind.new.by_key ≡ map.insert hits (mark_of c.args.hit.now) c.args.hit.now.values = inserted _ _ c.in_ok-first.field-0 c.in-Some.first c.in-Some.is c.in_ok-first.ensures.ok in
+    let hits : Hits = c.args.hits.now in
+    let after : c.put_behind.new.self ≡ map.insert hits (mark_of c.args.hit.now) c.args.hit.now.values = inserted _ _ c.in_ok-first.field-0 c.in-Some.first c.in-Some.is c.in_ok-first.ensures.ok in
     let first = told (λ at. first_place hits c.args.hit.now.key ≡ Some at) c.in_ok-first.field-0 c.in-Some.first c.in-Some.is c.in_ok-first.ensures.first in
     let behind = told (λ at. spot_cmp at c.args.hit.now.spot ≡ Less) c.in_ok-first.field-0 c.in-Some.first c.in-Some.is c.in_ok-first.ensures.behind in
     c.requires.order ∙ sym (order-behind hits (mark_of c.args.hit.now) c.args.hit.now.values c.in-Some.first first behind) ∙ ap order_of (sym after)

@@ -4,7 +4,6 @@ use Rattle.ft_keys.specs.declared.key.Part.{Part}
 use Rattle.ft_hits.specs.Marks.{mark_cmp}
 use Rattle.ft_table.specs.inner.Ascending.{Rises, IsRank}
 use Rattle.ft_table.specs.inner.Split.{IsSplit}
-use Rattle.ft_hits.specs.ByKey.{hits_in}
 use Rattle.ft_hits.specs.Hits.{Hits, hitcount, same_key}
 use Rattle.ft_table.specs.inner.Moves.{others, with_more}
 use Rattle.ft_table.proofs.Sorted.{rises-keys}
@@ -19,11 +18,11 @@ more_else : (count : List Part → ℕ) (key q : List Part) → same_key q key �
 more_else count key q apart = ap (λ b. cond b (count q + 1) (count q)) apart
 
 pub rank_of-requires : goal.rank_of-requires
-rank_of-requires c = subst (Rises mark_cmp) (sym c.requires.order) (rises-keys (map.insert (others (hits_in c.args.by_key.now) c.args.mark.key) c.args.mark []))
+rank_of-requires c = subst (Rises mark_cmp) (sym c.requires.order) (rises-keys (map.insert (others c.args.hits.now c.args.mark.key) c.args.mark []))
 
 pub overflow_sub-split : goal.overflow_sub-split
 overflow_sub-split c =
-    let hits : Hits = hits_in c.args.by_key.now in
+    let hits : Hits = c.args.hits.now in
     let m = c.args.mark in
     (split-down-in hits (hitcount hits) (with_more (hitcount hits) m.key) m c.args.size c.rank_of.result c.args.split.now.hits c.args.split.now.dropped
     (subst (λ ms. IsRank mark_cmp ms m c.rank_of.result) c.requires.order c.rank_of.ensures)
@@ -32,7 +31,7 @@ overflow_sub-split c =
 
 pub overflow_sub-split-else-rank_of-size : goal.overflow_sub-split-else-rank_of-size
 overflow_sub-split-else-rank_of-size c =
-    let hits : Hits = hits_in c.args.by_key.now in
+    let hits : Hits = c.args.hits.now in
     let m = c.args.mark in
     (split-down-out hits (hitcount hits) (with_more (hitcount hits) m.key) m c.args.size c.rank_of.result c.args.split.now.hits c.args.split.now.dropped
     (subst (λ ms. IsRank mark_cmp ms m c.rank_of.result) c.requires.order c.rank_of.ensures)
@@ -41,7 +40,7 @@ overflow_sub-split-else-rank_of-size c =
 
 pub returns-then-rank_of-size : goal.returns-then-rank_of-size
 returns-then-rank_of-size c =
-    let hits : Hits = hits_in c.args.by_key.now in
+    let hits : Hits = c.args.hits.now in
     let m = c.args.mark in
     subst (λ ms. IsSplit (hitcount hits) c.args.size ms (c.args.split.now.hits - 1) c.args.split.now.dropped) (sym c.requires.order)
     (split-down-in hits (hitcount hits) (with_more (hitcount hits) m.key) m c.args.size c.rank_of.result c.args.split.now.hits c.args.split.now.dropped
@@ -51,7 +50,7 @@ returns-then-rank_of-size c =
 
 pub returns-else-rank_of-size : goal.returns-else-rank_of-size
 returns-else-rank_of-size c =
-    let hits : Hits = hits_in c.args.by_key.now in
+    let hits : Hits = c.args.hits.now in
     let m = c.args.mark in
     subst (λ ms. IsSplit (hitcount hits) c.args.size ms c.args.split.now.hits (c.args.split.now.dropped - 1)) (sym c.requires.order)
     (split-down-out hits (hitcount hits) (with_more (hitcount hits) m.key) m c.args.size c.rank_of.result c.args.split.now.hits c.args.split.now.dropped

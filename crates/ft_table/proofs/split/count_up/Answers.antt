@@ -5,7 +5,6 @@ use Rattle.ft_hits.specs.declared.mark.Mark.{Mark}
 use Rattle.ft_hits.specs.Marks.{mark_cmp, mark_cmp_total}
 use Rattle.ft_table.specs.inner.Ascending.{Rises, IsRank}
 use Rattle.ft_table.specs.inner.Split.{IsSplit}
-use Rattle.ft_hits.specs.ByKey.{hits_in}
 use Rattle.ft_hits.specs.Hits.{Hits, hitcount, same_key}
 use Rattle.ft_table.specs.inner.Moves.{others, order_with, with_less}
 use Rattle.ft_table.proofs.Sorted.{rises-keys, rank-keys}
@@ -22,7 +21,7 @@ less_else count key q apart = sym (ap (λ b. cond b (count q - 1) (count q)) apa
 
 pub returns-then-order-size : goal.returns-then-order-size
 returns-then-order-size c =
-    let hits : Hits = hits_in c.args.by_key.now in
+    let hits : Hits = c.args.hits.now in
     let m = mark c.args.first c.args.key.now in
     let at = rank-keys mark_cmp_total (map.insert (others hits m.key) m []) m in
     let found : at.0 < length (order_with hits m) = (order-found hits m at.0 at.1).0 in
@@ -33,11 +32,11 @@ returns-then-order-size c =
     (subst (λ ms. IsSplit (with_less (hitcount hits) m.key) c.args.size ms c.args.split.now.hits c.args.split.now.dropped) c.requires.order c.requires.split) c.requires.few)
 
 pub rank_of-requires : goal.rank_of-requires
-rank_of-requires c = subst (Rises mark_cmp) (sym c.requires.order) (rises-keys (map.insert (others (hits_in c.args.by_key.now) c.args.key.now) (mark c.args.first c.args.key.now) []))
+rank_of-requires c = subst (Rises mark_cmp) (sym c.requires.order) (rises-keys (map.insert (others c.args.hits.now c.args.key.now) (mark c.args.first c.args.key.now) []))
 
 pub returns-then-rank_of-size : goal.returns-then-rank_of-size
 returns-then-rank_of-size c =
-    let hits : Hits = hits_in c.args.by_key.now in
+    let hits : Hits = c.args.hits.now in
     let m = mark c.args.first c.args.key.now in
     subst (λ ms. IsSplit (hitcount hits) c.args.size ms (c.args.split.now.hits + 1) c.args.split.now.dropped) (sym c.requires.order)
     (split-up-in hits (with_less (hitcount hits) m.key) (hitcount hits) m c.args.size c.rank_of.result c.args.split.now.hits c.args.split.now.dropped
@@ -47,7 +46,7 @@ returns-then-rank_of-size c =
 
 pub returns-else-rank_of-size : goal.returns-else-rank_of-size
 returns-else-rank_of-size c =
-    let hits : Hits = hits_in c.args.by_key.now in
+    let hits : Hits = c.args.hits.now in
     let m = mark c.args.first c.args.key.now in
     subst (λ ms. IsSplit (hitcount hits) c.args.size ms c.args.split.now.hits (c.args.split.now.dropped + 1)) (sym c.requires.order)
     (split-up-out hits (with_less (hitcount hits) m.key) (hitcount hits) m c.args.size c.rank_of.result c.args.split.now.hits c.args.split.now.dropped

@@ -6,7 +6,6 @@ use Rattle.ft_hits.specs.declared.spot.Spot.{Spot}
 use Rattle.ft_keys.specs.declared.key.Part.{Part}
 use Rattle.ft_hits.specs.declared.mark.Mark.{Mark}
 use Rattle.ft_table.specs.inner.Split.{IsSplit}
-use Rattle.ft_hits.specs.ByKey.{hits_in}
 use Rattle.ft_hits.specs.Hits.{Hits, hitcount, first_place}
 use Rattle.ft_table.specs.Tabled.{order_of}
 use Rattle.ft_table.specs.inner.Moves.{order_before, with_more}
@@ -20,32 +19,32 @@ before hits m order o is first after e =
 
 pub returns-in-None-clause-hits : goal.returns-in-None-clause-hits
 returns-in-None-clause-hits c =
-    let hits : Hits = hits_in c.args.by_key.now in
+    let hits : Hits = c.args.hits.now in
     sym (remove-none hits c.args.mark (ap is_some (no_first hits c.args.mark.key (sym c.first_at.ensures ∙ c.in-None.is) c.args.mark.spot)))
 
 pub count_down-requires-clause-order : goal.count_down-requires-clause-order
 count_down-requires-clause-order c =
-    before (hits_in c.args.by_key.now) c.args.mark c.deref.result.now (Some c.in-Some.spot) (c.deref.ensures.value ∙ c.requires.order) (sym c.first_at.ensures ∙ c.in-Some.is) (hits_in c.take_hit.new.by_key) c.take_hit.ensures.left
+    before c.args.hits.now c.args.mark c.deref.result.now (Some c.in-Some.spot) (c.deref.ensures.value ∙ c.requires.order) (sym c.first_at.ensures ∙ c.in-Some.is) c.take_hit.new.self c.take_hit.ensures.left
 
 pub count_down-requires-clause-split : goal.count_down-requires-clause-split
 count_down-requires-clause-split c =
-    let hits : Hits = hits_in c.args.by_key.now in
-    let counts : hitcount hits ≡ with_more (hitcount (hits_in c.take_hit.new.by_key)) c.args.mark.key =
+    let hits : Hits = c.args.hits.now in
+    let counts : hitcount hits ≡ with_more (hitcount c.take_hit.new.self) c.args.mark.key =
     counts-more hits c.args.mark (sym c.take_hit.ensures.found ∙ c.if-take_hit.true) ∙ ap (λ (h : Hits). with_more (hitcount h) c.args.mark.key) (sym c.take_hit.ensures.left) in
     subst (λ (t : (List Part → ℕ) × List Mark). IsSplit t.0 c.args.size t.1 c.args.split.now.hits c.args.split.now.dropped) (λ i. (counts i, sym c.deref.ensures.value i)) c.requires.split
 
 pub settle-requires-clause-order : goal.settle-requires-clause-order
 settle-requires-clause-order c =
-    before (hits_in c.args.by_key.now) c.args.mark c.args.order.now.items (Some c.in-Some.spot) c.requires.order (sym c.first_at.ensures ∙ c.in-Some.is) (hits_in c.take_hit.new.by_key) c.take_hit.ensures.left
+    before c.args.hits.now c.args.mark c.args.order.now.items (Some c.in-Some.spot) c.requires.order (sym c.first_at.ensures ∙ c.in-Some.is) c.take_hit.new.self c.take_hit.ensures.left
 
 same : (hits after : Hits) (m : Mark) → after ≡ map.remove hits m → map.contains_key hits m ≡ false → hits ≡ after
 same hits after m is none = sym (is ∙ remove-none hits m none)
 
 pub returns-else-take_hit-clause-order : goal.returns-else-take_hit-clause-order
 returns-else-take_hit-clause-order c =
-    c.requires.order ∙ ap order_of (same (hits_in c.args.by_key.now) (hits_in c.take_hit.new.by_key) c.args.mark c.take_hit.ensures.left (sym c.take_hit.ensures.found ∙ c.if-take_hit.false))
+    c.requires.order ∙ ap order_of (same c.args.hits.now c.take_hit.new.self c.args.mark c.take_hit.ensures.left (sym c.take_hit.ensures.found ∙ c.if-take_hit.false))
 
 pub returns-else-take_hit-clause-split : goal.returns-else-take_hit-clause-split
 returns-else-take_hit-clause-split c =
     subst (λ (h : Hits). IsSplit (hitcount h) c.args.size c.args.order.now.items c.args.split.now.hits c.args.split.now.dropped)
-    (same (hits_in c.args.by_key.now) (hits_in c.take_hit.new.by_key) c.args.mark c.take_hit.ensures.left (sym c.take_hit.ensures.found ∙ c.if-take_hit.false)) c.requires.split
+    (same c.args.hits.now c.take_hit.new.self c.args.mark c.take_hit.ensures.left (sym c.take_hit.ensures.found ∙ c.if-take_hit.false)) c.requires.split

@@ -5,7 +5,6 @@ use Rattle.std.proofs.lemmas.List.Sums.{sum_by-remove}
 use Rattle.ft_hits.specs.declared.mark.Mark.{Mark}
 use Rattle.ft_hits.specs.Marks.{mark_cmp}
 use Rattle.ft_table.specs.inner.Ascending.{Rises, IsRank}
-use Rattle.ft_hits.specs.ByKey.{hits_in}
 use Rattle.ft_hits.specs.Hits.{hitcount}
 use Rattle.ft_table.specs.inner.Moves.{others}
 use Rattle.ft_table.proofs.Sorted.{rises-keys}
@@ -13,12 +12,12 @@ use Rattle.ft_table.proofs.Firsts.{order-leave, order-found}
 use Rattle.ft_table.proofs.split.leave.Goals as goal
 
 pub rank_of-rank-requires : goal.rank_of-rank-requires
-rank_of-rank-requires c = subst (Rises mark_cmp) (sym (c.deref.ensures.value ∙ c.requires.order)) (rises-keys (map.insert (others (hits_in c.args.by_key.now) c.args.mark.key) c.args.mark []))
+rank_of-rank-requires c = subst (Rises mark_cmp) (sym (c.deref.ensures.value ∙ c.requires.order)) (rises-keys (map.insert (others c.args.hits.now c.args.mark.key) c.args.mark []))
 
 pub take_out-requires-clause-within : goal.take_out-requires-clause-within
 take_out-requires-clause-within c =
     let is = c.deref.ensures.value ∙ c.requires.order in
-    let f = order-found (hits_in c.args.by_key.now) c.args.mark c.rank_of-rank.result (subst (λ ms. IsRank mark_cmp ms c.args.mark c.rank_of-rank.result) is c.rank_of-rank.ensures) in
+    let f = order-found c.args.hits.now c.args.mark c.rank_of-rank.result (subst (λ ms. IsRank mark_cmp ms c.args.mark c.rank_of-rank.result) is c.rank_of-rank.ensures) in
     let len = ap length c.requires.order in
     omega (arith, f.0, len)
 
@@ -27,11 +26,11 @@ returns-clause-order c =
     let is = c.deref.ensures.value ∙ c.requires.order in
     c.take_out.ensures.order
     ∙ ap (λ (ms : List Mark). remove ms c.rank_of-rank.result) c.requires.order
-    ∙ sym (order-leave (hits_in c.args.by_key.now) c.args.mark c.rank_of-rank.result (subst (λ ms. IsRank mark_cmp ms c.args.mark c.rank_of-rank.result) is c.rank_of-rank.ensures))
+    ∙ sym (order-leave c.args.hits.now c.args.mark c.rank_of-rank.result (subst (λ ms. IsRank mark_cmp ms c.args.mark c.rank_of-rank.result) is c.rank_of-rank.ensures))
 
 pub returns-clause-fewer : goal.returns-clause-fewer
 returns-clause-fewer c =
-    let hits = hits_in c.args.by_key.now in
+    let hits = c.args.hits.now in
     let weight : Mark → ℕ = λ m. hitcount hits m.key in
     let i = c.rank_of-rank.result in
     let is = c.deref.ensures.value ∙ c.requires.order in

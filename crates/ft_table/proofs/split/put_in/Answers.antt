@@ -3,14 +3,13 @@ use Rattle.std.proofs.Common.{◌≡◌, ℕ, List, ◌+◌, ◌-◌, ◌<◌, �
 use Rattle.std.specs.List.{insert}
 use Rattle.ft_keys.specs.declared.key.Part.{Part}
 use Rattle.ft_hits.specs.Hits.{hitcount}
-use Rattle.ft_hits.specs.ByKey.{hits_in}
 use Rattle.ft_table.proofs.Splits.{enters-full, enters-room, enters-behind, resplit}
 use Rattle.ft_table.proofs.split.put_in.Goals as goal
 use Rattle.ft_table.proofs.split.put_in.Goals.{then-rank-size+then-len-size, then-rank-size+else-len-size, else-rank-size}
 
 pub overflow_sub-split : goal.overflow_sub-split
 overflow_sub-split c =
-    let count : List Part → ℕ = hitcount (hits_in c.args.by_key.now) in
+    let count : List Part → ℕ = hitcount c.args.hits.now in
     let full : c.args.size ≤ c.len.result = c.if-len-size.true in
     let few = c.requires.few in
     let f = enters-full count c.args.size c.args.rank c.args.order.now.items c.args.mark c.index.result.now c.args.split.now.hits c.args.split.now.dropped c.if-rank-size.true (omega arith) c.requires.split c.requires.few in
@@ -20,7 +19,7 @@ overflow_sub-split c =
 
 pub overflow_add-split-then-len-size : goal.overflow_add-split-then-len-size
 overflow_add-split-then-len-size c =
-    let count : List Part → ℕ = hitcount (hits_in c.args.by_key.now) in
+    let count : List Part → ℕ = hitcount c.args.hits.now in
     let full : c.args.size ≤ c.len.result = c.if-len-size.true in
     let f = enters-full count c.args.size c.args.rank c.args.order.now.items c.args.mark c.index.result.now c.args.split.now.hits c.args.split.now.dropped c.if-rank-size.true (omega arith) c.requires.split c.requires.few in
     let out = c.count_of-out.ensures ∙ ap (λ m. count m.key) c.index.ensures in
@@ -29,7 +28,7 @@ overflow_add-split-then-len-size c =
 
 pub returns-clause-split : goal.returns-clause-split
 returns-clause-split c =
-    let count : List Part → ℕ = hitcount (hits_in c.args.by_key.now) in
+    let count : List Part → ℕ = hitcount c.args.hits.now in
     let items : c.insert-placed.new.self.items ≡ insert c.args.order.now.items c.args.rank c.args.mark = search rules in
     elim c.if-rank-size.branch [
       | then-rank-size+then-len-size w ↦

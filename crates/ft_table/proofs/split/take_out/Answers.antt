@@ -3,14 +3,13 @@ use Rattle.std.proofs.Common.{◌≡◌, ℕ, List, ◌+◌, ◌-◌, ap, ◌∙
 use Rattle.std.specs.List.{remove}
 use Rattle.ft_keys.specs.declared.key.Part.{Part}
 use Rattle.ft_hits.specs.Hits.{hitcount}
-use Rattle.ft_hits.specs.ByKey.{hits_in}
 use Rattle.ft_table.proofs.Splits.{leaves-full, leaves-room, leaves-behind, resplit}
 use Rattle.ft_table.proofs.split.take_out.Goals as goal
 use Rattle.ft_table.proofs.split.take_out.Goals.{then-rank-size, then-len-size, else-len-size, else-rank-size}
 
 pub overflow_sub-split-then-rank-size : goal.overflow_sub-split-then-rank-size
 overflow_sub-split-then-rank-size c =
-    let count : List Part → ℕ = hitcount (hits_in c.args.by_key.now) in
+    let count : List Part → ℕ = hitcount c.args.hits.now in
     let taken = c.count_of-count.ensures ∙ ap (λ m. count m.key) c.index.ensures in
     elim c.if-len-size.branch [
       | then-len-size w ↦
@@ -26,14 +25,14 @@ overflow_sub-split-then-rank-size c =
 
 pub overflow_sub-split-else-rank-size : goal.overflow_sub-split-else-rank-size
 overflow_sub-split-else-rank-size c =
-    let count : List Part → ℕ = hitcount (hits_in c.args.by_key.now) in
+    let count : List Part → ℕ = hitcount c.args.hits.now in
     let taken = c.count_of-count.ensures ∙ ap (λ m. count m.key) c.index.ensures in
     let f = leaves-behind count c.args.size c.args.rank c.args.order.now.items c.index.result.now c.args.split.now.hits c.args.split.now.dropped c.if-rank-size.false (omega arith) c.requires.split in
     omega (arith, f.0, taken)
 
 pub returns-clause-split : goal.returns-clause-split
 returns-clause-split c =
-    let count : List Part → ℕ = hitcount (hits_in c.args.by_key.now) in
+    let count : List Part → ℕ = hitcount c.args.hits.now in
     let items : c.remove-taken.new.self.items ≡ remove c.args.order.now.items c.args.rank = c.remove-taken.ensures.items in
     let taken = c.count_of-count.ensures ∙ ap (λ m. count m.key) c.index.ensures in
     elim c.if-rank-size.branch [

@@ -5,7 +5,7 @@ use Rattle.std.proofs.Common.{drop, ◌+◌, eq-eqb}
 use Rattle.ft_keys.specs.Parts.{key_cmp}
 use Rattle.ft_keys.specs.Ties.{key_same}
 use Rattle.ft_maps.specs.Seen.{seen}
-use Rattle.ft_rivals.specs.Reports.{is_reported}
+use Rattle.ft_changes.specs.Reports.{is_reported}
 use Rattle.ft_watch.proofs.Rows.{Keys, named_moves, others_stay, told_apart}
 use Rattle.ft_watch.proofs.keys.add_named.Goals.{then-id-row+in_ok-put, else-id-row}
 use Rattle.ft_watch.proofs.keys.add_named.Goals as goal

@@ -4,7 +4,7 @@ use Rattle.std.specs.FinMap as map
 use Rattle.ft_keys.specs.declared.key.Part.{Part}
 use Rattle.ft_keys.specs.Parts.{key_cmp}
 use Rattle.ft_maps.specs.Seen.{seen}
-use Rattle.ft_rivals.specs.Reports.{is_reported}
+use Rattle.ft_changes.specs.Reports.{is_reported}
 use Rattle.ft_watch.proofs.keys.add_named.Given as goal
 
 -- with the rows that are left there are all

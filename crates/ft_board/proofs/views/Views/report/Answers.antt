@@ -4,7 +4,7 @@ use Rattle.std.specs.Result.{IfOk, result_ok}
 use Rattle.std.specs.Ordering.{nat_cmp}
 use Rattle.ft_maps.specs.Seen.{seen}
 use Rattle.ft_kept.specs.Shelves.{Shelves}
-use Rattle.ft_kept.specs.declared.acted.Acting.{Acting}
+use Rattle.ft_kept.specs.declared.changes.KeyChange.{KeyChange}
 use Rattle.ft_report.specs.Report.{report_of}
 use Rattle.ft_base.specs.Base.{Triggers}
 use Rattle.ft_board.specs.inner.Reported.{IsReportBy}
@@ -18,10 +18,14 @@ if_answered P Q (Err e) then is = tt
 pub returns-clause-rows : goal.returns-clause-rows
 returns-clause-rows c =
     let shelves : Shelves = c.in-Some.tables in
-    let acting : List Acting = c.in-Some-all.acting.now in
-    let there : c.args.self.now.shelves ≡ Some shelves = c.in-Some.is in
-    let gathered : c.args.acted.now ≡ Some acting = sym c.all.ensures ∙ ap (option_map (λ acts. acts.now)) c.in-Some-all.is in
-    subst (λ o. IfSome o (λ rows. IsReportBy c.args.content.now.triggers c.args.self.now.shelves c.args.acted.now rows.items)) (sym c.ok.ensures.value)
-    (if_answered (λ rows. rows.items ≡ report_of (seen nat_cmp c.triggers.result.now) shelves acting) (λ rows. IsReportBy c.args.content.now.triggers c.args.self.now.shelves c.args.acted.now rows.items) c.changed_rows.result
-    (λ rows is. record { shelves = shelves; acting = acting; there = there; gathered = gathered; are = is ∙ ap (λ (triggers : Triggers). report_of triggers shelves acting) c.triggers.ensures })
+    let keys : List KeyChange = c.in-Some-keys.keys.now in
+    subst (λ o. IfSome o (λ rows. IsReportBy c.args.content.now.triggers c.args.self.now.shelves c.args.changes.now.keys rows.items)) (sym c.ok.ensures.value)
+    (if_answered (λ rows. rows.items ≡ report_of (seen nat_cmp c.triggers.result.now) shelves keys) (λ rows. IsReportBy c.args.content.now.triggers c.args.self.now.shelves c.args.changes.now.keys rows.items) c.changed_rows.result
+    (λ rows is. record {
+      shelves = shelves;
+      keys = keys;
+      there = c.in-Some.is;
+      are_told = sym c.keys.ensures ∙ ap (option_map (λ ks. ks.now)) c.in-Some-keys.is;
+      are = is ∙ ap (λ (triggers : Triggers). report_of triggers shelves keys) c.triggers.ensures;
+    })
     c.changed_rows.ensures)

@@ -1,4 +1,4 @@
-use Rattle.std.proofs.Common.{◌≡◌, ℕ, ◌+◌, ◌*◌, Bool, true, false, List, [], ◌∷◌, sym, ap, subst, ◌∙◌, Some, Option, Result, Ok, Err, arith}
+use Rattle.std.proofs.Common.{◌≡◌, ℕ, ◌+◌, ◌*◌, Bool, true, false, List, [], ◌∷◌, refl, sym, ap, subst, ◌∙◌, Some, Option, Result, Ok, Err, arith}
 use Rattle.std.specs.Prelude.{option_and_then}
 use Rattle.std.specs.Result.{result_from_control_flow}
 use Rattle.std.specs.declared.alloc.AllocError.{AllocError}
@@ -19,13 +19,11 @@ use Rattle.std.specs.Map.Iter.{deref_pair}
 use Rattle.std.proofs.lemmas.Map.Iter.{rest_more, rest_all}
 use Rattle.std.proofs.lemmas.Map.Keys.{sorted_head, sorted_tail}
 use Rattle.ft_hist.specs.Hist.{Hist}
-use Rattle.ft_hist.specs.Hit.{hit}
 use Rattle.ft_hist.specs.Tests.{asked, count_on}
 use Rattle.ft_lanes.specs.Held.{Lanes}
 use Rattle.ft_maps.specs.Entries.{strictly_sorted}
 use Rattle.ft_shelves.proofs.Attached.{each_found}
 use Rattle.ft_kept.specs.Input.{input_of}
-use Rattle.ft_kept.specs.Acted.{act_as, acting_of}
 use Rattle.ft_kept.specs.Bounds.{SomeSaverMoves}
 use Rattle.ft_kept.specs.Views.{AreViewsOf, act_at, act_under, set, triggers_of, with_event, with_some}
 use Rattle.ft_kept.specs.Signs.{event_before, event_after, table_edit, NeedsNoMemory, NeedsNoMemoryAt}
@@ -33,9 +31,8 @@ use Rattle.ft_kept.specs.inner.OneAct.{IsDoneToo}
 use Rattle.ft_kept.proofs.Between.{act_of, all_but, done_too, asked_of, asked_more, not_attached}
 use Rattle.ft_kept.proofs.FewPuts.{Few, few_first, few_more, few_all, left_refl, left_step, some_moves, steps_refl, steps_trans}
 use Rattle.ft_kept.proofs.Forms.{forms_refl, forms_trans, roles_stay}
-use Rattle.ft_kept.proofs.Gathered.{AreLeft, acts_among, all_left, fewer_left, none_left}
-use Rattle.ft_kept.proofs.Quiet.{quiet_refl, quiet_trans}
 use Rattle.ft_kept.proofs.Input.{acts_are, tells}
+use Rattle.ft_kept.proofs.Told.{told_all, told_first, told_more}
 use Rattle.ft_kept.proofs.Views.{attached_act, none_done, not_done, one_done, views_as}
 use Rattle.ft_kept.proofs.tables.Tables.apply.Goals as goal
 
@@ -55,11 +52,11 @@ loop-id-init c =
       views = subst (λ (es : List (ℕ × Hist)). AreViewsOf triggers lanes (with_some triggers input delta.pos (event_after delta.sign event) (all_but es)) c.args.self.now) (sym all)
           (views_as triggers lanes input _ c.args.self.now
           (sym (none_done triggers input delta.pos (event_before delta.sign event) (event_after delta.sign event) c.requires.before (all_but (map.entries triggers)) none)) c.requires.views);
-      acted = all_left triggers event c.into_iter-id-iterator.result c.args.acted.now all;
+      told = told_first (map.entries triggers) c.into_iter-id-iterator.result c.args.changes.now c.args.self.now all;
       evals = ap (λ (es : List (ℕ × Hist)). c.args.work.now.evals + asked_of event es) all;
       savers = left_refl (all_but c.into_iter-id-iterator.result) c.args.self.now;
       puts = few_first c.args.work.now.puts _ _ (ap (asked_of event) all);
-      quiet = λ plain. quiet_refl c.args.self.now;
+      quiet = λ plain. refl;
       grow = steps_refl c.args.work.now;
     }
 
@@ -132,14 +129,13 @@ loop-id-preserved c =
       views = views_as triggers lanes _ _ c.apply_at.new.tables
           (did.input ∙ and_then_done triggers left rest e more has.sorted has.attached (input_of lanes c.args.self.now) (input_of lanes c.loop-id.self) delta.pos delta.sign event
           c.requires.before (acts_are triggers lanes _ c.loop-id.self has.views)) did.views;
-      acted = fewer_left (acting_of triggers event) (act_as e.0 (hit e.1 event)) (acts_among event rest) c.args.acted.now c.loop-id.acted c.apply_at.new.acted did.acted
-          (subst (λ (es : List (ℕ × Hist)). AreLeft (acting_of triggers event) (acts_among event es) c.args.acted.now c.loop-id.acted) more has.acted);
+      told = told_more (map.entries triggers) left rest e c.args.changes.now c.loop-id.changes c.apply_at.new.changes c.args.self.now c.loop-id.self c.apply_at.new.tables more has.forms has.told did.told;
       evals = ap (λ n. n + asked_of event rest) did.evals ∙ omega (arith, asked_more event e rest, ap (asked_of event) more, has.evals);
       savers = left_step e.0 (all_but left) (all_but rest) its c.args.self.now c.loop-id.self c.apply_at.new.tables has.forms did.savers has.savers;
       puts = few_more c.loop-id.work.puts c.apply_at.new.work.puts (asked e.1 event) (asked_of event rest) limit
           (subst (λ n. Few (SomeSaverMoves edit triggers c.args.self.now) c.loop-id.work.puts n limit) (ap (asked_of event) more ∙ asked_more event e rest) has.puts)
           (some_moves edit triggers c.args.self.now c.loop-id.self has.forms e.0 e.1 here (has.savers e.0 its.was) did.puts);
-      quiet = λ plain. quiet_trans c.args.self.now c.loop-id.self c.apply_at.new.tables (has.quiet plain) (did.quiet (λ key counted. roles_stay c.args.self.now c.loop-id.self has.forms e.0 ∙ plain e.0 e.1 here key counted));
+      quiet = λ plain. did.quiet (λ key counted. roles_stay c.args.self.now c.loop-id.self has.forms e.0 ∙ plain e.0 e.1 here key counted) ∙ has.quiet plain;
       grow = steps_trans c.args.work.now c.loop-id.work c.apply_at.new.work has.grow did.grow;
     }
 
@@ -162,12 +158,10 @@ returns-clause-input c =
     acts_are triggers lanes _ c.loop-id.self (all_done triggers lanes (input_of lanes c.args.self.now) c.args.delta.now.pos (event_after c.args.delta.now.sign c.args.delta.now.event.now) c.loop-id.self
     c.loop-id.id-iterator (rest_all (deref_pair {K = ℕ} {X = Hist}) _ _ _ c.in-None.is c.next.ensures.steps) c.loop-id.invariant.views)
 
-pub returns-clause-acted : goal.returns-clause-acted
-returns-clause-acted c =
-    let all = acting_of (triggers_of c.args.scene.now) c.args.delta.now.event.now in
-    none_left all c.args.acted.now c.loop-id.acted
-    (subst (λ (es : List (ℕ × Hist)). AreLeft all (acts_among c.args.delta.now.event.now es) c.args.acted.now c.loop-id.acted)
-    (rest_all (deref_pair {K = ℕ} {X = Hist}) _ _ _ c.in-None.is c.next.ensures.steps) c.loop-id.invariant.acted)
+pub returns-clause-told : goal.returns-clause-told
+returns-clause-told c =
+    told_all (map.entries (triggers_of c.args.scene.now)) c.loop-id.id-iterator c.args.changes.now c.loop-id.changes c.args.self.now c.loop-id.self
+    (rest_all (deref_pair {K = ℕ} {X = Hist}) _ _ _ c.in-None.is c.next.ensures.steps) c.loop-id.invariant.told
 
 pub returns-clause-puts : goal.returns-clause-puts
 returns-clause-puts c = few_all c.loop-id.work.puts (asked_of c.args.delta.now.event.now c.loop-id.id-iterator) _ c.loop-id.invariant.puts
@@ -209,3 +203,12 @@ returns-in_err-apply_at-clause-memory c none =
     c.apply_at.ensures.memory (takes_none c.args.delta.now.sign triggers c.args.self.now c.loop-id.self has.forms c.args.delta.now.event.now e.0 e.1 (attached triggers c.loop-id.id-iterator c.next.new.self e more has.sorted has.attached).0 none) in
     let both : ◌≡◌ {A = Bool} true false = ap went (sym done) ∙ ap went c.branch-apply_at.ensures ∙ ap (λ flow. went (result_from_control_flow flow)) c.in_err-apply_at.is in
     absurd cc
+
+pub returns-in_err-apply_at-clause-quiet : goal.returns-in_err-apply_at-clause-quiet
+returns-in_err-apply_at-clause-quiet c plain =
+    let triggers : FinMap nat_cmp Hist = triggers_of c.args.scene.now in
+    let e : ℕ × Hist = (c.in-Some.id.now, c.in-Some.trigger.now) in
+    let more : c.loop-id.id-iterator ≡ e ∷ c.next.new.self = rest_more (deref_pair {K = ℕ} {X = Hist}) _ _ _ _ c.in-Some.is c.next.ensures.steps in
+    let has = c.loop-id.invariant in
+    let here = (attached triggers c.loop-id.id-iterator c.next.new.self e more has.sorted has.attached).0 in
+    c.apply_at.ensures.quiet (λ key counted. roles_stay c.args.self.now c.loop-id.self has.forms e.0 ∙ plain e.0 e.1 here key counted) ∙ has.quiet plain

@@ -6,16 +6,15 @@ use Rattle.std.specs.Ordering.{nat_cmp}
 use Rattle.std.specs.FinMap as map
 use Rattle.ft_hist.specs.Steps.{StepsGrow}
 use Rattle.ft_hist.specs.Tests.{count_on}
-use Rattle.ft_kept.specs.Acted.{acting_of}
 use Rattle.ft_kept.specs.Input.{input_of}
 use Rattle.ft_kept.specs.Bounds.{SomeSaverMoves}
 use Rattle.ft_kept.specs.Memory.{IsPlainHit}
 use Rattle.ft_kept.specs.Views.{AreViewsOf, triggers_of, with_some}
 use Rattle.ft_kept.specs.Signs.{table_edit, event_after}
-use Rattle.ft_shelves.specs.Shelves.{FormsStay, NotesStay}
+use Rattle.ft_shelves.specs.Shelves.{FormsStay}
 use Rattle.ft_kept.proofs.Between.{all_but, asked_of}
 use Rattle.ft_kept.proofs.FewPuts.{Few, LeftStay}
-use Rattle.ft_kept.proofs.Gathered.{AreLeft, acts_among}
+use Rattle.ft_kept.proofs.Told.{IsToldOf}
 use Rattle.ft_kept.proofs.tables.Tables.apply.Given as goal
 
 -- at the event's place the triggers that are done act as they will, those that are left as they did
@@ -26,11 +25,11 @@ invariant-loop-id l = record {
   forms : FormsStay l.fn.self l.self;
   views : AreViewsOf (triggers_of l.scene) l.scene.lanes.now
       (with_some (triggers_of l.scene) (input_of l.scene.lanes.now l.fn.self) l.delta.pos (event_after l.delta.sign l.delta.event.now) (all_but l.id-iterator)) l.self;
-  acted : AreLeft (acting_of (triggers_of l.scene) l.delta.event.now) (acts_among l.delta.event.now l.id-iterator) l.fn.acted l.acted;
+  told : IsToldOf (map.entries (triggers_of l.scene)) l.id-iterator l.fn.changes l.changes l.fn.self l.self;
   evals : l.work.evals + asked_of l.delta.event.now l.id-iterator ≡ l.fn.work.evals + count_on (triggers_of l.scene) l.delta.event.now;
   savers : LeftStay (all_but l.id-iterator) l.fn.self l.self;
   puts : Few (SomeSaverMoves (table_edit l.delta.sign l.delta.pos l.delta.event.now) (triggers_of l.scene) l.fn.self) l.work.puts (asked_of l.delta.event.now l.id-iterator)
       (l.fn.work.puts + 3 * count_on (triggers_of l.scene) l.delta.event.now);
-  quiet : IsPlainHit (triggers_of l.scene) l.fn.self l.delta.event.now → NotesStay l.fn.self l.self;
+  quiet : IsPlainHit (triggers_of l.scene) l.fn.self l.delta.event.now → l.changes.readings ≡ l.fn.changes.readings;
   grow : StepsGrow l.fn.work l.work;
 }

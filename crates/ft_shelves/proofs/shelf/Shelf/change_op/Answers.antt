@@ -1,6 +1,5 @@
 -- An operation that goes leaves none at its place.
 use Rattle.std.proofs.Common.{sym, subst}
-use Rattle.std.specs.Prelude.{option_map}
 use Rattle.ft_fields.specs.Places.{pos_cmp}
 use Rattle.ft_maps.specs.Seen.{seen}
 use Rattle.ft_pairs.specs.ByKey.{ChangesKey}
@@ -12,5 +11,5 @@ use Rattle.ft_shelves.proofs.shelf.Shelf.change_op.Goals as goal
 pub returns-in-Retract-clause-ok : goal.returns-in-Retract-clause-ok
 returns-in-Retract-clause-ok c =
     let inside = c.self.inside in
-    ops_change c.args.key (set_op c.args.at (op_after c.args.sign c.args.op)) inside.role inside.table (seen pos_cmp inside.readings) (option_map (seen pos_cmp) inside.notes) inside.pairs c.remove.new.self c.args.self.now c.self.view_is
+    ops_change c.args.key (set_op c.args.at (op_after c.args.sign c.args.op)) inside.role inside.table (seen pos_cmp inside.readings) inside.pairs c.remove.new.self c.args.self.now c.self.view_is
     (subst (λ (sign : Sign). ChangesKey c.args.key (set_op c.args.at (op_after sign c.args.op)) inside.pairs c.remove.new.self) (sym c.in-Retract.is) c.remove.ensures)

@@ -17,7 +17,6 @@ loop-next-init c =
       role = ap (λ (s : Shelved). s.role) c.self.view_is;
       table = ap (λ (s : Shelved). s.table) c.self.view_is;
       readings = ap (λ (s : Shelved). s.readings) c.self.view_is;
-      notes = ap (λ (s : Shelved). s.notes) c.self.view_is;
       there = λ hit is. ap is_some (next_there hits c.args.key None hit (sym c.hit_after-next.ensures ∙ is));
       saved = λ k at. ap (λ (s : Shelved). ops_of s.ops k at) c.self.view_is ∙ begun hits c.args.id c.args.key c.args.self.now.ops c.hit_after-next.result (sym c.hit_after-next.ensures) k at;
       evals = refl;
@@ -48,7 +47,6 @@ loop-next-preserved c =
       role = known.role;
       table = known.table;
       readings = known.readings;
-      notes = known.notes;
       there = λ hit is. ap is_some (next_there hits key (Some c.in-Some.hit.spot) hit (next ∙ is));
       saved = one_further hits c.args.id key c.in-Some.hit c.hit_after-next-in-Some.result next (known.there c.in-Some.hit c.in-Some.is) old mid c.put_save.new.pairs
           (subst (λ (n : Option Hit). ChangesKey key (with_saves_till hits c.args.id key n) old mid) c.in-Some.is known.saved) c.in_ok-put_save.ensures.ok;
@@ -66,7 +64,6 @@ returns-clause-ok c =
       role = known.role;
       table = known.table;
       readings = known.readings;
-      notes = known.notes;
       ops = subst (λ (t : Tabled). ChangesKey key (with_saves t.hits c.args.id key) old new) known.table
           (subst (λ (n : Option Hit). ChangesKey key (with_saves_till c.loop-next.self-inside.table.hits c.args.id key n) old new) c.in_default.is known.saved);
     }

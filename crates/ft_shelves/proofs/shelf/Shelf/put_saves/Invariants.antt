@@ -1,5 +1,5 @@
 use Rattle.std.proofs.Common.{◌≡◌, ◌≤◌, true, Some}
-use Rattle.std.specs.Prelude.{is_some, option_map}
+use Rattle.std.specs.Prelude.{is_some}
 use Rattle.std.specs.FinMap as map
 use Rattle.ft_fields.specs.Places.{pos_cmp}
 use Rattle.ft_maps.specs.Seen.{seen}
@@ -13,7 +13,6 @@ invariant-loop-next l = record {
   role : l.self-inside.role ≡ l.fn.self.role;
   table : l.self-inside.table ≡ l.fn.self.table;
   readings : seen pos_cmp l.self-inside.readings ≡ l.fn.self.readings;
-  notes : option_map (seen pos_cmp) l.self-inside.notes ≡ l.fn.self.notes;
   there : (hit : Hit) → l.next ≡ Some hit → is_some (map.get l.self-inside.table.hits (record { spot = hit.spot; key = l.key })) ≡ true;
   saved : ChangesKey l.key (with_saves_till l.self-inside.table.hits l.id l.key l.next) l.fn.self.ops l.self-inside.pairs;
   evals : l.work.evals ≡ l.fn.work.evals;

@@ -3,7 +3,6 @@ use Rattle.std.specs.List.{list_any}
 use Rattle.ft_hits.specs.declared.mark.Mark.{Mark}
 use Rattle.ft_hits.specs.Marks.{mark_cmp}
 use Rattle.ft_table.specs.inner.Ascending.{Rises, IsRank}
-use Rattle.ft_hits.specs.ByKey.{hits_in}
 use Rattle.ft_hits.specs.Hits.{same_key}
 use Rattle.ft_table.specs.Tabled.{Tabled, first_hits, order_of}
 use Rattle.ft_hits.proofs.Flat.{mark}
@@ -13,11 +12,11 @@ use Rattle.ft_table.proofs.Members.{in-without, in-with}
 use Rattle.ft_table.proofs.table.Table.is_among.Goals as goal
 
 pub rank_of-requires : goal.rank_of-requires
-rank_of-requires c = subst (Rises mark_cmp) (sym (c.deref.ensures.value ∙ c.self.invariant.order)) (rises-keys (first_hits (hits_in c.self.inside.by_key)))
+rank_of-requires c = subst (Rises mark_cmp) (sym (c.deref.ensures.value ∙ c.self.invariant.order)) (rises-keys (first_hits c.self.inside.hits))
 
 pub returns-in-Some : goal.returns-in-Some
 returns-in-Some c =
-    let hits = hits_in c.self.inside.by_key in
+    let hits = c.self.inside.hits in
     let key = c.args.key.now in
     let order = order-some hits key c.in-Some.spot (sym c.first_at.ensures ∙ c.in-Some.is) in
     sym (in-with hits c.args.place (mark c.in-Some.spot key) c.rank_of.result (subst (λ ms. IsRank mark_cmp ms (mark c.in-Some.spot key) c.rank_of.result) (c.deref.ensures.value ∙ c.self.invariant.order ∙ order) c.rank_of.ensures))
@@ -26,7 +25,7 @@ returns-in-Some c =
 
 pub returns-in-None : goal.returns-in-None
 returns-in-None c =
-    let hits = hits_in c.self.inside.by_key in
+    let hits = c.self.inside.hits in
     let key = c.args.key.now in
     let order = order-none hits key (sym c.first_at.ensures ∙ c.in-None.is) in
     sym (in-without hits c.args.place key)

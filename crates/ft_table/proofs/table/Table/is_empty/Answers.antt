@@ -5,7 +5,6 @@ use Rattle.std.specs.FinMap as map
 use Rattle.std.specs.FinMap.{empty_of_len}
 use Rattle.std.proofs.lemmas.Bool.{eq-eqb, eqb-true}
 use Rattle.ft_hits.specs.declared.mark.Mark.{Mark}
-use Rattle.ft_hits.specs.ByKey.{hits_in}
 use Rattle.ft_hits.specs.Hits.{Hits, hitcount}
 use Rattle.ft_table.specs.Tabled.{Tabled, order_of}
 use Rattle.ft_table.proofs.Empty.{order-empty}
@@ -25,7 +24,7 @@ pub returns : goal.returns
 returns c =
     let order = c.self.invariant.order in
     let len = c.self.inside.order.ok.0 in
-    let same : hits_in c.self.inside.by_key ≡ c.args.self.now.hits = ap (λ (t : Tabled). t.hits) c.self.view_is in (
-      λ is. sym same ∙ no_hits (hits_in c.self.inside.by_key) (sym order ∙ no_marks c.self.inside.order.items (sym len ∙ eqb-true _ 0 (sym c.is_empty.ensures ∙ is))),
+    let same : c.self.inside.hits ≡ c.args.self.now.hits = ap (λ (t : Tabled). t.hits) c.self.view_is in (
+      λ is. sym same ∙ no_hits c.self.inside.hits (sym order ∙ no_marks c.self.inside.order.items (sym len ∙ eqb-true _ 0 (sym c.is_empty.ensures ∙ is))),
       λ none. c.is_empty.ensures ∙ eq-eqb _ 0 (len ∙ ap (λ (ms : List Mark). length ms) (order ∙ ap order_of (same ∙ none) ∙ order-empty)),
     )

@@ -5,7 +5,6 @@ use Rattle.std.proofs.lemmas.List.{length-map, length-take}
 use Rattle.std.proofs.lemmas.List.Sums.{sum_by-take-drop}
 use Rattle.ft_keys.specs.declared.key.Part.{Part}
 use Rattle.ft_hits.specs.declared.mark.Mark.{Mark}
-use Rattle.ft_hits.specs.ByKey.{hits_in}
 use Rattle.ft_hits.specs.Hits.{hitcount}
 use Rattle.ft_table.specs.Rows.{totals_of}
 use Rattle.ft_rows.specs.declared.row.Totals.{Totals}
@@ -24,7 +23,7 @@ totals_is hits entries dropped = λ i. record { hits = hits i; entries = entries
 
 pub returns : goal.returns
 returns c =
-    let count : List Part → ℕ = hitcount (hits_in c.self.inside.by_key) in
+    let count : List Part → ℕ = hitcount c.self.inside.hits in
     let weight : Mark → ℕ = λ m. count m.key in
     let size : ℕ = c.self.inside.size in
     let order : List Mark = c.self.inside.order.items in

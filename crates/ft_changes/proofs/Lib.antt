@@ -1,0 +1,5 @@
+mod Fronts
+pub mod Leading
+mod NearEdge
+mod Others
+mod SomeRivals

@@ -1,0 +1,10 @@
+pub mod Findings
+pub mod Reports
+pub mod Rivals
+pub mod inner
+pub use Rattle.ft_fields.specs.Places
+pub use Rattle.ft_table.specs.Growth
+pub use Rattle.ft_table.specs.Hits
+pub use Rattle.ft_table.specs.OneKey
+pub use Rattle.ft_table.specs.Rows
+pub use Rattle.ft_table.specs.Tabled

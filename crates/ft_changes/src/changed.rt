@@ -1,0 +1,27 @@
+//! What an edit changes.
+
+use ft_fields::Pos;
+use ft_keys::Key;
+
+/// A row that may differ: of which trigger, and under which key.
+#[derive(Clone, Copy, Debug, PartialEq, Eq)]
+pub struct Changed {
+    /// The trigger's id.
+    pub id: u32,
+    /// The key.
+    pub key: Key,
+}
+
+/// A reading that found one saving, or none, and finds another now, or none. One that comes had
+/// found none, and one that goes finds none.
+#[derive(Clone, Copy, Debug, PartialEq, Eq)]
+pub struct ReadingChange {
+    /// The id of the trigger that reads.
+    pub id: u32,
+    /// The place of the reading.
+    pub pos: Pos,
+    /// The place of the saving that it had found.
+    pub before: Option<Pos>,
+    /// The place of the saving that it finds.
+    pub after: Option<Pos>,
+}

@@ -1,4 +1,0 @@
-mod Fronts
-mod NearEdge
-mod Others
-mod SomeRivals

@@ -1,0 +1,46 @@
+-- What the program's words name. All of it is our own choice.
+use Rattle.std.specs.Prelude.{◌≡◌, ⊤, ℕ, Bool, false, ◌&&◌, List, [], ◌∷◌, drop, map, Option, Some, None, Result, Ok, Err, option_map, is_some, slice_get, ◌==◌, if◌then◌else◌, codes}
+use Rattle.std.specs.Str.{bytes_eq, chars}
+use Rattle.ft_script.specs.declared.words.Words.{Words}
+use Rattle.ft_script.specs.declared.words.WordsFault.{WordsFault}
+use Rattle.ft_script.specs.declared.words.WordsFault.TheVariants.{Memory, Refused}
+
+-- the script's path, none for standard input, and the traces' paths
+pub record Named : Type 0 where
+  pub script : Option (List ℕ)
+  pub traces : List (List ℕ)
+
+-- a word that begins with `-` and has a further character
+abbrev pub is_option : List ℕ → Bool
+is_option [] = false
+is_option (byte ∷ rest) = byte == 45 && is_some (slice_get (chars rest) 0)
+
+-- the words without the first `--`, before which none may be an option
+abbrev pub paths_in : List (List ℕ) → Option (List (List ℕ))
+paths_in [] = Some []
+paths_in (word ∷ words) =
+    if bytes_eq word (codes "--") then Some words
+    else (if is_option word then None else option_map (λ paths. word ∷ paths) (paths_in words))
+
+-- the path of a script; `-` is standard input
+abbrev pub script_at : List ℕ → Option (List ℕ)
+script_at path = if bytes_eq path (codes "-") then None else Some path
+
+-- the script, and then the traces; no path is standard input
+abbrev pub named_by : List (List ℕ) → Named
+named_by [] = record { script = None; traces = [] }
+named_by (script ∷ traces) = record { script = script_at script; traces = traces }
+
+-- what the program's words name, of which the first is its own name; none where one is refused
+abbrev pub named_in : List (List ℕ) → Option Named
+named_in args = option_map named_by (paths_in (drop 1 args))
+
+-- what words as read name
+abbrev pub shown : Words → Named
+shown words = record { script = option_map (λ path. path.now) words.script; traces = map (λ path. path.now) words.traces.items }
+
+-- the words are read as they name, or refused where they name nothing
+abbrev pub WordsGive : Option Named → Result Words WordsFault → Type 0
+WordsGive named (Ok words) = named ≡ Some (shown words)
+WordsGive named (Err Refused) = named ≡ None
+WordsGive named (Err Memory) = ⊤
