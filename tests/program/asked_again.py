@@ -14,8 +14,8 @@ made once more at once, with memory. Of each run is held:
   isn't deferred: a `strike` where no attached trigger has a variable, a `remove` of a trigger that reads none;
 - the rows that an accepted insert or strike names are those that it names with memory, or there is no report, as on a
   deferred desk;
-- an insert or a strike that a refused growth defers has another growth, of what is told for its report, which costs it
-  the report alone: it answers `Now`;
+- an insert or a strike that a refused growth defers has a growth before that, of what is gathered for its report, which
+  costs it the report alone: it answers `Now`;
 - what is refused, or runs out of memory, leaves the desk deferred or not as it was; but where tables are asked for and
   the text of the answer runs out of memory, the desk may be deferred no more;
 - after a table, totals or latencies that were answered the desk isn't deferred, and a `list` leaves it as it was.
@@ -193,12 +193,12 @@ class Row:
         reported = [command for command in deferred if plain[command].report is not None]
         for command in reported:
             demand(
-                command in unreported,
-                f"{self.commands[command]}: deferred, and no growth cost it the report alone",
+                command in unreported and unreported[command] < deferred[command],
+                f"{self.commands[command]}: deferred, and no growth before that cost it the report alone",
             )
         return (
             f"{alone} growths alone, {alone_later} runs with Later; from each of {onward} on, {onward_later} with Later; "
-            f"{len(reported)} edits of which the report went alone"
+            f"{len(reported)} edits whose report went first"
         )
 
 

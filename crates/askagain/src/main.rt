@@ -29,7 +29,7 @@ use crate::rows::check_rows;
 use crate::watching::watch;
 use ft_board::KeptBoard;
 use ft_desk::{Board, Changed, Desk, Edited, Kept, Latency, Refused};
-use ft_keys::Part;
+use ft_fields::Part;
 use ft_script::{Command, read_command};
 use std::process::ExitCode;
 use std::rt::{Env, Files};

@@ -1,5 +1,5 @@
 -- What a trigger answers, from its counter.
-use Rattle.std.proofs.Common.{◌≡◌, ℕ, Bool, true, false, refl, sym, ap, subst, ◌∙◌, Some, None, Option, Result, Ok, Err}
+use Rattle.std.proofs.Common.{◌≡◌, ℕ, Bool, true, false, List, refl, sym, ap, subst, ◌∙◌, Some, None, Option, Result, Ok, Err}
 use Rattle.std.specs.Prelude.{IsSome, option_map, unwrap_or, map as list_map, if◌then◌else◌}
 use Rattle.std.specs.Option.{option_map_or}
 use Rattle.std.specs.Cmp.{nat_cmp_total}
@@ -9,17 +9,19 @@ use Rattle.ft_hist.specs.declared.label.Var.{Var}
 use Rattle.ft_hist.specs.declared.label.Var.TheVariants as vars
 use Rattle.ft_maps.specs.Mapped.{map_by, get-map_by}
 use Rattle.ft_table.specs.Rows.{AllFit}
+use Rattle.ft_table.specs.Tabled.{Tabled}
 use Rattle.ft_base.specs.declared.refused.Refused.{Refused}
 use Rattle.ft_base.specs.declared.refused.Refused.TheVariants.{NoTrigger, NotReading}
-use Rattle.ft_base.specs.Base.{Triggers}
+use Rattle.ft_hist.specs.Triggers.{Triggers}
 use Rattle.ft_replay.specs.Merged.{Events}
 use Rattle.ft_made.specs.Laws.{HeldAreCounted}
 use Rattle.ft_answers.specs.Answers.{tally_at, tally_made, tally_shown, of_attached, latency_of, latencies_as, pairs_as}
-use Rattle.ft_answers.specs.Counting.{counts_made}
+use Rattle.ft_hist.specs.Made.{counts_made}
 use Rattle.ft_replay.specs.Replay.{State, replay}
 use Rattle.ft_replay.specs.Counters.{Counting, Counters, tally_in, HasCounter, HaveCounters}
 use Rattle.ft_base.specs.Roles.{is_reader}
-use Rattle.ft_replay.specs.Tally.{Tally, empty_tally}
+use Rattle.ft_replay.specs.Tally.{Tally, empty_tally, tally_of}
+use Rattle.ft_replay.specs.declared.pair.Pair.{Pair}
 
 -- ---- a trigger's counter
 
@@ -62,6 +64,15 @@ module _ {T : Type 0} (triggers : Triggers) (id : ℕ) where
   -- of an attached trigger
   pub of_attached-some : (answer : Hist → Result T Refused) (hist : Hist) → map.get triggers id ≡ Some hist → of_attached triggers id answer ≡ answer hist
   of_attached-some answer hist is = ap (λ o. option_map_or answer o (Err NoTrigger)) is
+
+-- by its table: what a table answers is told by the tally alone
+pub answered : {T : Type 0} (triggers : Triggers) (events : Events) (id : ℕ) (hist : Hist) → map.get triggers id ≡ Some hist
+    → (counted table : Tabled) → table ≡ counted → (pairs : List Pair) × (tally_of counted pairs ≡ tally_shown triggers events id hist)
+    → (view : Hist → Tally → T) (answer : T) → ((pairs : List Pair) → answer ≡ view hist (tally_of table pairs))
+    → of_attached triggers id (λ h. Ok (view h (tally_shown triggers events id h))) ≡ Ok answer
+answered {T} triggers events id hist there counted table same (pairs, is) view answer gives =
+    of_attached-some triggers id (λ h. Ok (view h (tally_shown triggers events id h))) hist there
+    ∙ ap (λ (a : T). let result : Result T Refused = Ok a in result) (ap (view hist) (sym is ∙ ap (λ (t : Tabled). tally_of t pairs) (sym same)) ∙ sym (gives pairs))
 
 -- a reader has latencies, and no one else
 pub latencies-reader : (variable : Option Var) (tally : Tally) → is_reader variable ≡ true → latencies_as variable tally ≡ Ok (list_map latency_of tally.pairs)

@@ -3,3 +3,4 @@ pub mod AnswerSteps
 pub mod MadeTables
 pub mod RowTexts
 pub mod OneRow
+pub mod Passing

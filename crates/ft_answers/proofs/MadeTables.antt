@@ -11,12 +11,12 @@ use Rattle.ft_hist.specs.Hist.{Hist}
 use Rattle.ft_maps.specs.Mapped.{map_by, get-map_by}
 use Rattle.ft_table.specs.Rows.{AllFit}
 use Rattle.ft_table.specs.Tabled.{Tabled}
-use Rattle.ft_base.specs.Base.{Triggers}
+use Rattle.ft_hist.specs.Triggers.{Triggers}
 use Rattle.ft_replay.specs.declared.pair.Pair.{Pair}
 use Rattle.ft_replay.specs.Merged.{Events}
 use Rattle.ft_replay.specs.Counters.{Counting, Counters, tally_in, HasCounter, HaveCounters}
 use Rattle.ft_replay.specs.Found.{saving_found, pairs_in}
-use Rattle.ft_replay.specs.Hits.{hits_of, pairs_of, table_for}
+use Rattle.ft_replay.specs.Hits.{replayed_hits, pairs_of, table_for}
 use Rattle.ft_replay.specs.Replay.{replay}
 use Rattle.ft_replay.specs.Tally.{Tally, empty_tally, tally_of}
 use Rattle.ft_replay.proofs.Growing.{pairs-tally}
@@ -27,7 +27,7 @@ use Rattle.ft_answers.specs.inner.Readings.{pairs_by}
 -- the tally of each attached trigger is that of a table with the pairs of its readings
 abbrev pub AreTallied : Triggers → Events → Type 0
 AreTallied triggers events = (id : ℕ) (hist : Hist) → map.get triggers id ≡ Some hist
-    → map.get (replay triggers events).tallies id ≡ Some (tally_of (table_for hist (hits_of triggers events id)) (pairs_of triggers events id))
+    → map.get (replay triggers events).tallies id ≡ Some (tally_of (table_for hist (replayed_hits triggers events id)) (pairs_of triggers events id))
 
 -- these are, in merged order, what the readings found
 abbrev pub AreRead : Triggers → Events → Type 0
@@ -38,7 +38,7 @@ module _ (triggers : Triggers) (events : Events) (counters : Counters) (tallies 
   pub are_replayed : AreReplayed triggers events (pairs_by counters)
   are_replayed id hist there =
       let has : HasCounter triggers counters id hist = complete id hist there in
-      let table : Tabled = table_for hist (hits_of triggers events id) in
+      let table : Tabled = table_for hist (replayed_hits triggers events id) in
       let pairs : List Pair = pairs_of triggers events id in
       let told : map.get (replay triggers events).tallies id ≡ Some (tally_in has.counter) = ap (λ found. map.get found id) (sym tallies) ∙ get-map_by tally_in nat_cmp_total counters id ∙ ap (option_map tally_in) has.there in
       let same : tally_in has.counter ≡ tally_of table pairs = ap (λ (o : Option Tally). unwrap_or o empty_tally) (sym told ∙ tallied id hist there) in

@@ -8,20 +8,20 @@ use Rattle.std.proofs.lemmas.List.Elements.{All-nil, All-cons}
 use Rattle.std.proofs.lemmas.List.Sorted.{All-permutation, list_any-IsPermutation}
 use Rattle.ft_hist.specs.Hist.{Hist}
 use Rattle.ft_hist.specs.declared.item.SortItem.{SortItem}
-use Rattle.ft_keys.specs.declared.key.Part.{Part}
-use Rattle.ft_keys.specs.Ties.{key_same}
+use Rattle.ft_fields.specs.declared.key.Part.{Part}
+use Rattle.ft_fields.specs.Ties.{key_same}
 use Rattle.ft_maps.specs.Entries.{same_from_tie}
-use Rattle.ft_rows.specs.Counted.{Counted}
-use Rattle.ft_rows.specs.Keyed.{KeyedText}
-use Rattle.ft_rows.specs.Sorting.{row_cmp, in_order, HasDistinctKeys}
-use Rattle.ft_rows.specs.Text.{row_text, keyed_text}
+use Rattle.ft_table.specs.Counted.{Counted}
+use Rattle.ft_table.specs.Keyed.{KeyedText}
+use Rattle.ft_table.specs.Sorting.{row_cmp, in_order, HasDistinctKeys}
+use Rattle.ft_table.specs.Text.{row_text, keyed_text}
 use Rattle.ft_table.specs.Hits.{Hits, same_key}
-use Rattle.ft_table.specs.Rows.{row_of, row_at, rows_of}
+use Rattle.ft_table.specs.Rows.{counted_row, row_at, rows_of}
 use Rattle.ft_table.specs.Tabled.{Tabled, keys_in, is_in}
 use Rattle.ft_base.specs.declared.refused.Refused.{Refused}
 use Rattle.ft_base.specs.declared.refused.Refused.TheVariants.{NoTrigger}
-use Rattle.ft_base.specs.Base.{Triggers}
-use Rattle.ft_replay.specs.Hits.{hits_of, pairs_of, table_for}
+use Rattle.ft_hist.specs.Triggers.{Triggers}
+use Rattle.ft_replay.specs.Hits.{replayed_hits, pairs_of, table_for}
 use Rattle.ft_replay.specs.Merged.{Events, merged}
 use Rattle.ft_replay.specs.Replay.{State}
 use Rattle.ft_replay.specs.Tally.{Tally, empty_tally, tally_of}
@@ -31,7 +31,7 @@ use Rattle.ft_replay.proofs.Shown.{rows-tally}
 use Rattle.ft_made.specs.Laws.{HeldAreCounted, MadeAreTallied}
 use Rattle.ft_made.specs.MadeHits.{made_hits_of}
 use Rattle.ft_answers.specs.Answers.{rows_shown, row_shown, tally_shown, tally_rows, tally_row, of_attached}
-use Rattle.ft_answers.specs.Counting.{counts_made}
+use Rattle.ft_hist.specs.Made.{counts_made}
 use Rattle.ft_answers.specs.Rows.{text_among, RowIsAmong}
 use Rattle.ft_answers.proofs.Answering.{of_attached-some, shown-made, shown-held}
 use Rattle.ft_answers.proofs.MadeTables.{AreTallied}
@@ -39,26 +39,26 @@ use Rattle.ft_answers.proofs.MadeTables.{AreTallied}
 -- ---- rows that are what a key's hits come to
 
 abbrev IsOf : Hits → Counted → Type 0
-IsOf hits row = row ≡ row_of hits row.key
+IsOf hits row = row ≡ counted_row hits row.key
 
-each_row : (hits : Hits) (keys : List (List Part)) → All (IsOf hits) (list_map (row_of hits) keys)
+each_row : (hits : Hits) (keys : List (List Part)) → All (IsOf hits) (list_map (counted_row hits) keys)
 each_row hits [] = All-nil (IsOf hits)
-each_row hits (key ∷ keys) = All-cons (IsOf hits) (row_of hits key) (list_map (row_of hits) keys) refl (each_row hits keys)
+each_row hits (key ∷ keys) = All-cons (IsOf hits) (counted_row hits key) (list_map (counted_row hits) keys) refl (each_row hits keys)
 
-any-rows : (hits : Hits) (key : List Part) (keys : List (List Part)) → list_any (λ row. same_key key row.key) (list_map (row_of hits) keys) ≡ list_any (same_key key) keys
+any-rows : (hits : Hits) (key : List Part) (keys : List (List Part)) → list_any (λ row. same_key key row.key) (list_map (counted_row hits) keys) ≡ list_any (same_key key) keys
 any-rows hits key [] = refl
 any-rows hits key (k ∷ keys) = ap (λ (b : Bool). same_key key k || b) (any-rows hits key keys)
 
 module _ (hist : Hist) (hits : Hits) (key : List Part) where
-  among-rows : (rows : List Counted) → All (IsOf hits) rows → text_among key (list_map (keyed_text hist) rows) ≡ cond (list_any (λ row. same_key key row.key) rows) (Some (row_text hist (row_of hits key))) None
+  among-rows : (rows : List Counted) → All (IsOf hits) rows → text_among key (list_map (keyed_text hist) rows) ≡ cond (list_any (λ row. same_key key row.key) rows) (Some (row_text hist (counted_row hits key))) None
   among-rows [] each = refl
   among-rows (row ∷ rows) each = by (same_key key row.key) refl (among-rows rows (λ k d lt. each (suc k) d (omega arith))) where
-    by : (b : Bool) → same_key key row.key ≡ b → text_among key (list_map (keyed_text hist) rows) ≡ cond (list_any (λ r. same_key key r.key) rows) (Some (row_text hist (row_of hits key))) None
-        → (if b then Some (row_text hist row) else text_among key (list_map (keyed_text hist) rows)) ≡ cond (b || list_any (λ r. same_key key r.key) rows) (Some (row_text hist (row_of hits key))) None
-    by true same rest = ap (λ (r : Counted). Some (row_text hist r)) (each zero row (omega arith) ∙ ap (row_of hits) (sym (same_from_tie key_same key row.key same)))
+    by : (b : Bool) → same_key key row.key ≡ b → text_among key (list_map (keyed_text hist) rows) ≡ cond (list_any (λ r. same_key key r.key) rows) (Some (row_text hist (counted_row hits key))) None
+        → (if b then Some (row_text hist row) else text_among key (list_map (keyed_text hist) rows)) ≡ cond (b || list_any (λ r. same_key key r.key) rows) (Some (row_text hist (counted_row hits key))) None
+    by true same rest = ap (λ (r : Counted). Some (row_text hist r)) (each zero row (omega arith) ∙ ap (counted_row hits) (sym (same_from_tie key_same key row.key same)))
     by false other rest = rest
 
-  text_where : (b : Bool) → cond b (Some (row_text hist (row_of hits key))) None ≡ option_map (row_text hist) (if b then Some (row_of hits key) else None)
+  text_where : (b : Bool) → cond b (Some (row_text hist (counted_row hits key))) None ≡ option_map (row_text hist) (if b then Some (counted_row hits key) else None)
   text_where true = refl
   text_where false = refl
 
@@ -68,9 +68,9 @@ module _ (permutation : (sort : List SortItem) (rows : List Counted) → IsPermu
     (alone : (sort : List SortItem) (rows others : List Counted) → HasDistinctKeys rows → IsPermutation rows others → IsSorted (row_cmp sort) others → others ≡ in_order sort rows) where
   among-table : (hist : Hist) (table : Tabled) (key : List Part) → text_among key (list_map (keyed_text hist) (rows_of table hist.sort)) ≡ option_map (row_text hist) (row_at table key)
   among-table hist table key =
-      let rows : List Counted = list_map (row_of table.hits) (keys_in table) in
+      let rows : List Counted = list_map (counted_row table.hits) (keys_in table) in
       among-rows hist table.hits key (rows_of table hist.sort) (All-permutation (IsOf table.hits) rows (rows_of table hist.sort) (permutation hist.sort rows) (each_row table.hits (keys_in table)))
-      ∙ ap (λ (b : Bool). cond b (Some (row_text hist (row_of table.hits key))) None)
+      ∙ ap (λ (b : Bool). cond b (Some (row_text hist (counted_row table.hits key))) None)
       (sym (list_any-IsPermutation (λ (row : Counted). same_key key row.key) rows (rows_of table hist.sort) (permutation hist.sort rows)) ∙ any-rows table.hits key (keys_in table))
       ∙ text_where hist table.hits key (is_in table key)
 
@@ -94,7 +94,7 @@ module _ (permutation : (sort : List SortItem) (rows : List Counted) → IsPermu
           agree (tally_shown triggers events id hist) (table_for hist (made_hits_of triggers events hist)) []
           (shown-made triggers events id hist counts ∙ ap (λ (o : Option Tally). unwrap_or o empty_tally) (made triggers events id hist there))
       by false counts =
-          agree (tally_shown triggers events id hist) (table_for hist (hits_of triggers events id)) (pairs_of triggers events id)
+          agree (tally_shown triggers events id hist) (table_for hist (replayed_hits triggers events id)) (pairs_of triggers events id)
           (shown-held triggers events id hist counts ∙ ap (λ (s : State). unwrap_or (map.get s.tallies id) empty_tally) (first triggers events)
           ∙ ap (λ (o : Option Tally). unwrap_or o empty_tally) (held triggers events id hist there))
 

@@ -3,21 +3,21 @@ use Rattle.std.proofs.Common.{◌≡◌, ℕ, List, ◌++◌, Result, Ok, sym, a
 use Rattle.std.specs.Prelude.{codes}
 use Rattle.std.proofs.lemmas.List.Folds.{flat_map-map}
 use Rattle.ft_hist.specs.Hist.{Hist}
-use Rattle.ft_rows.specs.Keyed.{KeyedText}
-use Rattle.ft_rows.specs.Text.{heading, rows_text, totals_text, keyed_text}
+use Rattle.ft_table.specs.Keyed.{KeyedText}
+use Rattle.ft_table.specs.Text.{heading, rows_text, totals_text, keyed_text}
 use Rattle.ft_base.specs.declared.refused.Refused.{Refused}
-use Rattle.ft_base.specs.Base.{Triggers}
+use Rattle.ft_hist.specs.Triggers.{Triggers}
 use Rattle.ft_replay.specs.Merged.{Events, merged}
 use Rattle.ft_replay.specs.Tally.{Tally, rows_in, totals_in}
 use Rattle.ft_answers.specs.Answers.{hist_text, rows_shown, totals, tally_shown, tally_text, tally_rows}
-use Rattle.ft_answers.specs.Rows.{lines_of, RowsMakeText}
+use Rattle.ft_answers.specs.Rows.{row_lines, RowsMakeText}
 use Rattle.ft_answers.proofs.Answering.{of_attached-some}
 
 ok_is : {S : Type 0} (a b : S) → ◌≡◌ {A = Result S Refused} (Ok a) (Ok b) → a ≡ b
 ok_is a b same = cc
 
 -- the text of a tally is
-text-rows : (hist : Hist) (tally : Tally) → tally_text hist tally ≡ heading hist ++ (lines_of (tally_rows hist tally) ++ totals_text (totals_in tally))
+text-rows : (hist : Hist) (tally : Tally) → tally_text hist tally ≡ heading hist ++ (row_lines (tally_rows hist tally) ++ totals_text (totals_in tally))
 unfolding tally_text tally_rows rows_text
 text-rows hist tally =
     ap (λ (lines : List ℕ). heading hist ++ (lines ++ totals_text (totals_in tally)))
@@ -35,4 +35,4 @@ rows_make_text base id hist rows told there shown counted =
     ok_is (totals_in tally) told (sym (of_attached-some triggers id (λ (h : Hist). Ok (totals_in (tally_shown triggers events id h))) hist there) ∙ counted) in
     of_attached-some triggers id (λ (h : Hist). Ok (tally_text h (tally_shown triggers events id h))) hist there
     ∙ ap (λ (text : List ℕ). let answer : Result (List ℕ) Refused = Ok text in answer)
-    (text-rows hist tally ∙ (λ i. heading hist ++ (lines_of (same i) ++ totals_text (all i))))
+    (text-rows hist tally ∙ (λ i. heading hist ++ (row_lines (same i) ++ totals_text (all i))))

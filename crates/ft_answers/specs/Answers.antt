@@ -4,12 +4,12 @@ use Rattle.std.specs.Option.{option_map_or}
 use Rattle.std.specs.FinMap as map
 use Rattle.ft_fields.specs.declared.pos.Pos.{Pos}
 use Rattle.ft_hist.specs.Hist.{Hist}
-use Rattle.ft_keys.specs.declared.key.Part.{Part}
+use Rattle.ft_fields.specs.declared.key.Part.{Part}
 use Rattle.ft_hist.specs.declared.label.Var.{Var}
 use Rattle.ft_hist.specs.declared.label.Var.TheVariants as vars
-use Rattle.ft_rows.specs.declared.row.Totals.{Totals}
-use Rattle.ft_rows.specs.Counted.{Counted}
-use Rattle.ft_rows.specs.Keyed.{KeyedText}
+use Rattle.ft_table.specs.declared.row.Totals.{Totals}
+use Rattle.ft_table.specs.Counted.{Counted}
+use Rattle.ft_table.specs.Keyed.{KeyedText}
 use Rattle.ft_table.specs.Text.{heading, rows_text, row_text, keyed_text}
 use Rattle.ft_answers.specs.declared.latency.Latency.{Latency}
 use Rattle.ft_base.specs.declared.refused.Place.{Place}
@@ -21,7 +21,7 @@ use Rattle.ft_base.specs.Base.{Triggers, Base}
 use Rattle.ft_replay.specs.Merged.{Events, merged}
 use Rattle.ft_replay.specs.Tally.{Tally, empty_tally, rows_in, totals_in}
 use Rattle.ft_made.specs.ReplayMaking.{replay_making}
-use Rattle.ft_answers.specs.Counting.{counts_made}
+use Rattle.ft_hist.specs.Made.{counts_made}
 
 -- what the trigger with an id has counted of the held events, from replaying events (kernel: histogram.rst, hist triggers)
 abbrev pub tally_at : Triggers → Events → ℕ → Tally

@@ -6,12 +6,12 @@ use Rattle.ft_fields.specs.Traced.{Traced}
 use Rattle.ft_hist.specs.Hist.{Hist}
 use Rattle.ft_hist.specs.Hit.{same_name}
 use Rattle.ft_hist.specs.Steps.{Steps, StepsGrow}
-use Rattle.ft_keys.specs.declared.key.Part.{Part}
+use Rattle.ft_fields.specs.declared.key.Part.{Part}
 use Rattle.ft_hist.specs.Tests.{count_on}
 use Rattle.ft_lanes.specs.Held.{Lane, Lanes, held_in, is_small}
 use Rattle.ft_pairs.specs.declared.role.Role.TheVariants.{Saves}
 use Rattle.ft_base.specs.declared.refused.Refused.{Refused}
-use Rattle.ft_base.specs.Base.{Triggers}
+use Rattle.ft_hist.specs.Triggers.{Triggers}
 use Rattle.ft_base.specs.OneTrigger.{is_in_family}
 use Rattle.ft_answers.specs.Counting.{MakesNothing}
 use Rattle.ft_answers.specs.Deferral.{ReadsNothing}

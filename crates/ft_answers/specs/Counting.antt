@@ -1,15 +1,10 @@
 -- Which attached triggers count the events that readings make (kernel: histogram.rst, synthetic events).
-use Rattle.std.specs.Prelude.{◌≡◌, ◌⊎◌, ℕ, Bool, true, false, Some, None}
+use Rattle.std.specs.Prelude.{◌≡◌, ◌⊎◌, ℕ, true, false, Some, None}
 use Rattle.std.specs.FinMap as map
-use Rattle.ft_fields.specs.declared.event.Name.TheVariants as names
 use Rattle.ft_hist.specs.Hist.{Hist}
-use Rattle.ft_hist.specs.Hit.{same_name}
-use Rattle.ft_base.specs.Base.{Triggers}
+pub use Rattle.ft_hist.specs.Made.{counts_made}
+use Rattle.ft_hist.specs.Triggers.{Triggers}
 use Rattle.ft_base.specs.Roles.{is_reader}
-
--- a trigger counts made events, and no held ones: it is on their name (kernel: histogram.rst, synthetic events)
-abbrev pub counts_made : Hist → Bool
-counts_made hist = same_name hist.event names.WakeupLatency
 
 -- no attached trigger counts made events
 abbrev pub CountNone : Triggers → Type 0

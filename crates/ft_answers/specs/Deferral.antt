@@ -4,11 +4,11 @@ use Rattle.std.specs.FinMap as map
 use Rattle.ft_fields.specs.Traced.{Traced}
 use Rattle.ft_hist.specs.Hist.{Hist}
 use Rattle.ft_hist.specs.Hit.{hit}
-use Rattle.ft_keys.specs.declared.key.Part.{Part}
+use Rattle.ft_fields.specs.declared.key.Part.{Part}
 use Rattle.ft_base.specs.declared.refused.Refused.{Refused}
 use Rattle.ft_base.specs.declared.refused.Refused.TheVariants.{Memory}
 use Rattle.ft_lanes.specs.Held.{Lanes, event_at}
-use Rattle.ft_base.specs.Base.{Triggers}
+use Rattle.ft_hist.specs.Triggers.{Triggers}
 use Rattle.ft_base.specs.Roles.{is_reader}
 use Rattle.ft_answers.specs.Shown.{Shown}
 

@@ -27,3 +27,4 @@ pub use Rattle.ft_lanes.specs.Listing
 pub use Rattle.ft_lanes.specs.Loaded
 pub use Rattle.ft_made.specs.ReplayMaking
 pub use Rattle.ft_changes.specs.Reports
+pub mod Places

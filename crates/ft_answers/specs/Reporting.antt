@@ -3,7 +3,7 @@ use Rattle.std.specs.Prelude.{◌≡◌, ◌≤◌, ◌+◌, ◌*◌, ⊤, ℕ, 
 use Rattle.std.specs.List.{filter, IsDistinct}
 use Rattle.std.specs.FinMap as map
 use Rattle.ft_hist.specs.Hist.{Hist}
-use Rattle.ft_keys.specs.declared.key.Part.{Part}
+use Rattle.ft_fields.specs.declared.key.Part.{Part}
 use Rattle.ft_pairs.specs.declared.role.Role.TheVariants.{Reads}
 use Rattle.ft_table.specs.Counted.{Counted}
 use Rattle.ft_changes.specs.declared.changed.Changed.{Changed}
@@ -16,7 +16,7 @@ use Rattle.ft_replay.specs.Merged.{merged}
 use Rattle.ft_answers.specs.declared.done.Done.{Done}
 use Rattle.ft_answers.specs.declared.edited.Edited.{Edited}
 use Rattle.ft_answers.specs.Answers.{tally_at, tally_made}
-use Rattle.ft_answers.specs.Counting.{counts_made}
+use Rattle.ft_hist.specs.Made.{counts_made}
 use Rattle.ft_answers.specs.Shown.{Shown}
 
 -- what a trigger has counted under a key of the held events: its table's row, or none (kernel: histogram.rst, the `hist` file)

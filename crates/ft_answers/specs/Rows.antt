@@ -3,23 +3,23 @@ use Rattle.std.specs.Prelude.{◌≡◌, ℕ, List, [], ◌∷◌, ◌++◌, cod
 use Rattle.std.specs.List.{flat_map}
 use Rattle.std.specs.FinMap as map
 use Rattle.ft_hist.specs.Hist.{Hist}
-use Rattle.ft_keys.specs.declared.key.Part.{Part}
-use Rattle.ft_rows.specs.Keyed.{KeyedText}
-use Rattle.ft_rows.specs.declared.row.Totals.{Totals}
-use Rattle.ft_rows.specs.Text.{heading, totals_text}
+use Rattle.ft_fields.specs.declared.key.Part.{Part}
+use Rattle.ft_table.specs.Keyed.{KeyedText}
+use Rattle.ft_table.specs.declared.row.Totals.{Totals}
+use Rattle.ft_table.specs.Text.{heading, totals_text}
 use Rattle.ft_table.specs.Hits.{same_key}
 use Rattle.ft_base.specs.Base.{Base}
 use Rattle.ft_answers.specs.Answers.{hist_text, rows_shown, row_shown, totals}
 
 -- the texts of rows, each with a line break
-abbrev pub lines_of : List KeyedText → List ℕ
-lines_of rows = flat_map (λ row. row.text ++ codes "\n") rows
+abbrev pub row_lines : List KeyedText → List ℕ
+row_lines rows = flat_map (λ row. row.text ++ codes "\n") rows
 
 -- the text of a trigger's table is the lines above its rows, the texts of its rows, each with a line break, and its totals (kernel: histogram.rst, the `hist` file)
 abbrev pub RowsMakeText : Type 0
 RowsMakeText = (base : Base) (id : ℕ) (hist : Hist) (rows : List KeyedText) (told : Totals)
     → map.get base.triggers id ≡ Some hist → rows_shown base id ≡ Ok rows → totals base id ≡ Ok told
-    → hist_text base id ≡ Ok (heading hist ++ (lines_of rows ++ totals_text told))
+    → hist_text base id ≡ Ok (heading hist ++ (row_lines rows ++ totals_text told))
 
 -- the text of a key's row among rows, if there is one
 abbrev pub text_among : List Part → List KeyedText → Option (List ℕ)

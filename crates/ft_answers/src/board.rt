@@ -8,9 +8,8 @@ use ft_fields::{Event, Name};
 use ft_filter::Filter;
 use ft_hist::{Key, Trigger};
 use ft_replay::Pair;
-use ft_rows::{Row, TableRow};
 use ft_store::Store;
-use ft_table::Totals;
+use ft_table::{Row, TableRow, Totals};
 
 /// Lanes of events and attached triggers, with the answers that replaying the events gives.
 ///

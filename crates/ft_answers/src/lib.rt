@@ -1,7 +1,12 @@
-//! What a desk answers about the triggers that are attached, however its tables are kept.
+//! What a desk answers about the triggers that are attached, however its tables are kept, and where
+//! held events stand.
 //!
 //! What a `Board` answers is a function of what replaying the events that it holds gives, with the
 //! events that readings make. `PlainBoard` keeps no tables, and replays at each answer.
+//!
+//! An event stands at its stamp, its CPU and its line there (`Pos`); an edit answers CPU and line
+//! alone (`Place`). Where all held events stand, and those that pass a filter, comes in merged order;
+//! where those of one CPU's lane stand comes by line.
 //!
 //! ```ignore
 //! let mut board = PlainBoard::new(rt.alloc());
@@ -13,6 +18,15 @@
 //! board.strike(u32::from(cpu), line)?;
 //! // An answer depends on what is held and attached, and on nothing else.
 //! assert!(rt; board.totals(id)? == totals);
+//!
+//! let lanes = board.content().lanes();
+//! for place in &places(rt.alloc(), lanes)? {
+//!     let event = lanes.get(place.cpu, place.line);
+//! }
+//! // The places on CPU 0 from line 10 on.
+//! let on_cpu = lane_places(rt.alloc(), lanes, 0, 10)?;
+//! let filter = parse(rt.alloc(), b"pid == 42", Name::Waking)?;
+//! let wakings = matching_places(rt.alloc(), lanes, &filter)?;
 //! ```
 //!
 //! # Contracts
@@ -49,7 +63,7 @@
 //!     counted, of another filter for a reader, and of tables built anew; the puts of any other
 //!     filter; which trigger took which steps (`ft_kept` says it of each); steps that are not
 //!     counted, or by another `Work`. That the boards' constructors alone make that `Work`, and
-//!     `hit_of` alone evaluates keys and filters, is seen by reading.
+//!     that in edits and answers `hit_of` alone evaluates keys and filters, is seen by reading.
 //! - `steps`: on a board that keeps tables and isn't deferred, no answer takes a step. Lets
 //!   through: any number of steps of the answers of other boards.
 //! - `now` (`specs/Deferral.antt`): on a board that isn't deferred, these accepted edits put
@@ -80,20 +94,27 @@
 //!   that `rows` gives, each with a line break, and the totals. The text that `row` gives is the
 //!   one that the key has among those of `rows`, and none where it has none there
 //!   (`specs/Rows.antt`).
-//! - `latency_of`, `table_text`, `table_rows`, `table_counts`, `table_row`, `counts_made`: exact.
-//!   The four of tables let through: running out of memory at any time.
+//! - `latency_of`, `latencies_of`, `table_text`, `table_rows`, `table_counts`, `table_row`:
+//!   exact. Let through: running out of memory at any time, where a text or a list
+//!   is made.
+//! - `places`, `lane_places`, `matching_places`: the places of all held events in merged order; of
+//!   a lane's from a line on, by line; of those that have a filter's name and pass it, in merged
+//!   order (`specs/Places.antt`). Exact. Lets through: running out of memory at any time; any
+//!   number of passes over what is held.
 #![tactic(auto)]
 
 mod answers;
 mod board;
+mod counted;
 mod done;
 mod edited;
+mod in_lane;
+mod in_order;
 mod latency;
 mod plain;
 mod readings;
-mod rows;
+mod tables;
 
-pub use answers::{counts_made, table_text};
 pub use board::Board;
 pub use done::{Done, Kept};
 pub use edited::Edited;
@@ -102,7 +123,9 @@ pub use ft_base::{
 };
 pub use ft_changes::Changed;
 pub use ft_replay::Pair;
-pub use ft_rows::{Row, TableRow};
-pub use latency::{Latency, latency_of};
+pub use ft_table::{Row, TableRow};
+pub use in_lane::lane_places;
+pub use in_order::{matching_places, places};
+pub use latency::{Latency, latencies_of, latency_of};
 pub use plain::{PlainBoard, plain_board_keeps_none};
-pub use rows::{rows_make_the_text, table_counts, table_row, table_rows};
+pub use tables::{rows_make_the_text, table_counts, table_row, table_rows, table_text};

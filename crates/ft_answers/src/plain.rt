@@ -2,20 +2,20 @@
 
 ghost use Rattle.std.specs.Prelude.{◌≡◌, false, None};
 
-use crate::answers::{hist_from, latencies_from, pairs_from, totals_from};
+use crate::answers::{
+    counts_from, hist_from, latencies_from, pairs_from, row_from, rows_from, totals_from,
+};
 use crate::board::Board;
 use crate::done::{Done, Kept};
 use crate::edited::Edited;
 use crate::latency::Latency;
-use crate::rows::{counts_from, row_from, rows_from};
 use ft_base::{Content, Place, Refused};
 use ft_fields::{Event, Name};
 use ft_filter::Filter;
 use ft_hist::{Key, Trigger, Work};
 use ft_replay::Pair;
-use ft_rows::{Row, TableRow};
 use ft_store::Store;
-use ft_table::Totals;
+use ft_table::{Row, TableRow, Totals};
 use std::alloc::Global;
 use std::marker::Model;
 

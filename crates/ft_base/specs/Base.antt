@@ -1,14 +1,8 @@
 -- What a desk holds and what is attached to it.
 use Rattle.std.specs.Prelude.{ℕ}
-use Rattle.std.specs.Ordering.{nat_cmp}
 use Rattle.std.specs.FinMap as map
-use Rattle.std.specs.FinMap.{FinMap}
-use Rattle.ft_hist.specs.Hist.{Hist}
+pub use Rattle.ft_hist.specs.Triggers.{Triggers}
 use Rattle.ft_lanes.specs.Held.{Lanes}
-
--- attached triggers by id
-abbrev pub Triggers : Type 0
-Triggers = FinMap nat_cmp Hist
 
 -- lanes, attached triggers, and the next id
 pub record Base : Type 0 where

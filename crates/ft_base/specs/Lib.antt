@@ -11,6 +11,7 @@ pub use Rattle.ft_fields.specs.Traced
 pub use Rattle.ft_filter.specs.Tree
 pub use Rattle.ft_hist.specs.Hist
 pub use Rattle.ft_hist.specs.Matching
+pub use Rattle.ft_hist.specs.Triggers
 pub use Rattle.ft_lanes.specs.Edits
 pub use Rattle.ft_lanes.specs.Held
 pub use Rattle.ft_lanes.specs.Listing

@@ -4,21 +4,21 @@ use Rattle.ft_base.specs.declared.refused.Refused.{Refused}
 use Rattle.ft_base.specs.declared.refused.Refused.TheVariants.{Memory, NoFile, BadLine, LaneHeld, NoLane, NoEvent, Full, BadTrigger, BadFilter, NoTrigger, InUse, NameTaken, NoVariable, KeyMismatch, TooManyTriggers, BadCommand, NotReading}
 
 -- the number that a refused command prints
-abbrev pub number_of : Refused → ℕ
-number_of Memory = 1
-number_of NoFile = 2
-number_of (BadLine line fault) = 3
-number_of (LaneHeld cpu) = 4
-number_of (NoLane cpu) = 5
-number_of NoEvent = 6
-number_of Full = 7
-number_of (BadTrigger fault) = 8
-number_of (BadFilter fault) = 9
-number_of NoTrigger = 10
-number_of (InUse id) = 11
-number_of (NameTaken id) = 12
-number_of NoVariable = 13
-number_of KeyMismatch = 14
-number_of TooManyTriggers = 15
-number_of BadCommand = 16
-number_of NotReading = 17
+abbrev pub refused_number : Refused → ℕ
+refused_number Memory = 1
+refused_number NoFile = 2
+refused_number (BadLine line fault) = 3
+refused_number (LaneHeld cpu) = 4
+refused_number (NoLane cpu) = 5
+refused_number NoEvent = 6
+refused_number Full = 7
+refused_number (BadTrigger fault) = 8
+refused_number (BadFilter fault) = 9
+refused_number NoTrigger = 10
+refused_number (InUse id) = 11
+refused_number (NameTaken id) = 12
+refused_number NoVariable = 13
+refused_number KeyMismatch = 14
+refused_number TooManyTriggers = 15
+refused_number BadCommand = 16
+refused_number NotReading = 17

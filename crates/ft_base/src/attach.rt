@@ -1,24 +1,17 @@
 //! Whether a trigger's variable can be attached.
 
 ghost use Rattle.std.specs.Prelude.{◌≡◌};
-ghost use Rattle.std.specs.Ordering.{nat_cmp};
-ghost use Rattle.ft_maps.specs.Seen.{seen};
 ghost use Rattle.ft_base.specs.After.{reader_refused, saver_refused, variable_refused};
 ghost use Rattle.ft_base.specs.Roles.{saves_for};
 
 use crate::refused::Refused;
 use crate::roles::saver_of;
-use ft_hist::{Trigger, Var};
-use ft_maps::get;
-use std::collections::BTreeMap;
+use ft_hist::{Trigger, Triggers, Var};
 
 /// What stands against a trigger's variable: its name is saved already, nobody saves what it reads,
 /// or the saver doesn't match.
-pub(crate) fn variable_refused(
-    triggers: &BTreeMap<u32, Trigger>,
-    trigger: &Trigger,
-) -> Option<Refused>
-    ensures { result ≡ variable_refused (seen nat_cmp triggers.now)
+pub(crate) fn variable_refused(triggers: &Triggers, trigger: &Trigger) -> Option<Refused>
+    ensures { result ≡ variable_refused triggers.now
         trigger.now trigger.now.variable }
 {
     match trigger.variable() {
@@ -30,14 +23,10 @@ pub(crate) fn variable_refused(
 
 /// What stands against a reader of a name.
 #[tactic(auto, unfolding(crate::specs::After::reader_refused))]
-fn reader_refused(
-    triggers: &BTreeMap<u32, Trigger>,
-    reader: &Trigger,
-    source: &[u8],
-) -> Option<Refused>
-    ensures { result ≡ reader_refused (seen nat_cmp triggers.now) reader.now source.now }
+fn reader_refused(triggers: &Triggers, reader: &Trigger, source: &[u8]) -> Option<Refused>
+    ensures { result ≡ reader_refused triggers.now reader.now source.now }
 {
-    match saver_of(triggers, source).and_then(|id| get(triggers, &id)) {
+    match saver_of(triggers, source).and_then(|id| triggers.get(id)) {
         None => Some(Refused::NoVariable),
         Some(saver) => saver_refused(reader, saver),
     }

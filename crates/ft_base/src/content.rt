@@ -1,14 +1,14 @@
 //! What a desk holds and what is attached to it, however a board keeps its tables.
 
-ghost use Rattle.std.specs.Prelude.{◌≡◌, ◌≢◌, IfOk, OnOk, OnErr, IsSome, None, Some, Ok, Err};
+ghost use Rattle.std.specs.Prelude.{ℕ, ◌≡◌, ◌≢◌, ◌≤◌, None, Some, Ok, Err};
+ghost use Rattle.std.specs.Prelude.{IfOk, IfSome, OnOk, OnErr, IsSome};
 ghost use Rattle.std.specs.Prelude.{option_map};
 ghost use Rattle.std.specs.Option.{ForSome};
-ghost use Rattle.std.specs.Ordering.{nat_cmp};
 ghost use Rattle.std.specs.FinMap as map;
+ghost use Rattle.ft_fields.specs.Traced.{last_cpu};
 ghost use Rattle.ft_hist.specs.Hist.{Hist};
 ghost use Rattle.ft_lanes.specs.Edits.{lanes_without};
-ghost use Rattle.ft_lanes.specs.Held.{event_at, held_on, is_small};
-ghost use Rattle.ft_maps.specs.Seen.{seen};
+ghost use Rattle.ft_lanes.specs.Held.{Lane, event_at, held_on, is_small};
 ghost use Rattle.ft_base.specs.declared.refused.Refused.TheVariants.{Memory};
 ghost use Rattle.ft_base.specs.After.{after_load, after_unload, after_insert};
 ghost use Rattle.ft_base.specs.After.{after_attach, after_refilter};
@@ -19,19 +19,19 @@ ghost use Rattle.ft_base.specs.OneTrigger.{IsUnread, JoinsAs, GetsFilter, base_w
 ghost use Rattle.ft_base.specs.Reachable.{IsReachable};
 
 use crate::attach::variable_refused;
-use crate::edits::{held_lane, refilter_in};
 use crate::listed::{AttachedTrigger, attached_in};
 use crate::refused::{Place, Refused};
 use crate::roles::{attached, reader_on};
 use ft_event::{Event, Name};
 use ft_filter::Filter;
-use ft_hist::Trigger;
+use ft_hist::{Trigger, Triggers};
 use ft_lanes::Lanes;
-use ft_maps::{get, len, put, take};
 use ft_store::Store;
 use std::alloc::{AllocError, Global};
-use std::collections::BTreeMap;
 use std::marker::Model;
+
+/// The last CPU that an event can have.
+const CPU_LIMIT: u32 = Event::LAST_CPU;
 
 /// The most events that are held.
 const EVENT_LIMIT: u64 = 1_048_576;
@@ -51,16 +51,14 @@ const ID_LIMIT: u64 = 4_294_967_295;
 #[derive(Drop)]
 pub struct Content {
     lanes: Lanes,
-    triggers: BTreeMap<u32, Trigger>,
+    triggers: Triggers,
     next_id: u64,
 }
 
 impl Model for Content {
-    ghost use Rattle.std.specs.Ordering.{nat_cmp};
     ghost use Rattle.ft_base.specs.Base.{Base};
     ghost use Rattle.ft_base.specs.Codes.{base_code};
     ghost use Rattle.ft_base.specs.Reachable.{IsReachable};
-    ghost use Rattle.ft_maps.specs.Seen.{seen};
 
     ghost Value = { Base };
 
@@ -68,13 +66,13 @@ impl Model for Content {
 
     ghost view = { λ b. record {
       lanes = b.lanes;
-      triggers = seen nat_cmp b.triggers;
+      triggers = b.triggers;
       next_id = b.next_id;
     } };
 
     ghost invariant = { λ b. IsReachable (record {
       lanes = b.lanes;
-      triggers = seen nat_cmp b.triggers;
+      triggers = b.triggers;
       next_id = b.next_id;
     }) };
 }
@@ -86,7 +84,7 @@ impl Content {
     {
         Content {
             lanes: Lanes::new(alloc),
-            triggers: BTreeMap::new(alloc),
+            triggers: Triggers::new(alloc),
             next_id: 1,
         }
     }
@@ -101,8 +99,8 @@ impl Content {
     }
 
     /// The attached triggers by id.
-    pub fn triggers(&self) -> &BTreeMap<u32, Trigger>
-        ensures { seen nat_cmp result.now ≡ self.now.triggers }
+    pub fn triggers(&self) -> &Triggers
+        ensures { result.now ≡ self.now.triggers }
     {
         &self.triggers
     }
@@ -206,14 +204,14 @@ impl Content {
         ensures gives { BaseGives (after_attach self.old trigger) self.old self.new result }
         ensures joins { IfOk result (λ id. JoinsAs id trigger self.old self.new) }
     {
-        if len(&self.triggers) >= TRIGGER_LIMIT || self.next_id > ID_LIMIT {
+        if self.triggers.len() >= TRIGGER_LIMIT || self.next_id > ID_LIMIT {
             return Err(Refused::TooManyTriggers);
         }
         if let Some(refused) = variable_refused(&self.triggers, &trigger) {
             return Err(refused);
         }
         let id = self.next_id as u32;
-        if put(&mut self.triggers, id, trigger).is_err() {
+        if self.triggers.insert(id, trigger).is_err() {
             return Err(Refused::Memory);
         }
         self.next_id += 1;
@@ -229,7 +227,7 @@ impl Content {
         ensures filters { OnOk result (GetsFilter id self.old self.new) }
         ensures refused { OnErr result (map.get self.old.triggers id ≡ None) }
     {
-        if !refilter_in(&mut self.triggers, id, filter) {
+        if !self.triggers.set_filter(id, filter) {
             return Err(Refused::NoTrigger);
         }
         Ok(id)
@@ -242,7 +240,7 @@ impl Content {
         ensures unread { IfOk result (λ _. IsUnread self.now.triggers id) }
         ensures memory { result ≢ Err Memory }
     {
-        let Some(trigger) = get(&self.triggers, &id) else {
+        let Some(trigger) = self.triggers.get(id) else {
             return Err(Refused::NoTrigger);
         };
         if let Some(reader) = reader_on(&self.triggers, trigger.variable()) {
@@ -256,14 +254,14 @@ impl Content {
         requires { FindsToRemove self.old id (Ok tt) }
         ensures { self.new ≡ base_without self.old id }
     {
-        take(&mut self.triggers, &id);
+        self.triggers.remove(id);
     }
 
     /// The event that the trigger with an id is on.
     pub fn name_of(&self, id: u32) -> Option<Name>
         ensures { result ≡ option_map (λ hist. hist.event) (map.get self.now.triggers id) }
     {
-        get(&self.triggers, &id).map(|trigger| trigger.event())
+        self.triggers.get(id).map(|trigger| trigger.event())
     }
 
     /// The attached triggers, by id. Refused for memory.
@@ -298,5 +296,22 @@ impl Content {
             Ok(None) => Err(Refused::NoLane(cpu)),
             Err(_) => Err(Refused::Memory),
         }
+    }
+}
+
+/// A CPU as lanes name it, if its lane is held.
+fn held_lane(lanes: &Lanes, cpu: u32) -> Option<u16>
+    requires { (held : ℕ) (lane : Lane) → map.get lanes.now held ≡ Some lane → held ≤ last_cpu }
+    ensures none { result ≡ None → map.get lanes.now cpu ≡ None }
+    ensures same { IfSome result (λ lane. lane ≡ cpu) }
+    ensures held { IfSome result (λ _. IsSome (map.get lanes.now cpu)) }
+{
+    if cpu > CPU_LIMIT {
+        return None;
+    }
+    let lane = cpu as u16;
+    match lanes.lane(lane) {
+        Some(_) => Some(lane),
+        None => None,
     }
 }

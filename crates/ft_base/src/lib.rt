@@ -39,7 +39,6 @@
 
 mod attach;
 mod content;
-mod edits;
 pub mod laws;
 mod listed;
 mod refused;

@@ -1,15 +1,11 @@
 //! The attached triggers one by one.
 
 ghost use Rattle.std.specs.Prelude.{◌≡◌, IfOk};
-ghost use Rattle.std.specs.Ordering.{nat_cmp};
-ghost use Rattle.ft_maps.specs.Seen.{seen};
 ghost use Rattle.ft_base.specs.Answers.{attached_in};
 
 use ft_event::Name;
-use ft_hist::Trigger;
-use ft_maps::{entries, len};
+use ft_hist::Triggers;
 use std::alloc::{AllocError, Global};
-use std::collections::BTreeMap;
 
 /// An attached trigger: its id, and the event that it is on.
 #[derive(Clone, Copy, Debug, PartialEq, Eq)]
@@ -23,12 +19,12 @@ pub struct AttachedTrigger {
 /// The attached triggers, by id. Refused for memory.
 pub(crate) fn attached_in(
     alloc: Global,
-    triggers: &BTreeMap<u32, Trigger>,
+    triggers: &Triggers,
 ) -> Result<Vec<AttachedTrigger>, AllocError>
-    ensures { IfOk result (λ attached. attached.items ≡ attached_in (seen nat_cmp triggers.now)) }
+    ensures { IfOk result (λ attached. attached.items ≡ attached_in triggers.now) }
 {
-    let mut attached = Vec::with_capacity(alloc, len(triggers))?;
-    for (id, trigger) in entries(triggers) {
+    let mut attached = Vec::with_capacity(alloc, triggers.len())?;
+    for (id, trigger) in triggers.iter() {
         attached.push(AttachedTrigger {
             id: *id,
             event: trigger.event(),

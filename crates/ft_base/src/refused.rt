@@ -84,11 +84,11 @@ impl From<AllocError> for Refused {
 
 impl Refused {
     ghost use Rattle.std.specs.Prelude.{◌≡◌};
-    ghost use Rattle.ft_base.specs.Refused.{number_of};
+    ghost use Rattle.ft_base.specs.Refused.{refused_number};
 
     /// Its number in the desk's texts.
     pub fn number(self) -> u8
-        ensures { result ≡ number_of self }
+        ensures { result ≡ refused_number self }
     {
         match self {
             Refused::Memory => 1,

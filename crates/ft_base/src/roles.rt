@@ -2,29 +2,25 @@
 //! variable.
 
 ghost use Rattle.std.specs.Prelude.{◌≡◌, Some, None, IfOk, IfErr};
-ghost use Rattle.std.specs.Ordering.{nat_cmp};
 ghost use Rattle.std.specs.Option.{option_copied};
 ghost use Rattle.std.specs.FinMap as map;
-ghost use Rattle.ft_maps.specs.Seen.{seen};
 ghost use Rattle.ft_base.specs.declared.refused.Refused.TheVariants.{NoTrigger};
 ghost use Rattle.ft_base.specs.After.{reader_on};
 ghost use Rattle.ft_base.specs.Roles.{saves_name, reads_name, saver_of, reader_of};
 ghost use Rattle.ft_base.specs.Roles.{is_reader, role_of};
 
 use crate::refused::Refused;
-use ft_hist::{Trigger, Var};
-use ft_maps::{entries, get};
+use ft_hist::{Trigger, Triggers, Var};
 use ft_pairs::Role;
-use std::collections::BTreeMap;
 
 /// The attached trigger with an id. Refused where no trigger has it.
-pub fn attached(triggers: &BTreeMap<u32, Trigger>, id: u32) -> Result<&Trigger, Refused>
+pub fn attached(triggers: &Triggers, id: u32) -> Result<&Trigger, Refused>
     ensures there { IfOk result (λ trigger.
-        map.get (seen nat_cmp triggers.now) id ≡ Some trigger.now) }
+        map.get triggers.now id ≡ Some trigger.now) }
     ensures refused { IfErr result (λ refused. (refused ≡ NoTrigger)
-        × (map.get (seen nat_cmp triggers.now) id ≡ None)) }
+        × (map.get triggers.now id ≡ None)) }
 {
-    match get(triggers, &id) {
+    match triggers.get(id) {
         Some(trigger) => Ok(trigger),
         None => Err(Refused::NoTrigger),
     }
@@ -41,10 +37,10 @@ fn saves_name(variable: Option<&Var>, name: &[u8]) -> bool
 }
 
 /// The id of the attached trigger that saves a name, the first by id.
-pub(crate) fn saver_of(triggers: &BTreeMap<u32, Trigger>, name: &[u8]) -> Option<u32>
-    ensures { result ≡ saver_of (seen nat_cmp triggers.now) name.now }
+pub(crate) fn saver_of(triggers: &Triggers, name: &[u8]) -> Option<u32>
+    ensures { result ≡ saver_of triggers.now name.now }
 {
-    for (id, trigger) in entries(triggers) {
+    for (id, trigger) in triggers.iter() {
         if saves_name(trigger.variable(), name) {
             return Some(*id);
         }
@@ -63,10 +59,10 @@ fn reads_name(variable: Option<&Var>, name: &[u8]) -> bool
 }
 
 /// The id of an attached trigger that reads a name, the first by id.
-fn reader_of(triggers: &BTreeMap<u32, Trigger>, name: &[u8]) -> Option<u32>
-    ensures { result ≡ reader_of (seen nat_cmp triggers.now) name.now }
+fn reader_of(triggers: &Triggers, name: &[u8]) -> Option<u32>
+    ensures { result ≡ reader_of triggers.now name.now }
 {
-    for (id, trigger) in entries(triggers) {
+    for (id, trigger) in triggers.iter() {
         if reads_name(trigger.variable(), name) {
             return Some(*id);
         }
@@ -76,8 +72,8 @@ fn reader_of(triggers: &BTreeMap<u32, Trigger>, name: &[u8]) -> Option<u32>
 
 /// The id of an attached trigger that reads what a trigger with this variable saves, the first by
 /// id.
-pub(crate) fn reader_on(triggers: &BTreeMap<u32, Trigger>, variable: Option<&Var>) -> Option<u32>
-    ensures { result ≡ reader_on (seen nat_cmp triggers.now) (option_copied variable.entry) }
+pub(crate) fn reader_on(triggers: &Triggers, variable: Option<&Var>) -> Option<u32>
+    ensures { result ≡ reader_on triggers.now (option_copied variable.entry) }
 {
     match variable {
         Some(Var::Saves(label)) => reader_of(triggers, label.bytes()),
@@ -86,8 +82,8 @@ pub(crate) fn reader_on(triggers: &BTreeMap<u32, Trigger>, variable: Option<&Var
 }
 
 /// What a trigger with a variable does with it.
-pub fn role_of(triggers: &BTreeMap<u32, Trigger>, variable: Option<&Var>) -> Role
-    ensures { result ≡ role_of (seen nat_cmp triggers.now) (option_copied variable.entry) }
+pub fn role_of(triggers: &Triggers, variable: Option<&Var>) -> Role
+    ensures { result ≡ role_of triggers.now (option_copied variable.entry) }
 {
     match variable {
         None => Role::Plain,

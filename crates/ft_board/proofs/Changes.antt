@@ -1,24 +1,25 @@
 -- One event comes or goes: what is kept before and after, and the report of the bases before and after.
-use Rattle.std.proofs.Common.{◌≡◌, ◌⊎◌, ⊎_elim, inl, Bool, true, false, cond, List, [], refl, sym, ap, subst, ◌∙◌, Option, Some, None, Ok}
-use Rattle.std.specs.Prelude.{IsSome, ⊤}
+use Rattle.std.proofs.Common.{◌≡◌, ℕ, ◌⊎◌, ⊎_elim, inl, Bool, true, false, cond, List, [], refl, sym, ap, subst, ◌∙◌, Option, Some, None, Ok}
+use Rattle.std.specs.Prelude.{⊤}
 use Rattle.std.specs.Option.{IfSome}
 use Rattle.std.specs.Ordering.{eq_by_cmp}
 use Rattle.std.specs.FinMap as map
 use Rattle.std.specs.FinMap.{get-insert, get-remove, same_map}
-use Rattle.std.proofs.lemmas.Option.{IfSome_then, none-some, same_Some}
+use Rattle.std.proofs.lemmas.Option.{IfSome_then, none-some}
 use Rattle.ft_fields.specs.Places.{pos_cmp, pos_cmp_total, pos_same}
 use Rattle.ft_fields.specs.Traced.{Traced}
 use Rattle.ft_fields.specs.declared.pos.Pos.{Pos}
 use Rattle.ft_hist.specs.Steps.{Steps}
-use Rattle.ft_keys.specs.declared.key.Part.{Part}
+use Rattle.ft_fields.specs.declared.key.Part.{Part}
 use Rattle.ft_lanes.specs.Edits.{lane_or_new, lanes_without}
 use Rattle.ft_lanes.specs.Held.{event_at}
 use Rattle.ft_maps.specs.Entries.{get-remove_same, same_from_tie}
 use Rattle.ft_changes.specs.declared.changed.Changed.{Changed}
 use Rattle.ft_kept.specs.Changes.{AreFew, Told, HasToldFew}
+use Rattle.ft_kept.specs.Repairs.{IsHeldAt}
 use Rattle.ft_kept.specs.Shelves.{Shelves, FormsStay, role_on}
 use Rattle.ft_kept.specs.declared.changes.KeyChange.{KeyChange}
-use Rattle.ft_report.specs.Report.{report_of}
+use Rattle.ft_kept.specs.Report.{report_of}
 use Rattle.ft_base.specs.After.{after_insert}
 use Rattle.ft_base.specs.Base.{Base, Triggers}
 use Rattle.ft_base.specs.Reachable.{IsReachable}
@@ -27,6 +28,7 @@ use Rattle.ft_base.specs.declared.refused.Place.{Place}
 use Rattle.ft_replay.specs.Merged.{Events, merged}
 use Rattle.ft_made.specs.MadeTables.{found_in}
 use Rattle.ft_answers.specs.Costs.{CostsOf}
+use Rattle.ft_answers.specs.Deferral.{IsPlainHit}
 use Rattle.ft_answers.specs.Reporting.{IsReport}
 use Rattle.ft_repair.specs.KeptShelves.{AreKept, AreKeptOf}
 use Rattle.ft_repair.specs.Repaired.{IfBoth}
@@ -37,7 +39,7 @@ use Rattle.ft_board.specs.declared.views.Views.{Views}
 use Rattle.ft_board.specs.inner.Edits.{Edit, IsEdit}
 use Rattle.ft_board.specs.MadeShelves.{AreMadeBy}
 use Rattle.ft_board.specs.inner.Mending.{CanMendTo}
-use Rattle.ft_repair.specs.OneEvent.{AreKeptBefore, AreKeptAfter, ChangeCosts, IsPlain, LineNeedsNoMemory, events_before, events_after, pos_at}
+use Rattle.ft_repair.specs.OneEvent.{AreKeptAfter, ChangeCosts, EventNeedsNoMemory, events_before, events_after}
 use Rattle.ft_board.specs.inner.Readings.{readings_on}
 use Rattle.ft_board.specs.inner.Reported.{IsReportBy, RepairsReported}
 use Rattle.ft_board.specs.inner.Views.{AreFresh, AreOf, made_in}
@@ -45,9 +47,9 @@ use Rattle.ft_board.proofs.MendedEdits.{among_one_less}
 use Rattle.ft_board.proofs.StillMade.{AreAmong, ReadingsAre, all_told, among_same, can_mend, mended_if}
 
 -- an event that takes no memory is one of triggers without a variable
-pub plain_of : (sign : Sign) (base : Base) (place : Place) → LineNeedsNoMemory sign base place → IsPlain base place
-plain_of Insert base place missed = (missed.0, (missed.1.0, λ id hist attached key is. let both : ◌≡◌ {A = Option (List Part)} None (Some key) = sym (missed.1.1 id hist attached) ∙ is in absurd cc))
-plain_of Retract base place plain = plain
+pub plain_of : (sign : Sign) (triggers : Triggers) (event : Traced) → EventNeedsNoMemory sign triggers event → IsPlainHit triggers event
+plain_of Insert triggers event missed id hist attached key is = let both : ◌≡◌ {A = Option (List Part)} None (Some key) = sym (missed id hist attached) ∙ is in absurd cc
+plain_of Retract triggers event plain id hist attached key is = plain id hist attached key is
 
 -- ---- the events before and after are among all
 
@@ -61,10 +63,7 @@ after_among Retract all pos = among_one_less all pos
 
 -- ---- what is kept
 
-module _ (sign : Sign) (base : Base) (place : Place) (edit : Edit) (is : IsEdit sign base place edit) where
-  abbrev pos : Pos
-  pos = pos_at place edit.event
-
+module _ (sign : Sign) (base : Base) (pos : Pos) (edit : Edit) (is : IsEdit sign base pos edit) where
   abbrev all : Events
   all = merged base.lanes
 
@@ -74,14 +73,8 @@ module _ (sign : Sign) (base : Base) (place : Place) (edit : Edit) (is : IsEdit 
   pub fresh_of : (views : Views) → AreOf base.triggers (events_after sign all pos) views → AreFresh edit.new views
   fresh_of views are = subst (λ (p : Triggers × Events). AreOf p.0 p.1 views) (λ i. (sym is.same_after i, sym is.is i)) are
 
-  pub awaits_if : (kept : Option Shelves) → IfSome kept (AreKept base.triggers (events_before sign all pos)) → IfSome kept (AreKeptBefore sign base place)
-  awaits_if kept are = IfSome_then kept are (λ shelves its event there. subst (λ (e : Traced). AreKept base.triggers (events_before sign all (pos_at place e)) shelves) (same_Some _ _ (sym is.there ∙ there)) its)
-
-  pub has_if : (kept : Option Shelves) → IfSome kept (AreKeptAfter sign base place) → IfSome kept (AreKept base.triggers (events_after sign all pos))
-  has_if kept have = IfSome_then kept have (λ shelves has. has edit.event is.there)
-
-  pub later_fresh : (later : Option Shelves) → IfSome later (AreKeptAfter sign base place) → IfSome later (AreKeptOf edit.new)
-  later_fresh later kept = subst (λ (p : Triggers × Events). IfSome later (AreKept p.0 p.1)) (λ i. (sym is.same_after i, sym is.is i)) (has_if later kept)
+  pub later_fresh : (later : Option Shelves) → IfSome later (AreKeptAfter sign base pos) → IfSome later (AreKeptOf edit.new)
+  later_fresh later kept = subst (λ (p : Triggers × Events). IfSome later (AreKept p.0 p.1)) (λ i. (sym is.same_after i, sym is.is i)) kept
 
   -- after the repair, the tables of made events can be mended
   pub can_change : {X : Type 0} → ReadingsAre → (views : Views) → AreFresh edit.old views → (later : Option Shelves) → (views.shelves ≡ None → later ≡ None)
@@ -93,14 +86,14 @@ module _ (sign : Sign) (base : Base) (place : Place) (edit : Edit) (is : IsEdit 
       (IfSome_then later told (λ shelves few. IfSome_then views.shelves few (λ old its. record { readings = its.told.readings; told = its.told.told_readings; lead = its.told.lead })))
 
   -- mended, what is kept is that of the base afterwards
-  pub mended_fresh : ReadingsAre → (later : Option Shelves) (new : Views) → (new.shelves ≡ later) ⊎ (new.shelves ≡ None) → IfSome later (AreKeptAfter sign base place)
+  pub mended_fresh : ReadingsAre → (later : Option Shelves) (new : Views) → (new.shelves ≡ later) ⊎ (new.shelves ≡ None) → IfSome later (AreKeptAfter sign base pos)
       → IfSome new.shelves (λ shelves. AreMadeBy base.triggers all (found_in (readings_on shelves)) (made_in new)) → AreFresh edit.new new
   mended_fresh readings later new left kept are =
-      fresh_of new (mended_if readings base.triggers (events_after sign all pos) all (after_among sign all pos) later new.shelves (made_in new) left (has_if later kept) are)
+      fresh_of new (mended_if readings base.triggers (events_after sign all pos) all (after_among sign all pos) later new.shelves (made_in new) left kept are)
 
-  pub costs_of : (old new : Steps) → ChangeCosts sign base place old new → CostsOf edit.old.triggers edit.event (merged edit.old.lanes) (merged edit.new.lanes) old new
-  costs_of old new costs =
-      subst (λ (p : Triggers × (Events × Events)). CostsOf p.0 edit.event p.1.0 p.1.1 old new) (λ i. (sym is.same_before i, (sym is.was i, sym is.is i))) (costs edit.event is.there)
+  pub costs_of : (event : Traced) (old new : Steps) → ChangeCosts sign base pos event old new → CostsOf edit.old.triggers event (merged edit.old.lanes) (merged edit.new.lanes) old new
+  costs_of event old new costs =
+      subst (λ (p : Triggers × (Events × Events)). CostsOf p.0 event p.1.0 p.1.1 old new) (λ i. (sym is.same_before i, (sym is.was i, sym is.is i))) costs
 
   -- ---- the report
 
@@ -116,7 +109,7 @@ module _ (sign : Sign) (base : Base) (place : Place) (edit : Edit) (is : IsEdit 
       (subst (λ (ts : Triggers). AreFew (role_on old) (map.entries ts) told.told.keys) (sym is.same_before) told.few)))
 
   -- a report of the keys that were told since none were is one of the bases before and after
-  pub edit_reported : RepairsReported → (views : Views) → AreFresh edit.old views → (later mended : Option Shelves) → (mended ≡ later) ⊎ (mended ≡ None) → IfSome later (AreKeptAfter sign base place)
+  pub edit_reported : RepairsReported → (views : Views) → AreFresh edit.old views → (later mended : Option Shelves) → (mended ≡ later) ⊎ (mended ≡ None) → IfSome later (AreKeptAfter sign base pos)
       → (views.shelves ≡ None → later ≡ None) → IfBoth FormsStay views.shelves later → (before after : Told) → before.keys ≡ Some [] → IfBoth (HasToldFew (map.entries base.triggers) before after) views.shelves later
       → (rows : List Changed) → IsReportBy base.triggers mended after.keys rows → IsReport edit.old edit.new rows
   edit_reported reported views fresh later mended left kept gone forms before after none told rows by =
@@ -135,15 +128,28 @@ taken_out events pos event none = same_map pos_cmp_total pos_same (map.remove (m
   from q true tie = sym (ap (map.get events) (same_from_tie pos_same q pos tie) ∙ none)
   from q false apart = get-insert pos_cmp_total events pos event q ∙ ap (λ (b : Bool). cond b (Some event) (map.get events q)) apart
 
-pub inserts : (base new : Base) (event : Traced) (place : Place) → IsReachable base → after_insert base event ≡ Ok (new, place) → IsEdit Insert new place (record { event = event; old = base; new = new })
-inserts base new event place reachable answer =
-    subst (λ (given : Base × Place). IsEdit Insert given.0 given.1 (record { event = event; old = base; new = given.0 })) (insert-gives base event new place answer) (record {
-      there = new_line_has base event;
-      same_before = refl;
-      same_after = refl;
-      was = sym (taken_out (merged base.lanes) at event (absent_before base reachable event)) ∙ ap (λ (m : Events). map.remove m at) (merged_one_more base reachable event);
-      is = refl;
-    })
+-- the place of a line in the merged order, by its event's stamp
+abbrev pub pos_at : Place → ℕ → Pos
+pos_at place stamp = record { stamp = stamp; cpu = place.cpu; line = place.line }
+
+-- an event that was put in is held, and comes by an edit
+pub record Comes (old new : Base) (pos : Pos) (event : Traced) : Type 0 where
+  pub held : IsHeldAt new.lanes pos event
+  pub by : IsEdit Insert new pos (record { old = old; new = new })
+
+pub inserts : (base new : Base) (event : Traced) (place : Place) → IsReachable base → after_insert base event ≡ Ok (new, place)
+    → {stamp : ℕ} → stamp ≡ event.stamp → Comes base new (pos_at place stamp) event
+inserts base new event place reachable answer {stamp} its =
+    subst (λ (n : ℕ). Comes base new (pos_at place n) event) (sym its)
+    (subst (λ (given : Base × Place). Comes base given.0 (pos_at given.1 event.stamp) event) (insert-gives base event new place answer) (record {
+      held = (new_line_has base event, refl);
+      by = record {
+        same_before = refl;
+        same_after = refl;
+        was = sym (taken_out (merged base.lanes) at event (absent_before base reachable event)) ∙ ap (λ (m : Events). map.remove m at) (merged_one_more base reachable event);
+        is = refl;
+      };
+    }))
   where
     at : Pos
     at = record { stamp = event.stamp; cpu = event.cpu; line = (lane_or_new base.lanes event.cpu).next }
@@ -152,19 +158,22 @@ inserts base new event place reachable answer =
 abbrev pub struck : Base → Place → Base
 struck base place = record base { lanes = lanes_without base.lanes place.cpu place.line }
 
-pub strikes : (base : Base) (place : Place) (event : Traced) → event_at base.lanes place.cpu place.line ≡ Some event → IsEdit Retract base place (record { event = event; old = base; new = struck base place })
-strikes base place event there = record {
-  there = there;
-  same_before = refl;
-  same_after = refl;
-  was = refl;
-  is = merged_one_less base.lanes place.cpu place.line event there (map.remove (merged base.lanes) (pos_at place event)) (get-remove_same pos_cmp_total (merged base.lanes) (pos_at place event))
-      (put_back (merged base.lanes) (pos_at place event) event (placed_there base.lanes place.cpu place.line event there));
-}
+-- an event that is held goes by an edit
+pub record Goes (base : Base) (place : Place) (pos : Pos) (event : Traced) : Type 0 where
+  pub held : IsHeldAt base.lanes pos event
+  pub by : IsEdit Retract base pos (record { old = base; new = struck base place })
 
--- the event that a line holds
-pub event_there : (base : Base) (place : Place) → IsSome (event_at base.lanes place.cpu place.line) → (event : Traced) × (event_at base.lanes place.cpu place.line ≡ Some event)
-event_there base place some = by (event_at base.lanes place.cpu place.line) refl some where
-  by : (o : Option Traced) → event_at base.lanes place.cpu place.line ≡ o → IsSome o → (event : Traced) × (event_at base.lanes place.cpu place.line ≡ Some event)
-  by None there none = let both : ◌≡◌ {A = Bool} false true = none in absurd cc
-  by (Some event) there _ = (event, there)
+pub strikes : (base : Base) (place : Place) (event : Traced) → event_at base.lanes place.cpu place.line ≡ Some event → {stamp : ℕ} → stamp ≡ event.stamp → Goes base place (pos_at place stamp) event
+strikes base place event there {stamp} its = subst (λ (n : ℕ). Goes base place (pos_at place n) event) (sym its) (record {
+  held = (there, refl);
+  by = record {
+    same_before = refl;
+    same_after = refl;
+    was = refl;
+    is = merged_one_less base.lanes place.cpu place.line event there (map.remove (merged base.lanes) at) (get-remove_same pos_cmp_total (merged base.lanes) at)
+        (put_back (merged base.lanes) at event (placed_there base.lanes place.cpu place.line event there));
+  };
+})
+  where
+    at : Pos
+    at = pos_at place event.stamp

@@ -8,32 +8,29 @@ use Rattle.std.proofs.lemmas.Option.{same_Some}
 use Rattle.ft_filter.specs.Tree.{Tree}
 use Rattle.ft_hist.specs.Hist.{Hist, with_filter}
 use Rattle.ft_fields.specs.Traced.{Traced}
-use Rattle.ft_base.specs.After.{after_insert, after_load, after_refilter}
+use Rattle.ft_base.specs.After.{after_load, after_refilter}
 use Rattle.ft_base.specs.Base.{Base, Triggers}
 use Rattle.ft_base.specs.OneTrigger.{GetsFilter}
 use Rattle.ft_base.specs.Roles.{is_reader}
 use Rattle.ft_base.proofs.After.{load-gives}
-use Rattle.ft_base.proofs.Cases.{insert-gives, refilter-ok}
+use Rattle.ft_base.proofs.Cases.{refilter-ok}
 use Rattle.std.specs.Prelude.{Result, Ok}
-use Rattle.ft_base.specs.declared.refused.Place.{Place}
 use Rattle.ft_base.specs.declared.refused.Refused.{Refused}
-use Rattle.ft_answers.specs.Counting.{counts_made, MakesNothing}
+use Rattle.ft_answers.specs.Counting.{MakesNothing}
+use Rattle.ft_hist.specs.Made.{counts_made}
 
 module _ (P : Hist → Type 0) where
   -- each attached trigger has a property
   abbrev Each : Triggers → Type 0
   Each triggers = (id : ℕ) (hist : Hist) → map.get triggers id ≡ Some hist → P hist
 
-  each_inserted : (triggers : Triggers) (id : ℕ) (its : Hist) → Each triggers → P its → Each (map.insert triggers id its)
-  each_inserted triggers id its each has other hist there =
-      elim (eq_by_cmp nat_cmp other id) as (λ (b : Bool). cond b (Some its) (map.get triggers other) ≡ Some hist → P hist) [
-        | true ↦ λ is. subst P (same_Some _ _ is) has
-        | false ↦ λ is. each other hist is
-      ] (sym (get-insert nat_cmp_total triggers id its other) ∙ there)
-
   -- another filter leaves it, where the property is none of filters
   each_refiltered : (triggers : Triggers) (id : ℕ) (was : Hist) (filter : Option Tree) → map.get triggers id ≡ Some was → (P was → P (with_filter was filter)) → Each triggers → Each (map.insert triggers id (with_filter was filter))
-  each_refiltered triggers id was filter there stays each = each_inserted triggers id (with_filter was filter) each (stays (each id was there))
+  each_refiltered triggers id was filter there stays each other hist is =
+      elim (eq_by_cmp nat_cmp other id) as (λ (b : Bool). cond b (Some (with_filter was filter)) (map.get triggers other) ≡ Some hist → P hist) [
+        | true ↦ λ same. subst P (same_Some _ _ same) (stays (each id was there))
+        | false ↦ λ same. each other hist same
+      ] (sym (get-insert nat_cmp_total triggers id (with_filter was filter) other) ∙ is)
 
 -- a trigger that reads makes no events
 abbrev ReadsAndMakesNone : Hist → Type 0
@@ -52,10 +49,6 @@ refiltered_nothing base new id same filter answer gets none =
     triggers_in (Ok given) = given.0.triggers
     triggers_in other = base.triggers
 
--- an insertion leaves the triggers
-pub inserted_triggers : (base new : Base) (event : Traced) (place : Place) → after_insert base event ≡ Ok (new, place) → base.triggers ≡ new.triggers
-inserted_triggers base new event place answer = ap (λ (given : Base × Place). given.0.triggers) (insert-gives base event new place answer)
-
--- and so does a load
+-- a load leaves the triggers
 pub loaded_triggers : (base new : Base) (es : List Traced) (count : ℕ) → after_load base es ≡ Ok (new, count) → base.triggers ≡ new.triggers
 loaded_triggers base new es count answer = ap (λ (b : Base). b.triggers) (load-gives base es new count answer).1

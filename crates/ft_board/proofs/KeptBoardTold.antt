@@ -1,11 +1,13 @@
 -- What a board answers from what it keeps.
-use Rattle.std.proofs.Common.{◌≡◌, ℕ, Bool, true, false, not, inl, inr, refl, sym, ap, subst, ◌∙◌, List, [], Option, Some, None, Result, Ok, Err}
-use Rattle.std.specs.Prelude.{IfSome, IsSome, OnErr, unwrap_or, map as list_map, if◌then◌else◌}
+use Rattle.std.proofs.Common.{◌≡◌, ◌⊎◌, ⊎_elim, ℕ, Bool, true, false, not, inl, inr, refl, sym, ap, subst, ◌∙◌, List, [], Option, Some, None, Result, Ok, Err}
+use Rattle.std.specs.Prelude.{◌≢◌, IfSome, IsSome, unwrap_or, map as list_map, if◌then◌else◌}
 use Rattle.std.specs.Option.{option_map_or, is_none}
 use Rattle.std.specs.FinMap as map
 use Rattle.ft_hist.specs.Hist.{Hist}
 use Rattle.ft_hist.specs.Steps.{Steps}
-use Rattle.ft_keys.specs.declared.key.Part.{Part}
+use Rattle.ft_hist.specs.declared.label.Var.{Var}
+use Rattle.ft_hist.specs.declared.label.Var.TheVariants as vars
+use Rattle.ft_fields.specs.declared.key.Part.{Part}
 use Rattle.ft_kept.specs.Shelves.{Shelved, Shelves}
 use Rattle.ft_table.specs.Rows.{AllFit}
 use Rattle.ft_table.specs.Tabled.{Tabled}
@@ -13,8 +15,7 @@ use Rattle.ft_answers.specs.declared.latency.Latency.{Latency}
 use Rattle.ft_base.specs.declared.refused.Refused.{Refused}
 use Rattle.ft_base.specs.declared.refused.Refused.TheVariants.{Memory, NoTrigger, NotReading}
 use Rattle.ft_answers.specs.Answers.{hist_text, rows_shown, row_shown, counts_shown, totals, latencies, pairs_shown, tally_at, tally_made, tally_shown, tally_text, tally_rows, tally_row, tally_counts, latency_of, latencies_as, pairs_as}
-use Rattle.ft_answers.specs.Counting.{counts_made}
-use Rattle.ft_answers.specs.Deferral.{WantsForTables}
+use Rattle.ft_hist.specs.Made.{counts_made}
 use Rattle.ft_base.specs.Base.{Base, Triggers}
 use Rattle.ft_answers.specs.Edited.{AnswersFrom}
 use Rattle.ft_replay.specs.Found.{pairs_in, saving_found}
@@ -27,8 +28,8 @@ use Rattle.ft_base.specs.Roles.{is_reader}
 use Rattle.ft_answers.specs.Shown.{Shown}
 use Rattle.ft_replay.specs.Tally.{Tally, empty_tally, tally_of, totals_in}
 use Rattle.ft_board.specs.MadeShelves.{MadeTables, made_on, AreMade, AreMadeBy}
-use Rattle.ft_board.specs.inner.Told.{IsTold, Tells, TellsAll}
-use Rattle.ft_answers.proofs.Answering.{latencies-reader, latencies-other, pairs-reader, pairs-other}
+use Rattle.ft_board.specs.inner.Told.{IsTold, ShelfTells, TableTells}
+use Rattle.ft_answers.proofs.Answering.{pairs-reader, pairs-other}
 
 -- a board that keeps tables, with its steps
 abbrev pub kept_shown : Base → Option Shelves → Steps → Shown
@@ -50,12 +51,6 @@ told view expected shown content kept new work later (Err refused) is back memor
   (λ none. ap (λ (s : Shown). s.deferred) (sym is) ∙ ap is_none (back (none_is new none)), λ other. absurd (other memory)),
 )
 
--- an answer that runs out of memory only where there are no tables
-pub wants : {S : Type 0} (shown : Shown) (content : Base) (kept new : Option Shelves) (work later : Steps) (answer : Result S Refused)
-    → kept_shown content kept work ≡ shown → (new ≡ None → kept ≡ None) → OnErr answer (new ≡ None) → WantsForTables shown (kept_shown content new later) answer
-wants {S} shown content kept new work later (Ok answer) is back none keeps err = let both : ◌≡◌ {A = Result S Refused} (Ok answer) (Err Memory) = err in absurd cc
-wants shown content kept new work later (Err refused) is back none keeps err = (ap (λ (s : Shown). s.deferred) (sym is) ∙ ap is_none (back none), ap is_none none)
-
 -- what is answered of a trigger, where one is attached
 abbrev pub asked : {T : Type 0} → (Base → ℕ → Hist → Result T Refused) → Base → ℕ → Result T Refused
 asked answer base id = option_map_or (answer base id) (map.get base.triggers id) (Err NoTrigger)
@@ -75,7 +70,7 @@ unattached view expected answers asks shown content kept work triggers id refuse
 
 -- what is told of an attached trigger by a table
 pub told_by : {S T : Type 0} (view : S → T) (expected : Base → ℕ → Result T Refused) (tell : Hist → Tally → T) → ((base : Base) (id : ℕ) → expected base id ≡ asked (by_tally tell) base id)
-    → (base : Base) (id : ℕ) (hist : Hist) (table : Tabled) → map.get base.triggers id ≡ Some hist → (its : TellsAll base id hist table) → (answer : S) → view answer ≡ tell hist (tally_of table its.pairs)
+    → (base : Base) (id : ℕ) (hist : Hist) (table : Tabled) → map.get base.triggers id ≡ Some hist → (its : TableTells base id hist table) → (answer : S) → view answer ≡ tell hist (tally_of table its.pairs)
     → (kept : Option Shelves) → IsSome kept → IsTold view (expected base id) kept (Ok answer)
 told_by view expected tell asks base id hist table there its answer is kept some = (
   asks base id ∙ ap (λ (o : Option Hist). option_map_or (by_tally tell base id) o (Err NoTrigger)) there
@@ -106,16 +101,9 @@ pub totals-is : (base : Base) (id : ℕ) → totals base id ≡ asked (by_tally 
 unfolding totals
 totals-is base id = refl
 
--- what readings measured, and what they found
-abbrev pub latencies_by : Base → ℕ → Hist → Result (List Latency) Refused
-latencies_by base id hist = latencies_as hist.variable (tally_at base.triggers (merged base.lanes) id)
-
+-- what readings found
 abbrev pub pairs_by : Base → ℕ → Hist → Result (List Pair) Refused
 pairs_by base id hist = pairs_as hist.variable (tally_at base.triggers (merged base.lanes) id)
-
-pub latencies-is : (base : Base) (id : ℕ) → latencies base id ≡ asked latencies_by base id
-unfolding latencies
-latencies-is base id = refl
 
 pub pairs-is : (base : Base) (id : ℕ) → pairs_shown base id ≡ asked pairs_by base id
 unfolding pairs_shown
@@ -127,10 +115,6 @@ module _ (triggers : Triggers) (events : Events) (id : ℕ) where
   -- what replaying without made events gives of held events
   pub tally-first : HeldAreCounted → (tally : Tally) → map.get (replay triggers events).tallies id ≡ Some tally → tally_at triggers events id ≡ tally
   tally-first first tally is = ap (λ (s : State). unwrap_or (map.get s.tallies id) empty_tally) (first triggers events) ∙ ap (λ (o : Option Tally). unwrap_or o empty_tally) is
-
-  -- that of held events
-  pub held-shown : (hist : Hist) (tally : Tally) → counts_made hist ≡ false → tally_at triggers events id ≡ tally → tally_shown triggers events id hist ≡ tally
-  held-shown hist tally other is = ap (λ (b : Bool). if b then tally_made triggers events id else tally_at triggers events id) other ∙ is
 
   -- that of made events, where their table is kept
   pub made-shown : TablesAreTallied → (hist : Hist) (made : MadeTables) → map.get triggers id ≡ Some hist → counts_made hist ≡ true
@@ -146,30 +130,48 @@ if_there (Some shelves) some holds = holds
 
 -- so a table of made events that is kept tells what is shown
 pub made-tells : TablesAreTallied → (base : Base) (id : ℕ) (hist : Hist) (made : MadeTables) → map.get base.triggers id ≡ Some hist → counts_made hist ≡ true → AreMade base made → AllFit (made_on made id hist) hist
-    → (table : Tabled) → made_on made id hist ≡ table → TellsAll base id hist table
+    → (table : Tabled) → made_on made id hist ≡ table → TableTells base id hist table
 made-tells tallied base id hist made there counts are fit table is =
-    subst (TellsAll base id hist) is (record { pairs = []; tally = made-shown base.triggers (merged base.lanes) id tallied hist made there counts are; fit = fit })
+    subst (TableTells base id hist) is (record { pairs = []; tally = made-shown base.triggers (merged base.lanes) id tallied hist made there counts are; fit = fit })
 
 -- ---- readings
 
 module _ (base : Base) (id : ℕ) (hist : Hist) (there : map.get base.triggers id ≡ Some hist) where
   -- a trigger that reads nothing has none
-  pub latencies-unread : is_reader hist.variable ≡ false → latencies base id ≡ Err NotReading
-  latencies-unread other = latencies-is base id ∙ ap (λ (o : Option Hist). option_map_or (latencies_by base id) o (Err NoTrigger)) there ∙ latencies-other hist.variable (tally_at base.triggers (merged base.lanes) id) other
-
   pub pairs-unread : is_reader hist.variable ≡ false → pairs_shown base id ≡ Err NotReading
   pairs-unread other = pairs-is base id ∙ ap (λ (o : Option Hist). option_map_or (pairs_by base id) o (Err NoTrigger)) there ∙ pairs-other hist.variable (tally_at base.triggers (merged base.lanes) id) other
 
   -- one that reads has those of its shelf
-  module _ (reads : is_reader hist.variable ≡ true) (shelf : Shelved) (tells : Tells base id hist shelf) where
+  module _ (reads : is_reader hist.variable ≡ true) (shelf : Shelved) (tells : ShelfTells base id hist shelf) where
     pub pairs-told : pairs_shown base id ≡ Ok (pairs_in shelf.readings)
     pairs-told =
         pairs-is base id ∙ ap (λ (o : Option Hist). option_map_or (pairs_by base id) o (Err NoTrigger)) there
         ∙ pairs-reader hist.variable (tally_at base.triggers (merged base.lanes) id) reads
         ∙ ap (λ (pairs : List Pair). let answer : Result (List Pair) Refused = Ok pairs in answer) (ap (λ (t : Tally). t.pairs) tells.tally ∙ pairs-tally shelf.table (pairs_in shelf.readings))
 
-    pub latencies-told : latencies base id ≡ Ok (list_map latency_of (pairs_in shelf.readings))
-    latencies-told =
-        latencies-is base id ∙ ap (λ (o : Option Hist). option_map_or (latencies_by base id) o (Err NoTrigger)) there
-        ∙ latencies-reader hist.variable (tally_at base.triggers (merged base.lanes) id) reads
-        ∙ ap (λ (pairs : List Pair). let answer : Result (List Latency) Refused = Ok (list_map latency_of pairs) in answer) (ap (λ (t : Tally). t.pairs) tells.tally ∙ pairs-tally shelf.table (pairs_in shelf.readings))
+-- ---- latencies
+
+-- an answer's pairs as latencies
+abbrev pub measured : Result (List Pair) Refused → Result (List Latency) Refused
+measured (Ok pairs) = Ok (list_map latency_of pairs)
+measured (Err refused) = Err refused
+
+-- what readings measured is told by what they found
+pub latencies-measured : (base : Base) (id : ℕ) → latencies base id ≡ measured (pairs_shown base id)
+unfolding latencies pairs_shown
+latencies-measured base id = by (map.get base.triggers id) where
+  of : (variable : Option Var) (tally : Tally) → latencies_as variable tally ≡ measured (pairs_as variable tally)
+  of None tally = refl
+  of (Some (vars.Saves label)) tally = refl
+  of (Some (vars.Reads own source)) tally = refl
+
+  by : (o : Option Hist) → option_map_or (λ hist. latencies_as hist.variable (tally_at base.triggers (merged base.lanes) id)) o (Err NoTrigger)
+      ≡ measured (option_map_or (λ hist. pairs_as hist.variable (tally_at base.triggers (merged base.lanes) id)) o (Err NoTrigger))
+  by None = refl
+  by (Some hist) = of hist.variable (tally_at base.triggers (merged base.lanes) id)
+
+-- a refusal of the pairs is one of the latencies
+pub unmeasured : {S : Type 0} (view : S → List Latency) (old new : Shown) (id : ℕ) (refused : Refused) (answer : Result S Refused) → new.base ≡ old.base → (refused ≡ Memory) ⊎ (pairs_shown old.base id ≡ Err refused)
+    → (new.deferred ≡ true → old.deferred ≡ true) × (refused ≢ Memory → new.deferred ≡ old.deferred) → answer ≡ Err refused → AnswersFrom view (latencies old.base id) old new answer
+unmeasured view old new id refused answer same why keeps is =
+    subst (AnswersFrom view (latencies old.base id) old new) (sym is) (same, ⊎_elim inl (λ none. inr (latencies-measured old.base id ∙ ap measured none)) why, keeps)

@@ -5,7 +5,7 @@ use Rattle.std.specs.Option.{IfSome}
 use Rattle.std.specs.FinMap as map
 use Rattle.std.proofs.lemmas.Bool.{true≢false}
 use Rattle.ft_hist.specs.Hist.{Hist}
-use Rattle.ft_keys.specs.declared.key.Part.{Part}
+use Rattle.ft_fields.specs.declared.key.Part.{Part}
 use Rattle.ft_changes.specs.declared.changed.Changed.{Changed}
 use Rattle.ft_table.specs.Rows.{row_at}
 use Rattle.ft_kept.specs.Shelves.{Shelves}
@@ -16,7 +16,7 @@ use Rattle.ft_replay.proofs.Growing.{get-tally}
 use Rattle.ft_replay.specs.Found.{saving_found}
 use Rattle.ft_made.specs.Laws.{TablesAreTallied}
 use Rattle.ft_made.specs.MadeTables.{found_in}
-use Rattle.ft_answers.specs.Counting.{counts_made}
+use Rattle.ft_hist.specs.Made.{counts_made}
 use Rattle.ft_answers.specs.Reporting.{IsMadeReport, IsReport, Reports, made_row_in}
 use Rattle.ft_answers.specs.Shown.{Shown}
 use Rattle.ft_answers.specs.declared.done.Done.{Done}

@@ -30,10 +30,10 @@ use Rattle.ft_made.specs.MadeEvents.{made_by}
 use Rattle.ft_made.specs.MadeHits.{values_of_made}
 use Rattle.ft_changes.specs.Findings.{Findings}
 use Rattle.ft_made.specs.MadeTables.{IsMadeTable, found_in}
-use Rattle.ft_answers.specs.Counting.{counts_made}
+use Rattle.ft_hist.specs.Made.{counts_made}
 use Rattle.ft_repair.specs.KeptShelves.{AreKept, HasItsShelf}
 use Rattle.ft_board.specs.MadeShelves.{MadeTables, made_on, AreMadeBy, AreMade}
-use Rattle.ft_board.specs.inner.Mending.{OthersStay}
+use Rattle.ft_board.specs.inner.Mending.{OtherTablesStay}
 use Rattle.ft_board.specs.inner.Readings.{readings_on}
 
 -- ---- triggers one by one
@@ -86,7 +86,7 @@ module _ (old new : MadeTables) (id : ℕ) (table : Tabled) (put : new ≡ map.i
   table_put hist = ap (λ (made : MadeTables). made_on made id hist) put ∙ ap (table_by hist) (get-insert_same nat_cmp_total old id table)
 
   -- and the others stay
-  pub others_put : OthersStay id old new
+  pub others_put : OtherTablesStay id old new
   others_put other apart = ap (λ (made : MadeTables). map.get made other) put ∙ get-insert nat_cmp_total old id table other ∙ ap (λ (b : Bool). cond b (Some table) (map.get old other)) apart
 
 module _ (triggers : Triggers) (events : Events) (found : Findings) where

@@ -5,7 +5,7 @@ use Rattle.std.specs.List.{filter}
 use Rattle.std.specs.Cmp.{nat_eq_equiv}
 use Rattle.std.specs.FinMap as map
 use Rattle.ft_hist.specs.Hist.{Hist}
-use Rattle.ft_keys.specs.declared.key.Part.{Part}
+use Rattle.ft_fields.specs.declared.key.Part.{Part}
 use Rattle.ft_pairs.specs.declared.role.Role.{Role}
 use Rattle.ft_pairs.specs.declared.role.Role.TheVariants.{Plain, Saves, Reads}
 use Rattle.ft_table.specs.Rows.{row_at}
@@ -14,10 +14,10 @@ use Rattle.ft_changes.specs.Rivals.{is_of}
 use Rattle.ft_kept.specs.Changes.{AreFew, is_reader_of}
 use Rattle.ft_kept.specs.Shelves.{Shelved, Shelves, role_on}
 use Rattle.ft_kept.specs.declared.changes.KeyChange.{KeyChange}
-use Rattle.ft_report.specs.Laws.{OthersStay, ReportedOnce, TwoReported, ReaderReported, readers_of}
-use Rattle.ft_report.specs.Report.{counts_made, keys_reported, report_of, row_on}
-use Rattle.ft_report.specs.Touched.{named}
-use Rattle.ft_report.proofs.Rows.{whose}
+use Rattle.ft_kept.specs.Laws.{OthersStay, ReportedOnce, TwoReported, ReaderReported, readers_of}
+use Rattle.ft_kept.specs.Report.{counts_made, keys_reported, report_of, row_on}
+use Rattle.ft_kept.specs.Touched.{named_keys}
+use Rattle.ft_kept.proofs.Rows.{whose}
 use Rattle.ft_base.specs.Base.{Base, Triggers}
 use Rattle.ft_base.specs.OneTrigger.{reads_from}
 use Rattle.ft_base.specs.Roles.{role_at}
@@ -61,7 +61,7 @@ reported_held : (triggers : Triggers) (shelves : Shelves) (told : List KeyChange
 unfolding report_of
 reported_held triggers shelves told id key is =
     let its = whose (keys_reported shelves told) triggers id key is in
-    (its.0, (its.1.0, held_if (counts_made its.0) (named shelves told id) key its.1.1))
+    (its.0, (its.1.0, held_if (counts_made its.0) (named_keys shelves told id) key its.1.1))
 
 -- ---- how many triggers read
 

@@ -6,7 +6,7 @@ use Rattle.std.specs.Option.{IfSome}
 use Rattle.std.proofs.lemmas.Bool.{true≢false}
 use Rattle.std.proofs.lemmas.Option.{none-some, same_Some}
 use Rattle.ft_hist.specs.Hist.{Hist}
-use Rattle.ft_keys.specs.declared.key.Part.{Part}
+use Rattle.ft_fields.specs.declared.key.Part.{Part}
 use Rattle.ft_changes.specs.Findings.{Findings, Lead}
 use Rattle.ft_changes.specs.Rivals.{is_of, rivals, ButForAmong, RivalsAreOthers, RivalsDiffer, RowsStayBut}
 use Rattle.ft_changes.specs.declared.changed.Changed.{Changed}
@@ -15,14 +15,14 @@ use Rattle.ft_table.specs.Hits.{same_key}
 use Rattle.ft_table.specs.Tabled.{Tabled}
 use Rattle.ft_kept.specs.Changes.{Tells}
 use Rattle.ft_kept.specs.Shelves.{Shelves}
-use Rattle.ft_report.proofs.Once.{each_distinct, neither, of_each_once, rivals_once}
-use Rattle.ft_report.proofs.Rows.{not_reported, once, whose}
+use Rattle.ft_kept.proofs.Once.{each_distinct, neither, of_each_once, rivals_once}
+use Rattle.ft_kept.proofs.Rows.{not_reported, once, whose}
 use Rattle.ft_base.specs.Base.{Triggers}
 use Rattle.ft_replay.specs.Merged.{Events}
 use Rattle.ft_made.specs.Laws.{KeysAreTurned, TurnedButForKeys}
 use Rattle.ft_made.specs.MadeTables.{found_in}
 use Rattle.ft_made.specs.Turning.{keys_turned}
-use Rattle.ft_answers.specs.Counting.{counts_made}
+use Rattle.ft_hist.specs.Made.{counts_made}
 use Rattle.ft_board.specs.MadeShelves.{MadeTables, AreMadeBy, made_on}
 use Rattle.ft_board.specs.inner.Readings.{readings_on}
 use Rattle.ft_board.specs.inner.Turned.{AreTurnedRows, keys_counted, keys_named, keys_of, rows_turned}

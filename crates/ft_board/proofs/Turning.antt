@@ -8,21 +8,21 @@ use Rattle.std.specs.Cmp.{nat_cmp_total}
 use Rattle.std.specs.FinMap as map
 use Rattle.std.proofs.lemmas.Bool.{true≢false}
 use Rattle.ft_hist.specs.Hist.{Hist}
-use Rattle.ft_keys.specs.declared.key.Part.{Part}
+use Rattle.ft_fields.specs.declared.key.Part.{Part}
 use Rattle.ft_changes.specs.declared.changed.Changed.{Changed}
 use Rattle.ft_changes.specs.declared.changed.ReadingChange.{ReadingChange}
 use Rattle.ft_table.specs.Tabled.{Tabled}
 use Rattle.ft_kept.specs.Changes.{Tells}
 use Rattle.ft_kept.proofs.Told.{tells_same, tells_trans}
-use Rattle.ft_report.specs.Report.{rows_at}
+use Rattle.ft_kept.specs.Report.{rows_at}
 use Rattle.ft_base.specs.Base.{Triggers}
 use Rattle.ft_base.proofs.Apart.{AreApart, above-is, all_both, all_of, entries_apart}
 use Rattle.ft_replay.specs.Merged.{Events}
 use Rattle.ft_made.specs.Turning.{CanTurn, HasTurned}
-use Rattle.ft_answers.specs.Counting.{counts_made}
+use Rattle.ft_hist.specs.Made.{counts_made}
 use Rattle.ft_board.specs.MadeShelves.{MadeTables, made_on}
-use Rattle.ft_board.specs.inner.Mending.{CanMend, HaveMended, OthersStay}
-use Rattle.ft_board.specs.inner.Turned.{keys_counted, keys_named, rows_in, rows_turned}
+use Rattle.ft_board.specs.inner.Mending.{CanMend, HaveMended, OtherTablesStay}
+use Rattle.ft_board.specs.inner.Turned.{keys_counted, keys_named, rows_named, rows_turned}
 use Rattle.ft_board.proofs.MadeShelves.{AreBut, but_all, but_none, but_rest, table_by}
 
 module _ (triggers : Triggers) (events : Events) (changes : List ReadingChange) (old : MadeTables) (told : Option (List Changed)) where
@@ -71,7 +71,7 @@ module _ (triggers : Triggers) (events : Events) (changes : List ReadingChange) 
       first_can can counts = subst (CanTurn triggers events changes e.1) (sym (ap (table_by e.1) first.same.0))
           (record { found = can.found; now = can.now; lead = can.lead; made = can.made e.0 e.1 first.turned.attached.0 counts })
 
-      step : (new : MadeTables) (after : Option (List Changed)) → HasItsTurned new e → OthersStay e.0 mid new → Tells (rows_at e.0 (keys e)) now after → AreTurning rest new after
+      step : (new : MadeTables) (after : Option (List Changed)) → HasItsTurned new e → OtherTablesStay e.0 mid new → Tells (rows_at e.0 (keys e)) now after → AreTurning rest new after
       step new after here stay tells = record {
         turned = but_rest (λ id hist. HasItsTurned mid (id, hist)) triggers e rest (e ∷ rest) refl first.turned (λ id hist. HasItsTurned new (id, hist)) here
             (λ id hist apart has counts. subst (HasTurned triggers events changes hist (made_on old id hist)) (sym (ap (table_by hist) (stay id apart))) (has counts));
@@ -85,12 +85,12 @@ module _ (triggers : Triggers) (events : Events) (changes : List ReadingChange) 
       told_if counts = rows_at e.0 (if counts then keys_named triggers events changes (made_on old e.0 e.1) e.1 else [])
 
       -- as it is turned, the rest are left
-      pub turning_more : (new : MadeTables) (after : Option (List Changed)) → counts_made e.1 ≡ true → HasTurned triggers events changes e.1 (made_on mid e.0 e.1) (made_on new e.0 e.1) → OthersStay e.0 mid new
-          → Tells (rows_in triggers events changes (made_on mid e.0 e.1) e.0 e.1) now after → AreTurning rest new after
+      pub turning_more : (new : MadeTables) (after : Option (List Changed)) → counts_made e.1 ≡ true → HasTurned triggers events changes e.1 (made_on mid e.0 e.1) (made_on new e.0 e.1) → OtherTablesStay e.0 mid new
+          → Tells (rows_named triggers events changes (made_on mid e.0 e.1) e.0 e.1) now after → AreTurning rest new after
       turning_more new after counts turns stay tells =
           let same : made_on mid e.0 e.1 ≡ made_on old e.0 e.1 = ap (table_by e.1) first.same.0 in
           step new after (λ _. subst (λ (t : Tabled). HasTurned triggers events changes e.1 t (made_on new e.0 e.1)) same turns) stay
-          (subst (λ (b : Bool). Tells (told_if b) now after) (sym counts) (subst (λ (t : Tabled). Tells (rows_in triggers events changes t e.0 e.1) now after) same tells))
+          (subst (λ (b : Bool). Tells (told_if b) now after) (sym counts) (subst (λ (t : Tabled). Tells (rows_named triggers events changes t e.0 e.1) now after) same tells))
 
       -- it counts no made events
       pub turning_skip : counts_made e.1 ≡ false → AreTurning rest mid now

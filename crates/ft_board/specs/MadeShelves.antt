@@ -10,7 +10,7 @@ use Rattle.ft_replay.specs.Found.{saving_found}
 use Rattle.ft_replay.specs.Merged.{Events, merged}
 use Rattle.ft_changes.specs.Findings.{Findings}
 use Rattle.ft_made.specs.MadeTables.{IsMadeTable}
-use Rattle.ft_answers.specs.Counting.{counts_made}
+use Rattle.ft_hist.specs.Made.{counts_made}
 
 -- tables of made events, by the trigger's id
 abbrev pub MadeTables : Type 0

@@ -1,30 +1,20 @@
 //! What is told of an attached trigger, by what is kept.
 
-ghost use Rattle.std.specs.Prelude.{◌≡◌, IfOk, IfErr, OnOk, OnErr, IsSome};
-ghost use Rattle.std.specs.Prelude.{Some, None, map as list_map};
+ghost use Rattle.std.specs.Prelude.{◌≡◌, IfOk, IfErr, OnOk, OnErr, IsSome, Some, None};
 ghost use Rattle.std.specs.FinMap as map;
-ghost use Rattle.ft_fields.specs.Places.{pos_cmp};
 ghost use Rattle.ft_hist.specs.Hist.{Hist};
-ghost use Rattle.ft_maps.specs.Seen.{seen};
-ghost use Rattle.ft_answers.specs.Answers.{latency_of};
 ghost use Rattle.ft_base.specs.declared.refused.Refused.TheVariants.{Memory};
 ghost use Rattle.ft_base.specs.Base.{Base};
-ghost use Rattle.ft_replay.specs.Found.{pairs_in};
-ghost use Rattle.ft_board.specs.inner.Told.{Tells, TellsAll, tabled_in};
+ghost use Rattle.ft_board.specs.inner.Told.{ShelfTells, TableTells, tabled_in};
 ghost use Rattle.ft_board.specs.inner.Views.{AreFresh};
 
 use crate::views::Views;
-use ft_answers::{Latency, counts_made, latency_of};
 use ft_base::{Content, Refused};
-use ft_fields::Pos;
 use ft_hist::Trigger;
 use ft_kept::Shelf;
-use ft_maps::{entries, get, len};
+use ft_maps::get;
 use ft_repair::laws;
-use ft_replay::Pair;
 use ft_table::Table;
-use std::alloc::{AllocError, Global};
-use std::collections::BTreeMap;
 
 /// The table that tells of a trigger: the one that is kept, or else one without hits.
 #[derive(Drop)]
@@ -56,7 +46,7 @@ impl Views {
     ) -> Result<TableOf<'_>, Refused>
         requires attached { map.get content.now.triggers id ≡ Some trigger.now }
         requires fresh { AreFresh content.now self.now }
-        ensures tells { IfOk result (λ told. TellsAll content.now id trigger.now (tabled_in told)) }
+        ensures tells { IfOk result (λ told. TableTells content.now id trigger.now (tabled_in told)) }
         ensures there { OnOk result (IsSome self.now.shelves) }
         ensures none { OnErr result (self.now.shelves ≡ None) }
         ensures memory { IfErr result (λ refused. refused ≡ Memory) }
@@ -64,7 +54,7 @@ impl Views {
         ft_made::made_tables();
         let shelf = self.shelf(id)?;
         let bare = Table::new(self.alloc, trigger.size());
-        if counts_made(trigger) {
+        if trigger.counts_made() {
             let kept = get(&self.made, &id);
             return Ok(TableOf { kept, bare });
         }
@@ -77,7 +67,7 @@ impl Views {
     pub(crate) fn shelf(&self, id: u32) -> Result<&Shelf, Refused>
         ensures tells { (base : Base) (hist : Hist) → AreFresh base self.now
             → map.get base.triggers id ≡ Some hist
-            → IfOk result (λ shelf. Tells base id hist shelf.now) }
+            → IfOk result (λ shelf. ShelfTells base id hist shelf.now) }
         ensures there { OnOk result (IsSome self.now.shelves) }
         ensures memory { IfErr result (λ refused. refused ≡ Memory) }
         ensures none { (base : Base) (hist : Hist) → AreFresh base self.now
@@ -93,22 +83,4 @@ impl Views {
             None => Err(Refused::Memory),
         }
     }
-}
-
-/// What readings found, as latencies in merged order of the reading. Refused for memory.
-pub(crate) fn latencies_in(
-    alloc: Global,
-    readings: &BTreeMap<Pos, Pos>,
-) -> Result<Vec<Latency>, AllocError>
-    ensures { IfOk result (λ latencies.
-        latencies.items ≡ list_map latency_of (pairs_in (seen pos_cmp readings.now))) }
-{
-    let mut latencies = Vec::with_capacity(alloc, len(readings))?;
-    for (read, saved) in entries(readings) {
-        latencies.push(latency_of(Pair {
-            saved: *saved,
-            read: *read,
-        }))?;
-    }
-    Ok(latencies)
 }

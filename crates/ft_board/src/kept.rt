@@ -2,18 +2,17 @@
 
 ghost use Rattle.std.specs.Prelude.{◌≡◌, true, false};
 
-use crate::answers::latencies_in;
 use crate::readings::pairs_of;
 use crate::views::Views;
 use ft_answers::{
-    Board, Done, Edited, Latency, Pair, Row, TableRow, table_counts, table_row, table_rows,
-    table_text,
+    Board, Done, Edited, Latency, Pair, Row, TableRow, latencies_of, table_counts, table_row,
+    table_rows, table_text,
 };
-use ft_base::{Content, Refused, attached, is_reader};
-use ft_fields::{Event, Name};
+use ft_base::{Content, Place, Refused, attached, is_reader};
+use ft_fields::{Event, Name, Pos};
 use ft_filter::Filter;
 use ft_hist::{Key, Trigger};
-use ft_kept::Sign;
+use ft_kept::{Delta, Sign};
 use ft_repair::{cpus_before, reads};
 use ft_store::Store;
 use ft_table::Totals;
@@ -103,12 +102,30 @@ impl Board for KeptBoard {
 
     fn insert(&mut self, event: Event) -> Result<Done<Edited>, Refused> {
         let place = self.content.insert(event)?;
-        Ok(self.views.change(Sign::Insert, place, &self.content))
+        let Place { cpu, line } = place;
+        let stamp = event.stamp;
+        let delta = Delta {
+            sign: Sign::Insert,
+            pos: Pos { stamp, cpu, line },
+            event: &event,
+        };
+        Ok(self.views.change(&delta, &self.content))
     }
 
     fn strike(&mut self, cpu: u32, line: u32) -> Result<Done<Edited>, Refused> {
         let place = self.content.place_of(cpu, line)?;
-        let done = self.views.change(Sign::Retract, place, &self.content);
+        let Place { cpu, line } = place;
+        // `place_of` found it there.
+        let Some(event) = self.content.lanes().get(cpu, line) else {
+            return Err(Refused::NoEvent);
+        };
+        let stamp = event.stamp;
+        let delta = Delta {
+            sign: Sign::Retract,
+            pos: Pos { stamp, cpu, line },
+            event: &event,
+        };
+        let done = self.views.change(&delta, &self.content);
         self.content.strike(place);
         Ok(done)
     }
@@ -186,13 +203,8 @@ impl Board for KeptBoard {
     }
 
     fn latencies(&mut self, id: u32) -> Result<Vec<Latency>, Refused> {
-        let trigger = attached(self.content.triggers(), id)?;
-        if !is_reader(trigger) {
-            return Err(Refused::NotReading);
-        }
-        self.views.catch_up(&self.content);
-        let shelf = self.views.shelf(id)?;
-        Ok(latencies_in(self.views.alloc, shelf.readings())?)
+        let pairs = self.pairs(id)?;
+        Ok(latencies_of(self.views.alloc, &pairs)?)
     }
 
     fn pairs(&mut self, id: u32) -> Result<Vec<Pair>, Refused> {

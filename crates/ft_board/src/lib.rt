@@ -2,7 +2,7 @@
 //! answer replays the events.
 //!
 //! What is kept is one value, `Views`: a shelf of each trigger, and beside the shelves the tables
-//! of events that readings make. Each edit of the board is one of its methods. The shelves follow
+//! of events that readings make. Each edit of the board calls one of its methods, or two. The shelves follow
 //! the base by `ft_repair`: one event more or less changes a few entries, one trigger more or less
 //! leaves those of the others, and where more events are loaded or unloaded than stay, all is built
 //! anew. As events come or go, the tables of made events are mended: the repair of the shelves
@@ -41,14 +41,10 @@
 //!
 //! The laws `kept_shelves`, `others_stay` and `readers_stay` of `ft_repair` are reached here too.
 //!
-//! **Made events.** Where events come or go one by one, the tables of made events are mended. The
-//! repair of the shelves tells what readings had found and what they find
-//! (`specs/inner/Mending.antt`). After it, the hit of what was made of the one goes from each table
-//! that counts it, and the hit of what is made of the other comes. Where no reading changed, this
-//! takes neither memory nor steps, and nothing is told where no made event is counted. The tables
-//! are made anew where shelves are built anew, after `attach` and `refilter`, and as a reader is
-//! removed. No clause bounds the steps of either where made events are counted; where memory runs
-//! out, the shelves are given up too.
+//! **Made events.** Mending takes no memory where no reading changed, and nothing is told of readings
+//! where no made event is counted (clauses of the private `mend` and `asked`). No clause bounds
+//! the steps of mending or of making anew where made events are counted. Where memory for either,
+//! or for the readings that changed, runs out, the shelves are given up too.
 //!
 //! **Which tables an edit touches** is how the source does it: `insert` and `strike` repair the
 //! tables by the one event, `attach` and `remove` add or take one trigger's, `refilter` builds anew
@@ -58,17 +54,14 @@
 //! anew, and the clause `repairs` that the `unload` of a smaller lane does, or the `load` of fewer
 //! events than are held, where that takes more tests.
 //!
-//! **Reports.** That `insert` and `strike` have a report wherever the tables have the edit, and
-//! memory for the report is found, is how the source does it: both are one method, `Views::change`,
-//! for either sign. What they name is `ft_report`'s report of the keys that were told as the event
-//! came or went, by what is kept after it, which the private law `reported_edits` proves to be a
-//! report of the bases before and after the edit (`specs/inner/Reported.antt`). No edit is put off
-//! for its report: where memory for keys or rows runs out there is no report, and the repair goes
+//! **Reports.** `insert` and `strike` are one method, `Views::change`, for either sign. What they
+//! name is `ft_kept`'s report of the keys that were told, which the private law `reported_edits`
+//! proves to be a report of the bases before and after the edit (`specs/inner/Reported.antt`), and
+//! the rows told as the tables of made events were mended (`specs/inner/Turned.antt`). No edit is
+//! put off for its report: where memory for keys or rows runs out there is none, and the repair goes
 //! on. Of a strike of a hit of triggers without a variable alone, the clause `now` says so; of
-//! others, a test that refuses each growth of memory in turn. The rows of made events are told as
-//! their tables are mended, and hold of the tables before and after it: that is a clause of
-//! `Views::mend` (`specs/inner/Turned.antt`). Where memory for the readings that changed runs out,
-//! the tables of made events can't be mended, and the shelves are given up.
+//! others, a test that refuses each growth of memory in turn. That there is a report wherever the
+//! tables have the edit and memory for it is found is how the source does it.
 #![tactic(auto)]
 
 mod answers;

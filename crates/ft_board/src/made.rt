@@ -15,13 +15,12 @@ ghost use Rattle.ft_board.specs.MadeShelves.{AreMade, AreMadeBy};
 ghost use Rattle.ft_board.specs.inner.Readings.{readings_on};
 
 use crate::readings::ShelfReadings;
-use ft_answers::counts_made;
 use ft_base::Content;
-use ft_hist::{Trigger, Work};
+use ft_hist::{Trigger, Triggers, Work};
 use ft_kept::Tables;
 use ft_lanes::Lanes;
 use ft_made::made_table;
-use ft_maps::{entries, put};
+use ft_maps::put;
 use ft_repair::laws;
 use ft_table::Table;
 use std::alloc::{AllocError, Global};
@@ -54,20 +53,20 @@ pub(crate) fn made_tables(
 fn counting_tables(
     alloc: Global,
     lanes: &Lanes,
-    triggers: &BTreeMap<u32, Trigger>,
+    triggers: &Triggers,
     tables: &Tables,
     work: &mut Work,
 ) -> Result<BTreeMap<u32, Table>, AllocError>
-    ensures made { IfOk result (λ made. AreMadeBy (seen nat_cmp triggers.now) (merged lanes.now)
+    ensures made { IfOk result (λ made. AreMadeBy triggers.now (merged lanes.now)
         (found_in (readings_on tables.now)) (seen nat_cmp made)) }
-    ensures idle { CountNone (seen nat_cmp triggers.now)
+    ensures idle { CountNone triggers.now
         → (work.new ≡ work.old) × OnErr result ⊥ }
     ensures grow { StepsGrow work.old work.new }
 {
     let readings = ShelfReadings { alloc, tables };
     let mut made = BTreeMap::new(alloc);
-    for (id, trigger) in entries(triggers) {
-        if counts_made(trigger) {
+    for (id, trigger) in triggers.iter() {
+        if trigger.counts_made() {
             let table = made_table(alloc, lanes, triggers, &readings, trigger, work)?;
             put(&mut made, *id, table)?;
         }
@@ -77,21 +76,21 @@ fn counting_tables(
 
 /// Whether events are made that are counted: some attached trigger makes events of its readings,
 /// and some counts such events.
-pub(crate) fn are_made(triggers: &BTreeMap<u32, Trigger>) -> bool
+pub(crate) fn are_made(triggers: &Triggers) -> bool
     ensures none { result ≡ false
-        → MakeNone (seen nat_cmp triggers.now) ⊎ CountNone (seen nat_cmp triggers.now) }
-    ensures nothing { MakesNothing (seen nat_cmp triggers.now) → result ≡ false }
+        → MakeNone triggers.now ⊎ CountNone triggers.now }
+    ensures nothing { MakesNothing triggers.now → result ≡ false }
 {
     has_maker(triggers) && has_counting(triggers)
 }
 
 /// Whether some attached trigger counts made events.
-fn has_counting(triggers: &BTreeMap<u32, Trigger>) -> bool
-    ensures none { result ≡ false → CountNone (seen nat_cmp triggers.now) }
-    ensures some { CountNone (seen nat_cmp triggers.now) → result ≡ false }
+fn has_counting(triggers: &Triggers) -> bool
+    ensures none { result ≡ false → CountNone triggers.now }
+    ensures some { CountNone triggers.now → result ≡ false }
 {
-    for (_, trigger) in entries(triggers) {
-        if counts_made(trigger) {
+    for (_, trigger) in triggers.iter() {
+        if trigger.counts_made() {
             return true;
         }
     }
@@ -99,11 +98,11 @@ fn has_counting(triggers: &BTreeMap<u32, Trigger>) -> bool
 }
 
 /// Whether some attached trigger makes events of its readings.
-fn has_maker(triggers: &BTreeMap<u32, Trigger>) -> bool
-    ensures none { result ≡ false → MakeNone (seen nat_cmp triggers.now) }
-    ensures some { ReadersMakeNone (seen nat_cmp triggers.now) → result ≡ false }
+fn has_maker(triggers: &Triggers) -> bool
+    ensures none { result ≡ false → MakeNone triggers.now }
+    ensures some { ReadersMakeNone triggers.now → result ≡ false }
 {
-    for (_, trigger) in entries(triggers) {
+    for (_, trigger) in triggers.iter() {
         if makes(trigger) {
             return true;
         }

@@ -3,33 +3,31 @@
 //! and those that are made of the other come. On the way the rows are told that this may change.
 
 ghost use Rattle.std.specs.Prelude.{◌≡◌, ◌⊎◌, ◌++◌, [], None, Some, IfSome, OnOk};
-ghost use Rattle.std.specs.Prelude.{option_and_then, option_map};
+ghost use Rattle.std.specs.Prelude.{option_and_then};
 ghost use Rattle.std.specs.Ordering.{nat_cmp};
 ghost use Rattle.ft_hist.specs.Steps.{StepsGrow};
 ghost use Rattle.ft_maps.specs.Seen.{seen};
 ghost use Rattle.ft_replay.specs.Merged.{merged};
 ghost use Rattle.ft_made.specs.MadeTables.{found_in};
 ghost use Rattle.ft_made.specs.Making.{MakeNone};
-ghost use Rattle.ft_made.specs.Turning.{CanTurn, HasTurned};
 ghost use Rattle.ft_answers.specs.Counting.{CountNone, MakesNothing};
-ghost use Rattle.ft_kept.specs.Changes.{Tells};
 ghost use Rattle.ft_board.specs.MadeShelves.{AreMadeBy, made_on};
-ghost use Rattle.ft_board.specs.inner.Mending.{CanMend, HaveMended, OthersStay};
-ghost use Rattle.ft_board.specs.inner.Mending.{events_in, triggers_in};
+ghost use Rattle.ft_board.specs.inner.Mending.{CanMend, HaveMended, OtherTablesStay};
+ghost use Rattle.ft_board.specs.inner.Mending.{CanTurnBy, HasTurnedBy, events_in, triggers_in};
 ghost use Rattle.ft_board.specs.inner.Readings.{readings_on};
-ghost use Rattle.ft_board.specs.inner.Turned.{AreTurnedRows, rows_in, rows_turned};
+ghost use Rattle.ft_board.specs.inner.Turned.{AreTurnedRows, TellsRows};
+ghost use Rattle.ft_board.specs.inner.Turned.{rows_by_turning, rows_turned};
 ghost use Rattle.ft_board.specs.inner.Views.{CanBeMended, EndsAs, made_in};
 
 use crate::made::are_made;
 use crate::views::Views;
-use ft_answers::{Kept, counts_made};
+use ft_answers::Kept;
 use ft_base::Content;
 use ft_changes::{Changed, ReadingChange, rivals};
 use ft_hist::{Trigger, Work};
-use ft_kept::{Changes, Tables};
+use ft_kept::{Changes, Tables, distinct, put_rows};
 use ft_made::{put_turned_keys, turn_made};
-use ft_maps::{entries, put};
-use ft_report::{distinct, put_rows};
+use ft_maps::put;
 use ft_table::Table;
 use std::alloc::{AllocError, Global};
 use std::collections::BTreeMap;
@@ -102,7 +100,7 @@ impl Views {
             content,
             changes,
         };
-        match turn_counting(&mut self.made, &mending, rows, &mut self.work) {
+        match mending.turn_counting(&mut self.made, rows, &mut self.work) {
             Ok(()) => Kept::Now,
             Err(_) => self.give_up(),
         }
@@ -119,134 +117,126 @@ pub(crate) fn where_kept(kept: &Option<Tables>, rows: Option<Vec<Changed>>) -> O
     }
 }
 
-/// Turns the table of each attached trigger that counts made events, and adds the rows that this
-/// may change to others, where memory for them is found. Refused for memory.
-fn turn_counting(
-    made: &mut BTreeMap<u32, Table>,
-    mending: &Mending<'_>,
-    rows: &mut Option<Vec<Changed>>,
-    work: &mut Work,
-) -> Result<(), AllocError>
-    requires { CanMend (triggers_in mending.now) (events_in mending.now) mending.now.changes.now
-        (seen nat_cmp made.old) }
-    ensures made { OnOk result (HaveMended (triggers_in mending.now) (events_in mending.now)
-        mending.now.changes.now (seen nat_cmp made.old) (seen nat_cmp made.new)) }
-    ensures rows { OnOk result (Tells (rows_turned (triggers_in mending.now) (events_in mending.now)
-        mending.now.changes.now (seen nat_cmp made.old))
-        (option_map (λ rows. rows.items) rows.old) (option_map (λ rows. rows.items) rows.new)) }
-    ensures grow { StepsGrow work.old work.new }
-{
-    for (id, trigger) in entries(mending.content.triggers()) {
-        if counts_made(trigger) {
-            turn_kept(made, mending, *id, trigger, rows, work)?;
+impl Mending<'_> {
+    /// Turns the table of each attached trigger that counts made events, and adds the rows that this
+    /// may change to others, where memory for them is found. Refused for memory.
+    fn turn_counting(
+        &self,
+        made: &mut BTreeMap<u32, Table>,
+        rows: &mut Option<Vec<Changed>>,
+        work: &mut Work,
+    ) -> Result<(), AllocError>
+        requires { CanMend (triggers_in self.now) (events_in self.now) self.now.changes.now
+            (seen nat_cmp made.old) }
+        ensures made { OnOk result (HaveMended (triggers_in self.now) (events_in self.now)
+            self.now.changes.now (seen nat_cmp made.old) (seen nat_cmp made.new)) }
+        ensures rows { OnOk result (TellsRows (rows_turned (triggers_in self.now)
+            (events_in self.now) self.now.changes.now (seen nat_cmp made.old)) rows.old rows.new) }
+        ensures grow { StepsGrow work.old work.new }
+    {
+        for (id, trigger) in self.content.triggers().iter() {
+            if trigger.counts_made() {
+                self.turn_kept(made, *id, trigger, rows, work)?;
+            }
+        }
+        Ok(())
+    }
+
+    /// Turns the table of one trigger; where none is kept, it is one without hits. The rows that this
+    /// may change are added to others, where memory for them is found. Refused for memory.
+    fn turn_kept(
+        &self,
+        made: &mut BTreeMap<u32, Table>,
+        id: u32,
+        trigger: &Trigger,
+        rows: &mut Option<Vec<Changed>>,
+        work: &mut Work,
+    ) -> Result<(), AllocError>
+        requires { CanTurnBy self.now trigger.now (made_on (seen nat_cmp made.old) id trigger.now) }
+        ensures turned { OnOk result (HasTurnedBy self.now trigger.now
+            (made_on (seen nat_cmp made.old) id trigger.now)
+            (made_on (seen nat_cmp made.new) id trigger.now)) }
+        ensures others { OnOk result (OtherTablesStay id (seen nat_cmp made.old) (seen nat_cmp made.new)) }
+        ensures rows { OnOk result (TellsRows (rows_by_turning self.now
+            (made_on (seen nat_cmp made.old) id trigger.now) id trigger.now) rows.old rows.new) }
+        ensures grow { StepsGrow work.old work.new }
+    {
+        match made.get_mut(&id) {
+            Some(table) => self.turn_table(table, id, trigger, rows, work),
+            None => {
+                let mut table = Table::new(self.alloc, trigger.size());
+                self.turn_table(&mut table, id, trigger, rows, work)?;
+                put(made, id, table)
+            }
         }
     }
-    Ok(())
-}
 
-/// Turns the table of one trigger; where none is kept, it is one without hits. The rows that this
-/// may change are added to others, where memory for them is found. Refused for memory.
-fn turn_kept(
-    made: &mut BTreeMap<u32, Table>,
-    mending: &Mending<'_>,
-    id: u32,
-    trigger: &Trigger,
-    rows: &mut Option<Vec<Changed>>,
-    work: &mut Work,
-) -> Result<(), AllocError>
-    requires { CanTurn (triggers_in mending.now) (events_in mending.now) mending.now.changes.now
-        trigger.now (made_on (seen nat_cmp made.old) id trigger.now) }
-    ensures turned { OnOk result (HasTurned (triggers_in mending.now) (events_in mending.now)
-        mending.now.changes.now trigger.now (made_on (seen nat_cmp made.old) id trigger.now)
-        (made_on (seen nat_cmp made.new) id trigger.now)) }
-    ensures others { OnOk result (OthersStay id (seen nat_cmp made.old) (seen nat_cmp made.new)) }
-    ensures rows { OnOk result (Tells (rows_in (triggers_in mending.now) (events_in mending.now)
-        mending.now.changes.now (made_on (seen nat_cmp made.old) id trigger.now) id trigger.now)
-        (option_map (λ rows. rows.items) rows.old) (option_map (λ rows. rows.items) rows.new)) }
-    ensures grow { StepsGrow work.old work.new }
-{
-    match made.get_mut(&id) {
-        Some(table) => turn_table(table, mending, id, trigger, rows, work),
-        None => {
-            let mut table = Table::new(mending.alloc, trigger.size());
-            turn_table(&mut table, mending, id, trigger, rows, work)?;
-            put(made, id, table)
+    /// Turns a trigger's table, and adds the rows that this may change to others, where memory for
+    /// them is found. Refused for memory.
+    fn turn_table(
+        &self,
+        table: &mut Table,
+        id: u32,
+        trigger: &Trigger,
+        rows: &mut Option<Vec<Changed>>,
+        work: &mut Work,
+    ) -> Result<(), AllocError>
+        requires { CanTurnBy self.now trigger.now table.old }
+        ensures turned { OnOk result (HasTurnedBy self.now trigger.now table.old table.new) }
+        ensures rows { TellsRows (rows_by_turning self.now table.old id trigger.now)
+            rows.old rows.new }
+        ensures grow { StepsGrow work.old work.new }
+    {
+        // The table that is turned would name the same rows: the keys follow from the readings, and
+        // their rivals from the hits of all other keys, which stay.
+        self.tell_rows(rows, table, id, trigger, work);
+        let (lanes, triggers) = (self.content.lanes(), self.content.triggers());
+        turn_made(table, lanes, triggers, trigger, self.changes, work)
+    }
+
+    /// Adds the rows of a trigger on which the changes bear to others. Where memory for them runs
+    /// out, no rows are told any more.
+    fn tell_rows(
+        &self,
+        rows: &mut Option<Vec<Changed>>,
+        table: &Table,
+        id: u32,
+        trigger: &Trigger,
+        work: &mut Work,
+    )
+        ensures rows { TellsRows (rows_by_turning self.now table.now id trigger.now)
+            rows.old rows.new }
+        ensures grow { StepsGrow work.old work.new }
+    {
+        let Some(mut told) = rows.take() else {
+            return;
+        };
+        if self.put_rows(&mut told, table, id, trigger, work).is_ok() {
+            *rows = Some(told);
         }
     }
-}
 
-/// Turns a trigger's table, and adds the rows that this may change to others, where memory for them
-/// is found. Refused for memory.
-fn turn_table(
-    table: &mut Table,
-    mending: &Mending<'_>,
-    id: u32,
-    trigger: &Trigger,
-    rows: &mut Option<Vec<Changed>>,
-    work: &mut Work,
-) -> Result<(), AllocError>
-    requires { CanTurn (triggers_in mending.now) (events_in mending.now) mending.now.changes.now
-        trigger.now table.old }
-    ensures turned { OnOk result (HasTurned (triggers_in mending.now) (events_in mending.now)
-        mending.now.changes.now trigger.now table.old table.new) }
-    ensures rows { Tells (rows_in (triggers_in mending.now) (events_in mending.now)
-        mending.now.changes.now table.old id trigger.now)
-        (option_map (λ rows. rows.items) rows.old) (option_map (λ rows. rows.items) rows.new) }
-    ensures grow { StepsGrow work.old work.new }
-{
-    tell_rows(rows, table, mending, id, trigger, work);
-    let (lanes, triggers) = (mending.content.lanes(), mending.content.triggers());
-    turn_made(table, lanes, triggers, trigger, mending.changes, work)
-}
-
-/// Adds the rows of a trigger on which changes of readings bear to others. Where memory for them
-/// runs out, no rows are told any more.
-fn tell_rows(
-    rows: &mut Option<Vec<Changed>>,
-    table: &Table,
-    mending: &Mending<'_>,
-    id: u32,
-    trigger: &Trigger,
-    work: &mut Work,
-)
-    ensures rows { Tells (rows_in (triggers_in mending.now) (events_in mending.now)
-        mending.now.changes.now table.now id trigger.now)
-        (option_map (λ rows. rows.items) rows.old) (option_map (λ rows. rows.items) rows.new) }
-    ensures grow { StepsGrow work.old work.new }
-{
-    let Some(mut told) = rows.take() else {
-        return;
-    };
-    if put_turned_rows(&mut told, table, mending, id, trigger, work).is_ok() {
-        *rows = Some(told);
+    /// Adds the rows of a trigger on which the changes bear to others: those of the keys of what the
+    /// readings made and make, and of the rivals of these in the trigger's table. Refused for
+    /// memory.
+    fn put_rows(
+        &self,
+        rows: &mut Vec<Changed>,
+        table: &Table,
+        id: u32,
+        trigger: &Trigger,
+        work: &mut Work,
+    ) -> Result<(), AllocError>
+        ensures rows { OnOk result (rows.new.items
+            ≡ rows.old.items ++ rows_by_turning self.now table.now id trigger.now) }
+        ensures grow { StepsGrow work.old work.new }
+    {
+        let (lanes, triggers) = (self.content.lanes(), self.content.triggers());
+        let mut turned = Vec::new(self.alloc);
+        put_turned_keys(&mut turned, lanes, triggers, trigger, self.changes, work)?;
+        let mut keys = distinct(self.alloc, &turned)?;
+        let others = rivals(self.alloc, table, &keys)?;
+        keys.extend_from_slice(&others)?;
+        put_rows(rows, id, &keys)
     }
-}
-
-/// Adds the rows of a trigger on which changes of readings bear to others: those of the keys of
-/// what the readings made and make, and of the rivals of these in the trigger's table. Refused for
-/// memory.
-fn put_turned_rows(
-    rows: &mut Vec<Changed>,
-    table: &Table,
-    mending: &Mending<'_>,
-    id: u32,
-    trigger: &Trigger,
-    work: &mut Work,
-) -> Result<(), AllocError>
-    ensures rows { OnOk result (rows.new.items ≡ rows.old.items ++ rows_in (triggers_in mending.now)
-        (events_in mending.now) mending.now.changes.now table.now id trigger.now) }
-    ensures grow { StepsGrow work.old work.new }
-{
-    let Mending {
-        alloc,
-        content,
-        changes,
-    } = *mending;
-    let (lanes, triggers) = (content.lanes(), content.triggers());
-    let mut turned = Vec::new(alloc);
-    put_turned_keys(&mut turned, lanes, triggers, trigger, changes, work)?;
-    let mut keys = distinct(alloc, &turned)?;
-    let others = rivals(alloc, table, &keys)?;
-    keys.extend_from_slice(&others)?;
-    put_rows(rows, id, &keys)
 }

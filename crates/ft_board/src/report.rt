@@ -6,9 +6,8 @@ ghost use Rattle.ft_board.specs.inner.Reported.{IsReportBy, RepairsReported};
 use crate::views::Views;
 use ft_base::Content;
 use ft_changes::Changed;
-use ft_kept::Changes;
+use ft_kept::{Changes, changed_rows};
 use ft_repair::kept_shelves;
-use ft_report::changed_rows;
 
 impl Views {
     /// The rows that may differ with an event and without it, by the keys that were told as it came or
@@ -36,5 +35,5 @@ pub(crate) fn reported_edits()
 {
     kept_shelves();
     ft_made::counted_made();
-    ft_report::reported_rows();
+    ft_kept::reported_rows();
 }

@@ -4,7 +4,7 @@ ghost use Rattle.std.specs.Prelude.{◌≡◌, None, Ok, IsSomeAnd};
 ghost use Rattle.std.specs.Option.{MatchOption};
 ghost use Rattle.ft_base.specs.Answers.{list_text, trigger_text, attached_in};
 ghost use Rattle.ft_desk.specs.Found.{event_found, lane_found, matching_found};
-ghost use Rattle.ft_held.specs.Places.{places};
+ghost use Rattle.ft_answers.specs.Places.{places};
 ghost use Rattle.ft_layout.specs.Names.{name_numbered};
 ghost use Rattle.ft_session.specs.Calls.{ReadsText, ReadsPlaces, ReadsTriggers, ReadsEvent};
 ghost use Rattle.ft_c.specs.Codes.{closed};

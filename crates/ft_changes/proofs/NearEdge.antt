@@ -5,8 +5,8 @@ use Rattle.std.specs.List.{filter, IsDistinct}
 use Rattle.std.specs.Cmp.{eq_by_cmp_equiv}
 use Rattle.std.proofs.lemmas.List.{length-drop, length-map, take_all, take-map, drop-map}
 use Rattle.std.proofs.lemmas.Map.Made.{length-from_same_keys, is_member-filter}
-use Rattle.ft_keys.specs.declared.key.Part.{Part}
-use Rattle.ft_keys.specs.Orders.{key_cmp_total}
+use Rattle.ft_fields.specs.declared.key.Part.{Part}
+use Rattle.ft_fields.specs.Orders.{key_cmp_total}
 use Rattle.ft_hits.specs.declared.mark.Mark.{Mark}
 use Rattle.ft_table.specs.Hits.{same_key}
 use Rattle.ft_table.specs.Tabled.{Tabled, order_of}

@@ -9,10 +9,10 @@ use Rattle.std.proofs.lemmas.List.{length-take, length-drop, take-map}
 use Rattle.std.proofs.lemmas.List.Folds.{list_any-append}
 use Rattle.std.proofs.lemmas.Map.Made.{length-le_from_is_member, is_member-filter}
 use Rattle.std.proofs.Math.Bool.{or-false}
-use Rattle.ft_keys.specs.declared.key.Part.{Part}
-use Rattle.ft_keys.specs.Orders.{key_cmp_total}
+use Rattle.ft_fields.specs.declared.key.Part.{Part}
+use Rattle.ft_fields.specs.Orders.{key_cmp_total}
 use Rattle.ft_table.specs.Hits.{EntryHits, same_key, sums_of}
-use Rattle.ft_table.specs.Rows.{row_of}
+use Rattle.ft_table.specs.Rows.{counted_row}
 use Rattle.ft_table.specs.Tabled.{Tabled, keys_in, order_of, is_in}
 use Rattle.ft_table.proofs.Changes.{insert-beside, remove-beside}
 use Rattle.ft_table.proofs.Distinct.{key_of, keys_distinct}
@@ -77,7 +77,7 @@ rivals_alone a b keys q same apart none =
 
 pub rows_stay_but : RowsStayBut
 rows_stay_but a b keys q same apart none =
-    let row : row_of b.hits q ≡ row_of a.hits q = ap (λ (entry : EntryHits). record { key = q; hitcount = map.len entry; sums = sums_of entry }) (hits_of-same a b keys q same apart) in
+    let row : counted_row b.hits q ≡ counted_row a.hits q = ap (λ (entry : EntryHits). record { key = q; hitcount = map.len entry; sums = sums_of entry }) (hits_of-same a b keys q same apart) in
     λ i. cond (rivals_alone a b keys q same apart none i) (Some (row i)) None
 
 -- ---- changes at some keys

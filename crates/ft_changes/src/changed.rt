@@ -1,7 +1,6 @@
 //! What an edit changes.
 
-use ft_fields::Pos;
-use ft_keys::Key;
+use ft_fields::{Key, Pos};
 
 /// A row that may differ: of which trigger, and under which key.
 #[derive(Clone, Copy, Debug, PartialEq, Eq)]
@@ -12,8 +11,8 @@ pub struct Changed {
     pub key: Key,
 }
 
-/// A reading that found one saving, or none, and finds another now, or none. One that comes had
-/// found none, and one that goes finds none.
+/// What a reading had found and what it finds: one saving, or none, and maybe the same as before.
+/// One that comes had found none, and one that goes finds none.
 #[derive(Clone, Copy, Debug, PartialEq, Eq)]
 pub struct ReadingChange {
     /// The id of the trigger that reads.

@@ -7,7 +7,7 @@ ghost use Rattle.ft_table.specs.Tabled.{order_of};
 ghost use Rattle.ft_changes.specs.Rivals.{is_of, rivals};
 ghost use Rattle.ft_changes.specs.inner.Edge.{inside, others_of};
 
-use ft_keys::Key;
+use ft_fields::Key;
 use ft_table::{Mark, Table};
 use std::alloc::{AllocError, Global};
 
@@ -59,7 +59,7 @@ fn other_keys(
 }
 
 /// Whether a key is one of some.
-fn has(keys: &[Key], key: &Key) -> bool
+pub fn has(keys: &[Key], key: &Key) -> bool
     ensures { result ≡ is_of keys.now key.now }
 {
     keys.iter().any(|other| key == other)

@@ -1,8 +1,8 @@
 //! Changes: what an edit of a trace changes of what is kept, and which rows of a table differ then.
 //!
-//! A reading that changes had found one saving and finds another. Of many changes one after the
-//! other, each begins where the one before it ended, so that they lead from what all readings found
-//! to what they find.
+//! A change of a reading tells which saving it had found and which it finds, maybe the same. Of
+//! many changes one after the other, each begins where the one before it ended, so that they lead
+//! from what all readings found to what they find.
 //!
 //! A table has the first so many keys in order of their first hits. So where it is full, a key that
 //! comes in sends another out, and one that goes out lets another in. Whatever happens to the hits
@@ -31,6 +31,7 @@
 //! - `rivals`: the rivals of keys of which no two are the same, in order of their first hits;
 //!   exact. Lets through: running out of memory at any time; how far from the table's edge it
 //!   looks.
+//! - `has`: whether a key is one of some; exact.
 #![tactic(auto)]
 
 mod changed;
@@ -38,5 +39,5 @@ mod edge;
 pub mod laws;
 
 pub use changed::{Changed, ReadingChange};
-pub use edge::rivals;
+pub use edge::{has, rivals};
 pub use laws::some_rivals;

@@ -3,7 +3,7 @@ use Rattle.std.proofs.Common.{◌≡◌, ℕ, ◌+◌, ◌<◌, List, [], ◌∷
 use Rattle.std.proofs.lemmas.List.{take_more, take-append-drop, map-append}
 use Rattle.std.specs.Option.{option_map_or}
 use Rattle.std.specs.Result.{IsErr, IsErrAnd}
-use Rattle.ft_script.specs.Files.{Told, TellsBytes}
+use Rattle.ft_script.specs.Files.{FileAt, TellsBytes}
 use Rattle.ft_script.specs.declared.files.FileFault.{FileFault}
 use Rattle.ft_script.specs.declared.files.FileFault.TheVariants as of_file
 use Rattle.ft_script.specs.declared.words.WordsFault.{WordsFault}
@@ -32,7 +32,7 @@ texts-around paths i d within =
     ap texts_at (sym (take-append-drop (i + 1) paths)) ∙ map-append (λ path. path.now) (take (i + 1) paths) (drop (i + 1) paths) in
     cut ∙ ap (λ front. front ++ texts_at (drop (i + 1) paths)) (texts-more paths i d within) ∙ append_assoc (texts_at (take i paths)) ((get_or paths i d).now ∷ []) (texts_at (drop (i + 1) paths))
 
-module _ (told : List ℕ → Told) where
+module _ (told : List ℕ → FileAt) where
   -- one file more
   tells_one : (paths files : List (List ℕ)) (path file : List ℕ) → TellsFiles told paths files → TellsBytes (told path) file → TellsFiles told (paths ++ path ∷ []) (files ++ file ∷ [])
   tells_one [] [] path file so_far one = (one, tt)
@@ -52,7 +52,7 @@ module _ (told : List ℕ → Told) where
   fails_at paths i d files of_file.Memory within so_far = tt
   fails_at paths i d files of_file.Unreadable within so_far = (texts_at (take i paths), texts_at (drop (i + 1) paths), files, texts-around paths i d within, so_far)
 
-module _ (means : List (List ℕ) → Meaning) (told : List ℕ → Told) where
+module _ (means : List (List ℕ) → Meaning) (told : List ℕ → FileAt) where
   -- words that cannot be read end the program
   pub words_end : (named : Option Named) (fault : WordsFault) → WordsGive named (Err fault) → ProgramEnds means told named (Err (told_of_words fault))
   words_end named of_words.Memory gives = tt

@@ -9,7 +9,7 @@ use Rattle.ft_fields.specs.declared.pos.Pos.{Pos}
 use Rattle.ft_filter.specs.Tree.{Tree}
 use Rattle.ft_lanes.specs.Edits.{lanes_without}
 use Rattle.ft_lanes.specs.Held.{Lane, event_at}
-use Rattle.ft_held.specs.Places.{lane_places, matching_places}
+use Rattle.ft_answers.specs.Places.{lane_places, matching_places}
 use Rattle.ft_base.specs.declared.refused.Place.{Place}
 use Rattle.ft_base.specs.declared.refused.Refused.{Refused}
 use Rattle.ft_base.specs.declared.refused.Refused.TheVariants.{NoLane, NoEvent}

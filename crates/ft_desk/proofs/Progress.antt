@@ -11,7 +11,7 @@ use Rattle.ft_desk.specs.declared.running.RunFault.{RunFault}
 use Rattle.ft_script.specs.Lines.{lines_of, ended_lines}
 use Rattle.ft_script.specs.Script.{line_limit, asked_by}
 use Rattle.ft_desk.specs.Output.{Meaning, output_from, output_of_lines}
-use Rattle.ft_desk.specs.Run.{asking_limit, ReadsWhole, ReadsFront, ReadsTo}
+use Rattle.ft_desk.specs.Run.{asking_limit, ReadsToEnd, ReadsFront, ReadsTo}
 use Rattle.ft_desk.specs.Steps.{AddsPart, TakingGives, LineGives}
 use Rattle.ft_desk.proofs.LineLemmas.{last_piece, lines_of-split, lines_of-plain, last_piece-plain, ended_lines-part, ended_lines-line}
 use Rattle.ft_desk.proofs.OutputLemmas.{output_from-push, asked_by-kept}
@@ -35,7 +35,7 @@ kept-none [] piece kept none = refl
 kept-none (byte ∷ bytes) piece kept none = absurd (omega (arith, ap length (sym kept ∙ none), length-take (line_limit + 1) (byte ∷ bytes)))
 
 -- a script of which nothing is left was read to its end
-pub all_read : (reader left rest : Option (List ℕ)) (read : List ℕ) → length (ended_lines read) ≤ asking_limit → Consumes reader left read → Keeps left rest → IsAtEnd left → ReadsWhole reader rest read
+pub all_read : (reader left rest : Option (List ℕ)) (read : List ℕ) → length (ended_lines read) ≤ asking_limit → Consumes reader left read → Keeps left rest → IsAtEnd left → ReadsToEnd reader rest read
 all_read None left rest read within consumed kept end = ((tt, within), tt)
 all_read (Some script) None rest read within consumed kept end = absurd consumed
 all_read (Some script) (Some bytes) None read within consumed kept end = absurd kept

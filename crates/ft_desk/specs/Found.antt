@@ -9,7 +9,7 @@ use Rattle.ft_fields.specs.declared.pos.Pos.{Pos}
 use Rattle.ft_filter.specs.Answers.{filter_of}
 use Rattle.ft_filter.specs.Tree.{Tree}
 use Rattle.ft_filter.specs.declared.fault.FilterFault.{FilterFault}
-use Rattle.ft_held.specs.Places.{lane_places, matching_places}
+use Rattle.ft_answers.specs.Places.{lane_places, matching_places}
 use Rattle.ft_answers.specs.Base.{Base}
 use Rattle.ft_base.specs.declared.refused.Refused.{Refused}
 use Rattle.ft_base.specs.declared.refused.Refused.TheVariants.{NoLane, NoEvent, BadCommand}

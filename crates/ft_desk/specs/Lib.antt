@@ -28,5 +28,5 @@ pub use Rattle.ft_script.specs.Lines
 pub use Rattle.ft_script.specs.Script
 pub use Rattle.ft_script.specs.Files
 pub use Rattle.ft_script.specs.Words
-pub use Rattle.ft_printed.specs.Answered
-pub use Rattle.ft_printed.specs.Refusals
+pub use Rattle.ft_script.specs.Answered
+pub use Rattle.ft_script.specs.Refusals

@@ -10,8 +10,8 @@ use Rattle.ft_script.specs.Lines.{lines_of}
 use Rattle.ft_script.specs.Script.{Asked, asked_by}
 use Rattle.ft_script.specs.declared.script.Numbered.{Numbered}
 use Rattle.ft_script.specs.declared.script.Numbered.TheVariants as numbers
-use Rattle.ft_printed.specs.Answered.{totals_line, numbered, latency_lines}
-use Rattle.ft_printed.specs.Refusals.{refused_text}
+use Rattle.ft_script.specs.Answered.{totals_line, lane_place_text, latency_lines}
+use Rattle.ft_script.specs.Refusals.{refused_text}
 use Rattle.ft_desk.specs.Edits.{after_load_text, after_insert_text, after_attach_text, after_refilter_text}
 
 -- the Nth file, from 1
@@ -51,8 +51,8 @@ outcome_about base numbers.Lane cpu = answer_outcome (λ text. text) base (list_
 unfoldable pub outcome : List (List ℕ) → Base → Asked → Outcome
 outcome files base Asked.Nothing = record { text = []; base = base; refused = false }
 outcome files base (Asked.Load n) = edit_outcome decimal base (codes "loaded ") (after_load_file files base n)
-outcome files base (Asked.Insert line) = edit_outcome numbered base (codes "inserted ") (after_insert_text base line)
-outcome files base (Asked.Strike cpu line) = edit_outcome numbered base (codes "struck ") (after_strike base cpu line)
+outcome files base (Asked.Insert line) = edit_outcome lane_place_text base (codes "inserted ") (after_insert_text base line)
+outcome files base (Asked.Strike cpu line) = edit_outcome lane_place_text base (codes "struck ") (after_strike base cpu line)
 outcome files base (Asked.Attach name text) = edit_outcome decimal base (codes "attached ") (after_attach_text base name text)
 outcome files base (Asked.Refilter id text) = edit_outcome decimal base (codes "refiltered ") (after_refilter_text base id text)
 outcome files base (Asked.About what number) = outcome_about base what number

@@ -3,7 +3,7 @@ use Rattle.std.specs.Prelude.{◌≡◌, ⊤, ℕ, List, [], ◌∷◌, ◌++◌
 use Rattle.ft_desk.specs.declared.running.Status.{Status}
 use Rattle.ft_desk.specs.declared.running.Status.TheVariants.{AllAccepted, SomeRefused}
 use Rattle.std.specs.Borrow.{Bor}
-use Rattle.ft_script.specs.Files.{Told, TellsBytes}
+use Rattle.ft_script.specs.Files.{FileAt, TellsBytes}
 use Rattle.ft_script.specs.declared.files.FileFault.{FileFault}
 use Rattle.ft_script.specs.declared.files.FileFault.TheVariants as of_file
 use Rattle.ft_script.specs.declared.words.WordsFault.{WordsFault}
@@ -36,18 +36,18 @@ told_of_file path of_file.Memory = told.Memory
 told_of_file path of_file.Unreadable = told.File path
 
 -- these are the files at the paths in order, as far as they are told
-abbrev pub TellsFiles : (List ℕ → Told) → List (List ℕ) → List (List ℕ) → Type 0
+abbrev pub TellsFiles : (List ℕ → FileAt) → List (List ℕ) → List (List ℕ) → Type 0
 TellsFiles by_path [] [] = ⊤
 TellsFiles by_path [] (file ∷ files) = ⊥
 TellsFiles by_path (path ∷ paths) [] = ⊥
 TellsFiles by_path (path ∷ paths) (file ∷ files) = TellsBytes (by_path path) file × TellsFiles by_path paths files
 
 -- a path of these cannot be read, but all before it can
-abbrev pub FailsFirst : (List ℕ → Told) → List (List ℕ) → List ℕ → Type 0
+abbrev pub FailsFirst : (List ℕ → FileAt) → List (List ℕ) → List ℕ → Type 0
 FailsFirst by_path paths path = (front : List (List ℕ)) × (back : List (List ℕ)) × (files : List (List ℕ)) × (paths ≡ front ++ path ∷ back) × TellsFiles by_path front files
 
 -- the files at the paths in order, or the first that cannot be read
-abbrev pub FilesGive : (List ℕ → Told) → List (List ℕ) → Result (List (List ℕ)) Fault → Type 0
+abbrev pub FilesGive : (List ℕ → FileAt) → List (List ℕ) → Result (List (List ℕ)) Fault → Type 0
 FilesGive by_path paths (Ok files) = TellsFiles by_path paths files
 FilesGive by_path paths (Err (told.File path)) = FailsFirst by_path paths path.now
 FilesGive by_path paths (Err told.Memory) = ⊤

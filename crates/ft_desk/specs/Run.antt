@@ -20,20 +20,20 @@ status_of true = SomeRefused
 status_of false = AllAccepted
 
 -- this was read, and its lines that byte 10 ended are no more than the turns that a reader has
-abbrev pub Reads : Option (List ℕ) → Option (List ℕ) → List ℕ → Type 0
-Reads reader rest read = Consumes reader rest read × (length (ended_lines read) ≤ asking_limit)
+abbrev pub ReadsBytes : Option (List ℕ) → Option (List ℕ) → List ℕ → Type 0
+ReadsBytes reader rest read = Consumes reader rest read × (length (ended_lines read) ≤ asking_limit)
 
 -- this script was read to its end: the reader's, or some script where the reader tells nothing
-abbrev pub ReadsWhole : Option (List ℕ) → Option (List ℕ) → List ℕ → Type 0
-ReadsWhole reader rest script = Reads reader rest script × IfSome reader (λ _. IsAtEnd rest)
+abbrev pub ReadsToEnd : Option (List ℕ) → Option (List ℕ) → List ℕ → Type 0
+ReadsToEnd reader rest script = ReadsBytes reader rest script × IfSome reader (λ _. IsAtEnd rest)
 
 -- this beginning of a script was read, and more is left
 abbrev pub ReadsFront : Option (List ℕ) → Option (List ℕ) → List ℕ → Type 0
-ReadsFront reader rest read = Reads reader rest read × IfSome reader (λ _. IsAtEnd rest → ⊥)
+ReadsFront reader rest read = ReadsBytes reader rest read × IfSome reader (λ _. IsAtEnd rest → ⊥)
 
 -- these lines were read, then this one, and nothing after it: a byte 10 ended it, or the script's end
 abbrev pub ReadsTo : Option (List ℕ) → Option (List ℕ) → List (List ℕ) → List ℕ → Type 0
-ReadsTo reader rest lines last = (read : List ℕ) × ((Reads reader rest (read ++ 10 ∷ []) × (ended_lines (read ++ 10 ∷ []) ≡ lines ++ last ∷ [])) ⊎ (ReadsWhole reader rest read × (lines_of read ≡ lines ++ last ∷ [])))
+ReadsTo reader rest lines last = (read : List ℕ) × ((ReadsBytes reader rest (read ++ 10 ∷ []) × (ended_lines (read ++ 10 ∷ []) ≡ lines ++ last ∷ [])) ⊎ (ReadsToEnd reader rest read × (lines_of read ≡ lines ++ last ∷ [])))
 
 -- the done bytes were written, and after them a beginning of the text, of which something is left
 abbrev pub BreaksOff : Option (List ℕ) → Option (List ℕ) → List ℕ → List ℕ → Type 0
@@ -41,7 +41,7 @@ BreaksOff before after done text = (front : List ℕ) × (left : List ℕ) × Ap
 
 -- the script was read to its end, its whole output written, and its status told
 abbrev pub EndsWhole : Meaning → Status → Option (List ℕ) → Option (List ℕ) → Option (List ℕ) → Option (List ℕ) → Type 0
-EndsWhole means status reader rest before after = (script : List ℕ) × ReadsWhole reader rest script × Appends before after (output_by means script).text × (status ≡ status_of (output_by means script).refused)
+EndsWhole means status reader rest before after = (script : List ℕ) × ReadsToEnd reader rest script × Appends before after (output_by means script).text × (status ≡ status_of (output_by means script).refused)
 
 -- the last line that was read found no memory for its command: the whole output of the lines before it is written
 abbrev pub EndsAtCommand : Meaning → Option (List ℕ) → Option (List ℕ) → Option (List ℕ) → Option (List ℕ) → Type 0
@@ -53,7 +53,7 @@ EndsInLine means reader rest before after = (read : List ℕ) × ReadsFront read
 
 -- the reader failed, or was asked too often: the whole output of the lines that had ended is written
 abbrev pub EndsAtReader : Meaning → Option (List ℕ) → Option (List ℕ) → Option (List ℕ) → Option (List ℕ) → Type 0
-EndsAtReader means reader rest before after = (read : List ℕ) × Reads reader rest read × Appends before after (output_of_lines means (ended_lines read)).text
+EndsAtReader means reader rest before after = (read : List ℕ) × ReadsBytes reader rest read × Appends before after (output_of_lines means (ended_lines read)).text
 
 -- what a line prints, after lines that are done
 abbrev pub text_behind : Meaning → List (List ℕ) → List ℕ → List ℕ
@@ -65,7 +65,7 @@ EndsAtWriter means reader rest before after = (lines : List (List ℕ)) × (last
 
 -- the flush failed: the script was read to its end, and its whole output written
 abbrev pub EndsAtFlush : Meaning → Option (List ℕ) → Option (List ℕ) → Option (List ℕ) → Option (List ℕ) → Type 0
-EndsAtFlush means reader rest before after = (script : List ℕ) × ReadsWhole reader rest script × Appends before after (output_by means script).text
+EndsAtFlush means reader rest before after = (script : List ℕ) × ReadsToEnd reader rest script × Appends before after (output_by means script).text
 
 -- what was read and written, by how the run ended
 abbrev pub RunEnds : Meaning → Result Status RunFault → Option (List ℕ) → Option (List ℕ) → Option (List ℕ) → Option (List ℕ) → Type 0
@@ -76,7 +76,7 @@ RunEnds means (Err faults.Write) reader rest before after = EndsAtWriter means r
 
 -- all lines of what was read are these: those that a byte 10 ended, and at the script's end a last one without
 abbrev pub ReadsLines : Option (List ℕ) → Option (List ℕ) → List (List ℕ) → Type 0
-ReadsLines reader rest lines = (read : List ℕ) × ((Reads reader rest read × (lines ≡ ended_lines read)) ⊎ (ReadsWhole reader rest read × (lines ≡ lines_of read)))
+ReadsLines reader rest lines = (read : List ℕ) × ((ReadsBytes reader rest read × (lines ≡ ended_lines read)) ⊎ (ReadsToEnd reader rest read × (lines ≡ lines_of read)))
 
 -- a beginning of the text was written
 abbrev pub WritesFront : Option (List ℕ) → Option (List ℕ) → List ℕ → Type 0

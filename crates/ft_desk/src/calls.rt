@@ -3,7 +3,7 @@
 ghost use Rattle.std.specs.Prelude.{◌≡◌, ◌+◌};
 ghost use Rattle.ft_desk.specs.Steps.{NoCalls};
 
-use ft_counts::Count;
+use ft_maps::Count;
 use std::marker::Model;
 
 /// How often a run has called its reader for bytes, or its writer for a flush, and how often that

@@ -11,11 +11,11 @@ ghost use Rattle.ft_desk.specs.Found.{tree_for};
 use crate::events::{event_in, events_in};
 use ft_answers::{
     AttachedTrigger, Board, Done, Edited, Latency, Pair, Place, Refused, Row, TableRow,
+    lane_places, matching_places, places,
 };
 use ft_event::{Event, Name};
 use ft_fields::Pos;
 use ft_filter::{Filter, FilterFault};
-use ft_held::{lane_places, matching_places, places};
 use ft_lanes::Lanes;
 use ft_table::Totals;
 use ft_trigger::{Key, Trigger, TriggerFault, parse};
@@ -63,7 +63,7 @@ impl<B: Board> Desk<B> {
     ghost use Rattle.ft_desk.specs.Edits.{after_attach_text, after_refilter_text};
     ghost use Rattle.ft_desk.specs.Edits.{event_or_refused, events_of};
     ghost use Rattle.ft_desk.specs.Found.{event_found, lane_found, matching_found};
-    ghost use Rattle.ft_held.specs.Places.{places};
+    ghost use Rattle.ft_answers.specs.Places.{places};
 
     /// A desk over a board, as the board is.
     pub fn new(alloc: Global, board: B) -> Desk<B>

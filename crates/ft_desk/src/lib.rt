@@ -22,7 +22,7 @@
 //!   before it reads the filter. The board's counts and reports are the desk's. Lets through: what
 //!   the board does.
 //! - `Desk::event`, `events`, `lane`, `matching`, `attached`, `trigger_text`: functions of the base
-//!   (`specs/Found.antt`, `ft_held/specs/Places.antt`), which they leave as it is. All except
+//!   (`specs/Found.antt`, `ft_answers/specs/Places.antt`), which they leave as it is. All except
 //!   `event` let through: running out of memory at any time.
 //! - `perform`: what one script line prints, whether it is refused, and the base after it:
 //!   `outcome` (`specs/Output.antt`). Lets through: running out of memory at any time.

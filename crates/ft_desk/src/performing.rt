@@ -4,14 +4,13 @@ ghost use Rattle.std.specs.Prelude.{◌≡◌, ◌≢◌, true, map, IfOk, OnOk,
 ghost use Rattle.ft_answers.specs.Edited.{EditGives};
 ghost use Rattle.ft_script.specs.Command.{asked};
 ghost use Rattle.ft_script.specs.Script.{asked_by};
-ghost use Rattle.ft_printed.specs.Refusals.{refused_text};
+ghost use Rattle.ft_script.specs.Refusals.{refused_text};
 ghost use Rattle.ft_desk.specs.Output.{outcome, outcome_about, file_at, after_load_file};
 ghost use Rattle.ft_desk.specs.inner.Printed.{Prints, PrintsEdit, PrintsAnswer, TellsPlace};
 
 use crate::desk::Desk;
 use ft_answers::{Board, Done, Edited, Place, Refused};
-use ft_printed::{Answer, EditValue, done_line, refused_line};
-use ft_script::{Command, Numbered, read_command};
+use ft_script::{Answer, Command, EditValue, Numbered, done_line, read_command, refused_line};
 use std::alloc::{AllocError, Global};
 
 /// What a line of a script prints, and whether it was refused.

@@ -3,8 +3,8 @@
 ghost use Rattle.std.specs.Prelude.{◌≡◌, ◌≤◌, map, string_bytes};
 ghost use Rattle.std.specs.Result.{result_map_both};
 ghost use Rattle.ft_answers.specs.Base.{empty_base};
-ghost use Rattle.ft_script.specs.Files.{Told, TellsReader};
-ghost use Rattle.ft_script.specs.Words.{named_in};
+ghost use Rattle.ft_script.specs.Files.{FileAt, TellsReader};
+ghost use Rattle.ft_script.specs.Words.{named_by_words};
 ghost use Rattle.ft_desk.specs.Program.{exit_status_of, told_of_words, told_of_run, told_of_file, FilesGive};
 ghost use Rattle.ft_desk.specs.inner.Ends.{RunTells, ProgramEnds};
 ghost use Rattle.ft_desk.specs.declared.program.Fault.TheVariants.{Memory};
@@ -160,7 +160,7 @@ where
     P: Paths + Input + Print + AllocGlobal,
     S: Session,
     requires { S.base session ≡ empty_base }
-    ensures { ProgramEnds S.means (P.told rt.now) (named_in (map string_bytes args.entry.now)) result }
+    ensures { ProgramEnds S.means (P.told rt.now) (named_by_words (map string_bytes args.entry.now)) result }
 {
     let alloc = rt.alloc();
     let words = read_words(alloc, args)?;
@@ -205,7 +205,7 @@ where
     S: Session,
     R: Read + Drop,
     requires { S.base session ≡ empty_base }
-    ensures { (told : Told) → TellsReader told (R.remaining script)
+    ensures { (told : FileAt) → TellsReader told (R.remaining script)
         → RunTells (S.means (map (λ trace. trace.items) traces.now)) told result }
 {
     let alloc = rt.alloc();

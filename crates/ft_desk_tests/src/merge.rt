@@ -1,13 +1,12 @@
 //! Held events in merged order.
 
 use ft_event::{Body, Comm, Event, Name, Pos, Wake};
-use ft_hist::Trigger;
+use ft_hist::Triggers;
 use ft_lanes::Lanes;
 use ft_replay::{merged_events, merged_order, named_events};
 use ft_store::Stored;
 use ft_trigger::parse;
 use std::alloc::Global;
-use std::collections::BTreeMap;
 use std::test::*;
 
 /// Adds a waking, or another event, after those of a CPU: its line. None where there is no such
@@ -55,9 +54,9 @@ fn lanes_of_five(alloc: Global) -> Option<Lanes> {
 }
 
 /// One trigger, which is on wakings.
-fn on_wakings(alloc: Global) -> Option<BTreeMap<u32, Trigger>> {
+fn on_wakings(alloc: Global) -> Option<Triggers> {
     let trigger = parse(alloc, Name::Waking, b"hist:keys=pid").ok()?;
-    let mut triggers = BTreeMap::new(alloc);
+    let mut triggers = Triggers::new(alloc);
     triggers.insert(1, trigger).ok()?;
     Some(triggers)
 }

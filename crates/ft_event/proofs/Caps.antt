@@ -7,10 +7,10 @@ use Rattle.std.specs.Prelude.{min}
 use Rattle.std.specs.List.{list_all}
 use Rattle.std.specs.Str.Parse.{digits_value}
 use Rattle.ft_event.specs.Bytes.{is_digit}
-use Rattle.ft_event.specs.Spans.{number_of}
+use Rattle.ft_event.specs.Spans.{limited_number}
 use Rattle.ft_event.specs.Parts.{is_digits}
 use Rattle.ft_event.specs.inner.Steps.{up_to}
-use Rattle.ft_event.proofs.Digits.{next_digit, number_of-within, number_of-above}
+use Rattle.ft_event.proofs.Digits.{next_digit, limited_number-within, limited_number-above}
 use Rattle.ft_event.proofs.Numbers.{digits_pass, digits_passed}
 
 -- no bytes are no number
@@ -42,7 +42,7 @@ next_capped text i number byte within digit is same =
 
 -- within a limit the capped value tells the number
 pub capped_number : (text : List ℕ) (i number limit : ℕ) → length text ≤ i → list_all is_digit (take i text) ≡ true → number ≡ min (digits_value 10 (take i text)) 4294967296
-    → limit < 4294967296 → number_of limit text ≡ up_to limit number
+    → limit < 4294967296 → limited_number limit text ≡ up_to limit number
 capped_number text i number limit past digits is below =
     let whole : take i text ≡ text = take_all i text past in
     let all : list_all is_digit text ≡ true = subst (λ (t : List ℕ). list_all is_digit t ≡ true) whole digits in
@@ -50,9 +50,9 @@ capped_number text i number limit past digits is below =
     elim (cases_lt limit (digits_value 10 text)) [
       | inl above ↦
           let e = lt-leb number limit (omega arith) in
-          number_of-above limit text above ∙ rw e refl
+          limited_number-above limit text above ∙ rw e refl
       | inr within ↦
           let same : digits_value 10 text ≡ number = omega arith in
           let e = le-leb number limit (omega arith) in
-          number_of-within limit text all within ∙ rw e (ap (λ (n : ℕ). Some n) same)
+          limited_number-within limit text all within ∙ rw e (ap (λ (n : ℕ). Some n) same)
     ]

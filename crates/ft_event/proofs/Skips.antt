@@ -7,10 +7,10 @@ use Rattle.std.specs.Prelude.{codes, unwrap_or}
 use Rattle.std.specs.List.{prefix_len, list_all}
 use Rattle.std.proofs.Math.Numerals.{one-add}
 use Rattle.ft_event.specs.Bytes.{is_space, is_digit, is_blank}
-use Rattle.ft_event.specs.Spans.{without_spaces, run_of, behind}
+use Rattle.ft_event.specs.Spans.{without_spaces, leading_run, behind}
 use Rattle.ft_event.specs.Skipped.{behind_count, behind_lost, is_at_end, is_skipped}
 use Rattle.ft_event.specs.LineIs.{IsCount, IsLost, IsSkipped}
-use Rattle.ft_event.proofs.Runs.{run_splits, run_len, run_of-append, run_of-some, behind-append, behind-some}
+use Rattle.ft_event.proofs.Runs.{run_splits, run_len, leading_run-append, leading_run-some, behind-append, behind-some}
 use Rattle.ft_event.proofs.Heads.{bind_some}
 
 -- ---- a blank line is one run of blanks
@@ -48,14 +48,14 @@ events_text = codes "EVENTS]"
 
 -- no digits begin what stands after the count
 no_count : behind_count events_text ≡ None
-unfolding behind_count run_of
+unfolding behind_count leading_run
 no_count = refl
 
 count_is : (column : List ℕ) → IsCount column → behind_count (column ++ events_text) ≡ Some events_text
 unfolding behind_count
 count_is column h =
     let joined : column ++ events_text ≡ h.count ++ 32 ∷ events_text = ap (λ (t : List ℕ). t ++ events_text) h.joined ∙ append_assoc h.count (codes " ") events_text in
-    let digits = run_of-append is_digit h.count (32 ∷ events_text) h.digits.0 h.digits.1 refl in
+    let digits = leading_run-append is_digit h.count (32 ∷ events_text) h.digits.0 h.digits.1 refl in
     let space : behind (codes " ") (32 ∷ events_text) ≡ Some events_text = behind-append (codes " ") events_text in
     rw (joined, digits, space) refl
 
@@ -70,8 +70,8 @@ column_found text = from (behind_count text) refl
     from : (o : Option (List ℕ)) → behind_count text ≡ o → (column : List ℕ) × ((column ≡ []) ⊎ IsCount column) × (text ≡ column ++ unwrap_or o text)
     from None e = ([], inl refl, refl)
     from (Some rest) e =
-        let digits = bind_some (run_of is_digit text) _ rest e in
-        let d = run_of-some is_digit text digits.0 digits.1 in
+        let digits = bind_some (leading_run is_digit text) _ rest e in
+        let d = leading_run-some is_digit text digits.0 digits.1 in
         let s = behind-some (codes " ") digits.0.1 rest digits.2 in
         let joined : text ≡ (digits.0.0 ++ codes " ") ++ rest = d.joined ∙ ap (λ (t : List ℕ). digits.0.0 ++ t) s ∙ sym (append_assoc digits.0.0 (codes " ") rest) in
         (digits.0.0 ++ codes " ", inr (record { count = digits.0.0; joined = refl; digits = (d.some, d.passes) }), joined)
@@ -85,7 +85,7 @@ lost_is bytes h =
     let behind_cpu : List ℕ = codes " [LOST " ++ (h.column ++ events_text) in
     let joined = h.joined ∙ rejoined h.cpu h.column in
     let label : behind (codes "CPU:") (codes "CPU:" ++ (h.cpu ++ behind_cpu)) ≡ Some (h.cpu ++ behind_cpu) = behind-append (codes "CPU:") (h.cpu ++ behind_cpu) in
-    let digits = run_of-append is_digit h.cpu behind_cpu h.cpu_digits.0 h.cpu_digits.1 refl in
+    let digits = leading_run-append is_digit h.cpu behind_cpu h.cpu_digits.0 h.cpu_digits.1 refl in
     let lost : behind (codes " [LOST ") behind_cpu ≡ Some (h.column ++ events_text) = behind-append (codes " [LOST ") (h.column ++ events_text) in
     let column = column_is h.column h.count in
     let end : behind (codes "EVENTS]") events_text ≡ Some [] = behind-append (codes "EVENTS]") [] in
@@ -95,10 +95,10 @@ lost_found : (bytes : List ℕ) → behind_lost bytes ≡ Some [] → IsLost byt
 unfolding behind_lost
 lost_found bytes e =
     let cpu = bind_some (behind (codes "CPU:") bytes) _ [] e in
-    let digits = bind_some (run_of is_digit cpu.0) _ [] cpu.2 in
+    let digits = bind_some (leading_run is_digit cpu.0) _ [] cpu.2 in
     let lost = bind_some (behind (codes " [LOST ") digits.0.1) _ [] digits.2 in
     let c = behind-some (codes "CPU:") bytes cpu.0 cpu.1 in
-    let d = run_of-some is_digit cpu.0 digits.0 digits.1 in
+    let d = leading_run-some is_digit cpu.0 digits.0 digits.1 in
     let l = behind-some (codes " [LOST ") digits.0.1 lost.0 lost.1 in
     let column = column_found lost.0 in
     let end = behind-some (codes "EVENTS]") (unwrap_or (behind_count lost.0) lost.0) [] lost.2 in

@@ -3,10 +3,10 @@ use Rattle.std.proofs.Common.{◌≡◌, ◌≢◌, ◌≤◌, ◌<◌, ℕ, suc
 use Rattle.std.proofs.Math.Seq.{split_at, take-append_seam, get_or-append_seam, drop-append-add}
 use Rattle.std.proofs.lemmas.List.{drop_all}
 use Rattle.std.specs.Str.Parse.{digits_value}
-use Rattle.ft_event.specs.Spans.{number_of}
+use Rattle.ft_event.specs.Spans.{limited_number}
 use Rattle.ft_event.specs.Columns.{micros_of}
 use Rattle.ft_fields.specs.Traced.{last_second}
-use Rattle.ft_event.proofs.Digits.{below_million, number_of-within, number_of-some}
+use Rattle.ft_event.proofs.Digits.{below_million, limited_number-within, limited_number-some}
 use Rattle.ft_event.proofs.Stamps.{stamp_text, IsStampText, micros_of-is, micros_of-some}
 
 -- a word with a point and a colon at their places is of that form
@@ -47,10 +47,10 @@ places seconds micros six =
 
 -- both numbers, at these places, are STAMP
 pub stamp_found : (word : List ℕ) (point whole part : ℕ) → point + 8 ≡ length word → 0 < point → point ≤ 10 → get_or word point 0 ≡ 46 → get_or word (point + 7) 0 ≡ 58
-    → number_of last_second (take point word) ≡ Some whole → number_of 999999 (take 6 (drop (suc point) word)) ≡ Some part → micros_of word ≡ Some (whole * 1000000 + part)
+    → limited_number last_second (take point word) ≡ Some whole → limited_number 999999 (take 6 (drop (suc point) word)) ≡ Some part → micros_of word ≡ Some (whole * 1000000 + part)
 stamp_found word point whole part len some short dot colon is_whole is_part =
-    let w = number_of-some last_second (take point word) whole is_whole in
-    let p = number_of-some 999999 (take 6 (drop (suc point) word)) part is_part in
+    let w = limited_number-some last_second (take point word) whole is_whole in
+    let p = limited_number-some 999999 (take 6 (drop (suc point) word)) part is_part in
     let seconds : length (take point word) ≡ point = omega (arith, length-take-le point word (omega arith)) in
     let micros : length (take 6 (drop (suc point) word)) ≡ 6 = length-take-le 6 (drop (suc point) word) (omega (arith, length-drop (suc point) word)) in
     micros_of-is word (whole * 1000000 + part) (record {
@@ -73,15 +73,15 @@ pub record Stamped (word : List ℕ) : Type 0 where
   pub short : point ≤ 10
   pub dot : get_or word point 0 ≡ 46
   pub colon : get_or word (point + 7) 0 ≡ 58
-  pub whole : number_of last_second (take point word) ≢ None
-  pub part : number_of 999999 (take 6 (drop (suc point) word)) ≢ None
+  pub whole : limited_number last_second (take point word) ≢ None
+  pub part : limited_number 999999 (take 6 (drop (suc point) word)) ≢ None
 
 stamped : (word : List ℕ) (stamp : ℕ) → IsStampText word stamp → Stamped word
 stamped word stamp h =
     let at : Places word h.seconds h.micros = subst (λ (t : List ℕ). Places t h.seconds h.micros) (sym h.joined) (places h.seconds h.micros h.micros_six) in
-    let whole : number_of last_second (take (length h.seconds) word) ≡ Some (digits_value 10 h.seconds) = ap (number_of last_second) at.front ∙ number_of-within last_second h.seconds h.seconds_digits.1 h.seconds_within in
-    let part : number_of 999999 (take 6 (drop (suc (length h.seconds)) word)) ≡ Some (digits_value 10 h.micros) =
-    ap (number_of 999999) at.digits ∙ number_of-within 999999 h.micros h.micros_digits.1 (below_million h.micros h.micros_digits.1 h.micros_six) in
+    let whole : limited_number last_second (take (length h.seconds) word) ≡ Some (digits_value 10 h.seconds) = ap (limited_number last_second) at.front ∙ limited_number-within last_second h.seconds h.seconds_digits.1 h.seconds_within in
+    let part : limited_number 999999 (take 6 (drop (suc (length h.seconds)) word)) ≡ Some (digits_value 10 h.micros) =
+    ap (limited_number 999999) at.digits ∙ limited_number-within 999999 h.micros h.micros_digits.1 (below_million h.micros h.micros_digits.1 h.micros_six) in
     record {
       point = length h.seconds;
       len = at.len;

@@ -8,12 +8,12 @@ use Rattle.std.specs.Prelude.{codes}
 use Rattle.std.specs.List.{prefix_len, list_all, list_any}
 use Rattle.std.specs.Str.Parse.{digits_value}
 use Rattle.ft_event.specs.Bytes.{is_space, is_in_word, is_digit, is_colon}
-use Rattle.ft_event.specs.Spans.{run_of, behind, word_of, without_spaces, number_of}
+use Rattle.ft_event.specs.Spans.{leading_run, behind, leading_word, without_spaces, limited_number}
 use Rattle.ft_event.specs.Columns.{stamp_word_of, micros_of, stamp_of}
 use Rattle.ft_event.specs.LineIs.{Stops, IsSpaces, IsGap, IsDigits, IsLetters, IsStamped}
 use Rattle.ft_fields.specs.Traced.{last_second}
-use Rattle.ft_event.proofs.Runs.{run_splits, run_is, rest_is, run_of-append, run_of-some, behind-append, behind-some}
-use Rattle.ft_event.proofs.Digits.{below_million, number_of-within, number_of-some}
+use Rattle.ft_event.proofs.Runs.{run_splits, run_is, rest_is, leading_run-append, leading_run-some, behind-append, behind-some}
+use Rattle.ft_event.proofs.Digits.{below_million, limited_number-within, limited_number-some}
 use Rattle.ft_event.proofs.Heads.{bind_some}
 
 -- ---- words and spaces
@@ -49,10 +49,10 @@ nothing_left [] space word = refl
 nothing_left (b ∷ text) space word = absurd (both_ways (eqb b 32) space (not-false (eqb b 32) word))
 
 -- the next word, between spaces and what ends it
-next_word : (gap word rest : List ℕ) → IsSpaces gap → 0 < length word → list_all is_in_word word ≡ true → Stops is_in_word rest → word_of (without_spaces (gap ++ (word ++ rest))) ≡ (word, rest)
+next_word : (gap word rest : List ℕ) → IsSpaces gap → 0 < length word → list_all is_in_word word ≡ true → Stops is_in_word rest → leading_word (without_spaces (gap ++ (word ++ rest))) ≡ (word, rest)
 next_word gap word rest spaces some in_word ends =
     let after : without_spaces (gap ++ (word ++ rest)) ≡ word ++ rest = rest_is is_space gap (word ++ rest) spaces (word_stops word rest some in_word) in
-    ap word_of after ∙ rw (run_is is_in_word word rest in_word ends, rest_is is_in_word word rest in_word ends) refl
+    ap leading_word after ∙ rw (run_is is_in_word word rest in_word ends, rest_is is_in_word word rest in_word ends) refl
 
 -- ---- STAMP's own form
 
@@ -75,12 +75,12 @@ pub micros_of-is : (word : List ℕ) (stamp : ℕ) → IsStampText word stamp �
 unfolding micros_of
 micros_of-is word stamp h =
     let behind_seconds : List ℕ = 46 ∷ (h.micros ++ (58 ∷ [])) in
-    let seconds = run_of-append is_digit h.seconds behind_seconds h.seconds_digits.0 h.seconds_digits.1 refl in
+    let seconds = leading_run-append is_digit h.seconds behind_seconds h.seconds_digits.0 h.seconds_digits.1 refl in
     let point : behind (codes ".") behind_seconds ≡ Some (h.micros ++ (58 ∷ [])) = behind-append (codes ".") (h.micros ++ (58 ∷ [])) in
-    let micros = run_of-append is_digit h.micros (58 ∷ []) h.micros_digits.0 h.micros_digits.1 refl in
+    let micros = leading_run-append is_digit h.micros (58 ∷ []) h.micros_digits.0 h.micros_digits.1 refl in
     let end : behind (codes ":") (58 ∷ []) ≡ Some [] = behind-append (codes ":") [] in
-    let whole = number_of-within last_second h.seconds h.seconds_digits.1 h.seconds_within in
-    let part = number_of-within 999999 h.micros h.micros_digits.1 (below_million h.micros h.micros_digits.1 h.micros_six) in
+    let whole = limited_number-within last_second h.seconds h.seconds_digits.1 h.seconds_within in
+    let part = limited_number-within 999999 h.micros h.micros_digits.1 (below_million h.micros h.micros_digits.1 h.micros_six) in
     let short : ltb 10 (length h.seconds) ≡ false = le-ltb 10 (length h.seconds) h.seconds_short in
     let six : eqb (length h.micros) 6 ≡ true = eq-eqb _ _ h.micros_six in
     rw (h.joined, seconds, point, micros, end, whole, part, short, six, h.value) refl
@@ -99,19 +99,19 @@ lengths seconds micros end x y e = from ((ltb 10 (length seconds) || not (eqb (l
 pub micros_of-some : (word : List ℕ) (stamp : ℕ) → micros_of word ≡ Some stamp → IsStampText word stamp
 unfolding micros_of
 micros_of-some word stamp e =
-    let seconds = bind_some (run_of is_digit word) _ stamp e in
+    let seconds = bind_some (leading_run is_digit word) _ stamp e in
     let point = bind_some (behind (codes ".") seconds.0.1) _ stamp seconds.2 in
-    let micros = bind_some (run_of is_digit point.0) _ stamp point.2 in
+    let micros = bind_some (leading_run is_digit point.0) _ stamp point.2 in
     let end = bind_some (behind (codes ":") micros.0.1) _ stamp micros.2 in
-    let whole = bind_some (number_of last_second seconds.0.0) _ stamp end.2 in
-    let part = bind_some (number_of 999999 micros.0.0) _ stamp whole.2 in
+    let whole = bind_some (limited_number last_second seconds.0.0) _ stamp end.2 in
+    let part = bind_some (limited_number 999999 micros.0.0) _ stamp whole.2 in
     let fits = lengths seconds.0.0 micros.0.0 end.0 (whole.0 * 1000000 + part.0) stamp part.2 in
-    let s = run_of-some is_digit word seconds.0 seconds.1 in
+    let s = leading_run-some is_digit word seconds.0 seconds.1 in
     let p = behind-some (codes ".") seconds.0.1 point.0 point.1 in
-    let m = run_of-some is_digit point.0 micros.0 micros.1 in
+    let m = leading_run-some is_digit point.0 micros.0 micros.1 in
     let c = behind-some (codes ":") micros.0.1 end.0 end.1 in
-    let w = number_of-some last_second seconds.0.0 whole.0 whole.1 in
-    let n = number_of-some 999999 micros.0.0 part.0 part.1 in
+    let w = limited_number-some last_second seconds.0.0 whole.0 whole.1 in
+    let n = limited_number-some 999999 micros.0.0 part.0 part.1 in
     record {
       seconds = seconds.0.0;
       micros = micros.0.0;
@@ -152,7 +152,7 @@ pub record IsStampWord (text word rest : List ℕ) : Type 0 where
   pub ends : Stops is_in_word rest
 
 -- the first word holds a colon
-first_is : (text word rest : List ℕ) → word_of (without_spaces text) ≡ (word, rest) → list_any is_colon word ≡ true → stamp_word_of text ≡ Some (word, rest)
+first_is : (text word rest : List ℕ) → leading_word (without_spaces text) ≡ (word, rest) → list_any is_colon word ≡ true → stamp_word_of text ≡ Some (word, rest)
 unfolding stamp_word_of
 first_is text word rest e colon =
     let front = ap (λ (x : List ℕ × List ℕ). x.0) e in
@@ -160,7 +160,7 @@ first_is text word rest e colon =
     rw (front, colon, back) refl
 
 -- the first word is LETTERS
-second_is : (text letters after : List ℕ) (second : List ℕ × List ℕ) → word_of (without_spaces text) ≡ (letters, after) → list_any is_colon letters ≡ false → length letters ≤ 16 → word_of (without_spaces after) ≡ second → stamp_word_of text ≡ Some second
+second_is : (text letters after : List ℕ) (second : List ℕ × List ℕ) → leading_word (without_spaces text) ≡ (letters, after) → list_any is_colon letters ≡ false → length letters ≤ 16 → leading_word (without_spaces after) ≡ second → stamp_word_of text ≡ Some second
 unfolding stamp_word_of
 second_is text letters after second e no_colon short f =
     let fits : ltb 16 (length letters) ≡ false = le-ltb 16 (length letters) short in
@@ -173,12 +173,12 @@ stamp_word_of-is text word rest h some colon =
     elim h.letters [
       | inl none ↦
           let joined : text ≡ h.gap ++ (word ++ rest) = h.joined ∙ ap (λ (t : List ℕ). h.gap ++ (t ++ (word ++ rest))) none in
-          first_is text word rest (ap (λ (t : List ℕ). word_of (without_spaces t)) joined ∙ next_word h.gap word rest h.before some h.in_word h.ends) colon
+          first_is text word rest (ap (λ (t : List ℕ). leading_word (without_spaces t)) joined ∙ next_word h.gap word rest h.before some h.in_word h.ends) colon
       | inr l ↦
           let after : List ℕ = l.gap ++ (word ++ rest) in
           let joined : text ≡ h.gap ++ (l.letters ++ after) = h.joined ∙ ap (λ (t : List ℕ). h.gap ++ t) (ap (λ (t : List ℕ). t ++ (word ++ rest)) l.joined ∙ append_assoc l.letters l.gap (word ++ rest)) in
-          let first : word_of (without_spaces text) ≡ (l.letters, after) =
-          ap (λ (t : List ℕ). word_of (without_spaces t)) joined ∙ next_word h.gap l.letters after h.before l.some l.word (gap_stops l.gap (word ++ rest) l.behind) in
+          let first : leading_word (without_spaces text) ≡ (l.letters, after) =
+          ap (λ (t : List ℕ). leading_word (without_spaces t)) joined ∙ next_word h.gap l.letters after h.before l.some l.word (gap_stops l.gap (word ++ rest) l.behind) in
           second_is text l.letters after (word, rest) first l.no_colon l.short (next_word l.gap word rest l.behind.1 some h.in_word h.ends)
     ]
 
@@ -228,7 +228,7 @@ pub record NextWord (text word rest : List ℕ) : Type 0 where
   pub stops : Stops is_space (word ++ rest)
   pub ends : Stops is_in_word rest
 
-next_word_splits : (text : List ℕ) → NextWord text (word_of (without_spaces text)).0 (word_of (without_spaces text)).1
+next_word_splits : (text : List ℕ) → NextWord text (leading_word (without_spaces text)).0 (leading_word (without_spaces text)).1
 next_word_splits text =
     let s = run_splits is_space text in
     let w = run_splits is_in_word (without_spaces text) in
@@ -245,23 +245,23 @@ stamp_word_of-some : (text : List ℕ) (r : List ℕ × List ℕ) → stamp_word
 unfolding stamp_word_of
 stamp_word_of-some text r e some =
     let first = next_word_splits text in
-    elim (cases_Bool (list_any is_colon (word_of (without_spaces text)).0)) [
+    elim (cases_Bool (list_any is_colon (leading_word (without_spaces text)).0)) [
       | inl colon ↦
-          let same : word_of (without_spaces text) ≡ r = same_Some _ _ (rw colon at e) in
+          let same : leading_word (without_spaces text) ≡ r = same_Some _ _ (rw colon at e) in
           subst (λ (x : List ℕ × List ℕ). IsStampWord text x.0 x.1) same
           (record { gap = first.gap; column = []; joined = first.joined; before = first.spaces; letters = inl refl; in_word = first.in_word; ends = first.ends })
       | inr no_colon ↦
           let f = rw no_colon at e in
-          elim (cases_lt 16 (length (word_of (without_spaces text)).0)) [
+          elim (cases_lt 16 (length (leading_word (without_spaces text)).0)) [
             | inl long ↦
-                let is_long : ltb 16 (length (word_of (without_spaces text)).0) ≡ true = lt-ltb _ _ long in
+                let is_long : ltb 16 (length (leading_word (without_spaces text)).0) ≡ true = lt-ltb _ _ long in
                 let g = rw is_long at f in absurd cc
             | inr short ↦
-                let is_short : ltb 16 (length (word_of (without_spaces text)).0) ≡ false = le-ltb _ _ short in
-                let after : List ℕ = (word_of (without_spaces text)).1 in
+                let is_short : ltb 16 (length (leading_word (without_spaces text)).0) ≡ false = le-ltb _ _ short in
+                let after : List ℕ = (leading_word (without_spaces text)).1 in
                 let second = next_word_splits after in
-                let same : word_of (without_spaces after) ≡ r = same_Some _ _ (rw is_short at f) in
-                let some' : 0 < length (word_of (without_spaces after)).0 = subst (λ (x : List ℕ × List ℕ). 0 < length x.0) (sym same) some in
+                let same : leading_word (without_spaces after) ≡ r = same_Some _ _ (rw is_short at f) in
+                let some' : 0 < length (leading_word (without_spaces after)).0 = subst (λ (x : List ℕ × List ℕ). 0 < length x.0) (sym same) some in
                 subst (λ (x : List ℕ × List ℕ). IsStampWord text x.0 x.1) same
                 (behind_letters text first.gap _ after second.gap _ _ first.joined first.spaces first.in_word first.stops first.ends second.joined second.spaces second.in_word second.stops second.ends some' no_colon short)
           ]

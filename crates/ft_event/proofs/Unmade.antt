@@ -12,7 +12,7 @@ use Rattle.ft_event.specs.declared.label.EventLabel.TheVariants as labels
 use Rattle.ft_fields.specs.Traced.{Traced, is_made, last_cpu}
 use Rattle.ft_event.specs.declared.fault.LineFault.TheVariants.{BadCpu, BadStamp, NumberRange, NoTask, LineLong}
 use Rattle.ft_event.specs.Columns.{head_of, stamp_of}
-use Rattle.ft_event.specs.Spans.{number_of, without_spaces}
+use Rattle.ft_event.specs.Spans.{limited_number, without_spaces}
 use Rattle.ft_event.specs.LineIs.{Head}
 use Rattle.ft_event.specs.Line.{◌>>=◌, found_or, name_from, wake_from, turn_from, payload_from, body_behind, body_from, event_from, traced_from, line_with, line_of}
 
@@ -57,13 +57,13 @@ event_with task pid cpu stamp body = Ok (record { task = task; pid = pos pid; cp
 event_found : (head : Head) → IfOk (event_from head) IsFound
 unfolding event_from
 event_found head =
-    then_holds {A = List ℕ} IsFound (name_from head.task) (λ task. found_or NumberRange (number_of 2147483647 head.tail.pid) >>= λ pid.
-    found_or BadCpu (number_of last_cpu head.tail.cpu) >>= λ cpu. found_or BadStamp (stamp_of head.tail.rest) >>= λ stamp. body_from stamp.1 >>= λ body. event_with task pid cpu stamp.0 body)
+    then_holds {A = List ℕ} IsFound (name_from head.task) (λ task. found_or NumberRange (limited_number 2147483647 head.tail.pid) >>= λ pid.
+    found_or BadCpu (limited_number last_cpu head.tail.cpu) >>= λ cpu. found_or BadStamp (stamp_of head.tail.rest) >>= λ stamp. body_from stamp.1 >>= λ body. event_with task pid cpu stamp.0 body)
     (λ task.
-    then_holds {A = ℕ} IsFound (found_or NumberRange (number_of 2147483647 head.tail.pid)) (λ pid.
-    found_or BadCpu (number_of last_cpu head.tail.cpu) >>= λ cpu. found_or BadStamp (stamp_of head.tail.rest) >>= λ stamp. body_from stamp.1 >>= λ body. event_with task pid cpu stamp.0 body)
+    then_holds {A = ℕ} IsFound (found_or NumberRange (limited_number 2147483647 head.tail.pid)) (λ pid.
+    found_or BadCpu (limited_number last_cpu head.tail.cpu) >>= λ cpu. found_or BadStamp (stamp_of head.tail.rest) >>= λ stamp. body_from stamp.1 >>= λ body. event_with task pid cpu stamp.0 body)
     (λ pid.
-    then_holds {A = ℕ} IsFound (found_or BadCpu (number_of last_cpu head.tail.cpu)) (λ cpu.
+    then_holds {A = ℕ} IsFound (found_or BadCpu (limited_number last_cpu head.tail.cpu)) (λ cpu.
     found_or BadStamp (stamp_of head.tail.rest) >>= λ stamp. body_from stamp.1 >>= λ body. event_with task pid cpu stamp.0 body)
     (λ cpu.
     then_holds {A = ℕ × List ℕ} IsFound (found_or BadStamp (stamp_of head.tail.rest)) (λ stamp. body_from stamp.1 >>= λ body. event_with task pid cpu stamp.0 body)

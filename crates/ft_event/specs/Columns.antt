@@ -3,7 +3,7 @@ use Rattle.std.specs.Prelude.{ℕ, ◌+◌, ◌*◌, ◌||◌, not, List, [], �
 use Rattle.std.specs.List.{list_any}
 use Rattle.ft_event.specs.Bytes.{is_space, is_digit, is_colon, is_in_group}
 use Rattle.ft_event.specs.LineIs.{Tail, Head}
-use Rattle.ft_event.specs.Spans.{run_of, word_of, without_spaces, behind, number_of}
+use Rattle.ft_event.specs.Spans.{leading_run, leading_word, without_spaces, behind, limited_number}
 use Rattle.ft_fields.specs.Traced.{last_second}
 
 infixl 10 ◌>>=◌
@@ -16,18 +16,18 @@ None >>= f = None
 unfoldable pub behind_group : List ℕ → Option (List ℕ)
 behind_group text = do
   inner ← behind (codes "(") text
-  group ← run_of is_in_group (without_spaces inner)
+  group ← leading_run is_in_group (without_spaces inner)
   close ← behind (codes ")") group.1
-  gap ← run_of is_space close
+  gap ← leading_run is_space close
   Some gap.1
 
 -- PID, spaces, perhaps GROUP, `[`, CPU, `]`, a space, and the rest (kernel: ftrace.rst, the trace output)
 unfoldable pub tail_of : List ℕ → Option Tail
 tail_of text = do
-  pid ← run_of is_digit text
-  gap ← run_of is_space pid.1
+  pid ← leading_run is_digit text
+  gap ← leading_run is_space pid.1
   bracket ← behind (codes "[") (unwrap_or (behind_group gap.1) gap.1)
-  cpu ← run_of is_digit bracket
+  cpu ← leading_run is_digit bracket
   rest ← behind (codes "] ") cpu.1
   Some (record { pid = pid.0; cpu = cpu.0; rest = rest })
 
@@ -49,19 +49,19 @@ head_of (b ∷ bs) = if b == 45 then head_from (tail_of bs) (with_front (b ∷ [
 -- the word that is STAMP: the first if it holds a `:`, else the one after LETTERS of at most 16 bytes (kernel: ftrace.rst, the option irq-info)
 unfoldable pub stamp_word_of : List ℕ → Option (List ℕ × List ℕ)
 stamp_word_of text =
-    let first = word_of (without_spaces text) in
+    let first = leading_word (without_spaces text) in
     if list_any is_colon first.0 then Some first
-    else (if nat_lt 16 (length first.0) then None else Some (word_of (without_spaces first.1)))
+    else (if nat_lt 16 (length first.0) then None else Some (leading_word (without_spaces first.1)))
 
 -- the microseconds that STAMP says: SECONDS of up to ten digits, `.`, six digits, `:` (kernel: ftrace.rst, TIMESTAMP)
 unfoldable pub micros_of : List ℕ → Option ℕ
 micros_of word = do
-  seconds ← run_of is_digit word
+  seconds ← leading_run is_digit word
   point ← behind (codes ".") seconds.1
-  micros ← run_of is_digit point
+  micros ← leading_run is_digit point
   end ← behind (codes ":") micros.1
-  whole ← number_of last_second seconds.0
-  part ← number_of 999999 micros.0
+  whole ← limited_number last_second seconds.0
+  part ← limited_number 999999 micros.0
   if nat_lt 10 (length seconds.0) || not (length micros.0 == 6) || not (length end == 0) then None else Some (whole * 1000000 + part)
 
 -- the event's stamp in microseconds, and what stands after STAMP (kernel: ftrace.rst, TIMESTAMP)

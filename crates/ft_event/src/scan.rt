@@ -4,8 +4,8 @@ ghost use Rattle.std.specs.Prelude.{◌≡◌, ◌<◌, ◌≤◌, ◌==◌, len
 ghost use lib.Pointwise.{pointwise};
 ghost use Rattle.std.specs.Option.{option_map, option_copied};
 ghost use Rattle.std.specs.List.{prefix_len, suffix_len};
-ghost use Rattle.ft_event.specs.Spans.{test_of, run_of, word_of, without_spaces, trimmed};
-ghost use Rattle.ft_event.specs.Spans.{behind, last_cut, label_cut, number_of};
+ghost use Rattle.ft_event.specs.Spans.{test_of, leading_run, leading_word, without_spaces, trimmed};
+ghost use Rattle.ft_event.specs.Spans.{behind, last_cut, label_cut, limited_number};
 
 /// A class of bytes.
 #[derive(Clone, Copy)]
@@ -66,9 +66,9 @@ pub(crate) fn back_len(text: &[u8], class: Class) -> usize
 }
 
 /// A run of one or more bytes of the class, as long as it goes, and what is after it.
-#[tactic(auto, unfolding(crate::specs::Spans::run_of))]
+#[tactic(auto, unfolding(crate::specs::Spans::leading_run))]
 pub(crate) fn run(text: &[u8], class: Class) -> Option<(&[u8], &[u8])>
-    ensures { option_map (λ x. (x.0.now, x.1.now)) result ≡ run_of (test_of class) text.now }
+    ensures { option_map (λ x. (x.0.now, x.1.now)) result ≡ leading_run (test_of class) text.now }
 {
     let len = front_len(text, class);
     if len == 0 {
@@ -79,7 +79,7 @@ pub(crate) fn run(text: &[u8], class: Class) -> Option<(&[u8], &[u8])>
 
 /// The word that the text begins with, which may be empty, and what is after it.
 pub(crate) fn word(text: &[u8]) -> (&[u8], &[u8])
-    ensures { (result.0.now, result.1.now) ≡ word_of text.now }
+    ensures { (result.0.now, result.1.now) ≡ leading_word text.now }
 {
     text.split_at(front_len(text, Class::Word))
 }
@@ -164,9 +164,9 @@ pub(crate) fn label_cut<'a, const N: usize>(
 }
 
 /// The number that digits write, or `None` where it is above the limit or a byte is no digit.
-#[tactic(auto, unfolding(crate::specs::Spans::number_of))]
+#[tactic(auto, unfolding(crate::specs::Spans::limited_number))]
 pub(crate) fn number(text: &[u8], limit: u32) -> Option<u64>
-    ensures value { result ≡ number_of limit text.now }
+    ensures value { result ≡ limited_number limit text.now }
     ensures within { IfSome result (λ n. n ≤ limit) }
 {
     let mut number: u64 = 0;

@@ -6,3 +6,6 @@ pub mod Padded
 pub mod Places
 pub mod Traced
 pub mod inner
+pub mod Orders
+pub mod Parts
+pub mod Ties

@@ -18,14 +18,14 @@ pub struct NameRef<'a> {
 }
 
 impl<'a> NameRef<'a> {
-    ghost use Rattle.ft_fields.specs.Borrowed.{named};
+    ghost use Rattle.ft_fields.specs.Borrowed.{name_bytes};
 
     /// So many bytes of a text: at most 31, and as many as there are.
     #[inline(always)]
     pub fn new(text: &'a [u8], len: usize) -> NameRef<'a>
         requires short { len ≤ 31 }
         requires within { len ≤ length text.now }
-        ensures { named result ≡ take len text.now }
+        ensures { name_bytes result ≡ take len text.now }
     {
         NameRef {
             text,
@@ -36,7 +36,7 @@ impl<'a> NameRef<'a> {
     /// How many bytes it has.
     #[inline(always)]
     pub fn len(&self) -> u8
-        ensures value { result ≡ length (named self.now) }
+        ensures value { result ≡ length (name_bytes self.now) }
         ensures short { result ≤ 31 }
     {
         self.len
@@ -45,7 +45,7 @@ impl<'a> NameRef<'a> {
     /// Its bytes.
     #[inline(always)]
     pub fn bytes(&self) -> &'a [u8]
-        ensures { result.now ≡ named self.now }
+        ensures { result.now ≡ name_bytes self.now }
     {
         &self.text[..self.len as usize]
     }
@@ -53,8 +53,8 @@ impl<'a> NameRef<'a> {
     /// The text that it begins.
     #[inline(always)]
     pub fn text(&self) -> &'a [u8]
-        ensures within { length (named self.now) ≤ length result.now }
-        ensures begins { take (length (named self.now)) result.now ≡ named self.now }
+        ensures within { length (name_bytes self.now) ≤ length result.now }
+        ensures begins { take (length (name_bytes self.now)) result.now ≡ name_bytes self.now }
     {
         self.text
     }
@@ -127,12 +127,12 @@ pub struct EventRef<'a> {
 }
 
 impl Comm {
-    ghost use Rattle.ft_fields.specs.Borrowed.{named};
+    ghost use Rattle.ft_fields.specs.Borrowed.{name_bytes};
 
     /// The text as a borrowed name.
     #[inline(always)]
     pub fn borrowed(&self) -> NameRef<'_>
-        ensures { named result ≡ self.now }
+        ensures { name_bytes result ≡ self.now }
     {
         let (text, len) = self.whole();
         NameRef::new(text, len as usize)
@@ -177,12 +177,12 @@ impl Turn {
 }
 
 impl Body {
-    ghost use Rattle.ft_fields.specs.Borrowed.{told};
+    ghost use Rattle.ft_fields.specs.Borrowed.{owned_body};
 
     /// The same, its names borrowed.
     #[inline(always)]
     fn borrowed(&self) -> BodyRef<'_>
-        ensures { told result ≡ self.now }
+        ensures { owned_body result ≡ self.now }
     {
         match self {
             Body::Waking(wake) => BodyRef::Waking(wake.borrowed()),

@@ -1,9 +1,14 @@
-//! What an event is: its name, its fields, its place.
+//! Events and keys: what an event has by name, where it stands, and what hits are counted under.
 //!
-//! An event says which task ran, on which CPU, when, and what was traced: that a task is woken, that
-//! a CPU switches to another task, or anything else. One event is not of a trace: `wakeup_latency`,
-//! which a trigger makes where it measures a latency. Filters and triggers speak of it by the names
-//! of its fields. All events stand in one order: by stamp, then by CPU, then by line number.
+//! An event says which task ran, on which CPU, when, and what was traced: that a task is woken,
+//! that a CPU switches to another task, or anything else. One event is not of a trace:
+//! `wakeup_latency`, which a trigger makes where it measures a latency. Filters and triggers speak
+//! of an event by the names of its fields. All events stand in one order: by stamp, then by CPU,
+//! then by line number.
+//!
+//! A key has one to three parts. A part is a number, a power of 2, a multiple of a bucket's size,
+//! or a text. Parts stand by kind, then by value; keys stand by their parts from the left, and a
+//! key before those that it begins.
 //!
 //! ```ignore
 //! let mut event = Event::blank();
@@ -14,6 +19,14 @@
 //! assert_eq!(rt; event.field(Field::NextPid), None);
 //! let earlier = Pos { stamp: 6_000_100, cpu: 1, line: 9 };
 //! assert!(rt; earlier < Pos { stamp: 6_000_100, cpu: 2, line: 3 });
+//! ```
+//!
+//! ```ignore
+//! let short = Key::of_one(Part::Num(-1));
+//! let long = Key::of_two(Part::Num(-1), Part::Log2(3));
+//! assert!(short < long && long < Key::of_one(Part::Num(0)));
+//! assert_eq!(long.part(1), Some(Part::Log2(3)));
+//! assert!(short.part(1).is_none());
 //! ```
 //!
 //! # Contracts
@@ -31,12 +44,18 @@
 //! - Law `one_order`: places stand by stamp, then CPU, then line number; places that tie are equal.
 //! - Law `values_of_fields`: an event has a value in just the fields of its name, and a text in
 //!   just the fields that hold texts.
+//! - `Key`: contracts see a list of one to three parts. What makes one and what reads its parts is
+//!   exact.
+//! - `Key`, `Part`: lawful total orders (`specs/Parts.antt`, `specs/Orders.antt`).
+//! - Laws `one_key_order`, `equal_keys`: keys compare by their parts from the left, a beginning
+//!   before what it begins; keys that tie are equal.
 #![tactic(auto)]
 
 mod borrowed;
 mod comm;
 mod event;
 mod field;
+mod key;
 pub mod laws;
 mod pos;
 
@@ -44,5 +63,6 @@ pub use borrowed::{BodyRef, EventRef, NameRef, TurnRef, WakeRef};
 pub use comm::Comm;
 pub use event::{Body, Event, Matched, Name, Turn, Wake};
 pub use field::{Field, Value, field_named, field_text};
-pub use laws::{one_order, values_of_fields};
+pub use key::{Key, Part};
+pub use laws::{equal_keys, one_key_order, one_order, values_of_fields};
 pub use pos::Pos;

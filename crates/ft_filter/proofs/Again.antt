@@ -1,12 +1,12 @@
 -- A canonical text is read as the tree that it was written for.
 use Rattle.std.proofs.Common.{◌≡◌, ◌≤◌, ℕ, zero, suc, true, List, [], ◌∷◌, ◌++◌, Some, None, Ok, refl, sym, ap, ◌∙◌, subst, arith, append_assoc, append-nil, slice_index, codes, length}
 use Rattle.ft_fields.specs.declared.event.Name.{Name}
-use Rattle.ft_tokens.specs.Tokens.{skip}
+use Rattle.ft_text.specs.Tokens.{skip}
 use Rattle.ft_filter.specs.declared.tree.Joint.{Joint}
 use Rattle.ft_filter.specs.declared.tree.Joint.TheVariants as joints
 use Rattle.ft_filter.specs.declared.tree.Pred.{Pred}
-use Rattle.ft_filter.specs.Canonical.{pred_text, joint_text, enclosed_if, is_joined, needs_enclosing, canonical, more_text}
-use Rattle.ft_filter.specs.FilterIs.{Rule, Joined, Operand, below, behind_joint, both, made, most_open, Reads, first, negated, enclosed, compared, Goes, ended, another, FilterIs}
+use Rattle.ft_filter.specs.Canonical.{pred_text, spaced_joint_text, enclosed_if, is_joined, needs_enclosing, canonical, more_text}
+use Rattle.ft_filter.specs.FilterIs.{Rule, Joined, Operand, below, behind_joint, tree_of_joint, made, most_open, Reads, first, negated, enclosed, compared, Goes, ended, another, FilterIs}
 use Rattle.ft_filter.specs.Predicate.{Found, pred_at}
 use Rattle.ft_filter.specs.Shape.{HasTwo, level_if, levels, most_levels}
 use Rattle.ft_filter.specs.Tree.{Tree, Trees, Any, All, Not, Test, End, More}
@@ -33,7 +33,7 @@ more_follows joints.Or (More tree trees) rest h = (refl, refl)
 more_follows joints.And (More tree trees) rest h = refl
 
 -- after the joint that a canonical text writes
-joint_found : (joint : Joint) (text : List ℕ) → behind_joint joint (joint_text joint ++ text) ≡ Some (32 ∷ text)
+joint_found : (joint : Joint) (text : List ℕ) → behind_joint joint (spaced_joint_text joint ++ text) ≡ Some (32 ∷ text)
 joint_found joints.Or text = refl
 joint_found joints.And text = refl
 
@@ -77,7 +77,7 @@ module _ (event : Name) where
 
   -- several operands
   several : (joint : Joint) (room : ℕ) (front : List ℕ) (tree : Tree) (trees : Trees) → HasTwo (More tree trees) → Gives (below joint) room front tree → MoreGive joint room trees
-      → Gives (Joined joint) room (front ++ more_text joint trees) (both joint (More tree trees))
+      → Gives (Joined joint) room (front ++ more_text joint trees) (tree_of_joint joint (More tree trees))
   several joint room front tree End two one more = absurd two
   several joint room front tree (More next trees) two one more = λ whole rest text h e.
       let behind : List ℕ = more_text joint (More next trees) in
@@ -90,7 +90,7 @@ module _ (event : Name) where
   goes_next joint room tree trees one more whole rest h =
       let front : List ℕ = enclosed_if (needs_enclosing joint tree) (canonical tree) in
       let left : List ℕ = more_text joint trees ++ rest in
-      let spelled : (joint_text joint ++ front ++ more_text joint trees) ++ rest ≡ joint_text joint ++ (front ++ left) = simp append_assoc in
+      let spelled : (spaced_joint_text joint ++ front ++ more_text joint trees) ++ rest ≡ spaced_joint_text joint ++ (front ++ left) = simp append_assoc in
       another joint room _ (32 ∷ (front ++ left)) tree left (Found trees rest) (ap (behind_joint joint) spelled ∙ joint_found joint (front ++ left))
       (one whole left (32 ∷ (front ++ left)) (more_follows joint trees rest h) (skip_gap (front ++ left))) (more whole rest h)
 

@@ -4,14 +4,14 @@ use Rattle.std.proofs.lemmas.Option.{none-some}
 use Rattle.std.specs.Prelude.{true, false, [], Result, Ok, Err, codes, ℤ, pos, negsuc}
 use Rattle.ft_fields.specs.declared.event.Name.TheVariants as names
 use Rattle.ft_fields.specs.declared.field.Field.TheVariants as fields
-use Rattle.ft_tokens.specs.Tokens.{name_at, quoted_at, number_at, number_of}
+use Rattle.ft_text.specs.Tokens.{name_at, quoted_at, number_at, number_of}
 use Rattle.ft_filter.specs.declared.fault.FilterFault.{FilterFault}
 use Rattle.ft_filter.specs.declared.fault.FilterFault.TheVariants.{Syntax, NoField, WrongKind, BadGlob, NumberRange}
 use Rattle.ft_filter.specs.declared.tree.Op.TheVariants as ops
 use Rattle.ft_filter.specs.declared.tree.Literal.TheVariants as literals
 use Rattle.ft_filter.specs.Operators.{op_at}
-use Rattle.ft_filter.specs.Predicate.{text_value, number_value, value_at, comparison_at, pred_at, Stop}
-use Rattle.ft_glob.specs.Matching.{items_of, is_glob, fits, matches}
+use Rattle.ft_filter.specs.Predicate.{text_value, number_value, literal_at, comparison_at, pred_at, Stop}
+use Rattle.ft_text.specs.Matching.{glob_items, is_glob, fits, matches}
 use Rattle.ft_filter.specs.Answers.{going, joined_at, operand_at, filter_of}
 use Rattle.ft_filter.specs.Numbers.{Writes, negative, hexadecimal}
 use Rattle.ft_filter.specs.PredIs.{PredIs}
@@ -21,7 +21,7 @@ use Rattle.ft_filter.proofs.NumberForms.{writes_to}
 use Rattle.ft_filter.proofs.PredLaw.{pred_is}
 
 computing : Unit {0}
-unfolding name_at op_at quoted_at number_at number_of text_value number_value value_at comparison_at pred_at items_of is_glob fits matches going joined_at operand_at filter_of
+unfolding name_at op_at quoted_at number_at number_of text_value number_value literal_at comparison_at pred_at glob_items is_glob fits matches going joined_at operand_at filter_of
 computing = tt
 
 -- a text on a waking

@@ -2,13 +2,13 @@
 use Rattle.std.proofs.Common.{◌≡◌, ◌≤◌, ℕ, suc, Bool, true, false, List, length, drop, Ok, Err, refl, subst, arith, codes, ◌==◌, cond}
 use Rattle.std.specs.List.{starts_with}
 use Rattle.ft_fields.specs.declared.event.Name.{Name}
-use Rattle.ft_tokens.specs.Tokens.{skip}
+use Rattle.ft_text.specs.Tokens.{skip}
 use Rattle.ft_filter.specs.declared.fault.FilterFault.TheVariants.{Syntax}
 use Rattle.ft_filter.specs.declared.tree.Joint.{Joint}
 use Rattle.ft_filter.specs.declared.tree.Joint.TheVariants as joints
 use Rattle.ft_filter.specs.declared.tree.Pred.{Pred}
 use Rattle.ft_filter.specs.Canonical.{is_any, is_joined}
-use Rattle.ft_filter.specs.FilterIs.{Rule, Joined, Operand, below, made, closed, joined, most_open, whole_of, Reads, first, first_fails, negated, enclosed, deep, compared, Goes, ended, another, another_fails, FilterIs}
+use Rattle.ft_filter.specs.FilterIs.{Rule, Joined, Operand, below, made, parenthesised, joined, most_open, whole_of, Reads, first, first_fails, negated, enclosed, deep, compared, Goes, ended, another, another_fails, FilterIs}
 use Rattle.ft_filter.specs.Shape.{HasTwo, level_if, levels, most_levels}
 use Rattle.ft_filter.specs.Predicate.{Read, Found, Stop, place, pred_at}
 use Rattle.ft_filter.specs.Tree.{Tree, Trees, Any, All, Not, Test, End, More}
@@ -92,7 +92,7 @@ module _ (event : Name) where
   not_fits room (Found tree rest) h = record { readable = h.readable; within = let le = h.within in omega arith }
 
   -- what is in parentheses
-  closed_fits : (whole room : ℕ) (read : Read Tree) → ReadFits event (Joined joints.Or) room read → ReadFits event Operand (suc room) (closed whole read)
+  closed_fits : (whole room : ℕ) (read : Read Tree) → ReadFits event (Joined joints.Or) room read → ReadFits event Operand (suc room) (parenthesised whole read)
   closed_fits whole room (Stop fault) h = tt
   closed_fits whole room (Found tree rest) h = from (starts_with ◌==◌ (skip rest) (codes ")"))
     where

@@ -16,9 +16,9 @@ use Rattle.ft_filter.specs.Predicate.{is_match}
 use Rattle.ft_filter.specs.Shape.{CanBeQuoted, SuitsValue, IsPredOf, IsTreeOf, AreTreesOf, IsFilterOf}
 use Rattle.ft_filter.specs.Tree.{Tree, Trees, Any, All, Not, Test, End, More}
 use Rattle.ft_filter.proofs.Again.{canonical_read}
-use Rattle.ft_glob.proofs.Deciding.{is_glob-Decides}
+use Rattle.ft_text.proofs.Deciding.{is_glob-Decides}
 use Rattle.ft_filter.proofs.Fits.{IsReadable, AreReadable, Fits, filter_fits}
-use Rattle.ft_filter.proofs.PredLaw.{suits-Decides, fits-Decides}
+use Rattle.ft_filter.proofs.PredLaw.{suits-Decides, fits_i64-Decides}
 use Rattle.ft_filter.proofs.Preds.{ValueFits, PredFits}
 use Rattle.ft_filter.proofs.Spelled.{IsQuotable}
 use Rattle.ft_filter.proofs.WordCuts.{free_of, all_free}
@@ -54,12 +54,12 @@ fails_from : (b : Bool) (P : Type 0) → Decides b P → b ≡ false → P → �
 fails_from b P decides is p = let e = decides.1 p in cc
 
 value_to : (field : Field) (op : Op) (value : Literal) → SuitsValue field op value → ValueFits (is_text field) op value
-value_to field op (literals.Number z) h = (fails_to (is_text field) _ (λ e. e, λ e. e) h.0, (fits-Decides z).1 h.1)
+value_to field op (literals.Number z) h = (fails_to (is_text field) _ (λ e. e, λ e. e) h.0, (fits_i64-Decides z).1 h.1)
 value_to field op (literals.Text text) h = (h.0, fails_to (is_match op) _ (match-Decides op) h.1, quotable_to text h.2)
 value_to field op (literals.Glob text) h = (h.0, (match-Decides op).1 h.1, (is_glob-Decides text).1 h.2, quotable_to text h.3)
 
 value_from : (field : Field) (op : Op) (value : Literal) → ValueFits (is_text field) op value → SuitsValue field op value
-value_from field op (literals.Number z) h = (fails_from (is_text field) _ (λ e. e, λ e. e) h.0, (fits-Decides z).0 h.1)
+value_from field op (literals.Number z) h = (fails_from (is_text field) _ (λ e. e, λ e. e) h.0, (fits_i64-Decides z).0 h.1)
 value_from field op (literals.Text text) h = (h.0, fails_from (is_match op) _ (match-Decides op) h.1, quotable_from text h.2)
 value_from field op (literals.Glob text) h = (h.0, (match-Decides op).0 h.1, (is_glob-Decides text).0 h.2, quotable_from text h.3)
 

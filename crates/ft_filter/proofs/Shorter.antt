@@ -6,8 +6,8 @@ use Rattle.std.specs.List.{prefix_len, starts_with}
 use Rattle.ft_fields.specs.declared.event.Name.{Name}
 use Rattle.ft_fields.specs.declared.field.Field.{Field}
 use Rattle.ft_fields.specs.Fields.{is_text}
-use Rattle.ft_tokens.specs.Ranged.{fits}
-use Rattle.ft_tokens.specs.Tokens.{skip, name_at, cut_at, quoted_at, number_at, number_of, word_len, run_at, begins_name, is_in_name, is_quote}
+use Rattle.ft_text.specs.Ranged.{fits_i64}
+use Rattle.ft_text.specs.Tokens.{skip, name_at, cut_at, quoted_at, number_at, number_of, word_len, run_at, begins_name, is_in_name, is_quote}
 use Rattle.ft_filter.specs.declared.fault.FilterFault.{FilterFault}
 use Rattle.ft_filter.specs.declared.fault.FilterFault.TheVariants.{Syntax, WrongKind, BadGlob, NumberRange}
 use Rattle.ft_filter.specs.declared.tree.Joint.{Joint}
@@ -15,10 +15,10 @@ use Rattle.ft_filter.specs.declared.tree.Joint.TheVariants as joints
 use Rattle.ft_filter.specs.declared.tree.Literal.{Literal}
 use Rattle.ft_filter.specs.declared.tree.Literal.TheVariants as literals
 use Rattle.ft_filter.specs.declared.tree.Op.{Op}
-use Rattle.ft_glob.specs.Matching.{is_glob}
-use Rattle.ft_filter.specs.Operators.{op_at, begins, all_ops, text_of}
-use Rattle.ft_filter.specs.Predicate.{Read, Found, Stop, place, is_match, literal_of, found_or, passed_or, text_value, number_value, value_at, with_value, comparison_at, pred_at}
-use Rattle.ft_filter.specs.FilterIs.{Rule, behind_joint, made, closed, text_of as joint_text, Reads, first, first_fails, negated, enclosed, deep, compared, Goes, ended, another, another_fails}
+use Rattle.ft_text.specs.Matching.{is_glob}
+use Rattle.ft_filter.specs.Operators.{op_at, begins, all_ops, op_text}
+use Rattle.ft_filter.specs.Predicate.{Read, Found, Stop, place, is_match, literal_of, read_or, passed_or, text_value, number_value, literal_at, pred_with, comparison_at, pred_at}
+use Rattle.ft_filter.specs.FilterIs.{Rule, behind_joint, made, parenthesised, joint_text, Reads, first, first_fails, negated, enclosed, deep, compared, Goes, ended, another, another_fails}
 use Rattle.ft_filter.specs.Tree.{Tree, Trees}
 
 -- what is left after what is read has fewer bytes than n
@@ -32,7 +32,7 @@ less_more n m (Found found rest) le h = omega arith
 less_more n m (Stop fault) le h = tt
 
 -- after a thing that may be missing
-less_found : {A B : Type 0} (n : ℕ) (fault : FilterFault) (o : Option A) (next : A → Read B) → ((x : A) → o ≡ Some x → LeavesLess n (next x)) → LeavesLess n (found_or fault o next)
+less_found : {A B : Type 0} (n : ℕ) (fault : FilterFault) (o : Option A) (next : A → Read B) → ((x : A) → o ≡ Some x → LeavesLess n (next x)) → LeavesLess n (read_or fault o next)
 less_found n fault None next h = tt
 less_found n fault (Some x) next h = h x refl
 
@@ -84,12 +84,12 @@ op_le : (text : List ℕ) (found : Op × List ℕ) → op_at text ≡ Some found
 unfolding op_at
 op_le text found e = from (starts_with ◌==◌ text (codes "&&")) (find (begins text) all_ops) e
   where
-    from : (b : Bool) (o : Option Op) → (if b then None else option_map (λ (op : Op). (op, drop (length (text_of op)) text)) o) ≡ Some found → length found.1 ≤ length text
+    from : (b : Bool) (o : Option Op) → (if b then None else option_map (λ (op : Op). (op, drop (length (op_text op)) text)) o) ≡ Some found → length found.1 ≤ length text
     from true o e = absurd cc
     from false None e = absurd cc
     from false (Some op) e =
         let same = ap (λ (p : Op × List ℕ). length p.1) (same_Some _ _ e) in
-        omega (arith, drop_le (length (text_of op)) text)
+        omega (arith, drop_le (length (op_text op)) text)
 
 -- after a closing quote there is no more
 cut_le : (mark : ℕ) (text : List ℕ) (found : List ℕ × List ℕ) → cut_at mark text ≡ Some found → length found.1 ≤ length text
@@ -140,11 +140,11 @@ number_value_le at text rest =
     less_found _ _ _ _ (λ number is.
     let le = number_le rest number is in
     let lt : length number.1 < suc (length rest) = omega arith in
-    less_passed _ (WrongKind at) (not text) _ (less_passed _ (NumberRange at) (fits number.0) (Found (literals.Number number.0) number.1) lt))
+    less_passed _ (WrongKind at) (not text) _ (less_passed _ (NumberRange at) (fits_i64 number.0) (Found (literals.Number number.0) number.1) lt))
 
 -- after a value there is no more
-value_le : (whole : ℕ) (text : Bool) (op : Op) (rest : List ℕ) → LeavesLess (suc (length rest)) (value_at whole text op rest)
-unfolding value_at
+value_le : (whole : ℕ) (text : Bool) (op : Op) (rest : List ℕ) → LeavesLess (suc (length rest)) (literal_at whole text op rest)
+unfolding literal_at
 value_le whole text op rest = from (is_quote (slice_index rest 0))
   where
     from : (b : Bool) → LeavesLess (suc (length rest)) (if b then text_value (place whole rest) text op rest else number_value (place whole rest) text rest)
@@ -152,7 +152,7 @@ value_le whole text op rest = from (is_quote (slice_index rest 0))
     from false = number_value_le (place whole rest) text rest
 
 -- the predicate with its value leaves the same
-less_with : (n : ℕ) (field : Field) (op : Op) (read : Read Literal) → LeavesLess n read → LeavesLess n (with_value field op read)
+less_with : (n : ℕ) (field : Field) (op : Op) (read : Read Literal) → LeavesLess n read → LeavesLess n (pred_with field op read)
 less_with n field op (Found value rest) h = h
 less_with n field op (Stop fault) h = tt
 
@@ -186,7 +186,7 @@ behind_less joint text behind e = from joint (skip text) (skip_le text) e
         some true e = let same = ap length (same_Some _ _ e) in omega (arith, length-drop 2 (byte ∷ rest))
 
 -- after a closing parenthesis there is no more
-pub less_closed : (n whole : ℕ) (read : Read Tree) → LeavesLess n read → LeavesLess n (closed whole read)
+pub less_closed : (n whole : ℕ) (read : Read Tree) → LeavesLess n read → LeavesLess n (parenthesised whole read)
 less_closed n whole (Stop fault) h = tt
 less_closed n whole (Found tree rest) h = from (starts_with ◌==◌ (skip rest) (codes ")"))
   where

@@ -12,14 +12,14 @@ use Rattle.std.specs.Str.Parse.{digits_value}
 use Rattle.ft_fields.specs.declared.event.Name.{Name}
 use Rattle.ft_fields.specs.declared.field.Field.{Field}
 use Rattle.ft_fields.specs.declared.field.Field.TheVariants as fields
-use Rattle.ft_fields.specs.Fields.{text_of as field_text, is_named, all_fields, has_field}
-use Rattle.ft_tokens.specs.Ranged.{fits}
+use Rattle.ft_fields.specs.Fields.{field_text, is_field_named, all_fields, has_field}
+use Rattle.ft_text.specs.Ranged.{fits_i64}
 use Rattle.ft_text.proofs.Numbers.{digits_all}
-use Rattle.ft_tokens.specs.Tokens.{is_gap, skip, begins_name, is_in_name, name_at, is_quote, cut_at, quoted_at, is_decimal, number_of, word_len, number_at}
+use Rattle.ft_text.specs.Tokens.{is_gap, skip, begins_name, is_in_name, name_at, is_quote, cut_at, quoted_at, is_decimal, number_of, word_len, number_at}
 use Rattle.ft_filter.specs.declared.tree.Op.{Op}
 use Rattle.ft_filter.specs.declared.tree.Op.TheVariants as ops
 use Rattle.ft_filter.specs.Canonical.{quoted}
-use Rattle.ft_filter.specs.Operators.{text_of, op_at}
+use Rattle.ft_filter.specs.Operators.{op_text, op_at}
 
 -- no letter, no digit and no `_` stands first
 abbrev pub Apart : List ℕ → Type 0
@@ -89,7 +89,7 @@ name_first fields.NextComm rest = omega arith
 name_first fields.Lat rest = omega arith
 
 -- a field of the event is found by its name
-pub field_again : (event : Name) (field : Field) → has_field event field ≡ true → find (is_named event (field_text field)) all_fields ≡ Some field
+pub field_again : (event : Name) (field : Field) → has_field event field ≡ true → find (is_field_named event (field_text field)) all_fields ≡ Some field
 field_again event fields.CommonPid h = refl
 field_again event fields.CommonCpu h = refl
 field_again event fields.Pid h = rw h refl
@@ -106,7 +106,7 @@ field_again event fields.NextComm h = rw h refl
 field_again event fields.Lat h = rw h refl
 
 -- an operator before a space is read
-pub op_again : (op : Op) (rest : List ℕ) → op_at (text_of op ++ 32 ∷ rest) ≡ Some (op, 32 ∷ rest)
+pub op_again : (op : Op) (rest : List ℕ) → op_at (op_text op ++ 32 ∷ rest) ≡ Some (op, 32 ∷ rest)
 unfolding op_at
 op_again ops.Eq rest = refl
 op_again ops.Ne rest = refl
@@ -118,7 +118,7 @@ op_again ops.Bits rest = refl
 op_again ops.Glob rest = refl
 
 -- no space and no tab begins an operator
-pub op_first : (op : Op) (rest : List ℕ) → is_gap (slice_index (text_of op ++ rest) 0) ≡ false
+pub op_first : (op : Op) (rest : List ℕ) → is_gap (slice_index (op_text op ++ rest) 0) ≡ false
 op_first ops.Eq rest = refl
 op_first ops.Ne rest = refl
 op_first ops.Lt rest = refl
@@ -288,7 +288,7 @@ unfolding number_at
 number_word word rest z len is = rw (len, take-append_seam word rest, drop-append_seam word rest, is) refl
 
 -- a number is read
-pub number_again : (z : ℤ) (rest : List ℕ) → fits z ≡ true → Apart rest → number_at (signed_decimal z ++ rest) ≡ Some (z, rest)
+pub number_again : (z : ℤ) (rest : List ℕ) → fits_i64 z ≡ true → Apart rest → number_at (signed_decimal z ++ rest) ≡ Some (z, rest)
 number_again (pos n) rest fit apart =
     let le = leb-true n 9223372036854775807 fit in
     let lt : n < 2 ^ 64 = omega arith in
@@ -307,7 +307,7 @@ digit_first (byte ∷ word) rest some digits =
     let high = digit_above byte (and_parts (is_ascii_digit byte) (list_all is_ascii_digit word) digits).0 in omega arith
 
 -- neither a space nor a quote begins a number
-pub number_first : (z : ℤ) (rest : List ℕ) → fits z ≡ true → 45 ≤ slice_index (signed_decimal z ++ rest) 0
+pub number_first : (z : ℤ) (rest : List ℕ) → fits_i64 z ≡ true → 45 ≤ slice_index (signed_decimal z ++ rest) 0
 number_first (pos n) rest fit =
     let le = leb-true n 9223372036854775807 fit in
     let lt : n < 2 ^ 64 = omega arith in

@@ -4,15 +4,15 @@ use Rattle.std.specs.Prelude.{◌⊎◌, ◌≢◌, Result, Ok, Err, slice_index
 use Rattle.std.specs.List.{starts_with}
 use Rattle.std.proofs.lemmas.Bool.{eq-eqb, and_from, true≢false}
 use Rattle.ft_fields.specs.declared.event.Name.{Name}
-use Rattle.ft_tokens.specs.Tokens.{skip}
+use Rattle.ft_text.specs.Tokens.{skip}
 use Rattle.ft_filter.specs.declared.fault.FilterFault.{FilterFault}
 use Rattle.ft_filter.specs.declared.fault.FilterFault.TheVariants.{Memory, Syntax, TooDeep}
 use Rattle.ft_filter.specs.declared.tree.Joint.{Joint}
 use Rattle.ft_filter.specs.declared.tree.Joint.TheVariants as joints
 use Rattle.ft_filter.specs.declared.reading.Parsed.{Parsed}
 use Rattle.ft_filter.specs.Predicate.{Read, Found, Stop, place, pred_at}
-use Rattle.ft_filter.specs.FilterIs.{whole_of, Reads, Goes, Joined, Operand, below, behind_joint, both, made, closed, first, negated, enclosed, deep, compared, ended, another, another_fails}
-use Rattle.ft_filter.specs.inner.Given.{GivesTree, GoesOn}
+use Rattle.ft_filter.specs.FilterIs.{whole_of, Reads, Goes, Joined, Operand, below, behind_joint, tree_of_joint, made, parenthesised, first, negated, enclosed, deep, compared, ended, another, another_fails}
+use Rattle.ft_filter.specs.inner.Given.{GivesTree, OperandsFollow}
 use Rattle.ft_filter.specs.Tree.{Tree, Trees, Not, Test, End, More, trees}
 use Rattle.ft_filter.specs.Answers.{filter_of}
 use Rattle.ft_filter.proofs.Unique.{filter_is}
@@ -43,8 +43,8 @@ module _ (event : Name) (whole : ℕ) where
   pub not_of : (room less : ℕ) (text behind : List ℕ) (read : Read Tree) → room ≡ suc less → skip text ≡ 33 ∷ behind → Reads event whole Operand less behind read → Reads event whole Operand room text (made Not read)
   not_of room less text behind read more is reads = subst (λ r. Reads event whole Operand r text (made Not read)) (sym more) (negated less text behind read is reads)
 
-  pub enclosing : (room less : ℕ) (text behind : List ℕ) (read : Read Tree) → room ≡ suc less → skip text ≡ 40 ∷ behind → Reads event whole (Joined joints.Or) less behind read → Reads event whole Operand room text (closed whole read)
-  enclosing room less text behind read more is reads = subst (λ r. Reads event whole Operand r text (closed whole read)) (sym more) (enclosed less text behind read is reads)
+  pub enclosing : (room less : ℕ) (text behind : List ℕ) (read : Read Tree) → room ≡ suc less → skip text ≡ 40 ∷ behind → Reads event whole (Joined joints.Or) less behind read → Reads event whole Operand room text (parenthesised whole read)
+  enclosing room less text behind read more is reads = subst (λ r. Reads event whole Operand r text (parenthesised whole read)) (sym more) (enclosed less text behind read is reads)
 
   pub compared_so : (room : ℕ) (text skipped : List ℕ) → skipped ≡ skip text → starts_with eqb skipped (33 ∷ []) ≡ false → starts_with eqb skipped (40 ∷ []) ≡ false
       → (read : Read Tree) → read ≡ made Test (pred_at event whole skipped) → Reads event whole Operand room text read
@@ -58,11 +58,11 @@ module _ (event : Name) (whole : ℕ) where
   pub alone : (joint : Joint) (room : ℕ) (text rest : List ℕ) (tree : Tree) → Reads event whole (below joint) room text (Found tree rest) → behind_joint joint rest ≡ None → Reads event whole (Joined joint) room text (Found tree rest)
   alone joint room text rest tree reads none = first joint room text tree rest (Found End rest) reads (ended joint room rest none)
 
-  pub first_of : (joint : Joint) (room : ℕ) (text rest : List ℕ) (tree : Tree) → Reads event whole (below joint) room text (Found tree rest) → (read : Read Tree) → GoesOn event whole joint room tree rest read → Reads event whole (Joined joint) room text read
+  pub first_of : (joint : Joint) (room : ℕ) (text rest : List ℕ) (tree : Tree) → Reads event whole (below joint) room text (Found tree rest) → (read : Read Tree) → OperandsFollow event whole joint room tree rest read → Reads event whole (Joined joint) room text read
   first_of joint room text rest tree reads read (more, goes, is) = subst (Reads event whole (Joined joint) room text) (sym is) (first joint room text tree rest more reads goes)
 
   -- a joint and no operand
-  pub fails_behind : (joint : Joint) (room : ℕ) (rest behind : List ℕ) (tree : Tree) (fault : FilterFault) → behind_joint joint rest ≡ Some behind → Reads event whole (below joint) room behind (Stop fault) → GoesOn event whole joint room tree rest (Stop fault)
+  pub fails_behind : (joint : Joint) (room : ℕ) (rest behind : List ℕ) (tree : Tree) (fault : FilterFault) → behind_joint joint rest ≡ Some behind → Reads event whole (below joint) room behind (Stop fault) → OperandsFollow event whole joint room tree rest (Stop fault)
   fails_behind joint room rest behind tree fault is reads = (Stop fault, another_fails joint room rest behind fault is reads, refl)
 
   -- whatever completes the rest completes the whole
@@ -72,7 +72,7 @@ module _ (event : Name) (whole : ℕ) where
       → Goes event whole joint room start (made (before others) read)
 
   pub enclosed_so : (room less : ℕ) (text behind rest : List ℕ) (tree : Tree) → room ≡ suc less → skip text ≡ 40 ∷ behind → Reads event whole (Joined joints.Or) less behind (Found tree rest)
-      → (read : Read Tree) → read ≡ closed whole (Found tree rest) → Reads event whole Operand room text read
+      → (read : Read Tree) → read ≡ parenthesised whole (Found tree rest) → Reads event whole Operand room text read
   enclosed_so room less text behind rest tree more is reads read so = subst (Reads event whole Operand room text) (sym so) (enclosing room less text behind (Found tree rest) more is reads)
 
   pub negated_so : (room less : ℕ) (text behind rest : List ℕ) (tree : Tree) → room ≡ suc less → skip text ≡ 33 ∷ behind → Reads event whole Operand less behind (Found tree rest)
@@ -92,16 +92,16 @@ module _ (event : Name) (whole : ℕ) where
 
   pub fails_next : (joint : Joint) (room : ℕ) (behind rest next : List ℕ) (others : List Tree) (fault : FilterFault) → Completes joint room behind rest others
       → behind_joint joint rest ≡ Some next → Reads event whole (below joint) room next (Stop fault)
-      → (start : List ℕ) → behind_joint joint start ≡ Some behind → (tree : Tree) → GoesOn event whole joint room tree start (Stop fault)
+      → (start : List ℕ) → behind_joint joint start ≡ Some behind → (tree : Tree) → OperandsFollow event whole joint room tree start (Stop fault)
   fails_next joint room behind rest next others fault completes is reads start starts tree =
       (Stop fault, completes start starts (Stop fault) (another_fails joint room rest next fault is reads), refl)
 
   pub completes_all : (joint : Joint) (room : ℕ) (behind rest : List ℕ) (others : List Tree) → Completes joint room behind rest others
-      → behind_joint joint rest ≡ None → (start : List ℕ) → behind_joint joint start ≡ Some behind → (tree whole_tree : Tree) → 0 < length others → whole_tree ≡ both joint (trees (tree ∷ others))
-      → GoesOn event whole joint room tree start (Found whole_tree rest)
+      → behind_joint joint rest ≡ None → (start : List ℕ) → behind_joint joint start ≡ Some behind → (tree whole_tree : Tree) → 0 < length others → whole_tree ≡ tree_of_joint joint (trees (tree ∷ others))
+      → OperandsFollow event whole joint room tree start (Found whole_tree rest)
   completes_all joint room behind rest [] completes none start starts tree whole_tree some is = absurd (omega arith)
   completes_all joint room behind rest (next ∷ others) completes none start starts tree whole_tree some is =
-      (Found (before (next ∷ others) End) rest, completes start starts (Found End rest) (ended joint room rest none), ap (λ t. Found t rest) (is ∙ ap (λ ts. both joint (More tree (More next ts))) (sym (before-End others))))
+      (Found (before (next ∷ others) End) rest, completes start starts (Found End rest) (ended joint room rest none), ap (λ t. Found t rest) (is ∙ ap (λ ts. tree_of_joint joint (More tree (More next ts))) (sym (before-End others))))
 
 -- ---- a whole text
 

@@ -1,13 +1,13 @@
 -- What the grammar relates to a text is what is worked out of it.
 use Rattle.std.proofs.Common.{◌≡◌, ◌≢◌, ◌⊎◌, ◌<◌, ◌≤◌, ℕ, zero, suc, inl, inr, List, ◌∷◌, length, Some, None, Result, refl, sym, ap, ◌∙◌, arith, slice_index, ne_eqb}
 use Rattle.ft_fields.specs.declared.event.Name.{Name}
-use Rattle.ft_tokens.specs.Tokens.{skip}
+use Rattle.ft_text.specs.Tokens.{skip}
 use Rattle.ft_filter.specs.declared.fault.FilterFault.{FilterFault}
 use Rattle.ft_filter.specs.declared.fault.FilterFault.TheVariants.{TooDeep}
 use Rattle.ft_filter.specs.declared.tree.Joint.{Joint}
 use Rattle.ft_filter.specs.declared.tree.Joint.TheVariants as joints
 use Rattle.ft_filter.specs.Predicate.{Read, Found, Stop, pred_at}
-use Rattle.ft_filter.specs.FilterIs.{Rule, Joined, Operand, below, behind_joint, made, closed, joined, whole_of, most_open, Reads, first, first_fails, negated, enclosed, deep, compared, Goes, ended, another, another_fails, FilterIs}
+use Rattle.ft_filter.specs.FilterIs.{Rule, Joined, Operand, below, behind_joint, made, parenthesised, joined, whole_of, most_open, Reads, first, first_fails, negated, enclosed, deep, compared, Goes, ended, another, another_fails, FilterIs}
 use Rattle.ft_filter.specs.Answers.{going, joined_at, operand_at, operands_at, filter_of}
 use Rattle.ft_filter.specs.Tree.{Tree, Trees, Not, Test, End, More}
 use Rattle.ft_filter.proofs.Shorter.{reads_less, behind_less}
@@ -34,7 +34,7 @@ operand_not event whole room text behind e = rw e refl
 
 -- after a `(`
 operand_paren : (event : Name) (whole room : ℕ) (text behind : List ℕ) → skip text ≡ 40 ∷ behind
-    → operand_at event whole (suc room) text ≡ closed whole (operands_at (operand_at event whole room) behind)
+    → operand_at event whole (suc room) text ≡ parenthesised whole (operands_at (operand_at event whole room) behind)
 unfolding operand_at
 operand_paren event whole room text behind e = rw e refl
 
@@ -108,7 +108,7 @@ module _ (event : Name) (whole : ℕ) where
     reads_is rule room text read (negated room' text' behind inside is one) =
         ap (made Not) (reads_is _ _ _ _ one) ∙ sym (operand_not event whole room' text' behind is)
     reads_is rule room text read (enclosed room' text' behind inside is one) =
-        ap (closed whole) (reads_is _ _ _ _ one) ∙ sym (operand_paren event whole room' text' behind is)
+        ap (parenthesised whole) (reads_is _ _ _ _ one) ∙ sym (operand_paren event whole room' text' behind is)
     reads_is rule room text read (deep text' behind byte is opens) = sym (operand_deep event whole text' behind byte is opens)
     reads_is rule room text read (compared room' text' no_not no_paren) = sym (operand_compared event whole room' text' no_not no_paren)
 

@@ -11,13 +11,13 @@ use Rattle.std.specs.List.{prefix_len, list_all, starts_with}
 use Rattle.std.specs.Str.{bytes_eq}
 use Rattle.ft_fields.specs.declared.event.Name.{Name}
 use Rattle.ft_fields.specs.declared.field.Field.{Field}
-use Rattle.ft_fields.specs.Fields.{text_of as field_text, is_named, all_fields, has_field}
+use Rattle.ft_fields.specs.Fields.{field_text, is_field_named, all_fields, has_field}
 use Rattle.ft_event.proofs.Runs.{IsRun, run_len, run_splits, label_joined}
-use Rattle.ft_tokens.specs.Tokens.{is_gap, skip, begins_name, is_in_name, name_at, is_quote, cut_at, quoted_at}
+use Rattle.ft_text.specs.Tokens.{is_gap, skip, begins_name, is_in_name, name_at, is_quote, cut_at, quoted_at}
 use Rattle.ft_filter.specs.declared.tree.Op.{Op}
 use Rattle.ft_filter.specs.declared.tree.Op.TheVariants as ops
-use Rattle.ft_filter.specs.Operators.{text_of, all_ops, op_at}
-use Rattle.ft_filter.specs.PredIs.{IsBehindGap, IsName, IsFieldOf, IsOperator, IsQuoted}
+use Rattle.ft_filter.specs.Operators.{op_text, all_ops, op_at}
+use Rattle.ft_filter.specs.PredIs.{IsBehindGap, BeginsWithName, IsFieldOf, IsOperator, IsQuoted}
 use Rattle.ft_filter.proofs.Preds.{find_passes}
 use Rattle.ft_filter.proofs.Spelled.{field_again, quote_cases, quotes_found}
 
@@ -38,36 +38,36 @@ gap_from text = let r = run_splits is_gap text in record { gap = take (prefix_le
 
 -- ---- names
 
-pub name_to : (text : List ℕ) (cut : List ℕ × List ℕ) → IsName text cut.0 cut.1 → name_at text ≡ Some cut
+pub name_to : (text : List ℕ) (cut : List ℕ × List ℕ) → BeginsWithName text cut.0 cut.1 → name_at text ≡ Some cut
 unfolding name_at
 name_to text cut h =
     let begins = h.begins in
     let run = run_found is_in_name text cut.0 cut.1 (record { joined = h.joined; passes = h.letters; stops = h.longest }) in
     rw (begins, run.0, run.1) refl
 
-pub name_from : (text : List ℕ) (cut : List ℕ × List ℕ) → name_at text ≡ Some cut → IsName text cut.0 cut.1
+pub name_from : (text : List ℕ) (cut : List ℕ × List ℕ) → name_at text ≡ Some cut → BeginsWithName text cut.0 cut.1
 unfolding name_at
 name_from text cut e =
     let begins = cond_some (begins_name (slice_index text 0)) (take (prefix_len is_in_name text) text, drop (prefix_len is_in_name text) text) cut e in
     let r = run_splits is_in_name text in
-    let here : IsName text (take (prefix_len is_in_name text) text) (drop (prefix_len is_in_name text) text) =
+    let here : BeginsWithName text (take (prefix_len is_in_name text) text) (drop (prefix_len is_in_name text) text) =
     record { joined = r.joined; begins = begins.0; letters = r.passes; longest = r.stops } in
-    subst (λ (x : List ℕ × List ℕ). IsName text x.0 x.1) begins.1 here
+    subst (λ (x : List ℕ × List ℕ). BeginsWithName text x.0 x.1) begins.1 here
 
 -- ---- fields
 
-pub field_to : (event : Name) (name : List ℕ) (field : Field) → IsFieldOf event name field → find (is_named event name) all_fields ≡ Some field
-field_to event name field h = ap (λ (t : List ℕ). find (is_named event t) all_fields) h.0 ∙ field_again event field h.1
+pub field_to : (event : Name) (name : List ℕ) (field : Field) → IsFieldOf event name field → find (is_field_named event name) all_fields ≡ Some field
+field_to event name field h = ap (λ (t : List ℕ). find (is_field_named event t) all_fields) h.0 ∙ field_again event field h.1
 
-pub field_from : (event : Name) (name : List ℕ) (field : Field) → find (is_named event name) all_fields ≡ Some field → IsFieldOf event name field
+pub field_from : (event : Name) (name : List ℕ) (field : Field) → find (is_field_named event name) all_fields ≡ Some field → IsFieldOf event name field
 field_from event name field e =
-    let both = and_parts (bytes_eq (field_text field) name) (has_field event field) (find_passes (is_named event name) all_fields field e) in
+    let both = and_parts (bytes_eq (field_text field) name) (has_field event field) (find_passes (is_field_named event name) all_fields field e) in
     (sym ((bytes_eq-Decides (field_text field) name).0 both.0), both.1)
 
 -- ---- operators
 
 -- an operator of two bytes is found wherever it stands
-pub op_long : (op : Op) (rest : List ℕ) → 2 ≤ length (text_of op) → op_at (text_of op ++ rest) ≡ Some (op, rest)
+pub op_long : (op : Op) (rest : List ℕ) → 2 ≤ length (op_text op) → op_at (op_text op ++ rest) ≡ Some (op, rest)
 unfolding op_at
 op_long ops.Eq rest long = refl
 op_long ops.Ne rest long = refl
@@ -105,20 +105,20 @@ unfolding op_at
 bits_twice rest = refl
 
 -- no longer operator stands there
-no_longer : (byte : ℕ) (op other : Op) (rest : List ℕ) → text_of other ≡ byte ∷ 61 ∷ [] → length (text_of op) ≡ 1
-    → ((behind : List ℕ) → byte ∷ rest ≡ text_of other ++ behind → length (text_of other) ≤ length (text_of op)) → slice_index rest 0 ≢ 61
+no_longer : (byte : ℕ) (op other : Op) (rest : List ℕ) → op_text other ≡ byte ∷ 61 ∷ [] → length (op_text op) ≡ 1
+    → ((behind : List ℕ) → byte ∷ rest ≡ op_text other ++ behind → length (op_text other) ≤ length (op_text op)) → slice_index rest 0 ≢ 61
 no_longer byte op other [] is one longest e = absurd (omega arith)
 no_longer byte op other (b ∷ rest) is one longest e =
-    let stands : byte ∷ b ∷ rest ≡ text_of other ++ rest = ap (λ (x : ℕ). byte ∷ x ∷ rest) e ∙ sym (ap (λ (t : List ℕ). t ++ rest) is) in
+    let stands : byte ∷ b ∷ rest ≡ op_text other ++ rest = ap (λ (x : ℕ). byte ∷ x ∷ rest) e ∙ sym (ap (λ (t : List ℕ). t ++ rest) is) in
     let le = longest rest stands in
-    let two : length (text_of other) ≡ 2 = ap length is in
+    let two : length (op_text other) ≡ 2 = ap length is in
     absurd (omega arith)
 
 pub op_to : (text : List ℕ) (cut : Op × List ℕ) → IsOperator text cut.0 cut.1 → op_at text ≡ Some cut
 op_to text cut h = ap op_at h.joined ∙ from cut.0 cut.1 h.alone (λ other behind e. h.longest other behind (h.joined ∙ e))
   where
-    from : (op : Op) (rest : List ℕ) → (op ≡ ops.Bits → slice_index rest 0 ≢ 38) → ((other : Op) (behind : List ℕ) → text_of op ++ rest ≡ text_of other ++ behind → length (text_of other) ≤ length (text_of op))
-        → op_at (text_of op ++ rest) ≡ Some (op, rest)
+    from : (op : Op) (rest : List ℕ) → (op ≡ ops.Bits → slice_index rest 0 ≢ 38) → ((other : Op) (behind : List ℕ) → op_text op ++ rest ≡ op_text other ++ behind → length (op_text other) ≤ length (op_text op))
+        → op_at (op_text op ++ rest) ≡ Some (op, rest)
     from ops.Eq rest alone longest = op_long ops.Eq rest (omega arith)
     from ops.Ne rest alone longest = op_long ops.Ne rest (omega arith)
     from ops.Le rest alone longest = op_long ops.Le rest (omega arith)
@@ -129,7 +129,7 @@ op_to text cut h = ap op_at h.joined ∙ from cut.0 cut.1 h.alone (λ other behi
     from ops.Glob rest alone longest = glob_found rest
 
 -- each operator has one byte or two
-op_some : (op : Op) → 1 ≤ length (text_of op)
+op_some : (op : Op) → 1 ≤ length (op_text op)
 op_some ops.Eq = omega arith
 op_some ops.Ne = omega arith
 op_some ops.Le = omega arith
@@ -139,7 +139,7 @@ op_some ops.Gt = omega arith
 op_some ops.Bits = omega arith
 op_some ops.Glob = omega arith
 
-op_short : (op : Op) → (length (text_of op) ≡ 1) ⊎ (2 ≤ length (text_of op))
+op_short : (op : Op) → (length (op_text op) ≡ 1) ⊎ (2 ≤ length (op_text op))
 op_short ops.Eq = inr (omega arith)
 op_short ops.Ne = inr (omega arith)
 op_short ops.Le = inr (omega arith)
@@ -150,19 +150,19 @@ op_short ops.Bits = inl refl
 op_short ops.Glob = inl refl
 
 -- what is found stands there
-op_stands : (text : List ℕ) (cut : Op × List ℕ) → op_at text ≡ Some cut → text ≡ text_of cut.0 ++ cut.1
+op_stands : (text : List ℕ) (cut : Op × List ℕ) → op_at text ≡ Some cut → text ≡ op_text cut.0 ++ cut.1
 unfolding op_at
 op_stands text cut e = from (starts_with ◌==◌ text (codes "&&")) e
   where
-    found : (o : Option Op) → find (λ op. starts_with ◌==◌ text (text_of op)) all_ops ≡ o → option_map (λ op. (op, drop (length (text_of op)) text)) o ≡ Some cut → text ≡ text_of cut.0 ++ cut.1
+    found : (o : Option Op) → find (λ op. starts_with ◌==◌ text (op_text op)) all_ops ≡ o → option_map (λ op. (op, drop (length (op_text op)) text)) o ≡ Some cut → text ≡ op_text cut.0 ++ cut.1
     found None is e = absurd cc
     found (Some op) is e =
-        let stands = label_joined (text_of op) text (find_passes (λ op. starts_with ◌==◌ text (text_of op)) all_ops op is) in
-        subst (λ (x : Op × List ℕ). text ≡ text_of x.0 ++ x.1) (same_Some _ _ e) stands
+        let stands = label_joined (op_text op) text (find_passes (λ op. starts_with ◌==◌ text (op_text op)) all_ops op is) in
+        subst (λ (x : Op × List ℕ). text ≡ op_text x.0 ++ x.1) (same_Some _ _ e) stands
 
-    from : (b : Bool) → cond b None (option_map (λ op. (op, drop (length (text_of op)) text)) (find (λ op. starts_with ◌==◌ text (text_of op)) all_ops)) ≡ Some cut → text ≡ text_of cut.0 ++ cut.1
+    from : (b : Bool) → cond b None (option_map (λ op. (op, drop (length (op_text op)) text)) (find (λ op. starts_with ◌==◌ text (op_text op)) all_ops)) ≡ Some cut → text ≡ op_text cut.0 ++ cut.1
     from true e = absurd cc
-    from false e = found (find (λ op. starts_with ◌==◌ text (text_of op)) all_ops) refl e
+    from false e = found (find (λ op. starts_with ◌==◌ text (op_text op)) all_ops) refl e
 
 -- a `&` that is found stands alone
 op_alone : (text rest : List ℕ) → op_at text ≡ Some (ops.Bits, rest) → text ≡ 38 ∷ rest → slice_index rest 0 ≢ 38
@@ -181,12 +181,12 @@ op_from text cut e =
         | inr two ↦
             let found : Some (other, behind) ≡ Some cut = sym (ap op_at also ∙ op_long other behind two) ∙ e in
             let same : other ≡ cut.0 = ap (λ (x : Op × List ℕ). x.0) (same_Some _ _ found) in
-            let len : length (text_of other) ≡ length (text_of cut.0) = ap (λ (o : Op). length (text_of o)) same in
+            let len : length (op_text other) ≡ length (op_text cut.0) = ap (λ (o : Op). length (op_text o)) same in
             omega arith
       ];
       alone = λ bits.
           let is : op_at text ≡ Some (ops.Bits, cut.1) = e ∙ ap (λ (o : Op). Some (o, cut.1)) bits in
-          op_alone text cut.1 is (stands ∙ ap (λ (o : Op). text_of o ++ cut.1) bits);
+          op_alone text cut.1 is (stands ∙ ap (λ (o : Op). op_text o ++ cut.1) bits);
     }
 
 -- ---- quoted texts
@@ -249,7 +249,7 @@ quoted_from (mark ∷ text) cut e = from (is_quote mark) refl e
 pub gaps : (text rest : List ℕ) → (skip text ≡ rest) ↔ IsBehindGap text rest
 gaps text rest = (λ e. subst (IsBehindGap text) e (gap_from text), gap_to text rest)
 
-pub names : (text name rest : List ℕ) → (name_at text ≡ Some (name, rest)) ↔ IsName text name rest
+pub names : (text name rest : List ℕ) → (name_at text ≡ Some (name, rest)) ↔ BeginsWithName text name rest
 names text name rest = (name_from text (name, rest), name_to text (name, rest))
 
 pub operators : (text : List ℕ) (op : Op) (rest : List ℕ) → (op_at text ≡ Some (op, rest)) ↔ IsOperator text op rest

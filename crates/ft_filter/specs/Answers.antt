@@ -1,13 +1,13 @@
 -- The answer to a filter's text, worked out from the left.
 use Rattle.std.specs.Prelude.{ℕ, zero, suc, ◌==◌, List, length, drop, slice_index, Option, Some, None, Result, Ok, Err, ◌≡◌, ◌⊎◌, if◌then◌else◌}
 use Rattle.ft_fields.specs.declared.event.Name.{Name}
-use Rattle.ft_tokens.specs.Tokens.{skip}
+use Rattle.ft_text.specs.Tokens.{skip}
 use Rattle.ft_filter.specs.declared.fault.FilterFault.{FilterFault}
 use Rattle.ft_filter.specs.declared.fault.FilterFault.TheVariants.{Memory, TooDeep}
 use Rattle.ft_filter.specs.declared.tree.Joint.{Joint}
 use Rattle.ft_filter.specs.declared.tree.Joint.TheVariants as joints
 use Rattle.ft_filter.specs.Predicate.{Read, Found, Stop, pred_at}
-use Rattle.ft_filter.specs.FilterIs.{behind_joint, joined, made, closed, most_open, whole_of}
+use Rattle.ft_filter.specs.FilterIs.{behind_joint, joined, made, parenthesised, most_open, whole_of}
 use Rattle.ft_filter.specs.Tree.{Tree, Trees, Not, Test, End, More, Condition}
 
 -- what follows where a tree is read, and else its fault
@@ -44,7 +44,7 @@ operand_with event whole behind_not behind_paren text =
 unfoldable pub operand_at : Name → ℕ → ℕ → List ℕ → Read Tree
 operand_at event whole zero text = operand_with event whole (λ rest. Stop TooDeep) (λ rest. Stop TooDeep) (skip text)
 operand_at event whole (suc room) text =
-    operand_with event whole (λ rest. made Not (operand_at event whole room rest)) (λ rest. closed whole (operands_at (operand_at event whole room) rest)) (skip text)
+    operand_with event whole (λ rest. made Not (operand_at event whole room rest)) (λ rest. parenthesised whole (operands_at (operand_at event whole room) rest)) (skip text)
 
 -- what a text on an event is: a filter with this tree, or the first fault
 unfoldable pub filter_of : Name → List ℕ → Result Tree FilterFault

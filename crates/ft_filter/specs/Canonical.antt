@@ -2,13 +2,13 @@
 use Rattle.std.specs.Prelude.{ℕ, Bool, true, false, ◌==◌, List, [], ◌++◌, codes, not, if◌then◌else◌}
 use Rattle.std.specs.Fmt.{signed_decimal}
 use Rattle.std.specs.List.{list_all}
-use Rattle.ft_fields.specs.Fields.{text_of as field_text}
+use Rattle.ft_fields.specs.Fields.{field_text}
 use Rattle.ft_filter.specs.declared.tree.Literal.{Literal}
 use Rattle.ft_filter.specs.declared.tree.Literal.TheVariants as literals
 use Rattle.ft_filter.specs.declared.tree.Pred.{Pred}
 use Rattle.ft_filter.specs.declared.tree.Joint.{Joint}
 use Rattle.ft_filter.specs.declared.tree.Joint.TheVariants as joints
-use Rattle.ft_filter.specs.Operators.{text_of}
+use Rattle.ft_filter.specs.Operators.{op_text}
 use Rattle.ft_filter.specs.Tree.{Tree, Trees, Any, All, Not, Test, End, More}
 
 -- a text in double quotes, or in single quotes where it holds a double one
@@ -17,19 +17,19 @@ quoted text =
     if list_all (λ byte. not (byte == 34)) text then codes "\"" ++ text ++ codes "\"" else codes "'" ++ text ++ codes "'"
 
 -- a value: a number in decimal digits, after a `-` where it is negative, or a quoted text
-abbrev pub value_text : Literal → List ℕ
-value_text (literals.Number number) = signed_decimal number
-value_text (literals.Text text) = quoted text
-value_text (literals.Glob text) = quoted text
+abbrev pub literal_text : Literal → List ℕ
+literal_text (literals.Number number) = signed_decimal number
+literal_text (literals.Text text) = quoted text
+literal_text (literals.Glob text) = quoted text
 
 -- a field, an operator and a value, with spaces between
 unfoldable pub pred_text : Pred → List ℕ
-pred_text pred = field_text pred.field ++ codes " " ++ text_of pred.op ++ codes " " ++ value_text pred.value
+pred_text pred = field_text pred.field ++ codes " " ++ op_text pred.op ++ codes " " ++ literal_text pred.value
 
 -- the joint with a space at each side
-abbrev pub joint_text : Joint → List ℕ
-joint_text joints.Or = codes " || "
-joint_text joints.And = codes " && "
+abbrev pub spaced_joint_text : Joint → List ℕ
+spaced_joint_text joints.Or = codes " || "
+spaced_joint_text joints.And = codes " && "
 
 -- a text in parentheses, where the test says so
 abbrev pub enclosed_if : Bool → List ℕ → List ℕ
@@ -71,4 +71,4 @@ abbrev mutual
   -- the texts of operands, each after a joint
   pub more_text : Joint → Trees → List ℕ
   more_text joint End = []
-  more_text joint (More tree trees) = joint_text joint ++ enclosed_if (needs_enclosing joint tree) (canonical tree) ++ more_text joint trees
+  more_text joint (More tree trees) = spaced_joint_text joint ++ enclosed_if (needs_enclosing joint tree) (canonical tree) ++ more_text joint trees

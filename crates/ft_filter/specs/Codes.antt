@@ -18,28 +18,28 @@ pub data Sign : Type 0 where
   TestSign : Pred → Sign
 
 -- a sign's number, or its predicate
-abbrev pub number_of : Sign → ℕ ⊎ Pred
-number_of AnySign = inl 0
-number_of AllSign = inl 1
-number_of NotSign = inl 2
-number_of EndSign = inl 3
-number_of (TestSign pred) = inr pred
+abbrev pub sign_number : Sign → ℕ ⊎ Pred
+sign_number AnySign = inl 0
+sign_number AllSign = inl 1
+sign_number NotSign = inl 2
+sign_number EndSign = inl 3
+sign_number (TestSign pred) = inr pred
 
 -- the sign of a number
-abbrev pub sign_of : ℕ ⊎ Pred → Sign
-sign_of (inl zero) = AnySign
-sign_of (inl (suc zero)) = AllSign
-sign_of (inl (suc (suc zero))) = NotSign
-sign_of (inl (suc (suc (suc n)))) = EndSign
-sign_of (inr pred) = TestSign pred
+abbrev pub sign_from_code : ℕ ⊎ Pred → Sign
+sign_from_code (inl zero) = AnySign
+sign_from_code (inl (suc zero)) = AllSign
+sign_from_code (inl (suc (suc zero))) = NotSign
+sign_from_code (inl (suc (suc (suc n)))) = EndSign
+sign_from_code (inr pred) = TestSign pred
 
 -- a sign has the number that it is given
-pub sign_of-number_of : (sign : Sign) → sign_of (number_of sign) ≡ sign
-sign_of-number_of AnySign = refl
-sign_of-number_of AllSign = refl
-sign_of-number_of NotSign = refl
-sign_of-number_of EndSign = refl
-sign_of-number_of (TestSign pred) = refl
+pub sign_from_code-sign_number : (sign : Sign) → sign_from_code (sign_number sign) ≡ sign
+sign_from_code-sign_number AnySign = refl
+sign_from_code-sign_number AllSign = refl
+sign_from_code-sign_number NotSign = refl
+sign_from_code-sign_number EndSign = refl
+sign_from_code-sign_number (TestSign pred) = refl
 
 abbrev mutual
   -- a tree's signs before others
@@ -105,7 +105,7 @@ mutual
 
 -- a sign, stored as its number or its predicate
 abbrev pub sign_code : Coded Sign
-sign_code = code_by (ℕ ⊎ Pred) (coded⊎ coded_ℕ pred.the_row.coded) number_of sign_of sign_of-number_of
+sign_code = code_by (ℕ ⊎ Pred) (coded⊎ coded_ℕ pred.the_row.coded) sign_number sign_from_code sign_from_code-sign_number
 
 -- a tree, stored as its signs
 abbrev pub tree_code : Coded Tree

@@ -4,21 +4,21 @@ use Rattle.ft_filter.specs.declared.fault.FilterFault.{FilterFault}
 use Rattle.ft_filter.specs.declared.fault.FilterFault.TheVariants.{Memory, Syntax, NoField, WrongKind, BadGlob, NumberRange, TooDeep}
 
 -- the number that a refusal prints
-abbrev pub number_of : FilterFault → ℕ
-number_of Memory = 1
-number_of (Syntax place) = 2
-number_of (NoField place) = 3
-number_of (WrongKind place) = 4
-number_of (BadGlob place) = 5
-number_of (NumberRange place) = 6
-number_of TooDeep = 7
+abbrev pub filter_number : FilterFault → ℕ
+filter_number Memory = 1
+filter_number (Syntax place) = 2
+filter_number (NoField place) = 3
+filter_number (WrongKind place) = 4
+filter_number (BadGlob place) = 5
+filter_number (NumberRange place) = 6
+filter_number TooDeep = 7
 
 -- the byte that it is at, where it has a place
-abbrev pub place_of : FilterFault → Option ℕ
-place_of Memory = None
-place_of (Syntax place) = Some place
-place_of (NoField place) = Some place
-place_of (WrongKind place) = Some place
-place_of (BadGlob place) = Some place
-place_of (NumberRange place) = Some place
-place_of TooDeep = None
+abbrev pub filter_place : FilterFault → Option ℕ
+filter_place Memory = None
+filter_place (Syntax place) = Some place
+filter_place (NoField place) = Some place
+filter_place (WrongKind place) = Some place
+filter_place (BadGlob place) = Some place
+filter_place (NumberRange place) = Some place
+filter_place TooDeep = None

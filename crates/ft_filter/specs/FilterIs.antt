@@ -8,7 +8,7 @@
 use Rattle.std.specs.Prelude.{◌≡◌, ◌≢◌, ◌⊎◌, ℕ, suc, ◌==◌, List, ◌∷◌, length, drop, slice_index, Option, Some, None, Result, Ok, Err, if◌then◌else◌, codes}
 use Rattle.std.specs.List.{starts_with}
 use Rattle.ft_fields.specs.declared.event.Name.{Name}
-use Rattle.ft_tokens.specs.Tokens.{skip}
+use Rattle.ft_text.specs.Tokens.{skip}
 use Rattle.ft_filter.specs.declared.fault.FilterFault.{FilterFault}
 use Rattle.ft_filter.specs.declared.fault.FilterFault.TheVariants.{Syntax, TooDeep}
 use Rattle.ft_filter.specs.declared.tree.Joint.{Joint}
@@ -27,23 +27,23 @@ below joints.Or = Joined joints.And
 below joints.And = Operand
 
 -- how a filter writes the joint (kernel: events.rst, event filtering)
-abbrev pub text_of : Joint → List ℕ
-text_of joints.Or = codes "||"
-text_of joints.And = codes "&&"
+abbrev pub joint_text : Joint → List ℕ
+joint_text joints.Or = codes "||"
+joint_text joints.And = codes "&&"
 
 -- what is after the joint, where it stands next
 abbrev pub behind_joint : Joint → List ℕ → Option (List ℕ)
-behind_joint joint text = if starts_with ◌==◌ (skip text) (text_of joint) then Some (drop 2 (skip text)) else None
+behind_joint joint text = if starts_with ◌==◌ (skip text) (joint_text joint) then Some (drop 2 (skip text)) else None
 
 -- operands of a joint, at least two
-abbrev pub both : Joint → Trees → Tree
-both joints.Or trees = Any trees
-both joints.And trees = All trees
+abbrev pub tree_of_joint : Joint → Trees → Tree
+tree_of_joint joints.Or trees = Any trees
+tree_of_joint joints.And trees = All trees
 
 -- a first operand and those after it: one operand alone stands for itself
 abbrev pub joined : Joint → Tree → Trees → Tree
 joined joint tree End = tree
-joined joint tree (More next trees) = both joint (More tree (More next trees))
+joined joint tree (More next trees) = tree_of_joint joint (More tree (More next trees))
 
 -- what is read, with something made of it
 abbrev pub made : {A B : Type 0} → (A → B) → Read A → Read B
@@ -51,10 +51,10 @@ made f (Found found rest) = Found (f found) rest
 made f (Stop fault) = Stop fault
 
 -- the tree in parentheses, where the closing one stands after it (kernel: events.rst, event filtering)
-abbrev pub closed : ℕ → Read Tree → Read Tree
-closed whole (Found tree rest) =
+abbrev pub parenthesised : ℕ → Read Tree → Read Tree
+parenthesised whole (Found tree rest) =
     if starts_with ◌==◌ (skip rest) (codes ")") then Found tree (drop 1 (skip rest)) else Stop (Syntax (place whole (skip rest)))
-closed whole (Stop fault) = Stop fault
+parenthesised whole (Stop fault) = Stop fault
 
 mutual
   -- the rule reads the front of a text of an event's filter, in which so many more `(` and `!` may be opened: a tree and the rest, or the first fault (kernel: events.rst, event filtering)
@@ -74,7 +74,7 @@ mutual
     -- `(`, operands, `)`
     enclosed : (room : ℕ) (text behind : List ℕ) (read : Read Tree) → skip text ≡ 40 ∷ behind
         → Reads event whole (Joined joints.Or) room behind read
-        → Reads event whole Operand (suc room) text (closed whole read)
+        → Reads event whole Operand (suc room) text (parenthesised whole read)
     -- a `!` or `(` too many
     deep : (text behind : List ℕ) (byte : ℕ) → skip text ≡ byte ∷ behind → (byte ≡ 33) ⊎ (byte ≡ 40)
         → Reads event whole Operand 0 text (Stop TooDeep)

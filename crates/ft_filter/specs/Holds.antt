@@ -13,7 +13,7 @@ use Rattle.ft_filter.specs.declared.tree.Op.TheVariants as ops
 use Rattle.ft_filter.specs.declared.tree.Literal.{Literal}
 use Rattle.ft_filter.specs.declared.tree.Literal.TheVariants as literals
 use Rattle.ft_filter.specs.declared.tree.Pred.{Pred}
-use Rattle.ft_glob.specs.Matching.{matches}
+use Rattle.ft_text.specs.Matching.{matches}
 use Rattle.ft_filter.specs.Predicate.{is_match}
 use Rattle.ft_filter.specs.Tree.{Tree, Trees, Any, All, Not, Test, End, More}
 

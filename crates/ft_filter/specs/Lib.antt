@@ -14,7 +14,7 @@ pub mod inner
 pub use Rattle.ft_fields.specs.Fields
 pub use Rattle.ft_event.specs.LineIs
 pub use Rattle.ft_fields.specs.Traced
-pub use Rattle.ft_glob.specs.Glob
-pub use Rattle.ft_glob.specs.Matching
-pub use Rattle.ft_tokens.specs.Ranged
-pub use Rattle.ft_tokens.specs.Tokens
+pub use Rattle.ft_text.specs.Glob
+pub use Rattle.ft_text.specs.Matching
+pub use Rattle.ft_text.specs.Ranged
+pub use Rattle.ft_text.specs.Tokens

@@ -4,18 +4,18 @@ use Rattle.std.specs.Int.{w64}
 use Rattle.std.specs.List.{list_all}
 use Rattle.ft_fields.specs.declared.event.Name.{Name}
 use Rattle.ft_fields.specs.declared.field.Field.{Field}
-use Rattle.ft_fields.specs.Fields.{text_of as field_text, has_field, is_text}
+use Rattle.ft_fields.specs.Fields.{field_text, has_field, is_text}
 use Rattle.ft_event.specs.LineIs.{Where, WhereCut, Stops}
-use Rattle.ft_tokens.specs.Tokens.{is_gap, begins_name, is_in_name}
+use Rattle.ft_text.specs.Tokens.{is_gap, begins_name, is_in_name}
 use Rattle.ft_filter.specs.declared.fault.FilterFault.TheVariants.{Syntax, NoField, WrongKind, BadGlob, NumberRange}
 use Rattle.ft_filter.specs.declared.tree.Op.{Op}
 use Rattle.ft_filter.specs.declared.tree.Op.TheVariants as ops
 use Rattle.ft_filter.specs.declared.tree.Literal.{Literal}
 use Rattle.ft_filter.specs.declared.tree.Literal.TheVariants as literals
 use Rattle.ft_filter.specs.declared.tree.Pred.{Pred}
-use Rattle.ft_glob.specs.Glob.{IsGlob}
+use Rattle.ft_text.specs.Glob.{IsGlob}
 use Rattle.ft_filter.specs.Numbers.{IsNumber}
-use Rattle.ft_filter.specs.Operators.{text_of}
+use Rattle.ft_filter.specs.Operators.{op_text}
 use Rattle.ft_filter.specs.Predicate.{Read, Found, Stop, place}
 
 -- ---- words
@@ -28,7 +28,7 @@ pub record IsBehindGap (text rest : List ℕ) : Type 0 where
   pub longest : Stops is_gap rest
 
 -- the text is a name, which is the longest run of letters, digits and `_` and begins with no digit, and the rest (kernel: events.rst, event filtering)
-pub record IsName (text name rest : List ℕ) : Type 0 where
+pub record BeginsWithName (text name rest : List ℕ) : Type 0 where
   pub joined : text ≡ name ++ rest
   pub begins : IsTrue (begins_name (slice_index text 0))
   pub letters : IsTrue (list_all is_in_name name)
@@ -40,8 +40,8 @@ IsFieldOf event name field = (name ≡ field_text field) × IsTrue (has_field ev
 
 -- the text is an operator, the longest that stands there, and the rest; a `&` before a `&` is none (kernel: events.rst, event filtering; the `&` is our own choice)
 pub record IsOperator (text : List ℕ) (op : Op) (rest : List ℕ) : Type 0 where
-  pub joined : text ≡ text_of op ++ rest
-  pub longest : (other : Op) (behind : List ℕ) → text ≡ text_of other ++ behind → length (text_of other) ≤ length (text_of op)
+  pub joined : text ≡ op_text op ++ rest
+  pub longest : (other : Op) (behind : List ℕ) → text ≡ op_text other ++ behind → length (op_text other) ≤ length (op_text op)
   pub alone : op ≡ ops.Bits → slice_index rest 0 ≢ 38
 
 -- the text is a `"` or `'`, a text without that quote, the quote again, and the rest (our own choice: there are no escapes)
@@ -64,13 +64,13 @@ IsToken text (Token.Text inside) rest = IsQuoted text inside rest
 -- ---- what they give
 
 -- the operators of fields that hold texts, and of fields that hold numbers (kernel: events.rst, event filtering)
-abbrev pub ops_of : Bool → List Op
-ops_of true = ops.Eq ∷ ops.Ne ∷ ops.Glob ∷ []
-ops_of false = ops.Eq ∷ ops.Ne ∷ ops.Lt ∷ ops.Le ∷ ops.Gt ∷ ops.Ge ∷ ops.Bits ∷ []
+abbrev pub operators_of : Bool → List Op
+operators_of true = ops.Eq ∷ ops.Ne ∷ ops.Glob ∷ []
+operators_of false = ops.Eq ∷ ops.Ne ∷ ops.Lt ∷ ops.Le ∷ ops.Gt ∷ ops.Ge ∷ ops.Bits ∷ []
 
 -- the operator is one of the field's kind (kernel: events.rst, event filtering)
 abbrev pub SuitsField : Field → Op → Type 0
-SuitsField field op = Contains (ops_of (is_text field)) op
+SuitsField field op = Contains (operators_of (is_text field)) op
 
 -- the predicate of its three parts
 abbrev pub pred_of : Field → Op → Literal → Pred
@@ -109,7 +109,7 @@ OperatorGives whole field text read =
 -- a text, which no space and no tab begins, gives this predicate of the event and the rest, or this first fault, with its place in the whole (kernel: events.rst, event filtering)
 unfoldable pub PredIs : Name → ℕ → List ℕ → Read Pred → Type 0
 PredIs event whole text read =
-    WhereCut (λ (cut : List ℕ × List ℕ). IsName text cut.0 cut.1)
+    WhereCut (λ (cut : List ℕ × List ℕ). BeginsWithName text cut.0 cut.1)
     (λ cut. WhereCut (IsFieldOf event cut.0)
     (λ field. (operator : List ℕ) × IsBehindGap cut.1 operator × OperatorGives whole field operator read)
     (read ≡ Stop (NoField (place whole text))))

@@ -12,7 +12,7 @@ use Rattle.ft_filter.specs.declared.tree.Op.{Op}
 use Rattle.ft_filter.specs.declared.tree.Op.TheVariants as ops
 use Rattle.ft_filter.specs.declared.tree.Pred.{Pred}
 use Rattle.ft_filter.specs.Canonical.{is_joined, needs_enclosing}
-use Rattle.ft_glob.specs.Glob.{IsGlob}
+use Rattle.ft_text.specs.Glob.{IsGlob}
 use Rattle.ft_filter.specs.PredIs.{SuitsField}
 use Rattle.ft_filter.specs.Tree.{Tree, Trees, Any, All, Not, Test, End, More}
 

@@ -1,7 +1,7 @@
 //! What may be wrong with a filter's text.
 
 ghost use Rattle.std.specs.Prelude.{◌≡◌};
-ghost use Rattle.ft_filter.specs.FilterFault.{number_of, place_of};
+ghost use Rattle.ft_filter.specs.FilterFault.{filter_number, filter_place};
 
 use thiserror::Error;
 
@@ -34,7 +34,7 @@ pub enum FilterFault {
 impl FilterFault {
     /// Its number in the desk's texts.
     pub fn number(self) -> u8
-        ensures { result ≡ number_of self }
+        ensures { result ≡ filter_number self }
     {
         match self {
             FilterFault::Memory => 1,
@@ -49,7 +49,7 @@ impl FilterFault {
 
     /// The byte of the text that it is at, from 0, where it has a place.
     pub fn place(self) -> Option<usize>
-        ensures { result ≡ place_of self }
+        ensures { result ≡ filter_place self }
     {
         match self {
             FilterFault::Syntax(place)

@@ -2,7 +2,7 @@
 
 ghost use Rattle.std.specs.Prelude.{◌≡◌, ◌↔◌, ℕ, ℤ, List, Some, Result, Ok};
 ghost use Rattle.ft_fields.specs.declared.event.Name.{Name};
-ghost use Rattle.ft_tokens.specs.Tokens.{skip, name_at, quoted_at, number_at, number_of};
+ghost use Rattle.ft_text.specs.Tokens.{skip, name_at, quoted_at, number_at, number_of};
 ghost use Rattle.ft_filter.specs.declared.fault.FilterFault.{FilterFault};
 ghost use Rattle.ft_filter.specs.declared.tree.Op.{Op};
 ghost use Rattle.ft_filter.specs.declared.tree.Pred.{Pred};
@@ -11,7 +11,7 @@ ghost use Rattle.ft_filter.specs.Canonical.{canonical};
 ghost use Rattle.ft_filter.specs.FilterIs.{FilterIs};
 ghost use Rattle.ft_filter.specs.Numbers.{Writes, IsNumber};
 ghost use Rattle.ft_filter.specs.Operators.{op_at};
-ghost use Rattle.ft_filter.specs.PredIs.{PredIs, IsBehindGap, IsName, IsOperator, IsQuoted};
+ghost use Rattle.ft_filter.specs.PredIs.{PredIs, IsBehindGap, BeginsWithName, IsOperator, IsQuoted};
 ghost use Rattle.ft_filter.specs.Predicate.{Read, pred_at};
 ghost use Rattle.ft_filter.specs.Shape.{IsFilterOf};
 ghost use Rattle.ft_filter.specs.Tree.{Tree};
@@ -49,7 +49,7 @@ pub fn predicates_of_texts()
 pub fn words_of_texts()
     ensures gap { (text rest : List ℕ) → (skip text ≡ rest) ↔ IsBehindGap text rest }
     ensures name { (text name rest : List ℕ)
-        → (name_at text ≡ Some (name, rest)) ↔ IsName text name rest }
+        → (name_at text ≡ Some (name, rest)) ↔ BeginsWithName text name rest }
     ensures operator { (text : List ℕ) (op : Op) (rest : List ℕ)
         → (op_at text ≡ Some (op, rest)) ↔ IsOperator text op rest }
     ensures quoted { (text inside rest : List ℕ)

@@ -50,8 +50,7 @@ mod writing;
 
 pub use fault::FilterFault;
 pub use filter::Filter;
-pub use ft_glob::{glob, is_glob};
-pub use ft_tokens::{is_gap, name_at, skip};
+pub use ft_text::{glob, is_gap, is_glob, name_at, skip};
 pub use laws::{
     numbers_of_words, one_answer, predicates_of_texts, reads_again, trees_of_texts, words_of_texts,
 };

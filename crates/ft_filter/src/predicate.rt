@@ -2,16 +2,15 @@
 
 ghost use Rattle.std.specs.Prelude.{◌≡◌, not, ◌||◌, IsTrue, IfOk};
 ghost use Rattle.ft_fields.specs.Fields.{is_text};
-ghost use Rattle.ft_glob.specs.Matching.{is_glob};
-ghost use Rattle.ft_filter.specs.Predicate.{place, pred_at, comparison_at, value_at, text_value, number_value, is_match, literal_of};
+ghost use Rattle.ft_text.specs.Matching.{is_glob};
+ghost use Rattle.ft_filter.specs.Predicate.{place, pred_at, comparison_at, literal_at, text_value, number_value, is_match, literal_of};
 ghost use Rattle.ft_filter.specs.inner.Given.{GivesPred, GivesValue};
 
 use crate::fault::FilterFault;
 use crate::operators::op_at;
 use crate::tree::{Literal, Op, Pattern, Pred, Text};
 use ft_fields::{Field, Name, field_named};
-use ft_glob::is_glob;
-use ft_tokens::{Number, is_quote, name_at, number_at, quoted_at, skip};
+use ft_text::{Number, is_glob, is_quote, name_at, number_at, quoted_at, skip};
 use std::alloc::{AllocError, Global};
 
 /// What a text is read for.
@@ -87,9 +86,9 @@ fn comparison(source: Source, field: Field, text: &[u8]) -> Result<Compared<'_>,
 }
 
 /// Reads the value after an operator, for a field that holds texts or one that holds numbers.
-#[tactic(auto, unfolding(crate::specs::Predicate::value_at))]
+#[tactic(auto, unfolding(crate::specs::Predicate::literal_at))]
 fn value(source: Source, is_text: bool, op: Op, text: &[u8]) -> Result<Valued<'_>, FilterFault>
-    ensures { GivesValue (value_at source.len is_text op text.now) result }
+    ensures { GivesValue (literal_at source.len is_text op text.now) result }
 {
     match text.first() {
         Some(first) if is_quote(*first) => text_value(source, is_text, op, text),

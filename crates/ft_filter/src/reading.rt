@@ -4,11 +4,11 @@
 
 ghost use Rattle.std.specs.Prelude.{◌≡◌, ◌<◌, ◌++◌, ◌∷◌, [], ℕ, List, length, Some, Result, Ok, IfOk, IfErr, OnOk, IfSome};
 ghost use Rattle.std.specs.Option.{option_copied};
-ghost use Rattle.ft_tokens.specs.Tokens.{skip};
+ghost use Rattle.ft_text.specs.Tokens.{skip};
 ghost use Rattle.ft_filter.specs.Predicate.{pred_at, Found};
-ghost use Rattle.ft_filter.specs.FilterIs.{FilterIs, Reads, Joined, Operand, below, behind_joint, both, made, closed};
+ghost use Rattle.ft_filter.specs.FilterIs.{FilterIs, Reads, Joined, Operand, below, behind_joint, tree_of_joint, made, parenthesised};
 ghost use Rattle.ft_filter.specs.Answers.{filter_of, GivesFilter};
-ghost use Rattle.ft_filter.specs.inner.Given.{GivesTree, GoesOn};
+ghost use Rattle.ft_filter.specs.inner.Given.{GivesTree, OperandsFollow};
 ghost use Rattle.ft_filter.specs.Tree.{tree_of, trees_in, trees, Not, Test};
 
 use crate::fault::FilterFault;
@@ -16,7 +16,7 @@ use crate::filter::Filter;
 use crate::predicate::{Source, predicate};
 use crate::tree::{Expr, Exprs, Joint};
 use ft_fields::Name;
-use ft_tokens::skip;
+use ft_text::skip;
 use std::alloc::Global;
 
 /// How many `(` and `!` may be open at once.
@@ -103,7 +103,7 @@ fn read_more<'a>(
     behind: &'a [u8],
 ) -> Result<Parsed<'a>, FilterFault>
     ensures reads { (rest : List ℕ) → behind_joint joint rest ≡ Some behind.now →
-        GivesTree (GoesOn source.event source.len joint room (tree_of first) rest) result }
+        GivesTree (OperandsFollow source.event source.len joint room (tree_of first) rest) result }
     ensures shorter { IfOk result (λ parsed. length parsed.rest.now < length behind.now) }
 {
     let mut operands = Exprs::new(source.alloc);
@@ -195,7 +195,7 @@ fn negated(alloc: Global, operand: Expr, rest: &[u8]) -> Result<Parsed<'_>, Filt
 
 /// What is in parentheses, where the closing one stands in the text after it.
 fn closed(source: Source, inside: Expr, rest: &[u8]) -> Result<Parsed<'_>, FilterFault>
-    ensures reads { GivesTree (λ read. read ≡ closed source.len (Found (tree_of inside) rest.now))
+    ensures reads { GivesTree (λ read. read ≡ parenthesised source.len (Found (tree_of inside) rest.now))
         result }
     ensures shorter { IfOk result (λ parsed. length parsed.rest.now < length rest.now) }
 {
@@ -222,7 +222,7 @@ fn add(operands: &mut Exprs, expr: Expr) -> Result<(), FilterFault>
 
 /// What a joint makes of operands.
 fn joined(joint: Joint, operands: Exprs) -> Expr
-    ensures { tree_of result ≡ both joint (trees (trees_in operands)) }
+    ensures { tree_of result ≡ tree_of_joint joint (trees (trees_in operands)) }
 {
     match joint {
         Joint::Or => Expr::Any(operands),

@@ -1,13 +1,13 @@
 //! Filters as trees.
 
 ghost use Rattle.std.specs.Prelude.{◌≡◌, ◌++◌, ◌∷◌, [], OnOk, OnErr, IfOk, IsTrue};
-ghost use Rattle.ft_glob.specs.Matching.{is_glob, matches};
-ghost use Rattle.ft_filter.specs.Operators.{text_of};
+ghost use Rattle.ft_text.specs.Matching.{is_glob, matches};
+ghost use Rattle.ft_filter.specs.Operators.{op_text};
 ghost use Rattle.ft_filter.specs.Predicate.{suits};
-ghost use Rattle.ft_filter.specs.FilterIs.{text_of as joint_text};
+ghost use Rattle.ft_filter.specs.FilterIs.{joint_text};
 
 use ft_fields::Field;
-use ft_glob::glob;
+use ft_text::glob;
 use std::alloc::{AllocError, Global};
 use std::marker::Model;
 
@@ -124,7 +124,7 @@ impl Text {
 
 impl Model for Pattern {
     ghost use Rattle.std.specs.Prelude.{ℕ, List, IsTrue};
-    ghost use Rattle.ft_glob.specs.Matching.{is_glob};
+    ghost use Rattle.ft_text.specs.Matching.{is_glob};
 
     ghost Value = { List ℕ };
 
@@ -190,7 +190,7 @@ impl Exprs {
 impl Op {
     /// How a filter writes it.
     pub fn text(self) -> &'static [u8]
-        ensures { result.now ≡ text_of self }
+        ensures { result.now ≡ op_text self }
     {
         match self {
             Op::Eq => b"==",

@@ -4,7 +4,7 @@
 
 ghost use Rattle.std.specs.Prelude.{◌≡◌, ◌++◌, ◌==◌, not, OnOk, OnErr, map};
 ghost use Rattle.std.specs.List.{list_all};
-ghost use Rattle.ft_filter.specs.Canonical.{canonical, pred_text, value_text, quoted, joint_text, enclosed_if, is_joined, needs_enclosing, joined_text};
+ghost use Rattle.ft_filter.specs.Canonical.{canonical, pred_text, literal_text, quoted, spaced_joint_text, enclosed_if, is_joined, needs_enclosing, joined_text};
 ghost use Rattle.ft_text.specs.Fronts.{IsFront};
 ghost use Rattle.ft_filter.specs.Tree.{tree_of, trees};
 
@@ -108,7 +108,7 @@ fn needs_enclosing(joint: Joint, expr: &Expr) -> bool
 
 /// Adds a joint, with a space at each side.
 fn write_joint(joint: Joint, text: &mut Vec<u8>) -> Result<(), AllocError>
-    ensures ok { OnOk result (text.new.items ≡ text.old.items ++ joint_text joint) }
+    ensures ok { OnOk result (text.new.items ≡ text.old.items ++ spaced_joint_text joint) }
     ensures err { OnErr result (IsFront text.old.items text.new.items) }
 {
     match joint {
@@ -132,7 +132,7 @@ fn write_pred(pred: &Pred, text: &mut Vec<u8>) -> Result<(), AllocError>
 
 /// Adds a value.
 fn write_value(value: &Literal, text: &mut Vec<u8>) -> Result<(), AllocError>
-    ensures ok { OnOk result (text.new.items ≡ text.old.items ++ value_text value.now) }
+    ensures ok { OnOk result (text.new.items ≡ text.old.items ++ literal_text value.now) }
     ensures err { OnErr result (IsFront text.old.items text.new.items) }
 {
     match value {

@@ -11,15 +11,15 @@ use Rattle.std.proofs.lemmas.List.Elements.{filter-append}
 use Rattle.std.proofs.lemmas.List.Folds.{list_any-append, list_any_at}
 use Rattle.ft_fields.specs.declared.pos.Pos.{Pos}
 use Rattle.ft_fields.specs.Traced.{Traced}
-use Rattle.ft_keys.specs.declared.key.Part.{Part}
-use Rattle.ft_keys.specs.Parts.{key_cmp}
-use Rattle.ft_keys.specs.Orders.{key_cmp_total}
-use Rattle.ft_keys.specs.Ties.{key_same}
+use Rattle.ft_fields.specs.declared.key.Part.{Part}
+use Rattle.ft_fields.specs.Parts.{key_cmp}
+use Rattle.ft_fields.specs.Orders.{key_cmp_total}
+use Rattle.ft_fields.specs.Ties.{key_same}
 use Rattle.ft_hist.specs.Hist.{Hist}
 use Rattle.ft_hist.specs.Hit.{hit}
 use Rattle.ft_maps.specs.Entries.{same_from_tie}
 use Rattle.ft_groups.specs.Grouped.{same_key, is_under, run_under, Grouped, run_of, AreGrouped}
-use Rattle.ft_groups.specs.inner.Adding.{Adds}
+use Rattle.ft_groups.specs.inner.Adding.{AddsEvent}
 use Rattle.ft_groups.specs.inner.Comes.{Comes}
 
 -- events with their places by key
@@ -100,7 +100,7 @@ unlike_more keys key unlike none i j d before within same =
 -- ---- a hit
 
 module _ (hist : Hist) (es : List (Pos × Traced)) (e : Pos × Traced) (key : List Part) (old new : Grouped)
-    (is : hit hist e.1 ≡ Some key) (adds : Adds key e old new) (was : AreFilled hist es old) where
+    (is : hit hist e.1 ≡ Some key) (adds : AddsEvent key e old new) (was : AreFilled hist es old) where
   abbrev its_run : List (Pos × Traced)
   its_run = run_of old key ++ e ∷ []
 

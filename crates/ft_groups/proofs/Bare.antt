@@ -23,7 +23,7 @@ use Rattle.ft_hist.specs.Hist.{Hist}
 use Rattle.ft_hist.specs.Hit.{part_of, key_of, same_name, passes_filter, is_asked, hit}
 use Rattle.ft_hist.specs.Modifiers.{value_part}
 use Rattle.ft_hist.specs.Values.{number_of_field, value_of, value_at, values_of}
-use Rattle.ft_keys.specs.declared.key.Part.{Part}
+use Rattle.ft_fields.specs.declared.key.Part.{Part}
 use Rattle.ft_store.specs.Stored.{bare_wake, bare_turn, bare_body, bare}
 use Rattle.ft_groups.specs.inner.Numbers.{asks_text, asks_numbers, asked_part}
 

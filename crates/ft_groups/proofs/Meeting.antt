@@ -13,11 +13,11 @@ use Rattle.ft_hist.specs.Hit.{key_of, same_name, passes_filter, hit}
 use Rattle.ft_hist.specs.Modifiers.{value_part}
 use Rattle.ft_hist.specs.Tree.{Tree}
 use Rattle.ft_hist.specs.declared.item.KeyItem.{KeyItem}
-use Rattle.ft_keys.specs.declared.key.Part.{Part}
-use Rattle.ft_store.specs.Stored.{as_number, number_of}
+use Rattle.ft_fields.specs.declared.key.Part.{Part}
+use Rattle.ft_store.specs.Stored.{as_number, field_number}
 use Rattle.ft_groups.specs.declared.met.Slot.{Slot}
 use Rattle.ft_groups.specs.inner.Met.{noted, IsIn, IsKeyOf, AreMet}
-use Rattle.ft_groups.specs.inner.Numbers.{asks_text, asks_numbers, only_field, number_field, counted_by}
+use Rattle.ft_groups.specs.inner.Numbers.{asks_text, asks_numbers, only_field, number_key_field, counted_by}
 use Rattle.ft_groups.proofs.Bare.{numbers_mean}
 use Rattle.ft_groups.proofs.Placing.{get_front}
 
@@ -36,7 +36,7 @@ value_of_number (Some (values.Num n)) number is = ap (λ z. Some (values.Num z))
 value_of_number (Some (values.Text text)) number is = absurd (none-some number is)
 
 -- the only key item makes the key that its number tells
-only_key : (items : List KeyItem) (event : Traced) (number : ℤ) → option_and_then (number_of event) (only_field items) ≡ Some number → key_of items event ≡ key_by items number
+only_key : (items : List KeyItem) (event : Traced) (number : ℤ) → option_and_then (field_number event) (only_field items) ≡ Some number → key_of items event ≡ key_by items number
 only_key [] event number is = absurd (none-some number is)
 only_key (item ∷ []) event number is =
     ap (λ (value : Option Value). option_and_then (λ part. Some (part ∷ [])) (option_and_then (value_part item.mode) value))
@@ -50,12 +50,12 @@ module _ (hist : Hist) (event : Traced) (number : ℤ) where
       ∙ ap (λ (tree : Option Tree). cond (passes_filter tree event) (key_of hist.keys event) None) unfiltered
 
   by_field : (b : Bool) → asks_numbers hist ≡ b → same_name hist.event (name_of event.body) ≡ true
-      → option_and_then (number_of event) (cond b (only_field hist.keys) None) ≡ Some number → hit hist event ≡ key_by hist.keys number
+      → option_and_then (field_number event) (cond b (only_field hist.keys) None) ≡ Some number → hit hist event ≡ key_by hist.keys number
   by_field true numbers named is =
       asked named (numbers_mean hist.filter (list_any asks_text hist.keys) numbers).0 ∙ only_key hist.keys event number is
   by_field false numbers named is = absurd (none-some number is)
 
-  by_name : (b : Bool) → same_name hist.event (name_of event.body) ≡ b → cond b (option_and_then (number_of event) (number_field hist)) None ≡ Some number
+  by_name : (b : Bool) → same_name hist.event (name_of event.body) ≡ b → cond b (option_and_then (field_number event) (number_key_field hist)) None ≡ Some number
       → hit hist event ≡ key_by hist.keys number
   by_name true named is = by_field (asks_numbers hist) refl named is
   by_name false named is = absurd (none-some number is)

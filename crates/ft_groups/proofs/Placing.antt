@@ -9,15 +9,15 @@ use Rattle.std.proofs.lemmas.Option.{none-some, same_Some, slice_get_within}
 use Rattle.std.proofs.Math.Seq.{get_or-append_seam}
 use Rattle.ft_fields.specs.declared.pos.Pos.{Pos}
 use Rattle.ft_fields.specs.Traced.{Traced}
-use Rattle.ft_keys.specs.declared.key.Part.{Part}
-use Rattle.ft_keys.specs.Parts.{key_cmp}
-use Rattle.ft_keys.specs.Orders.{key_cmp_total}
-use Rattle.ft_keys.specs.Ties.{key_same}
+use Rattle.ft_fields.specs.declared.key.Part.{Part}
+use Rattle.ft_fields.specs.Parts.{key_cmp}
+use Rattle.ft_fields.specs.Orders.{key_cmp_total}
+use Rattle.ft_fields.specs.Ties.{key_same}
 use Rattle.ft_maps.specs.Entries.{same_from_tie}
 use Rattle.ft_maps.specs.Mapped.{get-map_by, map_by-empty}
 use Rattle.ft_groups.specs.Grouped.{same_key, Grouped, run_of}
-use Rattle.ft_groups.specs.inner.Adding.{Adds}
-use Rattle.ft_groups.specs.inner.Placed.{run_at, listed, ArePlaced}
+use Rattle.ft_groups.specs.inner.Adding.{AddsEvent}
+use Rattle.ft_groups.specs.inner.Placed.{nth_run, grouped_by_places, AreIndexed}
 
 abbrev Run : Type 0
 Run = List (Pos × Traced)
@@ -50,7 +50,7 @@ module _ {X : Type 0} where
 -- ---- no keys
 
 -- where there are no keys, each stands where its place says
-pub none_placed : ArePlaced [] [] map.empty
+pub none_placed : AreIndexed [] [] map.empty
 none_placed = record {
   many = refl;
   stands = λ key place e. absurd (none-some place (sym (get-empty key_cmp key) ∙ e));
@@ -58,41 +58,41 @@ none_placed = record {
 }
 
 -- and nothing is listed
-pub none_listed : listed [] [] map.empty ≡ record { keys = []; runs = map.empty }
-none_listed = ap (λ (runs : FinMap key_cmp Run). record { keys = []; runs = runs }) (map_by-empty (run_at []) key_cmp)
+pub none_listed : grouped_by_places [] [] map.empty ≡ record { keys = []; runs = map.empty }
+none_listed = ap (λ (runs : FinMap key_cmp Run). record { keys = []; runs = runs }) (map_by-empty (nth_run []) key_cmp)
 
 -- ---- one key
 
 -- the run of a key is that at its place, if it has one
 pub run_listed : (keys : List (List Part)) (runs : List Run) (places : Places) (key : List Part) (o : Option ℕ) → map.get places key ≡ o
-    → map.get (listed keys runs places).runs key ≡ option_map (run_at runs) o
-run_listed keys runs places key o is = get-map_by (run_at runs) key_cmp_total places key ∙ ap (option_map (run_at runs)) is
+    → map.get (grouped_by_places keys runs places).runs key ≡ option_map (nth_run runs) o
+run_listed keys runs places key o is = get-map_by (nth_run runs) key_cmp_total places key ∙ ap (option_map (nth_run runs)) is
 
 -- a key is the same as itself
 itself : (q key : List Part) → q ≡ key → same_key q key ≡ true
 itself q key e = ap (λ k. same_key k key) e ∙ (eq_by_cmp_equiv key_cmp_total).refl key
 
 -- a place of a key is within the runs
-pub place_within : (keys : List (List Part)) (runs : List Run) (places : Places) → ArePlaced keys runs places
+pub place_within : (keys : List (List Part)) (runs : List Run) (places : Places) → AreIndexed keys runs places
     → (key : List Part) (place : ℕ) → map.get places key ≡ Some place → place < length runs
 place_within keys runs places placed key place at = omega (arith, placed.many, slice_get_within keys place key (placed.stands key place at))
 
-module _ (keys : List (List Part)) (runs : List Run) (places : Places) (placed : ArePlaced keys runs places) (key : List Part) (e : Pos × Traced) where
+module _ (keys : List (List Part)) (runs : List Run) (places : Places) (placed : AreIndexed keys runs places) (key : List Part) (e : Pos × Traced) where
   abbrev before : Grouped
-  before = listed keys runs places
+  before = grouped_by_places keys runs places
 
-  held : (q : List Part) → map.get before.runs q ≡ option_map (run_at runs) (map.get places q)
-  held q = get-map_by (run_at runs) key_cmp_total places q
+  held : (q : List Part) → map.get before.runs q ≡ option_map (nth_run runs) (map.get places q)
+  held q = get-map_by (nth_run runs) key_cmp_total places q
 
   -- ---- a key that stands there
 
-  module _ (place : ℕ) (at : map.get places key ≡ Some place) (run : Run) (is : run ≡ run_at runs place ++ e ∷ []) where
+  module _ (place : ℕ) (at : map.get places key ≡ Some place) (run : Run) (is : run ≡ nth_run runs place ++ e ∷ []) where
     -- all keys still stand where their places say
-    pub still_placed : ArePlaced keys (slice_set runs place run) places
+    pub still_placed : AreIndexed keys (slice_set runs place run) places
     still_placed = record { many = length-set runs place run ∙ placed.many; stands = placed.stands; found = placed.found }
 
-    its_run : run_of before key ≡ run_at runs place
-    its_run = ap (λ o. unwrap_or o []) (held key ∙ ap (option_map (run_at runs)) at)
+    its_run : run_of before key ≡ nth_run runs place
+    its_run = ap (λ o. unwrap_or o []) (held key ∙ ap (option_map (nth_run runs)) at)
 
     apart : (q : List Part) (j : ℕ) → map.get places q ≡ Some j → same_key q key ≡ false → j ≡ place → ⊥
     apart q j there unlike e' =
@@ -100,20 +100,20 @@ module _ (keys : List (List Part)) (runs : List Run) (places : Places) (placed :
         true≢false (sym (itself q key same) ∙ unlike)
 
     run_after : (q : List Part) (b : Bool) → same_key q key ≡ b → (o : Option ℕ) → map.get places q ≡ o
-        → option_map (run_at (slice_set runs place run)) o ≡ cond b (Some (run_of before key ++ e ∷ [])) (option_map (run_at runs) o)
+        → option_map (nth_run (slice_set runs place run)) o ≡ cond b (Some (run_of before key ++ e ∷ [])) (option_map (nth_run runs) o)
     run_after q true same o there =
         let same_place : o ≡ Some place = sym there ∙ ap (map.get places) (same_from_tie key_same q key same) ∙ at in
-        ap (option_map (run_at (slice_set runs place run))) same_place
+        ap (option_map (nth_run (slice_set runs place run))) same_place
         ∙ ap (λ (r : Run). Some r) (get_or-set_same runs place run [] (place_within keys runs places placed key place at) ∙ is ∙ ap (λ (r : Run). r ++ e ∷ []) (sym its_run))
     run_after q false unlike None there = refl
     run_after q false unlike (Some j) there = ap (λ (r : Run). Some r) (get_or-set_other runs place j run [] (apart q j there unlike))
 
     -- an event comes to its run
-    pub adds_there : Adds key e before (listed keys (slice_set runs place run) places)
+    pub adds_there : AddsEvent key e before (grouped_by_places keys (slice_set runs place run) places)
     adds_there = record {
-      keys = sym (ap (λ (o : Option Run). cond (is_some o) keys (keys ++ key ∷ [])) (held key ∙ ap (option_map (run_at runs)) at));
+      keys = sym (ap (λ (o : Option Run). cond (is_some o) keys (keys ++ key ∷ [])) (held key ∙ ap (option_map (nth_run runs)) at));
       runs = same_map key_cmp_total key_same _ _ (λ q.
-          get-map_by (run_at (slice_set runs place run)) key_cmp_total places q
+          get-map_by (nth_run (slice_set runs place run)) key_cmp_total places q
           ∙ run_after q (same_key q key) refl (map.get places q) refl
           ∙ sym (get-insert key_cmp_total before.runs key (run_of before key ++ e ∷ []) q
           ∙ ap (cond (same_key q key) (Some (run_of before key ++ e ∷ []))) (held q)));
@@ -143,7 +143,7 @@ module _ (keys : List (List Part)) (runs : List Run) (places : Places) (placed :
     found_then q place (inr end) true same = ap (λ (n : ℕ). Some n) (sym end.0)
     found_then q place (inr end) false unlike = absurd (true≢false (sym (itself q key (sym end.1)) ∙ unlike))
 
-    placed_then : ArePlaced (keys ++ key ∷ []) (runs ++ run ∷ []) places_then
+    placed_then : AreIndexed (keys ++ key ∷ []) (runs ++ run ∷ []) places_then
     placed_then = record {
       many = omega (arith, placed.many, length-append keys (key ∷ []), length-append runs (run ∷ []));
       stands = λ q place at. stands_then q place (same_key q key) refl (sym (its_place q) ∙ at);
@@ -151,22 +151,22 @@ module _ (keys : List (List Part)) (runs : List Run) (places : Places) (placed :
     }
 
     nothing : run_of before key ≡ []
-    nothing = ap (λ o. unwrap_or o []) (held key ∙ ap (option_map (run_at runs)) none)
+    nothing = ap (λ o. unwrap_or o []) (held key ∙ ap (option_map (nth_run runs)) none)
 
     run_then : (q : List Part) (b : Bool) (o : Option ℕ) → map.get places q ≡ o
-        → option_map (run_at (runs ++ run ∷ [])) (cond b (Some (length keys)) o) ≡ cond b (Some (run_of before key ++ e ∷ [])) (option_map (run_at runs) o)
+        → option_map (nth_run (runs ++ run ∷ [])) (cond b (Some (length keys)) o) ≡ cond b (Some (run_of before key ++ e ∷ [])) (option_map (nth_run runs) o)
     run_then q true o there =
         ap (λ (r : Run). Some r)
-        (ap (run_at (runs ++ run ∷ [])) (sym placed.many) ∙ get_or-append_seam runs run [] [] ∙ is ∙ ap (λ (r : Run). r ++ e ∷ []) (sym nothing))
+        (ap (nth_run (runs ++ run ∷ [])) (sym placed.many) ∙ get_or-append_seam runs run [] [] ∙ is ∙ ap (λ (r : Run). r ++ e ∷ []) (sym nothing))
     run_then q false None there = refl
     run_then q false (Some j) there = ap (λ (r : Run). Some r) (get_or_append_left runs (run ∷ []) [] j (place_within keys runs places placed q j there))
 
-    adds_then : Adds key e before (listed (keys ++ key ∷ []) (runs ++ run ∷ []) places_then)
+    adds_then : AddsEvent key e before (grouped_by_places (keys ++ key ∷ []) (runs ++ run ∷ []) places_then)
     adds_then = record {
-      keys = sym (ap (λ (o : Option Run). cond (is_some o) keys (keys ++ key ∷ [])) (held key ∙ ap (option_map (run_at runs)) none));
+      keys = sym (ap (λ (o : Option Run). cond (is_some o) keys (keys ++ key ∷ [])) (held key ∙ ap (option_map (nth_run runs)) none));
       runs = same_map key_cmp_total key_same _ _ (λ q.
-          get-map_by (run_at (runs ++ run ∷ [])) key_cmp_total places_then q
-          ∙ ap (option_map (run_at (runs ++ run ∷ []))) (its_place q)
+          get-map_by (nth_run (runs ++ run ∷ [])) key_cmp_total places_then q
+          ∙ ap (option_map (nth_run (runs ++ run ∷ []))) (its_place q)
           ∙ run_then q (same_key q key) (map.get places q) refl
           ∙ sym (get-insert key_cmp_total before.runs key (run_of before key ++ e ∷ []) q
           ∙ ap (cond (same_key q key) (Some (run_of before key ++ e ∷ []))) (held q)));
@@ -175,15 +175,15 @@ module _ (keys : List (List Part)) (runs : List Run) (places : Places) (placed :
     module _ (keys' : List (List Part)) (runs' : List Run) (places' : Places)
         (key_there : keys' ≡ keys ++ key ∷ []) (run_there : runs' ≡ runs ++ run ∷ []) (place_there : places' ≡ places_then) where
       -- a new key stands after the others
-      pub new_placed : ArePlaced keys' runs' places'
+      pub new_placed : AreIndexed keys' runs' places'
       new_placed =
-          subst (λ (ks : List (List Part)). ArePlaced ks runs' places') (sym key_there)
-          (subst (λ (rs : List Run). ArePlaced (keys ++ key ∷ []) rs places') (sym run_there)
-          (subst (λ (ps : Places). ArePlaced (keys ++ key ∷ []) (runs ++ run ∷ []) ps) (sym place_there) placed_then))
+          subst (λ (ks : List (List Part)). AreIndexed ks runs' places') (sym key_there)
+          (subst (λ (rs : List Run). AreIndexed (keys ++ key ∷ []) rs places') (sym run_there)
+          (subst (λ (ps : Places). AreIndexed (keys ++ key ∷ []) (runs ++ run ∷ []) ps) (sym place_there) placed_then))
 
       -- and has the event
-      pub adds_new : Adds key e before (listed keys' runs' places')
+      pub adds_new : AddsEvent key e before (grouped_by_places keys' runs' places')
       adds_new =
-          subst (λ (ks : List (List Part)). Adds key e before (listed ks runs' places')) (sym key_there)
-          (subst (λ (rs : List Run). Adds key e before (listed (keys ++ key ∷ []) rs places')) (sym run_there)
-          (subst (λ (ps : Places). Adds key e before (listed (keys ++ key ∷ []) (runs ++ run ∷ []) ps)) (sym place_there) adds_then))
+          subst (λ (ks : List (List Part)). AddsEvent key e before (grouped_by_places ks runs' places')) (sym key_there)
+          (subst (λ (rs : List Run). AddsEvent key e before (grouped_by_places (keys ++ key ∷ []) rs places')) (sym run_there)
+          (subst (λ (ps : Places). AddsEvent key e before (grouped_by_places (keys ++ key ∷ []) (runs ++ run ∷ []) ps)) (sym place_there) adds_then))

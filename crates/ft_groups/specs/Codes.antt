@@ -7,9 +7,9 @@ use Rattle.ft_fields.specs.declared.pos.Pos.{Pos}
 use Rattle.ft_fields.specs.contracts.pos.Pos as pos
 use Rattle.ft_fields.specs.Traced.{Traced}
 use Rattle.ft_fields.specs.Codes.{traced_code}
-use Rattle.ft_keys.specs.declared.key.Part.{Part}
-use Rattle.ft_keys.specs.contracts.key.Part as part
-use Rattle.ft_keys.specs.Parts.{key_cmp}
+use Rattle.ft_fields.specs.declared.key.Part.{Part}
+use Rattle.ft_fields.specs.contracts.key.Part as part
+use Rattle.ft_fields.specs.Parts.{key_cmp}
 use Rattle.ft_groups.specs.Grouped.{Grouped}
 
 -- events with their places, stored as a list of pairs

@@ -8,16 +8,16 @@ use Rattle.std.specs.FinMap as map
 use Rattle.std.specs.FinMap.{FinMap}
 use Rattle.ft_fields.specs.declared.pos.Pos.{Pos}
 use Rattle.ft_fields.specs.Traced.{Traced}
-use Rattle.ft_keys.specs.declared.key.Part.{Part}
-use Rattle.ft_keys.specs.Parts.{key_cmp}
+use Rattle.ft_fields.specs.declared.key.Part.{Part}
+use Rattle.ft_fields.specs.Parts.{key_cmp}
 use Rattle.ft_hist.specs.Hist.{Hist}
 use Rattle.ft_hist.specs.Hit.{hit}
 use Rattle.ft_store.specs.Stored.{held}
 use Rattle.ft_store.specs.declared.stored.Stored.{Stored}
 
 -- events with their places, where references point to them
-abbrev pub events_of : List (Bor (Pos × Stored)) → List (Pos × Traced)
-events_of references = list_map (λ e. (e.now.0, held e.now.1)) references
+abbrev pub referenced_events : List (Bor (Pos × Stored)) → List (Pos × Traced)
+referenced_events references = list_map (λ e. (e.now.0, held e.now.1)) references
 
 -- whether two keys are the same
 abbrev pub same_key : List Part → List Part → Bool

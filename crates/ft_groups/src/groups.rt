@@ -4,15 +4,15 @@ ghost use Rattle.std.specs.Prelude.{◌≡◌, ◌+◌, ◌≤◌, [], length, I
 ghost use Rattle.std.specs.List.{list_any};
 ghost use Rattle.ft_hist.specs.Hit.{hit};
 ghost use Rattle.ft_hist.specs.Steps.{StepsGrow};
-ghost use Rattle.ft_hist.specs.Tests.{asked};
+ghost use Rattle.ft_hist.specs.Tests.{tests_taken};
 ghost use Rattle.ft_maps.specs.Mapped.{entries_by};
 ghost use Rattle.ft_store.specs.Stored.{held};
-ghost use Rattle.ft_groups.specs.Grouped.{events_of, run_of, AreGrouped};
+ghost use Rattle.ft_groups.specs.Grouped.{referenced_events, run_of, AreGrouped};
 ghost use Rattle.ft_groups.specs.inner.Asks.{IsAskedRight};
 ghost use Rattle.ft_groups.specs.inner.Comes.{Comes};
 ghost use Rattle.ft_groups.specs.inner.Met.{AreMet};
 ghost use Rattle.ft_groups.specs.inner.Numbers.{asks_text, asks_numbers, asked_part};
-ghost use Rattle.ft_groups.specs.inner.Numbers.{only_field, number_field, counted_by};
+ghost use Rattle.ft_groups.specs.inner.Numbers.{only_field, counted_by};
 ghost use Rattle.ft_groups.specs.inner.Sorted.{IsSorted, groups_of};
 
 use crate::met::Met;
@@ -55,7 +55,7 @@ impl<'a> Groups<'a> {
 
     /// References to the events of a key with their places, in order.
     pub fn run(&self, key: &Key) -> &[&'a (Pos, Stored<'a>)]
-        ensures { events_of result.now ≡ run_of self.now key.now }
+        ensures { referenced_events result.now ≡ run_of self.now key.now }
     {
         let Some(run) = self.sorted.run(key) else {
             return no_events();
@@ -89,7 +89,7 @@ pub fn grouped<'a>(
 
 /// No events.
 fn no_events<'g, 'a>() -> &'g [&'a (Pos, Stored<'a>)]
-    ensures { events_of result.now ≡ [] }
+    ensures { referenced_events result.now ≡ [] }
 {
     &[]
 }
@@ -114,7 +114,11 @@ impl<'a> Asks<'a> {
         Asks {
             trigger,
             bare,
-            field: number_field(trigger, bare),
+            field: if bare {
+                only_field(trigger.keys())
+            } else {
+                None
+            },
         }
     }
 
@@ -131,6 +135,32 @@ impl<'a> Asks<'a> {
             Some(field) => stored.number(field),
             None => None,
         }
+    }
+
+    /// The key that the trigger counts an event under, if the event is a hit of it. Tests it where
+    /// the trigger is on its name alone; where it asks for numbers alone, without its names.
+    fn key_of(&self, stored: &Stored<'_>, work: &mut Work) -> Option<Key>
+        requires { IsAskedRight self.now }
+        ensures key { result ≡ hit self.now.trigger.now (held stored.now) }
+        ensures evals { work.new.evals
+            ≡ work.old.evals + tests_taken self.now.trigger.now (held stored.now) }
+        ensures puts { work.new.puts ≡ work.old.puts }
+    {
+        let trigger = self.trigger;
+        if trigger.event() != stored.name() {
+            return None;
+        }
+        trigger.hit_of(&self.asked_part(stored), work)
+    }
+
+    /// The event that the trigger is tested on: where it asks for numbers alone, without its names.
+    fn asked_part(&self, stored: &Stored<'_>) -> Event
+        ensures { result ≡ asked_part self.now.bare (held stored.now) }
+    {
+        if self.bare {
+            return stored.bare();
+        }
+        stored.event()
     }
 }
 
@@ -159,7 +189,7 @@ fn event_comes<'a>(
     if let Some(place) = met.get(number) {
         return sorted.push(place, event);
     }
-    let Some(key) = key_of(asks.trigger, &event.1, asks.bare, work) else {
+    let Some(key) = asks.key_of(&event.1, work) else {
         return Ok(());
     };
     let place = sorted.add(key, event)?;
@@ -177,18 +207,6 @@ fn asks_numbers(trigger: &Trigger) -> bool
     }
 }
 
-/// The field whose number alone tells the key of each of a trigger's events: it has no filter, and
-/// no other key. `bare` says whether it asks for numbers alone.
-fn number_field(trigger: &Trigger, bare: bool) -> Option<Field>
-    requires { bare ≡ asks_numbers trigger.now }
-    ensures { result ≡ number_field trigger.now }
-{
-    if bare {
-        return only_field(trigger.keys());
-    }
-    None
-}
-
 /// The field of the only key item.
 fn only_field(items: &[KeyItem]) -> Option<Field>
     ensures { result ≡ only_field items.now }
@@ -204,29 +222,4 @@ fn some_text(items: &[KeyItem]) -> bool
     ensures { result ≡ list_any asks_text items.now }
 {
     items.iter().any(|item| item.field.is_text())
-}
-
-/// The event that a trigger is tested on: where it asks for numbers alone, without its names.
-fn asked_part(stored: &Stored<'_>, bare: bool) -> Event
-    ensures { result ≡ asked_part bare (held stored.now) }
-{
-    if bare {
-        return stored.bare();
-    }
-    stored.event()
-}
-
-/// The key that a trigger counts an event under, if the event is a hit of it. Tests it where the
-/// trigger is on its name alone. `bare` says whether it asks for numbers alone.
-fn key_of(trigger: &Trigger, stored: &Stored<'_>, bare: bool, work: &mut Work) -> Option<Key>
-    requires { bare ≡ asks_numbers trigger.now }
-    ensures key { result ≡ hit trigger.now (held stored.now) }
-    ensures evals { work.new.evals ≡ work.old.evals + asked trigger.now (held stored.now) }
-    ensures puts { work.new.puts ≡ work.old.puts }
-{
-    if trigger.event() != stored.name() {
-        return None;
-    }
-    let event = asked_part(stored, bare);
-    trigger.hit_of(&event, work)
 }

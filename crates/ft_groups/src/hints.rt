@@ -68,17 +68,11 @@ fn with_part(hash: u64, part: Part) -> u64 {
         Part::Num(number) => mixed(hash, number.cast_unsigned()),
         Part::Log2(power) => mixed(hash, u64::from(power)),
         Part::Bucket(multiple) => mixed(hash, multiple),
-        Part::Text(text) => with_bytes(hash, text.bytes()),
+        Part::Text(text) => {
+            let bytes = text.bytes().iter();
+            bytes.fold(hash, |hash, byte| mixed(hash, u64::from(*byte)))
+        }
     }
-}
-
-/// A hash with the bytes of a text more.
-fn with_bytes(hash: u64, bytes: &[u8]) -> u64 {
-    let mut hash = hash;
-    for byte in bytes {
-        hash = mixed(hash, u64::from(*byte));
-    }
-    hash
 }
 
 /// A hash with a number more.

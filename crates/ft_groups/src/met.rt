@@ -43,28 +43,9 @@ impl Met {
         ensures { IfSome result (λ place. IsSomeAnd number (λ number.
             IsIn self.now.slots.items (noted number place))) }
     {
-        match number {
-            Some(number) => self.place(number),
-            None => None,
-        }
-    }
-
-    /// Notes the place of a number, if there is a number.
-    pub(crate) fn note(&mut self, number: Option<i64>, place: usize)
-        ensures { (slot : Slot) → IsIn self.new.slots.items slot
-            → IsIn self.old.slots.items slot
-            ⊎ IsSomeAnd number (λ number. slot ≡ noted number place) }
-    {
-        match number {
-            Some(number) => self.put(number, place),
-            None => (),
-        }
-    }
-
-    /// The place that was noted for a number, if it is known.
-    fn place(&self, number: i64) -> Option<usize>
-        ensures { IfSome result (λ place. IsIn self.now.slots.items (noted number place)) }
-    {
+        let Some(number) = number else {
+            return None;
+        };
         let slot = self.slots.get(self.slot(number))?;
         if slot.number != number {
             return None;
@@ -75,11 +56,15 @@ impl Met {
         }
     }
 
-    /// Notes the place of a number.
-    fn put(&mut self, number: i64, place: usize)
+    /// Notes the place of a number, if there is a number.
+    pub(crate) fn note(&mut self, number: Option<i64>, place: usize)
         ensures { (slot : Slot) → IsIn self.new.slots.items slot
-            → IsIn self.old.slots.items slot ⊎ (slot ≡ noted number place) }
+            → IsIn self.old.slots.items slot
+            ⊎ IsSomeAnd number (λ number. slot ≡ noted number place) }
     {
+        let Some(number) = number else {
+            return;
+        };
         let slot = self.slot(number);
         if slot >= self.slots.len() {
             return;

@@ -2,7 +2,7 @@
 
 ghost use Rattle.std.specs.Prelude.{◌≡◌, ◌++◌, ◌∷◌, [], OnOk};
 ghost use Rattle.ft_store.specs.Stored.{held};
-ghost use Rattle.ft_groups.specs.Grouped.{events_of};
+ghost use Rattle.ft_groups.specs.Grouped.{referenced_events};
 
 use ft_fields::Pos;
 use ft_store::Stored;
@@ -22,13 +22,13 @@ impl<'a> Model for Run<'a> {
     ghost use Rattle.ft_fields.specs.declared.pos.Pos.{Pos};
     ghost use Rattle.ft_fields.specs.Traced.{Traced};
     ghost use Rattle.ft_groups.specs.Codes.{run_code};
-    ghost use Rattle.ft_groups.specs.Grouped.{events_of};
+    ghost use Rattle.ft_groups.specs.Grouped.{referenced_events};
 
     ghost Value = { List (Pos × Traced) };
 
     ghost coded = { run_code };
 
-    ghost view = { λ r. events_of r.events.items };
+    ghost view = { λ r. referenced_events r.events.items };
 }
 
 impl<'a> Run<'a> {
@@ -52,7 +52,7 @@ impl<'a> Run<'a> {
 
     /// References to its events with their places.
     pub(crate) fn events(&self) -> &[&'a (Pos, Stored<'a>)]
-        ensures { events_of result.now ≡ self.now }
+        ensures { referenced_events result.now ≡ self.now }
     {
         &self.events
     }

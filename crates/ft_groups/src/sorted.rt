@@ -4,11 +4,11 @@ ghost use Rattle.std.specs.Prelude.{◌≡◌, ◌<◌, List, [], length, Some, 
 ghost use Rattle.std.specs.Prelude.{IfSome, IfOk, OnOk};
 ghost use Rattle.std.specs.FinMap as map;
 ghost use Rattle.std.specs.Option.{option_copied};
-ghost use Rattle.ft_keys.specs.Parts.{key_cmp};
-ghost use Rattle.ft_keys.specs.declared.key.Part.{Part};
+ghost use Rattle.ft_fields.specs.Parts.{key_cmp};
+ghost use Rattle.ft_fields.specs.declared.key.Part.{Part};
 ghost use Rattle.ft_maps.specs.Seen.{seen};
 ghost use Rattle.ft_store.specs.Stored.{held};
-ghost use Rattle.ft_groups.specs.inner.Adding.{Adds};
+ghost use Rattle.ft_groups.specs.inner.Adding.{AddsEvent};
 
 use crate::hints::{Hints, hash_of};
 use crate::run::Run;
@@ -58,7 +58,7 @@ impl<'a> Sorted<'a> {
     ) -> Result<usize, AllocError>
         requires { IsSorted self.old }
         ensures placed { OnOk result (IsSorted self.new) }
-        ensures adds { OnOk result (Adds key (event.now.0, held event.now.1)
+        ensures adds { OnOk result (AddsEvent key (event.now.0, held event.now.1)
             (groups_of self.old) (groups_of self.new)) }
         ensures stands { IfOk result (λ place.
             slice_get self.new.keys.items place ≡ Some key) }
@@ -89,7 +89,7 @@ impl<'a> Sorted<'a> {
         ensures keys { OnOk result (self.new.keys.items ≡ self.old.keys.items) }
         ensures adds { OnOk result ((key : List Part)
             → slice_get self.old.keys.items place ≡ Some key
-            → Adds key (event.now.0, held event.now.1) (groups_of self.old) (groups_of self.new)) }
+            → AddsEvent key (event.now.0, held event.now.1) (groups_of self.old) (groups_of self.new)) }
     {
         self.runs[place].push(event)
     }
@@ -132,7 +132,7 @@ impl<'a> Sorted<'a> {
         requires placed { IsSorted self.old }
         requires new { map.get (seen key_cmp self.old.places) key ≡ None }
         ensures placed { OnOk result (IsSorted self.new) }
-        ensures adds { OnOk result (Adds key (event.now.0, held event.now.1)
+        ensures adds { OnOk result (AddsEvent key (event.now.0, held event.now.1)
             (groups_of self.old) (groups_of self.new)) }
         ensures stands { IfOk result (λ place.
             slice_get self.new.keys.items place ≡ Some key) }

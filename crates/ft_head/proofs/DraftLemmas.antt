@@ -6,8 +6,8 @@ use Rattle.std.specs.List.{find, starts_with}
 use Rattle.std.specs.Str.{bytes_eq}
 use Rattle.ft_fields.specs.declared.event.Name.{Name}
 use Rattle.ft_head.specs.declared.draft.Kind.{Kind}
-use Rattle.ft_pieces.specs.Words.{Piece, is_name}
-use Rattle.ft_head.specs.Draft.{Draft, stamp_of, Since, with_part, with_other, is_part_left_out, labels}
+use Rattle.ft_text.specs.Items.{Piece, is_name}
+use Rattle.ft_head.specs.Draft.{Draft, variable_stamp, Since, with_part, with_other, is_part_left_out, labels}
 
 -- what a map makes of nothing is nothing, and of nothing else
 none_of_map : {A B : Type 0} (f : A → B) (o : Option A) → option_map f o ≡ None → o ≡ None
@@ -23,7 +23,7 @@ part_other event draft part bytes is kept none =
     rw kept_here (rw none_here refl)
 
 -- a value that begins as one that reads does is one where a name stands after that
-pub stamp_since : (value rest : List ℕ) → rest ≡ drop 24 value → bytes_eq value (codes "common_timestamp.usecs") ≡ false → starts_with ◌==◌ value (codes "common_timestamp.usecs-$") ≡ true → stamp_of value ≡ (if is_name rest then Some (Since rest) else None)
-unfolding stamp_of
+pub stamp_since : (value rest : List ℕ) → rest ≡ drop 24 value → bytes_eq value (codes "common_timestamp.usecs") ≡ false → starts_with ◌==◌ value (codes "common_timestamp.usecs-$") ≡ true → variable_stamp value ≡ (if is_name rest then Some (Since rest) else None)
+unfolding variable_stamp
 stamp_since value rest is saved since =
     (let back = sym is in rw saved (rw since (rw back refl)))

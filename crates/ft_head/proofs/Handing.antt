@@ -9,11 +9,11 @@ use Rattle.std.specs.Str.{bytes_eq}
 use Rattle.ft_fields.specs.declared.event.Name.{Name}
 use Rattle.ft_fields.specs.declared.event.Name.TheVariants as names
 use Rattle.ft_fields.specs.Names.{is_traced, is_called, all_names, name_called, name_text}
-use Rattle.ft_tokens.specs.Tokens.{name_at}
+use Rattle.ft_text.specs.Tokens.{name_at}
 use Rattle.ft_head.specs.Onmatch.{Handed, with_found, behind, name_before, traced_called, handed_with, handed_of}
 use Rattle.ft_head.specs.PartSpelling.{IsHanded}
-use Rattle.ft_pieces.proofs.Spelled.{named, name_told}
-use Rattle.ft_pieces.proofs.Spellings.{IsName, Apart, name_parts, name_again, front_same, bytes_same, bytes_itself, find_passes}
+use Rattle.ft_text.proofs.Spelled.{named, name_told}
+use Rattle.ft_text.proofs.Spellings.{IsName, Apart, name_parts, name_again, front_same, bytes_same, bytes_itself, find_passes}
 
 -- ---- steps
 

@@ -8,11 +8,11 @@ use Rattle.std.specs.Char.{is_ascii_digit}
 use Rattle.std.specs.List.{list_all}
 use Rattle.std.specs.Str.Parse.{digits_value}
 use Rattle.ft_text.proofs.Numbers.{digits_all}
-use Rattle.ft_tokens.specs.Tokens.{is_in_name}
+use Rattle.ft_text.specs.Tokens.{is_in_name}
 use Rattle.ft_head.specs.Draft.{rounded, is_size, size_of}
 use Rattle.ft_head.specs.Sizes.{IsSize}
-use Rattle.ft_pieces.specs.Words.{is_number, number_in}
-use Rattle.ft_pieces.proofs.Separators.{is_bare, all_weaker, names_bare}
+use Rattle.ft_text.specs.Items.{is_number, number_in}
+use Rattle.ft_text.proofs.Separators.{is_bare, all_weaker, names_bare}
 use Rattle.ft_head.proofs.Rounding.{rounded_power, rounded_reached, rounded_least}
 
 -- a digit is a byte of a name

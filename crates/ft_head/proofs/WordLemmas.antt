@@ -5,16 +5,16 @@ use Rattle.std.specs.Prelude.{codes, if◌then◌else◌, not, ◌++◌, ◌&&�
 use Rattle.std.specs.List.{list_any, find}
 use Rattle.ft_fields.specs.declared.event.Name.{Name}
 use Rattle.ft_fields.specs.declared.field.Field.{Field}
-use Rattle.ft_fields.specs.Fields.{is_named, all_fields}
+use Rattle.ft_fields.specs.Fields.{is_field_named, all_fields}
 use Rattle.ft_hist.specs.declared.item.KeyItem.{KeyItem}
 use Rattle.std.specs.Option.{option_map_or, is_some}
 use Rattle.ft_head.specs.declared.fault.TriggerFault.{TriggerFault}
 use Rattle.ft_head.specs.declared.fault.TriggerFault.TheVariants.{LeftOut, BadModifier, Duplicate}
-use Rattle.ft_pieces.specs.Words.{Word, same_word, is_word}
+use Rattle.ft_text.specs.Items.{Word, same_word, is_word}
 use Rattle.ft_head.specs.Draft.{with_key, with_field, with_value, unless, value_fault, is_left_out, is_no_key, besides_hitcount}
 
 -- a word that names a field adds the field's key item, where there is room
-pub with_key_field : (event : Name) (keys : List KeyItem) (place : ℕ) (word : Word) (field : Field) → length keys < 3 → is_no_key word ≡ false → find (is_named event word.name) all_fields ≡ Some field → with_key event keys place word ≡ with_field keys place field word.suffix
+pub with_key_field : (event : Name) (keys : List KeyItem) (place : ℕ) (word : Word) (field : Field) → length keys < 3 → is_no_key word ≡ false → find (is_field_named event word.name) all_fields ≡ Some field → with_key event keys place word ≡ with_field keys place field word.suffix
 unfolding with_key
 with_key_field event keys place word field room key found = rw (lt-leb 3 (length keys) room) (rw key (rw found refl))
 

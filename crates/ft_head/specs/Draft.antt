@@ -7,7 +7,7 @@ use Rattle.std.specs.Str.Parse.{digits_value}
 use Rattle.ft_fields.specs.declared.event.Name.{Name}
 use Rattle.ft_fields.specs.declared.event.Name.TheVariants as names
 use Rattle.ft_fields.specs.declared.field.Field.{Field}
-use Rattle.ft_fields.specs.Fields.{is_named, all_fields, is_text, text_of}
+use Rattle.ft_fields.specs.Fields.{is_field_named, all_fields, is_text, field_text}
 use Rattle.ft_head.specs.declared.fault.TriggerFault.{TriggerFault}
 use Rattle.ft_head.specs.declared.fault.TriggerFault.TheVariants.{Syntax, NoField, NotNumeric, TooMany, Duplicate, BadSize, BadSort, BadModifier, LeftOut}
 use Rattle.ft_hist.specs.declared.item.KeyItem.{KeyItem}
@@ -18,11 +18,11 @@ use Rattle.ft_head.specs.declared.draft.Kind.TheVariants.{Keys, Values, Sort, Si
 use Rattle.ft_hist.specs.declared.label.Var.{Var}
 use Rattle.ft_hist.specs.declared.label.Var.TheVariants as vars
 use Rattle.ft_hist.specs.Hit.{same_name}
-use Rattle.ft_hist.specs.Modifiers.{named_modes, is_called}
+use Rattle.ft_hist.specs.Modifiers.{named_modes, mode_is_called}
 use Rattle.ft_hist.specs.Powers.{first_power}
 use Rattle.ft_head.specs.Onmatch.{Action, Handed, handed_of}
-use Rattle.ft_pieces.specs.Words.{Piece, pieces, Word, word_of, is_word, same_word, is_name, is_number, number_in}
-use Rattle.ft_tokens.specs.Tokens.{name_at}
+use Rattle.ft_text.specs.Items.{Piece, pieces, Word, word_of, is_word, same_word, is_name, is_number, number_in}
+use Rattle.ft_text.specs.Tokens.{name_at}
 
 -- what has been read so far; a list that has not stood yet is none, and names are not yet resolved
 pub record Draft : Type 0 where
@@ -34,8 +34,8 @@ pub record Draft : Type 0 where
   pub onmatch : Option Action
 
 -- nothing yet
-abbrev pub blank : Draft
-blank = record { keys = None; values = None; sort = None; size = None; variable = None; onmatch = None }
+abbrev pub empty_draft : Draft
+empty_draft = record { keys = None; values = None; sort = None; size = None; variable = None; onmatch = None }
 
 infixl 10 ◌>>=◌
 -- what follows a step that has no fault
@@ -79,7 +79,7 @@ buckets_of suffix = if starts_with ◌==◌ suffix (codes "buckets=") then optio
 
 -- the modifier that stands after a `.`: a name and nothing else, or buckets of a size (kernel: histogram.rst, modifiers)
 abbrev pub number_mode : List ℕ → Option Mode
-number_mode suffix = option_or (find (is_called suffix) named_modes) (buckets_of suffix)
+number_mode suffix = option_or (find (mode_is_called suffix) named_modes) (buckets_of suffix)
 
 -- what a modifier makes of a field: those that there are need a field of numbers (kernel: histogram.rst, modifiers)
 abbrev pub mode_of : Bool → Option (List ℕ) → Option Mode
@@ -88,7 +88,7 @@ mode_of text (Some suffix) = if text then None else number_mode suffix
 
 -- the field is a key's
 abbrev pub is_key : List KeyItem → Field → Bool
-is_key keys field = list_any (λ key. bytes_eq (text_of key.field) (text_of field)) keys
+is_key keys field = list_any (λ key. bytes_eq (field_text key.field) (field_text field)) keys
 
 -- a word that is no key, though the kernel has it: a variable, a stamp, a stack trace (kernel: histogram.rst, `keys`)
 abbrev pub is_no_key : Word → Bool
@@ -108,7 +108,7 @@ with_key event keys place word =
     (nat_le 3 (length keys), TooMany)
     ∷ (is_no_key word, LeftOut place)
     ∷ []
-    ) (given_or NoField (find (is_named event word.name) all_fields) (λ field. with_field keys place field word.suffix))
+    ) (given_or NoField (find (is_field_named event word.name) all_fields) (λ field. with_field keys place field word.suffix))
 
 -- ---- values
 
@@ -120,7 +120,7 @@ besides_hitcount words = filter (λ word. not (is_word word (codes "hitcount")))
 abbrev pub value_fault : Name → Word → Option TriggerFault
 value_fault event word =
     if word.dollar || is_word word (codes "hitcount") then None
-    else option_map_or (λ field. if is_text field then Some NotNumeric else None) (find (is_named event word.name) all_fields) (Some NoField)
+    else option_map_or (λ field. if is_text field then Some NotNumeric else None) (find (is_field_named event word.name) all_fields) (Some NoField)
 
 -- one more value item (kernel: histogram.rst, `values`; three besides `hitcount` are our own choice)
 unfoldable pub with_value : Name → List Word → ℕ → Word → Result (List Word) TriggerFault
@@ -173,8 +173,8 @@ pub data Stamp : Type 0 where
   Since : List ℕ → Stamp
 
 -- the value of a variable's part (kernel: histogram.rst, inter-event hist triggers)
-unfoldable pub stamp_of : List ℕ → Option Stamp
-stamp_of value =
+unfoldable pub variable_stamp : List ℕ → Option Stamp
+variable_stamp value =
     if bytes_eq value (codes "common_timestamp.usecs") then Some Saved
     else (if starts_with ◌==◌ value (codes "common_timestamp.usecs-$") && is_name (drop 24 value) then Some (Since (drop 24 value)) else None)
 
@@ -190,7 +190,7 @@ reads_itself name (Since source) = bytes_eq name source
 
 -- a variable may not have this name: that of a field of the event, `hitcount`, or the name that it reads
 abbrev pub is_taken : Name → List ℕ → Stamp → Bool
-is_taken event name stamp = is_some (find (is_named event name) all_fields) || (bytes_eq name (codes "hitcount") || reads_itself name stamp)
+is_taken event name stamp = is_some (find (is_field_named event name) all_fields) || (bytes_eq name (codes "hitcount") || reads_itself name stamp)
 
 -- ---- parts
 
@@ -220,7 +220,7 @@ with_kind event draft Size place text =
 abbrev pub with_named : Name → Draft → ℕ → List ℕ → List ℕ → Result Draft TriggerFault
 with_named event draft place name value =
     unless ((same_name event names.WakeupLatency, LeftOut place) ∷ (is_some draft.variable, LeftOut place) ∷ [])
-    (given_or (LeftOut place) (stamp_of value) (λ stamp.
+    (given_or (LeftOut place) (variable_stamp value) (λ stamp.
     unless ((is_taken event name stamp, Duplicate) ∷ []) (Ok (record draft { variable = Some (var_of name stamp) }))))
 
 -- a part that is a name, `=` and a value; any other is none that there is (kernel: histogram.rst, inter-event hist triggers)
@@ -231,7 +231,7 @@ with_variable event draft part =
 
 -- a field of numbers of the event (kernel: histogram.rst, the `onmatch` handler)
 abbrev pub number_field : Name → List ℕ → Result Field TriggerFault
-number_field event name = given_or NoField (find (is_named event name) all_fields) (λ field. unless ((is_text field, NotNumeric) ∷ []) (Ok field))
+number_field event name = given_or NoField (find (is_field_named event name) all_fields) (λ field. unless ((is_text field, NotNumeric) ∷ []) (Ok field))
 
 -- what events are made of, by the words of its part: both fields are the event's, and hold numbers (kernel: histogram.rst, the `onmatch` handler)
 abbrev pub action_of : Name → Handed → Result Action TriggerFault

@@ -11,6 +11,6 @@ pub use Rattle.ft_fields.specs.Names
 pub use Rattle.ft_hist.specs.Hit
 pub use Rattle.ft_hist.specs.Modifiers
 pub use Rattle.ft_hist.specs.Powers
-pub use Rattle.ft_tokens.specs.Tokens
-pub use Rattle.ft_pieces.specs.Words
-pub use Rattle.ft_pieces.specs.Spelling
+pub use Rattle.ft_text.specs.Tokens
+pub use Rattle.ft_text.specs.Items
+pub use Rattle.ft_text.specs.Spelling

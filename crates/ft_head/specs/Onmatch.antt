@@ -5,7 +5,7 @@ use Rattle.std.specs.Option.{option_and_then}
 use Rattle.ft_fields.specs.declared.event.Name.{Name}
 use Rattle.ft_fields.specs.Names.{is_traced, name_called}
 use Rattle.ft_hist.specs.declared.onmatch.Onmatch.{Onmatch}
-use Rattle.ft_tokens.specs.Tokens.{name_at}
+use Rattle.ft_text.specs.Tokens.{name_at}
 
 -- what has been read of such a part: the name of the variable that it hands on, and what the trigger makes events of
 pub record Action : Type 0 where

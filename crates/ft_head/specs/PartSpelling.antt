@@ -2,9 +2,9 @@
 use Rattle.std.specs.Prelude.{◌≡◌, ◌==◌, ◌&&◌, ℕ, Bool, not, true, List, [], ◌∷◌, ◌++◌, Some, codes}
 use Rattle.std.specs.List.{list_all}
 use Rattle.ft_fields.specs.Names.{is_traced, name_text}
-use Rattle.ft_tokens.specs.Tokens.{is_gap}
+use Rattle.ft_text.specs.Tokens.{is_gap}
 use Rattle.ft_head.specs.Onmatch.{Handed}
-use Rattle.ft_pieces.specs.Spelling.{IsNamed}
+use Rattle.ft_text.specs.Spelling.{IsNamed}
 
 -- ---- parts that say what events are made of
 
@@ -25,11 +25,11 @@ abbrev pub is_part : List ℕ → Bool
 is_part text = list_all (λ byte. not (is_gap byte) && not (byte == 58)) text
 
 -- parts after others, each after a `:` (kernel: histogram.rst, hist triggers)
-abbrev pub more_parts : List (List ℕ) → List ℕ
-more_parts [] = []
-more_parts (part ∷ parts) = 58 ∷ (part ++ more_parts parts)
+abbrev pub later_parts : List (List ℕ) → List ℕ
+later_parts [] = []
+later_parts (part ∷ parts) = 58 ∷ (part ++ later_parts parts)
 
 -- parts joined by `:` (kernel: histogram.rst, hist triggers)
-abbrev pub joined : List (List ℕ) → List ℕ
-joined [] = []
-joined (part ∷ parts) = part ++ more_parts parts
+abbrev pub joined_parts : List (List ℕ) → List ℕ
+joined_parts [] = []
+joined_parts (part ∷ parts) = part ++ later_parts parts

@@ -4,21 +4,21 @@ use Rattle.ft_head.specs.declared.fault.TriggerFault.{TriggerFault}
 use Rattle.ft_head.specs.declared.fault.TriggerFault.TheVariants.{Memory, Syntax, NoField, NotNumeric, TooMany, Duplicate, BadSize, BadSort, BadModifier, LeftOut, BadFilter}
 
 -- the number that a refusal prints
-abbrev pub number_of : TriggerFault → ℕ
-number_of Memory = 1
-number_of (Syntax place) = 2
-number_of NoField = 3
-number_of NotNumeric = 4
-number_of TooMany = 5
-number_of Duplicate = 6
-number_of BadSize = 7
-number_of BadSort = 8
-number_of BadModifier = 9
-number_of (LeftOut place) = 10
-number_of (BadFilter fault) = 11
+abbrev pub trigger_number : TriggerFault → ℕ
+trigger_number Memory = 1
+trigger_number (Syntax place) = 2
+trigger_number NoField = 3
+trigger_number NotNumeric = 4
+trigger_number TooMany = 5
+trigger_number Duplicate = 6
+trigger_number BadSize = 7
+trigger_number BadSort = 8
+trigger_number BadModifier = 9
+trigger_number (LeftOut place) = 10
+trigger_number (BadFilter fault) = 11
 
 -- the byte that it is at, where it has a place; a filter's fault has its own
-abbrev pub place_of : TriggerFault → Option ℕ
-place_of (Syntax place) = Some place
-place_of (LeftOut place) = Some place
-place_of fault = None
+abbrev pub trigger_place : TriggerFault → Option ℕ
+trigger_place (Syntax place) = Some place
+trigger_place (LeftOut place) = Some place
+trigger_place fault = None

@@ -6,8 +6,8 @@ ghost use Rattle.std.specs.List.{list_any, find, starts_with};
 ghost use Rattle.std.specs.Str.{bytes_eq};
 ghost use Rattle.ft_fields.specs.declared.event.Name.{Name};
 ghost use Rattle.ft_head.specs.declared.fault.TriggerFault.TheVariants.{Syntax, LeftOut, Duplicate};
-ghost use Rattle.ft_head.specs.Draft.{blank, is_part_left_out, labels, with_kind, with_named, with_variable, with_handed, with_onmatch, with_other, with_part, parts_from, size_of, stamp_of, var_of, is_taken, reads_itself, Since};
-ghost use Rattle.ft_pieces.specs.Words.{is_name, pieces};
+ghost use Rattle.ft_head.specs.Draft.{empty_draft, is_part_left_out, labels, with_kind, with_named, with_variable, with_handed, with_onmatch, with_other, with_part, parts_from, size_of, variable_stamp, var_of, is_taken, reads_itself, Since};
+ghost use Rattle.ft_text.specs.Items.{is_name, pieces};
 ghost use Rattle.ft_hist.specs.Hit.{same_name};
 ghost use Rattle.ft_head.specs.Given.{Gives};
 ghost use Rattle.ft_head.specs.inner.Leaving.{Leaves};
@@ -18,9 +18,7 @@ use crate::lists::{keys_of, sort_of, value_words};
 use crate::onmatch::{Action, Handed, handed_of};
 use ft_fields::{Name, field_named};
 use ft_hist::{KeyItem, Label, Var};
-use ft_pieces::{Piece, Pieces, Word, is_name, number_in};
-use ft_text::is_same;
-use ft_tokens::name_at;
+use ft_text::{Piece, Pieces, Word, is_name, is_same, name_at, number_in};
 use std::alloc::Global;
 use std::marker::Model;
 
@@ -91,7 +89,7 @@ impl<'a> Model for Draft<'a> {
 impl<'a> Draft<'a> {
     /// Nothing yet.
     fn blank() -> Draft<'a>
-        ensures { result ≡ blank }
+        ensures { result ≡ empty_draft }
     {
         Draft {
             keys: None,
@@ -299,7 +297,7 @@ pub fn parts_of<'a>(
     text: &'a [u8],
 ) -> Result<Draft<'a>, TriggerFault>
     requires { place + length text.now < 2 ^ 63 }
-    ensures { Gives (λ draft. draft) (parts_from event blank (pieces 58 place text.now)) result }
+    ensures { Gives (λ draft. draft) (parts_from event empty_draft (pieces 58 place text.now)) result }
 {
     let mut parts = Pieces::of(&Piece::of(place, text), b':');
     let mut draft = Draft::blank();
@@ -383,9 +381,9 @@ fn size_of(text: &[u8]) -> Option<u32>
 }
 
 /// The value of a variable's part, where it is one.
-#[tactic(auto, unfolding(crate::specs::Draft::stamp_of))]
+#[tactic(auto, unfolding(crate::specs::Draft::variable_stamp))]
 fn stamp_of(value: &[u8]) -> Option<Stamp<'_>>
-    ensures { option_map stamp_seen result ≡ stamp_of value.now }
+    ensures { option_map stamp_seen result ≡ variable_stamp value.now }
 {
     if is_same(value, SAVED) {
         return Some(Stamp::Saved);

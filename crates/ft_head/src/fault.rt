@@ -1,7 +1,7 @@
 //! What may be wrong with a trigger's text.
 
 ghost use Rattle.std.specs.Prelude.{◌≡◌};
-ghost use Rattle.ft_head.specs.TriggerFault.{number_of, place_of};
+ghost use Rattle.ft_head.specs.TriggerFault.{trigger_number, trigger_place};
 
 use ft_filter::FilterFault;
 use thiserror::Error;
@@ -47,7 +47,7 @@ pub enum TriggerFault {
 impl TriggerFault {
     /// Its number in the desk's texts.
     pub fn number(self) -> u8
-        ensures { result ≡ number_of self }
+        ensures { result ≡ trigger_number self }
     {
         match self {
             TriggerFault::Memory => 1,
@@ -67,7 +67,7 @@ impl TriggerFault {
     /// The byte of the text that it is at, from 0, where it has a place; a filter's fault has its
     /// own.
     pub fn place(self) -> Option<usize>
-        ensures { result ≡ place_of self }
+        ensures { result ≡ trigger_place self }
     {
         match self {
             TriggerFault::Syntax(place) | TriggerFault::LeftOut(place) => Some(place),

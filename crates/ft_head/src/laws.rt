@@ -7,7 +7,7 @@ ghost use Rattle.ft_head.specs.Onmatch.{Handed, handed_of};
 ghost use Rattle.ft_head.specs.Sizes.{IsSize};
 ghost use Rattle.ft_head.specs.PartSpelling.{IsHanded};
 
-pub use ft_pieces::laws::{one_list, one_word};
+pub use ft_text::laws::{one_list, one_word};
 
 /// A law: a part is read as what events are made of just where it is of the form: an event of the
 /// kernel, and what is handed on, spelled like fields.

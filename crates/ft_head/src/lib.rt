@@ -32,6 +32,6 @@ mod onmatch;
 
 pub use draft::{Draft, Kind, parts_of};
 pub use fault::TriggerFault;
-pub use ft_pieces::Word;
+pub use ft_text::Word;
 pub use laws::{one_action, one_list, one_word, sizes};
 pub use onmatch::Action;

@@ -8,7 +8,7 @@ ghost use Rattle.ft_head.specs.Given.{Gives};
 use crate::fault::TriggerFault;
 use ft_fields::{Field, Name, field_named};
 use ft_hist::Onmatch;
-use ft_tokens::name_at;
+use ft_text::name_at;
 use std::marker::Model;
 
 /// What has been read of such a part.

@@ -12,7 +12,7 @@ use Rattle.ft_fields.specs.declared.field.Value.TheVariants as values
 use Rattle.ft_fields.specs.Fields.{has_field, is_text, is_text_value, field_of}
 use Rattle.ft_fields.specs.Traced.{Traced, name_of}
 use Rattle.ft_hist.specs.declared.item.KeyItem.{KeyItem}
-use Rattle.ft_keys.specs.declared.key.Part.{Part}
+use Rattle.ft_fields.specs.declared.key.Part.{Part}
 use Rattle.ft_hist.specs.Hist.{Hist}
 use Rattle.ft_hist.specs.Hit.{part_of, key_of, same_name, is_asked, passes_filter, hit}
 use Rattle.ft_hist.specs.Modifiers.{mode_suits, value_part}

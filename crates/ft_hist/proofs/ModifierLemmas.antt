@@ -10,7 +10,7 @@ use Rattle.ft_hist.specs.declared.modifier.Mode.{Mode}
 use Rattle.ft_hist.specs.declared.modifier.Mode.TheVariants as modes
 use Rattle.ft_hist.specs.Modifiers.{mode_suits, number_part, text_part, value_part, Kind, Numbers, Powers, Multiples, Texts, number_kind, same_kind, IsOfKind}
 use Rattle.ft_hist.proofs.PowerLemmas.{log2_of_few}
-use Rattle.ft_keys.specs.declared.key.Part.{Part}
+use Rattle.ft_fields.specs.declared.key.Part.{Part}
 
 -- ---- what they make
 

@@ -10,7 +10,7 @@ use Rattle.ft_fields.specs.Fields.{field_of, is_text, is_text_value}
 use Rattle.ft_fields.specs.Traced.{Traced}
 use Rattle.ft_hist.specs.declared.item.KeyItem.{KeyItem}
 use Rattle.ft_hist.specs.declared.modifier.Mode.{Mode}
-use Rattle.ft_keys.specs.declared.key.Part.{Part}
+use Rattle.ft_fields.specs.declared.key.Part.{Part}
 use Rattle.ft_hist.specs.Fitting.{PartFits, KeyFits}
 use Rattle.ft_hist.specs.Hist.{Hist}
 use Rattle.ft_hist.specs.Hit.{part_of, key_of, is_asked, hit}

@@ -3,7 +3,7 @@ use Rattle.std.specs.Prelude.{ℕ, List, [], ◌∷◌, ◌++◌, slice_get, map
 use Rattle.std.specs.Option.{option_map_or}
 use Rattle.ft_fields.specs.declared.event.Name.{Name}
 use Rattle.ft_fields.specs.declared.field.Field.{Field}
-use Rattle.ft_fields.specs.Fields.{text_of}
+use Rattle.ft_fields.specs.Fields.{field_text}
 use Rattle.ft_fields.specs.Names.{name_text}
 use Rattle.ft_filter.specs.Tree.{Tree}
 use Rattle.ft_filter.specs.Canonical.{canonical as filter_text}
@@ -30,24 +30,24 @@ listed [] = []
 listed (text ∷ texts) = text ++ more_items texts
 
 -- a key item: a field and its modifier (kernel: histogram.rst, `keys`)
-abbrev pub key_text : KeyItem → List ℕ
-key_text key = text_of key.field ++ mode_text key.mode
+abbrev pub key_item_text : KeyItem → List ℕ
+key_item_text key = field_text key.field ++ mode_text key.mode
 
 -- the own name of a trigger's variable (kernel: histogram.rst, inter-event hist triggers)
-abbrev pub name_of : Option Var → List ℕ
-name_of None = []
-name_of (Some (vars.Saves name)) = name
-name_of (Some (vars.Reads own source)) = own
+abbrev pub variable_name : Option Var → List ℕ
+variable_name None = []
+variable_name (Some (vars.Saves name)) = name
+variable_name (Some (vars.Reads own source)) = own
 
 -- a value item: a field, or the own variable after a `$` (kernel: histogram.rst, `values`)
 abbrev pub value_text : Option Var → Item → List ℕ
-value_text variable (items.Num field) = text_of field
-value_text variable items.Own = codes "$" ++ name_of variable
+value_text variable (items.Num field) = field_text field
+value_text variable items.Own = codes "$" ++ variable_name variable
 
 -- what rows are sorted by: `hitcount`, a key's field, or a value (kernel: histogram.rst, `sort`)
 abbrev pub by_text : Hist → SortBy → List ℕ
 by_text hist sorts.Hits = codes "hitcount"
-by_text hist (sorts.Key n) = option_map_or (λ key. text_of key.field) (slice_get hist.keys n) []
+by_text hist (sorts.Key n) = option_map_or (λ key. field_text key.field) (slice_get hist.keys n) []
 by_text hist (sorts.Value n) = option_map_or (value_text hist.variable) (slice_get hist.values n) []
 
 -- a sort item; only the greatest first has a suffix (kernel: histogram.rst, `sort`)
@@ -66,7 +66,7 @@ matching_text event = codes "onmatch(sched." ++ unwrap_or (name_text event) []
 
 -- a field that is handed on, after a `,` (kernel: histogram.rst, the `onmatch` handler)
 abbrev pub param_text : Field → List ℕ
-param_text field = codes "," ++ text_of field
+param_text field = codes "," ++ field_text field
 
 -- the event that is made, with what is handed on: the own variable of this name, and two fields (kernel: histogram.rst, the `onmatch` handler)
 abbrev pub making_text : List ℕ → Onmatch → List ℕ
@@ -79,7 +79,7 @@ onmatch_part own onmatch = matching_text onmatch.event ++ making_text own onmatc
 -- an onmatch part after a `:`, where there is one (kernel: histogram.rst, the `onmatch` handler)
 abbrev pub onmatch_text : Option Var → Option Onmatch → List ℕ
 onmatch_text variable None = []
-onmatch_text variable (Some onmatch) = codes ":" ++ onmatch_part (name_of variable) onmatch
+onmatch_text variable (Some onmatch) = codes ":" ++ onmatch_part (variable_name variable) onmatch
 
 -- a filter, after `if` (kernel: events.rst, `if` before a filter)
 abbrev pub if_text : Option Tree → List ℕ
@@ -89,7 +89,7 @@ if_text (Some tree) = codes " if " ++ filter_text tree
 -- a trigger's canonical text: keys, values with `hitcount` in front, variable, sort items, size, onmatch part, filter
 unfoldable pub canonical : Hist → List ℕ
 canonical hist =
-    codes "hist:keys=" ++ listed (map key_text hist.keys)
+    codes "hist:keys=" ++ listed (map key_item_text hist.keys)
     ++ codes ":vals=hitcount" ++ more_items (map (value_text hist.variable) hist.values)
     ++ variable_text hist.variable
     ++ codes ":sort=" ++ listed (map (sort_text hist) hist.sort)

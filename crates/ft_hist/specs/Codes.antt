@@ -1,5 +1,6 @@
 -- How a proof tells triggers apart: by their parts.
 use Rattle.std.specs.Prelude.{ℕ, List, Option, refl}
+use Rattle.std.specs.FinMap as map
 use Rattle.std.specs.Coded.{Coded, code_by, coded×, coded_ℕ, coded_list, coded_option}
 use Rattle.ft_fields.specs.declared.event.Name.{Name}
 use Rattle.ft_fields.specs.contracts.event.Name as name
@@ -16,6 +17,7 @@ use Rattle.ft_hist.specs.contracts.label.Var as var
 use Rattle.ft_hist.specs.declared.onmatch.Onmatch.{Onmatch}
 use Rattle.ft_hist.specs.contracts.onmatch.Onmatch as onmatch
 use Rattle.ft_hist.specs.Hist.{Hist}
+use Rattle.ft_hist.specs.Triggers.{Triggers}
 
 -- a trigger, stored as its parts
 abbrev pub hist_code : Coded Hist
@@ -26,3 +28,7 @@ hist_code = code_by
     (λ t. (t.event, (t.keys, (t.values, (t.sort, (t.variable, (t.size, (t.onmatch, t.filter))))))))
     (λ p. record { event = p.0; keys = p.1.0; values = p.1.1.0; sort = p.1.1.1.0; variable = p.1.1.1.1.0; size = p.1.1.1.1.1.0; onmatch = p.1.1.1.1.1.1.0; filter = p.1.1.1.1.1.1.1 })
     (λ _. refl)
+
+-- attached triggers, stored as their list
+abbrev pub triggers_code : Coded Triggers
+triggers_code = map.code coded_ℕ hist_code

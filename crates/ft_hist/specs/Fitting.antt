@@ -1,7 +1,7 @@
 -- Which keys the key items of a trigger can make (kernel: histogram.rst, `keys` and their modifiers).
 use Rattle.std.specs.Prelude.{List, [], ◌∷◌}
 use Rattle.ft_hist.specs.declared.item.KeyItem.{KeyItem}
-use Rattle.ft_keys.specs.declared.key.Part.{Part}
+use Rattle.ft_fields.specs.declared.key.Part.{Part}
 use Rattle.ft_hist.specs.Matching.{item_kind}
 use Rattle.ft_hist.specs.Modifiers.{IsOfKind}
 

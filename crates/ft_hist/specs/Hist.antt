@@ -25,8 +25,8 @@ hist_with event keys values sort variable size filter =
     record { event = event; keys = keys; values = values; sort = sort; variable = variable; size = size; onmatch = None; filter = option_map (λ f. f.tree) filter }
 
 -- the trigger with this onmatch part, or none, in place of its own
-abbrev pub with_onmatch : Hist → Option Onmatch → Hist
-with_onmatch hist onmatch = record hist { onmatch = onmatch }
+abbrev pub hist_with_onmatch : Hist → Option Onmatch → Hist
+hist_with_onmatch hist onmatch = record hist { onmatch = onmatch }
 
 -- the trigger with this filter, or none, in place of its own
 abbrev pub with_filter : Hist → Option Tree → Hist

@@ -8,7 +8,7 @@ use Rattle.ft_fields.specs.Fields.{field_of}
 use Rattle.ft_filter.specs.Tree.{Tree}
 use Rattle.ft_filter.specs.Holds.{holds}
 use Rattle.ft_hist.specs.declared.item.KeyItem.{KeyItem}
-use Rattle.ft_keys.specs.declared.key.Part.{Part}
+use Rattle.ft_fields.specs.declared.key.Part.{Part}
 use Rattle.ft_hist.specs.Hist.{Hist}
 use Rattle.ft_hist.specs.Modifiers.{value_part}
 

@@ -1,6 +1,7 @@
 pub mod Canonical
 pub mod Codes
 pub mod Fitting
+pub mod FromParts
 pub mod Hist
 pub mod Hit
 pub mod Made
@@ -10,12 +11,13 @@ pub mod Powers
 pub mod Sound
 pub mod Steps
 pub mod Tests
+pub mod Triggers
 pub mod Values
 pub mod inner
 pub use Rattle.ft_fields.specs.Traced
 pub use Rattle.ft_fields.specs.Fields
 pub use Rattle.ft_filter.specs.Tree
 pub use Rattle.ft_filter.specs.Holds
-pub use Rattle.ft_keys.specs.Orders
-pub use Rattle.ft_keys.specs.Parts
-pub use Rattle.ft_keys.specs.Ties
+pub use Rattle.ft_fields.specs.Orders
+pub use Rattle.ft_fields.specs.Parts
+pub use Rattle.ft_fields.specs.Ties

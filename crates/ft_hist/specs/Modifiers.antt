@@ -8,8 +8,8 @@ use Rattle.ft_fields.specs.declared.field.Value.TheVariants as values
 use Rattle.ft_hist.specs.declared.modifier.Mode.{Mode}
 use Rattle.ft_hist.specs.declared.modifier.Mode.TheVariants as modes
 use Rattle.ft_hist.specs.Powers.{log2_of, bucket_of, IsMultiple}
-use Rattle.ft_keys.specs.declared.key.Part.{Part}
-use Rattle.ft_keys.specs.declared.key.Part.TheVariants as parts
+use Rattle.ft_fields.specs.declared.key.Part.{Part}
+use Rattle.ft_fields.specs.declared.key.Part.TheVariants as parts
 
 -- ---- how they are written
 
@@ -25,8 +25,8 @@ abbrev pub named_modes : List Mode
 named_modes = modes.Hex ∷ modes.Log2 ∷ []
 
 -- whether the text is the modifier's name
-abbrev pub is_called : List ℕ → Mode → Bool
-is_called text mode = bytes_eq (mode_name mode) text
+abbrev pub mode_is_called : List ℕ → Mode → Bool
+mode_is_called text mode = bytes_eq (mode_name mode) text
 
 -- what stands after the `.` of a field: nothing, where no `.` stands (kernel: histogram.rst, modifiers)
 abbrev pub mode_suffix : Mode → Option (List ℕ)

@@ -4,14 +4,14 @@ ghost use Rattle.std.specs.Prelude.{◌≡◌, ◌+◌, ◌<◌, ◌≤◌, leng
 ghost use Rattle.std.specs.Option.{option_copied};
 ghost use Rattle.ft_hist.specs.declared.item.KeyItem.{KeyItem};
 ghost use Rattle.ft_hist.specs.Hit.{part_of, key_of, same_name, passes_filter, hit};
-ghost use Rattle.ft_hist.specs.Tests.{asked};
+ghost use Rattle.ft_hist.specs.Made.{counts_made};
+ghost use Rattle.ft_hist.specs.Tests.{tests_taken};
 
 use crate::item::KeyItem;
 use crate::trigger::Trigger;
 use crate::work::Work;
-use ft_fields::{Event, Name};
+use ft_fields::{Event, Key, Name, Part};
 use ft_filter::Filter;
-use ft_keys::{Key, Part};
 
 impl Trigger {
     /// The key that it counts the event under, or `None` where the event is no hit: it is not the
@@ -33,13 +33,20 @@ impl Trigger {
     /// where the trigger is on its name alone.
     pub fn key_of(&self, event: &Event, work: &mut Work) -> Option<Key>
         ensures key { result ≡ hit self.now event.now }
-        ensures evals { work.new.evals ≡ work.old.evals + asked self.now event.now }
+        ensures evals { work.new.evals ≡ work.old.evals + tests_taken self.now event.now }
         ensures puts { work.new.puts ≡ work.old.puts }
     {
         if !is_same(self.event(), event.name()) {
             return None;
         }
         self.hit_of(event, work)
+    }
+
+    /// Whether it counts the events that readings make. Then it counts no held ones.
+    pub fn counts_made(&self) -> bool
+        ensures { result ≡ counts_made self.now }
+    {
+        is_same(self.event(), Name::WakeupLatency)
     }
 }
 

@@ -34,12 +34,12 @@ impl Model for Label {
 }
 
 impl Var {
-    ghost use Rattle.ft_hist.specs.Canonical.{name_of};
+    ghost use Rattle.ft_hist.specs.Canonical.{variable_name};
 
     /// The trigger's own name for it: what its stamps are saved under, or what its differences are
     /// called.
     pub fn own_name(&self) -> &[u8]
-        ensures { result.now ≡ name_of (Some self.now) }
+        ensures { result.now ≡ variable_name (Some self.now) }
     {
         match self {
             Var::Saves(name) => name.bytes(),

@@ -8,7 +8,7 @@ ghost use Rattle.ft_fields.specs.Fields.{field_of};
 ghost use Rattle.ft_fields.specs.Traced.{Traced};
 ghost use Rattle.ft_fields.specs.declared.field.Field.{Field};
 ghost use Rattle.ft_fields.specs.declared.field.Value.TheVariants as values;
-ghost use Rattle.ft_keys.specs.declared.key.Part.{Part};
+ghost use Rattle.ft_fields.specs.declared.key.Part.{Part};
 ghost use Rattle.ft_hist.specs.declared.item.Item.TheVariants as items;
 ghost use Rattle.ft_hist.specs.declared.item.KeyItem.{KeyItem};
 ghost use Rattle.ft_hist.specs.Fitting.{KeyFits};
@@ -18,7 +18,7 @@ ghost use Rattle.ft_hist.specs.Powers.{log2_of, bucket_of, IsMultiple};
 ghost use Rattle.ft_hist.specs.Sound.{key_suits, value_suits};
 ghost use Rattle.ft_hist.specs.Values.{value_at};
 
-pub use ft_keys::laws::{equal_keys, one_key_order};
+pub use ft_fields::laws::{equal_keys, one_key_order};
 
 /// A law: the number that `.log2` gives a value of 64 bits is the least whose power of 2 is not
 /// below the value.

@@ -5,15 +5,22 @@
 //! with or without modifiers, up to three values, at most one variable, one or two sort items, a
 //! size, and perhaps a filter and what it makes events of. An event is a hit if it has the name and
 //! passes the filter; its key is the list of the key fields' values after their modifiers. What a
-//! key is stands below, in `ft_keys`, whose items are passed on.
+//! key is stands below, in `ft_fields`, whose items are passed on.
 //!
 //! ```ignore
+//! let parts = TriggerParts { keys, values, sort, variable, size: 2048 };
+//! let trigger = Trigger::of(Name::Waking, parts, None);
 //! let mut work = Work::new();
 //! if let Some(key) = trigger.hit_of(&event, &mut work) {
 //!     let first = key.part(0);
 //!     let sums = trigger.values_of(&event, latency);
 //! }
 //! trigger.write(&mut text)?;
+//! let mut triggers = Triggers::new(alloc);
+//! triggers.insert(1, trigger)?;
+//! for (id, trigger) in triggers.iter() {
+//!     assert_eq!((*id, trigger.size()), (1, 2048));
+//! }
 //! ```
 //!
 //! # Contracts
@@ -39,6 +46,10 @@
 //!   the microseconds between the two, and the numbers of both fields.
 //! - `Trigger::keys_match`: whether the keys of two triggers make parts of the same kinds; exact,
 //!   with a clause `meaning`.
+//! - `Trigger::counts_made`: whether it is on the name of made events (`specs/Made.antt`); exact.
+//! - `Triggers`, attached triggers by id: contracts see a finite map (`specs/Triggers.antt`). `len`,
+//!   `get`, `iter`, `remove`, `set_filter`: exact. A refused `insert` leaves the map as it was.
+//!   `insert` lets through: running out of memory at any time.
 //! - `Work`: two counters that contracts alone see. Lets through: a tick for anything. No clause
 //!   says what a step is.
 //! - Law `powers`: `.log2` gives the least n for which 2 to the n is not below the value.
@@ -57,11 +68,12 @@ mod matching;
 mod modifier;
 mod onmatch;
 mod trigger;
+mod triggers;
 mod values;
 mod work;
 mod writing;
 
-pub use ft_keys::{Key, Part};
+pub use ft_fields::{Key, Part};
 pub use item::{Item, KeyItem, SortBy, SortItem};
 pub use label::{Label, Var};
 pub use laws::{
@@ -69,5 +81,6 @@ pub use laws::{
 };
 pub use modifier::{Mode, mode_named};
 pub use onmatch::Onmatch;
-pub use trigger::Trigger;
+pub use trigger::{Trigger, TriggerParts};
+pub use triggers::Triggers;
 pub use work::Work;

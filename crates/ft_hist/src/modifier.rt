@@ -3,13 +3,12 @@
 ghost use Rattle.std.specs.Prelude.{◌≡◌, ◌++◌, OnOk, OnErr};
 ghost use Rattle.std.specs.List.{find};
 ghost use Rattle.ft_text.specs.Fronts.{IsFront};
-ghost use Rattle.ft_hist.specs.Modifiers.{mode_name, named_modes, is_called, mode_text};
+ghost use Rattle.ft_hist.specs.Modifiers.{mode_name, named_modes, mode_is_called, mode_text};
 ghost use Rattle.ft_hist.specs.Modifiers.{number_part, text_part, value_part};
 ghost use Rattle.ft_hist.specs.Modifiers.{number_kind, same_kind};
 ghost use Rattle.ft_hist.specs.Powers.{log2_of, bucket_of};
 
-use ft_fields::{Comm, Value};
-use ft_keys::Part;
+use ft_fields::{Comm, Part, Value};
 use ft_text::write_decimal;
 use std::alloc::AllocError;
 
@@ -31,7 +30,7 @@ const NAMED: [Mode; 2] = [Mode::Hex, Mode::Log2];
 
 /// The modifier that is this name and nothing else, where there is one.
 pub fn mode_named(name: &[u8]) -> Option<Mode>
-    ensures { result ≡ find (is_called name.now) named_modes }
+    ensures { result ≡ find (mode_is_called name.now) named_modes }
 {
     NAMED.iter().copied().find(|mode| mode.name() == name)
 }

@@ -3,7 +3,8 @@
 ghost use Rattle.std.specs.Prelude.{◌≡◌, ◌<◌, ◌≤◌, length, option_map, IsTrue, true};
 ghost use Rattle.std.specs.List.{list_all};
 ghost use Rattle.std.specs.Option.{option_copied, option_map_or, ForSome};
-ghost use Rattle.ft_hist.specs.Hist.{IsWithin, hist_with, with_onmatch, with_filter};
+ghost use Rattle.ft_hist.specs.Hist.{IsWithin, hist_with_onmatch, with_filter};
+ghost use Rattle.ft_hist.specs.FromParts.{hist_of_parts};
 ghost use Rattle.ft_hist.specs.Sound.{key_suits, value_suits, by_suits, onmatch_suits, IsSound};
 
 use crate::item::{Item, KeyItem, SortItem};
@@ -44,6 +45,21 @@ impl Model for Trigger {
     ghost invariant = { IsWhole };
 }
 
+/// What a trigger counts under, what it sums and saves, and how its rows are kept and sorted.
+#[derive(Drop)]
+pub struct TriggerParts {
+    /// What it counts events under, 1 to 3 items.
+    pub keys: Vec<KeyItem>,
+    /// What it sums, at most 3 items.
+    pub values: Vec<Item>,
+    /// How its rows are sorted, 1 or 2 items.
+    pub sort: Vec<SortItem>,
+    /// Its variable, if it has one.
+    pub variable: Option<Var>,
+    /// The most keys that its table holds, 128 to 131,072.
+    pub size: u32,
+}
+
 impl Trigger {
     /// A trigger of these parts, which makes no events.
     ///
@@ -52,30 +68,19 @@ impl Trigger {
     /// items are the event's and the trigger's own, and the filter is for the event. No test of
     /// that is offered: whoever reads a text has found it out part by part, each with a fault and a
     /// place of its own, and would have no answer left to give here.
-    pub fn of(
-        event: Name,
-        keys: Vec<KeyItem>,
-        values: Vec<Item>,
-        sort: Vec<SortItem>,
-        variable: Option<Var>,
-        size: u32,
-        filter: Option<Filter>,
-    ) -> Trigger
-        requires within { IsWithin
-            (hist_with event keys.items values.items sort.items variable size filter) }
-        requires sound { IsSound
-            (hist_with event keys.items values.items sort.items variable size filter) }
+    pub fn of(event: Name, parts: TriggerParts, filter: Option<Filter>) -> Trigger
+        requires within { IsWithin (hist_of_parts event parts filter) }
+        requires sound { IsSound (hist_of_parts event parts filter) }
         requires filter { ForSome filter (λ f. f.event ≡ event) }
-        ensures { result
-            ≡ hist_with event keys.items values.items sort.items variable size filter }
+        ensures { result ≡ hist_of_parts event parts filter }
     {
         Trigger {
             event,
-            keys,
-            values,
-            sort,
-            variable,
-            size,
+            keys: parts.keys,
+            values: parts.values,
+            sort: parts.sort,
+            variable: parts.variable,
+            size: parts.size,
             onmatch: None,
             filter,
         }
@@ -151,8 +156,8 @@ impl Trigger {
 
     /// Takes this onmatch part, or none, in place of its own. All else stays.
     pub fn set_onmatch(&mut self, onmatch: Option<Onmatch>)
-        requires { IsSound (with_onmatch self.old onmatch) }
-        ensures { self.new ≡ with_onmatch self.old onmatch }
+        requires { IsSound (hist_with_onmatch self.old onmatch) }
+        ensures { self.new ≡ hist_with_onmatch self.old onmatch }
     {
         self.onmatch = onmatch;
     }

@@ -2,7 +2,7 @@
 
 ghost use Rattle.std.specs.Prelude.{◌≡◌, ◌+◌};
 
-use ft_counts::Count;
+use ft_maps::Count;
 use std::marker::Model;
 
 /// Two counts of steps: how often an event was tested against a trigger, and how often something

@@ -5,9 +5,9 @@
 ghost use Rattle.std.specs.Prelude.{◌≡◌, ◌++◌, OnOk, OnErr, map, option_map, codes, decimal};
 ghost use Rattle.std.specs.Option.{option_copied};
 ghost use Rattle.ft_text.specs.Fronts.{IsFront};
-ghost use Rattle.ft_hist.specs.Canonical.{canonical, listed, more_items, key_text};
+ghost use Rattle.ft_hist.specs.Canonical.{canonical, listed, more_items, key_item_text};
 ghost use Rattle.ft_hist.specs.Canonical.{value_text, by_text, sort_text};
-ghost use Rattle.ft_hist.specs.Canonical.{name_of, variable_text, if_text};
+ghost use Rattle.ft_hist.specs.Canonical.{variable_name, variable_text, if_text};
 ghost use Rattle.ft_hist.specs.Canonical.{matching_text, param_text, making_text, onmatch_text};
 
 use crate::item::{Item, KeyItem, SortBy, SortItem};
@@ -51,7 +51,7 @@ fn write_trigger(trigger: &Trigger, text: &mut Vec<u8>) -> Result<(), AllocError
 /// Adds what is counted: the keys, and the values with `hitcount` in front.
 fn write_counted(trigger: &Trigger, text: &mut Vec<u8>) -> Result<(), AllocError>
     ensures ok { OnOk result (text.new.items ≡ text.old.items
-        ++ (codes "hist:keys=" ++ listed (map key_text trigger.now.keys)
+        ++ (codes "hist:keys=" ++ listed (map key_item_text trigger.now.keys)
         ++ codes ":vals=hitcount"
         ++ more_items (map (value_text trigger.now.variable) trigger.now.values))) }
     ensures err { OnErr result (IsFront text.old.items text.new.items) }
@@ -77,7 +77,7 @@ fn write_table(trigger: &Trigger, text: &mut Vec<u8>) -> Result<(), AllocError>
 
 /// Adds key items with a `,` between each two.
 fn write_keys(keys: &[KeyItem], text: &mut Vec<u8>) -> Result<(), AllocError>
-    ensures ok { OnOk result (text.new.items ≡ text.old.items ++ listed (map key_text keys.now)) }
+    ensures ok { OnOk result (text.new.items ≡ text.old.items ++ listed (map key_item_text keys.now)) }
     ensures err { OnErr result (IsFront text.old.items text.new.items) }
 {
     if keys.is_empty() {
@@ -93,7 +93,7 @@ fn write_keys(keys: &[KeyItem], text: &mut Vec<u8>) -> Result<(), AllocError>
 
 /// Adds a key item: a field and its modifier.
 fn write_key(key: KeyItem, text: &mut Vec<u8>) -> Result<(), AllocError>
-    ensures ok { OnOk result (text.new.items ≡ text.old.items ++ key_text key) }
+    ensures ok { OnOk result (text.new.items ≡ text.old.items ++ key_item_text key) }
     ensures err { OnErr result (IsFront text.old.items text.new.items) }
 {
     text.extend_from_slice(field_text(key.field))?;
@@ -244,7 +244,7 @@ fn write_making(
     text: &mut Vec<u8>,
 ) -> Result<(), AllocError>
     ensures ok { OnOk result (text.new.items ≡ text.old.items
-        ++ making_text (name_of (option_copied variable.entry)) onmatch.now) }
+        ++ making_text (variable_name (option_copied variable.entry)) onmatch.now) }
     ensures err { OnErr result (IsFront text.old.items text.new.items) }
 {
     write_own(variable, text)?;
@@ -256,7 +256,7 @@ fn write_making(
 /// Adds the name of the event that is made, and the own variable.
 fn write_own(variable: Option<&Var>, text: &mut Vec<u8>) -> Result<(), AllocError>
     ensures ok { OnOk result (text.new.items ≡ text.old.items
-        ++ (codes ").wakeup_latency($" ++ name_of (option_copied variable.entry))) }
+        ++ (codes ").wakeup_latency($" ++ variable_name (option_copied variable.entry))) }
     ensures err { OnErr result (IsFront text.old.items text.new.items) }
 {
     text.extend_from_slice(b").wakeup_latency($")?;

@@ -9,15 +9,15 @@ use Rattle.std.specs.FinMap.{find, is_sorted, entries_sorted, get-entries, get-e
 use Rattle.ft_maps.specs.Entries.{and_left, and_right, is_less}
 pub use Rattle.ft_maps.specs.Entries.{equal_from_tie as is_equal}
 use Rattle.ft_hits.specs.declared.spot.Spot.{Spot}
-use Rattle.ft_keys.specs.declared.key.Part.{Part}
-use Rattle.ft_keys.specs.Parts.{key_cmp}
+use Rattle.ft_fields.specs.declared.key.Part.{Part}
+use Rattle.ft_fields.specs.Parts.{key_cmp}
 use Rattle.ft_hits.specs.declared.mark.Mark.{Mark}
 use Rattle.ft_hits.specs.Spots.{spot_cmp, spot_cmp_total, spot_same}
 use Rattle.ft_hits.specs.Marks.{mark_cmp, mark_cmp_total, mark_same}
 use Rattle.ft_hits.specs.Hits.{EntryHits, Hits, same_key, hits_of}
-use Rattle.ft_hits.specs.ByKey.{ByKey, flat}
-use Rattle.ft_keys.specs.Orders.{key_cmp_total}
-use Rattle.ft_keys.specs.Ties.{key_same}
+use Rattle.ft_hits.specs.ByKey.{HitsByKey, flat}
+use Rattle.ft_fields.specs.Orders.{key_cmp_total}
+use Rattle.ft_fields.specs.Ties.{key_same}
 
 abbrev pub mark : Spot → List Part → Mark
 mark spot key = record { spot = spot; key = key }
@@ -110,7 +110,7 @@ find-flat q (entry ∷ by_key) h =
     ] refl here
 
 -- a hit stands in the entry of its key
-pub get-flat : (by_key : ByKey) (q : Mark) → map.get (flat by_key) q ≡ option_and_then (λ entry. map.get entry q.spot) (map.get by_key q.key)
+pub get-flat : (by_key : HitsByKey) (q : Mark) → map.get (flat by_key) q ≡ option_and_then (λ entry. map.get entry q.spot) (map.get by_key q.key)
 unfolding flat
 get-flat by_key q = get-from_entries mark_cmp_total _ q ∙ find-flat q (map.entries by_key) (entries_sorted by_key) ∙ ap (option_and_then (λ entry. map.get entry q.spot)) (sym (get-entries by_key q.key))
 
@@ -119,22 +119,22 @@ entry_get None spot = sym (get-empty spot_cmp spot)
 entry_get (Some entry) spot = refl
 
 -- the hits of a key are those of its entry
-pub hits_of-flat : (by_key : ByKey) (key : List Part) → hits_of (flat by_key) key ≡ unwrap_or (map.get by_key key) map.empty
+pub hits_of-flat : (by_key : HitsByKey) (key : List Part) → hits_of (flat by_key) key ≡ unwrap_or (map.get by_key key) map.empty
 hits_of-flat by_key key = same_map spot_cmp_total spot_same _ _ (λ spot. get-hits_of (flat by_key) spot key ∙ get-flat by_key (mark spot key) ∙ entry_get (map.get by_key key) spot)
 
 -- ---- putting a hit in, and taking one out
 
-pub at_key : (by_key : ByKey) (m q : Mark) (entry : EntryHits) → map.get (flat (map.insert by_key m.key entry)) q ≡ cond (same_key q.key m.key) (map.get entry q.spot) (map.get (flat by_key) q)
+pub at_key : (by_key : HitsByKey) (m q : Mark) (entry : EntryHits) → map.get (flat (map.insert by_key m.key entry)) q ≡ cond (same_key q.key m.key) (map.get entry q.spot) (map.get (flat by_key) q)
 at_key by_key m q entry =
     get-flat (map.insert by_key m.key entry) q
     ∙ ap (option_and_then (λ entry. map.get entry q.spot)) (get-insert key_cmp_total by_key m.key entry q.key)
     ∙ elim (same_key q.key m.key) as (λ b. option_and_then (λ entry. map.get entry q.spot) (cond b (Some entry) (map.get by_key q.key)) ≡ cond b (map.get entry q.spot) (map.get (flat by_key) q)) [ true ↦ refl | false ↦ sym (get-flat by_key q) ]
 
-entry_of : (by_key : ByKey) (m q : Mark) → same_key q.key m.key ≡ true → map.get (unwrap_or (map.get by_key m.key) map.empty) q.spot ≡ map.get (flat by_key) q
+entry_of : (by_key : HitsByKey) (m q : Mark) → same_key q.key m.key ≡ true → map.get (unwrap_or (map.get by_key m.key) map.empty) q.spot ≡ map.get (flat by_key) q
 entry_of by_key m q same =
     ap (λ k. map.get (unwrap_or (map.get by_key k) map.empty) q.spot) (sym (same_is q.key m.key same)) ∙ sym (entry_get (map.get by_key q.key) q.spot) ∙ sym (get-flat by_key q)
 
-pub flat-insert : (by_key : ByKey) (m : Mark) (v : List ℤ) → flat (map.insert by_key m.key (map.insert (unwrap_or (map.get by_key m.key) map.empty) m.spot v)) ≡ map.insert (flat by_key) m v
+pub flat-insert : (by_key : HitsByKey) (m : Mark) (v : List ℤ) → flat (map.insert by_key m.key (map.insert (unwrap_or (map.get by_key m.key) map.empty) m.spot v)) ≡ map.insert (flat by_key) m v
 flat-insert by_key m v = same_map mark_cmp_total mark_same _ _ (λ q.
     at_key by_key m q (map.insert (unwrap_or (map.get by_key m.key) map.empty) m.spot v)
     ∙ ap (λ o. cond (same_key q.key m.key) o (map.get (flat by_key) q)) (get-insert spot_cmp_total (unwrap_or (map.get by_key m.key) map.empty) m.spot v q.spot)
@@ -145,7 +145,7 @@ flat-insert by_key m v = same_map mark_cmp_total mark_same _ _ (λ q.
     ∙ ap (λ b. cond b (Some v) (map.get (flat by_key) q)) (sym (marks_tie q m))
     ∙ sym (get-insert mark_cmp_total (flat by_key) m v q))
 
-pub flat-remove : (by_key : ByKey) (m : Mark) (entry : EntryHits) → map.get by_key m.key ≡ Some entry → flat (map.insert by_key m.key (map.remove entry m.spot)) ≡ map.remove (flat by_key) m
+pub flat-remove : (by_key : HitsByKey) (m : Mark) (entry : EntryHits) → map.get by_key m.key ≡ Some entry → flat (map.insert by_key m.key (map.remove entry m.spot)) ≡ map.remove (flat by_key) m
 flat-remove by_key m entry is = same_map mark_cmp_total mark_same _ _ (λ q.
     at_key by_key m q (map.remove entry m.spot)
     ∙ ap (λ o. cond (same_key q.key m.key) o (map.get (flat by_key) q)) (get-remove spot_cmp_total entry m.spot q.spot)
@@ -156,17 +156,17 @@ flat-remove by_key m entry is = same_map mark_cmp_total mark_same _ _ (λ q.
     ∙ ap (λ b. cond b None (map.get (flat by_key) q)) (sym (marks_tie q m))
     ∙ sym (get-remove mark_cmp_total (flat by_key) m q))
 
-nowhere : (by_key : ByKey) (m q : Mark) → map.get by_key m.key ≡ None → (b : Bool) → eq_by_cmp mark_cmp q m ≡ b → map.get (flat by_key) q ≡ cond b None (map.get (flat by_key) q)
+nowhere : (by_key : HitsByKey) (m q : Mark) → map.get by_key m.key ≡ None → (b : Bool) → eq_by_cmp mark_cmp q m ≡ b → map.get (flat by_key) q ≡ cond b None (map.get (flat by_key) q)
 nowhere by_key m q none true tie =
     ap (map.get (flat by_key)) (mark_same q m (is_equal _ tie)) ∙ get-flat by_key m ∙ ap (option_and_then (λ entry. map.get entry m.spot)) none
 nowhere by_key m q none false tie = refl
 
-pub flat-absent : (by_key : ByKey) (m : Mark) → map.get by_key m.key ≡ None → flat by_key ≡ map.remove (flat by_key) m
+pub flat-absent : (by_key : HitsByKey) (m : Mark) → map.get by_key m.key ≡ None → flat by_key ≡ map.remove (flat by_key) m
 flat-absent by_key m none = same_map mark_cmp_total mark_same _ _ (λ q. nowhere by_key m q none (eq_by_cmp mark_cmp q m) refl ∙ sym (get-remove mark_cmp_total (flat by_key) m q))
 
 -- ---- a key without hits
 
-no_hits_at : (by_key : ByKey) (key : List Part) (q : Mark) → map.get by_key key ≡ Some map.empty → (b : Bool) → same_key q.key key ≡ b
+no_hits_at : (by_key : HitsByKey) (key : List Part) (q : Mark) → map.get by_key key ≡ Some map.empty → (b : Bool) → same_key q.key key ≡ b
     → option_and_then (λ entry. map.get entry q.spot) (cond b None (map.get by_key q.key)) ≡ option_and_then (λ entry. map.get entry q.spot) (map.get by_key q.key)
 no_hits_at by_key key q is true same =
     sym (ap (λ k. option_and_then (λ entry. map.get entry q.spot) (map.get by_key k)) (same_is q.key key same)
@@ -174,7 +174,7 @@ no_hits_at by_key key q is true same =
 no_hits_at by_key key q is false same = refl
 
 -- can go
-pub flat-clear : (by_key : ByKey) (key : List Part) → map.get by_key key ≡ Some map.empty → flat (map.remove by_key key) ≡ flat by_key
+pub flat-clear : (by_key : HitsByKey) (key : List Part) → map.get by_key key ≡ Some map.empty → flat (map.remove by_key key) ≡ flat by_key
 flat-clear by_key key is = same_map mark_cmp_total mark_same _ _ (λ q.
     get-flat (map.remove by_key key) q ∙ ap (option_and_then (λ entry. map.get entry q.spot)) (get-remove key_cmp_total by_key key q.key)
     ∙ no_hits_at by_key key q is (same_key q.key key) refl ∙ sym (get-flat by_key q))

@@ -3,10 +3,10 @@ use Rattle.std.proofs.Common.{◌≡◌, Bool, true, false, cond, List, refl, ap
 use Rattle.std.specs.Prelude.{ℤ}
 use Rattle.std.specs.List.{flat_map}
 use Rattle.std.specs.FinMap as map
-use Rattle.ft_keys.specs.declared.key.Part.{Part}
-use Rattle.ft_keys.specs.Parts.{key_cmp}
+use Rattle.ft_fields.specs.declared.key.Part.{Part}
+use Rattle.ft_fields.specs.Parts.{key_cmp}
 use Rattle.ft_maps.specs.Entries.{entries-empty}
-use Rattle.ft_hits.specs.ByKey.{ByKey, flat}
+use Rattle.ft_hits.specs.ByKey.{HitsByKey, flat}
 use Rattle.ft_hits.specs.Hits.{EntryHits, TakesHits, same_key}
 use Rattle.ft_hits.proofs.Flat.{mark, same_itself, same_is, at_key}
 
@@ -14,7 +14,7 @@ apart : (k q : List Part) → (k ≡ q → ⊥) → (b : Bool) → same_key k q 
 apart k q ne true same = absurd (ne (same_is k q same))
 apart k q ne false same = refl
 
-pub flat-put : (by_key : ByKey) (key : List Part) (entry : EntryHits) → TakesHits key entry (flat by_key) (flat (map.insert by_key key entry))
+pub flat-put : (by_key : HitsByKey) (key : List Part) (entry : EntryHits) → TakesHits key entry (flat by_key) (flat (map.insert by_key key entry))
 flat-put by_key key entry = record {
   here = λ spot. at_key by_key (mark spot key) (mark spot key) entry ∙ ap (λ b. cond b (map.get entry spot) (map.get (flat by_key) (mark spot key))) (same_itself key);
   others = λ m ne. at_key by_key (mark m.spot key) m entry ∙ ap (λ b. cond b (map.get entry m.spot) (map.get (flat by_key) m)) (apart m.key key ne (same_key m.key key) refl);

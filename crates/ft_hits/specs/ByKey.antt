@@ -4,17 +4,17 @@ use Rattle.std.specs.List.{flat_map}
 use Rattle.std.specs.BTreeMap.{BTreeMap}
 use Rattle.std.specs.FinMap as map
 use Rattle.std.specs.FinMap.{FinMap}
-use Rattle.ft_keys.specs.declared.key.Part.{Part}
-use Rattle.ft_keys.specs.Parts.{key_cmp}
+use Rattle.ft_fields.specs.declared.key.Part.{Part}
+use Rattle.ft_fields.specs.Parts.{key_cmp}
 use Rattle.ft_maps.specs.Seen.{seen}
 use Rattle.ft_hits.specs.Hits.{Hits, EntryHits}
 
 -- the hits of each key
-abbrev pub ByKey : Type 0
-ByKey = FinMap key_cmp EntryHits
+abbrev pub HitsByKey : Type 0
+HitsByKey = FinMap key_cmp EntryHits
 
 -- all hits, of the hits of each key
-unfoldable pub flat : ByKey → Hits
+unfoldable pub flat : HitsByKey → Hits
 flat by_key = map.from_entries (flat_map (λ entry. list_map (λ e. (record { spot = e.0; key = entry.0 }, e.1)) (map.entries entry.1)) (map.entries by_key))
 
 -- all hits of a tree with an entry for each key

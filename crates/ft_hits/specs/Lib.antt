@@ -6,5 +6,5 @@ pub mod Spots
 pub mod inner
 pub use Rattle.ft_fields.specs.Places
 pub use Rattle.ft_hist.specs.Steps
-pub use Rattle.ft_keys.specs.Parts
+pub use Rattle.ft_fields.specs.Parts
 pub use Rattle.ft_maps.specs.Seen

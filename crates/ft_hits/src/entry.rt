@@ -8,7 +8,7 @@ ghost use Rattle.ft_hits.specs.Hits.{sums_of, least_key, first_place, hitcount, 
 ghost use Rattle.ft_hits.specs.Hits.{first_entry, hits_after};
 ghost use Rattle.ft_hits.specs.ByKey.{hits_in};
 ghost use Rattle.ft_hits.specs.Marks.{mark_of};
-ghost use Rattle.ft_keys.specs.Parts.{key_cmp};
+ghost use Rattle.ft_fields.specs.Parts.{key_cmp};
 ghost use Rattle.ft_maps.specs.Seen.{seen};
 ghost use Rattle.ft_hits.specs.Hits.{hit_after};
 ghost use Rattle.ft_hits.specs.inner.Held.{only};

@@ -14,10 +14,11 @@ use Rattle.ft_fields.specs.Traced.{Traced}
 use Rattle.ft_fields.specs.declared.pos.Pos.{Pos}
 use Rattle.ft_groups.specs.Grouped.{AreGrouped, Grouped, is_under, run_of, run_under}
 use Rattle.ft_hist.specs.Hist.{Hist}
+use Rattle.ft_hist.specs.Triggers.{Triggers}
 use Rattle.ft_hist.specs.Hit.{hit}
-use Rattle.ft_keys.specs.Orders.{key_cmp_total}
-use Rattle.ft_keys.specs.Ties.{key_same}
-use Rattle.ft_keys.specs.declared.key.Part.{Part}
+use Rattle.ft_fields.specs.Orders.{key_cmp_total}
+use Rattle.ft_fields.specs.Ties.{key_same}
+use Rattle.ft_fields.specs.declared.key.Part.{Part}
 use Rattle.ft_maps.specs.Entries.{strictly_sorted}
 use Rattle.ft_pairs.specs.ByKey.{ops_of}
 use Rattle.ft_pairs.specs.Order.{at_cmp, at_cmp_total}
@@ -42,7 +43,7 @@ use Rattle.ft_shelves.specs.Joining.{HasGroups, HasSaves, hits_of_run, saves_of_
 use Rattle.ft_shelves.proofs.Decided.{decided, itself, none_not_some, untied}
 use Rattle.ft_shelves.proofs.Finding.{find-filter, find-turned, none_both}
 use Rattle.ft_kept.proofs.Forms.{admits_by, by_id, edited, hits_by, ops_by, read_by, role_at, same_admits, same_hits, same_ops, same_read}
-use Rattle.ft_kept.proofs.Owing.{alike_source, entry_same, op_elsewhere, op_read}
+use Rattle.ft_kept.proofs.Staleness.{alike_source, entry_same, op_elsewhere, op_read}
 use Rattle.ft_kept.proofs.Putting.{absent_read, values_there}
 
 -- ---- in a run
@@ -180,7 +181,7 @@ unread_entry values ops at (Reads saver) (Some a) hits read no_reader unread her
 
 -- ---- all acts of one trigger
 
-module _ (triggers : FinMap nat_cmp Hist) (old new : Shelves) (id : ℕ) (shelf after : Shelved) (was : map.get old id ≡ Some shelf) (is : map.get new id ≡ Some after)
+module _ (triggers : Triggers) (old new : Shelves) (id : ℕ) (shelf after : Shelved) (was : map.get old id ≡ Some shelf) (is : map.get new id ≡ Some after)
     (others : (i : ℕ) → (i ≡ id → ⊥) → map.get new i ≡ map.get old i) (hist : Hist) (attached : map.get triggers id ≡ Some hist) (groups : Grouped)
     (table : HasGroups hist groups shelf.table after.table) (role : after.role ≡ shelf.role) (readings : after.readings ≡ shelf.readings) where
   -- no hit of an event that a trigger made comes

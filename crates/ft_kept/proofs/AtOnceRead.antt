@@ -15,9 +15,10 @@ use Rattle.ft_fields.specs.Traced.{Traced}
 use Rattle.ft_fields.specs.declared.pos.Pos.{Pos}
 use Rattle.ft_groups.specs.Grouped.{AreGrouped, Grouped, is_under, run_of, run_under}
 use Rattle.ft_hist.specs.Hist.{Hist}
-use Rattle.ft_keys.specs.Orders.{key_cmp_total}
-use Rattle.ft_keys.specs.Ties.{key_same}
-use Rattle.ft_keys.specs.declared.key.Part.{Part}
+use Rattle.ft_hist.specs.Triggers.{Triggers}
+use Rattle.ft_fields.specs.Orders.{key_cmp_total}
+use Rattle.ft_fields.specs.Ties.{key_same}
+use Rattle.ft_fields.specs.declared.key.Part.{Part}
 use Rattle.ft_maps.specs.Entries.{strictly_sorted}
 use Rattle.ft_pairs.specs.ByKey.{ops_of}
 use Rattle.ft_pairs.specs.Edits.{same_at}
@@ -41,17 +42,17 @@ use Rattle.ft_kept.specs.AtOnce.{AllCome, IsBare, acts_with}
 use Rattle.ft_shelves.specs.Joining.{AreGroupsOf}
 use Rattle.ft_kept.specs.Entries.{IsEntry, IsKept, IsRight, hits_here, one_hit, read_here}
 use Rattle.ft_kept.specs.Repairs.{AreShelved}
-use Rattle.ft_shelves.specs.Shelves.{ChangesShelf, FormsStay, MadeStay, Shelved, Shelves, admits_on, is_saver, kept_on, role_on}
+use Rattle.ft_shelves.specs.Shelves.{ChangesShelf, FormsStay, MadeStay, Readings, Shelved, Shelves, admits_on, is_saver, kept_on, role_on}
 use Rattle.ft_shelves.specs.Edits.{OpsChange}
 use Rattle.ft_shelves.specs.Joining.{ReadingsSet, RunComes, found_last}
 use Rattle.ft_kept.specs.inner.JoiningReads.{hits_found, readings_found, reads_of_run}
 use Rattle.ft_kept.proofs.AtOnce.{counted_acts, run_found}
 use Rattle.ft_shelves.proofs.Both.{and_false, and_true}
 use Rattle.ft_shelves.proofs.Decided.{decided, itself, untied}
-use Rattle.ft_kept.proofs.Forms.{admits_by, by_id, changed_forms, forms_refl, forms_trans, hits_by, ops_by, read_admits, read_by, read_elsewhere, read_forms, read_here as read_op_here, read_hits, read_readings, role_at, roles_stay, same_admits, same_hits, same_ops, same_read, shelf_stays}
+use Rattle.ft_kept.proofs.Forms.{changed_forms, forms_refl, forms_trans, hits_by, read_admits, read_elsewhere, read_forms, read_here as read_op_here, read_hits, read_readings, role_at, roles_stay, same_hits, same_read, shelf_stays, tells_here, tells_same}
 use Rattle.ft_kept.proofs.FoundRuns.{any_read, found_at, found_hit, found_there, hits_at, read_or, readings_at, sorted_filter, source_at, told_behind}
 use Rattle.ft_shelves.proofs.KeyByKey.{IsOnce, no_run}
-use Rattle.ft_kept.proofs.Owing.{alike_source, entry_same, op_absent, op_elsewhere, op_none, op_read}
+use Rattle.ft_kept.proofs.Staleness.{alike_source, entry_same, op_absent, op_elsewhere, op_none, op_read}
 use Rattle.ft_kept.proofs.Putting.{values_there}
 
 id_decided : (i j : ℕ) → (i ≡ j) ⊎ (i ≡ j → ⊥)
@@ -81,24 +82,15 @@ module _ (id : ℕ) (key : List Part) (run : List (Spot × List ℤ)) (old new :
 
   -- operations stay
   pub run_ops : (variable : Variable) (q : At) → (kept_on new).ops variable q ≡ (kept_on old).ops variable q
-  run_ops variable q = by_id (λ i. (kept_on new).ops (record { saver = i; key = variable.key }) q ≡ (kept_on old).ops (record { saver = i; key = variable.key }) q) id (here (map.get old id) refl)
-      (λ i other. same_ops old new i (h.others i other) variable.key q) variable.saver
-    where
-      here : (o : Option Shelved) → map.get old id ≡ o → (kept_on new).ops (record { saver = id; key = variable.key }) q ≡ (kept_on old).ops (record { saver = id; key = variable.key }) q
-      here None is = ops_by new id None (h.none is) variable.key q ∙ sym (ops_by old id None is variable.key q)
-      here (Some shelf) is =
-          let after = h.here shelf is in
-          ops_by new id (Some after.0) after.1.0 variable.key q ∙ ap (λ ops. ops_of ops variable.key q) after.1.1.ops ∙ sym (ops_by old id (Some shelf) is variable.key q)
+  unfolding kept_on
+  run_ops variable q = tells_same id (RunComes key run) old new h (λ o. option_and_then (λ shelf. ops_of shelf.ops variable.key q) o)
+      (λ shelf after is change. ap (λ ops. ops_of ops variable.key q) change.ops) variable.saver
 
   -- readings stay
   pub run_read : (i : ℕ) (pos : Pos) → (kept_on new).read i pos ≡ (kept_on old).read i pos
-  run_read i pos = by_id (λ j. (kept_on new).read j pos ≡ (kept_on old).read j pos) id (here (map.get old id) refl) (λ j other. same_read old new j (h.others j other) pos) i
-    where
-      here : (o : Option Shelved) → map.get old id ≡ o → (kept_on new).read id pos ≡ (kept_on old).read id pos
-      here None is = read_by new id None (h.none is) pos ∙ sym (read_by old id None is pos)
-      here (Some shelf) is =
-          let after = h.here shelf is in
-          read_by new id (Some after.0) after.1.0 pos ∙ ap (λ readings. map.get readings pos) after.1.1.readings ∙ sym (read_by old id (Some shelf) is pos)
+  unfolding kept_on
+  run_read i pos = tells_same id (RunComes key run) old new h (λ o. option_and_then (λ shelf. map.get shelf.readings pos) o)
+      (λ shelf after is change. ap (λ (readings : Readings). map.get readings pos) change.readings) i
 
   -- hits of other triggers stay
   pub run_foreign : (i : ℕ) → (i ≡ id → ⊥) → (mark : Mark) → (kept_on new).hits i mark ≡ (kept_on old).hits i mark
@@ -106,37 +98,22 @@ module _ (id : ℕ) (key : List Part) (run : List (Spot × List ℤ)) (old new :
 
   -- and so do those of other keys
   pub run_apart : (mark : Mark) → (mark.key ≡ key → ⊥) → (kept_on new).hits id mark ≡ (kept_on old).hits id mark
-  run_apart mark apart = here (map.get old id) refl
-    where
-      here : (o : Option Shelved) → map.get old id ≡ o → (kept_on new).hits id mark ≡ (kept_on old).hits id mark
-      here None is = hits_by new id None (h.none is) mark ∙ sym (hits_by old id None is mark)
-      here (Some shelf) is =
-          let after = h.here shelf is in
-          hits_by new id (Some after.0) after.1.0 mark ∙ after.1.1.table.others mark apart ∙ sym (hits_by old id (Some shelf) is mark)
+  unfolding kept_on
+  run_apart mark apart = tells_same id (RunComes key run) old new h (λ o. option_and_then (λ shelf. map.get shelf.table.hits mark) o) (λ shelf after is change. change.table.others mark apart) id
 
   -- those of its own key are the run
   pub run_here : is_some (map.get old id) ≡ true → (spot : Spot) → (kept_on new).hits id (record { spot = spot; key = key }) ≡ map.get (map.from_entries {R = spot_cmp} run) spot
-  run_here shelved spot = here (map.get old id) refl
-    where
-      here : (o : Option Shelved) → map.get old id ≡ o → (kept_on new).hits id (record { spot = spot; key = key }) ≡ map.get (map.from_entries {R = spot_cmp} run) spot
-      here None is = absurd (true≢false (sym shelved ∙ ap is_some is))
-      here (Some shelf) is =
-          let after = h.here shelf is in
-          hits_by new id (Some after.0) after.1.0 (record { spot = spot; key = key }) ∙ after.1.1.table.here spot
+  unfolding kept_on
+  run_here there spot = tells_here id (RunComes key run) old new h (λ o. option_and_then (λ shelf. map.get shelf.table.hits (record { spot = spot; key = key })) o) (map.get (map.from_entries {R = spot_cmp} run) spot) there
+      (λ shelf after is change. change.table.here spot)
 
   -- and so do the keys that savers' tables have, where it is a reader's
   pub run_admits : (saver : ℕ) → role_on old id ≡ Reads saver → (i : ℕ) (k : List Part) → admits_on new i k ≡ admits_on old i k
-  run_admits saver reads i k = by_id (λ j. admits_on new j k ≡ admits_on old j k) id (here (map.get old id) refl) (λ j other. same_admits old new j (h.others j other) k) i
-    where
-      here : (o : Option Shelved) → map.get old id ≡ o → admits_on new id k ≡ admits_on old id k
-      here None is = admits_by new id None (h.none is) k ∙ sym (admits_by old id None is k)
-      here (Some shelf) is =
-          let after = h.here shelf is in
-          let role : shelf.role ≡ Reads saver = sym (role_at old id (Some shelf) is) ∙ reads in
-          admits_by new id (Some after.0) after.1.0 k
-          ∙ ap (λ r. is_saver r && is_in after.0.table k) (after.1.1.role ∙ role)
-          ∙ sym (ap (λ r. is_saver r && is_in shelf.table k) role)
-          ∙ sym (admits_by old id (Some shelf) is k)
+  unfolding admits_on
+  run_admits saver reads i k = tells_same id (RunComes key run) old new h (λ o. option_map_or (λ shelf. is_saver shelf.role && is_in shelf.table k) o false)
+      (λ shelf after is change.
+      let role : shelf.role ≡ Reads saver = sym (role_at old id (Some shelf) is) ∙ reads in
+      ap (λ r. is_saver r && is_in after.table k) (change.role ∙ role) ∙ sym (ap (λ r. is_saver r && is_in shelf.table k) role)) i
 
 -- ---- a shelf's readings are set
 
@@ -151,36 +128,20 @@ module _ (id : ℕ) (told : List (Pos × Pos)) (old new : Shelves) (h : ChangesS
 
   -- operations and hits stay
   pub set_ops : (variable : Variable) (q : At) → (kept_on new).ops variable q ≡ (kept_on old).ops variable q
-  set_ops variable q = by_id (λ i. (kept_on new).ops (record { saver = i; key = variable.key }) q ≡ (kept_on old).ops (record { saver = i; key = variable.key }) q) id (here (map.get old id) refl)
-      (λ i other. same_ops old new i (h.others i other) variable.key q) variable.saver
-    where
-      here : (o : Option Shelved) → map.get old id ≡ o → (kept_on new).ops (record { saver = id; key = variable.key }) q ≡ (kept_on old).ops (record { saver = id; key = variable.key }) q
-      here None is = ops_by new id None (h.none is) variable.key q ∙ sym (ops_by old id None is variable.key q)
-      here (Some shelf) is =
-          let after = h.here shelf is in
-          ops_by new id (Some after.0) after.1.0 variable.key q ∙ ap (λ ops. ops_of ops variable.key q) after.1.1.ops ∙ sym (ops_by old id (Some shelf) is variable.key q)
+  unfolding kept_on
+  set_ops variable q = tells_same id (ReadingsSet told) old new h (λ o. option_and_then (λ shelf. ops_of shelf.ops variable.key q) o)
+      (λ shelf after is change. ap (λ ops. ops_of ops variable.key q) change.ops) variable.saver
 
   pub set_hits : (i : ℕ) (mark : Mark) → (kept_on new).hits i mark ≡ (kept_on old).hits i mark
-  set_hits i mark = by_id (λ j. (kept_on new).hits j mark ≡ (kept_on old).hits j mark) id (here (map.get old id) refl) (λ j other. same_hits old new j (h.others j other) mark) i
-    where
-      here : (o : Option Shelved) → map.get old id ≡ o → (kept_on new).hits id mark ≡ (kept_on old).hits id mark
-      here None is = hits_by new id None (h.none is) mark ∙ sym (hits_by old id None is mark)
-      here (Some shelf) is =
-          let after = h.here shelf is in
-          hits_by new id (Some after.0) after.1.0 mark ∙ ap (λ (table : Tabled). map.get table.hits mark) after.1.1.table ∙ sym (hits_by old id (Some shelf) is mark)
+  unfolding kept_on
+  set_hits i mark = tells_same id (ReadingsSet told) old new h (λ o. option_and_then (λ shelf. map.get shelf.table.hits mark) o)
+      (λ shelf after is change. ap (λ (table : Tabled). map.get table.hits mark) change.table) i
 
   -- so do the keys that savers' tables have
   pub set_admits : (i : ℕ) (k : List Part) → admits_on new i k ≡ admits_on old i k
-  set_admits i k = by_id (λ j. admits_on new j k ≡ admits_on old j k) id (here (map.get old id) refl) (λ j other. same_admits old new j (h.others j other) k) i
-    where
-      here : (o : Option Shelved) → map.get old id ≡ o → admits_on new id k ≡ admits_on old id k
-      here None is = admits_by new id None (h.none is) k ∙ sym (admits_by old id None is k)
-      here (Some shelf) is =
-          let after = h.here shelf is in
-          admits_by new id (Some after.0) after.1.0 k
-          ∙ ap (λ r. is_saver r && is_in after.0.table k) after.1.1.role
-          ∙ ap (λ table. is_saver shelf.role && is_in table k) after.1.1.table
-          ∙ sym (admits_by old id (Some shelf) is k)
+  unfolding admits_on
+  set_admits i k = tells_same id (ReadingsSet told) old new h (λ o. option_map_or (λ shelf. is_saver shelf.role && is_in shelf.table k) o false)
+      (λ shelf after is change. (λ j. is_saver (change.role j) && is_in (change.table j) k)) i
 
   -- and what the readings of others found
   pub set_foreign : (i : ℕ) → (i ≡ id → ⊥) → (pos : Pos) → (kept_on new).read i pos ≡ (kept_on old).read i pos
@@ -188,13 +149,8 @@ module _ (id : ℕ) (told : List (Pos × Pos)) (old new : Shelves) (h : ChangesS
 
   -- its own found what the list tells
   pub set_here : is_some (map.get old id) ≡ true → (pos : Pos) → (kept_on new).read id pos ≡ found_last told pos
-  set_here shelved pos = here (map.get old id) refl
-    where
-      here : (o : Option Shelved) → map.get old id ≡ o → (kept_on new).read id pos ≡ found_last told pos
-      here None is = absurd (true≢false (sym shelved ∙ ap is_some is))
-      here (Some shelf) is =
-          let after = h.here shelf is in
-          read_by new id (Some after.0) after.1.0 pos ∙ after.1.1.readings pos
+  unfolding kept_on
+  set_here there pos = tells_here id (ReadingsSet told) old new h (λ o. option_and_then (λ shelf. map.get shelf.readings pos) o) (found_last told pos) there (λ shelf after is change. change.readings pos)
 
 -- ---- acts under some keys
 
@@ -239,7 +195,7 @@ read_found event None = refl
 read_found event (Some saved) = refl
 
 -- and what its hit adds
-value_found : (triggers : FinMap nat_cmp Hist) (hist : Hist) (id : ℕ) (pos : Pos) (event : Traced) (f : Option At) → map.get triggers id ≡ Some hist
+value_found : (triggers : Triggers) (hist : Hist) (id : ℕ) (pos : Pos) (event : Traced) (f : Option At) → map.get triggers id ≡ Some hist
     → found_hit hist pos (Some (event, f)) ≡ option_map (λ saved. values_by triggers id pos event (Some saved)) (option_map (λ (saved : At). saved.pos) f)
 value_found triggers hist id pos event None attached = refl
 value_found triggers hist id pos event (Some saved) attached = ap Some (sym (values_there triggers id hist pos event (Some saved.pos) attached))
@@ -250,7 +206,7 @@ beside_none (Some a) = refl
 
 -- ---- what is kept, as a reader's acts come key by key
 
-module _ (triggers : FinMap nat_cmp Hist) (hist : Hist) (groups : Grouped) (id saver : ℕ) where
+module _ (triggers : Triggers) (hist : Hist) (groups : Grouped) (id saver : ℕ) where
   abbrev pub own : Pos → At
   own pos = record { pos = pos; trigger = id }
 

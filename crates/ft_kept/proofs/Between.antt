@@ -7,17 +7,18 @@ use Rattle.std.specs.declared.cmp.Ordering.TheVariants.{Less}
 use Rattle.std.specs.Ordering.{nat_cmp, eq_by_cmp, is_eq}
 use Rattle.std.specs.Cmp.{eq_by_cmp_equiv, nat_cmp_total}
 use Rattle.std.specs.FinMap as map
-use Rattle.std.specs.FinMap.{FinMap, find, get-entries}
+use Rattle.std.specs.FinMap.{find, get-entries}
 use Rattle.std.proofs.lemmas.Bool.{true≢false}
 use Rattle.std.proofs.lemmas.Map.Lookups.{exact_unsigned}
 use Rattle.ft_fields.specs.Traced.{Traced, name_of}
 use Rattle.ft_fields.specs.declared.pos.Pos.{Pos}
 use Rattle.ft_hist.specs.Hist.{Hist}
+use Rattle.ft_hist.specs.Triggers.{Triggers}
 use Rattle.ft_hist.specs.Hit.{same_name}
 use Rattle.ft_maps.specs.Entries.{same_from_tie}
 use Rattle.ft_pairs.specs.declared.at.At.{At}
 use Rattle.ft_kept.specs.inner.OneAct.{IsDoneToo}
-use Rattle.ft_hist.specs.Tests.{asked}
+use Rattle.ft_hist.specs.Tests.{tests_taken}
 
 -- the place of a trigger's act at an event's place
 abbrev pub act_of : Pos → ℕ → At
@@ -43,7 +44,7 @@ not_among (e ∷ es) id out = by (eq_by_cmp nat_cmp id e.0) refl (not_among es i
     by false apart rest = ap (λ b. cond b (Some e.1) (find nat_cmp id es)) apart ∙ rest (sym (ap (λ b. not (b || is_among es id)) apart) ∙ out)
 
 -- one that is none of the attached triggers is not attached
-pub not_attached : (triggers : FinMap nat_cmp Hist) (id : ℕ) → all_but (map.entries triggers) id ≡ true → map.get triggers id ≡ None
+pub not_attached : (triggers : Triggers) (id : ℕ) → all_but (map.entries triggers) id ≡ true → map.get triggers id ≡ None
 not_attached triggers id out = get-entries triggers id ∙ not_among (map.entries triggers) id out
 
 above_all : (id : ℕ) (es : List (ℕ × Hist)) → AllByRecursion (λ q. nat_cmp id q ≡ Less) (keys_of es) → is_among es id ≡ false
@@ -68,7 +69,7 @@ done_too e es above = record {
 abbrev pub asked_of : Traced → List (ℕ × Hist) → ℕ
 asked_of event es = length (filter (λ attached. same_name attached.1.event (name_of event.body)) es)
 
-pub asked_more : (event : Traced) (e : ℕ × Hist) (es : List (ℕ × Hist)) → asked_of event (e ∷ es) ≡ asked e.1 event + asked_of event es
+pub asked_more : (event : Traced) (e : ℕ × Hist) (es : List (ℕ × Hist)) → asked_of event (e ∷ es) ≡ tests_taken e.1 event + asked_of event es
 asked_more event e es = by (same_name e.1.event (name_of event.body))
   where
     by : (b : Bool) → length (cond b (e ∷ filter (λ attached. same_name attached.1.event (name_of event.body)) es) (filter (λ attached. same_name attached.1.event (name_of event.body)) es))

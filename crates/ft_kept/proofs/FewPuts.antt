@@ -1,19 +1,18 @@
 -- Which tables stay as one trigger's act comes or goes, and how few things it puts into maps.
 use Rattle.std.proofs.Common.{◌≡◌, ℕ, ◌+◌, ◌*◌, ◌≤◌, Bool, true, false, cond, List, refl, sym, ap, subst, ◌∙◌, Some, None, Option, inl, inr, arith}
 use Rattle.std.specs.Prelude.{◌⊎◌, ◌&&◌, option_map}
-use Rattle.std.specs.Ordering.{nat_cmp}
 use Rattle.std.specs.FinMap as map
-use Rattle.std.specs.FinMap.{FinMap}
 use Rattle.std.proofs.lemmas.Bool.{true≢false}
 use Rattle.ft_fields.specs.Traced.{Traced, name_of}
 use Rattle.ft_hist.specs.Hist.{Hist}
+use Rattle.ft_hist.specs.Triggers.{Triggers}
 use Rattle.ft_hist.specs.Hit.{hit, key_of, passes_filter, same_name}
 use Rattle.ft_hist.specs.Steps.{Steps, StepsGrow}
-use Rattle.ft_keys.specs.declared.key.Part.{Part}
+use Rattle.ft_fields.specs.declared.key.Part.{Part}
 use Rattle.ft_pairs.specs.Source.{Ops}
 use Rattle.ft_kept.specs.inner.OneAct.{IsDoneToo}
 use Rattle.ft_kept.specs.Bounds.{TableEdit, SaverMoves, SomeSaverMoves, OtherSaversStay, table_on}
-use Rattle.ft_hist.specs.Tests.{asked}
+use Rattle.ft_hist.specs.Tests.{tests_taken}
 use Rattle.ft_shelves.specs.Shelves.{ChangesShelf, Shelved, Shelves, FormsStay, is_saver, role_on}
 use Rattle.ft_shelves.specs.Edits.{OpsChange}
 use Rattle.ft_kept.specs.inner.Edits.{ReaderChanges, ReadersChange}
@@ -99,7 +98,7 @@ few_all puts left limit (inl few) = inl (omega (arith, few))
 
 -- ---- a saver's table that moves on the way moved from the start
 
-module _ (edit : TableEdit) (triggers : FinMap nat_cmp Hist) (start now : Shelves) (forms : FormsStay start now) (id : ℕ) (hist : Hist) (attached : map.get triggers id ≡ Some hist)
+module _ (edit : TableEdit) (triggers : Triggers) (start now : Shelves) (forms : FormsStay start now) (id : ℕ) (hist : Hist) (attached : map.get triggers id ≡ Some hist)
     (stays : role_on start id ≡ Saves → table_on now id ≡ table_on start id) where
   saver_moves : SaverMoves edit hist now id → SaverMoves edit hist start id
   saver_moves moves =
@@ -114,10 +113,10 @@ module _ (edit : TableEdit) (triggers : FinMap nat_cmp Hist) (start now : Shelve
 -- ---- one act
 
 -- a hit's event is tested once
-pub hit_asked : (hist : Hist) (event : Traced) (key : List Part) → hit hist event ≡ Some key → asked hist event ≡ 1
+pub hit_asked : (hist : Hist) (event : Traced) (key : List Part) → hit hist event ≡ Some key → tests_taken hist event ≡ 1
 hit_asked hist event key one = by (same_name hist.event (name_of event.body)) refl
   where
-    by : (b : Bool) → same_name hist.event (name_of event.body) ≡ b → asked hist event ≡ 1
+    by : (b : Bool) → same_name hist.event (name_of event.body) ≡ b → tests_taken hist event ≡ 1
     by true is = ap (λ b. cond b 1 0) is
     by false is = absurd (none_not_some (hit hist event) key (ap (λ b. cond (b && passes_filter hist.filter event) (key_of hist.keys event) None) is) one)
 

@@ -10,10 +10,10 @@ use Rattle.std.specs.declared.cmp.Ordering.{Ordering}
 use Rattle.std.specs.declared.cmp.Ordering.TheVariants.{Less, Equal, Greater}
 use Rattle.ft_fields.specs.Traced.{Traced}
 use Rattle.ft_fields.specs.declared.pos.Pos.{Pos}
-use Rattle.ft_keys.specs.Orders.{key_cmp_total}
-use Rattle.ft_keys.specs.Parts.{key_cmp}
-use Rattle.ft_keys.specs.Ties.{key_same}
-use Rattle.ft_keys.specs.declared.key.Part.{Part}
+use Rattle.ft_fields.specs.Orders.{key_cmp_total}
+use Rattle.ft_fields.specs.Parts.{key_cmp}
+use Rattle.ft_fields.specs.Ties.{key_same}
+use Rattle.ft_fields.specs.declared.key.Part.{Part}
 use Rattle.ft_pairs.specs.Edits.{if_read}
 use Rattle.ft_pairs.specs.Order.{at_cmp_total, at_same}
 use Rattle.ft_pairs.specs.Source.{Ops}
@@ -36,7 +36,7 @@ use Rattle.ft_pairs.specs.declared.role.Role.{Role}
 use Rattle.ft_pairs.specs.declared.role.Role.TheVariants.{Plain, Saves, Reads}
 use Rattle.ft_pairs.specs.declared.role.Variable.{Variable}
 use Rattle.ft_shelves.proofs.Decided.{at_decided, decided, itself, key_decided, tied, untied}
-use Rattle.ft_kept.proofs.Owing.{op_absent, op_elsewhere, op_none, op_there}
+use Rattle.ft_kept.proofs.Staleness.{op_absent, op_elsewhere, op_none, op_there}
 
 -- a saver whose table has not the key does not save it
 save_out : (admits : Admits) (s : ℕ) (k : List Part) (id : ℕ) (key : List Part) → admits s k ≡ false → op_as admits Saves (record { saver = s; key = k }) id key ≡ None

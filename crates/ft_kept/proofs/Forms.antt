@@ -5,14 +5,13 @@ use Rattle.std.specs.Option.{option_map_or}
 use Rattle.std.specs.Ordering.{nat_cmp, eq_by_cmp}
 use Rattle.std.specs.Cmp.{eq_by_cmp_equiv, nat_cmp_total}
 use Rattle.std.specs.FinMap as map
-use Rattle.std.specs.FinMap.{FinMap}
 use Rattle.std.proofs.lemmas.Bool.{true≢false}
 use Rattle.std.proofs.lemmas.Map.Lookups.{exact_unsigned}
 use Rattle.ft_fields.specs.declared.pos.Pos.{Pos}
-use Rattle.ft_hist.specs.Hist.{Hist}
-use Rattle.ft_keys.specs.declared.key.Part.{Part}
-use Rattle.ft_keys.specs.Orders.{key_cmp_total}
-use Rattle.ft_keys.specs.Ties.{key_same}
+use Rattle.ft_hist.specs.Triggers.{Triggers}
+use Rattle.ft_fields.specs.declared.key.Part.{Part}
+use Rattle.ft_fields.specs.Orders.{key_cmp_total}
+use Rattle.ft_fields.specs.Ties.{key_same}
 use Rattle.ft_maps.specs.Entries.{get-remove_other, get-insert_other, same_from_tie}
 use Rattle.ft_pairs.specs.ByKey.{ops_of, same_key}
 use Rattle.ft_pairs.specs.Source.{Ops}
@@ -24,7 +23,7 @@ use Rattle.ft_table.specs.Hits.{Hits}
 use Rattle.ft_table.specs.Marks.{mark_same, mark_cmp_total}
 use Rattle.ft_kept.specs.inner.Edits.{OpsStay}
 use Rattle.ft_kept.specs.Repairs.{AreShelved}
-use Rattle.ft_shelves.specs.Shelves.{ChangesShelf, MadeStay, Shelved, Shelves, KeepsForm, FormStays, FormsStay}
+use Rattle.ft_shelves.specs.Shelves.{ChangesShelf, MadeStay, Readings, Shelved, Shelves, KeepsForm, FormStays, FormsStay}
 use Rattle.ft_kept.specs.inner.Edits.{ReaderChanges, ReadersChange}
 use Rattle.ft_shelves.specs.Edits.{OpsChange}
 use Rattle.ft_shelves.specs.Shelves.{is_saver, role_on, admits_on, kept_on}
@@ -91,7 +90,7 @@ some_stays (Some shelf) b h = ap is_some h.1.0
 pub shelf_stays : (old new : Shelves) → FormsStay old new → (id : ℕ) → is_some (map.get new id) ≡ is_some (map.get old id)
 shelf_stays old new h id = some_stays (map.get old id) (map.get new id) (h id)
 
-pub shelved_stay : (triggers : FinMap nat_cmp Hist) (old new : Shelves) → FormsStay old new → AreShelved triggers old → AreShelved triggers new
+pub shelved_stay : (triggers : Triggers) (old new : Shelves) → FormsStay old new → AreShelved triggers old → AreShelved triggers new
 shelved_stay triggers old new h shelved = record {
   each = λ id. shelf_stays old new h id ∙ shelved.each id;
   savers = λ id saver is. shelf_stays old new h saver ∙ shelved.savers id saver (sym (roles_stay old new h id) ∙ is);
@@ -259,6 +258,28 @@ changed_forms id Change old new h keeps = by_id (λ i. FormStays (map.get old i)
         let after = h.here shelf is in
         subst (λ s. FormStays s (map.get new id)) (sym is) (after.0, (after.1.0, keeps shelf after.0 is after.1.1))
 
+-- and whatever shelves tell
+module _ {X : Type 0} (id : ℕ) (Change : Shelved → Shelved → Type 0) (old new : Shelves) (h : ChangesShelf id Change old new) (tell : Option Shelved → X) where
+  -- stays, where it stays on the shelf
+  pub tells_same : ((shelf after : Shelved) → map.get old id ≡ Some shelf → Change shelf after → tell (Some after) ≡ tell (Some shelf)) → (i : ℕ) → tell (map.get new i) ≡ tell (map.get old i)
+  tells_same same i = by_id (λ j. tell (map.get new j) ≡ tell (map.get old j)) id (here (map.get old id) refl) (λ j other. ap tell (h.others j other)) i
+    where
+      here : (o : Option Shelved) → map.get old id ≡ o → tell (map.get new id) ≡ tell (map.get old id)
+      here None is = ap tell (h.none is ∙ sym is)
+      here (Some shelf) is =
+          let after = h.here shelf is in
+          ap tell after.1.0 ∙ same shelf after.0 is after.1.1 ∙ sym (ap tell is)
+
+  -- is what the shelf tells, where there is one
+  pub tells_here : (x : X) → is_some (map.get old id) ≡ true → ((shelf after : Shelved) → map.get old id ≡ Some shelf → Change shelf after → tell (Some after) ≡ x) → tell (map.get new id) ≡ x
+  tells_here x there on = here (map.get old id) refl
+    where
+      here : (o : Option Shelved) → map.get old id ≡ o → tell (map.get new id) ≡ x
+      here None is = absurd (true≢false (sym there ∙ ap is_some is))
+      here (Some shelf) is =
+          let after = h.here shelf is in
+          ap tell after.1.0 ∙ on shelf after.0 is after.1.1
+
 -- ---- operations of one key change on one shelf
 
 module _ (saver : ℕ) (key : List Part) (edit : Ops → Ops) (old new : Shelves) (h : ChangesShelf saver (OpsChange key edit) old new) where
@@ -271,51 +292,29 @@ module _ (saver : ℕ) (key : List Part) (edit : Ops → Ops) (old new : Shelves
 
   -- hits and readings stay
   pub read_hits : (id : ℕ) (mark : Mark) → (kept_on new).hits id mark ≡ (kept_on old).hits id mark
-  read_hits id mark = by_id (λ i. (kept_on new).hits i mark ≡ (kept_on old).hits i mark) saver (here (map.get old saver) refl)
-      (λ i other. same_hits old new i (h.others i other) mark) id
-    where
-      here : (o : Option Shelved) → map.get old saver ≡ o → (kept_on new).hits saver mark ≡ (kept_on old).hits saver mark
-      here None is = hits_by new saver None (h.none is) mark ∙ sym (hits_by old saver None is mark)
-      here (Some shelf) is =
-          let after = h.here shelf is in
-          hits_by new saver (Some after.0) after.1.0 mark ∙ ap (λ table. map.get table.hits mark) after.1.1.table ∙ sym (hits_by old saver (Some shelf) is mark)
+  unfolding kept_on
+  read_hits id mark = tells_same saver (OpsChange key edit) old new h (λ o. option_and_then (λ shelf. map.get shelf.table.hits mark) o)
+      (λ shelf after is change. ap (λ (table : Tabled). map.get table.hits mark) change.table) id
 
   pub read_readings : (id : ℕ) (pos : Pos) → (kept_on new).read id pos ≡ (kept_on old).read id pos
-  read_readings id pos = by_id (λ i. (kept_on new).read i pos ≡ (kept_on old).read i pos) saver (here (map.get old saver) refl)
-      (λ i other. same_read old new i (h.others i other) pos) id
-    where
-      here : (o : Option Shelved) → map.get old saver ≡ o → (kept_on new).read saver pos ≡ (kept_on old).read saver pos
-      here None is = read_by new saver None (h.none is) pos ∙ sym (read_by old saver None is pos)
-      here (Some shelf) is =
-          let after = h.here shelf is in
-          read_by new saver (Some after.0) after.1.0 pos ∙ ap (λ readings. map.get readings pos) after.1.1.readings ∙ sym (read_by old saver (Some shelf) is pos)
+  unfolding kept_on
+  read_readings id pos = tells_same saver (OpsChange key edit) old new h (λ o. option_and_then (λ shelf. map.get shelf.readings pos) o)
+      (λ shelf after is change. ap (λ (readings : Readings). map.get readings pos) change.readings) id
 
   -- so do the keys that savers' tables have
   pub read_admits : (id : ℕ) (k : List Part) → admits_on new id k ≡ admits_on old id k
-  read_admits id k = by_id (λ i. admits_on new i k ≡ admits_on old i k) saver (here (map.get old saver) refl)
-      (λ i other. same_admits old new i (h.others i other) k) id
-    where
-      here : (o : Option Shelved) → map.get old saver ≡ o → admits_on new saver k ≡ admits_on old saver k
-      here None is = admits_by new saver None (h.none is) k ∙ sym (admits_by old saver None is k)
-      here (Some shelf) is =
-          let after = h.here shelf is in
-          admits_by new saver (Some after.0) after.1.0 k
-          ∙ ap (λ role. is_saver role && is_in after.0.table k) after.1.1.role
-          ∙ ap (λ table. is_saver shelf.role && is_in table k) after.1.1.table
-          ∙ sym (admits_by old saver (Some shelf) is k)
+  unfolding admits_on
+  read_admits id k = tells_same saver (OpsChange key edit) old new h (λ o. admits_at o k)
+      (λ shelf after is change. (λ i. is_saver (change.role i) && is_in (change.table i) k)) id
 
   -- the key's operations are edited, where the saver has a shelf
   pub read_here : is_some (map.get old saver) ≡ true → (q : At) → (kept_on new).ops (record { saver = saver; key = key }) q ≡ edit ((kept_on old).ops (record { saver = saver; key = key })) q
-  read_here shelved q = here (map.get old saver) refl
-    where
-      here : (o : Option Shelved) → map.get old saver ≡ o → (kept_on new).ops (record { saver = saver; key = key }) q ≡ edit ((kept_on old).ops (record { saver = saver; key = key })) q
-      here None is = absurd (true≢false (sym shelved ∙ ap is_some is))
-      here (Some shelf) is =
-          let after = h.here shelf is in
-          ops_by new saver (Some after.0) after.1.0 key q
-          ∙ after.1.1.ops key q
-          ∙ ap (λ b. cond b (edit (ops_of shelf.ops key) q) (ops_of shelf.ops key q)) ((eq_by_cmp_equiv key_cmp_total).refl key)
-          ∙ ap (λ ops. edit ops q) (sym (ops_whole old saver (Some shelf) is key))
+  unfolding kept_on
+  read_here there q = tells_here saver (OpsChange key edit) old new h (λ o. ops_at o key q) (edit (ops_at (map.get old saver) key) q) there
+      (λ shelf after is change.
+      change.ops key q
+      ∙ ap (λ b. cond b (edit (ops_of shelf.ops key) q) (ops_of shelf.ops key q)) ((eq_by_cmp_equiv key_cmp_total).refl key)
+      ∙ ap (λ o. edit (ops_at o key) q) (sym is))
 
   -- and those of other keys and of other savers stay
   pub read_elsewhere : (variable : Variable) → (variable ≡ record { saver = saver; key = key } → ⊥) → (q : At) → (kept_on new).ops variable q ≡ (kept_on old).ops variable q

@@ -16,7 +16,7 @@ use Rattle.std.proofs.lemmas.Map.Keys.{sorted_head, sorted_tail}
 use Rattle.ft_fields.specs.Places.{pos_cmp, pos_cmp_total, pos_same}
 use Rattle.ft_fields.specs.Traced.{Traced}
 use Rattle.ft_fields.specs.declared.pos.Pos.{Pos}
-use Rattle.ft_groups.specs.Grouped.{events_of}
+use Rattle.ft_groups.specs.Grouped.{referenced_events}
 use Rattle.ft_hist.specs.Hist.{Hist}
 use Rattle.ft_maps.specs.Entries.{same_from_tie}
 use Rattle.ft_pairs.specs.Edits.{same_at}
@@ -208,36 +208,36 @@ found_pushed hist e saved found spot values old new pushed stands worth is =
 module _ (hist : Hist) (run : List (Bor (Pos × Stored))) (found : List (Option At)) (i : ℕ) where
   -- one more hit is made, and that much less is left
   pub hits_more : (e : Bor (Pos × Stored)) (d : Option At) (old new all : List (Spot × List ℤ)) → i < length run → e ≡ get_or run i e → i < length found
-      → new ≡ old ++ hit_found hist (e.now.0, held e.now.1) (get_or found i d) → old ++ hits_found hist (events_of (drop i run)) (drop i found) ≡ all
-      → new ++ hits_found hist (events_of (drop (i + 1) run)) (drop (i + 1) found) ≡ all
+      → new ≡ old ++ hit_found hist (e.now.0, held e.now.1) (get_or found i d) → old ++ hits_found hist (referenced_events (drop i run)) (drop i found) ≡ all
+      → new ++ hits_found hist (referenced_events (drop (i + 1) run)) (drop (i + 1) found) ≡ all
   hits_more e d old new all within is inside pushed made =
-      let left : hits_found hist (events_of (drop i run)) (drop i found) ≡ hit_found hist (e.now.0, held e.now.1) (get_or found i d) ++ hits_found hist (events_of (drop (i + 1) run)) (drop (i + 1) found) =
+      let left : hits_found hist (referenced_events (drop i run)) (drop i found) ≡ hit_found hist (e.now.0, held e.now.1) (get_or found i d) ++ hits_found hist (referenced_events (drop (i + 1) run)) (drop (i + 1) found) =
       (λ k. hits_found hist (first_event run i e within is k) (drop_more found i d inside k)) in
-      ap (λ xs. xs ++ hits_found hist (events_of (drop (i + 1) run)) (drop (i + 1) found)) pushed
-      ∙ append_assoc old (hit_found hist (e.now.0, held e.now.1) (get_or found i d)) (hits_found hist (events_of (drop (i + 1) run)) (drop (i + 1) found))
+      ap (λ xs. xs ++ hits_found hist (referenced_events (drop (i + 1) run)) (drop (i + 1) found)) pushed
+      ∙ append_assoc old (hit_found hist (e.now.0, held e.now.1) (get_or found i d)) (hits_found hist (referenced_events (drop (i + 1) run)) (drop (i + 1) found))
       ∙ ap (λ xs. old ++ xs) (sym left)
       ∙ made
 
   -- and one more reading
   pub readings_more : (e : Bor (Pos × Stored)) (d : Option At) (old new all : List (Pos × Pos)) → i < length run → e ≡ get_or run i e → i < length found
-      → new ≡ old ++ reading_found (e.now.0, held e.now.1) (get_or found i d) → old ++ readings_found (events_of (drop i run)) (drop i found) ≡ all
-      → new ++ readings_found (events_of (drop (i + 1) run)) (drop (i + 1) found) ≡ all
+      → new ≡ old ++ reading_found (e.now.0, held e.now.1) (get_or found i d) → old ++ readings_found (referenced_events (drop i run)) (drop i found) ≡ all
+      → new ++ readings_found (referenced_events (drop (i + 1) run)) (drop (i + 1) found) ≡ all
   readings_more e d old new all within is inside pushed made =
-      let left : readings_found (events_of (drop i run)) (drop i found) ≡ reading_found (e.now.0, held e.now.1) (get_or found i d) ++ readings_found (events_of (drop (i + 1) run)) (drop (i + 1) found) =
+      let left : readings_found (referenced_events (drop i run)) (drop i found) ≡ reading_found (e.now.0, held e.now.1) (get_or found i d) ++ readings_found (referenced_events (drop (i + 1) run)) (drop (i + 1) found) =
       (λ k. readings_found (first_event run i e within is k) (drop_more found i d inside k)) in
-      ap (λ xs. xs ++ readings_found (events_of (drop (i + 1) run)) (drop (i + 1) found)) pushed
-      ∙ append_assoc old (reading_found (e.now.0, held e.now.1) (get_or found i d)) (readings_found (events_of (drop (i + 1) run)) (drop (i + 1) found))
+      ap (λ xs. xs ++ readings_found (referenced_events (drop (i + 1) run)) (drop (i + 1) found)) pushed
+      ∙ append_assoc old (reading_found (e.now.0, held e.now.1) (get_or found i d)) (readings_found (referenced_events (drop (i + 1) run)) (drop (i + 1) found))
       ∙ ap (λ xs. old ++ xs) (sym left)
       ∙ made
 
   module _ (none : drop i run ≡ []) where
-    pub hits_left : hits_found hist (events_of (drop i run)) (drop i found) ≡ []
-    hits_left = ap (λ r. hits_found hist (events_of r) (drop i found)) none
+    pub hits_left : hits_found hist (referenced_events (drop i run)) (drop i found) ≡ []
+    hits_left = ap (λ r. hits_found hist (referenced_events r) (drop i found)) none
 
-    pub readings_left : readings_found (events_of (drop i run)) (drop i found) ≡ []
-    readings_left = ap (λ r. readings_found (events_of r) (drop i found)) none
+    pub readings_left : readings_found (referenced_events (drop i run)) (drop i found) ≡ []
+    readings_left = ap (λ r. readings_found (referenced_events r) (drop i found)) none
 
 -- there are as many events as places
-pub length_run : (run : List (Bor (Pos × Stored))) → length (events_of run) ≡ length run
+pub length_run : (run : List (Bor (Pos × Stored))) → length (referenced_events run) ≡ length run
 length_run [] = refl
 length_run (e ∷ run) = omega (arith, length_run run)

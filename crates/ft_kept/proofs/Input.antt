@@ -3,16 +3,16 @@ use Rattle.std.proofs.Common.{◌≡◌, ℕ, ℤ, Bool, true, false, cond, List
 use Rattle.std.specs.Prelude.{is_some, option_map, option_and_then}
 use Rattle.std.specs.List.{AllByRecursion, find}
 use Rattle.std.specs.declared.cmp.Ordering.{Ordering}
-use Rattle.std.specs.Ordering.{eq_by_cmp, nat_cmp}
+use Rattle.std.specs.Ordering.{eq_by_cmp}
 use Rattle.std.specs.Cmp.{IsTotalOrder}
 use Rattle.std.specs.FinMap as map
 use Rattle.std.specs.FinMap.{FinMap, IsAntisymmetric, get-entries, find as find_key}
 use Rattle.std.proofs.lemmas.Bool.{true≢false}
 use Rattle.ft_fields.specs.Traced.{Traced}
-use Rattle.ft_hist.specs.Hist.{Hist}
-use Rattle.ft_keys.specs.Orders.{key_cmp_total}
-use Rattle.ft_keys.specs.Ties.{key_same}
-use Rattle.ft_keys.specs.declared.key.Part.{Part}
+use Rattle.ft_hist.specs.Triggers.{Triggers}
+use Rattle.ft_fields.specs.Orders.{key_cmp_total}
+use Rattle.ft_fields.specs.Ties.{key_same}
+use Rattle.ft_fields.specs.declared.key.Part.{Part}
 use Rattle.ft_lanes.specs.Held.{Lanes, event_at}
 use Rattle.ft_maps.specs.Entries.{same_from_tie}
 use Rattle.ft_pairs.specs.ByKey.{KeyOps, ops_of}
@@ -35,7 +35,7 @@ use Rattle.ft_shelves.specs.Shelves.{Shelved, Shelves, admits_on, kept_on, role_
 use Rattle.ft_shelves.proofs.Attached.{each_found}
 use Rattle.ft_shelves.proofs.Decided.{itself, key_decided, none_not_some}
 use Rattle.ft_kept.proofs.Forms.{hits_by, ops_by}
-use Rattle.ft_kept.proofs.Owing.{op_absent, op_none, op_read}
+use Rattle.ft_kept.proofs.Staleness.{op_absent, op_none, op_read}
 
 -- ---- entries of a finite map, by a test
 
@@ -65,7 +65,7 @@ module _ {K X : Type 0} (R : K → K → Ordering) (total : IsTotalOrder R) (sam
 
 -- ---- keys
 
-module _ (triggers : FinMap nat_cmp Hist) (lanes : Lanes) (acts : Acts) (shelves : Shelves) (views : AreViewsOf triggers lanes acts shelves) (at : At) where
+module _ (triggers : Triggers) (lanes : Lanes) (acts : Acts) (shelves : Shelves) (views : AreViewsOf triggers lanes acts shelves) (at : At) where
   hits_are : (o : Option Shelved) → map.get shelves at.trigger ≡ o → (k : List Part) → hits_here (kept_on shelves) at k ≡ option_and_then (λ (s : Shelved). map.get s.table.hits (record { spot = traced at.pos; key = k })) o
   hits_are o is k = hits_by shelves at.trigger o is (record { spot = traced at.pos; key = k })
 
@@ -157,9 +157,9 @@ module _ (triggers : FinMap nat_cmp Hist) (lanes : Lanes) (acts : Acts) (shelves
       ∙ with_event (acts at) refl
 
 -- shelves are views of these acts alone
-pub acts_are : (triggers : FinMap nat_cmp Hist) (lanes : Lanes) (acts : Acts) (shelves : Shelves) → AreViewsOf triggers lanes acts shelves → input_of lanes shelves ≡ acts
+pub acts_are : (triggers : Triggers) (lanes : Lanes) (acts : Acts) (shelves : Shelves) → AreViewsOf triggers lanes acts shelves → input_of lanes shelves ≡ acts
 acts_are triggers lanes acts shelves views i at = act_after triggers lanes acts shelves views at i
 
 -- and so views of the acts that they tell
-pub tells : (triggers : FinMap nat_cmp Hist) (lanes : Lanes) (acts : Acts) (shelves : Shelves) → AreViewsOf triggers lanes acts shelves → AreViews triggers lanes shelves
+pub tells : (triggers : Triggers) (lanes : Lanes) (acts : Acts) (shelves : Shelves) → AreViewsOf triggers lanes acts shelves → AreViews triggers lanes shelves
 tells triggers lanes acts shelves views = subst (λ a. AreViewsOf triggers lanes a shelves) (sym (acts_are triggers lanes acts shelves views)) views

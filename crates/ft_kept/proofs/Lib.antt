@@ -1,4 +1,4 @@
-pub mod AllPaid
+pub mod AllRefreshed
 pub mod AtOnce
 pub mod AtOnceRead
 pub mod Bare
@@ -10,12 +10,12 @@ pub mod Forms
 pub mod FoundRuns
 pub mod HitShelf
 pub mod Input
-pub mod MovedPaid
+pub mod MovedRefreshed
 pub mod NextThere
 pub mod OneHit
-pub mod Owing
-pub mod Paid
-pub mod Paying
+pub mod Staleness
+pub mod Refreshed
+pub mod Refreshing
 pub mod PlainHit
 pub mod Putting
 pub mod Reading
@@ -28,3 +28,7 @@ pub mod Sources
 pub mod Told
 pub mod Views
 pub mod Walks
+pub mod Ids
+pub mod Once
+pub mod Rows
+mod ToldKeys

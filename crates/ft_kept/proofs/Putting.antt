@@ -2,22 +2,22 @@
 use Rattle.std.proofs.Common.{◌≡◌, ℕ, false, refl, sym, ap, subst, ◌∙◌, Some, None, Option, inl, inr}
 use Rattle.std.specs.Prelude.{List, [], is_some, if◌then◌else◌}
 use Rattle.std.specs.Option.{option_map_or}
-use Rattle.std.specs.Ordering.{nat_cmp}
 use Rattle.std.specs.Cmp.{nat_cmp_total}
 use Rattle.std.specs.FinMap as map
-use Rattle.std.specs.FinMap.{FinMap, get-insert, nat_cmp-IsAntisymmetric}
+use Rattle.std.specs.FinMap.{get-insert, nat_cmp-IsAntisymmetric}
 use Rattle.std.proofs.lemmas.Bool.{true≢false}
 use Rattle.ft_fields.specs.Traced.{Traced}
 use Rattle.ft_fields.specs.declared.pos.Pos.{Pos}
 use Rattle.ft_hist.specs.Hist.{Hist}
-use Rattle.ft_keys.specs.declared.key.Part.{Part}
+use Rattle.ft_hist.specs.Triggers.{Triggers}
+use Rattle.ft_fields.specs.declared.key.Part.{Part}
 use Rattle.ft_pairs.specs.declared.at.At.{At}
 use Rattle.ft_table.specs.Spots.{traced}
 use Rattle.ft_hits.specs.declared.hit.Hit.{Hit}
 use Rattle.ft_hits.specs.declared.spot.Spot.{Spot}
 use Rattle.ft_kept.specs.Acts.{Acts}
 use Rattle.ft_kept.specs.Entries.{IsEntry, IsKept, hits_here, read_here}
-use Rattle.ft_kept.specs.inner.Owed.{is_switched, is_switched_as}
+use Rattle.ft_kept.specs.inner.Stale.{is_switched, is_switched_as}
 use Rattle.ft_kept.specs.Repairs.{AreShelved}
 use Rattle.ft_pairs.specs.Roles.{Admits}
 use Rattle.ft_shelves.specs.Shelves.{Kept, Shelved, Shelves}
@@ -25,7 +25,7 @@ use Rattle.ft_table.specs.Values.{ValuesBy, values_at, values_by}
 use Rattle.ft_pairs.specs.declared.role.Role.{Role}
 use Rattle.ft_pairs.specs.declared.role.Role.TheVariants.{Plain, Saves, Reads}
 use Rattle.ft_shelves.proofs.Decided.{itself, untied}
-use Rattle.ft_kept.proofs.Owing.{same_differ}
+use Rattle.ft_kept.proofs.Staleness.{same_differ}
 
 -- the hit of an event on a spot, of a key, by what it read, if it read
 abbrev hit_there : Hist → Traced → List Part → Option Pos → Spot → Hit
@@ -46,11 +46,11 @@ module _ (old new : Shelves) (id : ℕ) (after : Shelved) (is : new ≡ map.inse
   unwritten i other = ap (λ (m : Shelves). map.get m i) is ∙ get-insert nat_cmp_total old id after i ∙ ap (λ b. if b then Some after else map.get old i) (untied nat_cmp_total nat_cmp-IsAntisymmetric i id other)
 
 -- an attached trigger has a shelf
-pub shelved_there : (triggers : FinMap nat_cmp Hist) (shelves : Shelves) (id : ℕ) (hist : Hist) → AreShelved triggers shelves → map.get triggers id ≡ Some hist → map.get shelves id ≡ None → ⊥
+pub shelved_there : (triggers : Triggers) (shelves : Shelves) (id : ℕ) (hist : Hist) → AreShelved triggers shelves → map.get triggers id ≡ Some hist → map.get shelves id ≡ None → ⊥
 shelved_there triggers shelves id hist shelved attached none = true≢false (sym (ap is_some attached) ∙ sym (shelved.each id) ∙ ap is_some none)
 
 -- what an attached trigger's hit adds
-pub values_there : (triggers : FinMap nat_cmp Hist) (id : ℕ) (hist : Hist) (pos : Pos) (event : Traced) (saved : Option Pos) → map.get triggers id ≡ Some hist → values_by triggers id pos event saved ≡ values_at hist pos event saved
+pub values_there : (triggers : Triggers) (id : ℕ) (hist : Hist) (pos : Pos) (event : Traced) (saved : Option Pos) → map.get triggers id ≡ Some hist → values_by triggers id pos event saved ≡ values_at hist pos event saved
 unfolding values_by
 values_there triggers id hist pos event saved attached = ap (λ (o : Option Hist). option_map_or (λ hist. values_at hist pos event saved) o []) attached
 

@@ -3,7 +3,7 @@ use Rattle.std.proofs.Common.{◌≡◌, ℕ, Bool, true, false, List, refl, sym
 use Rattle.std.specs.Prelude.{◌⊎◌, ◌&&◌, is_some, unwrap_or, option_map}
 use Rattle.std.specs.FinMap as map
 use Rattle.std.proofs.lemmas.Bool.{true≢false}
-use Rattle.ft_keys.specs.declared.key.Part.{Part}
+use Rattle.ft_fields.specs.declared.key.Part.{Part}
 use Rattle.ft_table.specs.Tabled.{Tabled, is_in}
 use Rattle.ft_kept.specs.Bounds.{OtherSaversStay, TableMoves, table_on}
 use Rattle.ft_shelves.specs.Shelves.{FormsStay, Shelved, Shelves, admits_on, is_saver, role_on}

@@ -4,17 +4,15 @@ use Rattle.std.specs.Prelude.{is_some}
 use Rattle.std.specs.Option.{option_map_or}
 use Rattle.std.proofs.lemmas.Bool.{true≢false}
 use Rattle.std.proofs.lemmas.Map.Lookups.{exact_unsigned}
-use Rattle.std.specs.Ordering.{nat_cmp}
 use Rattle.std.specs.Cmp.{eq_by_cmp_equiv, nat_cmp_total}
 use Rattle.std.specs.FinMap as map
-use Rattle.std.specs.FinMap.{FinMap}
 use Rattle.ft_fields.specs.Places.{pos_cmp_total, pos_same}
 use Rattle.ft_fields.specs.Traced.{Traced}
 use Rattle.ft_fields.specs.declared.pos.Pos.{Pos}
-use Rattle.ft_hist.specs.Hist.{Hist}
-use Rattle.ft_keys.specs.Orders.{key_cmp_total}
-use Rattle.ft_keys.specs.Ties.{key_same}
-use Rattle.ft_keys.specs.declared.key.Part.{Part}
+use Rattle.ft_hist.specs.Triggers.{Triggers}
+use Rattle.ft_fields.specs.Orders.{key_cmp_total}
+use Rattle.ft_fields.specs.Ties.{key_same}
+use Rattle.ft_fields.specs.declared.key.Part.{Part}
 use Rattle.ft_maps.specs.Entries.{same_from_tie, get-insert_same, get-insert_other, get-remove_same, get-remove_other, insert_same}
 use Rattle.ft_pairs.specs.Edits.{KeepsSource}
 use Rattle.ft_pairs.specs.Source.{Ops, IsSource}
@@ -37,7 +35,7 @@ use Rattle.ft_shelves.proofs.Decided.{none_not_some}
 use Rattle.ft_kept.specs.Signs.{FindsBy, act_after}
 use Rattle.ft_shelves.specs.declared.sign.Sign.{Sign}
 use Rattle.ft_shelves.specs.declared.sign.Sign.TheVariants.{Insert, Retract}
-use Rattle.ft_kept.proofs.Paid.{own_same, agreed_source}
+use Rattle.ft_kept.proofs.Refreshed.{own_same, agreed_source}
 
 -- ---- a reader's entry
 
@@ -196,7 +194,7 @@ pub reads_there : (shelves : Shelves) (id saver : ℕ) (shelf : Shelved) → rol
 reads_there shelves id saver shelf reads was = sym (role_at shelves id (Some shelf) was) ∙ reads
 
 -- and is attached
-pub reads_attached : (triggers : FinMap nat_cmp Hist) (shelves : Shelves) (id saver : ℕ) → AreShelved triggers shelves → role_on shelves id ≡ Reads saver → map.get triggers id ≡ None → ⊥
+pub reads_attached : (triggers : Triggers) (shelves : Shelves) (id saver : ℕ) → AreShelved triggers shelves → role_on shelves id ≡ Reads saver → map.get triggers id ≡ None → ⊥
 reads_attached triggers shelves id saver shelved reads none = by (map.get shelves id) refl
   where
     by : (o : Option Shelved) → map.get shelves id ≡ o → ⊥

@@ -4,7 +4,7 @@ use Rattle.std.specs.Option.{option_map_or}
 use Rattle.std.proofs.lemmas.Bool.{true≢false}
 use Rattle.std.specs.Ordering.{eq_by_cmp}
 use Rattle.ft_fields.specs.Traced.{Traced}
-use Rattle.ft_keys.specs.declared.key.Part.{Part}
+use Rattle.ft_fields.specs.declared.key.Part.{Part}
 use Rattle.ft_lanes.specs.Held.{Lanes, event_at}
 use Rattle.ft_maps.specs.Entries.{same_from_tie}
 use Rattle.ft_pairs.specs.declared.at.At.{At}
@@ -12,8 +12,8 @@ use Rattle.ft_pairs.specs.declared.at.Op.TheVariants.{Save, Read}
 use Rattle.ft_kept.specs.Acts.{Acts, AreHeld, op_of}
 use Rattle.ft_kept.specs.Entries.{IsOwn, IsEntry, IsKeptBut, hits_here, read_here}
 use Rattle.ft_kept.specs.inner.Edits.{OpsStay, StaysBut}
-use Rattle.ft_kept.specs.inner.Owed.{is_read}
-use Rattle.ft_kept.specs.inner.Settling.{Owed, without_next_read}
+use Rattle.ft_kept.specs.inner.Stale.{is_read}
+use Rattle.ft_kept.specs.inner.Settling.{Stale, without_next_read}
 use Rattle.ft_pairs.specs.Roles.{Admits, op_as}
 use Rattle.ft_shelves.specs.Shelves.{Kept}
 use Rattle.ft_table.specs.Values.{ValuesBy}
@@ -21,7 +21,7 @@ use Rattle.ft_pairs.specs.Variables.{variable_cmp, variable_same}
 use Rattle.ft_pairs.specs.declared.role.Role.{Role}
 use Rattle.ft_pairs.specs.declared.role.Role.TheVariants.{Plain, Saves, Reads}
 use Rattle.ft_pairs.specs.declared.role.Variable.{Variable}
-use Rattle.ft_kept.proofs.Paid.{own_there, paid, still_owed, not_same_at}
+use Rattle.ft_kept.proofs.Refreshed.{own_there, refreshed, still_stale, not_same_at}
 
 module _ (role : ℕ → Role) (admits : Admits) (acts : Acts) (variable : Variable) (q : At) where
   -- the act that a read is
@@ -60,8 +60,8 @@ pub record HeldRead (role : ℕ → Role) (lanes : Lanes) (acts : Acts) (variabl
   pub reads : role at.trigger ≡ Reads variable.saver
   pub acting : acts at ≡ Some (variable.key, event)
 
-module _ (role : ℕ → Role) (values : ValuesBy) (lanes : Lanes) (admits : Admits) (acts : Acts) (owed : Owed) (old : Kept)
-    (held : AreHeld lanes acts) (kept : IsKeptBut role values admits acts old owed) (variable : Variable) (at : At) where
+module _ (role : ℕ → Role) (values : ValuesBy) (lanes : Lanes) (admits : Admits) (acts : Acts) (stale : Stale) (old : Kept)
+    (held : AreHeld lanes acts) (kept : IsKeptBut role values admits acts old stale) (variable : Variable) (at : At) where
   module _ (read : old.ops variable at ≡ Some Read) where
     pub held_read : HeldRead role lanes acts variable at
     held_read =
@@ -81,13 +81,13 @@ module _ (role : ℕ → Role) (values : ValuesBy) (lanes : Lanes) (admits : Adm
       read_stamped = ap (λ o. option_map_or (λ (e : Traced). e.stamp) o 0) (sym there ∙ held_read.held) ∙ held_read.stamped
 
       pub read_own : IsOwn (Some (variable.key, event)) (hits_here old at)
-      read_own = subst (λ act. IsOwn act (hits_here old at)) read_acting (own_there role values admits acts old owed kept at)
+      read_own = subst (λ act. IsOwn act (hits_here old at)) read_acting (own_there role values admits acts old stale kept at)
 
-      -- made right, it is paid
-      pub read_paid : (new : Kept) → OpsStay old new → StaysBut at old new
+      -- made right, it is refreshed
+      pub read_refreshed : (new : Kept) → OpsStay old new → StaysBut at old new
           → IsEntry values new.ops at (Reads variable.saver) (Some (variable.key, event)) (hits_here new at) (read_here new at)
-          → IsKeptBut role values admits acts new (without_next_read (Some (at, Read)) owed)
-      read_paid new stay others right =
-          paid role values admits acts old new at stay others
+          → IsKeptBut role values admits acts new (without_next_read (Some (at, Read)) stale)
+      read_refreshed new stay others right =
+          refreshed role values admits acts old new at stay others
           (subst (λ (x : Role × Option (List Part × Traced)). IsEntry values new.ops at x.0 x.1 (hits_here new at) (read_here new at)) (λ i. (sym held_read.reads i, sym read_acting i)) right)
-          owed (without_next_read (Some (at, Read)) owed) (λ q other owes. still_owed (owed q) _ owes (not_same_at q at other)) kept
+          stale (without_next_read (Some (at, Read)) stale) (λ q other is_stale. still_stale (stale q) _ is_stale (not_same_at q at other)) kept

@@ -10,16 +10,16 @@ use Rattle.ft_changes.proofs.Leading.{SameFindings, lead_refl, lead_trans}
 use Rattle.ft_changes.specs.declared.changed.ReadingChange.{ReadingChange}
 use Rattle.ft_hist.specs.Hist.{Hist}
 use Rattle.ft_hits.specs.declared.mark.Mark.{Mark}
-use Rattle.ft_keys.specs.Orders.{key_cmp_total}
-use Rattle.ft_keys.specs.declared.key.Part.{Part}
+use Rattle.ft_fields.specs.Orders.{key_cmp_total}
+use Rattle.ft_fields.specs.declared.key.Part.{Part}
 use Rattle.ft_pairs.specs.declared.role.Role.{Role}
-use Rattle.ft_pairs.specs.declared.role.Role.TheVariants.{Plain, Saves, Reads}
+use Rattle.ft_pairs.specs.declared.role.Role.TheVariants.{Plain, Reads}
 use Rattle.ft_pairs.specs.declared.role.Variable.{Variable}
 use Rattle.ft_table.specs.Hits.{same_key}
 use Rattle.ft_shelves.specs.Following.{Moves}
 use Rattle.ft_shelves.specs.Shelves.{FormsStay, Shelves, kept_on, role_on}
 use Rattle.ft_shelves.proofs.Decided.{itself}
-use Rattle.ft_kept.specs.Changes.{AreFew, HasTold, HasToldFew, HitsStayBut, Tells, Told, is_own, is_reader_of, is_readers, keys_for, own_keys, readers_keys}
+use Rattle.ft_kept.specs.Changes.{AreFew, HasTold, HasToldFew, HitsStayBut, Tells, Told, is_for, is_reader_of, keys_for, own_keys, readers_keys}
 use Rattle.ft_kept.specs.declared.changes.KeyChange.{KeyChange}
 use Rattle.ft_kept.specs.declared.changes.Whose.TheVariants.{Trigger, ReadersOf}
 use Rattle.ft_kept.specs.inner.Telling.{HasReread, HasToldOf, moved_keys, other_key, own_key, variable_key}
@@ -44,16 +44,14 @@ module _ {T : Type 0} where
 
 -- ---- keys
 
+for-append : (role : Role) (id : ℕ) (xs ys : List KeyChange) → keys_for role id (xs ++ ys) ≡ keys_for role id xs ++ keys_for role id ys
+for-append role id xs ys = ap (list_map (λ (c : KeyChange). c.key)) (filter-append (λ (c : KeyChange). is_for role id c.whose) xs ys) ∙ map-append (λ (c : KeyChange). c.key) _ _
+
 own-append : (id : ℕ) (xs ys : List KeyChange) → own_keys id (xs ++ ys) ≡ own_keys id xs ++ own_keys id ys
-own-append id xs ys = ap (list_map (λ (c : KeyChange). c.key)) (filter-append (λ (c : KeyChange). is_own id c.whose) xs ys) ∙ map-append (λ (c : KeyChange). c.key) _ _
+own-append = for-append Plain
 
 readers-append : (saver : ℕ) (xs ys : List KeyChange) → readers_keys saver (xs ++ ys) ≡ readers_keys saver xs ++ readers_keys saver ys
-readers-append saver xs ys = ap (list_map (λ (c : KeyChange). c.key)) (filter-append (λ (c : KeyChange). is_readers saver c.whose) xs ys) ∙ map-append (λ (c : KeyChange). c.key) _ _
-
-for-append : (role : Role) (id : ℕ) (xs ys : List KeyChange) → keys_for role id (xs ++ ys) ≡ keys_for role id xs ++ keys_for role id ys
-for-append Plain id xs ys = own-append id xs ys
-for-append Saves id xs ys = own-append id xs ys
-for-append (Reads saver) id xs ys = readers-append saver xs ys
+readers-append saver = for-append (Reads saver) 0
 
 -- hits stay as they are
 pub hits_refl : (keys : List KeyChange) (old new : Shelves) → ((id : ℕ) (mark : Mark) → (kept_on new).hits id mark ≡ (kept_on old).hits id mark) → HitsStayBut keys old new
@@ -66,11 +64,6 @@ hits_trans xs ys a b c forms first then id mark none =
     let both = or_parts (list_any (same_key mark.key) (keys_for role id xs)) (list_any (same_key mark.key) (keys_for role id ys))
     (sym (list_any-append (same_key mark.key) (keys_for role id xs) (keys_for role id ys)) ∙ ap (list_any (same_key mark.key)) (sym (for-append role id xs ys)) ∙ none) in
     then id mark (ap (λ r. list_any (same_key mark.key) (keys_for r id ys)) (roles_stay a b forms id) ∙ both.1) ∙ first id mark both.0
-
--- and twice but under the same keys
-pub hits_both : (keys : List KeyChange) (a b c : Shelves) → FormsStay a b → HitsStayBut keys a b → HitsStayBut keys b c → HitsStayBut keys a c
-hits_both keys a b c forms first then id mark none =
-    then id mark (ap (λ r. list_any (same_key mark.key) (keys_for r id keys)) (roles_stay a b forms id) ∙ none) ∙ first id mark none
 
 -- ---- few keys
 
@@ -279,23 +272,6 @@ module _ (variable : Variable) where
     };
     are = refl;
   }
-
-  -- readings are made right, and then others, whose key is told
-  pub reread_told : (s t u : Told) (a b c : Shelves) → FormsStay a b → HasReread variable s t a b → HasToldOf (variable_key variable) t u b c → HasToldOf (variable_key variable) s u a c
-  reread_told s t u a b c forms first then =
-      let told = then.told in
-      let keys : told.keys ≡ variable_key variable = then.are in
-      record {
-        told = record {
-          keys = variable_key variable;
-          readings = first.readings ++ told.readings;
-          told_keys = subst (λ (x : List KeyChange × Option (List KeyChange)). Tells x.0 x.1 u.keys) (λ i. (keys i, first.told_keys i)) told.told_keys;
-          told_readings = tells_trans first.readings told.readings s.readings t.readings u.readings first.told_readings told.told_readings;
-          hits = hits_both (variable_key variable) a b c forms (its_readers a b first.hits) (subst (λ (ks : List KeyChange). HitsStayBut ks b c) keys told.hits);
-          lead = lead_trans first.readings told.readings (kept_on a).read (kept_on b).read (kept_on c).read first.lead told.lead;
-        };
-        are = refl;
-      }
 
 -- ---- triggers one by one
 

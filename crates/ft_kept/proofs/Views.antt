@@ -1,22 +1,22 @@
 -- Views of acts, as one act or those of an event change.
 use Rattle.std.proofs.Common.{◌≡◌, ℕ, Bool, true, false, cond, List, refl, sym, ap, subst, ◌∙◌, Some, None, Option, inl, inr}
 use Rattle.std.specs.Prelude.{option_and_then}
-use Rattle.std.specs.Ordering.{nat_cmp, eq_by_cmp}
+use Rattle.std.specs.Ordering.{eq_by_cmp}
 use Rattle.std.specs.Cmp.{eq_by_cmp_equiv}
 use Rattle.std.specs.FinMap as map
-use Rattle.std.specs.FinMap.{FinMap}
 use Rattle.ft_fields.specs.Places.{pos_cmp, pos_cmp_total, pos_same}
 use Rattle.ft_fields.specs.Traced.{Traced}
 use Rattle.ft_fields.specs.declared.pos.Pos.{Pos}
 use Rattle.ft_hist.specs.Hist.{Hist}
-use Rattle.ft_keys.specs.declared.key.Part.{Part}
+use Rattle.ft_hist.specs.Triggers.{Triggers}
+use Rattle.ft_fields.specs.declared.key.Part.{Part}
 use Rattle.ft_lanes.specs.Held.{Lanes}
 use Rattle.ft_maps.specs.Entries.{same_from_tie}
 use Rattle.ft_pairs.specs.Order.{at_cmp_total, at_same}
 use Rattle.ft_pairs.specs.declared.at.At.{At}
 use Rattle.ft_kept.specs.Acts.{Acts, AreHeld}
 use Rattle.ft_kept.specs.Repairs.{IsHeldAt}
-use Rattle.ft_kept.specs.Views.{AreViewsOf, act_at, act_under, set, with_some}
+use Rattle.ft_kept.specs.Views.{AreViewsOf, act_by_id, act_under, set, with_some}
 use Rattle.ft_kept.specs.inner.OneAct.{IsDoneToo}
 use Rattle.ft_shelves.specs.Shelves.{Shelves}
 use Rattle.ft_shelves.proofs.Decided.{at_decided, itself, untied}
@@ -51,32 +51,32 @@ module _ (acts : Acts) (at : At) (act : Acted) where
   ]
 
 -- views of acts are views of acts that are the same
-pub views_as : (triggers : FinMap nat_cmp Hist) (lanes : Lanes) (acts same : Acts) (shelves : Shelves) → acts ≡ same → AreViewsOf triggers lanes acts shelves → AreViewsOf triggers lanes same shelves
+pub views_as : (triggers : Triggers) (lanes : Lanes) (acts same : Acts) (shelves : Shelves) → acts ≡ same → AreViewsOf triggers lanes acts shelves → AreViewsOf triggers lanes same shelves
 views_as triggers lanes acts same shelves is views = subst (λ (a : Acts). AreViewsOf triggers lanes a shelves) is views
 
 -- ---- the acts of an event, trigger by trigger
 
 -- an attached trigger's
-pub attached_act : (triggers : FinMap nat_cmp Hist) (id : ℕ) (hist : Hist) → map.get triggers id ≡ Some hist → (event : Option Traced) → act_at triggers id event ≡ option_and_then (act_under hist) event
+pub attached_act : (triggers : Triggers) (id : ℕ) (hist : Hist) → map.get triggers id ≡ Some hist → (event : Option Traced) → act_by_id triggers id event ≡ option_and_then (act_under hist) event
 attached_act triggers id hist attached None = refl
 attached_act triggers id hist attached (Some event) = ap (option_and_then (λ (h : Hist). act_under h event)) attached
 
 -- and those of one that isn't
-pub unattached_act : (triggers : FinMap nat_cmp Hist) (id : ℕ) → map.get triggers id ≡ None → (event : Option Traced) → act_at triggers id event ≡ None
+pub unattached_act : (triggers : Triggers) (id : ℕ) → map.get triggers id ≡ None → (event : Option Traced) → act_by_id triggers id event ≡ None
 unattached_act triggers id none None = refl
 unattached_act triggers id none (Some event) = ap (option_and_then (λ (h : Hist). act_under h event)) none
 
-module _ (triggers : FinMap nat_cmp Hist) (acts : Acts) (pos : Pos) (before after : Option Traced) (was : (id : ℕ) → acts (act_of pos id) ≡ act_at triggers id before) where
+module _ (triggers : Triggers) (acts : Acts) (pos : Pos) (before after : Option Traced) (was : (id : ℕ) → acts (act_of pos id) ≡ act_by_id triggers id before) where
   abbrev with_done : (ℕ → Bool) → Acts
   with_done done = with_some triggers acts pos after done
 
-  at_pos : (done : ℕ → Bool) (id : ℕ) (b : Bool) → done id ≡ b → with_done done (act_of pos id) ≡ cond b (act_at triggers id after) (acts (act_of pos id))
+  at_pos : (done : ℕ → Bool) (id : ℕ) (b : Bool) → done id ≡ b → with_done done (act_of pos id) ≡ cond b (act_by_id triggers id after) (acts (act_of pos id))
   at_pos done id b is =
-      ap (λ t. cond t (cond (done id) (act_at triggers id after) (acts (act_of pos id))) (acts (act_of pos id))) ((eq_by_cmp_equiv pos_cmp_total).refl pos)
-      ∙ ap (λ d. cond d (act_at triggers id after) (acts (act_of pos id))) is
+      ap (λ t. cond t (cond (done id) (act_by_id triggers id after) (acts (act_of pos id))) (acts (act_of pos id))) ((eq_by_cmp_equiv pos_cmp_total).refl pos)
+      ∙ ap (λ d. cond d (act_by_id triggers id after) (acts (act_of pos id))) is
 
   -- one that isn't done acts as before
-  pub not_done : (done : ℕ → Bool) (id : ℕ) → done id ≡ false → with_done done (act_of pos id) ≡ act_at triggers id before
+  pub not_done : (done : ℕ → Bool) (id : ℕ) → done id ≡ false → with_done done (act_of pos id) ≡ act_by_id triggers id before
   not_done done id is = at_pos done id false is ∙ was id
 
   -- acts are the same where they are so at the place
@@ -87,7 +87,7 @@ module _ (triggers : FinMap nat_cmp Hist) (acts : Acts) (pos : Pos) (before afte
   ] refl) i
 
   apart_from : (done : ℕ → Bool) (q : At) → eq_by_cmp pos_cmp q.pos pos ≡ false → with_done done q ≡ acts q
-  apart_from done q apart = ap (λ b. cond b (cond (done q.trigger) (act_at triggers q.trigger after) (acts q)) (acts q)) apart
+  apart_from done q apart = ap (λ b. cond b (cond (done q.trigger) (act_by_id triggers q.trigger after) (acts q)) (acts q)) apart
 
   -- before any is done the acts are those before
   pub none_done : (done : ℕ → Bool) → ((id : ℕ) → done id ≡ true → map.get triggers id ≡ None) → with_done done ≡ acts
@@ -98,14 +98,14 @@ module _ (triggers : FinMap nat_cmp Hist) (acts : Acts) (pos : Pos) (before afte
       ] refl)
 
   -- one more is done
-  pub one_done : (id : ℕ) (done more : ℕ → Bool) → IsDoneToo id done more → set (with_done done) (act_of pos id) (act_at triggers id after) ≡ with_done more
+  pub one_done : (id : ℕ) (done more : ℕ → Bool) → IsDoneToo id done more → set (with_done done) (act_of pos id) (act_by_id triggers id after) ≡ with_done more
   one_done id done more too i q = same q i
     where
-      same : (q : At) → set (with_done done) (act_of pos id) (act_at triggers id after) q ≡ with_done more q
+      same : (q : At) → set (with_done done) (act_of pos id) (act_by_id triggers id after) q ≡ with_done more q
       same q = elim (at_decided q (act_of pos id)) [
-        | inl own ↦ subst (λ p. set (with_done done) (act_of pos id) (act_at triggers id after) p ≡ with_done more p) (sym own)
-            (set_here (with_done done) (act_of pos id) (act_at triggers id after) ∙ sym (at_pos more id true too.is))
-        | inr apart ↦ set_apart (with_done done) (act_of pos id) (act_at triggers id after) q apart ∙ elim (eq_by_cmp pos_cmp q.pos pos) as (λ (b : Bool). eq_by_cmp pos_cmp q.pos pos ≡ b → with_done done q ≡ with_done more q) [
+        | inl own ↦ subst (λ p. set (with_done done) (act_of pos id) (act_by_id triggers id after) p ≡ with_done more p) (sym own)
+            (set_here (with_done done) (act_of pos id) (act_by_id triggers id after) ∙ sym (at_pos more id true too.is))
+        | inr apart ↦ set_apart (with_done done) (act_of pos id) (act_by_id triggers id after) q apart ∙ elim (eq_by_cmp pos_cmp q.pos pos) as (λ (b : Bool). eq_by_cmp pos_cmp q.pos pos ≡ b → with_done done q ≡ with_done more q) [
           | true ↦ λ tie.
               let same : q ≡ act_of pos q.trigger = ap (λ (p : Pos). act_of p q.trigger) (same_from_tie pos_same q.pos pos tie) in
               subst (λ p. with_done done p ≡ with_done more p) (sym same)

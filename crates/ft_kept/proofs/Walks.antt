@@ -11,28 +11,28 @@ use Rattle.ft_pairs.specs.Order.{at_cmp, at_cmp_total, at_same}
 use Rattle.ft_pairs.specs.Source.{Ops}
 use Rattle.ft_pairs.specs.declared.at.At.{At}
 use Rattle.ft_pairs.specs.declared.at.Op.{Op}
-use Rattle.ft_kept.specs.inner.Owed.{is_read, reads_at, is_to_come}
-use Rattle.ft_kept.specs.inner.Settling.{Owed, without_next_read}
-use Rattle.ft_kept.proofs.Paid.{same_at_itself}
+use Rattle.ft_kept.specs.inner.Stale.{is_read, reads_at, is_to_come}
+use Rattle.ft_kept.specs.inner.Settling.{Stale, without_next_read}
+use Rattle.ft_kept.proofs.Refreshed.{same_at_itself}
 
--- what is owed on a walk over the operations on a variable: of its readings those that are still to come
-abbrev pub on_walk : Ops → Option (At × Op) → Owed → Owed
-on_walk ops next owed q = owed q && (not (reads_at ops q) || is_to_come ops next q)
+-- what is stale on a walk over the operations on a variable: of its readings those that are still to come
+abbrev pub on_walk : Ops → Option (At × Op) → Stale → Stale
+on_walk ops next stale q = stale q && (not (reads_at ops q) || is_to_come ops next q)
 
 -- ---- truth values
 
-begins : (owed reads come : Bool) → (reads ≡ true → come ≡ true) → owed ≡ true → (owed && (not reads || (reads && come))) ≡ true
+begins : (stale reads come : Bool) → (reads ≡ true → come ≡ true) → stale ≡ true → (stale && (not reads || (reads && come))) ≡ true
 begins true true come all is = all refl
 begins true false come all is = refl
 begins false reads come all is = is
 
-ends : (owed reads : Bool) → (owed && (not reads || (reads && false))) ≡ true → (owed && not reads) ≡ true
+ends : (stale reads : Bool) → (stale && (not reads || (reads && false))) ≡ true → (stale && not reads) ≡ true
 ends true true is = is
 ends true false is = refl
 ends false reads is = is
 
-goes_on : (owed reads come later settled : Bool) → (reads ≡ true → come ≡ true → settled ≡ false → later ≡ true)
-    → ((owed && (not reads || (reads && come))) && not settled) ≡ true → (owed && (not reads || (reads && later))) ≡ true
+goes_on : (stale reads come later settled : Bool) → (reads ≡ true → come ≡ true → settled ≡ false → later ≡ true)
+    → ((stale && (not reads || (reads && come))) && not settled) ≡ true → (stale && (not reads || (reads && later))) ≡ true
 goes_on true true true later true on is = absurd (true≢false (sym is))
 goes_on true true true later false on is = on refl refl refl
 goes_on true true false later settled on is = absurd (true≢false (sym is))
@@ -59,23 +59,23 @@ module _ (ops : Ops) (q : At) where
   ] refl
 
   -- at the start of a walk every reading is to come
-  pub walk_begins : (next : Option (At × Op)) → IsNext ops None next → (owed : Owed) → owed q ≡ true → on_walk ops next owed q ≡ true
-  walk_begins next is_next owed owes = begins (owed q) (reads_at ops q) (option_map_or (λ n. not (is_lt (at_cmp q n.0))) next false) (λ reads. come next is_next reads) owes
+  pub walk_begins : (next : Option (At × Op)) → IsNext ops None next → (stale : Stale) → stale q ≡ true → on_walk ops next stale q ≡ true
+  walk_begins next is_next stale is_stale = begins (stale q) (reads_at ops q) (option_map_or (λ n. not (is_lt (at_cmp q n.0))) next false) (λ reads. come next is_next reads) is_stale
     where
       come : (next : Option (At × Op)) → IsNext ops None next → reads_at ops q ≡ true → option_map_or (λ n. not (is_lt (at_cmp q n.0))) next false ≡ true
       come None none reads = absurd (not_there reads (none q tt))
       come (Some n) first reads = not_less_but n.0 (λ less. not_there reads (first.none q tt less))
 
   -- at its end none is
-  pub walk_ends : (owed : Owed) → on_walk ops None owed q ≡ true → (owed q && not (reads_at ops q)) ≡ true
-  walk_ends owed owes = ends (owed q) (reads_at ops q) owes
+  pub walk_ends : (stale : Stale) → on_walk ops None stale q ≡ true → (stale q && not (reads_at ops q)) ≡ true
+  walk_ends stale is_stale = ends (stale q) (reads_at ops q) is_stale
 
-  -- one step of a walk pays its reading alone
+  -- one step of a walk refreshes its reading alone
   pub walk_goes_on : (n : At × Op) (next : Option (At × Op)) → ops n.0 ≡ Some n.1 → IsNext ops (Some n.0) next
-      → (owed : Owed) → without_next_read (Some n) (on_walk ops (Some n) owed) q ≡ true → on_walk ops next owed q ≡ true
-  walk_goes_on n next there is_next owed owes =
-      goes_on (owed q) (reads_at ops q) (not (is_lt (at_cmp q n.0))) (option_map_or (λ m. not (is_lt (at_cmp q m.0))) next false) (is_read n.1 && same_at q n.0)
-      (λ reads come unsettled. by_order reads come unsettled (at_cmp q n.0) refl) owes
+      → (stale : Stale) → without_next_read (Some n) (on_walk ops (Some n) stale) q ≡ true → on_walk ops next stale q ≡ true
+  walk_goes_on n next there is_next stale is_stale =
+      goes_on (stale q) (reads_at ops q) (not (is_lt (at_cmp q n.0))) (option_map_or (λ m. not (is_lt (at_cmp q m.0))) next false) (is_read n.1 && same_at q n.0)
+      (λ reads come unsettled. by_order reads come unsettled (at_cmp q n.0) refl) is_stale
     where
       behind : reads_at ops q ≡ true → at_cmp n.0 q ≡ Less → (next : Option (At × Op)) → IsNext ops (Some n.0) next → option_map_or (λ m. not (is_lt (at_cmp q m.0))) next false ≡ true
       behind reads after None none = absurd (not_there reads (none q after))

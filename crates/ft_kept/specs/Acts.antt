@@ -1,13 +1,12 @@
 -- Acts: what each trigger has to count at each event, and how one more comes.
 use Rattle.std.specs.Prelude.{◌≡◌, ℕ, List, Option, Some, option_map, option_and_then}
-use Rattle.std.specs.Ordering.{nat_cmp}
 use Rattle.std.specs.FinMap as map
 use Rattle.std.specs.FinMap.{FinMap}
 use Rattle.ft_fields.specs.Places.{pos_cmp}
 use Rattle.ft_fields.specs.Traced.{Traced}
-use Rattle.ft_hist.specs.Hist.{Hist}
+use Rattle.ft_hist.specs.Triggers.{Triggers}
 use Rattle.ft_hist.specs.Hit.{hit}
-use Rattle.ft_keys.specs.declared.key.Part.{Part}
+use Rattle.ft_fields.specs.declared.key.Part.{Part}
 use Rattle.ft_lanes.specs.Held.{Lanes, event_at}
 use Rattle.ft_pairs.specs.Source.{Ops}
 use Rattle.ft_pairs.specs.declared.at.At.{At}
@@ -20,7 +19,7 @@ abbrev pub Acts : Type 0
 Acts = At → Option (List Part × Traced)
 
 -- the acts of attached triggers at events (kernel: histogram.rst, hist triggers)
-unfoldable pub acts_of : FinMap nat_cmp Hist → FinMap pos_cmp Traced → Acts
+unfoldable pub acts_of : Triggers → FinMap pos_cmp Traced → Acts
 acts_of triggers events at =
     option_and_then (λ event. option_and_then (λ hist. option_map (λ key. (key, event)) (hit hist event)) (map.get triggers at.trigger))
     (map.get events at.pos)

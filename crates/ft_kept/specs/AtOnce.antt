@@ -1,14 +1,14 @@
 -- All acts of one trigger that come at once, where nothing is kept of it yet.
 use Rattle.std.specs.Prelude.{◌≡◌, ℕ, List, Option, Some, None, option_map, option_and_then}
-use Rattle.std.specs.Ordering.{nat_cmp}
 use Rattle.std.specs.FinMap as map
 use Rattle.std.specs.FinMap.{FinMap}
 use Rattle.ft_fields.specs.Places.{pos_cmp}
 use Rattle.ft_fields.specs.Traced.{Traced}
 use Rattle.ft_fields.specs.declared.pos.Pos.{Pos}
 use Rattle.ft_hist.specs.Hist.{Hist}
+use Rattle.ft_hist.specs.Triggers.{Triggers}
 use Rattle.ft_hist.specs.Hit.{hit}
-use Rattle.ft_keys.specs.declared.key.Part.{Part}
+use Rattle.ft_fields.specs.declared.key.Part.{Part}
 use Rattle.ft_pairs.specs.declared.at.At.{At}
 use Rattle.ft_pairs.specs.declared.role.Role.TheVariants.{Saves, Reads}
 use Rattle.ft_table.specs.Values.{values_by}
@@ -34,7 +34,7 @@ pub record AllCome (id : ℕ) (acts : Pos → Option (List Part × Traced)) (bef
   pub here : (pos : Pos) → after (record { pos = pos; trigger = id }) ≡ acts pos
 
 -- they came: where without them all was right, with them all is right
-abbrev pub AllHaveCome : FinMap nat_cmp Hist → ℕ → (Pos → Option (List Part × Traced)) → Shelves → Shelves → Type 0
+abbrev pub AllHaveCome : Triggers → ℕ → (Pos → Option (List Part × Traced)) → Shelves → Shelves → Type 0
 AllHaveCome triggers id acts old new =
     (before after : Acts) → AllCome id acts before after
     → IsKept (role_on old) (values_by triggers) (admits_on old) before (kept_on old)

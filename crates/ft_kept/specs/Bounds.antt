@@ -1,12 +1,11 @@
 -- How many steps a repair takes.
 use Rattle.std.specs.Prelude.{◌≡◌, ℕ, Option, Some, None, option_map}
 use Rattle.std.specs.Option.{option_map_or}
-use Rattle.std.specs.Ordering.{nat_cmp}
 use Rattle.std.specs.FinMap as map
-use Rattle.std.specs.FinMap.{FinMap}
 use Rattle.ft_fields.specs.Traced.{Traced}
 use Rattle.ft_fields.specs.declared.pos.Pos.{Pos}
 use Rattle.ft_hist.specs.Hist.{Hist}
+use Rattle.ft_hist.specs.Triggers.{Triggers}
 use Rattle.ft_hist.specs.Hit.{hit}
 use Rattle.ft_table.specs.Growth.{with_hit}
 use Rattle.ft_table.specs.OneKey.{without_hit}
@@ -42,7 +41,7 @@ abbrev pub SaverMoves : TableEdit → Hist → Shelves → ℕ → Type 0
 SaverMoves edit hist shelves id = (role_on shelves id ≡ Saves) × TableMoves (edit hist) shelves id
 
 -- some key comes into an attached saver's table or goes out, as tables change so
-pub record SomeSaverMoves (edit : TableEdit) (triggers : FinMap nat_cmp Hist) (shelves : Shelves) : Type 0 where
+pub record SomeSaverMoves (edit : TableEdit) (triggers : Triggers) (shelves : Shelves) : Type 0 where
   pub id : ℕ
   pub hist : Hist
   pub attached : map.get triggers id ≡ Some hist

@@ -7,7 +7,7 @@ use Rattle.ft_changes.specs.contracts.changed.ReadingChange as reading_change
 use Rattle.ft_changes.specs.declared.changed.ReadingChange.{ReadingChange}
 use Rattle.ft_hist.specs.Hist.{Hist}
 use Rattle.ft_hits.specs.declared.mark.Mark.{Mark}
-use Rattle.ft_keys.specs.declared.key.Part.{Part}
+use Rattle.ft_fields.specs.declared.key.Part.{Part}
 use Rattle.ft_pairs.specs.declared.role.Role.{Role}
 use Rattle.ft_pairs.specs.declared.role.Role.TheVariants.{Plain, Saves, Reads}
 use Rattle.ft_table.specs.Hits.{same_key}
@@ -55,11 +55,15 @@ own_keys id keys = list_map (λ change. change.key) (filter (λ change. is_own i
 abbrev pub readers_keys : ℕ → List KeyChange → List (List Part)
 readers_keys saver keys = list_map (λ change. change.key) (filter (λ change. is_readers saver change.whose) keys)
 
--- the keys that are told of the hits of a trigger with this role
+-- these are the hits of the trigger with an id, which has this role
+abbrev pub is_for : Role → ℕ → Whose → Bool
+is_for Plain id whose = is_own id whose
+is_for Saves id whose = is_own id whose
+is_for (Reads saver) id whose = is_readers saver whose
+
+-- the keys that are told of them
 abbrev pub keys_for : Role → ℕ → List KeyChange → List (List Part)
-keys_for Plain id keys = own_keys id keys
-keys_for Saves id keys = own_keys id keys
-keys_for (Reads saver) id keys = readers_keys saver keys
+keys_for role id keys = list_map (λ change. change.key) (filter (λ change. is_for role id change.whose) keys)
 
 -- each trigger's hits stay but under the keys that are told of it
 abbrev pub HitsStayBut : List KeyChange → Shelves → Shelves → Type 0

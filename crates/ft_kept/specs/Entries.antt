@@ -1,8 +1,8 @@
--- What is kept of the acts, told place by place from the acts and the operations, and what is still owed while it is repaired.
+-- What is kept of the acts, told place by place from the acts and the operations, and what is still stale while it is repaired.
 use Rattle.std.specs.Prelude.{◌≡◌, ◌⊎◌, ℕ, ℤ, Bool, true, false, List, Option, Some, None, option_map, if◌then◌else◌}
 use Rattle.ft_fields.specs.Traced.{Traced}
 use Rattle.ft_fields.specs.declared.pos.Pos.{Pos}
-use Rattle.ft_keys.specs.declared.key.Part.{Part}
+use Rattle.ft_fields.specs.declared.key.Part.{Part}
 use Rattle.ft_pairs.specs.Source.{Ops, IsSource}
 use Rattle.ft_pairs.specs.declared.at.At.{At}
 use Rattle.ft_table.specs.Hits.{same_key}
@@ -53,11 +53,11 @@ module _ (role : ℕ → Role) (values : ValuesBy) where
   abbrev pub IsRight : Acts → Kept → At → Type 0
   IsRight acts kept at = IsEntry values kept.ops at (role at.trigger) (acts at) (hits_here kept at) (read_here kept at)
 
-  -- the operations are those of the acts, and each place has what it should, except for some where that is still owed: there hits stand under the act's key alone
-  pub record IsKeptBut (admits : Admits) (acts : Acts) (kept : Kept) (owed : At → Bool) : Type 0 where
+  -- the operations are those of the acts, and each place has what it should, except for some that are still stale: there hits stand under the act's key alone
+  pub record IsKeptBut (admits : Admits) (acts : Acts) (kept : Kept) (stale : At → Bool) : Type 0 where
     pub ops : (variable : Variable) (at : At) → kept.ops variable at ≡ op_of role admits acts variable at
-    pub entries : (at : At) → ((owed at ≡ true) × IsOwn (acts at) (hits_here kept at)) ⊎ IsRight acts kept at
+    pub entries : (at : At) → ((stale at ≡ true) × IsOwn (acts at) (hits_here kept at)) ⊎ IsRight acts kept at
 
-  -- nothing is owed
+  -- nothing is stale
   abbrev pub IsKept : Admits → Acts → Kept → Type 0
   IsKept admits acts kept = IsKeptBut admits acts kept (λ at. false)

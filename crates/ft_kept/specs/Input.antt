@@ -1,12 +1,11 @@
 -- The acts that shelves are views of, told by the shelves and the held events.
 use Rattle.std.specs.Prelude.{List, Option, option_map, option_and_then, is_some}
 use Rattle.std.specs.List.{find}
-use Rattle.std.specs.Ordering.{eq_by_cmp, nat_cmp}
+use Rattle.std.specs.Ordering.{eq_by_cmp}
 use Rattle.std.specs.FinMap as map
-use Rattle.std.specs.FinMap.{FinMap}
-use Rattle.ft_hist.specs.Hist.{Hist}
+use Rattle.ft_hist.specs.Triggers.{Triggers}
 use Rattle.ft_fields.specs.declared.pos.Pos.{Pos}
-use Rattle.ft_keys.specs.declared.key.Part.{Part}
+use Rattle.ft_fields.specs.declared.key.Part.{Part}
 use Rattle.ft_lanes.specs.Held.{Lanes, event_at}
 use Rattle.ft_pairs.specs.declared.at.At.{At}
 use Rattle.ft_pairs.specs.declared.role.Role.{Role}
@@ -35,5 +34,5 @@ unfoldable pub input_of : Lanes → Shelves → Acts
 input_of lanes shelves at = option_and_then (λ key. option_map (λ event. (key, event)) (event_at lanes at.pos.cpu at.pos.line)) (key_at shelves at (role_on shelves at.trigger))
 
 -- what shelves keep is what the acts that they tell say
-abbrev pub AreViews : FinMap nat_cmp Hist → Lanes → Shelves → Type 0
+abbrev pub AreViews : Triggers → Lanes → Shelves → Type 0
 AreViews triggers lanes shelves = AreViewsOf triggers lanes (input_of lanes shelves) shelves

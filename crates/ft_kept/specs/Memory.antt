@@ -1,17 +1,16 @@
 -- Which repairs take no memory.
 use Rattle.std.specs.Prelude.{◌≡◌, ℕ, List, Some, None}
-use Rattle.std.specs.Ordering.{nat_cmp}
 use Rattle.std.specs.FinMap as map
-use Rattle.std.specs.FinMap.{FinMap}
 use Rattle.ft_fields.specs.Traced.{Traced}
 use Rattle.ft_hist.specs.Hist.{Hist}
+use Rattle.ft_hist.specs.Triggers.{Triggers}
 use Rattle.ft_hist.specs.Hit.{hit}
-use Rattle.ft_keys.specs.declared.key.Part.{Part}
+use Rattle.ft_fields.specs.declared.key.Part.{Part}
 use Rattle.ft_pairs.specs.declared.role.Role.TheVariants.{Plain}
 use Rattle.ft_shelves.specs.Shelves.{Shelves, role_on}
 
 -- the event is no hit of any of the triggers (kernel: histogram.rst, hist triggers)
-abbrev pub IsNoHit : FinMap nat_cmp Hist → Traced → Type 0
+abbrev pub IsNoHit : Triggers → Traced → Type 0
 IsNoHit triggers event = (id : ℕ) (hist : Hist) → map.get triggers id ≡ Some hist → hit hist event ≡ None
 
 -- where the event is a hit of a trigger, the trigger with this id has no variable (kernel: histogram.rst, inter-event hist triggers)
@@ -19,5 +18,5 @@ abbrev pub ActsPlainly : Shelves → ℕ → Hist → Traced → Type 0
 ActsPlainly shelves id hist event = (key : List Part) → hit hist event ≡ Some key → role_on shelves id ≡ Plain
 
 -- each trigger that the event is a hit of has no variable (kernel: histogram.rst, inter-event hist triggers)
-abbrev pub IsPlainHit : FinMap nat_cmp Hist → Shelves → Traced → Type 0
-IsPlainHit triggers shelves event = (id : ℕ) (hist : Hist) → map.get triggers id ≡ Some hist → ActsPlainly shelves id hist event
+abbrev pub AllActPlainly : Triggers → Shelves → Traced → Type 0
+AllActPlainly triggers shelves event = (id : ℕ) (hist : Hist) → map.get triggers id ≡ Some hist → ActsPlainly shelves id hist event

@@ -1,17 +1,16 @@
 -- What a change of this sign makes of events, of acts and of operations.
 use Rattle.std.specs.Prelude.{◌≡◌, ℕ, List, Option, Some, None}
-use Rattle.std.specs.Ordering.{nat_cmp}
-use Rattle.std.specs.FinMap.{FinMap}
 use Rattle.ft_fields.specs.Traced.{Traced}
 use Rattle.ft_fields.specs.declared.pos.Pos.{Pos}
 use Rattle.ft_hist.specs.Hist.{Hist}
+use Rattle.ft_hist.specs.Triggers.{Triggers}
 use Rattle.ft_hist.specs.Hit.{hit}
-use Rattle.ft_keys.specs.declared.key.Part.{Part}
+use Rattle.ft_fields.specs.declared.key.Part.{Part}
 use Rattle.ft_pairs.specs.Source.{Ops, IsSource}
 use Rattle.ft_pairs.specs.declared.at.At.{At}
 use Rattle.ft_shelves.specs.Shelves.{Shelves}
 use Rattle.ft_kept.specs.Bounds.{TableEdit, with_hit_of, without_hit_of}
-use Rattle.ft_kept.specs.Memory.{ActsPlainly, IsNoHit, IsPlainHit}
+use Rattle.ft_kept.specs.Memory.{ActsPlainly, IsNoHit, AllActPlainly}
 use Rattle.ft_shelves.specs.declared.sign.Sign.{Sign}
 use Rattle.ft_shelves.specs.declared.sign.Sign.TheVariants.{Insert, Retract}
 
@@ -36,9 +35,9 @@ NeedsNoMemoryAt Insert shelves id hist event = hit hist event ≡ None
 NeedsNoMemoryAt Retract shelves id hist event = ActsPlainly shelves id hist event
 
 -- at no trigger it takes memory
-abbrev pub NeedsNoMemory : Sign → FinMap nat_cmp Hist → Shelves → Traced → Type 0
+abbrev pub NeedsNoMemory : Sign → Triggers → Shelves → Traced → Type 0
 NeedsNoMemory Insert triggers shelves event = IsNoHit triggers event
-NeedsNoMemory Retract triggers shelves event = IsPlainHit triggers shelves event
+NeedsNoMemory Retract triggers shelves event = AllActPlainly triggers shelves event
 
 -- ---- one act
 

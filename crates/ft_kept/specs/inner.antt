@@ -5,6 +5,6 @@ pub mod Edits
 pub mod Joining
 pub mod JoiningReads
 pub mod OneAct
-pub mod Owed
+pub mod Stale
 pub mod Settling
 pub mod Telling

@@ -1,17 +1,16 @@
 //! What a repair is given: where it looks things up, and the act that comes or goes.
 
 use ft_fields::{Event, Pos};
-use ft_hist::{Key, Trigger};
+use ft_hist::{Key, Trigger, Triggers};
 use ft_lanes::Lanes;
 use ft_pairs::At;
 use ft_shelves::Sign;
-use std::collections::BTreeMap;
 
 /// Where a repair looks things up: the attached triggers, and the lanes of held events.
 #[derive(Clone, Copy)]
 pub struct Scene<'a> {
     /// The attached triggers, by id.
-    pub triggers: &'a BTreeMap<u32, Trigger>,
+    pub triggers: &'a Triggers,
     /// The lanes of held events.
     pub lanes: &'a Lanes,
 }
@@ -27,17 +26,20 @@ pub struct Delta<'a> {
     pub event: &'a Event,
 }
 
-/// An attached trigger, with its id.
+/// An attached trigger.
 #[derive(Clone, Copy)]
-pub(crate) struct Attached<'a> {
-    pub(crate) id: u32,
-    pub(crate) trigger: &'a Trigger,
+pub struct Attached<'a> {
+    /// Its id.
+    pub id: u32,
+    /// The trigger.
+    pub trigger: &'a Trigger,
 }
 
 /// What a trigger does at an event that is a hit of it, put in or taken away: it counts the event
 /// under a key.
 #[derive(Clone, Copy)]
 pub(crate) struct Act<'a> {
+    pub(crate) scene: Scene<'a>,
     pub(crate) sign: Sign,
     pub(crate) trigger: &'a Trigger,
     pub(crate) at: At,

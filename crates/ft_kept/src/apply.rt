@@ -4,17 +4,17 @@ ghost use Rattle.std.specs.Prelude.{◌≡◌, ◌+◌, ◌*◌, ◌≤◌, ◌�
 ghost use Rattle.std.specs.FinMap as map;
 ghost use Rattle.ft_hist.specs.Hit.{hit};
 ghost use Rattle.ft_hist.specs.Steps.{StepsGrow};
-ghost use Rattle.ft_hist.specs.Tests.{count_on, asked};
+ghost use Rattle.ft_hist.specs.Tests.{count_on, tests_taken};
 ghost use Rattle.ft_pairs.specs.declared.role.Role.TheVariants.{Plain};
 ghost use Rattle.ft_kept.specs.Changes.{HasToldFew};
 ghost use Rattle.ft_kept.specs.Acts.{Acts};
 ghost use Rattle.ft_kept.specs.Bounds.{SaverMoves, SomeSaverMoves, OtherSaversStay};
 ghost use Rattle.ft_kept.specs.Input.{input_of, AreViews};
-ghost use Rattle.ft_kept.specs.Memory.{ActsPlainly, IsPlainHit};
+ghost use Rattle.ft_kept.specs.Memory.{ActsPlainly, AllActPlainly};
 ghost use Rattle.ft_kept.specs.Repairs.{IsHeldAt};
 ghost use Rattle.ft_kept.specs.Signs.{event_before, event_after, table_edit, NeedsNoMemory, NeedsNoMemoryAt};
 ghost use Rattle.ft_kept.specs.Views.{HasAt, act_under, set, triggers_of, with_event};
-ghost use Rattle.ft_kept.specs.inner.Changing.{MayChange, HasChanged, asked_at};
+ghost use Rattle.ft_kept.specs.inner.Changing.{MayChange, HasChanged, HasToldAct};
 ghost use Rattle.ft_shelves.specs.Shelves.{FormsStay, role_on};
 ghost use Rattle.ft_shelves.specs.declared.sign.Sign.TheVariants.{Retract};
 
@@ -24,8 +24,7 @@ use crate::hits::change_hit;
 use crate::readings::change_reading;
 use crate::saver::change_saving;
 use crate::tables::Tables;
-use ft_hist::{Trigger, Work};
-use ft_maps::entries;
+use ft_hist::Work;
 use ft_pairs::{At, Role};
 use std::alloc::AllocError;
 
@@ -62,130 +61,90 @@ impl Tables {
             (triggers_of scene.now) self.old }
         ensures memory { NeedsNoMemory delta.now.sign (triggers_of scene.now) self.old
             delta.now.event.now → result ≡ Ok tt }
-        ensures quiet { IsPlainHit (triggers_of scene.now) self.old delta.now.event.now
+        ensures quiet { AllActPlainly (triggers_of scene.now) self.old delta.now.event.now
             → changes.new.readings ≡ changes.old.readings }
         ensures grow { StepsGrow work.old work.new }
     {
-        for (id, trigger) in entries(scene.triggers) {
+        for (id, trigger) in scene.triggers.iter() {
             let attached = Attached { id: *id, trigger };
-            apply_at(self, scene, &attached, delta, changes, work)?;
+            self.apply_to(scene, &attached, delta, changes, work)?;
         }
         Ok(())
     }
 
     /// An event that is held is put in or taken away at one attached trigger, where it is a hit of
-    /// it. Afterwards the tables are views of the same input except at that place. Tests the event
-    /// where the trigger is on its name alone. Refused for memory, and then the tables are of no
-    /// use any more.
+    /// it, and what that changes is told after what was. Afterwards the tables are views of the same
+    /// input except at that place. Tests the event where the trigger is on its name alone. Refused
+    /// for memory, and then the tables are of no use any more.
     pub fn apply_to(
         &mut self,
         scene: &Scene<'_>,
-        id: u32,
-        trigger: &Trigger,
+        attached: &Attached<'_>,
         delta: &Delta<'_>,
+        changes: &mut Changes,
         work: &mut Work,
     ) -> Result<(), AllocError>
         requires views { AreViews (triggers_of scene.now) scene.now.lanes.now self.old }
-        requires attached { map.get (triggers_of scene.now) id ≡ Some trigger.now }
+        requires attached { map.get (triggers_of scene.now) attached.now.id
+            ≡ Some attached.now.trigger.now }
         requires held { IsHeldAt scene.now.lanes.now delta.now.pos delta.now.event.now }
         requires before { input_of scene.now.lanes.now self.old
-            (record { pos = delta.now.pos; trigger = id })
-            ≡ option_and_then (act_under trigger.now)
+            (record { pos = delta.now.pos; trigger = attached.now.id })
+            ≡ option_and_then (act_under attached.now.trigger.now)
             (event_before delta.now.sign delta.now.event.now) }
         ensures forms { OnOk result (FormsStay self.old self.new) }
-        ensures savers { OnOk result (OtherSaversStay id self.old self.new) }
+        ensures savers { OnOk result (OtherSaversStay attached.now.id self.old self.new) }
         ensures views { OnOk result (AreViews (triggers_of scene.now) scene.now.lanes.now self.new) }
         ensures input { OnOk result (input_of scene.now.lanes.now self.new
             ≡ set (input_of scene.now.lanes.now self.old)
-            (record { pos = delta.now.pos; trigger = id })
-            (option_and_then (act_under trigger.now)
+            (record { pos = delta.now.pos; trigger = attached.now.id })
+            (option_and_then (act_under attached.now.trigger.now)
             (event_after delta.now.sign delta.now.event.now))) }
-        ensures evals { work.new.evals ≡ work.old.evals + asked trigger.now delta.now.event.now }
-        ensures puts { (work.new.puts ≤ work.old.puts + 3 * asked trigger.now delta.now.event.now)
+        ensures told { OnOk result (HasToldFew ((attached.now.id, attached.now.trigger.now) ∷ [])
+            changes.old changes.new self.old self.new) }
+        ensures evals { work.new.evals
+            ≡ work.old.evals + tests_taken attached.now.trigger.now delta.now.event.now }
+        ensures puts { (work.new.puts
+            ≤ work.old.puts + 3 * tests_taken attached.now.trigger.now delta.now.event.now)
             ⊎ SaverMoves (table_edit delta.now.sign delta.now.pos delta.now.event.now)
-            trigger.now self.old id }
-        ensures memory { NeedsNoMemoryAt delta.now.sign self.old id trigger.now delta.now.event.now
-            → result ≡ Ok tt }
+            attached.now.trigger.now self.old attached.now.id }
+        ensures memory { NeedsNoMemoryAt delta.now.sign self.old attached.now.id
+            attached.now.trigger.now delta.now.event.now → result ≡ Ok tt }
+        ensures quiet { ActsPlainly self.old attached.now.id attached.now.trigger.now
+            delta.now.event.now → changes.new.readings ≡ changes.old.readings }
         ensures grow { StepsGrow work.old work.new }
     {
-        let attached = Attached { id, trigger };
-        apply_at(self, scene, &attached, delta, &mut Changes::unasked(), work)
+        let Some(key) = attached.trigger.key_of(delta.event, work) else {
+            return Ok(());
+        };
+        let act = Act {
+            scene: *scene,
+            sign: delta.sign,
+            trigger: attached.trigger,
+            at: At {
+                pos: delta.pos,
+                trigger: attached.id,
+            },
+            event: delta.event,
+            key,
+        };
+        change_act(self, &act, changes, work)
     }
-}
-
-/// An event that is held is put in or taken away at one attached trigger, where it is a hit of it,
-/// and what that changes is told after what was. Tests it where the trigger is on its name alone.
-/// Refused for memory.
-fn apply_at(
-    tables: &mut Tables,
-    scene: &Scene<'_>,
-    attached: &Attached<'_>,
-    delta: &Delta<'_>,
-    changes: &mut Changes,
-    work: &mut Work,
-) -> Result<(), AllocError>
-    requires views { AreViews (triggers_of scene.now) scene.now.lanes.now tables.old }
-    requires attached { map.get (triggers_of scene.now) attached.now.id ≡ Some attached.now.trigger.now }
-    requires held { IsHeldAt scene.now.lanes.now delta.now.pos delta.now.event.now }
-    requires before { input_of scene.now.lanes.now tables.old
-        (record { pos = delta.now.pos; trigger = attached.now.id })
-        ≡ option_and_then (act_under attached.now.trigger.now)
-        (event_before delta.now.sign delta.now.event.now) }
-    ensures forms { OnOk result (FormsStay tables.old tables.new) }
-    ensures savers { OnOk result (OtherSaversStay attached.now.id tables.old tables.new) }
-    ensures views { OnOk result (AreViews (triggers_of scene.now) scene.now.lanes.now tables.new) }
-    ensures input { OnOk result (input_of scene.now.lanes.now tables.new
-        ≡ set (input_of scene.now.lanes.now tables.old)
-        (record { pos = delta.now.pos; trigger = attached.now.id })
-        (option_and_then (act_under attached.now.trigger.now)
-        (event_after delta.now.sign delta.now.event.now))) }
-    ensures told { OnOk result (HasToldFew ((attached.now.id, attached.now.trigger.now) ∷ [])
-        changes.old changes.new tables.old tables.new) }
-    ensures evals { work.new.evals
-        ≡ work.old.evals + asked attached.now.trigger.now delta.now.event.now }
-    ensures puts { (work.new.puts
-        ≤ work.old.puts + 3 * asked attached.now.trigger.now delta.now.event.now)
-        ⊎ SaverMoves (table_edit delta.now.sign delta.now.pos delta.now.event.now)
-        attached.now.trigger.now tables.old attached.now.id }
-    ensures memory { NeedsNoMemoryAt delta.now.sign tables.old attached.now.id attached.now.trigger.now
-        delta.now.event.now → result ≡ Ok tt }
-    ensures quiet { ActsPlainly tables.old attached.now.id attached.now.trigger.now delta.now.event.now
-        → changes.new.readings ≡ changes.old.readings }
-    ensures grow { StepsGrow work.old work.new }
-{
-    let Some(key) = attached.trigger.key_of(delta.event, work) else {
-        return Ok(());
-    };
-    let act = Act {
-        sign: delta.sign,
-        trigger: attached.trigger,
-        at: At {
-            pos: delta.pos,
-            trigger: attached.id,
-        },
-        event: delta.event,
-        key,
-    };
-    change_act(tables, scene, &act, changes, work)
 }
 
 /// An act of a trigger comes or goes. Refused for memory, which one of a trigger without a variable
 /// takes none of as it goes.
 fn change_act(
     tables: &mut Tables,
-    scene: &Scene<'_>,
     act: &Act<'_>,
     changes: &mut Changes,
     work: &mut Work,
 ) -> Result<(), AllocError>
     ghost acts: { Acts }
-    requires may { MayChange scene.now act.now act.now.sign acts
-        (role_on tables.old act.now.at.trigger) tables.old }
+    requires may { MayChange act.now acts (role_on tables.old act.now.at.trigger) tables.old }
     requires hit { hit act.now.trigger.now act.now.event.now ≡ Some act.now.key }
-    ensures changed { OnOk result (HasChanged scene.now act.now act.now.sign acts
-        tables.old tables.new) }
-    ensures told { OnOk result (HasToldFew (asked_at act.now) changes.old changes.new
-        tables.old tables.new) }
+    ensures changed { OnOk result (HasChanged act.now acts tables.old tables.new) }
+    ensures told { OnOk result (HasToldAct act.now changes.old changes.new tables.old tables.new) }
     ensures quiet { role_on tables.old act.now.at.trigger ≡ Plain
         → changes.new.readings ≡ changes.old.readings }
     ensures memory { act.now.sign ≡ Retract → role_on tables.old act.now.at.trigger ≡ Plain
@@ -197,8 +156,8 @@ fn change_act(
     ensures grow { StepsGrow work.old work.new }
 {
     match tables.role(act.at.trigger) {
-        Role::Plain => change_hit(tables, scene, act, changes, work),
-        Role::Saves => change_saving(tables, scene, act, changes, work),
-        Role::Reads(saver) => change_reading(tables, scene, saver, act, changes, work),
+        Role::Plain => change_hit(tables, act, changes, work),
+        Role::Saves => change_saving(tables, act, changes, work),
+        Role::Reads(saver) => change_reading(tables, saver, act, changes, work),
     }
 }

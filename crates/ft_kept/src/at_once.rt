@@ -2,30 +2,27 @@
 //! part is made as a whole.
 
 ghost use Rattle.std.specs.Prelude.{◌≡◌, ℕ, OnOk, IsTrue, Some, None};
-ghost use Rattle.std.specs.Ordering.{nat_cmp};
 ghost use Rattle.std.specs.FinMap as map;
 ghost use Rattle.std.specs.FinMap.{FinMap};
 ghost use Rattle.ft_fields.specs.Places.{pos_cmp};
 ghost use Rattle.ft_fields.specs.Traced.{Traced};
 ghost use Rattle.ft_groups.specs.Grouped.{AreGrouped};
 ghost use Rattle.ft_hist.specs.Steps.{StepsGrow};
-ghost use Rattle.ft_maps.specs.Seen.{seen};
-ghost use Rattle.ft_pairs.specs.declared.role.Role.TheVariants.{Plain, Saves, Reads};
+ghost use Rattle.ft_pairs.specs.declared.role.Role.TheVariants.{Reads};
 ghost use Rattle.ft_kept.specs.AtOnce.{IsBare, AllHaveCome, acts_with};
 ghost use Rattle.ft_shelves.specs.Joining.{AreGroupsOf};
 ghost use Rattle.ft_kept.specs.Repairs.{AreShelved};
 ghost use Rattle.ft_shelves.specs.Shelves.{FormsStay, role_on};
-ghost use Rattle.ft_kept.specs.inner.Joining.{MayJoin, Joined, is_other_reader};
+ghost use Rattle.ft_kept.specs.inner.Joining.{MayJoin, Joined, IsNoReader, is_other_reader};
 
 use crate::at_once_read::readings_come;
 use crate::tables::Tables;
 use ft_groups::Groups;
-use ft_hist::{Trigger, Work};
+use ft_hist::{Trigger, Triggers, Work};
 use ft_maps::entries;
 use ft_pairs::Role;
-use ft_shelves::{Joining, put_savings};
+use ft_shelves::Joining;
 use std::alloc::AllocError;
-use std::collections::BTreeMap;
 
 impl Tables {
     /// Whether nothing is kept yet of a trigger, nor of what its acts would change beside, so that
@@ -48,20 +45,20 @@ impl Tables {
     /// then the tables are of no use any more.
     pub fn acts_come(
         &mut self,
-        triggers: &BTreeMap<u32, Trigger>,
+        triggers: &Triggers,
         trigger: &Trigger,
         id: u32,
         groups: &Groups<'_>,
         work: &mut Work,
     ) -> Result<(), AllocError>
-        requires shelved { AreShelved (seen nat_cmp triggers.now) self.old }
-        requires attached { map.get (seen nat_cmp triggers.now) id ≡ Some trigger.now }
+        requires shelved { AreShelved triggers.now self.old }
+        requires attached { map.get triggers.now id ≡ Some trigger.now }
         requires bare { IsBare id self.old }
         requires grouped { AreGroupsOf trigger.now groups.now }
         ensures forms { OnOk result (FormsStay self.old self.new) }
         ensures right { OnOk result ((events : FinMap pos_cmp Traced)
             → AreGrouped trigger.now (map.entries events) groups.now
-            → AllHaveCome (seen nat_cmp triggers.now) id (acts_with trigger.now events)
+            → AllHaveCome triggers.now id (acts_with trigger.now events)
             self.old self.new) }
         ensures evals { work.new.evals ≡ work.old.evals }
         ensures grow { StepsGrow work.old work.new }
@@ -74,8 +71,7 @@ impl Tables {
             groups,
         };
         match self.role(id) {
-            Role::Plain => hits_come(self, &joining, work),
-            Role::Saves => savings_come(self, &joining, work),
+            Role::Plain | Role::Saves => hits_come(self, &joining, work),
             Role::Reads(saver) => readings_come(self, &joining, saver, work),
         }
     }
@@ -103,39 +99,21 @@ fn is_other_reader(id: u32, saver: u32, other: u32, role: Role) -> bool
     }
 }
 
-/// All hits of a trigger come that has no variable. Refused for memory.
+/// All hits of a trigger come that reads nothing, and with a saver's what they save. Refused for
+/// memory.
 fn hits_come(
     tables: &mut Tables,
     joining: &Joining<'_, '_>,
     work: &mut Work,
 ) -> Result<(), AllocError>
-    requires role { role_on tables.old joining.now.id ≡ Plain }
+    requires unread { IsNoReader (role_on tables.old joining.now.id) }
     requires joins { MayJoin joining.now tables.old }
     ensures joined { OnOk result (Joined joining.now tables.old tables.new) }
     ensures evals { work.new.evals ≡ work.old.evals }
     ensures grow { StepsGrow work.old work.new }
 {
     match tables.shelf_mut(joining.id) {
-        Some(shelf) => shelf.put_groups(joining, work),
-        // Each attached trigger has a shelf.
-        None => Ok(()),
-    }
-}
-
-/// All hits of a saver come, and with them what they save. Refused for memory.
-fn savings_come(
-    tables: &mut Tables,
-    joining: &Joining<'_, '_>,
-    work: &mut Work,
-) -> Result<(), AllocError>
-    requires role { role_on tables.old joining.now.id ≡ Saves }
-    requires joins { MayJoin joining.now tables.old }
-    ensures joined { OnOk result (Joined joining.now tables.old tables.new) }
-    ensures evals { work.new.evals ≡ work.old.evals }
-    ensures grow { StepsGrow work.old work.new }
-{
-    match tables.shelf_mut(joining.id) {
-        Some(shelf) => put_savings(shelf, joining, work),
+        Some(shelf) => shelf.join(joining, work),
         // Each attached trigger has a shelf.
         None => Ok(()),
     }

@@ -4,7 +4,7 @@ ghost use Rattle.std.specs.Prelude.{◌≡◌, [], ◌∷◌, Some, None, option
 ghost use Rattle.ft_kept.specs.Changes.{Told, Tells};
 
 use ft_changes::ReadingChange;
-use ft_keys::Key;
+use ft_fields::Key;
 use std::alloc::Global;
 use std::marker::Model;
 
@@ -86,10 +86,7 @@ impl Changes {
     pub fn keys(&self) -> Option<&[KeyChange]>
         ensures { option_map (λ keys. keys.now) result ≡ self.now.keys }
     {
-        match &self.keys {
-            Some(keys) => Some(keys.as_slice()),
-            None => None,
-        }
+        self.keys.as_deref()
     }
 
     /// The readings that changed, in the order in which they did; none where they weren't asked for,
@@ -97,10 +94,7 @@ impl Changes {
     pub fn readings(&self) -> Option<&[ReadingChange]>
         ensures { option_map (λ readings. readings.now) result ≡ self.now.readings }
     {
-        match &self.readings {
-            Some(readings) => Some(readings.as_slice()),
-            None => None,
-        }
+        self.readings.as_deref()
     }
 
     /// Tells a key. Where memory for it runs out, no keys are told any more.

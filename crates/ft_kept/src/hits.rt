@@ -6,10 +6,9 @@ ghost use Rattle.ft_pairs.specs.declared.role.Role.TheVariants.{Plain};
 ghost use Rattle.ft_shelves.specs.Changes.{on_insert};
 ghost use Rattle.ft_shelves.specs.declared.sign.Sign.TheVariants.{Retract};
 ghost use Rattle.ft_kept.specs.Acts.{Acts};
-ghost use Rattle.ft_kept.specs.Changes.{HasToldFew};
-ghost use Rattle.ft_kept.specs.inner.Changing.{MayChange, HasChanged, asked_at};
+ghost use Rattle.ft_kept.specs.inner.Changing.{MayChange, HasChanged, HasToldAct};
 
-use crate::act::{Act, Scene};
+use crate::act::Act;
 use crate::changes::{Changes, Whose};
 use crate::saver::hit_change;
 use crate::tables::Tables;
@@ -20,17 +19,14 @@ use std::alloc::AllocError;
 /// takes none of.
 pub(crate) fn change_hit(
     tables: &mut Tables,
-    scene: &Scene<'_>,
     act: &Act<'_>,
     changes: &mut Changes,
     work: &mut Work,
 ) -> Result<(), AllocError>
     ghost acts: { Acts }
-    requires { MayChange scene.now act.now act.now.sign acts Plain tables.old }
-    ensures changed { OnOk result (HasChanged scene.now act.now act.now.sign acts
-        tables.old tables.new) }
-    ensures told { OnOk result (HasToldFew (asked_at act.now) changes.old changes.new
-        tables.old tables.new) }
+    requires { MayChange act.now acts Plain tables.old }
+    ensures changed { OnOk result (HasChanged act.now acts tables.old tables.new) }
+    ensures told { OnOk result (HasToldAct act.now changes.old changes.new tables.old tables.new) }
     ensures quiet { changes.new.readings ≡ changes.old.readings }
     ensures memory { act.now.sign ≡ Retract → result ≡ Ok tt }
     ensures puts { work.new.puts ≤ work.old.puts + on_insert act.now.sign 1 }

@@ -1,8 +1,10 @@
 //! What is kept of attached triggers beside the events that they count, so that an answer needs no
 //! replay: each trigger's table, the saves and reads of each variable, and what each reading found.
 //! All of it are views of one input: what the triggers count at events. As an event is put in or
-//! taken away, the views are repaired where it touches them. Where nothing is kept of a trigger
-//! yet, all its events come at once, each key's part as a whole.
+//! taken away, the views are repaired where it touches them, and it is told under which keys hits
+//! may have changed. The rows of these keys may differ, and those of their rivals in the trigger's
+//! own table: they are reported. Where nothing is kept of a trigger yet, all its events come at
+//! once, each key's part as a whole.
 //!
 //! ```ignore
 //! let mut tables = Tables::new(alloc);
@@ -11,17 +13,19 @@
 //! let scene = Scene { triggers: &triggers, lanes: &lanes };
 //! let mut changes = Changes::unasked().with_keys(alloc).with_readings(alloc);
 //! let mut work = Work::new();
-//! if let Some(event) = lanes.get(pos.cpu, pos.line) {
-//!     let delta = Delta { sign: Sign::Insert, pos, event: &event };
-//!     tables.apply(&scene, &delta, &mut changes, &mut work)?;
-//! }
-//! // Under which keys hits changed, and what readings found before and find now, where memory for
-//! // them was found.
-//! let (keys, readings) = (changes.keys(), changes.readings());
+//! // `Sign::Retract` where the event is taken away.
+//! let delta = Delta { sign: Sign::Insert, pos, event: &event };
+//! tables.apply(&scene, &delta, &mut changes, &mut work)?;
 //! if let Some(shelf) = tables.shelf(2) {
 //!     let found = shelf.readings().get(&pos);
 //! }
+//! // Where memory was found for the keys under which hits may have changed:
+//! if let Some(keys) = changes.keys() {
+//!     let rows = changed_rows(alloc, &tables, &triggers, keys)?;
+//!     // The row of `rows[0].key` in the table of trigger `rows[0].id` may differ, and so on.
+//! }
 //! // Trigger 3 joins: nothing is kept of it yet.
+//! tables.add(3, Role::Plain, 2048)?;
 //! if tables.is_bare(3) {
 //!     let groups = grouped(alloc, trigger, &events, &mut work)?;
 //!     tables.acts_come(&triggers, trigger, 3, &groups, &mut work)?;
@@ -53,8 +57,8 @@
 //!   more, at any time. That only running out of memory does it is seen in the source.
 //! - Clause `quiet`: where only triggers without a variable hit the event, what is told of readings
 //!   stays as it is.
-//! - `Tables::apply_to`: as `apply`, at one trigger, and nothing is told; the other savers' tables
-//!   stay. Lets through: what `apply` does.
+//! - `Tables::apply_to`: as `apply`, at one trigger; the other savers' tables stay. Lets through:
+//!   what `apply` does.
 //! - `Tables::acts_come`, clause `right`: all acts of a trigger of which nothing is kept yet, by
 //!   its events grouped by key: where the shelves hold what the acts of the others say, they hold
 //!   afterwards what all acts say (`specs/AtOnce.antt`). No event is tested again. Lets through:
@@ -65,6 +69,17 @@
 //!   acts come one by one.
 //! - `Tables::new`, `add`, `drop_shelf`, `shelf`, `Changes::unasked`, `with_keys`, `with_readings`,
 //!   `keys`, `readings`: exact. `add` lets through: running out of memory at any time.
+//! - `changed_rows`: the report of an event by the keys that were told, in order of the triggers'
+//!   ids: the rows of the keys that are told of a trigger's hits and of their rivals in its table
+//!   (`specs/Report.antt`, `specs/Touched.antt`), none of triggers that count made events; exact.
+//!   Lets through: running out of memory at any time; keys other than those that were told.
+//! - Law `reported_rows`: where hits stay but under these keys, the report has each row that
+//!   differs of an attached trigger that counts held events, and none twice. Where few keys are
+//!   told, it has two rows at most of a trigger that reads nothing; of a reader four, and two more
+//!   for each attached trigger that reads the same variable, itself among them
+//!   (`specs/Laws.antt`).
+//! - `distinct`, `put_rows`: some keys, each once; the rows of some keys of a trigger, added to
+//!   others; exact. Lets through: running out of memory at any time.
 //!
 //! That only what an event touches is repaired (its own hit and operation, the next reading, the
 //! readings of keys that moved) is how the source does it. The clauses bound the puts and say
@@ -77,13 +92,20 @@ mod at_once;
 mod at_once_read;
 mod changes;
 mod hits;
+mod keys;
+pub mod laws;
 mod moved;
 mod readings;
+mod report;
 mod saver;
 mod settle;
 mod tables;
 
-pub use act::{Delta, Scene};
+pub use act::{Attached, Delta, Scene};
 pub use changes::{Changes, KeyChange, Whose};
+pub use ft_changes::Changed;
 pub use ft_shelves::{Shelf, Sign};
+pub use keys::distinct;
+pub use laws::reported_rows;
+pub use report::{changed_rows, put_rows};
 pub use tables::Tables;

@@ -6,13 +6,13 @@ ghost use Rattle.ft_pairs.specs.Next.{IsNext};
 ghost use Rattle.ft_pairs.specs.declared.at.At.{At};
 ghost use Rattle.ft_pairs.specs.declared.at.Op.{Op};
 ghost use Rattle.ft_shelves.specs.Shelves.{kept_on};
-ghost use Rattle.ft_kept.specs.inner.Acting.{CanSettle, Paid, own_variable};
+ghost use Rattle.ft_kept.specs.inner.Acting.{CanSettle, Refreshed, own_variable};
 ghost use Rattle.ft_kept.specs.inner.Edits.{ReadersChange};
 ghost use Rattle.ft_kept.specs.inner.Settling.{without_moved};
 ghost use Rattle.ft_kept.specs.inner.Telling.{HasToldOf, moved_keys};
 
-use crate::act::{Act, Scene};
-use crate::changes::Changes;
+use crate::act::Act;
+use crate::changes::{Changes, Whose};
 use crate::settle::{settle_key, settle_next};
 use crate::tables::Tables;
 use ft_hist::Work;
@@ -21,20 +21,20 @@ use ft_shelves::Moved;
 use std::alloc::AllocError;
 
 /// Makes the readings right that a change of a saver's hits at a place may have made wrong: those
-/// of the keys that moved, and else the next one on the key's variable. Refused for memory.
+/// of the keys that moved, and else the next one on the key's variable. Each key is told before
+/// what its readings find. Refused for memory.
 pub(crate) fn settle_moved(
     tables: &mut Tables,
-    scene: &Scene<'_>,
     act: &Act<'_>,
     moved: Moved,
     changes: &mut Changes,
     work: &mut Work,
 ) -> Result<(), AllocError>
-    requires { CanSettle scene.now tables.old }
+    requires { CanSettle act.now.scene tables.old }
     ensures readers { OnOk result (ReadersChange tables.old tables.new) }
     ensures right { OnOk result ((next : Option (At × Op))
         → IsNext ((kept_on tables.old).ops (own_variable act.now)) (Some act.now.at) next
-        → Paid scene.now tables.old tables.new
+        → Refreshed act.now.scene tables.old tables.new
         (without_moved tables.old act.now.at.trigger act.now.key moved next)) }
     ensures told { OnOk result (HasToldOf (moved_keys act.now.at.trigger act.now.key moved)
         changes.old changes.new tables.old tables.new) }
@@ -43,22 +43,18 @@ pub(crate) fn settle_moved(
     ensures grow { StepsGrow work.old work.new }
 {
     let saver = act.at.trigger;
-    if let Some(other) = moved.other {
-        settle_key(
-            tables,
-            scene,
-            &Variable { saver, key: other },
-            changes,
-            work,
-        )?;
+    if let Some(key) = moved.other {
+        changes.tell_key(Whose::ReadersOf(saver), key);
+        settle_key(tables, &act.scene, &Variable { saver, key }, changes, work)?;
     }
     let variable = Variable {
         saver,
         key: act.key,
     };
+    changes.tell_key(Whose::ReadersOf(saver), act.key);
     if moved.own {
-        settle_key(tables, scene, &variable, changes, work)
+        settle_key(tables, &act.scene, &variable, changes, work)
     } else {
-        settle_next(tables, scene, &variable, act.at, changes, work)
+        settle_next(tables, &act.scene, &variable, act.at, changes, work)
     }
 }

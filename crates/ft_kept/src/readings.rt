@@ -4,11 +4,10 @@ ghost use Rattle.std.specs.Prelude.{◌≡◌, ◌+◌, ◌≤◌, OnOk};
 ghost use Rattle.ft_hist.specs.Steps.{StepsGrow};
 ghost use Rattle.ft_pairs.specs.declared.role.Role.TheVariants.{Reads};
 ghost use Rattle.ft_kept.specs.Acts.{Acts};
-ghost use Rattle.ft_kept.specs.Changes.{HasToldFew};
-ghost use Rattle.ft_kept.specs.inner.Changing.{MayChange, HasChanged, asked_at};
+ghost use Rattle.ft_kept.specs.inner.Changing.{MayChange, HasChanged, HasToldAct};
 
-use crate::act::{Act, Scene};
-use crate::changes::Changes;
+use crate::act::Act;
+use crate::changes::{Changes, Whose};
 use crate::settle::{Reading, settle, settle_next};
 use crate::tables::Tables;
 use ft_hist::Work;
@@ -16,25 +15,24 @@ use ft_pairs::Variable;
 use std::alloc::AllocError;
 
 /// A reading of a key comes or goes: its read stands among the operations on the variable or not,
-/// and it and the next reading are made right. Refused for memory.
+/// and it and the next reading are made right. The key is told before what they find. Refused for
+/// memory.
 pub(crate) fn change_reading(
     tables: &mut Tables,
-    scene: &Scene<'_>,
     saver: u32,
     act: &Act<'_>,
     changes: &mut Changes,
     work: &mut Work,
 ) -> Result<(), AllocError>
     ghost acts: { Acts }
-    requires { MayChange scene.now act.now act.now.sign acts (Reads saver) tables.old }
-    ensures changed { OnOk result (HasChanged scene.now act.now act.now.sign acts
-        tables.old tables.new) }
-    ensures told { OnOk result (HasToldFew (asked_at act.now) changes.old changes.new
-        tables.old tables.new) }
+    requires { MayChange act.now acts (Reads saver) tables.old }
+    ensures changed { OnOk result (HasChanged act.now acts tables.old tables.new) }
+    ensures told { OnOk result (HasToldAct act.now changes.old changes.new tables.old tables.new) }
     ensures puts { work.new.puts ≤ work.old.puts + 3 }
     ensures evals { work.new.evals ≡ work.old.evals }
     ensures grow { StepsGrow work.old work.new }
 {
+    changes.tell_key(Whose::ReadersOf(saver), act.key);
     let variable = Variable {
         saver,
         key: act.key,
@@ -45,6 +43,6 @@ pub(crate) fn change_reading(
         event: act.event,
     };
     tables.change_read(&variable, act.at, act.sign, work)?;
-    settle(tables, scene, &reading, act.sign, changes, work)?;
-    settle_next(tables, scene, &variable, act.at, changes, work)
+    settle(tables, &act.scene, &reading, act.sign, changes, work)?;
+    settle_next(tables, &act.scene, &variable, act.at, changes, work)
 }

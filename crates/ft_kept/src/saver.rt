@@ -6,12 +6,11 @@ ghost use Rattle.ft_pairs.specs.declared.role.Role.TheVariants.{Saves};
 ghost use Rattle.ft_shelves.specs.Changes.{table_with};
 ghost use Rattle.ft_kept.specs.Acts.{Acts};
 ghost use Rattle.ft_kept.specs.Bounds.{TableMoves};
-ghost use Rattle.ft_kept.specs.Changes.{HasToldFew};
-ghost use Rattle.ft_kept.specs.inner.Changing.{MayChange, HasChanged, ChangedOwing};
-ghost use Rattle.ft_kept.specs.inner.Changing.{asked_at, change_of};
+ghost use Rattle.ft_kept.specs.inner.Changing.{MayChange, HasChanged, ChangedLeavingStale};
+ghost use Rattle.ft_kept.specs.inner.Changing.{HasToldAct, change_of};
 ghost use Rattle.ft_kept.specs.inner.Telling.{HasToldOf, own_key};
 
-use crate::act::{Act, Scene};
+use crate::act::Act;
 use crate::changes::{Changes, Whose};
 use crate::moved::settle_moved;
 use crate::tables::Tables;
@@ -23,24 +22,21 @@ use std::alloc::AllocError;
 /// A saver's hit comes or goes. Refused for memory.
 pub(crate) fn change_saving(
     tables: &mut Tables,
-    scene: &Scene<'_>,
     act: &Act<'_>,
     changes: &mut Changes,
     work: &mut Work,
 ) -> Result<(), AllocError>
     ghost acts: { Acts }
-    requires { MayChange scene.now act.now act.now.sign acts Saves tables.old }
-    ensures changed { OnOk result (HasChanged scene.now act.now act.now.sign acts
-        tables.old tables.new) }
-    ensures told { OnOk result (HasToldFew (asked_at act.now) changes.old changes.new
-        tables.old tables.new) }
+    requires { MayChange act.now acts Saves tables.old }
+    ensures changed { OnOk result (HasChanged act.now acts tables.old tables.new) }
+    ensures told { OnOk result (HasToldAct act.now changes.old changes.new tables.old tables.new) }
     ensures puts { (work.new.puts ≤ work.old.puts + 3)
-        ⊎ TableMoves (table_with (change_of act.now.sign act.now)) tables.old act.now.at.trigger }
+        ⊎ TableMoves (table_with (change_of act.now)) tables.old act.now.at.trigger }
     ensures evals { work.new.evals ≡ work.old.evals }
     ensures grow { StepsGrow work.old work.new }
 {
-    let moved = change_shelf(tables, scene, act, changes, work)?;
-    settle_moved(tables, scene, act, moved, changes, work)
+    let moved = change_shelf(tables, act, changes, work)?;
+    settle_moved(tables, act, moved, changes, work)
 }
 
 /// A saver's hit comes to its shelf or goes, and its key is told. With it the operations on what it
@@ -48,19 +44,17 @@ pub(crate) fn change_saving(
 /// moved. Refused for memory.
 fn change_shelf(
     tables: &mut Tables,
-    scene: &Scene<'_>,
     act: &Act<'_>,
     changes: &mut Changes,
     work: &mut Work,
 ) -> Result<Moved, AllocError>
     ghost acts: { Acts }
-    requires { MayChange scene.now act.now act.now.sign acts Saves tables.old }
-    ensures owing { IfOk result (λ moved. ChangedOwing scene.now act.now act.now.sign acts moved
-        tables.old tables.new) }
+    requires { MayChange act.now acts Saves tables.old }
+    ensures leaves_stale { IfOk result (λ moved. ChangedLeavingStale act.now acts moved tables.old tables.new) }
     ensures told { IfOk result (λ moved. HasToldOf (own_key act.now.at.trigger act.now.key)
         changes.old changes.new tables.old tables.new) }
     ensures puts { (work.new.puts ≤ work.old.puts + 2)
-        ⊎ TableMoves (table_with (change_of act.now.sign act.now)) tables.old act.now.at.trigger }
+        ⊎ TableMoves (table_with (change_of act.now)) tables.old act.now.at.trigger }
     ensures evals { work.new.evals ≡ work.old.evals }
     ensures grow { StepsGrow work.old work.new }
 {
@@ -80,7 +74,7 @@ fn change_shelf(
 /// where it comes.
 pub(crate) fn hit_change(act: &Act<'_>) -> HitChange
     requires stamped { act.now.event.now.stamp ≡ act.now.at.pos.stamp }
-    ensures { result ≡ change_of act.now.sign act.now }
+    ensures { result ≡ change_of act.now }
 {
     let spot = Spot::traced(act.at.pos);
     match act.sign {

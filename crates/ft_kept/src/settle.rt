@@ -11,14 +11,14 @@ ghost use Rattle.ft_kept.specs.Entries.{IsEntry, IsOwn, hits_here, read_here};
 ghost use Rattle.ft_kept.specs.Repairs.{AreShelved};
 ghost use Rattle.ft_kept.specs.Signs.{FindsBy, act_after};
 ghost use Rattle.ft_shelves.specs.Shelves.{role_on, kept_on};
-ghost use Rattle.ft_kept.specs.inner.Acting.{CanSettle, Paid};
+ghost use Rattle.ft_kept.specs.inner.Acting.{CanSettle, Refreshed};
 ghost use Rattle.ft_kept.specs.Views.{triggers_of};
 ghost use Rattle.ft_kept.specs.inner.Edits.{ReadersChange, StaysBut};
 ghost use Rattle.ft_kept.specs.inner.Settling.{without_next_read, without_reads_of};
-ghost use Rattle.ft_kept.specs.inner.Telling.{HasReread, HasToldOf, variable_key};
+ghost use Rattle.ft_kept.specs.inner.Telling.{HasReread};
 
 use crate::act::Scene;
-use crate::changes::{Changes, Whose};
+use crate::changes::Changes;
 use crate::tables::Tables;
 use ft_changes::ReadingChange;
 use ft_fields::Event;
@@ -26,7 +26,7 @@ use ft_hist::Work;
 use ft_maps::get;
 use ft_pairs::{At, Op, Variable, one_next};
 use ft_shelves::Sign;
-use ft_table::{Spot, hit_with};
+use ft_table::{Mark, Spot, hit_with};
 use std::alloc::AllocError;
 
 /// A reading of a variable at a place, at the event that is held there.
@@ -66,7 +66,7 @@ pub(crate) fn settle(
     let at = reading.at;
     let key = reading.variable.key;
     let found = found_at(tables, &reading.variable, at, sign);
-    let Some(trigger) = scene.triggers.get(&at.trigger) else {
+    let Some(trigger) = scene.triggers.get(at.trigger) else {
         return Ok(());
     };
     let Some(shelf) = tables.shelf_mut(at.trigger) else {
@@ -78,12 +78,13 @@ pub(crate) fn settle(
         before: get(shelf.readings(), &at.pos).copied(),
         after: found.map(|saved| saved.pos),
     });
-    shelf.take_hit(at.pos, key);
+    let spot = Spot::traced(at.pos);
+    shelf.take_hit(Mark { spot, key });
     match found {
         None => Ok(()),
         Some(saved) => {
             let read = Some(saved.pos);
-            let hit = hit_with(trigger, reading.event, Spot::traced(at.pos), key, read);
+            let hit = hit_with(trigger, reading.event, spot, key, read);
             shelf.put_hit(hit, read, work)
         }
     }
@@ -119,7 +120,7 @@ fn settle_op(
     requires can { CanSettle scene.now tables.old }
     requires there { (kept_on tables.old).ops operation.variable operation.at ≡ Some operation.op }
     ensures readers { OnOk result (ReadersChange tables.old tables.new) }
-    ensures right { OnOk result (Paid scene.now tables.old tables.new
+    ensures right { OnOk result (Refreshed scene.now tables.old tables.new
         (without_next_read (Some (operation.at, operation.op)))) }
     ensures told { OnOk result (HasReread operation.variable changes.old changes.new
         tables.old tables.new) }
@@ -145,7 +146,7 @@ fn settle_op(
 }
 
 /// Makes the reading right that is the next operation on a variable after a place, if that is a
-/// read. The variable's key is told. Refused for memory.
+/// read. Refused for memory.
 pub(crate) fn settle_next(
     tables: &mut Tables,
     scene: &Scene<'_>,
@@ -158,8 +159,8 @@ pub(crate) fn settle_next(
     ensures readers { OnOk result (ReadersChange tables.old tables.new) }
     ensures right { OnOk result ((next : Option (At × Op))
         → IsNext ((kept_on tables.old).ops variable.now) (Some at) next
-        → Paid scene.now tables.old tables.new (without_next_read next)) }
-    ensures told { OnOk result (HasToldOf (variable_key variable.now) changes.old changes.new
+        → Refreshed scene.now tables.old tables.new (without_next_read next)) }
+    ensures told { OnOk result (HasReread variable.now changes.old changes.new
         tables.old tables.new) }
     ensures puts { work.new.puts ≤ work.old.puts + 1 }
     ensures evals { work.new.evals ≡ work.old.evals }
@@ -167,7 +168,6 @@ pub(crate) fn settle_next(
 {
     // There is one next operation at most, so the one found here is the one that callers mean.
     one_next();
-    changes.tell_key(Whose::ReadersOf(variable.saver), variable.key);
     match tables.next_op(variable, Some(at)) {
         Some((at, op)) => {
             let variable = *variable;
@@ -177,8 +177,7 @@ pub(crate) fn settle_next(
     }
 }
 
-/// Makes each reading of a variable right, by a walk over its operations. The variable's key is
-/// told. Refused for memory.
+/// Makes each reading of a variable right, by a walk over its operations. Refused for memory.
 pub(crate) fn settle_key(
     tables: &mut Tables,
     scene: &Scene<'_>,
@@ -188,14 +187,13 @@ pub(crate) fn settle_key(
 ) -> Result<(), AllocError>
     requires { CanSettle scene.now tables.old }
     ensures readers { OnOk result (ReadersChange tables.old tables.new) }
-    ensures right { OnOk result (Paid scene.now tables.old tables.new
+    ensures right { OnOk result (Refreshed scene.now tables.old tables.new
         (without_reads_of tables.old variable.now)) }
-    ensures told { OnOk result (HasToldOf (variable_key variable.now) changes.old changes.new
+    ensures told { OnOk result (HasReread variable.now changes.old changes.new
         tables.old tables.new) }
     ensures evals { work.new.evals ≡ work.old.evals }
     ensures grow { StepsGrow work.old work.new }
 {
-    changes.tell_key(Whose::ReadersOf(variable.saver), variable.key);
     let mut next = tables.next_op(variable, None);
     while let Some((at, op)) = next {
         let operation = Operation {

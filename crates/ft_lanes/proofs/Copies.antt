@@ -16,7 +16,7 @@ use Rattle.ft_maps.specs.Entries.{entries-from_entries, strictly_sorted}
 use Rattle.ft_maps.specs.Mapped.{entries_by, map_by, map_by-insert}
 use Rattle.ft_lanes.specs.Held.{Lane, Lanes, held_in}
 use Rattle.ft_store.specs.Stored.{stored_at}
-use Rattle.ft_lanes.specs.inner.Slots.{AllSlots, placed_from, slots_from, lane_by, lanes_by, slots_in, IsWithin, AreWithin, AreStored}
+use Rattle.ft_lanes.specs.inner.Slots.{AllSlots, placed_from, slots_from, lane_by, lanes_by, slots_in, SlotsAreWithin, AreWithin, AreStored}
 use Rattle.ft_lanes.specs.inner.Rows.{Rise, AreBelow}
 use Rattle.ft_lanes.proofs.Counts.{held-slots}
 use Rattle.ft_lanes.proofs.Each.{each-insert, within-empty, within-longer}
@@ -65,7 +65,7 @@ module _ (n : ℕ) (lane : Lane) where
   pub copy-below : (next : ℕ) → AllByRecursion (λ line. line < next) (keys_of es) → AreBelow next (placed_from n (keys_of es))
   copy-below next above = subst (AllByRecursion (λ line. line < next)) (sym (placed-keys n (keys_of es))) above
 
-  copy-within : IsWithin (n + length es) (slots_from n lane)
+  copy-within : SlotsAreWithin (n + length es) (slots_from n lane)
   copy-within line place is =
       let lt : place < n + length (keys_of es) = placed-within n (keys_of es) line place (sym (get-from_entries nat_cmp_total (placed_from n (keys_of es)) line) ∙ is) in
       omega (arith, lt, length-map es (λ e. e.0))
@@ -116,7 +116,7 @@ copying-step all store slots e rest is =
     ∙ (λ i. map.insert (lanes-appended store more slots is.within i) e.0 (lane-copied store e.1 i)) in
     record {
       leads = ap (λ m. fold put_one m rest) shown ∙ is.leads;
-      within = each-insert (IsWithin n) slots e.0 copy (within-longer (length store) n (omega (arith, longer)) slots is.within) (subst (λ k. IsWithin k copy) (sym longer) (copy-within (length store) e.1));
+      within = each-insert (SlotsAreWithin n) slots e.0 copy (within-longer (length store) n (omega (arith, longer)) slots is.within) (subst (λ k. SlotsAreWithin k copy) (sym longer) (copy-within (length store) e.1));
       long = omega (arith, is.long, longer, len-entries e.1.events, sum_by-cons (λ (lane : Lane). map.len lane.events) e.1 (values_of rest));
     }
 

@@ -10,7 +10,7 @@ use Rattle.std.proofs.lemmas.Bool.{cases_eq}
 use Rattle.std.proofs.lemmas.List.{get_or_default}
 use Rattle.std.proofs.lemmas.Option.{none-some}
 use Rattle.ft_maps.specs.Entries.{get-insert_same, get-insert_other, get-remove_same, get-remove_other}
-use Rattle.ft_lanes.specs.inner.Slots.{SlotsOf, AllSlots, Each, IsWithin, AreWithin, no_slots, slots_with, slots_without, all_with, all_without}
+use Rattle.ft_lanes.specs.inner.Slots.{SlotsOf, AllSlots, Each, SlotsAreWithin, AreWithin, no_slots, slots_with, slots_without, all_with, all_without}
 
 module _ {X : Type 0} (P : X → Type 0) where
   pub each-empty : Each P map.empty
@@ -43,7 +43,7 @@ module _ {X : Type 0} (P : X → Type 0) where
 
 -- no slots are places of any store
 pub within-empty : (n : ℕ) → AreWithin n map.empty
-within-empty n = each-empty (IsWithin n)
+within-empty n = each-empty (SlotsAreWithin n)
 
 -- places of a store are places of a longer one
 pub within-longer : (n m : ℕ) → n ≤ m → (all : AllSlots) → AreWithin n all → AreWithin m all
@@ -55,8 +55,8 @@ within-longer n m le all within cpu slots is line place there =
 pub within-with : (n : ℕ) (all : AllSlots) (cpu place : ℕ) → AreWithin n all → place < n → AreWithin n (all_with all cpu place)
 within-with n all cpu place within lt =
     let slots = unwrap_or (map.get all cpu) no_slots in
-    let old : IsWithin n slots = each-or (IsWithin n) all cpu no_slots within (each-empty (λ p. p < n)) in
-    each-insert (IsWithin n) all cpu (slots_with slots place) within (each-insert (λ p. p < n) slots.places slots.next place old lt)
+    let old : SlotsAreWithin n slots = each-or (SlotsAreWithin n) all cpu no_slots within (each-empty (λ p. p < n)) in
+    each-insert (SlotsAreWithin n) all cpu (slots_with slots place) within (each-insert (λ p. p < n) slots.places slots.next place old lt)
 
 -- one slot less
 pub within-without : (n : ℕ) (all : AllSlots) (cpu line : ℕ) → AreWithin n all → AreWithin n (all_without all cpu line)
@@ -64,11 +64,11 @@ within-without n all cpu line within = at (map.get all cpu) refl
   where
     at : (o : Option SlotsOf) → map.get all cpu ≡ o → AreWithin n (option_map_or (λ slots. map.insert all cpu (slots_without slots line)) o all)
     at None is = within
-    at (Some slots) is = each-insert (IsWithin n) all cpu (slots_without slots line) within (each-remove (λ p. p < n) slots.places line (within cpu slots is))
+    at (Some slots) is = each-insert (SlotsAreWithin n) all cpu (slots_without slots line) within (each-remove (λ p. p < n) slots.places line (within cpu slots is))
 
 -- one lane less
 pub within-unloaded : (n : ℕ) (all : AllSlots) (cpu : ℕ) → AreWithin n all → AreWithin n (map.remove all cpu)
-within-unloaded n all cpu within = each-remove (IsWithin n) all cpu within
+within-unloaded n all cpu within = each-remove (SlotsAreWithin n) all cpu within
 
 -- ---- a property of each element of a list
 

@@ -5,8 +5,8 @@ use Rattle.ft_store.specs.Stored.{held}
 use Rattle.ft_store.specs.declared.stored.Stored.{Stored}
 
 -- a line number, and the event that a reference into a store points to
-abbrev pub shown : ℕ × Stored → ℕ × Traced
-shown p = (p.0, held p.1)
+abbrev pub traced_line : ℕ × Stored → ℕ × Traced
+traced_line p = (p.0, held p.1)
 
 -- what is given by value
 abbrev pub itself : {X : Type 0} → X → X

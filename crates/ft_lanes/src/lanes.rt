@@ -48,7 +48,7 @@ impl Lanes {
     ghost use Rattle.std.specs.Map.Iter.{ShowsInOrder};
     ghost use Rattle.ft_fields.specs.Traced.{last_cpu};
     ghost use Rattle.ft_lanes.specs.Held.{Lane, event_limit, number_limit, event_at, held_in, held_on, HasCpu};
-    ghost use Rattle.ft_lanes.specs.Walks.{shown, itself};
+    ghost use Rattle.ft_lanes.specs.Walks.{traced_line, itself};
     ghost use Rattle.ft_lanes.specs.Loaded.{first_held, with_lanes};
     ghost use Rattle.ft_lanes.specs.Edits.{new_lane, lanes_with, lanes_without};
 
@@ -157,7 +157,7 @@ impl Lanes {
             ≡ option_map (λ lane. map.entries lane.events) (map.get self.now cpu) }
         ensures fits { IfSome result (λ lines. length lines < 2 ^ 63) }
         // A loop takes them from the front.
-        ensures runs { ShowsInOrder shown }
+        ensures runs { ShowsInOrder traced_line }
     {
         match self.lanes.get(&cpu) {
             Some(slots) => Some(Lines::new(&self.store, slots.rows())),

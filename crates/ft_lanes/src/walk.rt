@@ -3,7 +3,7 @@
 ghost use Rattle.std.specs.Prelude.{length};
 ghost use Rattle.std.specs.Iterator.{at_most};
 ghost use Rattle.std.specs.Map.Iter.{TakesFirst};
-ghost use Rattle.ft_lanes.specs.Walks.{shown, itself};
+ghost use Rattle.ft_lanes.specs.Walks.{traced_line, itself};
 
 use crate::rows::next_held;
 use crate::slots::Slots;
@@ -47,7 +47,7 @@ impl<'a> Lines<'a> {
 impl<'a> Iterator for Lines<'a> {
     type Item = (u32, Stored<'a>);
 
-    ghost next_gives = { TakesFirst shown };
+    ghost next_gives = { TakesFirst traced_line };
 
     ghost remaining = { λ s. at_most (length s) };
 
@@ -108,7 +108,7 @@ impl<'a> Lane<'a> {
         ensures rest { result ≡ map.entries self.now.events }
         ensures fits { length result < 2 ^ 63 }
         // A loop takes them from the front.
-        ensures runs { ShowsInOrder shown }
+        ensures runs { ShowsInOrder traced_line }
     {
         Lines::new(self.store, self.slots.rows())
     }

@@ -4,7 +4,7 @@ use Rattle.std.specs.Prelude.{option_map, option_and_then}
 use Rattle.std.specs.Cmp.Derive.{both_true}
 use Rattle.std.proofs.lemmas.Bool.{eqb-true, eq-eqb}
 use Rattle.std.proofs.lemmas.Option.{cond_some, none-some}
-use Rattle.ft_event.specs.LineFault.{number_of as line_number}
+use Rattle.ft_event.specs.LineFault.{line_number}
 use Rattle.ft_event.specs.declared.fault.LineFault.{LineFault}
 use Rattle.ft_event.specs.declared.fault.LineFault.TheVariants as lines
 use Rattle.ft_filter.specs.declared.fault.FilterFault.TheVariants as filters

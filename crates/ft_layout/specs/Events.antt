@@ -66,12 +66,12 @@ with_body layout (bodies.WakeupLatency matched) = layout
 with_body layout bodies.Other = layout
 
 -- the event at a place: its name and the task that ran, and what was traced
-abbrev pub held_at : Pos → Traced → EventLayout
-held_at at event = with_body (record (none_at at) { name = name_number (name_of event.body); common_pid = event.pid; task = name_layout event.task }) event.body
+abbrev pub held_event_layout : Pos → Traced → EventLayout
+held_event_layout at event = with_body (record (none_at at) { name = name_number (name_of event.body); common_pid = event.pid; task = name_layout event.task }) event.body
 
 -- the event at a place, where one is held
 abbrev pub event_layout : Pos → Option Traced → EventLayout
-event_layout at event = option_map_or (held_at at) event (none_at at)
+event_layout at event = option_map_or (held_event_layout at) event (none_at at)
 
 -- what lanes hold at a place
 abbrev pub event_in : Lanes → Pos → EventLayout

@@ -1,16 +1,16 @@
 -- Refusals as numbers, as C has them, and back. All of it is our own choice.
 use Rattle.std.specs.Prelude.{ℕ, ◌-◌, Bool, true, false, ◌&&◌, ◌==◌, if◌then◌else◌, List, [], ◌∷◌, Option, Some, None, slice_get, option_map, option_and_then}
 use Rattle.std.specs.Option.{option_flatten}
-use Rattle.ft_event.specs.LineFault.{number_of as line_number}
+use Rattle.ft_event.specs.LineFault.{line_number}
 use Rattle.ft_event.specs.declared.fault.LineFault.{LineFault}
 use Rattle.ft_event.specs.declared.fault.LineFault.TheVariants as lines
-use Rattle.ft_filter.specs.FilterFault.{number_of as filter_number, place_of as filter_place}
+use Rattle.ft_filter.specs.FilterFault.{filter_number, filter_place}
 use Rattle.ft_filter.specs.declared.fault.FilterFault.{FilterFault}
 use Rattle.ft_filter.specs.declared.fault.FilterFault.TheVariants as filters
-use Rattle.ft_head.specs.TriggerFault.{number_of as trigger_number, place_of as trigger_place}
+use Rattle.ft_head.specs.TriggerFault.{trigger_number, trigger_place}
 use Rattle.ft_head.specs.declared.fault.TriggerFault.{TriggerFault}
 use Rattle.ft_head.specs.declared.fault.TriggerFault.TheVariants as triggers
-use Rattle.ft_base.specs.Refused.{number_of}
+use Rattle.ft_base.specs.Refused.{refused_number}
 use Rattle.ft_base.specs.declared.refused.Refused.{Refused}
 use Rattle.ft_base.specs.declared.refused.Refused.TheVariants as refused
 use Rattle.ft_layout.specs.declared.refusals.RefusalLayout.{RefusalLayout}
@@ -50,7 +50,7 @@ with_detail layout other = layout
 
 -- a refusal's number alone
 abbrev pub with_number : Refused → RefusalLayout
-with_number why = record no_refusal { number = number_of why }
+with_number why = record no_refusal { number = refused_number why }
 
 -- a refusal, or that nothing was refused
 abbrev pub refusal_layout : Option Refused → RefusalLayout

@@ -1,11 +1,11 @@
 -- Rows of tables, their keys and totals, and which rows an edit may have changed, as C has them. All of it is our own choice.
 use Rattle.std.specs.Prelude.{ℕ, pos, List, [], ◌∷◌, length, Option, is_some, slice_get}
 use Rattle.std.specs.Option.{option_map_or}
-use Rattle.ft_keys.specs.declared.key.Part.{Part}
-use Rattle.ft_keys.specs.declared.key.Part.TheVariants.{Num, Log2, Bucket, Text}
+use Rattle.ft_fields.specs.declared.key.Part.{Part}
+use Rattle.ft_fields.specs.declared.key.Part.TheVariants.{Num, Log2, Bucket, Text}
 use Rattle.ft_changes.specs.declared.changed.Changed.{Changed}
-use Rattle.ft_rows.specs.Counted.{Counted}
-use Rattle.ft_rows.specs.declared.row.Totals.{Totals}
+use Rattle.ft_table.specs.Counted.{Counted}
+use Rattle.ft_table.specs.declared.row.Totals.{Totals}
 use Rattle.ft_layout.specs.Names.{name_layout}
 use Rattle.ft_layout.specs.declared.rows.TotalsLayout.{TotalsLayout}
 use Rattle.ft_layout.specs.declared.rows.PartLayout.{PartLayout}

@@ -16,7 +16,7 @@ use ft_changes::Changed;
 use ft_fields::Pos;
 use ft_lanes::Lanes;
 use ft_replay::Pair;
-use ft_rows::Row;
+use ft_table::Row;
 
 /// A way to show the items of an answer to C.
 pub trait Shows<Item> {

@@ -1,7 +1,7 @@
 //! Events, and the triggers that are attached to them.
 
 ghost use Rattle.std.specs.Prelude.{◌≡◌};
-ghost use Rattle.ft_layout.specs.Events.{event_layout, none_at, held_at, with_wake, with_turn, trigger_layout};
+ghost use Rattle.ft_layout.specs.Events.{event_layout, none_at, held_event_layout, with_wake, with_turn, trigger_layout};
 
 use crate::names::{NameLayout, name_number};
 use crate::places::PlaceLayout;
@@ -85,7 +85,7 @@ impl EventLayout {
 
     /// The event at the place.
     fn held(pos: &Pos, event: &Event) -> EventLayout
-        ensures { result ≡ held_at pos.now event.now }
+        ensures { result ≡ held_event_layout pos.now event.now }
     {
         let common = EventLayout {
             name: name_number(event.name()),

@@ -6,8 +6,8 @@ ghost use Rattle.ft_layout.specs.Rows.{totals_layout, part_layout, no_part, part
 
 use crate::names::NameLayout;
 use ft_changes::Changed;
-use ft_keys::{Key, Part};
-use ft_rows::{Row, Totals};
+use ft_fields::{Key, Part};
+use ft_table::{Row, Totals};
 
 /// What a table holds beside its rows.
 #[repr(C)]

@@ -5,7 +5,7 @@ ghost use Rattle.ft_layout.specs.Refusals.{refused_of};
 ghost use Rattle.ft_layout.specs.Words.{refusal_text};
 
 use crate::refusals::{RefusalLayout, refused_of};
-use ft_printed::refused_line;
+use ft_script::refused_line;
 use std::alloc::{AllocError, Global};
 
 /// The text that a script's run prints of the refusal, without its line break; empty where the

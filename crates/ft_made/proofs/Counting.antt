@@ -7,12 +7,12 @@ use Rattle.std.specs.Cmp.{nat_cmp_total}
 use Rattle.std.specs.FinMap as map
 use Rattle.std.specs.FinMap.{find, get-entries, get-insert, nat_cmp-IsAntisymmetric}
 use Rattle.ft_fields.specs.Traced.{Traced}
-use Rattle.ft_keys.specs.declared.key.Part.{Part}
+use Rattle.ft_fields.specs.declared.key.Part.{Part}
 use Rattle.ft_hist.specs.Hist.{Hist}
 use Rattle.ft_hist.specs.Hit.{hit}
 use Rattle.ft_maps.specs.Entries.{get-insert_same}
 use Rattle.ft_hits.specs.declared.spot.Spot.{Spot}
-use Rattle.ft_base.specs.Base.{Triggers}
+use Rattle.ft_hist.specs.Triggers.{Triggers}
 use Rattle.ft_base.proofs.Apart.{AreApart, entries_apart}
 use Rattle.ft_replay.specs.Merged.{Events}
 use Rattle.ft_replay.specs.Tally.{Tally, empty_tally}

@@ -9,6 +9,6 @@ pub mod Same
 pub mod MadeHits
 pub mod Naming
 pub mod MadeTables
-pub mod Filling
 pub mod Turned
+pub mod Filling
 pub mod TurnedKeys

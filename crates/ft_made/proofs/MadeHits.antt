@@ -8,7 +8,7 @@ use Rattle.std.specs.FinMap as map
 use Rattle.std.specs.FinMap.{contains_key-keys, entries_sorted, get-from_entries, same_map}
 use Rattle.ft_fields.specs.Traced.{Traced}
 use Rattle.ft_fields.specs.declared.pos.Pos.{Pos}
-use Rattle.ft_keys.specs.declared.key.Part.{Part}
+use Rattle.ft_fields.specs.declared.key.Part.{Part}
 use Rattle.ft_hist.specs.Hist.{Hist}
 use Rattle.ft_hist.specs.Hit.{hit}
 use Rattle.ft_maps.specs.Entries.{strictly_sorted}
@@ -19,7 +19,7 @@ use Rattle.ft_table.specs.Hits.{Hits}
 use Rattle.ft_table.specs.Marks.{mark_cmp_total, mark_same}
 use Rattle.ft_table.specs.Spots.{spot_cmp, spot_cmp_total}
 use Rattle.ft_table.specs.Tabled.{Tabled}
-use Rattle.ft_base.specs.Base.{Triggers}
+use Rattle.ft_hist.specs.Triggers.{Triggers}
 use Rattle.ft_base.proofs.Apart.{all_map, entries_found}
 use Rattle.ft_replay.specs.Merged.{Events}
 use Rattle.ft_replay.specs.Hits.{TriggerHit, entry_of, pair_of, table_for}

@@ -7,24 +7,25 @@ use Rattle.std.specs.Ordering.{is_eq, eq_by_cmp, ordering_then}
 use Rattle.std.proofs.lemmas.Cmp.{tied_itself}
 use Rattle.std.specs.Cmp.{eq_by_cmp_equiv}
 use Rattle.std.specs.FinMap as map
-use Rattle.std.specs.FinMap.{get-remove}
+use Rattle.std.specs.FinMap.{get-insert, get-remove}
 use Rattle.ft_fields.specs.Traced.{Traced}
 use Rattle.ft_hist.specs.Fitting.{KeyFits}
 use Rattle.ft_hist.specs.Hist.{Hist}
 use Rattle.ft_hist.specs.Hit.{hit}
-use Rattle.ft_keys.specs.Parts.{key_cmp}
-use Rattle.ft_keys.specs.declared.key.Part.{Part}
-use Rattle.ft_keys.specs.Ties.{key_same}
+use Rattle.ft_fields.specs.Parts.{key_cmp}
+use Rattle.ft_fields.specs.declared.key.Part.{Part}
+use Rattle.ft_fields.specs.Ties.{key_same}
 use Rattle.ft_maps.specs.Entries.{same_from_tie}
 use Rattle.ft_hits.specs.declared.mark.Mark.{Mark}
 use Rattle.ft_hits.specs.declared.spot.Spot.{Spot}
+use Rattle.ft_table.specs.Growth.{with_hit}
 use Rattle.ft_table.specs.Hits.{same_key}
 use Rattle.ft_table.specs.Marks.{mark_cmp_total}
 use Rattle.ft_table.specs.OneKey.{without_hit}
 use Rattle.ft_table.specs.Spots.{spot_cmp, spot_cmp_total, spot_same}
 use Rattle.ft_table.specs.Tabled.{Tabled}
 use Rattle.ft_table.specs.Values.{values_at}
-use Rattle.ft_base.specs.Base.{Triggers}
+use Rattle.ft_hist.specs.Triggers.{Triggers}
 use Rattle.ft_replay.specs.Hits.{TriggerHit}
 use Rattle.ft_replay.specs.Merged.{Events}
 use Rattle.ft_replay.proofs.Places.{tied_then}
@@ -32,8 +33,7 @@ use Rattle.ft_made.specs.Laws.{MadeTablesChange, MadeTablesFit, PutMadeChanges, 
 use Rattle.ft_made.specs.MadeEvents.{made_by}
 use Rattle.ft_made.specs.MadeHits.{made_hit, values_of_made}
 use Rattle.ft_changes.specs.Findings.{Findings}
-use Rattle.ft_made.specs.MadeTables.{IsMadeTable, ChangesMade, HoldsMade, without_made}
-use Rattle.ft_made.proofs.Filling.{put_at, put_other, put_size}
+use Rattle.ft_made.specs.MadeTables.{IsMadeTable, ChangesMade, HoldsMade, with_made, without_made}
 
 -- ---- keys fit
 
@@ -92,6 +92,32 @@ made_change triggers others events more found later hist spot before after is ch
 
 -- ---- one made event
 
+module _ (hist : Hist) where
+  abbrev with_found : Spot → Tabled → TriggerHit → Tabled
+  with_found s table found = with_hit table (record { spot = s; key = found.key }) found.values
+
+  -- at its spot the table has what it adds
+  put_at : (table : Tabled) (s : Spot) (made : Option Traced) (key : List Part) → map.get table.hits (record { spot = s; key = key }) ≡ None
+      → map.get (with_made hist s made table).hits (record { spot = s; key = key }) ≡ values_of_made hist (record { spot = s; key = key }) made
+  put_at table s made key free = elim (option_and_then (made_hit hist s) made) as (λ o. map.get (option_map_or (with_found s table) o table).hits (record { spot = s; key = key })
+      ≡ option_and_then (λ (found : TriggerHit). if same_key key found.key then Some found.values else None) o) [
+        | None ↦ free
+        | Some found ↦ get-insert mark_cmp_total table.hits (record { spot = s; key = found.key }) found.values (record { spot = s; key = key })
+            ∙ ap (λ o. cond (is_eq (ordering_then o (key_cmp key found.key))) (Some found.values) (map.get table.hits (record { spot = s; key = key }))) (tied_itself spot_cmp_total s)
+            ∙ ap (cond (same_key key found.key) (Some found.values)) free
+      ]
+
+  -- at other spots it is as it was
+  put_other : (table : Tabled) (s : Spot) (made : Option Traced) (mark : Mark) → eq_by_cmp spot_cmp mark.spot s ≡ false → map.get (with_made hist s made table).hits mark ≡ map.get table.hits mark
+  put_other table s made mark other = elim (option_and_then (made_hit hist s) made) as (λ o. map.get (option_map_or (with_found s table) o table).hits mark ≡ map.get table.hits mark) [
+    | None ↦ refl
+    | Some found ↦ get-insert mark_cmp_total table.hits (record { spot = s; key = found.key }) found.values mark
+        ∙ ap (λ b. cond b (Some found.values) (map.get table.hits mark)) (tied_then (spot_cmp mark.spot s) (key_cmp mark.key found.key) ∙ ap (λ b. b && same_key mark.key found.key) other)
+  ]
+
+  put_size : (table : Tabled) (s : Spot) (made : Option Traced) → (with_made hist s made table).size ≡ table.size
+  put_size table s made = elim (option_and_then (made_hit hist s) made) as (λ o. (option_map_or (with_found s table) o table).size ≡ table.size) [ None ↦ refl | Some found ↦ refl ]
+
 -- what is not at a spot does not tie with it
 not_tied : (a b : Spot) → (a ≡ b → ⊥) → eq_by_cmp spot_cmp a b ≡ false
 not_tied a b apart = elim (eq_by_cmp spot_cmp a b) as (λ b2. eq_by_cmp spot_cmp a b ≡ b2 → b2 ≡ false) [
@@ -138,3 +164,11 @@ module _ (hist : Hist) (spot : Spot) (made : Option Traced) (table : Tabled) whe
 
 pub take_changes : TakeMadeChanges
 take_changes hist spot made table holds = record { size = take_size hist spot made table; here = take_here hist spot made table holds; elsewhere = take_elsewhere hist spot made table }
+
+-- where one is taken out and another put in, the table changes at the spot alone
+pub turn_changes : (hist : Hist) (spot : Spot) (before after : Option Traced) (old between new : Tabled) → HoldsMade hist spot before old
+    → between ≡ without_made hist spot before old → new ≡ with_made hist spot after between → ChangesMade hist spot after old new
+turn_changes hist spot before after old between new holds taken put =
+    let out : ChangesMade hist spot None old between = subst (ChangesMade hist spot None old) (sym taken) (take_changes hist spot before old holds) in
+    let back : ChangesMade hist spot after between new = subst (ChangesMade hist spot after between) (sym put) (put_changes hist spot after between out.here) in
+    record { size = back.size ∙ out.size; here = back.here; elsewhere = λ mark apart. back.elsewhere mark apart ∙ out.elsewhere mark apart }

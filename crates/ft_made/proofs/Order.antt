@@ -19,7 +19,7 @@ use Rattle.ft_hist.specs.Hist.{Hist}
 use Rattle.ft_maps.specs.Entries.{entries-from_entries}
 use Rattle.ft_hits.specs.declared.spot.Spot.{Spot}
 use Rattle.ft_table.specs.Spots.{spot_cmp, spot_cmp_total, spot_same}
-use Rattle.ft_base.specs.Base.{Triggers}
+use Rattle.ft_hist.specs.Triggers.{Triggers}
 use Rattle.ft_base.proofs.Apart.{AreApart, entries_apart, all_of, all_map}
 use Rattle.ft_replay.specs.Merged.{Events}
 use Rattle.ft_replay.proofs.Places.{tied_then}

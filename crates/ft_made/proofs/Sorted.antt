@@ -55,11 +55,11 @@ module _ {K X : Type 0} (R : K → K → Ordering) (f : K → Option X) where
   ] refl
 
 -- behind the entry of a key there is no other of it
-none_above : {K X : Type 0} (R : K → K → Ordering) (k : K) (es : List (K × X)) → AllByRecursion (λ q. R k q.0 ≡ Less) es → find R k es ≡ None
+pub none_above : {K X : Type 0} (R : K → K → Ordering) (k : K) (es : List (K × X)) → AllByRecursion (λ q. R k q.0 ≡ Less) es → find R k es ≡ None
 none_above R k [] above = refl
 none_above R k (e ∷ es) above = ap (λ o. cond (is_eq o) (Some e.1) (find R k es)) above.0 ∙ none_above R k es above.1
 
-none_behind : {K X : Type 0} (R : K → K → Ordering) (k : K) (e : K × X) (es : List (K × X)) → k ≡ e.0 → AllByRecursion (λ q. R e.0 q.0 ≡ Less) es → find R k es ≡ None
+pub none_behind : {K X : Type 0} (R : K → K → Ordering) (k : K) (e : K × X) (es : List (K × X)) → k ≡ e.0 → AllByRecursion (λ q. R e.0 q.0 ≡ Less) es → find R k es ≡ None
 none_behind R k e es same above = none_above R k es (subst (λ q. AllByRecursion (λ p. R q p.0 ≡ Less) es) (sym same) above)
 
 -- ---- folds over such keys

@@ -14,12 +14,12 @@ use Rattle.ft_maps.specs.Entries.{same_from_tie}
 use Rattle.ft_table.specs.Tabled.{Tabled}
 use Rattle.ft_changes.specs.Findings.{Findings, after_change, Lead}
 use Rattle.ft_changes.specs.declared.changed.ReadingChange.{ReadingChange}
-use Rattle.ft_base.specs.Base.{Triggers}
+use Rattle.ft_hist.specs.Triggers.{Triggers}
 use Rattle.ft_replay.specs.Merged.{Events}
 use Rattle.ft_made.specs.MadeEvents.{made_by}
 use Rattle.ft_made.specs.MadeHits.{values_of_made}
 use Rattle.ft_made.specs.MadeTables.{IsMadeTable, ChangesMade, HoldsMade}
-use Rattle.ft_made.specs.Turning.{made_as, spot_of}
+use Rattle.ft_made.specs.Turning.{made_as, change_spot}
 use Rattle.ft_made.proofs.MadeTables.{made_change}
 
 -- ---- one reading
@@ -35,10 +35,10 @@ after_here change found =
     ∙ ap (λ b. if b then change.after else found change.id change.pos) ((eq_by_cmp_equiv pos_cmp_total).refl change.pos)
 
 -- each other reading finds what it found
-after_elsewhere : (change : ReadingChange) (found : Findings) (spot : Spot) → (spot ≡ spot_of change) ⊎ (after_change change found spot.maker spot.pos ≡ found spot.maker spot.pos)
+after_elsewhere : (change : ReadingChange) (found : Findings) (spot : Spot) → (spot ≡ change_spot change) ⊎ (after_change change found spot.maker spot.pos ≡ found spot.maker spot.pos)
 after_elsewhere change found spot =
     let was : Option Pos = found spot.maker spot.pos in
-    let AtOrSame : Option Pos → Type 0 = λ now. (spot ≡ spot_of change) ⊎ (now ≡ was) in
+    let AtOrSame : Option Pos → Type 0 = λ now. (spot ≡ change_spot change) ⊎ (now ≡ was) in
     elim (spot.maker == change.id) as (λ b. (spot.maker == change.id) ≡ b → AtOrSame (if b then (if eq_by_cmp pos_cmp spot.pos change.pos then change.after else was) else was)) [
       | true ↦ λ own. elim (eq_by_cmp pos_cmp spot.pos change.pos) as (λ b. eq_by_cmp pos_cmp spot.pos change.pos ≡ b → AtOrSame (if b then change.after else was)) [
         | true ↦ λ tie. inl (λ i. record { pos = same_from_tie pos_same spot.pos change.pos tie i; maker = eqb-true spot.maker change.id own i })
@@ -53,11 +53,11 @@ makes triggers events spot saved = made_by triggers events (λ id pos. saved) sp
 
 module _ (triggers : Triggers) (events : Events) (change : ReadingChange) (found : Findings) where
   -- the changed reading makes what its change says
-  pub makes_after : made_by triggers events (after_change change found) (spot_of change) ≡ made_as triggers events change change.after
+  pub makes_after : made_by triggers events (after_change change found) (change_spot change) ≡ made_as triggers events change change.after
   makes_after = ap (made_as triggers events change) (after_here change found)
 
   -- each other reading makes what it made
-  pub makes_elsewhere : (spot : Spot) → (spot ≡ spot_of change) ⊎ (made_by triggers events (after_change change found) spot ≡ made_by triggers events found spot)
+  pub makes_elsewhere : (spot : Spot) → (spot ≡ change_spot change) ⊎ (made_by triggers events (after_change change found) spot ≡ made_by triggers events found spot)
   makes_elsewhere spot = ⊎_elim inl (λ same. inr (ap (makes triggers events spot) same)) (after_elsewhere change found spot)
 
 -- ---- tables that are turned
@@ -72,19 +72,19 @@ module _ (triggers : Triggers) (events : Events) (hist : Hist) where
     way = subst (λ (changes : List ReadingChange). IsOnTheWay changes now before) next on
 
     -- at the spot of the next change the table holds what its reading made
-    pub next_held : (made : Option Traced) → made ≡ made_as triggers events change change.before → HoldsMade hist (spot_of change) made before
+    pub next_held : (made : Option Traced) → made ≡ made_as triggers events change change.before → HoldsMade hist (change_spot change) made before
     next_held made is key =
-        let mark : Mark = record { spot = spot_of change; key = key } in
+        let mark : Mark = record { spot = change_spot change; key = key } in
         way.1.1.hits mark ∙ ap (values_of_made hist mark) (ap (made_as triggers events change) way.1.0.0 ∙ sym is)
 
     -- a table that is turned there is made of what readings find once this one has changed
-    pub next_turned : (made : Option Traced) → made ≡ made_as triggers events change change.after → (after : Tabled) → ChangesMade hist (spot_of change) made before after → IsOnTheWay more now after
+    pub next_turned : (made : Option Traced) → made ≡ made_as triggers events change change.after → (after : Tabled) → ChangesMade hist (change_spot change) made before after → IsOnTheWay more now after
     next_turned made is after changes = (
       after_change change way.0,
       (
         way.1.0.1,
-        made_change triggers triggers events events way.0 (after_change change way.0) hist (spot_of change) before after way.1.1
-            (subst (λ made. ChangesMade hist (spot_of change) made before after) (is ∙ sym (makes_after triggers events change way.0)) changes)
+        made_change triggers triggers events events way.0 (after_change change way.0) hist (change_spot change) before after way.1.1
+            (subst (λ made. ChangesMade hist (change_spot change) made before after) (is ∙ sym (makes_after triggers events change way.0)) changes)
             (λ spot apart. ⊎_elim (λ here. absurd (apart here)) (λ same. same) (makes_elsewhere triggers events change way.0 spot)),
       ),
     )

@@ -6,19 +6,19 @@ use Rattle.std.proofs.lemmas.Bool.{or_left, or_right, true≢false}
 use Rattle.std.proofs.lemmas.List.Folds.{list_any-append}
 use Rattle.ft_fields.specs.Traced.{Traced}
 use Rattle.ft_hist.specs.Hist.{Hist}
-use Rattle.ft_keys.specs.Orders.{key_cmp_total}
-use Rattle.ft_keys.specs.declared.key.Part.{Part}
+use Rattle.ft_fields.specs.Orders.{key_cmp_total}
+use Rattle.ft_fields.specs.declared.key.Part.{Part}
 use Rattle.ft_hits.specs.declared.mark.Mark.{Mark}
 use Rattle.ft_changes.specs.Findings.{Findings, after_change}
 use Rattle.ft_changes.specs.Rivals.{is_of}
 use Rattle.ft_changes.specs.declared.changed.ReadingChange.{ReadingChange}
 use Rattle.ft_table.specs.Hits.{same_key}
-use Rattle.ft_base.specs.Base.{Triggers}
+use Rattle.ft_hist.specs.Triggers.{Triggers}
 use Rattle.ft_replay.specs.Merged.{Events}
 use Rattle.ft_made.specs.Laws.{KeysAreTurned, TurnedButForKeys}
 use Rattle.ft_made.specs.MadeEvents.{made_by}
 use Rattle.ft_made.specs.MadeHits.{values_of_made}
-use Rattle.ft_made.specs.Turning.{HaveKey, HaveTurned, keys_at, keys_of_made, keys_turned, made_as, spot_of}
+use Rattle.ft_made.specs.Turning.{HaveKey, HaveTurned, keys_at, keys_of_made, keys_turned, made_as, change_spot}
 use Rattle.ft_made.proofs.MadeTables.{none_or_its}
 use Rattle.ft_made.proofs.Turned.{makes, makes_after, makes_elsewhere}
 
@@ -74,7 +74,7 @@ module _ (triggers : Triggers) (events : Events) (hist : Hist) where
       let is : Option Traced = made_as triggers events change change.after in
       let HasKey : Option Traced → Type 0 = λ made. HaveKey hist made (keys_at triggers events hist change) in
       ⊎_elim (λ here. inr (
-        subst HasKey (sym (ap (made_by triggers events found) here ∙ ap (makes triggers events (spot_of change)) had)) (have_left hist was (keys_of_made hist was) (keys_of_made hist is) (its_key hist was)),
+        subst HasKey (sym (ap (made_by triggers events found) here ∙ ap (makes triggers events (change_spot change)) had)) (have_left hist was (keys_of_made hist was) (keys_of_made hist is) (its_key hist was)),
         subst HasKey (sym (ap (made_by triggers events (after_change change found)) here ∙ makes_after triggers events change found)) (have_right hist is (keys_of_made hist was) (keys_of_made hist is) (its_key hist is)),
       )) inl (makes_elsewhere triggers events change found spot)
 

@@ -7,7 +7,7 @@ use Rattle.std.specs.FinMap.{FinMap}
 use Rattle.ft_fields.specs.Places.{pos_cmp}
 use Rattle.ft_fields.specs.declared.pos.Pos.{Pos}
 use Rattle.ft_fields.specs.Traced.{Traced}
-use Rattle.ft_keys.specs.declared.key.Part.{Part}
+use Rattle.ft_fields.specs.declared.key.Part.{Part}
 use Rattle.ft_hist.specs.Hist.{Hist}
 use Rattle.ft_changes.specs.Rivals.{AreTablesButFor}
 use Rattle.ft_table.specs.Hits.{Hits}
@@ -17,7 +17,7 @@ use Rattle.ft_hits.specs.declared.mark.Mark.{Mark}
 use Rattle.ft_hits.specs.declared.spot.Spot.{Spot}
 use Rattle.ft_table.specs.Spots.{spot_cmp}
 use Rattle.ft_pairs.specs.declared.at.At.{At}
-use Rattle.ft_base.specs.Base.{Triggers}
+use Rattle.ft_hist.specs.Triggers.{Triggers}
 use Rattle.ft_replay.specs.Merged.{Events}
 use Rattle.ft_replay.specs.declared.pair.Pair.{Pair}
 use Rattle.ft_replay.specs.Named.{named}

@@ -4,14 +4,14 @@ use Rattle.std.specs.Option.{option_map_or}
 use Rattle.std.specs.FinMap as map
 use Rattle.ft_fields.specs.Traced.{Traced}
 use Rattle.ft_fields.specs.declared.pos.Pos.{Pos}
-use Rattle.ft_keys.specs.declared.key.Part.{Part}
+use Rattle.ft_fields.specs.declared.key.Part.{Part}
 use Rattle.ft_hist.specs.Hist.{Hist}
 use Rattle.ft_hist.specs.Hit.{hit}
 use Rattle.ft_hist.specs.Made.{made_of}
 use Rattle.ft_hits.specs.declared.spot.Spot.{Spot}
 use Rattle.ft_pairs.specs.declared.role.Role.{Role}
 use Rattle.ft_pairs.specs.declared.role.Variable.{Variable}
-use Rattle.ft_base.specs.Base.{Triggers}
+use Rattle.ft_hist.specs.Triggers.{Triggers}
 use Rattle.ft_base.specs.Roles.{role_of}
 use Rattle.ft_replay.specs.Hits.{read_as}
 use Rattle.ft_replay.specs.Replay.{Tallies, growth_by}

@@ -9,9 +9,9 @@ use Rattle.ft_fields.specs.declared.pos.Pos.{Pos}
 use Rattle.ft_hist.specs.Hist.{Hist}
 use Rattle.ft_hist.specs.Hit.{hit}
 use Rattle.ft_hits.specs.declared.spot.Spot.{Spot}
-use Rattle.ft_keys.specs.declared.key.Part.{Part}
+use Rattle.ft_fields.specs.declared.key.Part.{Part}
 use Rattle.ft_table.specs.Tabled.{Tabled}
-use Rattle.ft_base.specs.Base.{Triggers}
+use Rattle.ft_hist.specs.Triggers.{Triggers}
 use Rattle.ft_replay.specs.Merged.{Events}
 use Rattle.ft_made.specs.MadeEvents.{made_by}
 use Rattle.ft_made.specs.MadeTables.{IsMadeTable}
@@ -33,12 +33,12 @@ HasTurned triggers events changes hist old new =
 -- ---- keys
 
 -- the spot of what a changed reading makes
-abbrev pub spot_of : ReadingChange → Spot
-spot_of change = record { pos = change.pos; maker = change.id }
+abbrev pub change_spot : ReadingChange → Spot
+change_spot change = record { pos = change.pos; maker = change.id }
 
 -- the event that is made there, where the reading finds this saving, or none (kernel: histogram.rst, `onmatch`)
 abbrev pub made_as : Triggers → Events → ReadingChange → Option Pos → Option Traced
-made_as triggers events change found = made_by triggers events (λ id pos. found) (spot_of change)
+made_as triggers events change found = made_by triggers events (λ id pos. found) (change_spot change)
 
 -- the key under which a trigger counts an event, if one is made and is a hit (kernel: histogram.rst, synthetic events)
 abbrev pub keys_of_made : Hist → Option Traced → List (List Part)

@@ -1,2 +1,2 @@
--- Words of private functions: tables of made events, filled reading by reading.
-pub mod Pairs
+-- Words of private functions: tables of made events, filled from nothing.
+pub mod First

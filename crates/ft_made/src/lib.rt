@@ -10,11 +10,9 @@
 //! ```ignore
 //! let mut table = made_table(rt.alloc(), lanes, triggers, &readings, trigger, &mut work)?;
 //! // One more reading, of the trigger with id 2, found a saving.
-//! if let Some(made) = maker.made(event, saved) {
-//!     let spot = Spot { pos: read, maker: 2 };
-//!     put_made(&mut table, trigger, spot, &made, &mut work)?;
-//! }
-//! // Later readings changed: what they had found and what they find.
+//! let spot = Spot { pos: read, maker: 2 };
+//! put_made(&mut table, trigger, spot, maker.made(event, saved), &mut work)?;
+//! // Later, readings changed: what they had found and what they find.
 //! put_turned_keys(&mut keys, lanes, triggers, trigger, &changes, &mut work)?;
 //! turn_made(&mut table, lanes, triggers, trigger, &changes, &mut work)?;
 //! ```
@@ -44,12 +42,12 @@
 //!   changes there alone stays one, as by one `put_made` or `take_made`.
 //! - Law `replayed_pairs`: the pairs that replaying gives are those of readings in merged order; a
 //!   table that is made of them has the tally that replaying with made events gives.
-//! - Law `turned_keys`: take the table of what readings make by what they found, and the one by
-//!   what they find later. They have one size, and the same hits of all keys outside a list, where
-//!   the list has the keys of what is made either way wherever it differs. The list that
-//!   `put_turned_keys` gives is such a list, where changes lead from the ones to the others
+//! - Law `turned_keys`: take the table of what readings made by what they had found, and the one of
+//!   what they make by what they find later. They have one size. A list that has the keys of both
+//!   what was made and what is made, wherever these differ, has all keys whose hits differ. The list
+//!   that `put_turned_keys` gives is such a list, where changes lead from the ones to the others
 //!   (`specs/Turning.antt`, `ft_changes/specs/Findings.antt`).
-//! - `made_table`: such a table, of held events and of what is kept of readings in pairs (trait
+//! - `made_table`: a table as `made_tables` has it, of held events and of what is kept of readings in pairs (trait
 //!   `KeptReadings`); no step where no trigger has an onmatch part. Lets through: running out of
 //!   memory at any time; any number of steps where one has.
 //! - `turn_made`: takes a table that was made of what readings found; gives the one that is made of
@@ -58,9 +56,9 @@
 //!   table; any number of steps.
 //! - `put_turned_keys`: adds the keys under which a trigger counts what changed readings made, and
 //!   what they make; exact. Lets through: running out of memory at any time; any number of steps.
-//! - `put_made`, `take_made`: the table with, or without, the hit that an event made at a spot is;
-//!   exact. One test where the trigger is on its name, and one put at most. `put_made` lets
-//!   through: running out of memory at any time, and then the table is as it was.
+//! - `put_made`, `take_made`: the table with, or without, the hit that an event made at a spot is,
+//!   if one is made; exact. One test where the trigger is on its name, and one put at most.
+//!   `put_made` lets through: running out of memory at any time, and then the table is as it was.
 #![tactic(auto)]
 
 pub mod laws;
@@ -72,5 +70,5 @@ pub use laws::{
     counted_made, made_by_spot, made_tables, replayed_pairs, same_made, tallied_made, turned_keys,
 };
 pub use readings::KeptReadings;
-pub use tables::{made_table, put_made, take_made};
-pub use turning::{put_turned_keys, turn_made};
+pub use tables::made_table;
+pub use turning::{put_made, put_turned_keys, take_made, turn_made};

@@ -1,24 +1,20 @@
 //! Tables of made events, turned from what readings had found to what they find.
 
-ghost use Rattle.std.specs.Prelude.{◌≡◌, ◌++◌, [], IfSome, Ok, OnOk};
-ghost use Rattle.std.specs.Ordering.{nat_cmp};
+ghost use Rattle.std.specs.Prelude.{◌≡◌, ◌+◌, ◌≤◌, ◌==◌, ◌++◌, [], if◌then◌else◌};
+ghost use Rattle.std.specs.Prelude.{IfSome, Ok, OnOk, OnErr, Some, None};
+ghost use Rattle.std.specs.Option.{option_map_or};
 ghost use Rattle.ft_hist.specs.Steps.{StepsGrow};
-ghost use Rattle.ft_maps.specs.Seen.{seen};
-ghost use Rattle.ft_replay.specs.Merged.{merged};
-ghost use Rattle.ft_made.specs.MadeTables.{ChangesMade, HoldsMade, IsFreeAt};
-ghost use Rattle.ft_made.specs.MadeTables.{with_made, without_made};
+ghost use Rattle.ft_hist.specs.Tests.{tests_taken};
+ghost use Rattle.ft_replay.specs.Merged.{merged, held_at};
+ghost use Rattle.ft_made.specs.MadeTables.{IsFreeAt, with_made, without_made};
 ghost use Rattle.ft_made.specs.Turning.{CanTurn, HasTurned, keys_of_made, keys_turned, made_as};
 
-use crate::tables::{made_of_pair, put_made, take_made};
 use ft_changes::ReadingChange;
 use ft_fields::{Event, Pos};
-use ft_hist::{Key, Trigger, Work};
+use ft_hist::{Key, Trigger, Triggers, Work};
 use ft_lanes::Lanes;
-use ft_maps::get;
-use ft_replay::Pair;
-use ft_table::{Spot, Table};
+use ft_table::{Spot, Table, hit_with};
 use std::alloc::AllocError;
-use std::collections::BTreeMap;
 
 /// Turns the table of a trigger that counts made events from what readings had found to what they
 /// find, one change after the other: the hit of the event that the reading made is taken out, and
@@ -27,14 +23,14 @@ use std::collections::BTreeMap;
 pub fn turn_made(
     table: &mut Table,
     lanes: &Lanes,
-    triggers: &BTreeMap<u32, Trigger>,
+    triggers: &Triggers,
     trigger: &Trigger,
     changes: &[ReadingChange],
     work: &mut Work,
 ) -> Result<(), AllocError>
-    requires { CanTurn (seen nat_cmp triggers.now) (merged lanes.now) changes.now trigger.now
+    requires { CanTurn triggers.now (merged lanes.now) changes.now trigger.now
         table.old }
-    ensures turned { OnOk result (HasTurned (seen nat_cmp triggers.now) (merged lanes.now)
+    ensures turned { OnOk result (HasTurned triggers.now (merged lanes.now)
         changes.now trigger.now table.old table.new) }
     ensures idle { changes.now ≡ []
         → (result ≡ Ok tt) × ((table.new ≡ table.old) × (work.new ≡ work.old)) }
@@ -47,7 +43,8 @@ pub fn turn_made(
             pos: change.pos,
             maker: change.id,
         };
-        turn_spot(table, trigger, spot, before, after, work)?;
+        take_made(table, trigger, spot, before, work);
+        put_made(table, trigger, spot, after, work)?;
     }
     Ok(())
 }
@@ -59,13 +56,13 @@ pub fn turn_made(
 pub fn put_turned_keys(
     keys: &mut Vec<Key>,
     lanes: &Lanes,
-    triggers: &BTreeMap<u32, Trigger>,
+    triggers: &Triggers,
     trigger: &Trigger,
     changes: &[ReadingChange],
     work: &mut Work,
 ) -> Result<(), AllocError>
     ensures keys { OnOk result (keys.new.items ≡ keys.old.items
-        ++ keys_turned (seen nat_cmp triggers.now) (merged lanes.now) trigger.now changes.now) }
+        ++ keys_turned triggers.now (merged lanes.now) trigger.now changes.now) }
     ensures grow { StepsGrow work.old work.new }
 {
     for change in changes {
@@ -97,39 +94,10 @@ fn put_key(
     Ok(())
 }
 
-/// Turns a trigger's table at one spot from the event that was made there, if one was, to the one
-/// that is made there now, if one is. Refused for memory.
-fn turn_spot(
-    table: &mut Table,
-    trigger: &Trigger,
-    spot: Spot,
-    before: Option<Event>,
-    after: Option<Event>,
-    work: &mut Work,
-) -> Result<(), AllocError>
-    requires stamped { IfSome after (λ made. spot.pos.stamp ≡ made.stamp) }
-    requires holds { HoldsMade trigger.now spot before table.old }
-    ensures ok { OnOk result (ChangesMade trigger.now spot after table.old table.new) }
-    ensures grow { StepsGrow work.old work.new }
-{
-    take_any(table, trigger, spot, before, work);
-    put_any(table, trigger, spot, after, work)
-}
-
-/// Takes the hit out of a trigger's table that the event made at a spot is of it, if one was made
-/// and is one.
-fn take_any(table: &mut Table, trigger: &Trigger, spot: Spot, made: Option<Event>, work: &mut Work)
-    ensures table { table.new ≡ without_made trigger.now spot made table.old }
-    ensures grow { StepsGrow work.old work.new }
-{
-    if let Some(made) = made {
-        take_made(table, trigger, spot, &made, work);
-    }
-}
-
 /// Puts the hit into a trigger's table that the event made at a spot is of it, if one is made and
-/// is one, where no hit stands at the spot. Refused for memory.
-fn put_any(
+/// is one, where no hit stands at the spot. Tests the event where the trigger is on its name alone.
+/// Refused for memory, and then the table is as it was.
+pub fn put_made(
     table: &mut Table,
     trigger: &Trigger,
     spot: Spot,
@@ -139,33 +107,79 @@ fn put_any(
     requires stamped { IfSome made (λ made. spot.pos.stamp ≡ made.stamp) }
     requires free { IsFreeAt spot table.old }
     ensures ok { OnOk result (table.new ≡ with_made trigger.now spot made table.old) }
+    ensures err { OnErr result (table.new ≡ table.old) }
+    ensures evals { work.new.evals ≡ work.old.evals + option_map_or (tests_taken trigger.now) made 0 }
+    ensures puts { work.new.puts ≤ work.old.puts + 1 }
     ensures grow { StepsGrow work.old work.new }
 {
-    match made {
-        Some(made) => put_made(table, trigger, spot, &made, work),
+    let Some(made) = made else {
+        return Ok(());
+    };
+    match trigger.key_of(&made, work) {
+        Some(key) => table.insert(hit_with(trigger, &made, spot, key, None), work),
         None => Ok(()),
     }
 }
 
+/// Takes the hit out of a trigger's table that the event made at a spot is of it, if one was made
+/// and is one. Tests the event where the trigger is on its name alone. It needs no memory.
+pub fn take_made(
+    table: &mut Table,
+    trigger: &Trigger,
+    spot: Spot,
+    made: Option<Event>,
+    work: &mut Work,
+)
+    ensures table { table.new ≡ without_made trigger.now spot made table.old }
+    ensures evals { work.new.evals ≡ work.old.evals + option_map_or (tests_taken trigger.now) made 0 }
+    ensures puts { work.new.puts ≡ work.old.puts }
+    ensures grow { StepsGrow work.old work.new }
+{
+    let Some(made) = made else {
+        return;
+    };
+    if let Some(key) = trigger.key_of(&made, work) {
+        table.remove(spot, key);
+    }
+}
+
 /// The event that a changed reading makes where it finds this saving, or none: it has the place's
-/// stamp. A trigger without an onmatch part makes none, and nothing is looked up.
+/// stamp. Where it finds none, or its trigger has no onmatch part, no event is looked up.
 fn made_of_change(
     lanes: &Lanes,
-    triggers: &BTreeMap<u32, Trigger>,
+    triggers: &Triggers,
     change: &ReadingChange,
     found: Option<Pos>,
 ) -> Option<Event>
-    ensures made { result ≡ made_as (seen nat_cmp triggers.now) (merged lanes.now) change.now found }
+    ensures made { result ≡ made_as triggers.now (merged lanes.now) change.now found }
     ensures stamped { IfSome result (λ made. change.now.pos.stamp ≡ made.stamp) }
 {
-    let maker = get(triggers, &change.id)?;
+    let maker = triggers.get(change.id)?;
     maker.onmatch()?;
-    made_of_pair(
-        lanes,
-        maker,
-        Pair {
-            saved: found?,
-            read: change.pos,
-        },
-    )
+    let saved = found?;
+    let event = event_on(lanes, change.pos)?;
+    maker.made(&event, saved)
+}
+
+/// The event that is held at a place.
+fn event_on(lanes: &Lanes, pos: Pos) -> Option<Event>
+    ensures held { result ≡ held_at lanes.now pos }
+    ensures stamped { IfSome result (λ event. pos.stamp ≡ event.stamp) }
+{
+    match lanes.get(pos.cpu, pos.line) {
+        Some(event) => on_stamp(event, pos.stamp),
+        None => None,
+    }
+}
+
+/// The event, where it has this stamp.
+fn on_stamp(event: Event, stamp: u64) -> Option<Event>
+    ensures held { result ≡ (if event.stamp == stamp then Some event else None) }
+    ensures stamped { IfSome result (λ event. stamp ≡ event.stamp) }
+{
+    if event.stamp == stamp {
+        Some(event)
+    } else {
+        None
+    }
 }

@@ -1,3 +1,4 @@
 pub mod Entries
 pub mod Seen
 pub mod Mapped
+pub mod inner

@@ -1,8 +1,11 @@
-//! Finite maps: what contracts see of a `BTreeMap`, and its edits in those words.
+//! Finite maps, as which contracts see a `BTreeMap`, and counts, which they alone see.
 //!
 //! A contract says of a `BTreeMap` which finite map it is seen as, and of an edit which key it puts
 //! in or takes out. An edit needs that keys which tie are equal, so that look-ups tell maps apart.
 //! Of numbers, and of structs of numbers with a derived order, a caller's check finds that by itself.
+//!
+//! A count is a number of any size, which begins at 0 and is raised by one. At run time it is
+//! nothing, so that counting calls or steps costs nothing.
 //!
 //! ```ignore
 //! let mut map: BTreeMap<u32, u64> = BTreeMap::new(rt.alloc());
@@ -16,13 +19,23 @@
 //! take(&mut map, &3);
 //! ```
 //!
+//! ```ignore
+//! let mut count = Count::zero();
+//! count.raise();
+//! count.raise();
+//! // Contracts see 2.
+//! ```
+//!
 //! # Contracts
 //!
 //! - `put`, `take`, `get`, `len`, `entries`: contracts see a finite map (`specs/Seen.antt`). One
 //!   key of it is put, taken or looked up, its keys are counted, its entries walked in order;
 //!   exact. `put` and `take` require an order in which keys that tie are equal. A refused `put`
 //!   leaves the map as it was. `put` lets through: running out of memory at any time.
+//! - `Count::zero`, `Count::raise`: 0, and one more than before; exact.
 #![tactic(auto)]
+
+mod count;
 
 ghost use Rattle.std.specs.Prelude.{◌≡◌, ◌<◌, ◌^◌, length, OnOk, OnErr};
 ghost use Rattle.std.specs.Option.{option_copied};
@@ -31,6 +44,7 @@ ghost use Rattle.std.specs.FinMap as finite;
 ghost use Rattle.std.specs.FinMap.{IsAntisymmetric};
 ghost use Rattle.ft_maps.specs.Seen.{seen};
 
+pub use count::Count;
 use std::alloc::AllocError;
 use std::collections::BTreeMap;
 use std::collections::btree_map::Iter;

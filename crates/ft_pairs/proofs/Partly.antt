@@ -15,9 +15,9 @@ use Rattle.std.specs.FinMap.{get-insert}
 use Rattle.std.proofs.lemmas.List.Folds.{list_any_at}
 use Rattle.std.proofs.lemmas.Map.Made.{update_all_distinct, update_all_pairs}
 use Rattle.std.proofs.lemmas.Map.Keys.{IsDistinct-from_sorted}
-use Rattle.ft_keys.specs.declared.key.Part.{Part}
-use Rattle.ft_keys.specs.Orders.{key_cmp_total}
-use Rattle.ft_keys.specs.Ties.{key_same}
+use Rattle.ft_fields.specs.declared.key.Part.{Part}
+use Rattle.ft_fields.specs.Orders.{key_cmp_total}
+use Rattle.ft_fields.specs.Ties.{key_same}
 use Rattle.ft_maps.specs.Entries.{same_from_tie}
 use Rattle.ft_maps.specs.Seen.{seen, get-seen}
 use Rattle.ft_pairs.specs.declared.at.At.{At}
@@ -25,7 +25,7 @@ use Rattle.ft_pairs.specs.declared.at.Op.{Op}
 use Rattle.ft_pairs.specs.declared.at.Op.TheVariants.{Read}
 use Rattle.ft_pairs.specs.Order.{at_cmp, at_cmp_total}
 use Rattle.ft_pairs.specs.Source.{Ops}
-use Rattle.ft_pairs.specs.ByKey.{KeyOps, ByKey, ops_of, same_key, PartlyChangesKey}
+use Rattle.ft_pairs.specs.ByKey.{KeyOps, OpsByKey, ops_of, same_key, PartlyChangesKey}
 use Rattle.ft_pairs.specs.Edits.{same_at}
 use Rattle.ft_pairs.specs.Runs.{with_reads, SomeReads}
 use Rattle.ft_pairs.specs.inner.Met.{as_reads}
@@ -95,11 +95,11 @@ some_added old added new rest reads made moves q =
 -- ---- the key
 
 -- what a place of a key has is what it had, or what an edit of one key makes of it
-abbrev Either : ByKey → List Part → (Ops → Ops) → At → Option Op → List Part → Type 0
+abbrev Either : OpsByKey → List Part → (Ops → Ops) → At → Option Op → List Part → Type 0
 Either m key edit at o k = (o ≡ ops_of m k at) ⊎ ((k ≡ key) × (o ≡ edit (ops_of m k) at))
 
 -- where each place of what one key has is as it was or as an edit makes it, each of the key is, and those of others stay
-pub partly_changed : (m : ByKey) (key : List Part) (ops : KeyOps) (edit : Ops → Ops)
+pub partly_changed : (m : OpsByKey) (key : List Part) (ops : KeyOps) (edit : Ops → Ops)
     → ((q : At) → (map.get ops q ≡ ops_of m key q) ⊎ (map.get ops q ≡ edit (ops_of m key) q)) → PartlyChangesKey key edit m (map.insert m key ops)
 partly_changed m key ops edit is k at = by (same_key k key) refl
   where
@@ -113,5 +113,5 @@ partly_changed m key ops edit is k at = by (same_key k key) refl
     by false apart = inl (ap (λ o. found_in o at) (get-insert key_cmp_total m key ops k ∙ ap (λ b. cond b (Some ops) (map.get m k)) apart))
 
 -- what has not changed has partly changed
-pub unchanged : (key : List Part) (edit : Ops → Ops) (old new : ByKey) → new ≡ old → PartlyChangesKey key edit old new
+pub unchanged : (key : List Part) (edit : Ops → Ops) (old new : OpsByKey) → new ≡ old → PartlyChangesKey key edit old new
 unchanged key edit old new is k at = inl (ap (λ m. ops_of m k at) is)

@@ -6,9 +6,9 @@ use Rattle.std.specs.declared.cmp.Ordering.{Ordering}
 use Rattle.std.specs.declared.cmp.Ordering.TheVariants.{Less, Equal, Greater}
 use Rattle.std.specs.Ordering.{is_lt, ordering_reverse}
 use Rattle.std.specs.Cmp.{eq_by_cmp_equiv}
-use Rattle.ft_keys.specs.declared.key.Part.{Part}
-use Rattle.ft_keys.specs.Orders.{key_cmp_total}
-use Rattle.ft_keys.specs.Ties.{key_same}
+use Rattle.ft_fields.specs.declared.key.Part.{Part}
+use Rattle.ft_fields.specs.Orders.{key_cmp_total}
+use Rattle.ft_fields.specs.Ties.{key_same}
 use Rattle.ft_maps.specs.Entries.{same_from_tie}
 use Rattle.ft_pairs.specs.declared.at.At.{At}
 use Rattle.ft_pairs.specs.declared.at.Op.{Op}
@@ -17,7 +17,7 @@ use Rattle.ft_pairs.specs.Order.{at_cmp, at_cmp_total, at_same}
 use Rattle.ft_pairs.specs.Source.{Ops, IsSource}
 use Rattle.ft_pairs.specs.Next.{IsNext}
 use Rattle.ft_pairs.specs.Edits.{KeepsSource, with_op, without_op, reads_alone, if_read, same_at}
-use Rattle.ft_pairs.specs.ByKey.{ByKey, ChangesKey, ops_of, same_key}
+use Rattle.ft_pairs.specs.ByKey.{OpsByKey, ChangesKey, ops_of, same_key}
 use Rattle.ft_pairs.proofs.Local.{same_source, far_source, there_not_none}
 use Rattle.ft_pairs.proofs.Nexts.{same_step}
 
@@ -65,7 +65,7 @@ module _ (old new : Ops) (at : At) (elsewhere : (q : At) → (q ≡ at → ⊥) 
 same_ops : (old new : Ops) → ((q : At) → new q ≡ old q) → (at : At) → KeepsSource old new at
 same_ops old new same at = same_source old new at (λ q _. same q)
 
-pub own_source : (old new : ByKey) (key : List Part) → ((q : At) → ops_of new key q ≡ ops_of old key q) → (at : At) → KeepsSource (ops_of old key) (ops_of new key) at
+pub own_source : (old new : OpsByKey) (key : List Part) → ((q : At) → ops_of new key q ≡ ops_of old key q) → (at : At) → KeepsSource (ops_of old key) (ops_of new key) at
 own_source old new key same = same_ops (ops_of old key) (ops_of new key) same
 
 -- an edit at one place leaves the others
@@ -85,7 +85,7 @@ with_at at op ops q apart = ap (λ b. cond b (Some op) (ops q)) (apart_at at q a
 pub without_at : (at : At) → IsAt at (without_op at)
 without_at at ops q apart = ap (λ b. cond b None (ops q)) (apart_at at q apart)
 
-module _ (old new : ByKey) (key : List Part) (edit : Ops → Ops) (is : ChangesKey key edit old new) where
+module _ (old new : OpsByKey) (key : List Part) (edit : Ops → Ops) (is : ChangesKey key edit old new) where
   -- the key's operations are edited
   pub edited : (q : At) → ops_of new key q ≡ edit (ops_of old key) q
   edited q = is key q ∙ ap (λ b. cond b (edit (ops_of old key) q) (ops_of old key q)) ((eq_by_cmp_equiv key_cmp_total).refl key)
@@ -126,7 +126,7 @@ left_read None op is = absurd (true≢false (sym (ap is_some is)))
 left_read (Some Save) op is = absurd (true≢false (sym (ap is_some is)))
 left_read (Some Read) op is = ap (λ o. unwrap_or o op) (sym is)
 
-module _ (old new : ByKey) (key : List Part) (is : ChangesKey key reads_alone old new) where
+module _ (old new : OpsByKey) (key : List Part) (is : ChangesKey key reads_alone old new) where
   read_here : (q : At) (op : Op) → ops_of new key q ≡ Some op → op ≡ Read
   read_here q op there = left_read (ops_of old key q) op (sym (edited old new key reads_alone is q) ∙ there)
 

@@ -9,5 +9,5 @@ pub mod Source
 pub mod Variables
 pub mod inner
 pub use Rattle.ft_fields.specs.Places
-pub use Rattle.ft_keys.specs.Parts
+pub use Rattle.ft_fields.specs.Parts
 pub use Rattle.ft_hist.specs.Steps

@@ -4,14 +4,14 @@ ghost use Rattle.std.specs.Prelude.{◌≡◌, ◌⊎◌, ◌↔◌, List, Optio
 ghost use Rattle.std.specs.Prelude.{map as list_map};
 ghost use Rattle.std.specs.List.Sorted.{IsStrictlySortedBy};
 ghost use Rattle.std.specs.declared.cmp.Ordering.TheVariants.{Less, Equal};
-ghost use Rattle.ft_keys.specs.declared.key.Part.{Part};
+ghost use Rattle.ft_fields.specs.declared.key.Part.{Part};
 ghost use Rattle.ft_pairs.specs.declared.at.Op.{Op};
 ghost use Rattle.ft_pairs.specs.declared.at.Op.TheVariants.{Read};
 ghost use Rattle.ft_pairs.specs.Order.{at_cmp};
 ghost use Rattle.ft_pairs.specs.Source.{Ops, IsSource};
 ghost use Rattle.ft_pairs.specs.Next.{IsBehind, IsNext, IsWalk};
 ghost use Rattle.ft_pairs.specs.Edits.{KeepsSource, with_op, without_op, reads_alone};
-ghost use Rattle.ft_pairs.specs.ByKey.{ByKey, ChangesKey, ops_of};
+ghost use Rattle.ft_pairs.specs.ByKey.{OpsByKey, ChangesKey, ops_of};
 
 use crate::at::At;
 
@@ -49,10 +49,10 @@ pub fn one_next()
 /// A law: what a reading of a key finds, and which operation of a key is next, depends on the
 /// operations of that key alone.
 pub fn own_operations()
-    ensures sources { (old new : ByKey) (key : List Part)
+    ensures sources { (old new : OpsByKey) (key : List Part)
         → ((q : At) → ops_of new key q ≡ ops_of old key q)
         → (at : At) → KeepsSource (ops_of old key) (ops_of new key) at }
-    ensures nexts { (old new : ByKey) (key : List Part)
+    ensures nexts { (old new : OpsByKey) (key : List Part)
         → ((q : At) → ops_of new key q ≡ ops_of old key q)
         → (after : Option At) (next : Option (At × Op))
         → IsNext (ops_of old key) after next → IsNext (ops_of new key) after next }
@@ -65,12 +65,12 @@ pub fn one_operation()
     ensures place { (old new : Ops) (at : At) (next : Option (At × Op))
         → ((q : At) → (q ≡ at → ⊥) → new q ≡ old q) → IsNext new (Some at) next
         → (q : At) (op : Op) → new q ≡ Some op → next ≡ Some (q, op) ⊎ KeepsSource old new q }
-    ensures inserted { (old new : ByKey) (key : List Part) (at : At) (put : Op)
+    ensures inserted { (old new : OpsByKey) (key : List Part) (at : At) (put : Op)
         (next : Option (At × Op))
         → ChangesKey key (with_op at put) old new → IsNext (ops_of new key) (Some at) next
         → (k : List Part) (q : At) (op : Op) → ops_of new k q ≡ Some op
         → ((k ≡ key) × (next ≡ Some (q, op))) ⊎ KeepsSource (ops_of old k) (ops_of new k) q }
-    ensures removed { (old new : ByKey) (key : List Part) (at : At) (next : Option (At × Op))
+    ensures removed { (old new : OpsByKey) (key : List Part) (at : At) (next : Option (At × Op))
         → ChangesKey key (without_op at) old new → IsNext (ops_of new key) (Some at) next
         → (k : List Part) (q : At) (op : Op) → ops_of new k q ≡ Some op
         → ((k ≡ key) × (next ≡ Some (q, op))) ⊎ KeepsSource (ops_of old k) (ops_of new k) q }
@@ -79,10 +79,10 @@ pub fn one_operation()
 /// A law: where the saves of a key go, no operation but the reads of that key may find another
 /// saving than before, and these find none.
 pub fn reads_of_one_key()
-    ensures others { (old new : ByKey) (key : List Part) → ChangesKey key reads_alone old new
+    ensures others { (old new : OpsByKey) (key : List Part) → ChangesKey key reads_alone old new
         → (k : List Part) (q : At) (op : Op) → ops_of new k q ≡ Some op
         → ((k ≡ key) × (op ≡ Read)) ⊎ KeepsSource (ops_of old k) (ops_of new k) q }
-    ensures unset { (old new : ByKey) (key : List Part) → ChangesKey key reads_alone old new
+    ensures unset { (old new : OpsByKey) (key : List Part) → ChangesKey key reads_alone old new
         → (at : At) (found : Option At) → IsSource (ops_of new key) at found → found ≡ None }
 {}
 

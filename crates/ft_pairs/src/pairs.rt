@@ -2,8 +2,8 @@
 
 ghost use Rattle.std.specs.Prelude.{◌≡◌, ◌+◌, ◌<◌, ◌≤◌, List, length, None, Some, OnOk, OnErr, IfOk, IfSome, IsTrue};
 ghost use Rattle.std.specs.FinMap as map;
-ghost use Rattle.ft_keys.specs.declared.key.Part.{Part};
-ghost use Rattle.ft_keys.specs.Parts.{key_cmp};
+ghost use Rattle.ft_fields.specs.declared.key.Part.{Part};
+ghost use Rattle.ft_fields.specs.Parts.{key_cmp};
 ghost use Rattle.ft_maps.specs.Seen.{seen};
 ghost use Rattle.ft_pairs.specs.declared.at.At.{At};
 ghost use Rattle.ft_pairs.specs.ByKey.{ops_of, ops_left, ChangesKey, PartlyChangesKey};
@@ -29,14 +29,14 @@ pub struct Pairs {
 }
 
 impl Model for Pairs {
-    ghost use Rattle.ft_pairs.specs.ByKey.{ByKey};
+    ghost use Rattle.ft_pairs.specs.ByKey.{OpsByKey};
     ghost use Rattle.ft_pairs.specs.Codes.{by_key_code};
 
-    ghost Value = { ByKey };
+    ghost Value = { OpsByKey };
 
     ghost coded = { by_key_code };
 
-    ghost use Rattle.ft_keys.specs.Parts.{key_cmp};
+    ghost use Rattle.ft_fields.specs.Parts.{key_cmp};
     ghost use Rattle.ft_maps.specs.Seen.{seen};
 
     ghost view = { λ p. seen key_cmp p.by_key };

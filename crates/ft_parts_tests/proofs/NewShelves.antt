@@ -10,7 +10,8 @@ use Rattle.ft_fields.specs.Places.{pos_cmp}
 use Rattle.ft_fields.specs.Traced.{Traced}
 use Rattle.ft_fields.specs.declared.pos.Pos.{Pos}
 use Rattle.ft_hist.specs.Hist.{Hist}
-use Rattle.ft_keys.specs.declared.key.Part.{Part}
+use Rattle.ft_hist.specs.Triggers.{Triggers}
+use Rattle.ft_fields.specs.declared.key.Part.{Part}
 use Rattle.ft_lanes.specs.Held.{Lanes}
 use Rattle.ft_maps.specs.Entries.{get-insert_same, get-insert_other}
 use Rattle.ft_pairs.specs.ByKey.{ops_of}
@@ -28,7 +29,7 @@ use Rattle.ft_kept.specs.Repairs.{AreShelved}
 use Rattle.ft_kept.specs.Shelves.{Shelved, Shelves, Readings, IsNewShelf, AddsShelf, role_on, admits_on, kept_on}
 use Rattle.ft_kept.proofs.Events.{has_at}
 use Rattle.ft_kept.proofs.Forms.{by_id, role_at, same_role}
-use Rattle.ft_kept.proofs.Owing.{op_absent}
+use Rattle.ft_kept.proofs.Staleness.{op_absent}
 use Rattle.ft_parts_tests.specs.Trial.{AreRight}
 
 -- a shelf has nothing on it
@@ -63,13 +64,13 @@ no_reading (Some shelf) unused pos = (unused shelf refl).readings pos
 -- ---- new shelves
 
 -- each trigger has its shelf, and nothing is on it
-pub record AreNew (triggers : FinMap nat_cmp Hist) (shelves : Shelves) : Type 0 where
+pub record AreNew (triggers : Triggers) (shelves : Shelves) : Type 0 where
   pub shelved : AreShelved triggers shelves
   pub unused : (id : ℕ) → UnusedIfThere (map.get shelves id)
 
 pub none_new : AreNew map.empty map.empty
 none_new =
-    let triggers : FinMap nat_cmp Hist = map.empty in
+    let triggers : Triggers = map.empty in
     let shelves : Shelves = map.empty in
     let none : (id : ℕ) → map.get shelves id ≡ None = λ id. get-empty {X = Shelved} nat_cmp id in
     record {
@@ -81,7 +82,7 @@ none_new =
     }
 
 -- one more trigger has a new shelf; a reader's saver has one already
-module _ (triggers : FinMap nat_cmp Hist) (id : ℕ) (hist : Hist) (role : Role) (size : ℕ) (old new : Shelves)
+module _ (triggers : Triggers) (id : ℕ) (hist : Hist) (role : Role) (size : ℕ) (old new : Shelves)
     (are : AreNew triggers old) (adds : AddsShelf id role size old new) (saved : (saver : ℕ) → role ≡ Reads saver → is_some (map.get old saver) ≡ true) where
   here : map.get new id ≡ Some adds.0
   here = ap (λ (s : Shelves). map.get s id) adds.1.0 ∙ get-insert_same nat_cmp_total old id adds.0
@@ -112,7 +113,7 @@ module _ (triggers : FinMap nat_cmp Hist) (id : ℕ) (hist : Hist) (role : Role)
 
 -- ---- they are views at no events
 
-module _ (triggers : FinMap nat_cmp Hist) (lanes : Lanes) (shelves : Shelves) (new : AreNew triggers shelves) where
+module _ (triggers : Triggers) (lanes : Lanes) (shelves : Shelves) (new : AreNew triggers shelves) where
   no_act : (at : At) → acts_of triggers map.empty at ≡ None
   no_act at = has_at triggers map.empty at.pos None (get-empty {X = Traced} pos_cmp at.pos) at.trigger
 

@@ -10,7 +10,7 @@ use Rattle.std.specs.FinMap.{FinMap}
 use Rattle.ft_fields.specs.Places.{pos_cmp, pos_same}
 use Rattle.ft_fields.specs.Traced.{Traced}
 use Rattle.ft_fields.specs.declared.pos.Pos.{Pos}
-use Rattle.ft_hist.specs.Hist.{Hist}
+use Rattle.ft_hist.specs.Triggers.{Triggers}
 use Rattle.ft_lanes.specs.Held.{Lanes}
 use Rattle.ft_maps.specs.Entries.{same_from_tie}
 use Rattle.ft_shelves.specs.Changes.{is_insert}
@@ -38,7 +38,7 @@ pub copied_some : (found : Option (Bor Traced)) → is_some (option_copied found
 copied_some None = refl
 copied_some (Some event) = refl
 
-module _ (triggers : FinMap nat_cmp Hist) (lanes : Lanes) (events : FinMap pos_cmp Traced) (old : Shelves) (right : AreRight triggers lanes events old) (sign : Sign) (pos : Pos) (event : Traced) (held : IsHeldAt lanes pos event) where
+module _ (triggers : Triggers) (lanes : Lanes) (events : FinMap pos_cmp Traced) (old : Shelves) (right : AreRight triggers lanes events old) (sign : Sign) (pos : Pos) (event : Traced) (held : IsHeldAt lanes pos event) where
   -- an event that has come is the one that is held
   pub its_own : (own : Traced) → map.get events pos ≡ Some own → own ≡ event
   its_own own is = ap (λ (o : Option Traced). unwrap_or o own) (sym (right.held pos own is).0 ∙ held.0)

@@ -1,6 +1,6 @@
 //! Which patterns are globs, and what they match.
 
-use ft_glob::*;
+use ft_text::*;
 use std::test::*;
 
 /// Whether the pattern is a glob that matches the text.

@@ -1,5 +1,6 @@
 //! Hist triggers without their texts: keys, values, parts; and what these tests share.
 
+mod attached;
 mod keys;
 mod parts;
 mod values;

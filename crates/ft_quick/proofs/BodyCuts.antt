@@ -9,13 +9,13 @@ use Rattle.ft_fields.specs.declared.event.Turn.{Turn}
 use Rattle.ft_fields.specs.declared.event.Wake.{Wake}
 use Rattle.ft_fields.specs.Traced.{Traced}
 use Rattle.ft_event.specs.Bytes.{is_space}
-use Rattle.ft_event.specs.Labels.{text_of, label_of}
+use Rattle.ft_event.specs.Labels.{event_label_text, label_of}
 use Rattle.ft_event.specs.Spans.{behind}
-use Rattle.ft_event.specs.LineIs.{IsNamed, BodyIs, LineIs, WakeGives, TurnGives, Stops}
+use Rattle.ft_event.specs.LineIs.{HasLabel, BodyIs, LineIs, WakeGives, TurnGives, Stops}
 use Rattle.ft_event.specs.declared.fault.Line.TheVariants as lines
 use Rattle.ft_quick.specs.declared.front.Front.{Front}
 use Rattle.ft_quick.specs.declared.payload.WakeName.TheVariants as wakes
-use Rattle.ft_quick.specs.inner.Lines.{IsFront, IsPutWake, IsPutTurn, IsPut}
+use Rattle.ft_quick.specs.inner.Lines.{HasColumns, IsPutWake, IsPutTurn, IsPut}
 use Rattle.ft_quick.specs.inner.Payloads.{IsFairWake, IsFairTurn}
 
 nothing_found : false ≡ true → ⊥
@@ -26,13 +26,13 @@ abbrev the : {A : Type 0} → (o : Option A) → is_some o ≡ true → A
 the None found = absurd (nothing_found found)
 the (Some x) found = x
 
-is_named : (rest : List ℕ) (label : _) (payload : List ℕ) → rest ≡ codes " " ++ text_of label ++ codes " " ++ payload → Stops is_space payload
-    → Stops is_space (reverse payload) → IsNamed rest label payload
+is_named : (rest : List ℕ) (label : _) (payload : List ℕ) → rest ≡ codes " " ++ event_label_text label ++ codes " " ++ payload → Stops is_space payload
+    → Stops is_space (reverse payload) → HasLabel rest label payload
 is_named rest label payload cut first last = record {
   before = codes " ";
   left = codes " ";
   right = [];
-  joined = cut ∙ sym (append-nil (codes " " ++ text_of label ++ codes " " ++ payload));
+  joined = cut ∙ sym (append-nil (codes " " ++ event_label_text label ++ codes " " ++ payload));
   before_spaces = refl;
   left_spaces = refl;
   right_spaces = refl;
@@ -93,7 +93,7 @@ wakeup_new_found rest text payload wake cut label fair =
     inl (((the (label_of (codes "sched_wakeup_new:")) refl).0, payload), is_named rest (the (label_of (codes "sched_wakeup_new:")) refl).0 payload (cut ∙ ap (λ (x : List ℕ). codes " sched_" ++ x) label) fair.first fair.last, wake_gives bodies.WakeupNew payload wake fair)
 
 -- the event of the whole line
-pub put_found : (line : List ℕ) (front : Front) (event : Traced) → IsFront line front → IsPut (drop front.rest line) front event → LineIs line (Ok (lines.Event event))
+pub put_found : (line : List ℕ) (front : Front) (event : Traced) → HasColumns line front → IsPut (drop front.rest line) front event → LineIs line (Ok (lines.Event event))
 put_found line front event is put = subst (λ (t : Traced). LineIs line (Ok (lines.Event t))) (sym put.put) (is put.body put.is)
 
 -- the events that are put

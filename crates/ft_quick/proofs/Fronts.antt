@@ -14,7 +14,7 @@ use Rattle.ft_event.specs.declared.fault.LineFault.{LineFault}
 use Rattle.ft_event.specs.Bytes.{is_space, is_digit, is_blank}
 use Rattle.ft_event.specs.LineIs.{Head, IsDigits, IsHead, IsSkipped, IsStamped, BodyIs, HeadGives, LineIs, Stops}
 use Rattle.ft_event.proofs.Runs.{rest_is}
-use Rattle.ft_quick.specs.inner.Columns.{ends_task, IsPlain, IsTask, IsTail}
+use Rattle.ft_quick.specs.inner.Columns.{ends_task, IsEventLine, IsTask, IsTail}
 use Rattle.ft_quick.specs.inner.Cuts.{IsSkip}
 
 -- ---- no other cut has a shorter TASK
@@ -74,7 +74,7 @@ not_blank line front rest cut blank =
 unbroken : (line : List ℕ) → list_any (λ b. eqb b 10) line ≡ false → Contains line 10 → ⊥
 unbroken line none hit = let some = list_any_at (λ b. eqb b 10) line hit.0 10 hit.1 (eq-eqb _ _ hit.2) in cc
 
-not_skipped : (line text task rest : List ℕ) → IsPlain line → IsSkip line text → IsTask text task rest → IsSkipped line → ⊥
+not_skipped : (line text task rest : List ℕ) → IsEventLine line → IsSkip line text → IsTask text task rest → IsSkipped line → ⊥
 not_skipped line text task rest plain skip cut (inl blank) =
     not_blank line (skip.gap ++ task) rest (skip.joined ∙ ap (λ (x : List ℕ). skip.gap ++ x) cut.joined ∙ sym (append_assoc skip.gap task (45 ∷ rest))) blank
 not_skipped line text task rest plain skip cut (inr (inl comment)) = plain.comment comment
@@ -86,7 +86,7 @@ event_given task pid cpu stamp body = Ok (lines.Event (record { task = task; pid
 
 -- the columns, and the event of the line
 pub front_found : (line text task from_pid from_stamp rest : List ℕ) (pid cpu stamp : ℕ) (body : Body) → list_any (λ b. eqb b 10) line ≡ false
-    → IsPlain line → IsSkip line text → IsTask text task from_pid → length task ≤ 31
+    → IsEventLine line → IsSkip line text → IsTask text task from_pid → length task ≤ 31
     → IsTail from_pid pid cpu from_stamp → IsStamped from_stamp stamp rest → BodyIs rest (Ok body) → LineIs line (event_given task pid cpu stamp body)
 unfolding LineIs
 front_found line text task from_pid from_stamp rest pid cpu stamp body none plain skip cut short tail stamped is =

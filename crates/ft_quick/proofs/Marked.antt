@@ -11,7 +11,7 @@ use Rattle.ft_event.specs.Bytes.{is_digit}
 use Rattle.ft_quick.specs.inner.Columns.{ends_task}
 use Rattle.ft_quick.specs.inner.Cuts.{IsUntil}
 use Rattle.ft_quick.proofs.ColumnCuts.{cut_at}
-use Rattle.ft_quick.specs.inner.Marks.{IsFirst, IsMarks, IsNext, IsNextOther, IsNextPair}
+use Rattle.ft_quick.specs.inner.Marks.{IsFirst, IsMarks, IsNextMark, IsNextOther, IsNextPair}
 
 -- the mask of the lanes that pass
 lane_marked : (p : ℕ → Bool) (bytes : List ℕ) (k : ℕ) → k < length bytes → bit_at (mask_l (map p bytes)) k ≡ cond (p (get_or bytes k 0)) 1 0
@@ -81,7 +81,7 @@ first_of_few line now few same =
 
 -- ---- the next marked place
 
-pub next_marked : (marks from : ℕ) → marks < 2 ^ 64 → (marks / 2 ^ from ≡ 0 → ⊥) → IsNext marks from (from + trailing_zeros w64 (marks / 2 ^ from))
+pub next_marked : (marks from : ℕ) → marks < 2 ^ 64 → (marks / 2 ^ from ≡ 0 → ⊥) → IsNextMark marks from (from + trailing_zeros w64 (marks / 2 ^ from))
 next_marked marks from fits some =
     let left : ℕ = marks / 2 ^ from in
     let small = div-le_self marks (2 ^ from) in
@@ -101,7 +101,7 @@ next_marked marks from fits some =
           ap (bit_at marks) (sym at) ∙ sym (bit (k - from)) ∙ lowest.2 (k - from) (omega arith);
     }
 
-pub other_marked : (marks from at : ℕ) → marks < 2 ^ 64 → IsNext (bit_not w64 marks) from at → IsNextOther marks from at
+pub other_marked : (marks from at : ℕ) → marks < 2 ^ 64 → IsNextMark (bit_not w64 marks) from at → IsNextOther marks from at
 other_marked marks from at fits next =
     let other : (k : ℕ) → k < 64 → bit_at (bit_not w64 marks) k ≡ 1 - bit_at marks k = λ k within. bit_at_not w64 marks k fits within in
     record {
@@ -118,7 +118,7 @@ other_marked marks from at fits next =
 next_place : (k : ℕ) → 1 + k ≡ k + 1
 next_place k = omega arith
 
-pub pair_marked : (firsts seconds from at : ℕ) → seconds < 2 ^ 64 → IsNext (bit_and firsts (seconds / 2 ^ 1)) from at → IsNextPair firsts seconds from at
+pub pair_marked : (firsts seconds from at : ℕ) → seconds < 2 ^ 64 → IsNextMark (bit_and firsts (seconds / 2 ^ 1)) from at → IsNextPair firsts seconds from at
 pair_marked firsts seconds from at fits next =
     let bits : (k : ℕ) → bit_at (bit_and firsts (seconds / 2 ^ 1)) k ≡ min (bit_at firsts k) (bit_at seconds (k + 1)) =
     λ k. bit_at_and firsts (seconds / 2 ^ 1) k ∙ ap (min (bit_at firsts k)) (ap (λ (x : ℕ). x % 2) (shr-shr seconds 1 k) ∙ ap (bit_at seconds) (next_place k)) in
@@ -155,7 +155,7 @@ pub record IsFound (p : ℕ → Bool) (from at : ℕ) : Type 0 where
   pub here : p at ≡ true
   pub before : (k : ℕ) → from ≤ k → k < at → p k ≡ false
 
-pub found : (p : ℕ → Bool) (marks from at : ℕ) → IsMarks p marks → IsNext marks from at → IsFound p from at
+pub found : (p : ℕ → Bool) (marks from at : ℕ) → IsMarks p marks → IsNextMark marks from at → IsFound p from at
 found p marks from at are next = record {
   low = next.low;
   here = passes (p at) (bit_at marks at) (are at next.within) next.here;
@@ -195,7 +195,7 @@ dash_found line dashes digits from at dash digit next = record {
 
 -- the first byte of its value among the 32 that stand at a place
 pub near_found : (line : List ℕ) (byte places at len : ℕ) → at + 32 ≤ length line → ((k : ℕ) → k < 32 → bit_at places k ≡ cond (eqb (get_or (take 32 (drop at line)) k 0) byte) 1 0) → places < 4294967296
-    → IsNext places 0 len → IsUntil byte (drop at line) (take (at + len - at) (drop at line)) (drop (at + len + 1) line) × (at + len < length line)
+    → IsNextMark places 0 len → IsUntil byte (drop at line) (take (at + len - at) (drop at line)) (drop (at + len + 1) line) × (at + len < length line)
 near_found line byte places at len room are small next =
     let text : List ℕ = drop at line in
     let long = length-drop at line in

@@ -7,7 +7,7 @@ use Rattle.ft_fields.specs.declared.event.Name.{Name}
 use Rattle.ft_fields.specs.declared.event.Name.TheVariants as names
 use Rattle.ft_fields.specs.Names.{name_text}
 use Rattle.ft_event.specs.Bytes.{is_space}
-use Rattle.ft_event.specs.Labels.{named_by, text_of}
+use Rattle.ft_event.specs.Labels.{labelled_name, event_label_text}
 use Rattle.ft_event.specs.LineIs.{BodyIs, Stops}
 use Rattle.ft_quick.specs.inner.Payloads.{IsUnlabelled}
 use Rattle.ft_quick.proofs.Fronts.{rest_same}
@@ -45,8 +45,8 @@ pub other_found : (rest text : List ℕ) → rest ≡ codes " " ++ text → IsUn
 other_found rest text cut other = inr (
   λ named h.
       let more : List ℕ = h.left ++ (named.1 ++ h.right) in
-      let joined : rest ≡ h.before ++ (text_of named.0 ++ more) = h.joined ∙ rejoined h.before (text_of named.0) h.left named.1 h.right in
-      let same : text ≡ text_of named.0 ++ more = rest_same is_space rest (codes " ") text h.before (text_of named.0 ++ more) cut joined refl h.before_spaces (first_stops text other.space) (no_space_first (named_by named.0) more) in
-      no_label (named_by named.0) text more other same,
+      let joined : rest ≡ h.before ++ (event_label_text named.0 ++ more) = h.joined ∙ rejoined h.before (event_label_text named.0) h.left named.1 h.right in
+      let same : text ≡ event_label_text named.0 ++ more = rest_same is_space rest (codes " ") text h.before (event_label_text named.0 ++ more) cut joined refl h.before_spaces (first_stops text other.space) (no_space_first (labelled_name named.0) more) in
+      no_label (labelled_name named.0) text more other same,
   refl,
 )

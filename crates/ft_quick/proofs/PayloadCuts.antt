@@ -12,7 +12,7 @@ use Rattle.ft_event.specs.Bytes.{is_space, is_in_word, is_digit}
 use Rattle.ft_event.specs.LineIs.{IsDigits, NumberIs, IsLastArrow, Stops}
 use Rattle.ft_event.proofs.Backs.{list_all-reverse}
 use Rattle.ft_quick.specs.inner.Cuts.{IsNumbered, IsSigned, IsUntil}
-use Rattle.ft_quick.specs.inner.Payloads.{IsName, IsTask, IsFairWake, IsFairTurn}
+use Rattle.ft_quick.specs.inner.Payloads.{IsLabelledName, AreTaskParts, IsFairWake, IsFairTurn}
 
 -- ---- the last byte
 
@@ -38,9 +38,9 @@ last_number front number z h =
 -- ---- a task's part
 
 -- a name, and after its labels a PID and a priority
-pub task_cut : (pid_label prio_label text comm from_pid from_label from_prio rest : List ℕ) (pid prio p q : ℤ) → IsName pid_label text comm from_pid
+pub task_cut : (pid_label prio_label text comm from_pid from_label from_prio rest : List ℕ) (pid prio p q : ℤ) → IsLabelledName pid_label text comm from_pid
     → IsSigned from_pid pid from_label → from_label ≡ prio_label ++ from_prio → IsSigned from_prio prio rest
-    → p ≡ pid → q ≡ prio → IsTask pid_label prio_label text comm p q rest
+    → p ≡ pid → q ≡ prio → AreTaskParts pid_label prio_label text comm p q rest
 task_cut pid_label prio_label text comm from_pid from_label from_prio rest pid prio p q name a label b same_pid same_prio = record {
   pid_text = a.number;
   prio_text = b.number;
@@ -74,7 +74,7 @@ same_wake v w a b c d =
     ∙ ap (λ (x : ℤ). record { comm = w.comm; pid = w.pid; prio = x; target_cpu = v.target_cpu }) c
     ∙ ap (λ (x : ℤ). record { comm = w.comm; pid = w.pid; prio = w.prio; target_cpu = x }) d
 
-fair_wake : (text from_label from_cpu comm : List ℕ) (pid prio : ℤ) (cpu : ℕ) → IsTask (codes " pid") (codes " prio=") text comm pid prio from_label
+fair_wake : (text from_label from_cpu comm : List ℕ) (pid prio : ℤ) (cpu : ℕ) → AreTaskParts (codes " pid") (codes " prio=") text comm pid prio from_label
     → from_label ≡ codes " target_cpu=" ++ from_cpu
     → IsNumbered from_cpu cpu [] → IsFairWake (codes "comm=" ++ text) (record { comm = comm; pid = pid; prio = prio; target_cpu = pos cpu })
 fair_wake text from_label from_cpu comm pid prio cpu task label cpu_is =
@@ -104,7 +104,7 @@ fair_wake text from_label from_cpu comm pid prio cpu task label cpu_is =
 
 -- the payload of a wake event is found
 pub wake_found : (payload text from_label from_cpu comm rest : List ℕ) (pid prio : ℤ) (cpu : ℕ) (wake : Wake)
-    → payload ≡ codes "comm=" ++ text → IsTask (codes " pid") (codes " prio=") text comm pid prio from_label → from_label ≡ codes " target_cpu=" ++ from_cpu
+    → payload ≡ codes "comm=" ++ text → AreTaskParts (codes " pid") (codes " prio=") text comm pid prio from_label → from_label ≡ codes " target_cpu=" ++ from_cpu
     → IsNumbered from_cpu cpu rest → rest ≡ [] → wake.comm ≡ comm → wake.pid ≡ pid → wake.prio ≡ prio → wake.target_cpu ≡ pos cpu → IsFairWake payload wake
 wake_found payload text from_label from_cpu comm rest pid prio cpu wake begins task label cpu_is ends a b c d =
     let whole : IsNumbered from_cpu cpu [] = subst (IsNumbered from_cpu cpu) ends cpu_is in
@@ -170,13 +170,13 @@ pub record IsCutTurn (text : List ℕ) (turn : Turn) : Type 0 where
   pub from_state : List ℕ
   pub from_arrow : List ℕ
   pub from_next : List ℕ
-  pub prev : IsTask (codes " prev_pid") (codes " prev_prio=") text turn.prev_comm turn.prev_pid turn.prev_prio from_state_label
+  pub prev : AreTaskParts (codes " prev_pid") (codes " prev_prio=") text turn.prev_comm turn.prev_pid turn.prev_prio from_state_label
   pub state_label : from_state_label ≡ codes " prev_state=" ++ from_state
   pub state : IsUntil 32 from_state turn.prev_state from_arrow
   pub state_some : 0 < length turn.prev_state
   pub state_short : length turn.prev_state ≤ 31
   pub arrow : from_arrow ≡ codes "==> next_comm=" ++ from_next
-  pub next : IsTask (codes " next_pid") (codes " next_prio=") from_next turn.next_comm turn.next_pid turn.next_prio []
+  pub next : AreTaskParts (codes " next_pid") (codes " next_prio=") from_next turn.next_comm turn.next_pid turn.next_prio []
 
 fair_turn : (text : List ℕ) (turn : Turn) → IsCutTurn text turn → IsFairTurn (codes "prev_comm=" ++ text) turn
 fair_turn text turn cut =
@@ -220,10 +220,10 @@ fair_turn text turn cut =
 
 -- the payload of a switch is found
 pub turn_found : (payload text from_state_label from_state from_arrow from_next rest : List ℕ) (turn read : Turn)
-    → payload ≡ codes "prev_comm=" ++ text → IsTask (codes " prev_pid") (codes " prev_prio=") text read.prev_comm read.prev_pid read.prev_prio from_state_label
+    → payload ≡ codes "prev_comm=" ++ text → AreTaskParts (codes " prev_pid") (codes " prev_prio=") text read.prev_comm read.prev_pid read.prev_prio from_state_label
     → from_state_label ≡ codes " prev_state=" ++ from_state → IsUntil 32 from_state read.prev_state from_arrow → 0 < length read.prev_state → length read.prev_state ≤ 31 → from_arrow ≡ codes "==> next_comm=" ++ from_next
-    → IsTask (codes " next_pid") (codes " next_prio=") from_next read.next_comm read.next_pid read.next_prio rest → rest ≡ [] → turn ≡ read → IsFairTurn payload turn
+    → AreTaskParts (codes " next_pid") (codes " next_prio=") from_next read.next_comm read.next_pid read.next_prio rest → rest ≡ [] → turn ≡ read → IsFairTurn payload turn
 turn_found payload text from_state_label from_state from_arrow from_next rest turn read begins prev label state some short arrow next ends same =
-    let whole : IsTask (codes " next_pid") (codes " next_prio=") from_next read.next_comm read.next_pid read.next_prio [] = subst (IsTask (codes " next_pid") (codes " next_prio=") from_next read.next_comm read.next_pid read.next_prio) ends next in
+    let whole : AreTaskParts (codes " next_pid") (codes " next_prio=") from_next read.next_comm read.next_pid read.next_prio [] = subst (AreTaskParts (codes " next_pid") (codes " next_prio=") from_next read.next_comm read.next_pid read.next_prio) ends next in
     let cut : IsCutTurn text read = record { from_state_label = from_state_label; from_state = from_state; from_arrow = from_arrow; from_next = from_next; prev = prev; state_label = label; state = state; state_some = some; state_short = short; arrow = arrow; next = whole } in
     subst (λ (x : List ℕ). IsFairTurn x turn) (sym begins) (subst (IsFairTurn (codes "prev_comm=" ++ text)) (sym same) (fair_turn text read cut))

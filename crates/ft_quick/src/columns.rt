@@ -4,7 +4,7 @@ ghost use Rattle.std.specs.Prelude.{◌≡◌, ◌≤◌, ◌<◌, ◌+◌, ◌-
 ghost use Rattle.ft_event.specs.Bytes.{is_in_word};
 ghost use Rattle.ft_event.specs.LineIs.{IsStamped, Stops};
 ghost use Rattle.ft_fields.specs.Traced.{last_stamp};
-ghost use Rattle.ft_quick.specs.inner.Columns.{AreMarked, IsPlain, IsTask, IsTail, IsLettered};
+ghost use Rattle.ft_quick.specs.inner.Columns.{AreMarked, IsEventLine, IsTask, IsTail, IsLettered};
 ghost use Rattle.ft_quick.specs.inner.Cuts.{IsSkip, IsNumbered};
 
 use crate::cuts::behind;
@@ -15,7 +15,7 @@ use crate::numbers::number_of;
 /// lost.
 #[inline(always)]
 pub(crate) fn is_plain(line: &[u8]) -> bool
-    ensures { result ≡ true → IsPlain line.now }
+    ensures { result ≡ true → IsEventLine line.now }
 {
     if line.len() < 4 || line.len() > 4096 {
         return false;

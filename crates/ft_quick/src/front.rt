@@ -24,13 +24,13 @@ pub(crate) struct Front<'a> {
 
 impl<'a> Front<'a> {
     ghost use Rattle.std.specs.Prelude.{◌≡◌};
-    ghost use Rattle.ft_fields.specs.Borrowed.{told, event_told};
-    ghost use Rattle.ft_quick.specs.inner.Lines.{traced_with};
+    ghost use Rattle.ft_fields.specs.Borrowed.{owned_body, event_told};
+    ghost use Rattle.ft_quick.specs.inner.Lines.{traced_by_columns};
 
     /// The line's event, where this was traced.
     #[inline(always)]
     pub(crate) fn with(&self, body: BodyRef<'a>) -> EventRef<'a>
-        ensures { event_told result ≡ traced_with self.now (told body.entry) }
+        ensures { event_told result ≡ traced_by_columns self.now (owned_body body.entry) }
     {
         EventRef {
             task: self.task,

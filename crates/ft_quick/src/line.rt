@@ -6,7 +6,7 @@ ghost use Rattle.ft_event.specs.declared.fault.Line.TheVariants as lines;
 ghost use Rattle.ft_event.specs.Line.{line_of};
 ghost use Rattle.ft_event.specs.LineIs.{LineIs};
 ghost use Rattle.ft_fields.specs.Borrowed.{event_told};
-ghost use Rattle.ft_quick.specs.inner.Lines.{IsFront};
+ghost use Rattle.ft_quick.specs.inner.Lines.{HasColumns};
 
 use crate::columns::{Columns, is_plain};
 use crate::front::Front;
@@ -18,7 +18,7 @@ use ft_fields::{EventRef, NameRef};
 #[inline(never)]
 fn front_of(line: &[u8]) -> Option<Front<'_>>
     requires { list_any (λ b. b == 10) line.now ≡ false }
-    ensures front { IfSome result (IsFront line.now) }
+    ensures front { IfSome result (HasColumns line.now) }
     ensures within { IfSome result (λ front. front.rest ≤ length line.now) }
 {
     if !is_plain(line) {

@@ -4,7 +4,7 @@ ghost use Rattle.std.specs.Prelude.{◌≡◌, ◌==◌, ◌≤◌, ◌<◌, ◌
 ghost use Rattle.std.specs.Int.{bit_at};
 ghost use Rattle.ft_event.specs.Bytes.{is_digit};
 ghost use Rattle.ft_quick.specs.inner.Cuts.{IsUntil};
-ghost use Rattle.ft_quick.specs.inner.Marks.{IsFirst, IsMarks, IsNext, IsNextOther, IsNextPair};
+ghost use Rattle.ft_quick.specs.inner.Marks.{IsFirst, IsMarks, IsNextMark, IsNextOther, IsNextPair};
 
 use std::simd::prelude::*;
 
@@ -125,7 +125,7 @@ pub(crate) fn digits_end(line: &[u8], at: usize) -> Option<usize>
 /// The next place from here on that is marked.
 #[inline(always)]
 pub(crate) fn next(marks: u64, from: usize) -> Option<usize>
-    ensures { IfSome result (IsNext marks from) }
+    ensures { IfSome result (IsNextMark marks from) }
 {
     if from > 63 {
         return None;

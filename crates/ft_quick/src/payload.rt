@@ -2,9 +2,9 @@
 
 ghost use Rattle.std.specs.Prelude.{◌≡◌, ◌≤◌, true, length, drop, Ok, IfSome};
 ghost use Rattle.ft_fields.specs.declared.event.Body.TheVariants as bodies;
-ghost use Rattle.ft_fields.specs.Borrowed.{named, waked, turned, told, event_told};
+ghost use Rattle.ft_fields.specs.Borrowed.{name_bytes, waked, turned, owned_body, event_told};
 ghost use Rattle.ft_event.specs.LineIs.{BodyIs};
-ghost use Rattle.ft_quick.specs.inner.Payloads.{IsName, IsTask, IsFairWake, IsFairTurn, IsUnlabelled};
+ghost use Rattle.ft_quick.specs.inner.Payloads.{IsLabelledName, AreTaskParts, IsFairWake, IsFairTurn, IsUnlabelled};
 ghost use Rattle.ft_quick.specs.inner.Lines.{body_named, IsPutWake, IsPutTurn, IsPut};
 
 use crate::cuts::{before, behind, number, signed, until};
@@ -26,7 +26,7 @@ impl WakeName {
     /// What was traced, where the event says this.
     #[inline(always)]
     fn body<'a>(self, wake: WakeRef<'a>) -> BodyRef<'a>
-        ensures { told result ≡ body_named self (waked wake.entry) }
+        ensures { owned_body result ≡ body_named self (waked wake.entry) }
     {
         match self {
             WakeName::Waking => BodyRef::Waking(wake),
@@ -46,7 +46,7 @@ fn name_of<'a, const N: usize>(
 ) -> Option<(NameRef<'a>, usize)>
     requires { at ≤ length line.now }
     ensures name { IfSome result (λ x.
-        IsName label.now (drop at line.now) (named x.0) (drop x.1 line.now)) }
+        IsLabelledName label.now (drop at line.now) (name_bytes x.0) (drop x.1 line.now)) }
     ensures within { IfSome result (λ x. x.1 ≤ length line.now) }
 {
     let end = until(b'=', line, at)?;
@@ -66,8 +66,8 @@ fn task_of<'a, const N: usize, const M: usize>(
     at: usize,
 ) -> Option<(NameRef<'a>, i32, i32, usize)>
     requires { at ≤ length line.now }
-    ensures task { IfSome result (λ x. IsTask pid_label.now prio_label.now
-        (drop at line.now) (named x.0) x.1 x.2 (drop x.3 line.now)) }
+    ensures task { IfSome result (λ x. AreTaskParts pid_label.now prio_label.now
+        (drop at line.now) (name_bytes x.0) x.1 x.2 (drop x.3 line.now)) }
     ensures within { IfSome result (λ x. x.3 ≤ length line.now) }
 {
     let (comm, at) = name_of(pid_label, line, at)?;

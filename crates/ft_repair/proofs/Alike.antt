@@ -10,7 +10,7 @@ use Rattle.std.proofs.lemmas.Bool.{cases_eq}
 use Rattle.ft_fields.specs.Traced.{Traced}
 use Rattle.ft_fields.specs.declared.pos.Pos.{Pos}
 use Rattle.ft_hist.specs.Hist.{Hist}
-use Rattle.ft_keys.specs.declared.key.Part.{Part}
+use Rattle.ft_fields.specs.declared.key.Part.{Part}
 use Rattle.ft_maps.specs.Entries.{get-remove_same, get-remove_other}
 use Rattle.ft_pairs.specs.ByKey.{ops_of}
 use Rattle.ft_pairs.specs.Source.{Ops}
@@ -154,10 +154,10 @@ pub right_none : (role : ℕ → Role) (values : ValuesBy) (acts : Acts) (kept :
 right_none role values acts kept at none read hits =
     subst (λ (act : Option (List Part × Traced)). IsEntry values kept.ops at (role at.trigger) act (hits_here kept at) (read_here kept at)) (sym none) (read, hits)
 
--- where nothing is owed, each place is right
+-- where nothing is stale, each place is right
 pub all_right : (role : ℕ → Role) (values : ValuesBy) (admits : Admits) (acts : Acts) (kept : Kept) → IsKept role values admits acts kept → (at : At) → IsRight role values acts kept at
 all_right role values admits acts kept is at = elim (is.entries at) [
-  | inl owed ↦ let never : ◌≡◌ {A = Bool} false true = owed.0 in absurd cc
+  | inl stale ↦ let never : ◌≡◌ {A = Bool} false true = stale.0 in absurd cc
   | inr right ↦ right
 ]
 

@@ -7,7 +7,7 @@ use Rattle.ft_fields.specs.declared.pos.Pos.{Pos}
 use Rattle.ft_hist.specs.Fitting.{KeyFits}
 use Rattle.ft_hist.specs.Hist.{Hist}
 use Rattle.ft_hist.specs.Hit.{hit}
-use Rattle.ft_keys.specs.declared.key.Part.{Part}
+use Rattle.ft_fields.specs.declared.key.Part.{Part}
 use Rattle.ft_table.specs.Values.{values_at}
 use Rattle.ft_pairs.specs.declared.role.Role.{Role}
 use Rattle.ft_table.specs.Spots.{traced}

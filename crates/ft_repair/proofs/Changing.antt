@@ -12,13 +12,13 @@ use Rattle.ft_fields.specs.Places.{pos_cmp, pos_cmp_total, pos_same}
 use Rattle.ft_fields.specs.Traced.{Traced}
 use Rattle.ft_fields.specs.declared.pos.Pos.{Pos}
 use Rattle.ft_hist.specs.Hist.{Hist}
-use Rattle.ft_keys.specs.declared.key.Part.{Part}
+use Rattle.ft_fields.specs.declared.key.Part.{Part}
 use Rattle.ft_kept.specs.Acts.{Acts}
 use Rattle.ft_kept.specs.Input.{input_of, AreViews}
 use Rattle.ft_kept.specs.Repairs.{IsHeldAt}
 use Rattle.ft_kept.specs.Shelves.{Shelves, FormsStay}
 use Rattle.ft_kept.specs.Signs.{event_before, event_after}
-use Rattle.ft_kept.specs.Views.{act_at, act_under, set, with_some}
+use Rattle.ft_kept.specs.Views.{act_by_id, act_under, set, with_some}
 use Rattle.ft_kept.proofs.Views.{attached_act, set_here, set_apart}
 use Rattle.ft_shelves.specs.declared.sign.Sign.{Sign}
 use Rattle.ft_shelves.proofs.Decided.{at_decided, itself}
@@ -50,8 +50,8 @@ module _ (triggers : Triggers) (lanes : Lanes) (mine : ℕ → Bool) (sign : Sig
   -- an event is held, has still to come or go in the first input, and has come or gone in the last
   pub record Changes (e : Pos × Traced) : Type 0 where
     pub held : IsHeldAt lanes e.0 e.1
-    pub before : (id : ℕ) → mine id ≡ true → first (record { pos = e.0; trigger = id }) ≡ act_at triggers id (event_before sign e.1)
-    pub after : (id : ℕ) → mine id ≡ true → last (record { pos = e.0; trigger = id }) ≡ act_at triggers id (event_after sign e.1)
+    pub before : (id : ℕ) → mine id ≡ true → first (record { pos = e.0; trigger = id }) ≡ act_by_id triggers id (event_before sign e.1)
+    pub after : (id : ℕ) → mine id ≡ true → last (record { pos = e.0; trigger = id }) ≡ act_by_id triggers id (event_after sign e.1)
 
   -- some of these events are left
   pub record IsChanging (rest : List (Pos × Traced)) (shelves : Shelves) : Type 0 where
@@ -96,7 +96,7 @@ module _ {triggers : Triggers} {lanes : Lanes} {mine : ℕ → Bool} {sign : Sig
     pub next_held : IsHeldAt lanes e.0 e.1
     next_held = is.changes.0.held
 
-    pub next_before : (id : ℕ) → mine id ≡ true → input_of lanes old (record { pos = e.0; trigger = id }) ≡ act_at triggers id (event_before sign e.1)
+    pub next_before : (id : ℕ) → mine id ≡ true → input_of lanes old (record { pos = e.0; trigger = id }) ≡ act_by_id triggers id (event_before sign e.1)
     next_before id own =
         let at : At = record { pos = e.0; trigger = id } in
         ap (λ (input : Acts). input at) tells
@@ -115,7 +115,7 @@ module _ {triggers : Triggers} {lanes : Lanes} {mine : ℕ → Bool} {sign : Sig
         some b = cond b (first q) (last q)
 
         by : (tie own : Bool) → eq_by_cmp pos_cmp q.pos e.0 ≡ tie → mine q.trigger ≡ own
-            → cond tie (cond own (act_at triggers q.trigger (event_after sign e.1)) (some (own && is_some (cond tie (Some e.1) (find pos_cmp q.pos rest))))) (some (own && is_some (cond tie (Some e.1) (find pos_cmp q.pos rest))))
+            → cond tie (cond own (act_by_id triggers q.trigger (event_after sign e.1)) (some (own && is_some (cond tie (Some e.1) (find pos_cmp q.pos rest))))) (some (own && is_some (cond tie (Some e.1) (find pos_cmp q.pos rest))))
             ≡ some (own && is_some (find pos_cmp q.pos rest))
         by true true tie own =
             let same : q.pos ≡ e.0 = same_from_tie pos_same q.pos e.0 tie in
@@ -158,11 +158,11 @@ module _ (triggers : Triggers) (id : ℕ) (hist : Hist) (attached : map.get trig
 
       at_place : with_some triggers input pos event (is_one id) here ≡ act
       at_place =
-          ap (λ (b : Bool). cond b (cond (is_one id id) (act_at triggers id event) (input here)) (input here)) (itself pos_cmp_total pos)
-          ∙ ap (λ (b : Bool). cond b (act_at triggers id event) (input here)) (eq-eqb id id refl)
+          ap (λ (b : Bool). cond b (cond (is_one id id) (act_by_id triggers id event) (input here)) (input here)) (itself pos_cmp_total pos)
+          ∙ ap (λ (b : Bool). cond b (act_by_id triggers id event) (input here)) (eq-eqb id id refl)
           ∙ attached_act triggers id hist attached event
 
-      elsewhere : (q : At) → (q ≡ here → ⊥) → (tie own : Bool) → eq_by_cmp pos_cmp q.pos pos ≡ tie → is_one id q.trigger ≡ own → input q ≡ cond tie (cond own (act_at triggers q.trigger event) (input q)) (input q)
+      elsewhere : (q : At) → (q ≡ here → ⊥) → (tie own : Bool) → eq_by_cmp pos_cmp q.pos pos ≡ tie → is_one id q.trigger ≡ own → input q ≡ cond tie (cond own (act_by_id triggers q.trigger event) (input q)) (input q)
       elsewhere q apart true true tie own = absurd (apart (λ i. record { pos = same_from_tie pos_same q.pos pos tie i; trigger = eqb-true q.trigger id own i }))
       elsewhere q apart true false tie other = refl
       elsewhere q apart false own untied its = refl

@@ -10,10 +10,10 @@ use Rattle.ft_fields.specs.Traced.{Traced, name_of}
 use Rattle.ft_fields.specs.declared.pos.Pos.{Pos}
 use Rattle.ft_hist.specs.Hist.{Hist}
 use Rattle.ft_hist.specs.Hit.{hit, key_of, passes_filter, same_name}
-use Rattle.ft_keys.specs.declared.key.Part.{Part}
+use Rattle.ft_fields.specs.declared.key.Part.{Part}
 use Rattle.ft_lanes.specs.Held.{Lanes, event_at}
 use Rattle.ft_kept.specs.Acts.{AreHeld, acts_of}
-use Rattle.ft_kept.specs.Views.{act_at}
+use Rattle.ft_kept.specs.Views.{act_by_id}
 use Rattle.ft_pairs.specs.declared.at.At.{At}
 use Rattle.ft_base.specs.Base.{Triggers}
 use Rattle.ft_replay.specs.Merged.{Events, merged, held_at}
@@ -72,7 +72,7 @@ acts_held triggers lanes events all at key event is =
 -- acts are alike, where the events are
 pub acts_alike : (triggers : Triggers) (events others : Events) (at : At) → map.get events at.pos ≡ map.get others at.pos → acts_of triggers events at ≡ acts_of triggers others at
 unfolding acts_of
-acts_alike triggers events others at same = ap (act_at triggers at.trigger) same
+acts_alike triggers events others at same = ap (act_by_id triggers at.trigger) same
 
 -- an event of another name is no hit
 pub no_hit : (hist : Hist) (event : Traced) → same_name hist.event (name_of event.body) ≡ false → hit hist event ≡ None

@@ -8,7 +8,7 @@ use Rattle.ft_fields.specs.Traced.{Traced}
 use Rattle.ft_fields.specs.declared.pos.Pos.{Pos}
 use Rattle.ft_hist.specs.Hist.{Hist}
 use Rattle.ft_hist.specs.Hit.{hit}
-use Rattle.ft_keys.specs.declared.key.Part.{Part}
+use Rattle.ft_fields.specs.declared.key.Part.{Part}
 use Rattle.ft_pairs.specs.Source.{Ops, IsSource}
 use Rattle.ft_pairs.specs.declared.at.At.{At}
 use Rattle.ft_pairs.specs.declared.at.Op.{Op}
@@ -125,7 +125,7 @@ module _ (triggers : Triggers) (events : Events) (admits : Admits) (kept : Kept)
 
     entry : (act : Option (List Part × Traced)) → acts_of triggers events at ≡ act → IsKeptOf (role_of triggers hist.variable) act
     entry act is = elim (right.entries at) [
-      | inl owed ↦ let never : ◌≡◌ {A = Bool} false true = owed.0 in cc
+      | inl stale ↦ let never : ◌≡◌ {A = Bool} false true = stale.0 in cc
       | inr e ↦ subst (λ (x : Role × Option (List Part × Traced)). IsKeptOf x.0 x.1) (λ i. (role_there triggers id hist attached i, is i)) e
     ]
 

@@ -8,8 +8,8 @@ use Rattle.ft_fields.specs.declared.pos.Pos.{Pos}
 use Rattle.ft_hist.specs.Fitting.{KeyFits}
 use Rattle.ft_hist.specs.Hist.{Hist}
 use Rattle.ft_hist.specs.Hit.{hit}
-use Rattle.ft_keys.specs.Ties.{key_same}
-use Rattle.ft_keys.specs.declared.key.Part.{Part}
+use Rattle.ft_fields.specs.Ties.{key_same}
+use Rattle.ft_fields.specs.declared.key.Part.{Part}
 use Rattle.ft_kept.specs.Shelves.{Shelved, Shelves, admits_on, is_saver, kept_on}
 use Rattle.ft_pairs.specs.declared.at.At.{At}
 use Rattle.ft_pairs.specs.declared.role.Role.{Role}
@@ -23,7 +23,7 @@ use Rattle.ft_table.specs.Tabled.{Tabled, is_in}
 use Rattle.ft_hits.specs.declared.mark.Mark.{Mark}
 use Rattle.ft_base.specs.Base.{Triggers}
 use Rattle.ft_replay.specs.Merged.{Events}
-use Rattle.ft_replay.specs.Hits.{TriggerHit, hit_at, hit_on, hits_of, table_for}
+use Rattle.ft_replay.specs.Hits.{TriggerHit, hit_at, hit_on, replayed_hits, table_for}
 use Rattle.ft_replay.specs.Found.{values_found, saving_found, pairs_in}
 use Rattle.ft_repair.specs.KeptShelves.{AreKept, HasItsShelf, IsShelfOf}
 use Rattle.ft_replay.specs.Operations.{is_admitted, ops_on}
@@ -102,7 +102,7 @@ module _ (rows : RowsGrow) (totals : TotalsGrow) (members : InGrows) (one : OneS
     hits-are = hits-replayed id hist shelf attached there (replayed-at id hist attached)
 
     -- a shelf's table is the one that replaying fills
-    pub table-of : shelf.table ≡ table_for hist (hits_of triggers events id)
+    pub table-of : shelf.table ≡ table_for hist (replayed_hits triggers events id)
     table-of = sym (table-is id hist shelf attached there) ∙ ap (table_for hist) (values-are triggers events id shelf.table.hits hits-are)
 
     -- its readings found there what is kept of them

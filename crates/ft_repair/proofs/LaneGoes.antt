@@ -22,7 +22,7 @@ use Rattle.ft_kept.specs.Shelves.{Shelves}
 use Rattle.ft_shelves.specs.declared.sign.Sign.TheVariants.{Retract}
 use Rattle.ft_shelves.proofs.Decided.{itself}
 use Rattle.ft_lanes.specs.Held.{Lane, Lanes, event_at}
-use Rattle.ft_lanes.specs.Walks.{shown}
+use Rattle.ft_lanes.specs.Walks.{traced_line}
 use Rattle.ft_maps.specs.Entries.{get-remove_same, strictly_sorted}
 use Rattle.ft_store.specs.Stored.{held}
 use Rattle.ft_store.specs.declared.stored.Stored.{Stored}
@@ -137,7 +137,7 @@ module _ (triggers : Triggers) (lanes : Lanes) (cpu : ℕ) where
         (lines_apart cpu (map.entries lane.events) (strictly_sorted nat_cmp (map.entries lane.events) (entries_sorted lane.events)))
 
   -- where the lane is of plain hits, so is its event
-  pub going_plain : (e : ℕ × Traced) (rest : List (ℕ × Traced)) {shelves : Shelves} → IsGoing (e ∷ rest) shelves → IsPlainLane triggers lanes cpu → memory.IsPlainHit triggers shelves e.1
+  pub going_plain : (e : ℕ × Traced) (rest : List (ℕ × Traced)) {shelves : Shelves} → IsGoing (e ∷ rest) shelves → IsPlainLane triggers lanes cpu → memory.AllActPlainly triggers shelves e.1
   going_plain e rest {shelves} is plain id hist attached key hits = plain_shelf triggers shelves is.kept.each id hist attached (plain e.0 e.1 is.changes.0.held.0 id hist attached key hits)
 
   -- at last they are all gone
@@ -145,8 +145,8 @@ module _ (triggers : Triggers) (lanes : Lanes) (cpu : ℕ) where
   going_none {shelves = shelves} none is = for_kept triggers lanes (merged others) shelves (changing_none (ap (placed cpu) none) is)
 
 -- the line that a walk comes to is the first of those that are left
-pub line_next : (lines rest : List (ℕ × Traced)) (next : Option (ℕ × Stored)) (x : ℕ × Stored) (event : Traced) → next ≡ Some x → TakesFirst shown lines next rest → event ≡ held x.1 → lines ≡ (x.0, event) ∷ rest
-line_next lines rest next x event is steps unpacked = rest_more shown lines rest next x is steps ∙ ap (λ (e : Traced). (x.0, e) ∷ rest) (sym unpacked)
+pub line_next : (lines rest : List (ℕ × Traced)) (next : Option (ℕ × Stored)) (x : ℕ × Stored) (event : Traced) → next ≡ Some x → TakesFirst traced_line lines next rest → event ≡ held x.1 → lines ≡ (x.0, event) ∷ rest
+line_next lines rest next x event is steps unpacked = rest_more traced_line lines rest next x is steps ∙ ap (λ (e : Traced). (x.0, e) ∷ rest) (sym unpacked)
 
 -- a lane that isn't held is gone
 pub no_lane : (lanes : Lanes) (cpu : ℕ) → map.get lanes cpu ≡ None → map.remove lanes cpu ≡ lanes

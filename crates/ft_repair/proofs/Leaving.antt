@@ -17,7 +17,7 @@ use Rattle.ft_base.specs.OneTrigger.{IsUnread}
 use Rattle.ft_base.specs.Roles.{is_reader, role_at}
 use Rattle.ft_replay.specs.Merged.{Events, merged}
 use Rattle.ft_repair.specs.KeptShelves.{AreKeptOf, HasItsShelf}
-use Rattle.ft_repair.specs.ButOneTrigger.{AreKeptBut}
+use Rattle.ft_repair.specs.ButOneTrigger.{AreKeptBut, OtherShelvesStay}
 use Rattle.ft_repair.specs.Outside.{AreKeptOutside, acts_outside}
 use Rattle.ft_repair.specs.inner.Joining.{is_one}
 use Rattle.ft_repair.specs.inner.KeptFor.{AreKeptFor}
@@ -85,3 +85,7 @@ module _ (base : Base) (id : ℕ) (unread : IsUnread base.triggers id) (old : Sh
       no_op_of (role_at base.triggers) (admits_on old) (acts_of base.triggers events) variable at
       (λ _ its. true≢false (sym same ∙ ap (is_one id) its ∙ out))
       (λ is. not_reads base.triggers hist.variable reads variable.saver (sym (role_there base.triggers id hist attached) ∙ sym (ap (role_at base.triggers) (eqb-true at.trigger id same)) ∙ is))))
+
+-- the shelves of all others stay
+pub others_left : (id : ℕ) (before after : Shelves) → after ≡ map.remove before id → OtherShelvesStay id before after
+others_left id before after is other apart = ap (λ (s : Shelves). map.get s other) is ∙ get-remove_other nat_cmp_total nat_cmp-IsAntisymmetric before id other apart

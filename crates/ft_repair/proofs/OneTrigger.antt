@@ -19,7 +19,7 @@ use Rattle.ft_fields.specs.declared.event.Name.{Name}
 use Rattle.ft_fields.specs.declared.pos.Pos.{Pos}
 use Rattle.ft_hist.specs.Hist.{Hist}
 use Rattle.ft_hist.specs.Hit.{same_name}
-use Rattle.ft_keys.specs.declared.key.Part.{Part}
+use Rattle.ft_fields.specs.declared.key.Part.{Part}
 use Rattle.ft_kept.proofs.Events.{has_at}
 use Rattle.ft_kept.specs.Acts.{Acts, AreHeld, acts_of}
 use Rattle.ft_kept.specs.Input.{input_of}
@@ -36,8 +36,8 @@ use Rattle.ft_replay.specs.Merged.{Events, merged}
 use Rattle.ft_replay.specs.Named.{is_on, is_named, events_on}
 use Rattle.ft_replay.proofs.Placing.{find-moved, get-on}
 use Rattle.ft_repair.specs.Outside.{acts_outside}
-use Rattle.ft_repair.specs.declared.trigger_joins.Joining.{Joining}
-use Rattle.ft_repair.specs.inner.Joining.{MayJoin, is_one, with_trigger}
+use Rattle.ft_repair.specs.declared.scene.Member.{Member}
+use Rattle.ft_repair.specs.inner.Joining.{CanJoinWith, is_one, with_trigger}
 use Rattle.ft_repair.specs.inner.KeptFor.{AreKeptFor}
 use Rattle.ft_repair.proofs.Alike.{never_any}
 use Rattle.ft_repair.proofs.Changing.{IsChanging, changing_all, none_left}
@@ -207,16 +207,18 @@ module _ (triggers : Triggers) (lanes : Lanes) (id : ℕ) (hist : Hist) (attache
 -- ---- a trigger that joins, and one that leaves
 
 -- some of its events have still to come
-abbrev pub Joins : Joining → Shelves → List (Pos × Traced) → Shelves → Type 0
-Joins joining old rest now =
-    IsChanging (triggers_of joining.scene) joining.scene.lanes.now (is_one joining.id) Insert (input_of joining.scene.lanes.now old)
-    (with_trigger (triggers_of joining.scene) joining.scene.lanes.now joining.id (input_of joining.scene.lanes.now old)) rest now
+abbrev pub Joins : Member → Shelves → List (Pos × Traced) → Shelves → Type 0
+Joins member old rest now =
+    IsChanging (triggers_of member.scene) member.scene.lanes.now (is_one member.id) Insert (input_of member.scene.lanes.now old)
+    (with_trigger (triggers_of member.scene) member.scene.lanes.now member.id (input_of member.scene.lanes.now old)) rest now
 
-pub joins_all : (joining : Joining) (es : List (Pos × Traced)) (shelves : Shelves) → MayJoin joining es shelves → Joins joining shelves es shelves
-joins_all joining es shelves may = subst (λ (list : List (Pos × Traced)). Joins joining shelves list shelves) (sym may.listed.all)
-    (joining_all (triggers_of joining.scene) joining.scene.lanes.now joining.id joining.trigger.now may.can.attached may.listed.names may.listed.own (map.entries (events_on may.listed.names (merged joining.scene.lanes.now))) (IsPermutation-refl _)
-    (input_of joining.scene.lanes.now shelves) shelves may.can.kept may.can.idle)
+pub joins_all : (member : Member) (es : List (Pos × Traced)) (shelves : Shelves) → CanJoinWith member es shelves → Joins member shelves es shelves
+joins_all member es shelves may = subst (λ (list : List (Pos × Traced)). Joins member shelves list shelves) (sym may.listed.all)
+    (joining_all (triggers_of member.scene) member.scene.lanes.now member.id member.trigger.now may.can.attached may.listed.names may.listed.own (map.entries (events_on may.listed.names (merged member.scene.lanes.now))) (IsPermutation-refl _)
+    (input_of member.scene.lanes.now shelves) shelves may.can.kept may.can.idle)
 
 -- some of its events have still to go
-abbrev pub Leaves : Triggers → Lanes → ℕ → List (Pos × Traced) → Shelves → Type 0
-Leaves triggers lanes id rest now = IsChanging triggers lanes (is_one id) Retract (acts_of triggers (merged lanes)) (acts_outside (is_one id) triggers lanes) rest now
+abbrev pub Leaves : Member → List (Pos × Traced) → Shelves → Type 0
+Leaves member rest now =
+    IsChanging (triggers_of member.scene) member.scene.lanes.now (is_one member.id) Retract (acts_of (triggers_of member.scene) (merged member.scene.lanes.now))
+    (acts_outside (is_one member.id) (triggers_of member.scene) member.scene.lanes.now) rest now

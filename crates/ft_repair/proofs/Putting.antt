@@ -15,7 +15,7 @@ use Rattle.ft_fields.specs.Traced.{Traced, name_of}
 use Rattle.ft_fields.specs.declared.pos.Pos.{Pos}
 use Rattle.ft_hist.specs.Hist.{Hist}
 use Rattle.ft_hist.specs.Hit.{same_name}
-use Rattle.ft_hist.specs.Tests.{asked}
+use Rattle.ft_hist.specs.Tests.{tests_taken}
 use Rattle.ft_lanes.specs.Held.{Lanes}
 use Rattle.ft_maps.specs.Entries.{same_from_tie, strictly_sorted}
 use Rattle.ft_pairs.specs.declared.at.At.{At}
@@ -225,7 +225,7 @@ pub named_count : (lanes : Lanes) (hist : Hist) → named_in lanes hist ≡ leng
 named_count lanes hist = len-entries (own_events lanes hist)
 
 -- one event, one test at most
-pub asked_once : (hist : Hist) (event : Traced) → asked hist event ≤ 1
+pub asked_once : (hist : Hist) (event : Traced) → tests_taken hist event ≤ 1
 asked_once hist event = elim (same_name hist.event (name_of event.body)) as (λ (b : Bool). (if b then 1 else 0) ≤ 1) [
   | true ↦ omega arith
   | false ↦ omega arith

@@ -12,8 +12,8 @@ use Rattle.ft_fields.specs.Traced.{Traced}
 use Rattle.ft_fields.specs.declared.pos.Pos.{Pos}
 use Rattle.ft_hist.specs.Hist.{Hist}
 use Rattle.ft_hist.specs.Hit.{hit}
-use Rattle.ft_keys.specs.Parts.{key_cmp}
-use Rattle.ft_keys.specs.declared.key.Part.{Part}
+use Rattle.ft_fields.specs.Parts.{key_cmp}
+use Rattle.ft_fields.specs.declared.key.Part.{Part}
 use Rattle.ft_kept.specs.Bounds.{with_hit_of, without_hit_of}
 use Rattle.ft_table.specs.Values.{values_at}
 use Rattle.ft_pairs.specs.declared.role.Role.TheVariants.{Saves}
@@ -26,13 +26,13 @@ use Rattle.ft_table.specs.Spots.{traced}
 use Rattle.ft_hits.specs.declared.mark.Mark.{Mark}
 use Rattle.ft_base.specs.Base.{Triggers}
 use Rattle.ft_replay.specs.Merged.{Events}
-use Rattle.ft_replay.specs.Hits.{hits_of, table_for}
+use Rattle.ft_replay.specs.Hits.{replayed_hits, table_for}
 use Rattle.ft_replay.specs.Found.{values_found}
 use Rattle.ft_base.specs.Roles.{role_of}
 use Rattle.ft_repair.proofs.ByRole.{no_event, no_key, by_role}
 use Rattle.ft_repair.proofs.Spots.{mark_at, same_traced, hits_traced}
 use Rattle.ft_replay.proofs.Spots.{traced-cmp}
-use Rattle.ft_replay.proofs.Listed.{get-hits_of, tied_then, values_under}
+use Rattle.ft_replay.proofs.Listed.{get-replayed_hits, tied_then, values_under}
 
 -- what was put in where nothing stood, and taken out again, changes nothing
 pub taken_again : {K X : Type 0} {R : K → K → Ordering} → IsTotalOrder R → IsAntisymmetric R → (m : FinMap R X) (k : K) (v : X) → map.get m k ≡ None → map.remove (map.insert m k v) k ≡ m
@@ -80,8 +80,8 @@ module _ (triggers : Triggers) (id : ℕ) (hist : Hist) (attached : map.get trig
     none_there p k tie = values_none events p k (ap (map.get events) (same_from_tie pos_same p pos tie) ∙ absent)
 
     -- an event that is no hit leaves a saver's hits as they were
-    no_hit : hit hist event ≡ None → hits_of triggers more id ≡ hits_of triggers events id
-    no_hit none = same_map mark_cmp_total mark_same _ _ (same_traced _ _ (hits_traced triggers more id) (hits_traced triggers events id) (λ p k. get-hits_of triggers more id (mark_at p k) ∙ from p k (eq_by_cmp pos_cmp p pos) refl ∙ sym (get-hits_of triggers events id (mark_at p k))))
+    no_hit : hit hist event ≡ None → replayed_hits triggers more id ≡ replayed_hits triggers events id
+    no_hit none = same_map mark_cmp_total mark_same _ _ (same_traced _ _ (hits_traced triggers more id) (hits_traced triggers events id) (λ p k. get-replayed_hits triggers more id (mark_at p k) ∙ from p k (eq_by_cmp pos_cmp p pos) refl ∙ sym (get-replayed_hits triggers events id (mark_at p k))))
       where
         from : (p : Pos) (k : List Part) (b : Bool) → eq_by_cmp pos_cmp p pos ≡ b → values_found triggers more id (mark_at p k) ≡ found_before p k
         from p k true tie = values_here more event p k (there p k tie) None none ∙ sym (none_there p k tie)
@@ -95,18 +95,18 @@ module _ (triggers : Triggers) (id : ℕ) (hist : Hist) (attached : map.get trig
       values = values_at hist pos event None
 
       -- an event that is one is one hit more
-      one_hit : hits_of triggers more id ≡ map.insert (hits_of triggers events id) mark values
+      one_hit : replayed_hits triggers more id ≡ map.insert (replayed_hits triggers events id) mark values
       one_hit = same_map mark_cmp_total mark_same _ _ (same_traced _ _ (hits_traced triggers more id) with_traced (λ p k.
-          get-hits_of triggers more id (mark_at p k) ∙ from p k (eq_by_cmp pos_cmp p pos) refl
-          ∙ sym (get-insert mark_cmp_total (hits_of triggers events id) mark values (mark_at p k)
-          ∙ (λ i. cond (tie_at p k i) (Some values) (get-hits_of triggers events id (mark_at p k) i)))))
+          get-replayed_hits triggers more id (mark_at p k) ∙ from p k (eq_by_cmp pos_cmp p pos) refl
+          ∙ sym (get-insert mark_cmp_total (replayed_hits triggers events id) mark values (mark_at p k)
+          ∙ (λ i. cond (tie_at p k i) (Some values) (get-replayed_hits triggers events id (mark_at p k) i)))))
         where
           tie_at : (p : Pos) (k : List Part) → eq_by_cmp mark_cmp (mark_at p k) mark ≡ cond (eq_by_cmp pos_cmp p pos) (same_key k key) false
           tie_at p k = ap (λ o. is_eq (ordering_then o (key_cmp k key))) (traced-cmp p pos) ∙ tied_then (pos_cmp p pos) (key_cmp k key)
 
-          with_traced : AreTraced (map.insert (hits_of triggers events id) mark values)
+          with_traced : AreTraced (map.insert (replayed_hits triggers events id) mark values)
           with_traced m made =
-              get-insert_other mark_cmp_total mark_same (hits_of triggers events id) mark values m (λ same. made (ap (λ (x : Mark). x.spot.maker) same))
+              get-insert_other mark_cmp_total mark_same (replayed_hits triggers events id) mark values m (λ same. made (ap (λ (x : Mark). x.spot.maker) same))
               ∙ hits_traced triggers events id m made
 
           same_values : (p : Pos) (k : List Part) → p ≡ pos → added_by event p k (Some key) ≡ cond (same_key k key) (Some values) None
@@ -118,24 +118,24 @@ module _ (triggers : Triggers) (id : ℕ) (hist : Hist) (attached : map.get trig
               ∙ sym (ap (cond (same_key k key) (Some values)) (none_there p k tie))
           from p k false apart = elsewhere p k apart
 
-      none_before : map.get (hits_of triggers events id) mark ≡ None
-      none_before = get-hits_of triggers events id mark ∙ values_none events pos key absent
+      none_before : map.get (replayed_hits triggers events id) mark ≡ None
+      none_before = get-replayed_hits triggers events id mark ∙ values_none events pos key absent
 
-      one_hit_less : hits_of triggers events id ≡ map.remove (hits_of triggers more id) mark
-      one_hit_less = sym (ap (λ hits. map.remove hits mark) one_hit ∙ taken_again mark_cmp_total mark_same (hits_of triggers events id) mark values none_before)
+      one_hit_less : replayed_hits triggers events id ≡ map.remove (replayed_hits triggers more id) mark
+      one_hit_less = sym (ap (λ hits. map.remove hits mark) one_hit ∙ taken_again mark_cmp_total mark_same (replayed_hits triggers events id) mark values none_before)
 
     -- as an event comes, a saver's table has its hit, if it is one
-    pub table-with : table_for hist (hits_of triggers more id) ≡ with_hit_of pos event hist (table_for hist (hits_of triggers events id))
-    table-with = elim (hit hist event) as (λ (o : Option (List Part)). hit hist event ≡ o → table_for hist (hits_of triggers more id)
-        ≡ option_map_or (λ key. with_hit (table_for hist (hits_of triggers events id)) (record { spot = traced pos; key = key }) (values_at hist pos event None)) o (table_for hist (hits_of triggers events id))) [
+    pub table-with : table_for hist (replayed_hits triggers more id) ≡ with_hit_of pos event hist (table_for hist (replayed_hits triggers events id))
+    table-with = elim (hit hist event) as (λ (o : Option (List Part)). hit hist event ≡ o → table_for hist (replayed_hits triggers more id)
+        ≡ option_map_or (λ key. with_hit (table_for hist (replayed_hits triggers events id)) (record { spot = traced pos; key = key }) (values_at hist pos event None)) o (table_for hist (replayed_hits triggers events id))) [
           | None ↦ λ none. ap (table_for hist) (no_hit none)
           | Some key ↦ λ is. ap (table_for hist) (one_hit key is)
         ] refl
 
     -- and as it goes, it hasn't
-    pub table-without : table_for hist (hits_of triggers events id) ≡ without_hit_of pos event hist (table_for hist (hits_of triggers more id))
-    table-without = elim (hit hist event) as (λ (o : Option (List Part)). hit hist event ≡ o → table_for hist (hits_of triggers events id)
-        ≡ option_map_or (λ key. without_hit (table_for hist (hits_of triggers more id)) (record { spot = traced pos; key = key })) o (table_for hist (hits_of triggers more id))) [
+    pub table-without : table_for hist (replayed_hits triggers events id) ≡ without_hit_of pos event hist (table_for hist (replayed_hits triggers more id))
+    table-without = elim (hit hist event) as (λ (o : Option (List Part)). hit hist event ≡ o → table_for hist (replayed_hits triggers events id)
+        ≡ option_map_or (λ key. without_hit (table_for hist (replayed_hits triggers more id)) (record { spot = traced pos; key = key })) o (table_for hist (replayed_hits triggers more id))) [
           | None ↦ λ none. sym (ap (table_for hist) (no_hit none))
           | Some key ↦ λ is. ap (table_for hist) (one_hit_less key is)
         ] refl

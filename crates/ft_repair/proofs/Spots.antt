@@ -4,15 +4,15 @@ use Rattle.std.specs.Prelude.{◌==◌, option_and_then}
 use Rattle.std.proofs.lemmas.Bool.{eqb-false}
 use Rattle.std.specs.FinMap as map
 use Rattle.ft_fields.specs.declared.pos.Pos.{Pos}
-use Rattle.ft_keys.specs.declared.key.Part.{Part}
+use Rattle.ft_fields.specs.declared.key.Part.{Part}
 use Rattle.ft_table.specs.Hits.{Hits, AreTraced}
 use Rattle.ft_table.specs.Spots.{IsMade, traced}
 use Rattle.ft_hits.specs.declared.mark.Mark.{Mark}
 use Rattle.ft_base.specs.Base.{Triggers}
 use Rattle.ft_replay.specs.Merged.{Events}
-use Rattle.ft_replay.specs.Hits.{hit_at, hits_of}
+use Rattle.ft_replay.specs.Hits.{hit_at, replayed_hits}
 use Rattle.ft_replay.specs.Found.{values_found}
-use Rattle.ft_replay.proofs.Listed.{get-hits_of, values_under}
+use Rattle.ft_replay.proofs.Listed.{get-replayed_hits, values_under}
 
 -- the mark of a hit of an event of the trace
 abbrev pub mark_at : Pos → List Part → Mark
@@ -40,5 +40,5 @@ module _ (triggers : Triggers) (events : Events) (id : ℕ) where
       from true e = absurd (made (eqb-true m.spot.maker 0 e))
       from false e = refl
 
-  pub hits_traced : AreTraced (hits_of triggers events id)
-  hits_traced m made = get-hits_of triggers events id m ∙ none_made m made
+  pub hits_traced : AreTraced (replayed_hits triggers events id)
+  hits_traced m made = get-replayed_hits triggers events id m ∙ none_made m made

@@ -11,7 +11,7 @@ use Rattle.ft_fields.specs.declared.pos.Pos.{Pos}
 use Rattle.ft_hist.specs.Hist.{Hist}
 use Rattle.ft_hist.specs.declared.label.Var.{Var}
 use Rattle.ft_hist.specs.declared.label.Var.TheVariants as vars
-use Rattle.ft_keys.specs.declared.key.Part.{Part}
+use Rattle.ft_fields.specs.declared.key.Part.{Part}
 use Rattle.ft_lanes.specs.Held.{Lanes}
 use Rattle.ft_pairs.specs.Roles.{Admits, op_as}
 use Rattle.ft_pairs.specs.Source.{Ops}
@@ -31,7 +31,7 @@ use Rattle.ft_base.specs.OneTrigger.{GetsFilter, reads_from}
 use Rattle.ft_base.specs.Roles.{is_reader, role_of, role_at, saver_of}
 use Rattle.ft_replay.specs.Merged.{Events, merged}
 use Rattle.ft_repair.specs.KeptShelves.{AreKept, AreKeptOf, HasItsShelf}
-use Rattle.ft_repair.specs.Staying.{IsReadAlike}
+use Rattle.ft_repair.specs.Staying.{IsReadAlike, ReadsAsBefore}
 use Rattle.ft_repair.proofs.Spots.{mark_at, same_traced}
 use Rattle.ft_repair.proofs.Alike.{acts_same, all_right, no_act_of, no_op_of, no_op_there, op_as_same, op_stays_there, rest_same, same_values}
 use Rattle.ft_repair.proofs.Families.{attached_as, not_reads, reads_from_is, reads_some, role_there}
@@ -197,11 +197,11 @@ module _ (one : OneSource) (triggers others : Triggers) (events : Events) (old n
       read_alike : (other : ℕ) → role_at triggers id ≡ Reads other → (key : List Part) → (kept_on new).ops (record { saver = other; key = key }) ≡ (kept_on old).ops (record { saver = other; key = key })
       read_alike other is = subst (λ (k : ℕ). (key : List Part) → (kept_on new).ops (record { saver = k; key = key }) ≡ (kept_on old).ops (record { saver = k; key = key })) (ap saver_in (sym reads ∙ is)) (λ key i at. ops_stay key at i)
 
-      pub reader_table : (shelf its : Shelved) → map.get old id ≡ Some shelf → map.get new id ≡ Some its → its.table ≡ shelf.table
-      reader_table = table_stays one triggers others events old new kept will id here.0 here.1 (reader_stays id reads ∙ here.1) (reads_now id reads ∙ sym reads) read_alike
-
-      pub reader_readings : (shelf its : Shelved) → map.get old id ≡ Some shelf → map.get new id ≡ Some its → its.readings ≡ shelf.readings
-      reader_readings = readings_stay one triggers others events old new kept will id here.0 here.1 (reader_stays id reads ∙ here.1) (reads_now id reads ∙ sym reads) read_alike
+      pub reader_shelf : ReadsAsBefore id old new
+      reader_shelf shelf its there is = (
+        table_stays one triggers others events old new kept will id here.0 here.1 (reader_stays id reads ∙ here.1) (reads_now id reads ∙ sym reads) read_alike shelf its there is,
+        readings_stay one triggers others events old new kept will id here.0 here.1 (reader_stays id reads ∙ here.1) (reads_now id reads ∙ sym reads) read_alike shelf its there is,
+      )
 
 -- ---- another filter
 
@@ -221,8 +221,5 @@ module _ (one : OneSource) (id : ℕ) (base changed : Base) (gets : GetsFilter i
   then : AreKept changed.triggers (merged base.lanes) new
   then = subst (λ (lanes : Lanes). AreKept changed.triggers (merged lanes) new) gets.lanes will
 
-  pub filter_stays : (shelf its : Shelved) → map.get old reader ≡ Some shelf → map.get new reader ≡ Some its → (its.table ≡ shelf.table) × (its.readings ≡ shelf.readings)
-  filter_stays shelf its there is = (
-    reader_table one base.triggers changed.triggers (merged base.lanes) old new kept then saver (filter_alike id base changed gets saver apart unread) reader reads shelf its there is,
-    reader_readings one base.triggers changed.triggers (merged base.lanes) old new kept then saver (filter_alike id base changed gets saver apart unread) reader reads shelf its there is,
-  )
+  pub filter_stays : ReadsAsBefore reader old new
+  filter_stays = reader_shelf one base.triggers changed.triggers (merged base.lanes) old new kept then saver (filter_alike id base changed gets saver apart unread) reader reads

@@ -27,6 +27,12 @@ pub record AreKept (triggers : Triggers) (events : Events) (shelves : Shelves) :
   pub each : (id : ℕ) → HasItsShelf triggers (map.get triggers id) (map.get shelves id)
   pub kept : IsKept (role_at triggers) (values_by triggers) (admits_on shelves) (acts_of triggers events) (kept_on shelves)
 
+-- what holds of each attached trigger's shelf, where the shelves are kept of triggers and events
+abbrev pub OnEachShelf : (Triggers → Events → ℕ → Hist → Shelved → Type 0) → Type 0
+OnEachShelf Holds =
+    (triggers : Triggers) (events : Events) (shelves : Shelves) → AreKept triggers events shelves → (id : ℕ) (hist : Hist) (shelf : Shelved)
+    → map.get triggers id ≡ Some hist → map.get shelves id ≡ Some shelf → Holds triggers events id hist shelf
+
 -- the shelves are kept of a base's triggers and of all its events
 abbrev pub AreKeptOf : Base → Shelves → Type 0
 AreKeptOf base shelves = AreKept base.triggers (merged base.lanes) shelves

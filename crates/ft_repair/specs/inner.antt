@@ -1,4 +1,3 @@
--- Words of private functions: new shelves, what is kept while triggers join or leave, and how a repair ends.
-pub mod Ended
+-- Words of private functions: new shelves, and what is kept while triggers join or leave.
 pub mod Joining
 pub mod KeptFor

@@ -4,7 +4,7 @@ ghost use Rattle.std.specs.Prelude.{◌≡◌, ℕ, List, false, Some};
 ghost use Rattle.std.specs.FinMap as map;
 ghost use Rattle.ft_hist.specs.Hist.{Hist};
 ghost use Rattle.ft_fields.specs.declared.pos.Pos.{Pos};
-ghost use Rattle.ft_keys.specs.declared.key.Part.{Part};
+ghost use Rattle.ft_fields.specs.declared.key.Part.{Part};
 ghost use Rattle.ft_kept.specs.Shelves.{Shelved, Shelves, kept_on};
 ghost use Rattle.ft_pairs.specs.declared.at.At.{At};
 ghost use Rattle.ft_pairs.specs.declared.role.Role.TheVariants.{Reads};
@@ -15,10 +15,10 @@ ghost use Rattle.ft_base.specs.OneTrigger.{GetsFilter};
 ghost use Rattle.ft_base.specs.Roles.{is_reader, role_at};
 ghost use Rattle.ft_replay.specs.Merged.{Events};
 ghost use Rattle.ft_replay.specs.Found.{pairs_in, saving_found};
-ghost use Rattle.ft_replay.specs.Hits.{hits_of, table_for};
+ghost use Rattle.ft_replay.specs.Hits.{replayed_hits, table_for};
 ghost use Rattle.ft_replay.specs.Operations.{ops_on};
-ghost use Rattle.ft_repair.specs.KeptShelves.{AreKept, AreKeptOf};
-ghost use Rattle.ft_repair.specs.Staying.{IsReadAlike};
+ghost use Rattle.ft_repair.specs.KeptShelves.{AreKept, AreKeptOf, OnEachShelf};
+ghost use Rattle.ft_repair.specs.Staying.{IsReadAlike, ReadsAsBefore};
 ghost use Rattle.ft_replay.specs.Replay.{replay};
 ghost use Rattle.ft_replay.specs.Tally.{tally_of};
 
@@ -28,23 +28,14 @@ ghost use Rattle.ft_replay.specs.Tally.{tally_of};
 /// its readings found there what is kept of them, and the operations that are kept on a variable are
 /// those of the whole replay.
 pub fn kept_shelves()
-    ensures tally { (triggers : Triggers) (events : Events) (shelves : Shelves)
-        → AreKept triggers events shelves → (id : ℕ) (hist : Hist) (shelf : Shelved)
-        → map.get triggers id ≡ Some hist → map.get shelves id ≡ Some shelf
-        → map.get (replay triggers events).tallies id
-        ≡ Some (tally_of shelf.table (pairs_in shelf.readings)) }
-    ensures fit { (triggers : Triggers) (events : Events) (shelves : Shelves)
-        → AreKept triggers events shelves → (id : ℕ) (hist : Hist) (shelf : Shelved)
-        → map.get triggers id ≡ Some hist → map.get shelves id ≡ Some shelf
-        → AllFit shelf.table hist }
-    ensures hits { (triggers : Triggers) (events : Events) (shelves : Shelves)
-        → AreKept triggers events shelves → (id : ℕ) (hist : Hist) (shelf : Shelved)
-        → map.get triggers id ≡ Some hist → map.get shelves id ≡ Some shelf
-        → shelf.table ≡ table_for hist (hits_of triggers events id) }
-    ensures readings { (triggers : Triggers) (events : Events) (shelves : Shelves)
-        → AreKept triggers events shelves → (id : ℕ) (hist : Hist) (shelf : Shelved)
-        → map.get triggers id ≡ Some hist → map.get shelves id ≡ Some shelf → (at : Pos)
-        → map.get shelf.readings at ≡ saving_found triggers events id at }
+    ensures tally { OnEachShelf (λ triggers events id hist shelf.
+        map.get (replay triggers events).tallies id
+        ≡ Some (tally_of shelf.table (pairs_in shelf.readings))) }
+    ensures fit { OnEachShelf (λ triggers events id hist shelf. AllFit shelf.table hist) }
+    ensures hits { OnEachShelf (λ triggers events id hist shelf.
+        shelf.table ≡ table_for hist (replayed_hits triggers events id)) }
+    ensures readings { OnEachShelf (λ triggers events id hist shelf. (at : Pos)
+        → map.get shelf.readings at ≡ saving_found triggers events id at) }
     ensures ops { (triggers : Triggers) (events : Events) (shelves : Shelves)
         → AreKept triggers events shelves → (variable : Variable) (at : At)
         → (kept_on shelves).ops variable at ≡ ops_on triggers events variable at }
@@ -77,22 +68,14 @@ pub fn readers_stay()
         → IsReadAlike triggers others saver → (key : List Part) (at : At)
         → (kept_on new).ops (record { saver = saver; key = key }) at
         ≡ (kept_on old).ops (record { saver = saver; key = key }) at }
-    ensures table { (triggers others : Triggers) (events : Events) (old new : Shelves)
+    ensures shelves { (triggers others : Triggers) (events : Events) (old new : Shelves)
         → AreKept triggers events old → AreKept others events new → (saver : ℕ)
         → IsReadAlike triggers others saver → (id : ℕ) → role_at triggers id ≡ Reads saver
-        → (shelf its : Shelved) → map.get old id ≡ Some shelf → map.get new id ≡ Some its
-        → its.table ≡ shelf.table }
-    ensures readings { (triggers others : Triggers) (events : Events) (old new : Shelves)
-        → AreKept triggers events old → AreKept others events new → (saver : ℕ)
-        → IsReadAlike triggers others saver → (id : ℕ) → role_at triggers id ≡ Reads saver
-        → (shelf its : Shelved) → map.get old id ≡ Some shelf → map.get new id ≡ Some its
-        → its.readings ≡ shelf.readings }
+        → ReadsAsBefore id old new }
     ensures filter { (id : ℕ) (base changed : Base) → GetsFilter id base changed
         → (old new : Shelves) → AreKeptOf base old → AreKeptOf changed new → (saver : ℕ)
         → (saver ≡ id → ⊥) → (role_at base.triggers id ≡ Reads saver → ⊥) → (reader : ℕ)
-        → role_at base.triggers reader ≡ Reads saver → (shelf its : Shelved)
-        → map.get old reader ≡ Some shelf → map.get new reader ≡ Some its
-        → (its.table ≡ shelf.table) × (its.readings ≡ shelf.readings) }
+        → role_at base.triggers reader ≡ Reads saver → ReadsAsBefore reader old new }
 {
     ft_pairs::laws::one_source();
 }

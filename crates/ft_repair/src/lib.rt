@@ -11,8 +11,10 @@
 //! let mut kept = Some(Tables::new(alloc));
 //! let id = content.attach(trigger)?;
 //! join(&mut kept, alloc, &content, id, work);
-//! let place = content.insert(event)?;
-//! let_change(&mut kept, &content, Sign::Insert, place, &mut Changes::unasked(), work);
+//! let Place { cpu, line } = content.insert(event)?;
+//! let pos = Pos { stamp: event.stamp, cpu, line };
+//! let delta = Delta { sign: Sign::Insert, pos, event: &event };
+//! let_change(&mut kept, &content, &delta, &mut Changes::unasked(), work);
 //! // The shelves are those of all triggers and events, unless memory ran out on the way.
 //! if kept.is_none() {
 //!     restore(&mut kept, alloc, &content, work);
@@ -21,16 +23,15 @@
 //!
 //! # Contracts
 //!
-//! Each call takes the shelves where there are some (`Option<Tables>`), leaves none where there are
-//! none, and gives them up where memory runs out. What is kept before and after is said of the base
+//! The shelves are an `Option<Tables>`. What is kept before and after is said of the base
 //! (`AreKeptOf`, `specs/KeptShelves.antt`, and its like).
 //!
-//! - `let_change`: the event of a line comes to shelves that are kept of all others, or goes from
-//!   those that are kept of all, by a sign; what that changes is told as `Tables::apply` of
-//!   `ft_kept` says it; what it costs is `ChangeCosts` (`specs/OneEvent.antt`). The shelves are
-//!   never given up as an event comes that no trigger hits, or as one goes that only triggers
-//!   without a variable hit; where only such triggers hit it, no reading is told. Lets through:
-//!   giving the shelves up at any other event.
+//! - `let_change`: an event, which the base holds at its place, comes to shelves that are kept of
+//!   all others, or goes from those that are kept of all, by a sign; what that changes is told as
+//!   `Tables::apply` of `ft_kept` says it; what it costs is `ChangeCosts` (`specs/OneEvent.antt`).
+//!   The shelves are never given up as an event comes that no trigger hits, or as one goes that
+//!   only triggers without a variable hit; where only such triggers hit it, no reading is told.
+//!   Lets through: giving the shelves up at any other event.
 //! - `let_lanes_come`, `cpus_before`: the events of all lanes except those of some CPUs come to the
 //!   shelves, with a test at most for each and each trigger on its name, and the readings that
 //!   change are told (`specs/ReadingsTold.antt`); which CPUs are held before a load, exact, where
@@ -70,21 +71,17 @@
 //! private `renew_shelves`.
 #![tactic(auto)]
 
-mod lane_goes;
-mod lanes_come;
+mod lanes;
 pub mod laws;
 mod rebuild;
-mod refilter;
 mod repair;
 mod scene;
 mod trigger_joins;
 mod trigger_leaves;
 
-pub use lane_goes::let_lane_go;
-pub use lanes_come::{cpus_before, let_lanes_come};
+pub use lanes::{cpus_before, let_lane_go, let_lanes_come};
 pub use laws::{kept_shelves, others_stay, readers_stay};
 pub use rebuild::{renew, restore};
-pub use refilter::make_way;
 pub use repair::let_change;
 pub use trigger_joins::join;
-pub use trigger_leaves::{leave, reads};
+pub use trigger_leaves::{leave, make_way, reads};

@@ -2,8 +2,6 @@
 
 ghost use Rattle.std.specs.Prelude.{◌≡◌, true, None, IfOk, IfSome};
 ghost use Rattle.std.specs.FinMap as map;
-ghost use Rattle.std.specs.Ordering.{nat_cmp};
-ghost use Rattle.ft_maps.specs.Seen.{seen};
 ghost use Rattle.ft_hist.specs.Steps.{StepsGrow};
 ghost use Rattle.ft_kept.specs.Views.{triggers_of};
 ghost use Rattle.ft_repair.specs.KeptShelves.{AreKeptOf, AreKept};
@@ -11,15 +9,12 @@ ghost use Rattle.ft_repair.specs.inner.Joining.{AreRenewed};
 ghost use Rattle.ft_replay.specs.Merged.{merged};
 ghost use Rattle.ft_base.specs.Reachable.{HasSavers};
 
-use crate::scene::scene_of;
-use crate::trigger_joins::{Joining, put_events};
+use crate::scene::{Member, scene_of};
 use ft_base::{Content, role_of};
-use ft_hist::{Trigger, Work};
+use ft_hist::{Triggers, Work};
 use ft_kept::{Scene, Tables};
-use ft_maps::entries;
 use ft_replay::merged_events;
 use std::alloc::{AllocError, Global};
-use std::collections::BTreeMap;
 
 /// What is kept of all attached triggers, from all held events. Refused for memory.
 fn rebuilt(alloc: Global, scene: &Scene<'_>, work: &mut Work) -> Result<Tables, AllocError>
@@ -29,23 +24,23 @@ fn rebuilt(alloc: Global, scene: &Scene<'_>, work: &mut Work) -> Result<Tables, 
 {
     let events = merged_events(alloc, scene.lanes, scene.triggers)?;
     let mut tables = new_tables(alloc, scene.triggers)?;
-    for (id, trigger) in entries(scene.triggers) {
-        let joining = Joining {
+    for (id, trigger) in scene.triggers.iter() {
+        let member = Member {
             scene: *scene,
             id: *id,
             trigger,
         };
-        put_events(&mut tables, alloc, &joining, &events, work)?;
+        member.put_events(&mut tables, alloc, &events, work)?;
     }
     Ok(tables)
 }
 
 /// A shelf without hits for each attached trigger. Refused for memory.
-fn new_tables(alloc: Global, triggers: &BTreeMap<u32, Trigger>) -> Result<Tables, AllocError>
-    ensures { IfOk result (AreRenewed (seen nat_cmp triggers.now) (λ _. true) map.empty) }
+fn new_tables(alloc: Global, triggers: &Triggers) -> Result<Tables, AllocError>
+    ensures { IfOk result (AreRenewed triggers.now (λ _. true) map.empty) }
 {
     let mut tables = Tables::new(alloc);
-    for (id, attached) in entries(triggers) {
+    for (id, attached) in triggers.iter() {
         let role = role_of(triggers, attached.variable());
         tables.add(*id, role, attached.size())?;
     }

@@ -5,6 +5,7 @@ ghost use Rattle.ft_base.specs.Reachable.{HasSavers};
 ghost use Rattle.ft_kept.specs.Views.{triggers_of};
 
 use ft_base::Content;
+use ft_hist::Trigger;
 use ft_kept::Scene;
 
 /// The attached triggers and the lanes of a base.
@@ -17,4 +18,12 @@ pub(crate) fn scene_of(content: &Content) -> Scene<'_>
         triggers: content.triggers(),
         lanes: content.lanes(),
     }
+}
+
+/// An attached trigger, and where its events and the other triggers are looked up.
+#[derive(Clone, Copy)]
+pub(crate) struct Member<'a> {
+    pub(crate) scene: Scene<'a>,
+    pub(crate) id: u32,
+    pub(crate) trigger: &'a Trigger,
 }

@@ -1,36 +1,28 @@
 //! Tables that a trigger joins, with those that read what it saves: the others' stay as they are.
 
-ghost use Rattle.std.specs.Prelude.{◌≡◌, ◌+◌, ◌≤◌, None, Some, IfSome, OnOk, length};
-ghost use Rattle.std.specs.Ordering.{nat_cmp};
+ghost use Rattle.std.specs.Prelude.{◌≡◌, ◌+◌, ◌≤◌, None, IfSome, OnOk, length};
 ghost use Rattle.ft_hist.specs.Steps.{StepsGrow};
-ghost use Rattle.ft_kept.specs.Acts.{acts_of};
-ghost use Rattle.ft_kept.specs.AtOnce.{IsBare};
 ghost use Rattle.ft_kept.specs.Views.{triggers_of};
 ghost use Rattle.ft_maps.specs.Mapped.{entries_by};
-ghost use Rattle.ft_maps.specs.Seen.{seen};
 ghost use Rattle.ft_store.specs.Stored.{held};
 ghost use Rattle.ft_base.specs.OneTrigger.{is_kin, is_in_family};
 ghost use Rattle.ft_base.specs.Reachable.{HasSavers};
 ghost use Rattle.ft_answers.specs.Costs.{named_in, family_tests};
 ghost use Rattle.ft_replay.specs.Merged.{merged};
 ghost use Rattle.ft_repair.specs.KeptShelves.{AreKept, AreKeptOf};
-ghost use Rattle.ft_repair.specs.Outside.{AreKeptOutside, acts_outside};
-ghost use Rattle.ft_repair.specs.inner.Joining.{AreRenewed, CanJoin, HasJoined, MayJoin};
-ghost use Rattle.ft_repair.specs.inner.KeptFor.{AreKeptFor};
+ghost use Rattle.ft_repair.specs.Outside.{AreKeptOutside};
+ghost use Rattle.ft_repair.specs.inner.Joining.{AreRenewed, CanJoin, HasItsActs, CanJoinWith};
 
-use crate::repair::put_back;
-use crate::scene::scene_of;
+use crate::scene::{Member, scene_of};
 use ft_base::{Content, role_of};
 use ft_fields::Pos;
 use ft_groups::grouped;
-use ft_hist::{Trigger, Work};
-use ft_kept::{Delta, Scene, Sign, Tables};
-use ft_maps::entries;
+use ft_hist::{Triggers, Work};
+use ft_kept::{Attached, Changes, Delta, Scene, Sign, Tables};
 use ft_pairs::Role;
 use ft_replay::{Names, events_with};
 use ft_store::Stored;
 use std::alloc::{AllocError, Global};
-use std::collections::BTreeMap;
 
 /// A trigger that is attached joins the tables, with those that read what it saves: each of them
 /// gets a new shelf, and the events on its name. Where memory runs out, the tables are given up.
@@ -46,13 +38,13 @@ pub fn join(kept: &mut Option<Tables>, alloc: Global, content: &Content, id: u32
     let Some(mut tables) = kept.take() else {
         return;
     };
-    let scene = scene_of(content);
-    let repaired = join_family(&mut tables, alloc, &scene, id, work);
-    put_back(kept, tables, repaired);
+    if let Ok(()) = join_family(&mut tables, alloc, &scene_of(content), id, work) {
+        *kept = Some(tables);
+    }
 }
 
-/// Gives a trigger and those that read what it saves new shelves, and their events. Refused for
-/// memory, and then the tables are of no use any more.
+/// Gives a trigger and those that read what it saves new shelves, and the events on their names, one
+/// trigger after the other. Refused for memory, and then the tables are of no use any more.
 fn join_family(
     tables: &mut Tables,
     alloc: Global,
@@ -70,7 +62,18 @@ fn join_family(
     ensures grow { StepsGrow work.old work.new }
 {
     renew_shelves(tables, scene.triggers, id)?;
-    put_family(tables, alloc, scene, id, work)
+    for (other, trigger) in scene.triggers.iter() {
+        let role = role_of(scene.triggers, trigger.variable());
+        if is_kin(id, *other, role) {
+            let member = Member {
+                scene: *scene,
+                id: *other,
+                trigger,
+            };
+            member.put_acts(tables, alloc, work)?;
+        }
+    }
+    Ok(())
 }
 
 /// Whether a trigger with a role is the one with the first id, or reads what that one saves.
@@ -85,15 +88,11 @@ fn is_kin(id: u32, other: u32, role: Role) -> bool
 
 /// Gives a trigger and those that read what it saves shelves without hits, in place of theirs.
 /// Refused for memory.
-fn renew_shelves(
-    tables: &mut Tables,
-    triggers: &BTreeMap<u32, Trigger>,
-    id: u32,
-) -> Result<(), AllocError>
-    ensures { OnOk result (AreRenewed (seen nat_cmp triggers.now)
-        (is_in_family (seen nat_cmp triggers.now) id) tables.old tables.new) }
+fn renew_shelves(tables: &mut Tables, triggers: &Triggers, id: u32) -> Result<(), AllocError>
+    ensures { OnOk result (AreRenewed triggers.now (is_in_family triggers.now id)
+        tables.old tables.new) }
 {
-    for (other, attached) in entries(triggers) {
+    for (other, attached) in triggers.iter() {
         let role = role_of(triggers, attached.variable());
         if is_kin(id, *other, role) {
             tables.add(*other, role, attached.size())?;
@@ -102,127 +101,55 @@ fn renew_shelves(
     Ok(())
 }
 
-/// The events on their names come to a trigger and to those that read what it saves, one after the
-/// other. Refused for memory, and then the tables are of no use any more.
-fn put_family(
-    tables: &mut Tables,
-    alloc: Global,
-    scene: &Scene<'_>,
-    id: u32,
-    work: &mut Work,
-) -> Result<(), AllocError>
-    requires { AreKeptFor (triggers_of scene.now) scene.now.lanes.now
-        (acts_outside (is_in_family (triggers_of scene.now) id) (triggers_of scene.now)
-        scene.now.lanes.now) tables.old }
-    ensures kept { OnOk result (AreKeptFor (triggers_of scene.now) scene.now.lanes.now
-        (acts_of (triggers_of scene.now) (merged scene.now.lanes.now)) tables.new) }
-    ensures evals { work.new.evals
-        ≤ work.old.evals + family_tests (triggers_of scene.now) scene.now.lanes.now id }
-    ensures grow { StepsGrow work.old work.new }
-{
-    for (other, trigger) in entries(scene.triggers) {
-        let role = role_of(scene.triggers, trigger.variable());
-        if is_kin(id, *other, role) {
-            let joining = Joining {
-                scene: *scene,
-                id: *other,
-                trigger,
-            };
-            put_acts(tables, alloc, &joining, work)?;
+impl<'a> Member<'a> {
+    /// The events on the trigger's name come to it, in merged order. Refused for memory, and then
+    /// the tables are of no use any more.
+    fn put_acts(
+        &self,
+        tables: &mut Tables,
+        alloc: Global,
+        work: &mut Work,
+    ) -> Result<(), AllocError>
+        requires { CanJoin self.now tables.old }
+        ensures joined { OnOk result (HasItsActs self.now tables.old tables.new) }
+        ensures evals { work.new.evals
+            ≤ work.old.evals + named_in self.now.scene.lanes.now self.now.trigger.now }
+        ensures grow { StepsGrow work.old work.new }
+    {
+        let names = Names::only(self.trigger.event());
+        let events = events_with(alloc, self.scene.lanes, names)?;
+        self.put_events(tables, alloc, &events, work)
+    }
+
+    /// The events of a list that the trigger counts come to it: at once where nothing is kept of it
+    /// yet, else one by one. Refused for memory, and then the tables are of no use any more.
+    pub(crate) fn put_events(
+        &self,
+        tables: &mut Tables,
+        alloc: Global,
+        events: &[(Pos, Stored<'_>)],
+        work: &mut Work,
+    ) -> Result<(), AllocError>
+        requires { CanJoinWith self.now (entries_by held events.now) tables.old }
+        ensures joined { OnOk result (HasItsActs self.now tables.old tables.new) }
+        ensures evals { work.new.evals ≤ work.old.evals + length events.now }
+        ensures grow { StepsGrow work.old work.new }
+    {
+        let Member { scene, id, trigger } = *self;
+        if tables.is_bare(id) {
+            let groups = grouped(alloc, trigger, events, work)?;
+            return tables.acts_come(scene.triggers, trigger, id, &groups, work);
         }
+        let attached = Attached { id, trigger };
+        for (pos, stored) in events {
+            let event = stored.event();
+            let delta = Delta {
+                sign: Sign::Insert,
+                pos: *pos,
+                event: &event,
+            };
+            tables.apply_to(&scene, &attached, &delta, &mut Changes::unasked(), work)?;
+        }
+        Ok(())
     }
-    Ok(())
-}
-
-/// A trigger that joins the tables, and where its events and the others are looked up.
-#[derive(Clone, Copy)]
-pub(crate) struct Joining<'a> {
-    pub(crate) scene: Scene<'a>,
-    pub(crate) id: u32,
-    pub(crate) trigger: &'a Trigger,
-}
-
-/// The events on a trigger's name come to it, in merged order. Refused for memory, and then the
-/// tables are of no use any more.
-fn put_acts(
-    tables: &mut Tables,
-    alloc: Global,
-    joining: &Joining<'_>,
-    work: &mut Work,
-) -> Result<(), AllocError>
-    requires { CanJoin joining.now tables.old }
-    ensures joined { OnOk result (HasJoined joining.now tables.old tables.new) }
-    ensures evals { work.new.evals
-        ≤ work.old.evals + named_in joining.now.scene.lanes.now joining.now.trigger.now }
-    ensures grow { StepsGrow work.old work.new }
-{
-    let names = Names::only(joining.trigger.event());
-    let events = events_with(alloc, joining.scene.lanes, names)?;
-    put_events(tables, alloc, joining, &events, work)
-}
-
-/// The events of a list that a trigger counts come to it: at once where nothing is kept of it yet,
-/// else one by one. Refused for memory, and then the tables are of no use any more.
-pub(crate) fn put_events(
-    tables: &mut Tables,
-    alloc: Global,
-    joining: &Joining<'_>,
-    events: &[(Pos, Stored<'_>)],
-    work: &mut Work,
-) -> Result<(), AllocError>
-    requires { MayJoin joining.now (entries_by held events.now) tables.old }
-    ensures joined { OnOk result (HasJoined joining.now tables.old tables.new) }
-    ensures evals { work.new.evals ≤ work.old.evals + length events.now }
-    ensures grow { StepsGrow work.old work.new }
-{
-    if tables.is_bare(joining.id) {
-        put_at_once(tables, alloc, joining, events, work)
-    } else {
-        put_one_by_one(tables, joining, events, work)
-    }
-}
-
-/// The events of a list that a trigger counts come to it at once, where nothing is kept of it yet.
-/// Refused for memory, and then the tables are of no use any more.
-fn put_at_once(
-    tables: &mut Tables,
-    alloc: Global,
-    joining: &Joining<'_>,
-    events: &[(Pos, Stored<'_>)],
-    work: &mut Work,
-) -> Result<(), AllocError>
-    requires bare { IsBare joining.now.id tables.old }
-    requires may { MayJoin joining.now (entries_by held events.now) tables.old }
-    ensures joined { OnOk result (HasJoined joining.now tables.old tables.new) }
-    ensures evals { work.new.evals ≤ work.old.evals + length events.now }
-    ensures grow { StepsGrow work.old work.new }
-{
-    let groups = grouped(alloc, joining.trigger, events, work)?;
-    let triggers = joining.scene.triggers;
-    tables.acts_come(triggers, joining.trigger, joining.id, &groups, work)
-}
-
-/// The events of a list that a trigger counts come to it, one after the other. Refused for memory,
-/// and then the tables are of no use any more.
-fn put_one_by_one(
-    tables: &mut Tables,
-    joining: &Joining<'_>,
-    events: &[(Pos, Stored<'_>)],
-    work: &mut Work,
-) -> Result<(), AllocError>
-    requires { MayJoin joining.now (entries_by held events.now) tables.old }
-    ensures joined { OnOk result (HasJoined joining.now tables.old tables.new) }
-    ensures evals { work.new.evals ≤ work.old.evals + length events.now }
-    ensures grow { StepsGrow work.old work.new }
-{
-    for (pos, stored) in events {
-        let event = stored.event();
-        let delta = Delta {
-            sign: Sign::Insert,
-            pos: *pos,
-            event: &event,
-        };
-        tables.apply_to(&joining.scene, joining.id, joining.trigger, &delta, work)?;
-    }
-    Ok(())
 }

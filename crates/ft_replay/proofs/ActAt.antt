@@ -10,7 +10,7 @@ use Rattle.std.specs.FinMap.{find, get-entries, nat_cmp-IsAntisymmetric}
 use Rattle.ft_fields.specs.Traced.{Traced}
 use Rattle.ft_fields.specs.declared.pos.Pos.{Pos}
 use Rattle.ft_fields.specs.Places.{pos_cmp, pos_cmp_total, pos_same}
-use Rattle.ft_keys.specs.declared.key.Part.{Part}
+use Rattle.ft_fields.specs.declared.key.Part.{Part}
 use Rattle.ft_hist.specs.Hist.{Hist}
 use Rattle.ft_hist.specs.Hit.{hit}
 use Rattle.ft_maps.specs.Entries.{same_from_tie}

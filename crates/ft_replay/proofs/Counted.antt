@@ -1,6 +1,6 @@
 -- A trigger's hits one by one, as the replay counts them.
 use Rattle.std.specs.Prelude.{ℕ, ℤ, List, fold, unwrap_or, Option}
-use Rattle.ft_keys.specs.declared.key.Part.{Part}
+use Rattle.ft_fields.specs.declared.key.Part.{Part}
 use Rattle.ft_table.specs.Counted.{Counted}
 use Rattle.ft_table.specs.Growth.{grown, empty_row}
 use Rattle.ft_replay.specs.Hits.{TriggerHit}

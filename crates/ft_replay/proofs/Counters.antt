@@ -15,7 +15,7 @@ use Rattle.ft_fields.specs.Places.{pos_cmp, pos_cmp_total}
 use Rattle.ft_fields.specs.declared.pos.Pos.{Pos}
 use Rattle.ft_hist.specs.Hist.{Hist}
 use Rattle.ft_hist.specs.Hit.{hit}
-use Rattle.ft_keys.specs.declared.key.Part.{Part}
+use Rattle.ft_fields.specs.declared.key.Part.{Part}
 use Rattle.ft_maps.specs.Entries.{strictly_sorted, insert_same}
 use Rattle.ft_maps.specs.Mapped.{map_by, map_by-insert, map_by-empty, get-map_by}
 use Rattle.ft_pairs.specs.declared.at.At.{At}

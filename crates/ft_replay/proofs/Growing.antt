@@ -6,21 +6,21 @@ use Rattle.std.specs.Cmp.{eq_by_cmp_equiv}
 use Rattle.std.specs.FinMap as map
 use Rattle.std.specs.FinMap.{find, get-empty, get-from_entries, get-insert, len-insert, len-empty, same_map}
 use Rattle.ft_fields.specs.declared.pos.Pos.{Pos}
-use Rattle.ft_keys.specs.declared.key.Part.{Part}
-use Rattle.ft_keys.specs.Parts.{key_cmp}
-use Rattle.ft_keys.specs.Orders.{key_cmp_total}
-use Rattle.ft_keys.specs.Ties.{key_same}
+use Rattle.ft_fields.specs.declared.key.Part.{Part}
+use Rattle.ft_fields.specs.Parts.{key_cmp}
+use Rattle.ft_fields.specs.Orders.{key_cmp_total}
+use Rattle.ft_fields.specs.Ties.{key_same}
 use Rattle.ft_maps.specs.Entries.{same_from_tie, entries-empty}
 use Rattle.ft_hits.specs.declared.mark.Mark.{Mark}
-use Rattle.ft_rows.specs.declared.row.Totals.{Totals}
+use Rattle.ft_table.specs.declared.row.Totals.{Totals}
 use Rattle.ft_table.specs.Counted.{Counted}
 use Rattle.ft_table.specs.Growth.{ComesLast, with_hit, has_room, is_counted, empty_row, grown, InGrows, RowsGrow, TotalsGrow}
 use Rattle.ft_table.specs.Hits.{Hits, same_key, hitcount}
 use Rattle.ft_table.specs.Marks.{mark_cmp, mark_cmp_total, mark_same}
-use Rattle.ft_table.specs.Rows.{row_of, row_at, totals_of}
+use Rattle.ft_table.specs.Rows.{counted_row, row_at, totals_of}
 use Rattle.ft_table.specs.Tabled.{Tabled, is_first, first_hits, order_of, keys_in, is_in}
 use Rattle.ft_replay.specs.declared.pair.Pair.{Pair}
-use Rattle.ft_replay.specs.Tally.{Counts, Tally, empty_tally, has_place, count, with_pair, tally_of}
+use Rattle.ft_replay.specs.Tally.{RowsByKey, Tally, empty_tally, has_place, count, with_pair, tally_of}
 use Rattle.ft_table.proofs.Distinct.{keys_distinct}
 use Rattle.ft_table.proofs.Firsts.{get-first_hits}
 pub use Rattle.ft_replay.specs.inner.Replaying.{pairs_with}
@@ -30,21 +30,21 @@ use Rattle.ft_replay.proofs.Counted.{grow}
 
 -- each key with its row
 abbrev pub rowed : Hits → List (List Part) → List (List Part × Counted)
-rowed hits keys = list_map (λ key. (key, row_of hits key)) keys
+rowed hits keys = list_map (λ key. (key, counted_row hits key)) keys
 
 -- the rows of some keys
-abbrev pub rows_by : Hits → List (List Part) → Counts
+abbrev pub rows_by : Hits → List (List Part) → RowsByKey
 rows_by hits keys = map.from_entries (rowed hits keys)
 
-find-rowed : (hits : Hits) (q : List Part) (keys : List (List Part)) → find key_cmp q (rowed hits keys) ≡ cond (list_any (same_key q) keys) (Some (row_of hits q)) None
+find-rowed : (hits : Hits) (q : List Part) (keys : List (List Part)) → find key_cmp q (rowed hits keys) ≡ cond (list_any (same_key q) keys) (Some (counted_row hits q)) None
 find-rowed hits q [] = refl
 find-rowed hits q (key ∷ keys) = from (same_key q key) refl (find-rowed hits q keys)
   where
-    from : (b : Bool) → same_key q key ≡ b → find key_cmp q (rowed hits keys) ≡ cond (list_any (same_key q) keys) (Some (row_of hits q)) None → cond b (Some (row_of hits key)) (find key_cmp q (rowed hits keys)) ≡ cond (b || list_any (same_key q) keys) (Some (row_of hits q)) None
-    from true tie rest = ap (λ k. Some (row_of hits k)) (sym (same_from_tie key_same q key tie))
+    from : (b : Bool) → same_key q key ≡ b → find key_cmp q (rowed hits keys) ≡ cond (list_any (same_key q) keys) (Some (counted_row hits q)) None → cond b (Some (counted_row hits key)) (find key_cmp q (rowed hits keys)) ≡ cond (b || list_any (same_key q) keys) (Some (counted_row hits q)) None
+    from true tie rest = ap (λ k. Some (counted_row hits k)) (sym (same_from_tie key_same q key tie))
     from false apart rest = rest
 
-pub get-rows_by : (hits : Hits) (keys : List (List Part)) (q : List Part) → map.get (rows_by hits keys) q ≡ cond (list_any (same_key q) keys) (Some (row_of hits q)) None
+pub get-rows_by : (hits : Hits) (keys : List (List Part)) (q : List Part) → map.get (rows_by hits keys) q ≡ cond (list_any (same_key q) keys) (Some (counted_row hits q)) None
 get-rows_by hits keys q = get-from_entries key_cmp_total (rowed hits keys) q ∙ find-rowed hits q keys
 
 some_where : {X : Type 0} (b : Bool) (x : X) → is_some (cond b (Some x) None) ≡ b
@@ -57,13 +57,13 @@ none_any q (key ∷ keys) h = (λ i. h.0 i || none_any q keys h.1 i)
 
 -- a key apart from these has no row among theirs
 pub no_row : (hits : Hits) (q : List Part) (keys : List (List Part)) → AllByRecursion (λ key. same_key q key ≡ false) keys → map.get (rows_by hits keys) q ≡ None
-no_row hits q keys h = get-rows_by hits keys q ∙ ap (λ b. cond b (Some (row_of hits q)) None) (none_any q keys h)
+no_row hits q keys h = get-rows_by hits keys q ∙ ap (λ b. cond b (Some (counted_row hits q)) None) (none_any q keys h)
 
 len-rows_by : (hits : Hits) (keys : List (List Part)) → IsDistinct same_key keys → map.len (rows_by hits keys) ≡ length keys
 unfolding IsDistinct
 len-rows_by hits [] apart = len-empty key_cmp Counted
 len-rows_by hits (key ∷ keys) apart =
-    len-insert key_cmp_total (rows_by hits keys) key (row_of hits key)
+    len-insert key_cmp_total (rows_by hits keys) key (counted_row hits key)
     ∙ ap (λ (o : Option Counted). cond (is_some o) (map.len (rows_by hits keys)) (map.len (rows_by hits keys) + 1)) (no_row hits key keys apart.0)
     ∙ ap (λ n. n + 1) (len-rows_by hits keys apart.1) ∙ omega arith
 
@@ -77,7 +77,7 @@ module _ (table : Tabled) (pairs : List Pair) where
 
   -- the tally has a row just for the keys in the table
   pub contains-tally : (key : List Part) → map.contains_key (tally_of table pairs).table key ≡ is_in table key
-  contains-tally key = ap is_some (get-tally key) ∙ some_where (is_in table key) (row_of table.hits key)
+  contains-tally key = ap is_some (get-tally key) ∙ some_where (is_in table key) (counted_row table.hits key)
 
   -- as many rows as the table has keys
   pub len-tally : map.len (tally_of table pairs).table ≡ length (keys_in table)

@@ -20,10 +20,10 @@ use Rattle.ft_hits.specs.declared.spot.Spot.{Spot}
 use Rattle.ft_table.specs.Spots.{traced, spot_cmp, spot_same}
 use Rattle.ft_base.specs.Base.{Triggers}
 use Rattle.ft_replay.specs.Merged.{Events}
-use Rattle.ft_replay.specs.Hits.{TriggerHit, trigger_hits, hits_of, pair_of, pairs_of}
+use Rattle.ft_replay.specs.Hits.{TriggerHit, trigger_hits, replayed_hits, pair_of, pairs_of}
 use Rattle.ft_replay.specs.Found.{values_found, saving_found, pairs_in}
 use Rattle.ft_replay.proofs.Spots.{IsTraced, traced-before, traced-tie}
-use Rattle.ft_replay.proofs.Listed.{Ascend, AreBehind, AreTraced, spot_of, hit_in, none_in, trigger_hits_ascend, trigger_hits_traced, hit_in-trigger_hits, get-hits_of}
+use Rattle.ft_replay.proofs.Listed.{Ascend, AreBehind, AreTraced, spot_of, hit_in, none_in, trigger_hits_ascend, trigger_hits_traced, hit_in-trigger_hits, get-replayed_hits}
 
 -- the place of a hit with that of the saving that it read, if it read
 abbrev reading : TriggerHit → Option (Pos × Pos)
@@ -87,8 +87,8 @@ pairs-readings (found ∷ hits) = from found.saved (pairs-readings hits)
 
 module _ (triggers : Triggers) (events : Events) (id : ℕ) where
   -- a map that holds what each hit adds is the map of the trigger's hits
-  pub values-are : (values : Hits) → ((m : Mark) → map.get values m ≡ values_found triggers events id m) → values ≡ hits_of triggers events id
-  values-are values is = same_map mark_cmp_total mark_same _ _ (λ m. is m ∙ sym (get-hits_of triggers events id m))
+  pub values-are : (values : Hits) → ((m : Mark) → map.get values m ≡ values_found triggers events id m) → values ≡ replayed_hits triggers events id
+  values-are values is = same_map mark_cmp_total mark_same _ _ (λ m. is m ∙ sym (get-replayed_hits triggers events id m))
 
   -- the readings of a trigger's hits, by place
   abbrev readings : FinMap pos_cmp Pos

@@ -12,10 +12,10 @@ use Rattle.std.proofs.lemmas.Map.Keys.{sorted_head, sorted_tail}
 use Rattle.ft_fields.specs.Traced.{Traced}
 use Rattle.ft_fields.specs.declared.pos.Pos.{Pos}
 use Rattle.ft_fields.specs.Places.{pos_cmp}
-use Rattle.ft_keys.specs.declared.key.Part.{Part}
+use Rattle.ft_fields.specs.declared.key.Part.{Part}
 use Rattle.ft_hist.specs.Hist.{Hist}
 use Rattle.ft_hist.specs.Hit.{hit}
-use Rattle.ft_keys.specs.Parts.{key_cmp}
+use Rattle.ft_fields.specs.Parts.{key_cmp}
 use Rattle.ft_maps.specs.Entries.{strictly_sorted, same_from_tie}
 use Rattle.ft_hits.specs.declared.mark.Mark.{Mark}
 use Rattle.ft_hits.specs.declared.spot.Spot.{Spot}
@@ -24,7 +24,7 @@ use Rattle.ft_table.specs.Marks.{mark_cmp, mark_cmp_total}
 use Rattle.ft_table.specs.Spots.{traced, spot_cmp, spot_same}
 use Rattle.ft_base.specs.Base.{Triggers}
 use Rattle.ft_replay.specs.Merged.{Events}
-use Rattle.ft_replay.specs.Hits.{TriggerHit, found_at, hit_at, hit_on, trigger_hits, entry_of, hits_of, read_as}
+use Rattle.ft_replay.specs.Hits.{TriggerHit, found_at, hit_at, hit_on, trigger_hits, entry_of, replayed_hits, read_as}
 use Rattle.ft_replay.specs.Found.{values_found}
 use Rattle.ft_table.specs.Values.{values_at}
 use Rattle.ft_base.specs.Roles.{role_of}
@@ -227,8 +227,8 @@ module _ (triggers : Triggers) (events : Events) (id : ℕ) where
       from false e = cond_same among None
 
   -- the map of a trigger's hits holds what each of them adds
-  pub get-hits_of : (m : Mark) → map.get (hits_of triggers events id) m ≡ values_found triggers events id m
-  unfolding hits_of values_found
-  get-hits_of m =
+  pub get-replayed_hits : (m : Mark) → map.get (replayed_hits triggers events id) m ≡ values_found triggers events id m
+  unfolding replayed_hits values_found
+  get-replayed_hits m =
       get-from_entries mark_cmp_total (list_map entry_of (trigger_hits triggers events id)) m
       ∙ find-entries m (trigger_hits triggers events id) trigger_hits_ascend ∙ ap (values_under m.key) (hit_in-trigger_hits m.spot)

@@ -12,16 +12,16 @@ use Rattle.ft_fields.specs.declared.pos.Pos.{Pos}
 use Rattle.ft_maps.specs.Mapped.{entries_by}
 use Rattle.ft_store.specs.Stored.{held}
 use Rattle.ft_store.specs.declared.stored.Stored.{Stored}
-use Rattle.ft_replay.specs.inner.Rests.{entry_of, left_in, IsTaken}
+use Rattle.ft_replay.specs.inner.Rests.{traced_entry, entries_left, IsTaken}
 
 -- the first event of one rest is taken out of all that is left
 pub taken_at : (rests : List (List (Pos × Traced))) (i : ℕ) (e : Pos × Traced) (rest d : List (Pos × Traced))
-    → i < length rests → get_or rests i d ≡ e ∷ rest → IsTaken (left_in rests) e (left_in (set rests i rest))
+    → i < length rests → get_or rests i d ≡ e ∷ rest → IsTaken (entries_left rests) e (entries_left (set rests i rest))
 taken_at [] i e rest d inside is = absurd (omega arith)
 taken_at (first ∷ rests) zero e rest d inside is = record {
   before = [];
-  behind = rest ++ left_in rests;
-  was = ap (λ (es : List (Pos × Traced)). es ++ left_in rests) is;
+  behind = rest ++ entries_left rests;
+  was = ap (λ (es : List (Pos × Traced)). es ++ entries_left rests) is;
   is = refl;
 }
 taken_at (first ∷ rests) (suc i) e rest d inside is =
@@ -34,11 +34,11 @@ taken_at (first ∷ rests) (suc i) e rest d inside is =
 
 -- and with it what `next` gives
 pub next_taken : (rests : List (List (Pos × Traced))) (i : ℕ) (d old new : List (Pos × Traced)) (r : Option (Pos × Stored))
-    → i < length rests → get_or rests i d ≡ old → TakesFirst entry_of old r new
-    → MatchOption r (left_in (set rests i new) ≡ left_in rests) (λ e. IsTaken (left_in rests) (entry_of e) (left_in (set rests i new)))
+    → i < length rests → get_or rests i d ≡ old → TakesFirst traced_entry old r new
+    → MatchOption r (entries_left (set rests i new) ≡ entries_left rests) (λ e. IsTaken (entries_left rests) (traced_entry e) (entries_left (set rests i new)))
 next_taken rests i d old new None inside is step =
-    ap (λ (rest : List (Pos × Traced)). left_in (set rests i rest)) (step.1 ∙ sym (is ∙ step.0)) ∙ ap left_in (set-get_or rests i d)
-next_taken rests i d old new (Some e) inside is step = taken_at rests i (entry_of e) new d inside (is ∙ step)
+    ap (λ (rest : List (Pos × Traced)). entries_left (set rests i rest)) (step.1 ∙ sym (is ∙ step.0)) ∙ ap entries_left (set-get_or rests i d)
+next_taken rests i d old new (Some e) inside is step = taken_at rests i (traced_entry e) new d inside (is ∙ step)
 
 module _ (fits : Pos × Traced → Bool) where
   to_front : (b : Bool) (e : Pos × Traced) (before behind : List (Pos × Traced))
@@ -68,5 +68,5 @@ pub put_in : {X : Type 0} (xs : List X) (i : ℕ) (x : X) → IsPermutation (xs 
 put_in xs i x = IsPermutation-trans _ _ _ (IsPermutation-to_front xs x) (IsPermutation-insert xs i x)
 
 -- references with one more after them, as entries
-pub pushed_entry : (old new : List (Pos × Stored)) (e : Pos × Stored) → IsPermutation (old ++ e ∷ []) new → IsPermutation (entries_by held old ++ entry_of e ∷ []) (entries_by held new)
-pushed_entry old new e moved = subst (λ (es : List (Pos × Traced)). IsPermutation es (entries_by held new)) (map-append entry_of old (e ∷ [])) (IsPermutation-map entry_of (old ++ e ∷ []) new moved)
+pub pushed_entry : (old new : List (Pos × Stored)) (e : Pos × Stored) → IsPermutation (old ++ e ∷ []) new → IsPermutation (entries_by held old ++ traced_entry e ∷ []) (entries_by held new)
+pushed_entry old new e moved = subst (λ (es : List (Pos × Traced)). IsPermutation es (entries_by held new)) (map-append traced_entry old (e ∷ [])) (IsPermutation-map traced_entry (old ++ e ∷ []) new moved)

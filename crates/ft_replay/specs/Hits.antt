@@ -5,7 +5,7 @@ use Rattle.std.specs.Ordering.{is_lt}
 use Rattle.std.specs.FinMap as map
 use Rattle.ft_fields.specs.declared.pos.Pos.{Pos}
 use Rattle.ft_fields.specs.Places.{pos_cmp}
-use Rattle.ft_keys.specs.declared.key.Part.{Part}
+use Rattle.ft_fields.specs.declared.key.Part.{Part}
 use Rattle.ft_hist.specs.Hist.{Hist}
 use Rattle.ft_hist.specs.Hit.{hit}
 use Rattle.ft_pairs.specs.declared.at.At.{At}
@@ -69,8 +69,8 @@ abbrev pub entry_of : TriggerHit → Mark × List ℤ
 entry_of found = (record { spot = found.spot; key = found.key }, found.values)
 
 -- the map of hits that the table of a trigger is made of
-unfoldable pub hits_of : Triggers → Events → ℕ → Hits
-hits_of triggers events id = map.from_entries (list_map entry_of (trigger_hits triggers events id))
+unfoldable pub replayed_hits : Triggers → Events → ℕ → Hits
+replayed_hits triggers events id = map.from_entries (list_map entry_of (trigger_hits triggers events id))
 
 -- a trigger's table with these hits (kernel: histogram.rst, `size`)
 abbrev pub table_for : Hist → Hits → Tabled

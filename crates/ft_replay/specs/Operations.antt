@@ -2,7 +2,7 @@
 use Rattle.std.specs.Prelude.{ℕ, Bool, false, List, option_and_then}
 use Rattle.std.specs.Option.{option_map_or}
 use Rattle.std.specs.FinMap as map
-use Rattle.ft_keys.specs.declared.key.Part.{Part}
+use Rattle.ft_fields.specs.declared.key.Part.{Part}
 use Rattle.ft_hist.specs.Hit.{hit}
 use Rattle.ft_pairs.specs.Source.{Ops}
 use Rattle.ft_pairs.specs.declared.role.Variable.{Variable}

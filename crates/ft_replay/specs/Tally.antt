@@ -5,22 +5,22 @@ use Rattle.std.specs.FinMap as map
 use Rattle.std.specs.FinMap.{FinMap}
 use Rattle.ft_fields.specs.declared.pos.Pos.{Pos}
 use Rattle.ft_hist.specs.declared.item.SortItem.{SortItem}
-use Rattle.ft_keys.specs.declared.key.Part.{Part}
-use Rattle.ft_keys.specs.Parts.{key_cmp}
+use Rattle.ft_fields.specs.declared.key.Part.{Part}
+use Rattle.ft_fields.specs.Parts.{key_cmp}
 use Rattle.ft_table.specs.Counted.{Counted}
-use Rattle.ft_rows.specs.declared.row.Totals.{Totals}
-use Rattle.ft_table.specs.Rows.{row_of, totals_of}
+use Rattle.ft_table.specs.declared.row.Totals.{Totals}
+use Rattle.ft_table.specs.Rows.{counted_row, totals_of}
 use Rattle.ft_table.specs.Sorting.{in_order}
 use Rattle.ft_table.specs.Tabled.{Tabled, keys_in}
 use Rattle.ft_replay.specs.declared.pair.Pair.{Pair}
 
 -- a table: rows by key (kernel: histogram.rst, the `hist` file)
-abbrev pub Counts : Type 0
-Counts = FinMap key_cmp Counted
+abbrev pub RowsByKey : Type 0
+RowsByKey = FinMap key_cmp Counted
 
 -- what a trigger has counted: its table, how many hits found no room, and the pairs that its readings made (kernel: histogram.rst, `Dropped`; keeping pairs is our own choice)
 pub record Tally : Type 0 where
-  pub table : Counts
+  pub table : RowsByKey
   pub dropped : ℕ
   pub pairs : List Pair
 
@@ -33,7 +33,7 @@ abbrev pub RowGrowth : Type 0
 RowGrowth = Option Pos → Option Counted → Counted
 
 -- a hit of the key is counted: the key is in the table, or there are fewer than `size` keys (kernel: histogram.rst, `size`)
-abbrev pub has_place : ℕ → Counts → List Part → Bool
+abbrev pub has_place : ℕ → RowsByKey → List Part → Bool
 has_place size table key = map.contains_key table key || nat_lt (map.len table) size
 
 -- one hit of a key: counted where it has a place, else dropped (kernel: histogram.rst, `size` and `Dropped`)
@@ -67,4 +67,4 @@ totals_in tally = record { hits = sum_by (λ row. row.hitcount) (map.values tall
 -- what a table's hits come to: a row for each key in it, and the hits of the others dropped (kernel: histogram.rst, `size` and `Dropped`)
 unfoldable pub tally_of : Tabled → List Pair → Tally
 tally_of table pairs =
-    record { table = map.from_entries (list_map (λ key. (key, row_of table.hits key)) (keys_in table)); dropped = (totals_of table).dropped; pairs = pairs }
+    record { table = map.from_entries (list_map (λ key. (key, counted_row table.hits key)) (keys_in table)); dropped = (totals_of table).dropped; pairs = pairs }

@@ -1,4 +1,4 @@
-//! One event at one attached trigger.
+//! One event at one attached trigger: what it adds to counters and does to variables.
 
 ghost use Rattle.std.specs.Prelude.{◌≡◌, None, if◌then◌else◌, OnOk};
 ghost use Rattle.std.specs.Ordering.{nat_cmp};
@@ -17,67 +17,93 @@ use ft_fields::{Event, Pos};
 use ft_hist::{Key, Trigger, Work};
 use ft_maps::{get, put, take};
 use ft_pairs::{At, Role, Variable};
-use ft_table::{Spot, hit_with};
+use ft_table::{Hit, Spot, hit_with};
 use std::alloc::AllocError;
 use std::collections::BTreeMap;
 
-/// One event at one attached trigger, whose counter has no hit there yet: it acts where the event
-/// is a hit. Refused for memory.
-pub(crate) fn act(
-    trigger: &Trigger,
-    event: &Event,
-    at: At,
-    counters: &mut BTreeMap<u32, Counter>,
-    saved: &mut BTreeMap<Variable, Pos>,
-    work: &mut Work,
-) -> Result<(), AllocError>
-    requires stamped { at.pos.stamp ≡ event.now.stamp }
-    requires free { IsFree at (seen nat_cmp counters.old) }
-    ensures acts { OnOk result ((seen nat_cmp counters.new, seen variable_cmp saved.new)
-        ≡ after_act trigger.now event.now at
-        (seen nat_cmp counters.old, seen variable_cmp saved.old)) }
-    ensures grow { StepsGrow work.old work.new }
-{
-    let Some(key) = trigger.hit_of(event, work) else {
-        return Ok(());
-    };
-    match counters.get_mut(&at.trigger) {
-        Some(counter) => act_as(trigger, event, at, key, counter, saved, work),
-        None => Ok(()),
-    }
+/// One event at one attached trigger.
+#[derive(Clone, Copy)]
+pub(crate) struct Act<'a> {
+    /// The trigger.
+    pub(crate) trigger: &'a Trigger,
+    /// The event.
+    pub(crate) event: &'a Event,
+    /// The event's place and the trigger's id.
+    pub(crate) at: At,
 }
 
-/// A hit of a key, in the trigger's counter and on the variables.
-fn act_as(
-    trigger: &Trigger,
-    event: &Event,
-    at: At,
-    key: Key,
-    counter: &mut Counter,
-    saved: &mut BTreeMap<Variable, Pos>,
-    work: &mut Work,
-) -> Result<(), AllocError>
-    requires stamped { at.pos.stamp ≡ event.now.stamp }
-    requires free { map.get counter.old.table.hits (record { spot = traced at.pos; key = key }) ≡ None }
-    ensures acts { OnOk result ((counter.new, seen variable_cmp saved.new)
-        ≡ after_hit (values_at trigger.now at.pos event.now) counter.old.role at key
-        (counter.old, seen variable_cmp saved.old)) }
-    ensures grow { StepsGrow work.old work.new }
-{
-    let spot = Spot::traced(at.pos);
-    match counter.role() {
-        Role::Plain => counter.add(hit_with(trigger, event, spot, key, None), None, work),
-        Role::Saves => {
-            counter.add(hit_with(trigger, event, spot, key, None), None, work)?;
-            save(counter, at, key, saved)
+impl<'a> Act<'a> {
+    /// Counts the event where it is a hit. The trigger's counter has no hit there yet. Refused for
+    /// memory.
+    pub(crate) fn replay(
+        &self,
+        counters: &mut BTreeMap<u32, Counter>,
+        saved: &mut BTreeMap<Variable, Pos>,
+        work: &mut Work,
+    ) -> Result<(), AllocError>
+        requires stamped { self.now.at.pos.stamp ≡ self.now.event.now.stamp }
+        requires free { IsFree self.now.at (seen nat_cmp counters.old) }
+        ensures acts { OnOk result ((seen nat_cmp counters.new, seen variable_cmp saved.new)
+            ≡ after_act self.now.trigger.now self.now.event.now self.now.at
+            (seen nat_cmp counters.old, seen variable_cmp saved.old)) }
+        ensures grow { StepsGrow work.old work.new }
+    {
+        let Some(key) = self.trigger.hit_of(self.event, work) else {
+            return Ok(());
+        };
+        match counters.get_mut(&self.at.trigger) {
+            Some(counter) => self.count(key, counter, saved, work),
+            None => Ok(()),
         }
-        Role::Reads(saver) => {
-            let Some(place) = found(saved, Variable { saver, key }) else {
-                return Ok(());
-            };
-            let hit = hit_with(trigger, event, spot, key, Some(place));
-            counter.add(hit, Some(place), work)
+    }
+
+    /// Counts a hit of a key, in the trigger's counter and on the variables. Refused for memory.
+    fn count(
+        &self,
+        key: Key,
+        counter: &mut Counter,
+        saved: &mut BTreeMap<Variable, Pos>,
+        work: &mut Work,
+    ) -> Result<(), AllocError>
+        requires stamped { self.now.at.pos.stamp ≡ self.now.event.now.stamp }
+        requires free { map.get counter.old.table.hits
+            (record { spot = traced self.now.at.pos; key = key }) ≡ None }
+        ensures acts { OnOk result ((counter.new, seen variable_cmp saved.new)
+            ≡ after_hit (values_at self.now.trigger.now self.now.at.pos self.now.event.now)
+            counter.old.role self.now.at key (counter.old, seen variable_cmp saved.old)) }
+        ensures grow { StepsGrow work.old work.new }
+    {
+        match counter.role() {
+            Role::Plain => counter.add(self.hit(key, None), None, work),
+            Role::Saves => {
+                counter.add(self.hit(key, None), None, work)?;
+                save(counter, self.at, key, saved)
+            }
+            Role::Reads(saver) => {
+                let Some(place) = found(saved, Variable { saver, key }) else {
+                    return Ok(());
+                };
+                counter.add(self.hit(key, Some(place)), Some(place), work)
+            }
         }
+    }
+
+    /// The hit of a key, which read what was saved at a place, if it read.
+    fn hit(&self, key: Key, read: Option<Pos>) -> Hit
+        requires { self.now.at.pos.stamp ≡ self.now.event.now.stamp }
+        ensures { result ≡ record {
+          spot = traced self.now.at.pos;
+          key = key;
+          values = values_at self.now.trigger.now self.now.at.pos self.now.event.now read;
+        } }
+    {
+        hit_with(
+            self.trigger,
+            self.event,
+            Spot::traced(self.at.pos),
+            key,
+            read,
+        )
     }
 }
 

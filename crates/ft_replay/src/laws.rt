@@ -10,7 +10,7 @@ ghost use Rattle.ft_fields.specs.declared.pos.Pos.{Pos};
 ghost use Rattle.ft_fields.specs.Places.{pos_cmp};
 ghost use Rattle.ft_hist.specs.Hist.{Hist};
 ghost use Rattle.ft_hist.specs.declared.item.SortItem.{SortItem};
-ghost use Rattle.ft_keys.specs.declared.key.Part.{Part};
+ghost use Rattle.ft_fields.specs.declared.key.Part.{Part};
 ghost use Rattle.ft_table.specs.Admission.{IsAmongFirst};
 ghost use Rattle.ft_table.specs.Hits.{Hits};
 ghost use Rattle.ft_table.specs.Rows.{row_at, rows_of, totals_of};
@@ -28,7 +28,7 @@ ghost use Rattle.ft_replay.specs.Named.{is_named, named};
 ghost use Rattle.ft_replay.specs.Replay.{State, step, replay};
 ghost use Rattle.ft_replay.specs.Elsewhere.{IsSameAct, FindsTheSame, AdmitsTheSame};
 ghost use Rattle.ft_replay.specs.Elsewhere.{OperatesTheSame};
-ghost use Rattle.ft_replay.specs.Hits.{found_at, hit_at, pairs_of, hits_of, table_for};
+ghost use Rattle.ft_replay.specs.Hits.{found_at, hit_at, pairs_of, replayed_hits, table_for};
 ghost use Rattle.ft_replay.specs.Operations.{ops_on, is_admitted};
 ghost use Rattle.ft_replay.specs.Found.{values_found, saving_found, pairs_in};
 ghost use Rattle.ft_replay.specs.Tally.{tally_of, rows_in, totals_in};
@@ -104,12 +104,12 @@ pub fn counted_hits()
     ensures tally { (triggers : Triggers) (events : Events) (id : ℕ) (hist : Hist)
         → map.get triggers id ≡ Some hist
         → map.get (replay triggers events).tallies id
-        ≡ Some (tally_of (table_for hist (hits_of triggers events id))
+        ≡ Some (tally_of (table_for hist (replayed_hits triggers events id))
         (pairs_of triggers events id)) }
     ensures none { (triggers : Triggers) (events : Events) (id : ℕ)
         → map.get triggers id ≡ None → map.get (replay triggers events).tallies id ≡ None }
     ensures hits { (triggers : Triggers) (events : Events) (id : ℕ) (mark : Mark)
-        → map.get (hits_of triggers events id) mark ≡ values_found triggers events id mark }
+        → map.get (replayed_hits triggers events id) mark ≡ values_found triggers events id mark }
     ensures pairs { (triggers : Triggers) (events : Events) (id : ℕ)
         → (readings : FinMap pos_cmp Pos)
         × (((at : Pos) → map.get readings at ≡ saving_found triggers events id at)
@@ -123,10 +123,10 @@ pub fn counted_hits()
     ensures rank { (triggers : Triggers) (events : Events) (id : ℕ) (hist : Hist)
         (key : List Part) → map.get triggers id ≡ Some hist
         → IsTrue (is_admitted (replay triggers events) id key)
-        ↔ IsAmongFirst (table_for hist (hits_of triggers events id)) key }
+        ↔ IsAmongFirst (table_for hist (replayed_hits triggers events id)) key }
 {
     ft_table::laws::one_more_hit();
-    ft_rows::laws::one_row_order();
+    ft_table::laws::one_row_order();
     ft_table::laws::first_keys();
 }
 

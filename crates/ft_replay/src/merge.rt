@@ -2,36 +2,33 @@
 
 ghost use Rattle.std.specs.Prelude.{◌≡◌, ◌++◌, ◌∷◌, [], IfOk, OnOk, IsPermutation};
 ghost use Rattle.std.specs.List.Sorted.{IsSortedByKey};
-ghost use Rattle.std.specs.Ordering.{nat_cmp};
 ghost use Rattle.std.specs.FinMap as map;
 ghost use Rattle.ft_fields.specs.Places.{pos_cmp};
 ghost use Rattle.ft_maps.specs.Mapped.{entries_by};
-ghost use Rattle.ft_maps.specs.Seen.{seen};
 ghost use Rattle.ft_store.specs.Stored.{held};
 ghost use Rattle.ft_replay.specs.Chosen.{lanes_but};
 ghost use Rattle.ft_replay.specs.Merged.{merged};
 ghost use Rattle.ft_replay.specs.Named.{named, events_on, has_name};
-ghost use Rattle.ft_replay.specs.inner.Rests.{entry_of, left_in, listed, with_names};
+ghost use Rattle.ft_replay.specs.inner.Rests.{traced_entry, entries_left, listed_and_left, with_names};
 
 use crate::names::Names;
 use crate::ordered::Ordered;
 use crate::rests::{Rest, Rests};
 use ft_fields::Pos;
-use ft_hist::Trigger;
+use ft_hist::Triggers;
 use ft_lanes::Lanes;
 use ft_store::Stored;
 use std::alloc::{AllocError, Global};
-use std::collections::BTreeMap;
 
 /// The events on whose name some trigger is, with their places, in merged order. Refused for
 /// memory.
 pub fn merged_events<'a>(
     alloc: Global,
     lanes: &'a Lanes,
-    triggers: &BTreeMap<u32, Trigger>,
+    triggers: &Triggers,
 ) -> Result<Vec<(Pos, Stored<'a>)>, AllocError>
     ensures { IfOk result (λ events. entries_by held events.items
-        ≡ map.entries (named (seen nat_cmp triggers.now) (merged lanes.now))) }
+        ≡ map.entries (named triggers.now (merged lanes.now))) }
 {
     events_with(alloc, lanes, Names::of(triggers))
 }
@@ -41,11 +38,11 @@ pub fn merged_events<'a>(
 pub fn merged_events_but<'a>(
     alloc: Global,
     lanes: &'a Lanes,
-    triggers: &BTreeMap<u32, Trigger>,
+    triggers: &Triggers,
     but: &[u16],
 ) -> Result<Vec<(Pos, Stored<'a>)>, AllocError>
     ensures { IfOk result (λ events. entries_by held events.items
-        ≡ map.entries (named (seen nat_cmp triggers.now) (merged (lanes_but but.now lanes.now)))) }
+        ≡ map.entries (named triggers.now (merged (lanes_but but.now lanes.now)))) }
 {
     events_but(alloc, lanes, Names::of(triggers), but)
 }
@@ -114,8 +111,8 @@ fn walk<'a>(
     ordered: &mut Ordered<'a>,
 ) -> Result<(), AllocError>
     ensures { OnOk result (IsPermutation
-        (listed names ordered.old.events.items (left_in rests.old.rests.items))
-        (listed names ordered.new.events.items (left_in rests.new.rests.items))) }
+        (listed_and_left names ordered.old.events.items (entries_left rests.old.rests.items))
+        (listed_and_left names ordered.new.events.items (entries_left rests.new.rests.items))) }
 {
     for place in 0..places {
         take_one(rests, lanes.cpu_at(place), place, names, ordered)?;
@@ -133,8 +130,8 @@ fn take_one<'a>(
     ordered: &mut Ordered<'a>,
 ) -> Result<(), AllocError>
     ensures { OnOk result (IsPermutation
-        (listed names ordered.old.events.items (left_in rests.old.rests.items))
-        (listed names ordered.new.events.items (left_in rests.new.rests.items))) }
+        (listed_and_left names ordered.old.events.items (entries_left rests.old.rests.items))
+        (listed_and_left names ordered.new.events.items (entries_left rests.new.rests.items))) }
 {
     match rests.take_at(cpu, place) {
         Some((pos, stored)) => push_named(ordered, pos, stored, names),
@@ -150,7 +147,7 @@ fn push_named<'a>(
     names: Names,
 ) -> Result<(), AllocError>
     ensures { OnOk result (IsPermutation
-        (entries_by held ordered.old.events.items ++ with_names names (entry_of (pos, stored.entry) ∷ []))
+        (entries_by held ordered.old.events.items ++ with_names names (traced_entry (pos, stored.entry) ∷ []))
         (entries_by held ordered.new.events.items)) }
 {
     if names.has(stored.name()) {
@@ -167,7 +164,7 @@ fn push_rests<'a>(
     names: Names,
 ) -> Result<(), AllocError>
     ensures { OnOk result (entries_by held events.new.items
-        ≡ listed names events.old.items (left_in rests.entry.items)) }
+        ≡ listed_and_left names events.old.items (entries_left rests.entry.items)) }
 {
     for rest in rests {
         push_rest(events, rest, names)?;
@@ -182,7 +179,7 @@ fn push_rest<'a>(
     rest: Rest<'a>,
     names: Names,
 ) -> Result<(), AllocError>
-    ensures { OnOk result (entries_by held events.new.items ≡ listed names events.old.items rest.entry) }
+    ensures { OnOk result (entries_by held events.new.items ≡ listed_and_left names events.old.items rest.entry) }
 {
     for (pos, stored) in rest {
         if names.has(stored.name()) {

@@ -1,16 +1,12 @@
 //! The names of the events that attached triggers are on.
 
 ghost use Rattle.std.specs.Prelude.{◌≡◌, IsTrue, false, true};
-ghost use Rattle.std.specs.Ordering.{nat_cmp};
 ghost use Rattle.ft_fields.specs.declared.event.Name.{Name};
 ghost use Rattle.ft_hist.specs.Hit.{same_name};
-ghost use Rattle.ft_maps.specs.Seen.{seen};
 ghost use Rattle.ft_replay.specs.Named.{is_on, has_name};
 
 use ft_fields::Name;
-use ft_hist::Trigger;
-use ft_maps::entries;
-use std::collections::BTreeMap;
+use ft_hist::Triggers;
 
 /// Names of events: for each whether it is among them.
 #[derive(Clone, Copy)]
@@ -25,8 +21,8 @@ pub struct Names {
 
 impl Names {
     /// The names on which some trigger is.
-    pub(crate) fn of(triggers: &BTreeMap<u32, Trigger>) -> Names
-        ensures { (name : Name) → has_name result name ≡ is_on (seen nat_cmp triggers.now) name }
+    pub(crate) fn of(triggers: &Triggers) -> Names
+        ensures { (name : Name) → has_name result name ≡ is_on triggers.now name }
     {
         Names {
             waking: is_on(triggers, Name::Waking),
@@ -99,10 +95,10 @@ impl Names {
 }
 
 /// Whether some trigger is on the events of a name.
-fn is_on(triggers: &BTreeMap<u32, Trigger>, name: Name) -> bool
-    ensures { result ≡ is_on (seen nat_cmp triggers.now) name }
+fn is_on(triggers: &Triggers, name: Name) -> bool
+    ensures { result ≡ is_on triggers.now name }
 {
-    for (_, trigger) in entries(triggers) {
+    for (_, trigger) in triggers.iter() {
         if trigger.event() == name {
             return true;
         }

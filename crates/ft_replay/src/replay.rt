@@ -15,14 +15,14 @@ ghost use Rattle.ft_replay.specs.inner.Replaying.{state_in, new_counters};
 ghost use Rattle.ft_replay.specs.inner.Replaying.{AllBeforePlace};
 ghost use Rattle.ft_pairs.specs.Variables.{variable_cmp};
 
-use crate::act::act;
+use crate::act::Act;
 use crate::counter::Counter;
 use crate::merge::merged_events;
 use ft_base::role_of;
 use ft_fields::{Event, Pos};
-use ft_hist::{Trigger, Work};
+use ft_hist::{Triggers, Work};
 use ft_lanes::Lanes;
-use ft_maps::{entries, put};
+use ft_maps::put;
 use ft_pairs::{At, Variable};
 use std::alloc::{AllocError, Global};
 use std::collections::BTreeMap;
@@ -31,13 +31,13 @@ use std::collections::BTreeMap;
 pub fn replayed(
     alloc: Global,
     lanes: &Lanes,
-    triggers: &BTreeMap<u32, Trigger>,
+    triggers: &Triggers,
     work: &mut Work,
 ) -> Result<BTreeMap<u32, Counter>, AllocError>
     ensures tallies { IfOk result (λ counters. map_by tally_in (seen nat_cmp counters)
-        ≡ (replay (seen nat_cmp triggers.now) (merged lanes.now)).tallies) }
+        ≡ (replay triggers.now (merged lanes.now)).tallies) }
     ensures complete { IfOk result (λ counters.
-        HaveCounters (seen nat_cmp triggers.now) (seen nat_cmp counters)) }
+        HaveCounters triggers.now (seen nat_cmp counters)) }
     ensures grow { StepsGrow work.old work.new }
 {
     let merged = merged_events(alloc, lanes, triggers)?;
@@ -51,15 +51,12 @@ pub fn replayed(
 }
 
 /// A counter without hits for each attached trigger. Refused for memory.
-fn new_counters(
-    alloc: Global,
-    triggers: &BTreeMap<u32, Trigger>,
-) -> Result<BTreeMap<u32, Counter>, AllocError>
+fn new_counters(alloc: Global, triggers: &Triggers) -> Result<BTreeMap<u32, Counter>, AllocError>
     ensures { IfOk result (λ counters.
-        seen nat_cmp counters ≡ new_counters (seen nat_cmp triggers.now)) }
+        seen nat_cmp counters ≡ new_counters triggers.now) }
 {
     let mut counters = BTreeMap::new(alloc);
-    for (id, attached) in entries(triggers) {
+    for (id, attached) in triggers.iter() {
         let role = role_of(triggers, attached.variable());
         put(
             &mut counters,
@@ -73,7 +70,7 @@ fn new_counters(
 /// One event, whose place is after all hits: the attached triggers act in order of id. Refused for
 /// memory.
 fn step(
-    triggers: &BTreeMap<u32, Trigger>,
+    triggers: &Triggers,
     pos: Pos,
     event: &Event,
     counters: &mut BTreeMap<u32, Counter>,
@@ -81,28 +78,23 @@ fn step(
     work: &mut Work,
 ) -> Result<(), AllocError>
     requires stamped { pos.stamp ≡ event.now.stamp }
-    requires complete { HaveCounters (seen nat_cmp triggers.now) (seen nat_cmp counters.old) }
+    requires complete { HaveCounters triggers.now (seen nat_cmp counters.old) }
     requires before { AllBeforePlace pos (seen nat_cmp counters.old) }
     ensures state { OnOk result (state_in (seen nat_cmp counters.new, seen variable_cmp saved.new)
-        ≡ step (seen nat_cmp triggers.now)
+        ≡ step triggers.now
         (state_in (seen nat_cmp counters.old, seen variable_cmp saved.old)) (pos, event.now)) }
     ensures complete { OnOk result
-        (HaveCounters (seen nat_cmp triggers.now) (seen nat_cmp counters.new)) }
+        (HaveCounters triggers.now (seen nat_cmp counters.new)) }
     ensures before { OnOk result ((next : Pos) → pos_cmp pos next ≡ Less
         → AllBeforePlace next (seen nat_cmp counters.new)) }
     ensures grow { StepsGrow work.old work.new }
 {
     ft_hist::laws::fitting_parts();
     ft_table::laws::one_more_hit();
-    for (id, trigger) in entries(triggers) {
-        act(
-            trigger,
-            event,
-            At { pos, trigger: *id },
-            counters,
-            saved,
-            work,
-        )?;
+    for (id, trigger) in triggers.iter() {
+        let at = At { pos, trigger: *id };
+        let act = Act { trigger, event, at };
+        act.replay(counters, saved, work)?;
     }
     Ok(())
 }

@@ -5,7 +5,7 @@ ghost use Rattle.std.specs.List.{flat_map};
 ghost use Rattle.std.specs.FinMap as map;
 ghost use Rattle.ft_replay.specs.Chosen.{is_among, lanes_but};
 ghost use Rattle.ft_replay.specs.Merged.{placed};
-ghost use Rattle.ft_replay.specs.inner.Rests.{entry_of, left_in, placed_lines, IsTaken};
+ghost use Rattle.ft_replay.specs.inner.Rests.{traced_entry, entries_left, placed_lines, IsTaken};
 
 use ft_fields::Pos;
 use ft_lanes::{Lane, Lanes, Lines};
@@ -25,12 +25,12 @@ impl<'a> Model for Rest<'a> {
     ghost use Rattle.std.specs.Prelude.{List, option_map};
     ghost use Rattle.ft_fields.specs.Traced.{Traced};
     ghost use Rattle.ft_fields.specs.declared.pos.Pos.{Pos};
-    ghost use Rattle.ft_lanes.specs.Walks.{shown};
+    ghost use Rattle.ft_lanes.specs.Walks.{traced_line};
     ghost use Rattle.ft_replay.specs.inner.Rests.{lines_from, placed_lines};
 
     ghost Value = { List (Pos × Traced) };
 
-    ghost view = { λ r. placed_lines r.cpu (lines_from (option_map shown r.first) r.behind) };
+    ghost view = { λ r. placed_lines r.cpu (lines_from (option_map traced_line r.first) r.behind) };
 }
 
 impl<'a> Rest<'a> {
@@ -59,11 +59,11 @@ impl<'a> Iterator for Rest<'a> {
     ghost use Rattle.std.specs.Prelude.{length};
     ghost use Rattle.std.specs.Iterator.{at_most};
     ghost use Rattle.std.specs.Map.Iter.{TakesFirst};
-    ghost use Rattle.ft_replay.specs.inner.Rests.{entry_of};
+    ghost use Rattle.ft_replay.specs.inner.Rests.{traced_entry};
 
     type Item = (Pos, Stored<'a>);
 
-    ghost next_gives = { TakesFirst entry_of };
+    ghost next_gives = { TakesFirst traced_entry };
 
     ghost remaining = { λ s. at_most (length s) };
 
@@ -99,7 +99,7 @@ const NO_REST: u16 = u16::MAX;
 impl<'a> Rests<'a> {
     /// All lanes but those of some CPUs. Refused for memory.
     pub(crate) fn of(alloc: Global, lanes: &'a Lanes, but: &[u16]) -> Result<Rests<'a>, AllocError>
-        ensures { IfOk result (λ rests. left_in rests.rests.items
+        ensures { IfOk result (λ rests. entries_left rests.rests.items
             ≡ flat_map placed (map.entries (lanes_but but.now lanes.now))) }
     {
         let mut rests = Rests {
@@ -114,8 +114,8 @@ impl<'a> Rests<'a> {
 
     /// Adds a lane unless its CPU is among some. Refused for memory.
     fn push_unless(&mut self, but: &[u16], cpu: u16, lane: &Lane<'a>) -> Result<(), AllocError>
-        ensures { OnOk result (left_in self.new.rests.items
-            ≡ left_in self.old.rests.items ++ cond (is_among but.now cpu) [] (placed (cpu, lane.now))) }
+        ensures { OnOk result (entries_left self.new.rests.items
+            ≡ entries_left self.old.rests.items ++ cond (is_among but.now cpu) [] (placed (cpu, lane.now))) }
     {
         if but.contains(&cpu) {
             return Ok(());
@@ -130,9 +130,9 @@ impl<'a> Rests<'a> {
     /// Takes out the event at a place of the store, if it is the first that is left of the lane of
     /// this CPU.
     pub(crate) fn take_at(&mut self, cpu: u16, place: u32) -> Option<(Pos, Stored<'a>)>
-        ensures { MatchOption result (left_in self.new.rests.items ≡ left_in self.old.rests.items)
-            (λ entry. IsTaken (left_in self.old.rests.items) (entry_of entry)
-            (left_in self.new.rests.items)) }
+        ensures { MatchOption result (entries_left self.new.rests.items ≡ entries_left self.old.rests.items)
+            (λ entry. IsTaken (entries_left self.old.rests.items) (traced_entry entry)
+            (entries_left self.new.rests.items)) }
     {
         match self.by_cpu.get(usize::from(cpu)) {
             Some(index) => take_at(&mut self.rests, usize::from(*index), place),
@@ -151,8 +151,8 @@ impl<'a> Rests<'a> {
 
 /// Takes out the event at a place of the store, if it is the first of the rest with this index.
 fn take_at<'a>(rests: &mut Vec<Rest<'a>>, index: usize, place: u32) -> Option<(Pos, Stored<'a>)>
-    ensures { MatchOption result (left_in rests.new.items ≡ left_in rests.old.items)
-        (λ entry. IsTaken (left_in rests.old.items) (entry_of entry) (left_in rests.new.items)) }
+    ensures { MatchOption result (entries_left rests.new.items ≡ entries_left rests.old.items)
+        (λ entry. IsTaken (entries_left rests.old.items) (traced_entry entry) (entries_left rests.new.items)) }
 {
     if index >= rests.len() || !rests[index].is_at(place) {
         return None;

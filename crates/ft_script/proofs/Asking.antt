@@ -8,8 +8,8 @@ use Rattle.ft_fields.specs.declared.event.Name.TheVariants as names
 use Rattle.ft_fields.specs.Names.{name_called}
 use Rattle.ft_script.specs.declared.script.Numbered.{Numbered}
 use Rattle.ft_script.specs.declared.script.Numbered.TheVariants as numbers
-use Rattle.ft_script.specs.Script.{Asked, Nothing, Load, Insert, Strike, Attach, Refilter, About, NoForm, line_limit, is_space, is_in_word, drop_while, trimmed, first_word, after_word, number_in, load_in, attach_in, strike_in, refilter_in, filter_in, about, worded, inserted, asked_by}
-use Rattle.ft_script.specs.Written.{IsNumber, IsBare, IsWritable, spaced, written}
+use Rattle.ft_script.specs.Script.{Asked, Nothing, Load, Insert, Strike, Attach, Refilter, About, NoForm, line_limit, is_space, is_in_word, drop_while, trimmed, first_word, after_word, command_number, load_in, attach_in, strike_in, refilter_in, filter_in, about, worded, inserted, asked_by}
+use Rattle.ft_script.specs.Written.{IsCommandNumber, IsStripped, IsWritable, spaced, written}
 use Rattle.ft_script.proofs.Spelled.{Closes, bare_kept, bare_both, closes_behind, word_closes, word_first, word_after, word_opens, spaced_ends, text_after, spaced_closes, number_word, number_some, number_again, colon_cut}
 
 -- ---- lines
@@ -25,18 +25,18 @@ by_words front text short some closes first seen apart =
 -- ---- one number
 
 -- a number after spaces is read
-number_left : (n : ℕ) → IsNumber n → number_in (drop_while is_space (decimal n)) ≡ Some n
-number_left n low = ap (λ (t : List ℕ). number_in (drop_while is_space t)) (sym (append-nil (decimal n))) ∙ ap number_in (word_opens (decimal n) [] (number_some n low) (number_word n low) ∙ append-nil (decimal n)) ∙ number_again n low
+number_left : (n : ℕ) → IsCommandNumber n → command_number (drop_while is_space (decimal n)) ≡ Some n
+number_left n low = ap (λ (t : List ℕ). command_number (drop_while is_space t)) (sym (append-nil (decimal n))) ∙ ap command_number (word_opens (decimal n) [] (number_some n low) (number_word n low) ∙ append-nil (decimal n)) ∙ number_again n low
 
 -- a trace file is loaded
-load_asked : (n : ℕ) → IsNumber n → length (written (Load n)) ≤ line_limit → asked_by (written (Load n)) ≡ Load n
+load_asked : (n : ℕ) → IsCommandNumber n → length (written (Load n)) ≤ line_limit → asked_by (written (Load n)) ≡ Load n
 unfolding inserted worded first_word after_word load_in
 load_asked n low short =
     by_words (codes "load @") (decimal n) short (number_some n low) (word_closes (decimal n) (number_word n low)) refl refl refl
     ∙ ap (λ (o : Option ℕ). option_map_or Load o NoForm) (number_again n low)
 
 -- what is asked about a number
-about_asked : (what : Numbered) (n : ℕ) → IsNumber n → length (written (About what n)) ≤ line_limit → asked_by (written (About what n)) ≡ About what n
+about_asked : (what : Numbered) (n : ℕ) → IsCommandNumber n → length (written (About what n)) ≤ line_limit → asked_by (written (About what n)) ≡ About what n
 unfolding inserted worded first_word after_word
 about_asked what n low short = by what short
   where
@@ -57,7 +57,7 @@ about_asked what n low short = by what short
 -- ---- two numbers
 
 -- an event is struck
-strike_asked : (cpu line : ℕ) → IsNumber cpu → IsNumber line → length (written (Strike cpu line)) ≤ line_limit → asked_by (written (Strike cpu line)) ≡ Strike cpu line
+strike_asked : (cpu line : ℕ) → IsCommandNumber cpu → IsCommandNumber line → length (written (Strike cpu line)) ≤ line_limit → asked_by (written (Strike cpu line)) ≡ Strike cpu line
 unfolding inserted worded first_word after_word strike_in
 strike_asked cpu line low under short =
     let text : List ℕ = decimal cpu ++ 58 ∷ decimal line in
@@ -78,12 +78,12 @@ insert_asked text short =
     rw within refl
 
 -- an event's name and a trigger's text
-attach_read : (event : Name) (name text : List ℕ) → list_all is_in_word name ≡ true → name_called name ≡ Some event → IsBare text → attach_in (name ++ spaced text) ≡ Attach event text
+attach_read : (event : Name) (name text : List ℕ) → list_all is_in_word name ≡ true → name_called name ≡ Some event → IsStripped text → attach_in (name ++ spaced text) ≡ Attach event text
 unfolding attach_in
 attach_read event name text all called bare = rw (word_first name (spaced text) all (spaced_ends text), called, text_after name text all bare) refl
 
 -- a trigger is attached, by the name of its event
-attach_named : (event : Name) (name text : List ℕ) → 0 < length name → list_all is_in_word name ≡ true → name_called name ≡ Some event → IsBare text
+attach_named : (event : Name) (name text : List ℕ) → 0 < length name → list_all is_in_word name ≡ true → name_called name ≡ Some event → IsStripped text
     → length (codes "attach " ++ (name ++ spaced text)) ≤ line_limit → asked_by (codes "attach " ++ (name ++ spaced text)) ≡ Attach event text
 unfolding inserted worded first_word after_word
 attach_named event name text some all called bare short =
@@ -100,12 +100,12 @@ attach_asked names.WakeupLatency text fits short = attach_named names.WakeupLate
 attach_asked names.Other text fits short = absurd (fits.0 refl)
 
 -- a trigger's id, and what is after it
-filter_read : (id : ℕ) (text : List ℕ) (what : Asked) → IsNumber id → refilter_in id (drop_while is_space text) ≡ what → filter_in (decimal id ++ 32 ∷ text) ≡ what
+filter_read : (id : ℕ) (text : List ℕ) (what : Asked) → IsCommandNumber id → refilter_in id (drop_while is_space text) ≡ what → filter_in (decimal id ++ 32 ∷ text) ≡ what
 unfolding filter_in
 filter_read id text what low is = rw (word_first (decimal id) (32 ∷ text) (number_word id low) refl, number_again id low, word_after (decimal id) (32 ∷ text) (number_word id low)) is
 
 -- so it is read in a line
-filter_behind : (id : ℕ) (text : List ℕ) (what : Asked) → IsNumber id → 0 < length text → Closes (32 ∷ text) → refilter_in id (drop_while is_space text) ≡ what
+filter_behind : (id : ℕ) (text : List ℕ) (what : Asked) → IsCommandNumber id → 0 < length text → Closes (32 ∷ text) → refilter_in id (drop_while is_space text) ≡ what
     → length (codes "filter " ++ (decimal id ++ 32 ∷ text)) ≤ line_limit → asked_by (codes "filter " ++ (decimal id ++ 32 ∷ text)) ≡ what
 unfolding inserted worded first_word after_word
 filter_behind id text what low some closes is short =
@@ -113,17 +113,17 @@ filter_behind id text what low some closes is short =
     ∙ ap filter_in (word_opens (decimal id) (32 ∷ text) (number_some id low) (number_word id low)) ∙ filter_read id text what low is
 
 -- a trigger's filter is taken away
-none_asked : (id : ℕ) → IsNumber id → length (written (Refilter id None)) ≤ line_limit → asked_by (written (Refilter id None)) ≡ Refilter id None
+none_asked : (id : ℕ) → IsCommandNumber id → length (written (Refilter id None)) ≤ line_limit → asked_by (written (Refilter id None)) ≡ Refilter id None
 unfolding refilter_in
 none_asked id low short = filter_behind id (codes "none") (Refilter id None) low (omega arith) (closes_behind (32 ∷ []) (codes "none") (omega arith) (word_closes (codes "none") refl)) refl short
 
 -- a filter's text
-if_read : (id : ℕ) (text : List ℕ) → IsBare text → refilter_in id (codes "if" ++ spaced text) ≡ Refilter id (Some text)
+if_read : (id : ℕ) (text : List ℕ) → IsStripped text → refilter_in id (codes "if" ++ spaced text) ≡ Refilter id (Some text)
 unfolding refilter_in
 if_read id text bare = rw (word_first (codes "if") (spaced text) refl (spaced_ends text), text_after (codes "if") text refl bare) refl
 
 -- a trigger has another filter
-filter_asked : (id : ℕ) (text : List ℕ) → IsNumber id → IsBare text → length (written (Refilter id (Some text))) ≤ line_limit → asked_by (written (Refilter id (Some text))) ≡ Refilter id (Some text)
+filter_asked : (id : ℕ) (text : List ℕ) → IsCommandNumber id → IsStripped text → length (written (Refilter id (Some text))) ≤ line_limit → asked_by (written (Refilter id (Some text))) ≡ Refilter id (Some text)
 filter_asked id text low bare short =
     filter_behind id (codes "if" ++ spaced text) (Refilter id (Some text)) low (omega arith) (closes_behind (32 ∷ []) (codes "if" ++ spaced text) (omega arith) (spaced_closes (codes "if") text refl bare)) (if_read id text bare) short
 
@@ -131,7 +131,7 @@ filter_asked id text low bare short =
 
 -- what is written out is asked for
 pub asked_written : (what : Asked) → IsWritable what → length (written what) ≤ line_limit → asked_by (written what) ≡ what
-unfolding asked_by trimmed inserted worded first_word after_word number_in
+unfolding asked_by trimmed inserted worded first_word after_word command_number
 asked_written Nothing fits short = refl
 asked_written (Load n) fits short = load_asked n fits short
 asked_written (Insert text) fits short = insert_asked text short

@@ -8,8 +8,8 @@ use Rattle.std.proofs.lemmas.List.Folds.{list_all-append}
 use Rattle.std.specs.Char.{is_ascii_digit}
 use Rattle.std.specs.List.{prefix_len, list_all, before_first, after_first}
 use Rattle.ft_text.proofs.Numbers.{digits_all}
-use Rattle.ft_script.specs.Script.{greatest_number, most_digits, is_space, is_in_word, is_colon, drop_while, trimmed, first_word, after_word, number_in}
-use Rattle.ft_script.specs.Written.{IsNumber, IsBare, spaced}
+use Rattle.ft_script.specs.Script.{greatest_number, most_digits, is_space, is_in_word, is_colon, drop_while, trimmed, first_word, after_word, command_number}
+use Rattle.ft_script.specs.Written.{IsCommandNumber, IsStripped, spaced}
 
 -- ---- runs of bytes
 
@@ -57,7 +57,7 @@ back_opens : (text : List ℕ) → Closes text → Opens (reverse text)
 back_opens text closes byte rest e = closes (reverse rest) byte (sym (reverse-reverse text) ∙ ap reverse e ∙ reverse-append (byte ∷ []) rest)
 
 -- a text without spaces at its ends stays as it is
-pub bare_kept : (text : List ℕ) → IsBare text → trimmed text ≡ text
+pub bare_kept : (text : List ℕ) → IsStripped text → trimmed text ≡ text
 unfolding trimmed
 bare_kept text bare =
     ap (λ (t : List ℕ). reverse (drop_while is_space (reverse t))) (open_kept text bare.opens)
@@ -70,7 +70,7 @@ closes_behind (first ∷ front) text some closes [] byte e = absurd (let none : 
 closes_behind (first ∷ front) text some closes (other ∷ before) byte e = closes_behind front text some closes before byte (ap (drop 1) e)
 
 -- two texts, by the first byte of the first and the last of the second
-pub bare_both : (front text : List ℕ) → is_space (slice_index (front ++ text) 0) ≡ false → 0 < length text → Closes text → IsBare (front ++ text)
+pub bare_both : (front text : List ℕ) → is_space (slice_index (front ++ text) 0) ≡ false → 0 < length text → Closes text → IsStripped (front ++ text)
 bare_both front text first some closes = record {
   opens = λ byte rest e. sym (ap (λ (t : List ℕ). is_space (slice_index t 0)) e) ∙ first;
   closes = closes_behind front text some closes;
@@ -105,16 +105,16 @@ spaced_ends [] = refl
 spaced_ends (byte ∷ text) = refl
 
 -- what is after the word is the text
-spaced_left : (text : List ℕ) → IsBare text → drop_while is_space (drop_while is_in_word (spaced text)) ≡ text
+spaced_left : (text : List ℕ) → IsStripped text → drop_while is_space (drop_while is_in_word (spaced text)) ≡ text
 spaced_left [] bare = refl
 spaced_left (byte ∷ text) bare = open_kept (byte ∷ text) bare.opens
 
 -- so it is after a word
-pub text_after : (word text : List ℕ) → list_all is_in_word word ≡ true → IsBare text → after_word (word ++ spaced text) ≡ text
+pub text_after : (word text : List ℕ) → list_all is_in_word word ≡ true → IsStripped text → after_word (word ++ spaced text) ≡ text
 text_after word text all bare = word_after word (spaced text) all ∙ spaced_left text bare
 
 -- both end with no space
-pub spaced_closes : (word text : List ℕ) → list_all is_in_word word ≡ true → IsBare text → Closes (word ++ spaced text)
+pub spaced_closes : (word text : List ℕ) → list_all is_in_word word ≡ true → IsStripped text → Closes (word ++ spaced text)
 spaced_closes word [] all bare front byte e = word_closes word all front byte (sym (append-nil word) ∙ e)
 spaced_closes word (first ∷ text) all bare front byte e =
     closes_behind word (32 ∷ first ∷ text) (omega arith) (closes_behind (32 ∷ []) (first ∷ text) (omega arith) bare.closes) front byte e
@@ -126,16 +126,16 @@ digit_apart : (byte other : ℕ) → is_ascii_digit byte ≡ true → is_ascii_d
 digit_apart byte other h fails = not_from_false (byte == other) (ne_eqb byte other (λ e. absurd (let x : true ≡ false = sym h ∙ ap is_ascii_digit e ∙ fails in cc)))
 
 -- no space stands in a number
-pub number_word : (n : ℕ) → IsNumber n → list_all is_in_word (decimal n) ≡ true
+pub number_word : (n : ℕ) → IsCommandNumber n → list_all is_in_word (decimal n) ≡ true
 number_word n low = all_weaker is_ascii_digit is_in_word (λ byte h. digit_apart byte 32 h refl) (decimal n) (digits_all n (omega arith))
 
 -- a number has a digit
-pub number_some : (n : ℕ) → IsNumber n → 0 < length (decimal n)
+pub number_some : (n : ℕ) → IsCommandNumber n → 0 < length (decimal n)
 number_some n low = decimal_nonempty n (omega arith)
 
 -- a number is read again
-pub number_again : (n : ℕ) → IsNumber n → number_in (decimal n) ≡ Some n
-unfolding number_in
+pub number_again : (n : ℕ) → IsCommandNumber n → command_number (decimal n) ≡ Some n
+unfolding command_number
 number_again n low =
     let small : n < 2 ^ 64 = omega arith in
     let some : nat_lt 0 (length (decimal n)) ≡ true = le-leb _ _ (decimal_nonempty n small) in
@@ -149,7 +149,7 @@ colon_left [] b byte = refl
 colon_left (first ∷ a) b byte = let one : length (first ∷ a) + 1 ≡ suc (length a + 1) = omega arith in rw one (colon_left a b byte)
 
 -- two numbers are cut at the colon between them
-pub colon_cut : (n : ℕ) (rest : List ℕ) → IsNumber n → (before_first is_colon (decimal n ++ 58 ∷ rest) ≡ decimal n) × (after_first is_colon (decimal n ++ 58 ∷ rest) ≡ rest)
+pub colon_cut : (n : ℕ) (rest : List ℕ) → IsCommandNumber n → (before_first is_colon (decimal n ++ 58 ∷ rest) ≡ decimal n) × (after_first is_colon (decimal n ++ 58 ∷ rest) ≡ rest)
 colon_cut n rest low =
     let all = all_weaker is_ascii_digit (λ byte. not (is_colon byte)) (λ byte h. digit_apart byte 58 h refl) (decimal n) (digits_all n (omega arith)) in
     let at = run_front (λ byte. not (is_colon byte)) (decimal n) (58 ∷ rest) all refl in

@@ -19,7 +19,7 @@ use Rattle.clap.specs.declared.error.kind.ErrorKind.TheVariants.{UnknownArgument
 use Rattle.clap.specs.declared.parser.matches.ValueSource.TheVariants.{CommandLine}
 use Rattle.ft_script.specs.declared.words.WordsFault.{WordsFault}
 use Rattle.ft_script.specs.declared.words.WordsFault.TheVariants as faults_named
-use Rattle.ft_script.specs.Words.{Named, WordsGive, is_option, named_by, named_in, paths_in, script_at}
+use Rattle.ft_script.specs.Words.{Named, WordsGive, is_option, script_and_traces, named_by_words, paths_in, script_at}
 use Rattle.ft_script.specs.inner.Found.{found_by}
 
 abbrev pub script_rule : Rule
@@ -325,7 +325,7 @@ adds_traces script traces trace (path ∷ paths) =
     let more = adds_traces script (traces ++ trace ∷ []) path paths in
     (more.0, more.1 ∙ append_assoc traces (trace ∷ []) (path ∷ paths))
 
-named_at : (paths : List Text) → named_by paths ≡ record { script = option_and_then script_at (script_of (adds Fresh paths)); traces = traces_of (adds Fresh paths) }
+named_at : (paths : List Text) → script_and_traces paths ≡ record { script = option_and_then script_at (script_of (adds Fresh paths)); traces = traces_of (adds Fresh paths) }
 named_at [] = refl
 named_at (script ∷ []) = refl
 named_at (script ∷ trace ∷ paths) = let more = adds_traces script [] trace paths in rw (more.0, more.1) refl
@@ -338,7 +338,7 @@ rows_are args = refl
 
 -- the parser finds what the words name
 found_named : (args paths : List Text) (f : Found) (behind : Bool) → walk_of (walk_at false Fresh) (drop 1 args) ≡ walk_at behind (adds Fresh paths) → rows_of f ≡ matches_of app args
-    → named_by paths ≡ record { script = option_and_then script_at (first_value f (codes "SCRIPT")); traces = unwrap_or (option_map raw_values (matched_of f (codes "TRACE"))) [] }
+    → script_and_traces paths ≡ record { script = option_and_then script_at (first_value f (codes "SCRIPT")); traces = unwrap_or (option_map raw_values (matched_of f (codes "TRACE"))) [] }
 found_named args paths f behind end rows =
     let stage = adds Fresh paths in
     let all : rows_of f ≡ finished top.rules (held_at stage) = rows ∙ ap (λ (w : Walk). finished top.rules w.held) end in
@@ -349,7 +349,7 @@ found_named args paths f behind end rows =
 -- words that are read name what the parser found
 read_words_name : (args : List Text) (f : Found) (paths : Option (List Text)) → paths_in (drop 1 args) ≡ paths → EndsAt Fresh (drop 1 args) paths
     → fault_of app args ≡ [] → rows_of f ≡ matches_of app args
-    → option_map named_by paths ≡ Some (record { script = option_and_then script_at (first_value f (codes "SCRIPT")); traces = unwrap_or (option_map raw_values (matched_of f (codes "TRACE"))) [] })
+    → option_map script_and_traces paths ≡ Some (record { script = option_and_then script_at (first_value f (codes "SCRIPT")); traces = unwrap_or (option_map raw_values (matched_of f (codes "TRACE"))) [] })
 read_words_name args f None is end fault rows =
     let refused : UnknownArgument ∷ [] ≡ [] = sym (ap (λ (kinds : Kinds). or_else kinds (checks (walk_of (walk_at false Fresh) (drop 1 args)))) (faults Fresh (drop 1 args) ∙ ap faults_of is)) ∙ fault in
     cc
@@ -357,7 +357,7 @@ read_words_name args f (Some paths) is end fault rows = ap Some (found_named arg
 
 -- words that the parser refuses name nothing
 refused_words_name : (args : List Text) (kind : ErrorKind) (paths : Option (List Text)) → paths_in (drop 1 args) ≡ paths → EndsAt Fresh (drop 1 args) paths
-    → IsAmong kind (fault_of app args) → option_map named_by paths ≡ None
+    → IsAmong kind (fault_of app args) → option_map script_and_traces paths ≡ None
 refused_words_name args kind None is end among = refl
 refused_words_name args kind (Some paths) is end among =
     let none : fault_of app args ≡ [] =
@@ -366,10 +366,10 @@ refused_words_name args kind (Some paths) is end among =
     absurd (subst (IsAmong kind) none among)
 
 read_named : (args : List Text) (f : Found) → fault_of app args ≡ [] → rows_of f ≡ matches_of app args
-    → named_in args ≡ Some (record { script = option_and_then script_at (first_value f (codes "SCRIPT")); traces = unwrap_or (option_map raw_values (matched_of f (codes "TRACE"))) [] })
+    → named_by_words args ≡ Some (record { script = option_and_then script_at (first_value f (codes "SCRIPT")); traces = unwrap_or (option_map raw_values (matched_of f (codes "TRACE"))) [] })
 read_named args f = read_words_name args f (paths_in (drop 1 args)) refl (ends Fresh (drop 1 args))
 
-refused_named : (args : List Text) (kind : ErrorKind) → IsAmong kind (fault_of app args) → named_in args ≡ None
+refused_named : (args : List Text) (kind : ErrorKind) → IsAmong kind (fault_of app args) → named_by_words args ≡ None
 refused_named args kind = refused_words_name args kind (paths_in (drop 1 args)) refl (ends Fresh (drop 1 args))
 
 -- the command as it is put together
@@ -380,10 +380,10 @@ app_from named plain with_script whole script trace last first no_help name scri
 
 -- a command that is ours, with what its parse says
 pub read_by : (whole : App) (args : List Text) (m : ArgMatches) → whole ≡ app → fault_of whole args ≡ [] → rows_of (found_of m) ≡ matches_of whole args
-    → named_in args ≡ Some (found_by m)
+    → named_by_words args ≡ Some (found_by m)
 read_by whole args m is fault rows = read_named args (found_of m) (ap (λ (a : App). fault_of a args) (sym is) ∙ fault) (rows ∙ ap (λ (a : App). matches_of a args) is)
 
-pub refused_by : (whole : App) (args : List Text) (kind : ErrorKind) → whole ≡ app → IsAmong kind (fault_of whole args) → named_in args ≡ None
+pub refused_by : (whole : App) (args : List Text) (kind : ErrorKind) → whole ≡ app → IsAmong kind (fault_of whole args) → named_by_words args ≡ None
 refused_by whole args kind is among = refused_named args kind (subst (IsAmong kind) (ap (λ (a : App). fault_of a args) is) among)
 
 -- a fault that is `Refused` only where the words name nothing

@@ -10,8 +10,8 @@ use Rattle.ft_fields.specs.declared.event.Name.{Name}
 use Rattle.ft_fields.specs.declared.event.Name.TheVariants as names
 use Rattle.ft_fields.specs.Names.{name_text, is_called, name_called}
 use Rattle.ft_script.specs.declared.script.Numbered.{Numbered}
-use Rattle.ft_script.specs.Script.{Asked, Nothing, Load, Insert, Attach, Refilter, NoForm, line_limit, most_digits, greatest_number, is_space, is_in_word, is_colon, drop_while, trimmed, first_word, after_word, number_in, load_in, attach_in, struck, strike_in, refilter_in, filter_in, numbered_by, about, worded, inserted, asked_by}
-use Rattle.ft_script.specs.Written.{IsNumber, IsBare, IsWritable}
+use Rattle.ft_script.specs.Script.{Asked, Nothing, Load, Insert, Attach, Refilter, NoForm, line_limit, most_digits, greatest_number, is_space, is_in_word, is_colon, drop_while, trimmed, first_word, after_word, command_number, load_in, attach_in, struck, strike_in, refilter_in, filter_in, numbered_by, about, worded, inserted, asked_by}
+use Rattle.ft_script.specs.Written.{IsCommandNumber, IsStripped, IsWritable}
 use Rattle.ft_script.proofs.Spelled.{Opens, Closes}
 
 -- ---- spaces at the ends
@@ -50,20 +50,20 @@ after_closes : (text : List ℕ) → Closes text → Closes (after_word text)
 unfolding after_word
 after_closes text closes = left_closes is_space (drop_while is_in_word text) (left_closes is_in_word text closes)
 
-after_bare : (text : List ℕ) → Closes text → IsBare (after_word text)
+after_bare : (text : List ℕ) → Closes text → IsStripped (after_word text)
 unfolding after_word
 after_bare text closes = record { opens = left_opens (drop_while is_in_word text); closes = left_closes is_space (drop_while is_in_word text) (left_closes is_in_word text closes) }
 
 -- ---- numbers and names
 
 -- a number that is read is one of 32 bits
-number_fits : (text : List ℕ) (n : ℕ) → number_in text ≡ Some n → IsNumber n
-unfolding number_in
+number_fits : (text : List ℕ) (n : ℕ) → command_number text ≡ Some n → IsCommandNumber n
+unfolding command_number
 number_fits text n e =
     from (nat_lt 0 (length text) && nat_le (length text) most_digits && list_all is_ascii_digit text) (nat_le (digits_value 10 text) greatest_number) refl e
   where
-    from : (a b : Bool) → nat_le (digits_value 10 text) greatest_number ≡ b → cond (a && b) (Some (digits_value 10 text)) None ≡ Some n → IsNumber n
-    from true true is e = let same : digits_value 10 text ≡ n = cc in subst IsNumber same (leb-true _ _ is)
+    from : (a b : Bool) → nat_le (digits_value 10 text) greatest_number ≡ b → cond (a && b) (Some (digits_value 10 text)) None ≡ Some n → IsCommandNumber n
+    from true true is e = let same : digits_value 10 text ≡ n = cc in subst IsCommandNumber same (leb-true _ _ is)
     from true false is e = absurd cc
     from false b is e = absurd cc
 
@@ -86,14 +86,14 @@ called_named text names.Other e none = from (is_called text names.Waking) (is_ca
 
 -- what is read, if it is, is a number of 32 bits
 abbrev Fits : Option ℕ → Type 0
-Fits o = (n : ℕ) → o ≡ Some n → IsNumber n
+Fits o = (n : ℕ) → o ≡ Some n → IsCommandNumber n
 
 -- ---- commands
 
 load_writable : (text : List ℕ) → IsWritable (load_in text)
 unfolding load_in
 load_writable [] = tt
-load_writable (byte ∷ digits) = from (byte == 64) (number_in digits) (number_fits digits)
+load_writable (byte ∷ digits) = from (byte == 64) (command_number digits) (number_fits digits)
   where
     from : (b : Bool) (o : Option ℕ) → Fits o → IsWritable (cond b (option_map_or Load o NoForm) NoForm)
     from true None fits = tt
@@ -102,7 +102,7 @@ load_writable (byte ∷ digits) = from (byte == 64) (number_in digits) (number_f
 
 strike_writable : (text : List ℕ) → IsWritable (strike_in text)
 unfolding strike_in
-strike_writable text = from (number_in (before_first is_colon text)) (number_in (after_first is_colon text)) (number_fits (before_first is_colon text)) (number_fits (after_first is_colon text))
+strike_writable text = from (command_number (before_first is_colon text)) (command_number (after_first is_colon text)) (number_fits (before_first is_colon text)) (number_fits (after_first is_colon text))
   where
     from : (o p : Option ℕ) → Fits o → Fits p → IsWritable (struck o p)
     from o None fits suits = tt
@@ -113,22 +113,22 @@ attach_writable : (text : List ℕ) → Closes text → IsWritable (attach_in te
 unfolding attach_in
 attach_writable text closes = from (name_called (first_word text)) (called_named (first_word text)) (after_bare text closes)
   where
-    from : (o : Option Name) → ((event : Name) → o ≡ Some event → name_text event ≢ None) → IsBare (after_word text) → IsWritable (option_map_or (λ name. Attach name (after_word text)) o NoForm)
+    from : (o : Option Name) → ((event : Name) → o ≡ Some event → name_text event ≢ None) → IsStripped (after_word text) → IsWritable (option_map_or (λ name. Attach name (after_word text)) o NoForm)
     from None named bare = tt
     from (Some event) named bare = (named event refl, bare)
 
-refilter_writable : (id : ℕ) (text : List ℕ) → IsNumber id → Closes text → IsWritable (refilter_in id text)
+refilter_writable : (id : ℕ) (text : List ℕ) → IsCommandNumber id → Closes text → IsWritable (refilter_in id text)
 unfolding refilter_in
 refilter_writable id text low closes = from (bytes_eq text (codes "none")) (bytes_eq (first_word text) (codes "if")) (after_bare text closes)
   where
-    from : (a b : Bool) → IsBare (after_word text) → IsWritable (cond a (Refilter id None) (cond b (Refilter id (Some (after_word text))) NoForm))
+    from : (a b : Bool) → IsStripped (after_word text) → IsWritable (cond a (Refilter id None) (cond b (Refilter id (Some (after_word text))) NoForm))
     from true b bare = low
     from false true bare = (low, bare)
     from false false bare = tt
 
 filter_writable : (text : List ℕ) → Closes text → IsWritable (filter_in text)
 unfolding filter_in
-filter_writable text closes = from (number_in (first_word text)) (number_fits (first_word text)) (after_closes text closes)
+filter_writable text closes = from (command_number (first_word text)) (number_fits (first_word text)) (after_closes text closes)
   where
     from : (o : Option ℕ) → Fits o → Closes (after_word text) → IsWritable (option_map_or (λ id. refilter_in id (after_word text)) o NoForm)
     from None fits left = tt
@@ -145,12 +145,12 @@ worded_writable text closes =
     from (bytes_eq (first_word text) (codes "load")) (bytes_eq (first_word text) (codes "strike")) (bytes_eq (first_word text) (codes "attach")) (bytes_eq (first_word text) (codes "filter")) (after_closes text closes)
   where
     from : (a b c d : Bool) → Closes (after_word text)
-        → IsWritable (option_map_or (λ (form : List ℕ × (List ℕ → Asked)). form.1 (after_word text)) (cond a (Some (codes "load", load_in)) (cond b (Some (codes "strike", strike_in)) (cond c (Some (codes "attach", attach_in)) (cond d (Some (codes "filter", filter_in)) None)))) (about (numbered_by (first_word text)) (number_in (after_word text))))
+        → IsWritable (option_map_or (λ (form : List ℕ × (List ℕ → Asked)). form.1 (after_word text)) (cond a (Some (codes "load", load_in)) (cond b (Some (codes "strike", strike_in)) (cond c (Some (codes "attach", attach_in)) (cond d (Some (codes "filter", filter_in)) None)))) (about (numbered_by (first_word text)) (command_number (after_word text))))
     from true b c d left = load_writable (after_word text)
     from false true c d left = strike_writable (after_word text)
     from false false true d left = attach_writable (after_word text) left
     from false false false true left = filter_writable (after_word text) left
-    from false false false false left = about_writable (numbered_by (first_word text)) (number_in (after_word text)) (number_fits (after_word text))
+    from false false false false left = about_writable (numbered_by (first_word text)) (command_number (after_word text)) (number_fits (after_word text))
 
 -- what a line asks for may be written out
 pub asked_writable : (line : List ℕ) → IsWritable (asked_by line)

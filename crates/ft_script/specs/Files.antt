@@ -11,19 +11,19 @@ abbrev pub ReadsWhole : Option (List ℕ) → Option (List ℕ) → List ℕ →
 ReadsWhole reader rest bytes = Consumes reader rest bytes × IsAtEnd rest × (length bytes ≤ file_limit)
 
 -- what is told of a path: the bytes of the file there, that none is there, or nothing
-pub data Told : Type 0 where
-  Bytes : List ℕ → Told
-  Missing : Told
-  Untold : Told
+pub data FileAt : Type 0 where
+  Bytes : List ℕ → FileAt
+  Missing : FileAt
+  Untold : FileAt
 
 -- an open file's reader has the bytes that are told of its path, and no file is open that is told to be missing
-abbrev pub TellsReader : Told → Option (List ℕ) → Type 0
+abbrev pub TellsReader : FileAt → Option (List ℕ) → Type 0
 TellsReader (Bytes bytes) reader = reader ≡ Some bytes
 TellsReader Missing reader = ⊥
 TellsReader Untold reader = ⊤
 
 -- these are the bytes that are told of a path, where any are
-abbrev pub TellsBytes : Told → List ℕ → Type 0
+abbrev pub TellsBytes : FileAt → List ℕ → Type 0
 TellsBytes (Bytes bytes) read = read ≡ bytes
 TellsBytes Missing read = ⊥
 TellsBytes Untold read = ⊤

@@ -59,15 +59,15 @@ unfoldable pub after_word : List ℕ → List ℕ
 after_word text = drop_while is_space (drop_while is_in_word text)
 
 -- a number: 1 to 10 digits, at most 4,294,967,295
-unfoldable pub number_in : List ℕ → Option ℕ
-number_in text =
+unfoldable pub command_number : List ℕ → Option ℕ
+command_number text =
     if nat_lt 0 (length text) && nat_le (length text) most_digits && list_all is_ascii_digit text && nat_le (digits_value 10 text) greatest_number
     then Some (digits_value 10 text) else None
 
 -- after `load`: `@N`, the Nth trace file
 unfoldable pub load_in : List ℕ → Asked
 load_in [] = NoForm
-load_in (byte ∷ digits) = if byte == 64 then option_map_or Load (number_in digits) NoForm else NoForm
+load_in (byte ∷ digits) = if byte == 64 then option_map_or Load (command_number digits) NoForm else NoForm
 
 -- after `attach`: an event's name, and the trigger's text, which may be empty
 unfoldable pub attach_in : List ℕ → Asked
@@ -85,7 +85,7 @@ struck (Some cpu) (Some line) = Strike cpu line
 
 -- after `strike`: `C:L`, a CPU's number and a line's number
 unfoldable pub strike_in : List ℕ → Asked
-strike_in text = struck (number_in (before_first is_colon text)) (number_in (after_first is_colon text))
+strike_in text = struck (command_number (before_first is_colon text)) (command_number (after_first is_colon text))
 
 -- after a trigger's id: `if` and a filter's text, which may be empty, or `none` alone
 unfoldable pub refilter_in : ℕ → List ℕ → Asked
@@ -95,7 +95,7 @@ refilter_in id text =
 
 -- after `filter`: a trigger's id, and its new filter or none
 unfoldable pub filter_in : List ℕ → Asked
-filter_in text = option_map_or (λ id. refilter_in id (after_word text)) (number_in (first_word text)) NoForm
+filter_in text = option_map_or (λ id. refilter_in id (after_word text)) (command_number (first_word text)) NoForm
 
 -- the words of the commands about one number, each with what it asks
 abbrev pub numbered_words : List (List ℕ × Numbered)
@@ -121,7 +121,7 @@ worded_forms = (codes "load", load_in) ∷ (codes "strike", strike_in) ∷ (code
 unfoldable pub worded : List ℕ → Asked
 worded text =
     option_map_or (λ form. form.1 (after_word text)) (find (λ form. bytes_eq (first_word text) form.0) worded_forms)
-    (about (numbered_by (first_word text)) (number_in (after_word text)))
+    (about (numbered_by (first_word text)) (command_number (after_word text)))
 
 -- what stands after one space, or an end
 abbrev pub behind_space : List ℕ → Option (List ℕ)

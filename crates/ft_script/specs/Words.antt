@@ -27,20 +27,20 @@ abbrev pub script_at : List ℕ → Option (List ℕ)
 script_at path = if bytes_eq path (codes "-") then None else Some path
 
 -- the script, and then the traces; no path is standard input
-abbrev pub named_by : List (List ℕ) → Named
-named_by [] = record { script = None; traces = [] }
-named_by (script ∷ traces) = record { script = script_at script; traces = traces }
+abbrev pub script_and_traces : List (List ℕ) → Named
+script_and_traces [] = record { script = None; traces = [] }
+script_and_traces (script ∷ traces) = record { script = script_at script; traces = traces }
 
 -- what the program's words name, of which the first is its own name; none where one is refused
-abbrev pub named_in : List (List ℕ) → Option Named
-named_in args = option_map named_by (paths_in (drop 1 args))
+abbrev pub named_by_words : List (List ℕ) → Option Named
+named_by_words args = option_map script_and_traces (paths_in (drop 1 args))
 
 -- what words as read name
-abbrev pub shown : Words → Named
-shown words = record { script = option_map (λ path. path.now) words.script; traces = map (λ path. path.now) words.traces.items }
+abbrev pub named_of_words : Words → Named
+named_of_words words = record { script = option_map (λ path. path.now) words.script; traces = map (λ path. path.now) words.traces.items }
 
 -- the words are read as they name, or refused where they name nothing
 abbrev pub WordsGive : Option Named → Result Words WordsFault → Type 0
-WordsGive named (Ok words) = named ≡ Some (shown words)
+WordsGive named (Ok words) = named ≡ Some (named_of_words words)
 WordsGive named (Err Refused) = named ≡ None
 WordsGive named (Err Memory) = ⊤

@@ -58,13 +58,13 @@ impl From<io::Error> for FileFault {
 /// Files by their paths, as those of the system are. Contracts see what is told of a path.
 pub trait Paths {
     ghost use Rattle.std.specs.Prelude.{List, ℕ, IfOk};
-    ghost use Rattle.ft_script.specs.Files.{Told, TellsReader};
+    ghost use Rattle.ft_script.specs.Files.{FileAt, TellsReader};
 
     /// A file that was opened.
     type Opened: Read + Drop;
 
     /// What is told of the file at a path.
-    ghost told: { Self → List ℕ → Told };
+    ghost told: { Self → List ℕ → FileAt };
 
     /// Opens the file at a path.
     fn open_at(&self, path: &str) -> io::Result<Self::Opened>
@@ -77,11 +77,11 @@ pub trait Paths {
 
 /// The system's files, of which nothing is told.
 impl<F: Files> Paths for F {
-    ghost use Rattle.ft_script.specs.Files.{Told};
+    ghost use Rattle.ft_script.specs.Files.{FileAt};
 
     type Opened = F::File;
 
-    ghost told = { λ _ _. Told.Untold };
+    ghost told = { λ _ _. FileAt.Untold };
 
     fn open_at(&self, path: &str) -> io::Result<F::File> {
         fs::open(self, path)

@@ -1,10 +1,15 @@
-//! What a run is given: the command line, `histdesk [SCRIPT [TRACE]...]`, files that are read whole,
-//! and the lines of a script, with the command that each asks for.
+//! Scripts: what a run is given, and what each command prints.
+//!
+//! A run is given the command line, `histdesk [SCRIPT [TRACE]...]`, files that are read whole, and
+//! the lines of a script, with the command that each asks for.
 //!
 //! A word that looks like an option is refused: there is none. A file that isn't there, is no file,
 //! or is past a limit, cannot be read. The only fault besides is that memory runs out. A line of a
 //! script that is empty, of spaces or a comment asks for nothing; one that no command has the form
 //! of, or that is over `LINE_LIMIT`, is a command too, `Command::NoForm`, which is refused.
+//!
+//! A command prints the line of an accepted edit, the lines of an answer, or the line of its refusal:
+//! each a function of what the edit, the answer or the refusal gives, for which no board is needed.
 //!
 //! ```ignore
 //! let words = read_words(alloc, &["histdesk", "my.script", "a.trace", "b.trace"])?;
@@ -21,6 +26,15 @@
 //! assert_eq!(rt; read_command(rest), Command::Strike(0, 7));
 //! assert_eq!(rt; read_command(b"# strike 0:7"), Command::Nothing);
 //! assert_eq!(rt; read_command(b"strike 0"), Command::NoForm);
+//! ```
+//!
+//! ```ignore
+//! let line = done_line(alloc, b"inserted ", Place { cpu: 3, line: 1 })?;
+//! assert!(rt; line.as_slice() == b"inserted 3:1\n");
+//! let lines = Totals { hits: 7, entries: 2, dropped: 1 }.into_lines(alloc)?;
+//! assert!(rt; lines.as_slice() == b"hits 7 entries 2 dropped 1\n");
+//! let line = refused_line(alloc, Refused::LaneHeld(3))?;
+//! assert!(rt; line.as_slice() == b"refused 4: cpu 3\n");
 //! ```
 //!
 //! # Contracts
@@ -40,16 +54,29 @@
 //! - Law `writable_commands`: what any line asks for may be written out so. Lets through: which
 //!   other lines ask for it, as those with more spaces or with zeros before numbers. `asked_by`
 //!   alone says that.
+//! - `EditValue::add_to`, `done_line`: the text of a number or a place is added after the old
+//!   bytes; the line of an accepted edit is its word, its value and byte 10; exact. Lets through:
+//!   running out of memory at any time.
+//! - `Answer::into_lines`, `refused_line`: the lines of totals and latencies
+//!   (`specs/Answered.antt`), a text as it is; the line of a refusal, with what it says beside its
+//!   number (`specs/Refusals.antt`); exact. Lets through: running out of memory at any time.
 #![tactic(auto)]
 
+mod accepted;
+mod answered;
 mod files;
 pub mod laws;
 mod lines;
+mod numbers;
+mod refusals;
 mod script;
 mod words;
 
+pub use accepted::{EditValue, done_line};
+pub use answered::Answer;
 pub use files::{FILE_LIMIT, FileFault, Paths, READ_LIMIT, read_file, read_whole};
 pub use laws::{writable_commands, written_commands};
 pub use lines::next_line;
+pub use refusals::refused_line;
 pub use script::{Command, LINE_LIMIT, Numbered, read_command};
 pub use words::{Words, WordsFault, read_words};

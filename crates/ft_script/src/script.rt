@@ -3,7 +3,7 @@
 ghost use Rattle.std.specs.Prelude.{◌≡◌, ◌==◌, ◌||◌, reverse, slice_index, option_map};
 ghost use Rattle.std.specs.List.{list_all, prefix_len};
 ghost use Rattle.ft_script.specs.Command.{asked};
-ghost use Rattle.ft_script.specs.Script.{asked_by, inserted, worded, numbered_by, about, is_space, is_in_word, drop_while, trimmed, first_word, after_word, number_in, load_in, strike_in, struck, attach_in, filter_in, refilter_in};
+ghost use Rattle.ft_script.specs.Script.{asked_by, inserted, worded, numbered_by, about, is_space, is_in_word, drop_while, trimmed, first_word, after_word, command_number, load_in, strike_in, struck, attach_in, filter_in, refilter_in};
 
 use ft_fields::Name;
 use ft_text::{is_same, number_within};
@@ -269,9 +269,9 @@ fn refilter(id: u32, text: &[u8]) -> Command<'_>
 }
 
 /// A number of 1 to 10 digits, if it is at most 4,294,967,295.
-#[tactic(auto, unfolding(crate::specs::Script::number_in, ft_text::specs::Digits::number_within))]
+#[tactic(auto, unfolding(crate::specs::Script::command_number, ft_text::specs::Digits::number_within))]
 fn number(text: &[u8]) -> Option<u32>
-    ensures { result ≡ number_in text.now }
+    ensures { result ≡ command_number text.now }
 {
     if text.is_empty() || text.len() > MOST_DIGITS {
         return None;

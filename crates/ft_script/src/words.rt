@@ -3,7 +3,7 @@
 ghost use Rattle.std.specs.Prelude.{◌≡◌, ◌≢◌, map, IfOk};
 ghost use Rattle.clap.specs.Words.{kind_of};
 ghost use Rattle.clap.specs.declared.error.kind.ErrorKind.TheVariants.{OutOfMemory};
-ghost use Rattle.ft_script.specs.Words.{WordsGive, named_in, shown};
+ghost use Rattle.ft_script.specs.Words.{WordsGive, named_by_words, named_of_words};
 ghost use Rattle.ft_script.specs.inner.Found.{found_by};
 ghost use Rattle.ft_script.specs.declared.words.WordsFault.TheVariants.{Memory, Refused};
 
@@ -46,7 +46,7 @@ impl From<AllocError> for WordsFault {
 /// Before a word `--`, a word that begins with `-` is refused, unless it is `-` itself. No word, or
 /// `-` in SCRIPT's place, is standard input; a trace is always a file.
 pub fn read_words<'a, S: AsStr>(alloc: Global, args: &'a [S]) -> Result<Words<'a>, WordsFault>
-    ensures { WordsGive (named_in (map S.text args.entry.now)) result }
+    ensures { WordsGive (named_by_words (map S.text args.entry.now)) result }
 {
     let script = Arg::new(alloc, "SCRIPT").action(ArgAction::Set);
     let trace = Arg::new(alloc, "TRACE").action(ArgAction::Append);
@@ -73,7 +73,7 @@ fn refusal(error: &Error) -> WordsFault
 
 /// The paths among the matches.
 fn named_by<'a>(alloc: Global, matches: &ArgMatches<'a>) -> Result<Words<'a>, AllocError>
-    ensures { IfOk result (λ words. shown words ≡ found_by matches.now) }
+    ensures { IfOk result (λ words. named_of_words words ≡ found_by matches.now) }
 {
     let mut traces = Vec::new(alloc);
     if let Some(paths) = matches.get_strs("TRACE") {

@@ -4,8 +4,8 @@ use Rattle.std.specs.declared.alloc.Global.{Global}
 use Rattle.ft_fields.specs.Traced.{Traced}
 use Rattle.ft_fields.specs.declared.pos.Pos.{Pos}
 use Rattle.ft_replay.specs.declared.pair.Pair.{Pair}
-use Rattle.ft_rows.specs.Counted.{Counted}
-use Rattle.ft_rows.specs.declared.row.Totals.{Totals}
+use Rattle.ft_table.specs.Counted.{Counted}
+use Rattle.ft_table.specs.declared.row.Totals.{Totals}
 use Rattle.ft_base.specs.Base.{Base, empty_base}
 use Rattle.ft_base.specs.declared.listed.AttachedTrigger.{AttachedTrigger}
 use Rattle.ft_base.specs.declared.refused.Place.{Place}
@@ -16,7 +16,7 @@ use Rattle.ft_answers.specs.declared.edited.Edited.{Edited}
 use Rattle.ft_answers.specs.Shown.{Shown}
 use Rattle.ft_answers.specs.Edited.{EditGives, AnswersFrom, AnswerIs}
 use Rattle.ft_answers.specs.Reporting.{Reports}
-use Rattle.ft_layout.specs.Events.{held_at}
+use Rattle.ft_layout.specs.Events.{held_event_layout}
 use Rattle.ft_layout.specs.Places.{line_layout}
 use Rattle.ft_layout.specs.Rows.{totals_layout}
 use Rattle.ft_layout.specs.declared.events.EventLayout.{EventLayout}
@@ -26,8 +26,8 @@ use Rattle.ft_session.specs.declared.session.Session.{Session}
 use Rattle.ft_session.specs.Told.{code_of, edit_told, answer_told, shown_as, IsWritten, IsSized}
 
 -- an event at its line, as C has it
-abbrev pub held_in : ℕ → Traced → EventLayout
-held_in line event = held_at (record { stamp = event.stamp; cpu = event.cpu; line = line }) event
+abbrev pub line_event_layout : ℕ → Traced → EventLayout
+line_event_layout line event = held_event_layout (record { stamp = event.stamp; cpu = event.cpu; line = line }) event
 
 -- nothing was asked for, or all is forgotten
 abbrev pub AsksNothing : Session → Type 0
@@ -57,15 +57,15 @@ unfoldable pub EditsInPlace : Result (Base × ℕ) Refused → Session → ℕ �
 EditsInPlace after old before code number new = Edits after old before code number new × (new.refused ≢ Some Memory)
 
 -- a desk's edit of one event did what after says, and its reports are right
-abbrev pub IsEdit : Result (Base × Place) Refused → Shown → Shown → Result (Done Edited) Refused → Type 0
-IsEdit after old new result = EditGives (λ edited. edited.place) after old new result × Reports old new result
+abbrev pub EditsAndReports : Result (Base × Place) Refused → Shown → Shown → Result (Done Edited) Refused → Type 0
+EditsAndReports after old new result = EditGives (λ edited. edited.place) after old new result × Reports old new result
 
 -- the same of an edit of one event; what it tells is held from now on, where it is accepted
 unfoldable pub EditsEvent : Result (Base × Place) Refused → Session → ℕ → Session → Type 0
 EditsEvent after old code new =
     MatchOption new.refused
-    (IsSomeAnd new.edited (λ edited. IsEdit after old.desk new.desk (edit_told None edited new.desk.deferred)))
-    (λ refused. IsEdit after old.desk new.desk (Err refused) × (new.edited ≡ old.edited))
+    (IsSomeAnd new.edited (λ edited. EditsAndReports after old.desk new.desk (edit_told None edited new.desk.deferred)))
+    (λ refused. EditsAndReports after old.desk new.desk (Err refused) × (new.edited ≡ old.edited))
     × (code ≡ code_of new.refused)
     × (new ≡ record old { desk = new.desk; edited = new.edited; refused = new.refused })
 
@@ -138,7 +138,7 @@ ReadsTriggers expected old before code size new =
 -- one event at its line, exactly as expected: this never needs memory
 unfoldable pub ReadsEvent : ℕ → Result Traced Refused → Session → EventLayout → ℕ → EventLayout → Session → Type 0
 ReadsEvent line expected old before code event new =
-    (shown_as (held_in line) expected ≡ answer_told new.refused event)
+    (shown_as (line_event_layout line) expected ≡ answer_told new.refused event)
     × (code ≡ code_of new.refused)
     × IsWritten new.refused before event
     × (new ≡ record old { refused = new.refused })

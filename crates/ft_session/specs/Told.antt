@@ -2,7 +2,7 @@
 use Rattle.std.specs.Prelude.{◌≡◌, ℕ, Bool, List, length, Vec, Option, Some, None, MatchOption, IfSome, option_map, option_and_then, Result, Ok, Err}
 use Rattle.std.specs.declared.alloc.Global.{Global}
 use Rattle.ft_base.specs.declared.refused.Refused.{Refused}
-use Rattle.ft_base.specs.Refused.{number_of}
+use Rattle.ft_base.specs.Refused.{refused_number}
 use Rattle.ft_changes.specs.declared.changed.Changed.{Changed}
 use Rattle.ft_answers.specs.declared.done.Done.{Done}
 use Rattle.ft_answers.specs.declared.edited.Edited.{Edited}
@@ -11,7 +11,7 @@ use Rattle.ft_answers.specs.Edited.{kept_of}
 -- the code of a call: 0, or the number of its refusal
 abbrev pub code_of : Option Refused → ℕ
 code_of None = 0
-code_of (Some refused) = number_of refused
+code_of (Some refused) = refused_number refused
 
 -- what an edit answered: its refusal, or its value and whether the tables lack it
 abbrev pub edit_told : {T : Type 0} → Option Refused → T → Bool → Result (Done T) Refused

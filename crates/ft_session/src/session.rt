@@ -8,7 +8,7 @@ ghost use Rattle.ft_base.specs.Answers.{list_text, trigger_text, attached_in};
 ghost use Rattle.ft_desk.specs.Edits.{after_load_text, after_insert_text};
 ghost use Rattle.ft_desk.specs.Edits.{after_attach_text, after_refilter_text};
 ghost use Rattle.ft_desk.specs.Found.{event_found, lane_found, matching_found};
-ghost use Rattle.ft_held.specs.Places.{places};
+ghost use Rattle.ft_answers.specs.Places.{places};
 ghost use Rattle.ft_layout.specs.Rows.{report_layout};
 ghost use Rattle.ft_session.specs.Told.{rows_told, made_told};
 ghost use Rattle.ft_session.specs.Calls.{IsNew, Forgets};

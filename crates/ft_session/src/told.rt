@@ -1,7 +1,7 @@
 //! What a call tells: the code it answers, and the refusal that is held.
 
 ghost use Rattle.std.specs.Prelude.{◌≡◌, [], Some, None, unwrap_or, option_map};
-ghost use Rattle.ft_base.specs.Refused.{number_of};
+ghost use Rattle.ft_base.specs.Refused.{refused_number};
 
 use ft_answers::{Changed, Refused};
 
@@ -17,7 +17,7 @@ pub(crate) fn accept(refused: &mut Option<Refused>) -> u32
 /// Notes why a call is refused: the refusal's number.
 pub(crate) fn refuse(refused: &mut Option<Refused>, why: Refused) -> u32
     ensures note { refused.new ≡ Some why }
-    ensures code { result ≡ number_of why }
+    ensures code { result ≡ refused_number why }
 {
     *refused = Some(why);
     u32::from(why.number())

@@ -4,13 +4,13 @@ use Rattle.std.specs.Prelude.{◌&&◌, ◌||◌, ◌-◌, not, is_some, length,
 use Rattle.std.specs.List.{list_any}
 use Rattle.std.specs.Option.{option_map_or}
 use Rattle.std.proofs.lemmas.Bool.{true≢false}
-use Rattle.ft_keys.specs.declared.key.Part.{Part}
-use Rattle.ft_keys.specs.Ties.{key_same}
+use Rattle.ft_fields.specs.declared.key.Part.{Part}
+use Rattle.ft_fields.specs.Ties.{key_same}
 use Rattle.ft_maps.specs.Entries.{same_from_tie}
 use Rattle.ft_table.specs.Hits.{same_key}
 use Rattle.ft_table.specs.OneKey.{FirstComesIn, FirstIsOut, LastGoesOut}
 use Rattle.ft_table.specs.Tabled.{Tabled, keys_in, is_in}
-use Rattle.ft_shelves.specs.Changes.{is_insert, mark_of, sign_of, table_with}
+use Rattle.ft_shelves.specs.Changes.{is_insert, change_mark, sign_of, table_with}
 use Rattle.ft_shelves.specs.Switches.{differ}
 use Rattle.ft_shelves.specs.inner.Following.{edge_for, has_crossed}
 use Rattle.ft_shelves.specs.declared.change.HitChange.{HitChange}
@@ -54,7 +54,7 @@ edge_there outside Insert table k is = in_list k (keys_in table) (length (keys_i
 edge_there outside Retract table k is = outside table k is
 
 -- every key but the hit's own and the one at the edge stays
-pub others_stay : LastGoesOut → FirstComesIn → (change : HitChange) (table : Tabled) (k : List Part) → (k ≡ (mark_of change).key → ⊥) → (edge_for (sign_of change) table ≡ Some k → ⊥)
+pub others_stay : LastGoesOut → FirstComesIn → (change : HitChange) (table : Tabled) (k : List Part) → (k ≡ (change_mark change).key → ⊥) → (edge_for (sign_of change) table ≡ Some k → ⊥)
     → is_in (table_with change table) k ≡ is_in table k
 others_stay comes goes (changes.Insert hit) table k = comes table (record { spot = hit.spot; key = hit.key }) hit.values k
 others_stay comes goes (changes.Retract mark) table k = goes table mark k

@@ -3,8 +3,8 @@ use Rattle.std.proofs.Common.{◌≡◌, ℕ, Bool, true, false, cond, List, ref
 use Rattle.std.specs.Prelude.{◌&&◌}
 use Rattle.std.specs.Option.{option_map_or}
 use Rattle.std.proofs.lemmas.Bool.{true≢false}
-use Rattle.ft_keys.specs.declared.key.Part.{Part}
-use Rattle.ft_keys.specs.Ties.{key_same}
+use Rattle.ft_fields.specs.declared.key.Part.{Part}
+use Rattle.ft_fields.specs.Ties.{key_same}
 use Rattle.ft_maps.specs.Entries.{same_from_tie}
 use Rattle.ft_pairs.specs.ByKey.{ops_of}
 use Rattle.ft_pairs.specs.Source.{Ops}
@@ -13,7 +13,7 @@ use Rattle.ft_pairs.specs.declared.at.Op.TheVariants.{Save}
 use Rattle.ft_table.specs.Hits.{Hits, same_key}
 use Rattle.ft_table.specs.OneKey.{FirstComesIn, FirstIsOut, LastGoesOut}
 use Rattle.ft_table.specs.Tabled.{Tabled, is_in}
-use Rattle.ft_shelves.specs.Changes.{is_insert, mark_of, op_after, set_op, sign_of, table_with, with_change}
+use Rattle.ft_shelves.specs.Changes.{is_insert, change_mark, op_after, set_op, sign_of, table_with, with_change}
 use Rattle.ft_shelves.specs.Edits.{OpsChange}
 use Rattle.ft_shelves.specs.Following.{switched, followed, with_own, HitFollows, MovesKeys}
 use Rattle.ft_shelves.specs.Shelves.{Shelved}
@@ -56,10 +56,10 @@ no_switch false hits id k ops q = refl
 -- ---- all keys
 
 module _ (comes : LastGoesOut) (goes : FirstComesIn) (outside : FirstIsOut) (id : ℕ) (change : HitChange) (old mid own : Shelved) (was : Bool)
-    (owns : OwnChanges id change was old mid) (known : was ≡ is_in old.table (mark_of change).key)
-    (switches : OpsChange (mark_of change).key (switched was (is_in mid.table (mark_of change).key) mid.table.hits id (mark_of change).key) mid own) where
+    (owns : OwnChanges id change was old mid) (known : was ≡ is_in old.table (change_mark change).key)
+    (switches : OpsChange (change_mark change).key (switched was (is_in mid.table (change_mark change).key) mid.table.hits id (change_mark change).key) mid own) where
   abbrev key : List Part
-  key = (mark_of change).key
+  key = (change_mark change).key
 
   abbrev after : Tabled
   after = table_with change old.table
@@ -95,7 +95,7 @@ module _ (comes : LastGoesOut) (goes : FirstComesIn) (outside : FirstIsOut) (id 
       switches.ops k q
       ∙ ap (λ b. cond b (switched was (is_in mid.table key) mid.table.hits id key (ops_of mid.ops k) q) (ops_of mid.ops k q)) apart
       ∙ owns.ops k q
-      ∙ ap (λ b. cond (b && was) (set_op (record { pos = (mark_of change).spot.pos; trigger = id }) (op_after (sign_of change) Save) (ops_of old.ops k)) (ops_of old.ops k) q) apart
+      ∙ ap (λ b. cond (b && was) (set_op (record { pos = (change_mark change).spot.pos; trigger = id }) (op_after (sign_of change) Save) (ops_of old.ops k)) (ops_of old.ops k) q) apart
 
   -- where it comes in, it had no save of this saver
   pub free_before : ((k : List Part) → is_in old.table k ≡ false → (q : At) → q.trigger ≡ id → ops_of old.ops k q ≡ None)
@@ -152,7 +152,7 @@ module _ (comes : LastGoesOut) (goes : FirstComesIn) (outside : FirstIsOut) (id 
         by true tie = subst (λ x. ops_of final.ops x q ≡ followed old.table after id change x (ops_of old.ops x) q) (sym (same_from_tie key_same k key tie))
             (key_other _ own final o edits key own_kept q ∙ own_follows q)
         by false apart = other_follows k apart q
-            ∙ sym (ap (λ b. switched (is_in old.table k) (is_in after k) after.hits id k (cond (b && is_in old.table key) (set_op (record { pos = (mark_of change).spot.pos; trigger = id }) (op_after (sign_of change) Save) (ops_of old.ops k)) (ops_of old.ops k)) q) apart)
+            ∙ sym (ap (λ b. switched (is_in old.table k) (is_in after k) after.hits id k (cond (b && is_in old.table key) (set_op (record { pos = (change_mark change).spot.pos; trigger = id }) (op_after (sign_of change) Save) (ops_of old.ops k)) (ops_of old.ops k)) q) apart)
 
     -- each key's operations follow the table
     pub hit_follows : HitFollows id change old final

@@ -10,9 +10,9 @@ use Rattle.std.specs.Cmp.{eq_by_cmp_equiv}
 use Rattle.std.specs.FinMap as map
 use Rattle.std.specs.FinMap.{find, entries_sorted, get-entries, get-from_entries}
 use Rattle.std.proofs.lemmas.Bool.{true≢false, false≢true}
-use Rattle.ft_keys.specs.declared.key.Part.{Part}
-use Rattle.ft_keys.specs.Orders.{key_cmp_total}
-use Rattle.ft_keys.specs.Parts.{key_cmp}
+use Rattle.ft_fields.specs.declared.key.Part.{Part}
+use Rattle.ft_fields.specs.Orders.{key_cmp_total}
+use Rattle.ft_fields.specs.Parts.{key_cmp}
 use Rattle.ft_hits.specs.Hits.{Hits, same_key, hits_of, hits_after, is_after, first_entry}
 use Rattle.ft_table.specs.Marks.{mark_cmp}
 use Rattle.ft_table.specs.Spots.{spot_cmp, spot_cmp_total}

@@ -9,11 +9,11 @@ use Rattle.std.proofs.lemmas.List.{append-nil, drop_more}
 use Rattle.ft_fields.specs.Places.{pos_cmp, pos_cmp_total}
 use Rattle.ft_fields.specs.Traced.{Traced}
 use Rattle.ft_fields.specs.declared.pos.Pos.{Pos}
-use Rattle.ft_groups.specs.Grouped.{Grouped, events_of, is_under, run_of, run_under}
+use Rattle.ft_groups.specs.Grouped.{Grouped, referenced_events, is_under, run_of, run_under}
 use Rattle.ft_hist.specs.Hist.{Hist}
-use Rattle.ft_keys.specs.Orders.{key_cmp_total}
-use Rattle.ft_keys.specs.Ties.{key_same}
-use Rattle.ft_keys.specs.declared.key.Part.{Part}
+use Rattle.ft_fields.specs.Orders.{key_cmp_total}
+use Rattle.ft_fields.specs.Ties.{key_same}
+use Rattle.ft_fields.specs.declared.key.Part.{Part}
 use Rattle.ft_store.specs.Stored.{held}
 use Rattle.ft_store.specs.declared.stored.Stored.{Stored}
 use Rattle.ft_table.specs.Hits.{same_key}
@@ -105,8 +105,8 @@ module _ (hist : Hist) (groups : Grouped) (of : AreGroupsOf hist groups) where
 
 -- the first of the events that are left
 pub first_event : (es : List (Bor (Pos × Stored))) (i : ℕ) (e : Bor (Pos × Stored)) → i < length es → e ≡ get_or es i e
-    → events_of (drop i es) ≡ (e.now.0, held e.now.1) ∷ events_of (drop (i + 1) es)
-first_event es i e within is = ap events_of (drop_more es i e within ∙ ap (λ (x : Bor (Pos × Stored)). x ∷ drop (i + 1) es) (sym is))
+    → referenced_events (drop i es) ≡ (e.now.0, held e.now.1) ∷ referenced_events (drop (i + 1) es)
+first_event es i e within is = ap referenced_events (drop_more es i e within ∙ ap (λ (x : Bor (Pos × Stored)). x ∷ drop (i + 1) es) (sym is))
 
 -- ---- what is made of events one after the other
 

@@ -3,7 +3,7 @@ use Rattle.std.proofs.Common.{ℕ, ℤ, cond, List, None, Option}
 use Rattle.std.specs.FinMap as map
 use Rattle.ft_groups.specs.Grouped.{Grouped, run_of}
 use Rattle.ft_hist.specs.Hist.{Hist}
-use Rattle.ft_keys.specs.declared.key.Part.{Part}
+use Rattle.ft_fields.specs.declared.key.Part.{Part}
 use Rattle.ft_pairs.specs.Order.{at_cmp}
 use Rattle.ft_pairs.specs.declared.at.At.{At}
 use Rattle.ft_pairs.specs.declared.at.Op.{Op}

@@ -10,9 +10,9 @@ use Rattle.std.specs.Cmp.{eq_by_cmp_equiv, nat_cmp_total}
 use Rattle.std.specs.FinMap as map
 use Rattle.std.proofs.lemmas.Map.Lookups.{exact_unsigned}
 use Rattle.ft_fields.specs.declared.pos.Pos.{Pos}
-use Rattle.ft_keys.specs.declared.key.Part.{Part}
+use Rattle.ft_fields.specs.declared.key.Part.{Part}
 use Rattle.ft_maps.specs.Entries.{same_from_tie}
-use Rattle.ft_pairs.specs.ByKey.{ByKey, ChangesKey, ops_of, same_key}
+use Rattle.ft_pairs.specs.ByKey.{OpsByKey, ChangesKey, ops_of, same_key}
 use Rattle.ft_pairs.specs.Edits.{with_op, same_at}
 use Rattle.ft_pairs.specs.Order.{at_cmp_total, at_same}
 use Rattle.ft_pairs.specs.Source.{Ops}
@@ -64,14 +64,14 @@ module _ (hits : Hits) (id : ℕ) (key : List Part) where
       by Equal tie = ap (λ o. is_lt o && saves_here q) tie
       by Greater more = ap (λ o. is_lt o && saves_here q) more
 
-  pub begun : (ops : ByKey) (next : Option Hit) → hit_after hits key None ≡ next → ChangesKey key (with_saves_till next) ops ops
+  pub begun : (ops : OpsByKey) (next : Option Hit) → hit_after hits key None ≡ next → ChangesKey key (with_saves_till next) ops ops
   begun ops next is k q =
       same_both (same_key k key) (ops_of ops k q)
       ∙ sym (ap (λ b. cond (same_key k key) (cond b (Some Save) (ops_of ops k q)) (ops_of ops k q)) (none_till next is q))
 
   module _ (hit : Hit) where
     -- where a hit of an event of the trace comes next, no save stands yet
-    pub unsaved : (old mid : ByKey) → ChangesKey key (with_saves_till (Some hit)) old mid → ((pos : Pos) → ops_of old key (record { pos = pos; trigger = id }) ≡ None)
+    pub unsaved : (old mid : OpsByKey) → ChangesKey key (with_saves_till (Some hit)) old mid → ((pos : Pos) → ops_of old key (record { pos = pos; trigger = id }) ≡ None)
         → hit.spot.maker ≡ 0 → ops_of mid key (record { pos = hit.spot.pos; trigger = id }) ≡ None
     unsaved old mid before none own =
         let at : At = record { pos = hit.spot.pos; trigger = id } in
@@ -153,7 +153,7 @@ module _ (hits : Hits) (id : ℕ) (key : List Part) where
       saved old mid before q false e = before q ∙ beside q (old q) (λ _ same. eqb-false hit.spot.maker 0 e (sym (ap (λ (s : Spot). s.maker) same))) (saves_here q) refl
 
       -- with a save at it, if it saves, they stand till the next one
-      pub one_further : (old mid new : ByKey) → ChangesKey key (with_saves_till (Some hit)) old mid → ChangesKey key (with_save id hit.spot) mid new → ChangesKey key (with_saves_till next) old new
+      pub one_further : (old mid new : OpsByKey) → ChangesKey key (with_saves_till (Some hit)) old mid → ChangesKey key (with_save id hit.spot) mid new → ChangesKey key (with_saves_till next) old new
       one_further old mid new before put k q = put k q ∙ by (same_key k key) refl
         where
           by : (b : Bool) → same_key k key ≡ b → cond b (with_save id hit.spot (ops_of mid k) q) (ops_of mid k q) ≡ cond b (with_saves_till next (ops_of old k) q) (ops_of old k q)

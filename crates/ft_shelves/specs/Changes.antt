@@ -45,14 +45,14 @@ sign_of (changes.Insert h) = Insert
 sign_of (changes.Retract mark) = Retract
 
 -- where the hit stands
-abbrev pub mark_of : HitChange → Mark
-mark_of (changes.Insert h) = record { spot = h.spot; key = h.key }
-mark_of (changes.Retract mark) = mark
+abbrev pub change_mark : HitChange → Mark
+change_mark (changes.Insert h) = record { spot = h.spot; key = h.key }
+change_mark (changes.Retract mark) = mark
 
 -- no hit stands where one comes
-abbrev pub IsFree : HitChange → Hits → Type 0
-IsFree (changes.Insert h) hits = map.get hits (record { spot = h.spot; key = h.key }) ≡ None
-IsFree (changes.Retract mark) hits = Unit {0}
+abbrev pub PlaceIsFree : HitChange → Hits → Type 0
+PlaceIsFree (changes.Insert h) hits = map.get hits (record { spot = h.spot; key = h.key }) ≡ None
+PlaceIsFree (changes.Retract mark) hits = Unit {0}
 
 -- a table with the change
 abbrev pub table_with : HitChange → Tabled → Tabled

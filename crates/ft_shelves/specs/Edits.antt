@@ -2,7 +2,7 @@
 use Rattle.std.specs.Prelude.{◌≡◌, ℤ, List, Option, Some, None}
 use Rattle.std.specs.FinMap as map
 use Rattle.ft_fields.specs.declared.pos.Pos.{Pos}
-use Rattle.ft_keys.specs.declared.key.Part.{Part}
+use Rattle.ft_fields.specs.declared.key.Part.{Part}
 use Rattle.ft_pairs.specs.ByKey.{ChangesKey}
 use Rattle.ft_pairs.specs.Source.{Ops}
 use Rattle.ft_table.specs.Growth.{with_hit}

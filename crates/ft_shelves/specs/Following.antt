@@ -3,8 +3,8 @@ use Rattle.std.specs.Prelude.{◌≡◌, ◌&&◌, ℕ, Bool, true, List, Option
 use Rattle.std.specs.Coded.{Coded, code_by, coded×, coded_bool, coded_list, coded_option}
 use Rattle.std.specs.Ordering.{nat_cmp, eq_by_cmp}
 use Rattle.std.specs.FinMap as map
-use Rattle.ft_keys.specs.contracts.key.Part as part
-use Rattle.ft_keys.specs.declared.key.Part.{Part}
+use Rattle.ft_fields.specs.contracts.key.Part as part
+use Rattle.ft_fields.specs.declared.key.Part.{Part}
 use Rattle.ft_pairs.specs.ByKey.{ops_of}
 use Rattle.ft_pairs.specs.Edits.{reads_alone}
 use Rattle.ft_pairs.specs.Source.{Ops}
@@ -13,7 +13,7 @@ use Rattle.ft_pairs.specs.declared.at.Op.TheVariants.{Save}
 use Rattle.ft_table.specs.Hits.{Hits, same_key}
 use Rattle.ft_table.specs.Spots.{traced}
 use Rattle.ft_table.specs.Tabled.{Tabled, is_in}
-use Rattle.ft_shelves.specs.Changes.{IsFree, mark_of, op_after, set_op, sign_of, with_change}
+use Rattle.ft_shelves.specs.Changes.{PlaceIsFree, change_mark, op_after, set_op, sign_of, with_change}
 use Rattle.ft_shelves.specs.Switches.{differ, Members}
 use Rattle.ft_shelves.specs.Shelves.{Shelved}
 use Rattle.ft_shelves.specs.declared.change.HitChange.{HitChange}
@@ -29,15 +29,15 @@ switched was now hits id key ops = if was then (if now then ops else reads_alone
 
 -- the operations on a key's variable, as a saver's hit comes or goes: where it is one of the key, and the key was in the table, its save does too (kernel: histogram.rst, inter-event hist triggers)
 abbrev pub with_own : ℕ → HitChange → Bool → List Part → Ops → Ops
-with_own id change was key ops = if same_key key (mark_of change).key && was then set_op (record { pos = (mark_of change).spot.pos; trigger = id }) (op_after (sign_of change) Save) ops else ops
+with_own id change was key ops = if same_key key (change_mark change).key && was then set_op (record { pos = (change_mark change).spot.pos; trigger = id }) (op_after (sign_of change) Save) ops else ops
 
 -- and as the keys then follow the table (kernel: histogram.rst, inter-event hist triggers, `size`)
 abbrev pub followed : Tabled → Tabled → ℕ → HitChange → List Part → Ops → Ops
-followed old new id change key ops = switched (is_in old key) (is_in new key) new.hits id key (with_own id change (is_in old (mark_of change).key) key ops)
+followed old new id change key ops = switched (is_in old key) (is_in new key) new.hits id key (with_own id change (is_in old (change_mark change).key) key ops)
 
 -- nothing stands where a saver's hit comes, neither a hit nor its save
 abbrev pub IsUnsaved : ℕ → HitChange → Shelved → Type 0
-IsUnsaved id (changes.Insert hit) shelf = IsFree (changes.Insert hit) shelf.table.hits × (ops_of shelf.ops hit.key (record { pos = hit.spot.pos; trigger = id }) ≡ None)
+IsUnsaved id (changes.Insert hit) shelf = PlaceIsFree (changes.Insert hit) shelf.table.hits × (ops_of shelf.ops hit.key (record { pos = hit.spot.pos; trigger = id }) ≡ None)
 IsUnsaved id (changes.Retract mark) shelf = Unit {0}
 
 -- a saver's shelf with the change, where each key's operations follow its table

@@ -9,12 +9,14 @@ use Rattle.ft_fields.specs.Traced.{Traced}
 use Rattle.ft_fields.specs.declared.pos.Pos.{Pos}
 use Rattle.ft_groups.specs.Grouped.{Grouped, AreGrouped, run_of}
 use Rattle.ft_hist.specs.Hist.{Hist}
-use Rattle.ft_keys.specs.declared.key.Part.{Part}
-use Rattle.ft_pairs.specs.ByKey.{ByKey, ops_of}
+use Rattle.ft_fields.specs.declared.key.Part.{Part}
+use Rattle.ft_pairs.specs.ByKey.{OpsByKey, ops_of}
 use Rattle.ft_pairs.specs.Order.{at_cmp}
 use Rattle.ft_pairs.specs.declared.at.At.{At}
 use Rattle.ft_pairs.specs.declared.at.Op.{Op}
 use Rattle.ft_pairs.specs.declared.at.Op.TheVariants.{Save}
+use Rattle.ft_pairs.specs.declared.role.Role.{Role}
+use Rattle.ft_pairs.specs.declared.role.Role.TheVariants.{Plain, Saves, Reads}
 use Rattle.ft_table.specs.Runs.{TakesRun}
 use Rattle.ft_table.specs.Spots.{spot_cmp, traced}
 use Rattle.ft_table.specs.Tabled.{Tabled, is_in}
@@ -45,21 +47,20 @@ pub record HasGroups (hist : Hist) (groups : Grouped) (old new : Tabled) : Type 
   pub hits : (m : Mark) → map.get new.hits m ≡ map.get (map.from_entries {R = spot_cmp} (hits_of_run hist (run_of groups m.key))) m.spot
 
 -- operations are the saves of all groups whose keys are in a table, and no others (kernel: histogram.rst, inter-event hist triggers, `size`)
-abbrev pub HasSaves : ℕ → Grouped → Tabled → ByKey → Type 0
+abbrev pub HasSaves : ℕ → Grouped → Tabled → OpsByKey → Type 0
 HasSaves id groups table ops = (key : List Part) (at : At) → ops_of ops key at ≡ (if is_in table key then map.get (map.from_entries {R = at_cmp} (saves_of_run id (run_of groups key))) at else None)
 
--- the hits of all groups are on a shelf, and all else on it stays
-pub record HitsCome (hist : Hist) (groups : Grouped) (old new : Shelved) : Type 0 where
-  pub role : new.role ≡ old.role
-  pub table : HasGroups hist groups old.table new.table
-  pub ops : new.ops ≡ old.ops
-  pub readings : new.readings ≡ old.readings
+-- the operations on a shelf of this role have the saves of all groups, if it is a saver's; else they stay
+abbrev pub OpsJoin : Role → ℕ → Grouped → Tabled → OpsByKey → OpsByKey → Type 0
+OpsJoin Saves id groups table old new = HasSaves id groups table new
+OpsJoin Plain id groups table old new = new ≡ old
+OpsJoin (Reads saver) id groups table old new = new ≡ old
 
--- a saver's hits and saves are on its shelf, and all else on it stays
-pub record SavingsCome (id : ℕ) (hist : Hist) (groups : Grouped) (old new : Shelved) : Type 0 where
+-- the hits of all groups are on a shelf, and a saver's saves, and all else on it stays
+pub record HasJoined (id : ℕ) (hist : Hist) (groups : Grouped) (old new : Shelved) : Type 0 where
   pub role : new.role ≡ old.role
   pub table : HasGroups hist groups old.table new.table
-  pub ops : HasSaves id groups new.table new.ops
+  pub ops : OpsJoin old.role id groups new.table old.ops new.ops
   pub readings : new.readings ≡ old.readings
 
 -- ---- what a reader keeps of a run of its readings

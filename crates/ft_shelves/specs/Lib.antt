@@ -8,7 +8,7 @@ pub mod inner
 pub use Rattle.ft_fields.specs.Places
 pub use Rattle.ft_groups.specs.Grouped
 pub use Rattle.ft_hist.specs.Hist
-pub use Rattle.ft_keys.specs.Parts
+pub use Rattle.ft_fields.specs.Parts
 pub use Rattle.ft_hist.specs.Steps
 pub use Rattle.ft_maps.specs.Seen
 pub use Rattle.ft_pairs.specs.ByKey

@@ -8,8 +8,8 @@ use Rattle.std.specs.FinMap.{FinMap}
 use Rattle.ft_fields.specs.Places.{pos_cmp}
 use Rattle.ft_fields.specs.contracts.pos.Pos as pos
 use Rattle.ft_fields.specs.declared.pos.Pos.{Pos}
-use Rattle.ft_keys.specs.declared.key.Part.{Part}
-use Rattle.ft_pairs.specs.ByKey.{ByKey, ops_of}
+use Rattle.ft_fields.specs.declared.key.Part.{Part}
+use Rattle.ft_pairs.specs.ByKey.{OpsByKey, ops_of}
 use Rattle.ft_pairs.specs.Codes.{by_key_code}
 use Rattle.ft_pairs.specs.Source.{Ops}
 use Rattle.ft_pairs.specs.declared.at.At.{At}
@@ -21,7 +21,7 @@ use Rattle.ft_hits.specs.declared.mark.Mark.{Mark}
 use Rattle.ft_pairs.specs.Roles.{Admits}
 use Rattle.ft_pairs.specs.contracts.role.Role as role
 use Rattle.ft_pairs.specs.declared.role.Role.{Role}
-use Rattle.ft_pairs.specs.declared.role.Role.TheVariants.{Plain, Saves, Reads}
+use Rattle.ft_pairs.specs.declared.role.Role.TheVariants.{Plain, Saves}
 use Rattle.ft_pairs.specs.declared.role.Variable.{Variable}
 
 -- what readings found: by the place of the reading, the place of the saving (kernel: histogram.rst, inter-event hist triggers)
@@ -32,13 +32,13 @@ Readings = FinMap pos_cmp Pos
 pub record Shelved : Type 0 where
   pub role : Role
   pub table : Tabled
-  pub ops : ByKey
+  pub ops : OpsByKey
   pub readings : Readings
 
 -- a shelf, stored as its parts
 abbrev pub shelved_code : Coded Shelved
 shelved_code = code_by
-    (Role × (Tabled × (ByKey × Readings)))
+    (Role × (Tabled × (OpsByKey × Readings)))
     (coded× role.the_row.coded (coded× tabled_code (coded× by_key_code (map.code pos.the_row.coded pos.the_row.coded))))
     (λ s. (s.role, (s.table, (s.ops, s.readings)))) (λ p. record { role = p.0; table = p.1.0; ops = p.1.1.0; readings = p.1.1.1 }) (λ _. refl)
 

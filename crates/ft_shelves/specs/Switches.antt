@@ -1,6 +1,6 @@
 -- Which keys come into a table or go out.
 use Rattle.std.specs.Prelude.{◌≡◌, Bool, true, false, not, List}
-use Rattle.ft_keys.specs.declared.key.Part.{Part}
+use Rattle.ft_fields.specs.declared.key.Part.{Part}
 
 -- two truth values differ
 abbrev pub differ : Bool → Bool → Bool

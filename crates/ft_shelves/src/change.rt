@@ -1,7 +1,7 @@
 //! One hit more or less.
 
 ghost use Rattle.std.specs.Prelude.{◌≡◌};
-ghost use Rattle.ft_shelves.specs.Changes.{mark_of, sign_of};
+ghost use Rattle.ft_shelves.specs.Changes.{change_mark, sign_of};
 
 use crate::sign::Sign;
 use ft_table::{Hit, Mark};
@@ -28,7 +28,7 @@ impl HitChange {
 
     /// Where the hit stands.
     pub fn mark(&self) -> Mark
-        ensures { result ≡ mark_of self.now }
+        ensures { result ≡ change_mark self.now }
     {
         match self {
             HitChange::Insert(hit) => Mark {

@@ -5,19 +5,17 @@ ghost use Rattle.std.specs.Prelude.{◌≡◌, List, None, OnOk, IfOk};
 ghost use Rattle.std.specs.FinMap as map;
 ghost use Rattle.ft_hist.specs.Steps.{StepsGrow};
 ghost use Rattle.ft_groups.specs.Grouped.{run_of};
-ghost use Rattle.ft_keys.specs.declared.key.Part.{Part};
+ghost use Rattle.ft_fields.specs.declared.key.Part.{Part};
 ghost use Rattle.ft_pairs.specs.ByKey.{ops_of};
 ghost use Rattle.ft_pairs.specs.declared.at.At.{At};
-ghost use Rattle.ft_shelves.specs.Joining.{AreGroupsOf};
-ghost use Rattle.ft_shelves.specs.Joining.{HasGroups, HasSaves, hits_of_run, saves_of_run};
+ghost use Rattle.ft_shelves.specs.Joining.{AreGroupsOf, HasGroups, HasSaves, hits_of_run, saves_of_run};
 
 use crate::sums::sums_at;
 use ft_groups::Groups;
-use ft_hist::{Key, Trigger, Work};
+use ft_hist::{Key, Trigger, Triggers, Work};
 use ft_pairs::{At, Op, Pairs};
 use ft_table::{Spot, Table};
 use std::alloc::{AllocError, Global};
-use std::collections::BTreeMap;
 
 /// A trigger that joins others, and the events that it counts, grouped by key.
 #[derive(Clone, Copy)]
@@ -25,7 +23,7 @@ pub struct Joining<'a, 'e> {
     /// What memory comes from.
     pub alloc: Global,
     /// The attached triggers, it among them.
-    pub triggers: &'a BTreeMap<u32, Trigger>,
+    pub triggers: &'a Triggers,
     /// The trigger.
     pub trigger: &'a Trigger,
     /// Its id.

@@ -23,8 +23,8 @@
 //! - `HitChange::sign`, `mark`, `Sign::is_insert`: exact (`specs/Changes.antt`). A *hit change* is
 //!   one hit that comes, or the mark of one that goes.
 //! - `Shelf::change_hit`, `change_op`: a hit that reads nothing, or an operation, comes where none
-//!   stands or goes, and all else stays (`specs/Changes.antt`). One that comes takes one put, and
-//!   lets through: running out of memory, and then nothing is said of the shelf. One that goes
+//!   stands or goes, and all else stays (`specs/Changes.antt`). One that comes takes one put at most,
+//!   and lets through: running out of memory, and then nothing is said of the shelf. One that goes
 //!   takes none and needs no memory.
 //! - `Shelf::put_hit`, `set_readings`: one more hit and what it read; other readings
 //!   (`specs/Edits.antt`, `specs/Joining.antt`). All else stays. Lets through: running out of memory
@@ -38,10 +38,10 @@
 //!   the hit's own, and one other at most. Where none did, it takes two puts at most as the hit
 //!   comes, and none as it goes. Lets through: running out of memory at any time, and then nothing
 //!   is said of the shelf; any number of puts where a key moved.
-//! - `Shelf::put_groups`, `put_savings`, `Shelf::put_run`: a trigger that joins: the hits of all
-//!   events that it counts, by their groups; a saver's, with a save at each event whose key is in
-//!   the table; the hits of one key (`specs/Joining.antt`). No event is tested. Lets through:
-//!   running out of memory at any time, and then nothing is said of the shelf; any number of puts.
+//! - `Shelf::join`, `put_run`: of a trigger that joins, the hits of all events that it counts, by
+//!   their groups, and of a saver a save at each event whose key is in the table; the hits of one
+//!   key (`specs/Joining.antt`). No event is tested. Lets through: running out of memory at any
+//!   time, and then nothing is said of the shelf; any number of puts.
 //! - `sums_at`: what a trigger's hit at an event adds to its sums, by what the event read, where
 //!   the event has the stamp of its place; exact.
 //! - `Shelf::has_no_hits`, `has_no_ops`: where it says so, there are no hits; no operation stands on
@@ -57,7 +57,7 @@ mod sums;
 
 pub use change::HitChange;
 pub use joining::Joining;
-pub use saver::{Moved, change_saver_hit, put_savings};
+pub use saver::{Moved, change_saver_hit};
 pub use shelf::Shelf;
 pub use sign::Sign;
 pub use sums::sums_at;

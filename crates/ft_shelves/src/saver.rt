@@ -1,21 +1,18 @@
 //! What a saver's shelf keeps: the operations on what it saves follow the keys of its table.
 
 ghost use Rattle.std.specs.Prelude.{◌≡◌, ◌+◌, ◌≤◌, ◌⊎◌, List, false, None, OnOk, IfOk, if◌then◌else◌};
-ghost use Rattle.std.specs.FinMap as map;
 ghost use Rattle.ft_fields.specs.declared.pos.Pos.{Pos};
 ghost use Rattle.ft_hist.specs.Steps.{StepsGrow};
-ghost use Rattle.ft_keys.specs.declared.key.Part.{Part};
+ghost use Rattle.ft_fields.specs.declared.key.Part.{Part};
 ghost use Rattle.ft_pairs.specs.ByKey.{ops_of};
 ghost use Rattle.ft_pairs.specs.declared.at.At.{At};
 ghost use Rattle.ft_table.specs.Tabled.{is_in};
-ghost use Rattle.ft_shelves.specs.Changes.{is_insert, mark_of, on_insert, sign_of, table_with};
+ghost use Rattle.ft_shelves.specs.Changes.{is_insert, change_mark, on_insert, sign_of, table_with};
 ghost use Rattle.ft_shelves.specs.Following.{HitFollows, IsUnsaved, MovesKeys};
-ghost use Rattle.ft_shelves.specs.Joining.{AreGroupsOf, SavingsCome};
 ghost use Rattle.ft_shelves.specs.Switches.{HasMoved};
 ghost use Rattle.ft_shelves.specs.inner.Following.{OwnChanges, edge_for, has_crossed};
 
 use crate::change::HitChange;
-use crate::joining::Joining;
 use crate::shelf::Shelf;
 use crate::sign::Sign;
 use ft_hist::{Key, Work};
@@ -57,7 +54,7 @@ pub fn change_saver_hit(
     requires outside { (k : List Part) → is_in shelf.old.table k ≡ false
         → (pos : Pos) → ops_of shelf.old.ops k (record { pos = pos; trigger = id }) ≡ None }
     ensures follows { OnOk result (HitFollows id change shelf.old shelf.new) }
-    ensures moved { IfOk result (λ moved. MovesKeys (mark_of change).key moved
+    ensures moved { IfOk result (λ moved. MovesKeys (change_mark change).key moved
         (is_in shelf.old.table) (is_in shelf.new.table)) }
     ensures puts { (work.new.puts ≤ work.old.puts + on_insert (sign_of change) 2)
         ⊎ HasMoved (is_in shelf.old.table) (is_in (table_with change shelf.old.table)) }
@@ -126,33 +123,5 @@ fn edge_for(table: &Table, sign: Sign) -> Option<Key>
 fn crossed(table: &Table, edge: Option<Key>, key: &Key, sign: Sign) -> Option<Key>
     ensures { result ≡ (if has_crossed table.now key.now (is_insert sign) edge then edge else None) }
 {
-    match edge {
-        Some(other) if other != *key => {
-            if table.is_in(&other) != sign.is_insert() {
-                edge
-            } else {
-                None
-            }
-        }
-        _ => None,
-    }
-}
-
-/// Puts all hits of a saver on its shelf, and then a save at each hit of the keys that are in its
-/// table. Refused for memory.
-pub fn put_savings(
-    shelf: &mut Shelf,
-    joining: &Joining<'_, '_>,
-    work: &mut Work,
-) -> Result<(), AllocError>
-    requires empty { shelf.old.table.hits ≡ map.empty }
-    requires unsaved { (key : List Part) (at : At) → ops_of shelf.old.ops key at ≡ None }
-    requires grouped { AreGroupsOf joining.now.trigger.now joining.now.groups.now }
-    ensures ok { OnOk result (SavingsCome joining.now.id joining.now.trigger.now
-        joining.now.groups.now shelf.old shelf.new) }
-    ensures evals { work.new.evals ≡ work.old.evals }
-    ensures grow { StepsGrow work.old work.new }
-{
-    shelf.put_groups(joining, work)?;
-    shelf.save_groups(joining, work)
+    edge.filter(|other| other != key && table.is_in(other) != sign.is_insert())
 }

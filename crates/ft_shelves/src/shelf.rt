@@ -4,7 +4,7 @@ ghost use Rattle.std.specs.Prelude.{◌≡◌, ◌+◌, ◌<◌, ◌≤◌, List
 ghost use Rattle.std.specs.FinMap as map;
 ghost use Rattle.ft_fields.specs.Places.{pos_cmp};
 ghost use Rattle.ft_fields.specs.declared.pos.Pos.{Pos};
-ghost use Rattle.ft_keys.specs.declared.key.Part.{Part};
+ghost use Rattle.ft_fields.specs.declared.key.Part.{Part};
 ghost use Rattle.ft_maps.specs.Seen.{seen};
 ghost use Rattle.ft_pairs.specs.ByKey.{ChangesKey, ops_of, ops_left};
 ghost use Rattle.ft_pairs.specs.Edits.{reads_alone};
@@ -12,20 +12,17 @@ ghost use Rattle.ft_pairs.specs.Next.{IsNext};
 ghost use Rattle.ft_pairs.specs.Runs.{FindEach, with_reads};
 ghost use Rattle.ft_pairs.specs.Source.{IsSource};
 ghost use Rattle.ft_pairs.specs.declared.at.At.{At};
+ghost use Rattle.ft_pairs.specs.declared.role.Role.TheVariants.{Saves};
 ghost use Rattle.ft_table.specs.Runs.{HasNone};
-ghost use Rattle.ft_table.specs.Spots.{traced};
 ghost use Rattle.ft_table.specs.Tabled.{is_in};
 ghost use Rattle.ft_hist.specs.Steps.{StepsGrow};
-ghost use Rattle.ft_shelves.specs.Changes.{IsFree, is_insert, on_insert, op_after, set_op, sign_of, with_change};
+ghost use Rattle.ft_shelves.specs.Changes.{PlaceIsFree, is_insert, on_insert, op_after, set_op, sign_of, with_change};
 ghost use Rattle.ft_shelves.specs.declared.sign.Sign.TheVariants.{Retract};
 ghost use Rattle.ft_shelves.specs.Shelves.{IsNewShelf};
 ghost use Rattle.ft_shelves.specs.Edits.{OpsChange, with_hit_on, without_hit_on};
-ghost use Rattle.ft_shelves.specs.Joining.{AreGroupsOf};
-ghost use Rattle.ft_shelves.specs.Joining.{HitsCome};
-ghost use Rattle.ft_shelves.specs.inner.Joining.{SavesCome};
-ghost use Rattle.ft_shelves.specs.Joining.{ReadingsSet, RunComes, found_last};
-ghost use Rattle.ft_shelves.specs.inner.Following.{with_save};
+ghost use Rattle.ft_shelves.specs.Joining.{AreGroupsOf, HasJoined, ReadingsSet, RunComes, found_last};
 ghost use Rattle.ft_shelves.specs.Following.{with_saves, switched};
+ghost use Rattle.ft_shelves.specs.inner.Following.{with_save};
 
 use crate::change::HitChange;
 use crate::joining::{Joining, put_groups, save_groups};
@@ -34,7 +31,7 @@ use ft_fields::Pos;
 use ft_hist::{Key, Work};
 use ft_maps::{put, take};
 use ft_pairs::{At, Op, Pairs, Role};
-use ft_table::{Hit, Spot, Table};
+use ft_table::{Hit, Mark, Spot, Table};
 use std::alloc::{AllocError, Global};
 use std::collections::BTreeMap;
 use std::marker::Model;
@@ -139,19 +136,18 @@ impl Shelf {
         self.table.insert(hit, work)
     }
 
-    /// Takes what stands at a place: the hit of the event there under a key, and what the reading
-    /// there found.
-    pub fn take_hit(&mut self, pos: Pos, key: Key)
-        ensures { self.new ≡ without_hit_on (record { spot = traced pos; key = key }) self.old }
+    /// Takes what stands at a mark: the hit, and what the reading at its place found.
+    pub fn take_hit(&mut self, mark: Mark)
+        ensures { self.new ≡ without_hit_on mark self.old }
     {
-        self.table.remove(Spot::traced(pos), key);
-        take(&mut self.readings, &pos);
+        self.table.remove(mark.spot, mark.key);
+        take(&mut self.readings, &mark.spot.pos);
     }
 
     /// Puts a hit where none stands, which read nothing, or takes what stands at a mark. Refused for
     /// memory, which taking needs none of.
     pub fn change_hit(&mut self, change: HitChange, work: &mut Work) -> Result<(), AllocError>
-        requires { IsFree change self.old.table.hits }
+        requires { PlaceIsFree change self.old.table.hits }
         ensures ok { OnOk result (self.new ≡ with_change change self.old) }
         ensures memory { sign_of change ≡ Retract → result ≡ Ok tt }
         ensures puts { work.new.puts ≤ work.old.puts + on_insert (sign_of change) 1 }
@@ -161,8 +157,7 @@ impl Shelf {
         match change {
             HitChange::Insert(hit) => self.put_hit(hit, None, work),
             HitChange::Retract(mark) => {
-                self.table.remove(mark.spot, mark.key);
-                take(&mut self.readings, &mark.spot.pos);
+                self.take_hit(mark);
                 Ok(())
             }
         }
@@ -214,37 +209,23 @@ impl Shelf {
         self.pairs.is_empty()
     }
 
-    /// Puts the hits of all groups of a trigger that joins, where it has none. Refused for memory.
-    pub fn put_groups(
-        &mut self,
-        joining: &Joining<'_, '_>,
-        work: &mut Work,
-    ) -> Result<(), AllocError>
+    /// Puts the hits of all groups of a trigger that joins, where it has none, and of a saver a save
+    /// at each event whose key is in its table, where no operation stands. Refused for memory.
+    pub fn join(&mut self, joining: &Joining<'_, '_>, work: &mut Work) -> Result<(), AllocError>
         requires empty { self.old.table.hits ≡ map.empty }
+        requires free { self.old.role ≡ Saves → (key : List Part) (at : At)
+            → ops_of self.old.ops key at ≡ None }
         requires grouped { AreGroupsOf joining.now.trigger.now joining.now.groups.now }
-        ensures ok { OnOk result (HitsCome joining.now.trigger.now joining.now.groups.now
-            self.old self.new) }
+        ensures ok { OnOk result (HasJoined joining.now.id joining.now.trigger.now
+            joining.now.groups.now self.old self.new) }
         ensures evals { work.new.evals ≡ work.old.evals }
         ensures grow { StepsGrow work.old work.new }
     {
-        put_groups(&mut self.table, joining, work)
-    }
-
-    /// Puts a save at each event of the groups of a saver that joins whose keys are in its table,
-    /// where no operation stands. Refused for memory.
-    pub(crate) fn save_groups(
-        &mut self,
-        joining: &Joining<'_, '_>,
-        work: &mut Work,
-    ) -> Result<(), AllocError>
-        requires free { (key : List Part) (at : At) → ops_of self.old.ops key at ≡ None }
-        requires grouped { AreGroupsOf joining.now.trigger.now joining.now.groups.now }
-        ensures ok { OnOk result (SavesCome joining.now.id joining.now.groups.now
-            self.old self.new) }
-        ensures evals { work.new.evals ≡ work.old.evals }
-        ensures grow { StepsGrow work.old work.new }
-    {
-        save_groups(&mut self.pairs, &self.table, joining, work)
+        put_groups(&mut self.table, joining, work)?;
+        match self.role {
+            Role::Saves => save_groups(&mut self.pairs, &self.table, joining, work),
+            Role::Plain | Role::Reads(_) => Ok(()),
+        }
     }
 
     /// Lets the operations of a key of this saver follow its table, where the key was in it or

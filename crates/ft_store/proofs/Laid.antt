@@ -4,7 +4,7 @@ use Rattle.std.proofs.lemmas.List.{take-append-drop, length-take-le, take-map, m
 use Rattle.std.proofs.Math.Seq.{drop-append-add}
 use Rattle.ft_fields.specs.Traced.{Traced}
 use Rattle.ft_store.specs.declared.packed.Packed.{Packed}
-use Rattle.ft_store.specs.inner.Packing.{moved, width, event_of, unpacked, all_unpacked, IsSound, AreLaid}
+use Rattle.ft_store.specs.inner.Packing.{moved, width, event_of, unpacked, all_unpacked, IsSoundPacked, AreLaid}
 use Rattle.ft_store.proofs.Names.{added_names, names_stay}
 
 -- an event stands at a place of a list
@@ -24,10 +24,10 @@ laid_forward begins (event ∷ events) ends laid = omega (arith, laid_forward (b
 
 -- an event is sound, and its names end within those of all
 pub laid_at : (begins : ℕ) (events : List Packed) (ends n : ℕ) (event : Packed) → AreLaid begins events ends → StandsAt events n event
-    → IsSound event × (event.begins + width event ≤ ends)
+    → IsSoundPacked event × (event.begins + width event ≤ ends)
 laid_at begins [] ends n event laid at = absurd (omega arith)
 laid_at begins (first ∷ events) ends zero event laid at =
-    subst (λ (e : Packed). IsSound e × (e.begins + width e ≤ ends)) (sym at.1) (laid.0, omega (arith, laid_forward (begins + width first) events ends laid.2))
+    subst (λ (e : Packed). IsSoundPacked e × (e.begins + width e ≤ ends)) (sym at.1) (laid.0, omega (arith, laid_forward (begins + width first) events ends laid.2))
 laid_at begins (first ∷ events) ends (suc n) event laid at = laid_at (begins + width first) events ends n event laid.2 (omega arith, at.1)
 
 -- the names of the first events end where those of the next one begin
@@ -58,7 +58,7 @@ all_stay text more begins (event ∷ events) ends laid within =
 -- ---- one event more
 
 -- an event whose names are added to the text is laid after the others
-pub laid_more : (text names : List ℕ) (events : List Packed) (event : Packed) → AreLaid 0 events (length text) → IsSound event → event.begins ≡ length text
+pub laid_more : (text names : List ℕ) (events : List Packed) (event : Packed) → AreLaid 0 events (length text) → IsSoundPacked event → event.begins ≡ length text
     → width event ≡ length names → AreLaid 0 (events ++ event ∷ []) (length (text ++ names))
 laid_more text names events event laid sound at long =
     laid_join 0 events (length text) (event ∷ []) (length (text ++ names)) laid (sound, at, omega (arith, long, length-append text names))

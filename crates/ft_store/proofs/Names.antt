@@ -8,7 +8,7 @@ use Rattle.ft_fields.specs.declared.event.Turn.{Turn}
 use Rattle.ft_fields.specs.declared.event.Wake.{Wake}
 use Rattle.ft_fields.specs.Traced.{Traced}
 use Rattle.ft_store.specs.declared.packed.Packed.{Packed}
-use Rattle.ft_store.specs.inner.Packing.{body_names, event_names, packed_wake, packed_turn, packed_body, packed, body_width, width, wake_of, turn_of, body_of, event_of, own_names}
+use Rattle.ft_store.specs.inner.Packing.{body_names, event_names, packed_wake, packed_turn, packed_body, packed, body_width, width, unpacked_wake, unpacked_turn, body_of, event_of, own_names}
 
 -- ---- how many bytes names take
 
@@ -26,10 +26,10 @@ event_takes begins event = omega (arith, body_takes event.body, length-append ev
 
 -- ---- what comes back
 
-wake_back : (wake : Wake) → wake_of wake.comm (packed_wake wake) ≡ wake
+wake_back : (wake : Wake) → unpacked_wake wake.comm (packed_wake wake) ≡ wake
 wake_back wake = ap (λ (comm : List ℕ). record { comm = comm; pid = wake.pid; prio = wake.prio; target_cpu = wake.target_cpu }) (take_all (length wake.comm) wake.comm (omega arith))
 
-turn_back : (turn : Turn) → turn_of (turn.prev_comm ++ (turn.prev_state ++ turn.next_comm)) (packed_turn turn) ≡ turn
+turn_back : (turn : Turn) → unpacked_turn (turn.prev_comm ++ (turn.prev_state ++ turn.next_comm)) (packed_turn turn) ≡ turn
 turn_back turn =
     let all : List ℕ = turn.prev_comm ++ (turn.prev_state ++ turn.next_comm) in
     let first : take (length turn.prev_comm) all ≡ turn.prev_comm = take_at turn.prev_comm (turn.prev_state ++ turn.next_comm) (length turn.prev_comm) refl in
@@ -40,8 +40,8 @@ turn_back turn =
     ap (λ (names : List ℕ). take (length turn.next_comm) (drop (length turn.prev_state) names)) behind
     ∙ ap (take (length turn.next_comm)) (drop_at turn.prev_state turn.next_comm (length turn.prev_state) refl)
     ∙ take_all (length turn.next_comm) turn.next_comm (omega arith) in
-    ap (λ (name : List ℕ). record (turn_of all (packed_turn turn)) { prev_comm = name }) first
-    ∙ ap (λ (name : List ℕ). record (turn_of all (packed_turn turn)) { prev_comm = turn.prev_comm; prev_state = name }) state
+    ap (λ (name : List ℕ). record (unpacked_turn all (packed_turn turn)) { prev_comm = name }) first
+    ∙ ap (λ (name : List ℕ). record (unpacked_turn all (packed_turn turn)) { prev_comm = turn.prev_comm; prev_state = name }) state
     ∙ ap (λ (name : List ℕ). record turn { next_comm = name }) last
 
 body_back : (body : Body) → body_of (body_names body) (packed_body body) ≡ body

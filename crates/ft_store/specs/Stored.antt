@@ -51,5 +51,5 @@ as_number (values.Num number) = Some number
 as_number (values.Text text) = None
 
 -- the number that a field of an event holds, where the event has the field and it holds no text
-abbrev pub number_of : Traced → Field → Option ℤ
-number_of event field = option_and_then as_number (field_of event field)
+abbrev pub field_number : Traced → Field → Option ℤ
+field_number event field = option_and_then as_number (field_of event field)

@@ -2,13 +2,13 @@
 
 ghost use Rattle.std.specs.Prelude.{◌≡◌, ◌+◌, ◌≤◌, ◌++◌, ℕ, List, [], length, take, OnOk, OnErr, IfOk};
 ghost use Rattle.std.specs.Option.{option_map};
-ghost use Rattle.ft_fields.specs.Borrowed.{named, waked, turned, told, event_told};
+ghost use Rattle.ft_fields.specs.Borrowed.{name_bytes, waked, turned, owned_body, event_told};
 ghost use Rattle.ft_fields.specs.Fields as fields;
 ghost use Rattle.ft_fields.specs.Fields.{matched_of, task_of};
 ghost use Rattle.ft_store.specs.inner.Packing.{turn_names, body_names, event_names, packed_wake, packed_turn, packed_body, packed};
-ghost use Rattle.ft_store.specs.inner.Packing.{turn_width, body_width, width, wake_of, turn_of, body_of, own_names, unpacked, kind_of};
-ghost use Rattle.ft_store.specs.inner.Packing.{IsShortTurn, IsShortBody, IsSound, placed, moved};
-ghost use Rattle.ft_store.specs.Stored.{bare_wake, bare_turn, bare_body, bare, number_of};
+ghost use Rattle.ft_store.specs.inner.Packing.{turn_width, body_width, width, unpacked_wake, unpacked_turn, body_of, own_names, unpacked, packed_name};
+ghost use Rattle.ft_store.specs.inner.Packing.{IsShortTurn, IsShortBody, IsSoundPacked, packed_at, moved};
+ghost use Rattle.ft_store.specs.Stored.{bare_wake, bare_turn, bare_body, bare, field_number};
 
 use ft_fields::{
     Body, BodyRef, Comm, Event, EventRef, Field, Matched, Name, NameRef, Turn, TurnRef, Wake,
@@ -105,7 +105,7 @@ impl PackedWake {
     fn unpacked(&self, names: &[u8]) -> Wake
         requires short { self.now.comm ≤ 31 }
         requires within { self.now.comm ≤ length names.now }
-        ensures { result ≡ wake_of names.now self.now }
+        ensures { result ≡ unpacked_wake names.now self.now }
     {
         Wake {
             comm: name_in(names, self.comm),
@@ -118,7 +118,7 @@ impl PackedWake {
     /// The event without its name.
     #[inline(always)]
     fn bare(&self) -> Wake
-        ensures { (names : List ℕ) → result ≡ bare_wake (wake_of names self.now) }
+        ensures { (names : List ℕ) → result ≡ bare_wake (unpacked_wake names self.now) }
     {
         Wake {
             comm: no_name(),
@@ -152,7 +152,7 @@ impl PackedTurn {
     fn unpacked(&self, names: &[u8]) -> Turn
         requires short { IsShortTurn self.now }
         requires within { turn_width self.now ≤ length names.now }
-        ensures { result ≡ turn_of names.now self.now }
+        ensures { result ≡ unpacked_turn names.now self.now }
     {
         let behind = &names[self.prev_comm as usize..];
         let last = &behind[self.prev_state as usize..];
@@ -170,7 +170,7 @@ impl PackedTurn {
     /// The switch without its names.
     #[inline(always)]
     fn bare(&self) -> Turn
-        ensures { (names : List ℕ) → result ≡ bare_turn (turn_of names self.now) }
+        ensures { (names : List ℕ) → result ≡ bare_turn (unpacked_turn names self.now) }
     {
         Turn {
             prev_comm: no_name(),
@@ -188,7 +188,7 @@ impl PackedBody {
     /// What was traced, without its names.
     #[inline(always)]
     fn of(body: &BodyRef<'_>) -> PackedBody
-        ensures value { result ≡ packed_body (told body.now) }
+        ensures value { result ≡ packed_body (owned_body body.now) }
         ensures short { IsShortBody result }
     {
         match body {
@@ -253,7 +253,7 @@ impl PackedBody {
     /// What it says of a task that is woken, where it is a wake event.
     #[inline(always)]
     fn wake(&self) -> Option<PackedWake>
-        ensures { (names : List ℕ) → option_map (wake_of names) result
+        ensures { (names : List ℕ) → option_map (unpacked_wake names) result
             ≡ fields.wake_of (body_of names self.now) }
     {
         match self {
@@ -267,7 +267,7 @@ impl PackedBody {
     /// What it says of the two tasks, where it is a switch.
     #[inline(always)]
     fn turn(&self) -> Option<PackedTurn>
-        ensures { (names : List ℕ) → option_map (turn_of names) result
+        ensures { (names : List ℕ) → option_map (unpacked_turn names) result
             ≡ fields.turn_of (body_of names self.now) }
     {
         match self {
@@ -321,7 +321,7 @@ impl PackedBody {
 
     /// Which event it is.
     fn name(&self) -> Name
-        ensures { result ≡ kind_of self.now }
+        ensures { result ≡ packed_name self.now }
     {
         match self {
             PackedBody::Waking(_) => Name::Waking,
@@ -339,7 +339,7 @@ impl Packed {
     #[inline(always)]
     pub(crate) fn of(event: &EventRef<'_>, begins: u32) -> Packed
         ensures value { result ≡ packed begins (event_told event.now) }
-        ensures sound { IsSound result }
+        ensures sound { IsSoundPacked result }
     {
         Packed {
             stamp: event.stamp,
@@ -354,7 +354,7 @@ impl Packed {
     /// The same with its names at another place of the text. Refused past the last place.
     #[inline(always)]
     pub(crate) fn placed(&self, begins: usize) -> Result<Packed, AllocError>
-        ensures { IfOk result (λ packed. packed ≡ placed begins self.now) }
+        ensures { IfOk result (λ packed. packed ≡ packed_at begins self.now) }
     {
         if begins > LAST_PLACE {
             return Err(AllocError);
@@ -394,7 +394,7 @@ impl Packed {
 
     /// The event with its names from the text.
     pub(crate) fn unpacked(&self, text: &[u8]) -> Event
-        requires sound { IsSound self.now }
+        requires sound { IsSoundPacked self.now }
         requires within { self.now.begins + width self.now ≤ length text.now }
         ensures { result ≡ unpacked text.now self.now }
     {
@@ -410,7 +410,7 @@ impl Packed {
 
     /// The event without its names.
     pub(crate) fn bare(&self) -> Event
-        requires { IsSound self.now }
+        requires { IsSoundPacked self.now }
         ensures { (text : List ℕ) → result ≡ bare (unpacked text self.now) }
     {
         Event {
@@ -424,7 +424,7 @@ impl Packed {
 
     /// The number that a field of it holds.
     pub(crate) fn number(&self, field: Field) -> Option<i64>
-        ensures { (text : List ℕ) → result ≡ number_of (unpacked text self.now) field }
+        ensures { (text : List ℕ) → result ≡ field_number (unpacked text self.now) field }
     {
         match field {
             Field::CommonPid => Some(i64::from(self.pid)),
@@ -443,7 +443,7 @@ impl Packed {
 
     /// Which event it is.
     pub(crate) fn name(&self) -> Name
-        ensures { result ≡ kind_of self.now.body }
+        ensures { result ≡ packed_name self.now.body }
     {
         self.body.name()
     }
@@ -463,7 +463,7 @@ fn push_bytes(text: &mut Vec<u8>, bytes: &[u8]) -> Result<(), AllocError>
 /// its own text, where there is room for 16.
 #[inline(always)]
 fn push_name(text: &mut Vec<u8>, name: &NameRef<'_>) -> Result<(), AllocError>
-    ensures ok { OnOk result (text.new.items ≡ text.old.items ++ named name.now) }
+    ensures ok { OnOk result (text.new.items ≡ text.old.items ++ name_bytes name.now) }
     ensures err { OnErr result (text.new.items ≡ text.old.items) }
 {
     let len = name.len() as usize;
@@ -494,7 +494,7 @@ fn push_turn(text: &mut Vec<u8>, turn: &TurnRef<'_>) -> Result<(), AllocError>
 /// there.
 #[inline(always)]
 fn push_body(text: &mut Vec<u8>, body: &BodyRef<'_>) -> Result<(), AllocError>
-    ensures ok { OnOk result (text.new.items ≡ text.old.items ++ body_names (told body.now)) }
+    ensures ok { OnOk result (text.new.items ≡ text.old.items ++ body_names (owned_body body.now)) }
     ensures err { OnErr result (take (length text.old.items) text.new.items ≡ text.old.items) }
 {
     match body {

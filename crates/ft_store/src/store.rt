@@ -2,7 +2,7 @@
 
 ghost use Rattle.std.specs.Prelude.{◌≡◌, ◌≤◌, ◌++◌, ◌∷◌, [], length, map, take, OnOk, OnErr, IfOk};
 ghost use Rattle.ft_fields.specs.Borrowed.{event_told};
-ghost use Rattle.ft_store.specs.inner.Packing.{event_names, event_of, packed, moved, width, IsSound};
+ghost use Rattle.ft_store.specs.inner.Packing.{event_names, event_of, packed, moved, width, IsSoundPacked};
 
 use crate::packed::{LAST_PLACE, Packed, push_names};
 use crate::stored::Stored;
@@ -47,7 +47,7 @@ fn push_packed(
         (names.new.items ≡ names.old.items ++ event_names (event_told event.now)) }
     ensures events { OnOk result (events.new.items
         ≡ events.old.items ++ packed (length names.old.items) (event_told event.now) ∷ []) }
-    ensures sound { OnOk result (IsSound (packed (length names.old.items) (event_told event.now))) }
+    ensures sound { OnOk result (IsSoundPacked (packed (length names.old.items) (event_told event.now))) }
     ensures err { OnErr result (take (length names.old.items) names.new.items ≡ names.old.items) }
     ensures same { OnErr result (events.new.items ≡ events.old.items) }
 {
@@ -97,7 +97,7 @@ fn append_packed(
 
 impl Store {
     ghost use Rattle.ft_fields.specs.Traced.{last_cpu, name_of};
-    ghost use Rattle.ft_store.specs.Stored.{bare, held, number_of, stored_at};
+    ghost use Rattle.ft_store.specs.Stored.{bare, held, field_number, stored_at};
 
     /// No events. It takes no memory.
     pub fn new(alloc: Global) -> Store
@@ -181,7 +181,7 @@ impl Store {
     /// Adds a packed event with its names after the others. Refused for memory, or where their
     /// names take 4 GiB, and then all is as it was.
     fn push_behind(&mut self, packed: &Packed, names: &[u8]) -> Result<(), AllocError>
-        requires sound { IsSound packed.now }
+        requires sound { IsSoundPacked packed.now }
         requires long { length names.now ≡ width packed.now }
         ensures ok { OnOk result (self.new ≡ self.old ++ event_of names.now packed.now ∷ []) }
         ensures err { OnErr result (self.new ≡ self.old) }
@@ -294,7 +294,7 @@ impl Store {
 
     /// The number that a field of the event at a place holds. No name is read.
     pub(crate) fn number_at(&self, place: usize, field: Field) -> Option<i64>
-        ensures { result ≡ number_of (stored_at self.now place) field }
+        ensures { result ≡ field_number (stored_at self.now place) field }
     {
         match self.events.get(place) {
             Some(packed) => packed.number(field),

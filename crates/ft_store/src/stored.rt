@@ -14,7 +14,7 @@ pub struct Stored<'a> {
 
 impl<'a> Stored<'a> {
     ghost use Rattle.ft_fields.specs.Traced.{name_of};
-    ghost use Rattle.ft_store.specs.Stored.{bare, held, number_of, stored_at};
+    ghost use Rattle.ft_store.specs.Stored.{bare, held, field_number, stored_at};
 
     /// The event at a place of a store.
     pub fn new(store: &'a Store, place: u32) -> Stored<'a>
@@ -61,7 +61,7 @@ impl<'a> Stored<'a> {
     /// The number that a field of it holds, or `None` where it has no such field or the field holds
     /// a text. No event is made of it, and no name is read.
     pub fn number(&self, field: Field) -> Option<i64>
-        ensures { result ≡ number_of (held self.now) field }
+        ensures { result ≡ field_number (held self.now) field }
     {
         self.store.number_at(self.place as usize, field)
     }

@@ -12,8 +12,8 @@ use Rattle.std.proofs.lemmas.Bool.Decides.{nat_tests}
 use Rattle.std.proofs.lemmas.Cmp.{tied_itself}
 use Rattle.std.proofs.lemmas.List.Edits.{insert_end}
 use Rattle.ft_hits.specs.declared.spot.Spot.{Spot}
-use Rattle.ft_keys.specs.declared.key.Part.{Part}
-use Rattle.ft_keys.specs.Parts.{key_cmp}
+use Rattle.ft_fields.specs.declared.key.Part.{Part}
+use Rattle.ft_fields.specs.Parts.{key_cmp}
 use Rattle.ft_hits.specs.declared.mark.Mark.{Mark}
 use Rattle.ft_hits.specs.Spots.{spot_cmp, spot_cmp_total}
 use Rattle.ft_hits.specs.Marks.{mark_cmp, mark_cmp_total}
@@ -22,7 +22,7 @@ use Rattle.ft_hits.specs.Hits.{Hits, hits_of, least_key, first_place, same_key}
 use Rattle.ft_table.specs.Tabled.{Tabled, is_first, first_hits, order_of, keys_in, is_in}
 use Rattle.ft_table.specs.inner.Moves.{order_without, order_with, others}
 use Rattle.ft_table.specs.Growth.{AreBefore, with_hit, KeysGrow}
-use Rattle.ft_keys.specs.Orders.{key_cmp_total}
+use Rattle.ft_fields.specs.Orders.{key_cmp_total}
 use Rattle.ft_hits.proofs.Flat.{mark}
 use Rattle.ft_table.proofs.Firsts.{first_is_hit, get-first_hits, order-none, order-some, order-enter, order-found}
 use Rattle.ft_table.proofs.Changes.{insert-beside, hits_of-insert, order_before-beside}

@@ -1,5 +1,5 @@
 -- Counts of hits along the order, as those of one key change.
-use Rattle.std.proofs.Common.{◌≡◌, ℕ, zero, suc, ◌+◌, ◌-◌, ◌<◌, ◌≤◌, ◌^◌, Bool, true, false, cond, List, [], ◌∷◌, length, get_or, refl, sym, ap, ◌∙◌, arith, Some, None, Option, inl, inr}
+use Rattle.std.proofs.Common.{◌≡◌, ℕ, zero, suc, ◌+◌, ◌-◌, ◌<◌, ◌≤◌, ◌^◌, Bool, true, false, cond, List, [], ◌∷◌, length, get_or, refl, sym, ap, subst, ◌∙◌, arith, Some, None, Option, inl, inr}
 use Rattle.std.specs.Prelude.{ℤ, ◌||◌, not, is_some}
 use Rattle.std.specs.List.{sum_by, list_any}
 use Rattle.std.specs.Ordering.{eq_by_cmp}
@@ -7,15 +7,15 @@ use Rattle.std.specs.Cmp.{eq_by_cmp_equiv}
 use Rattle.std.specs.FinMap as map
 use Rattle.std.specs.FinMap.{FinMap, get-insert, contains_key-keys}
 use Rattle.std.proofs.lemmas.Bool.{cases_order}
-use Rattle.ft_keys.specs.declared.key.Part.{Part}
+use Rattle.ft_fields.specs.declared.key.Part.{Part}
 use Rattle.ft_hits.specs.declared.mark.Mark.{Mark}
 use Rattle.ft_hits.specs.Marks.{mark_cmp, mark_cmp_total, mark_same}
 use Rattle.ft_table.specs.inner.Ascending.{IsRank}
-use Rattle.ft_table.specs.inner.Split.{IsSplit}
+use Rattle.ft_table.specs.inner.Cut.{IsSplit}
 use Rattle.ft_hits.specs.Hits.{Hits, same_key}
 use Rattle.ft_table.specs.Tabled.{first_hits}
-use Rattle.ft_table.specs.inner.Moves.{others, order_without, order_with}
-use Rattle.ft_hits.proofs.Flat.{is_equal}
+use Rattle.ft_table.specs.inner.Moves.{others, order_without, order_with, with_less, with_more}
+use Rattle.ft_hits.proofs.Flat.{is_equal, same_itself}
 use Rattle.ft_table.proofs.Firsts.{get-others, order-found}
 use Rattle.ft_table.proofs.Sorted.{rises-keys, not_before_itself}
 use Rattle.ft_table.proofs.Edges.{same-sums, all_behind, one-more, one-more-before, one-more-behind, sum-drop-le}
@@ -65,52 +65,69 @@ with-apart hits m i j d at lt ne =
 
 module _ (hits : Hits) (count more : List Part → ℕ) where
   -- counts that differ at a key that isn't listed
-  pub split-without : (key : List Part) (size h d : ℕ) → ((q : List Part) → same_key q key ≡ false → more q ≡ count q) → IsSplit count size (order_without hits key) h d → IsSplit more size (order_without hits key) h d
-  split-without key size h d same is =
+  pub split-without : (key : List Part) {order : List Mark} {size h d : ℕ} → order ≡ order_without hits key → ((q : List Part) → same_key q key ≡ false → more q ≡ count q) → IsSplit count size order h d → IsSplit more size order h d
+  split-without key {order = order} {size = size} without same is =
       let f : Mark → ℕ = λ m. count m.key in
       let g : Mark → ℕ = λ m. more m.key in
-      let each : (j : ℕ) (d : Mark) → j < length (order_without hits key) → g (get_or (order_without hits key) j d) ≡ f (get_or (order_without hits key) j d) = λ j d lt. same _ (without-apart hits key j d lt) in
-      record { behind = is.behind ∙ sym (all_behind f g (order_without hits key) size each); whole = is.whole ∙ sym (same-sums f g (order_without hits key) each); fits = is.fits }
+      let each : (j : ℕ) (d : Mark) → j < length order → g (get_or order j d) ≡ f (get_or order j d) =
+      subst (λ (ms : List Mark). (j : ℕ) (d : Mark) → j < length ms → g (get_or ms j d) ≡ f (get_or ms j d)) (sym without) (λ j d lt. same _ (without-apart hits key j d lt)) in
+      record { behind = is.behind ∙ sym (all_behind f g order size each); whole = is.whole ∙ sym (same-sums f g order each); fits = is.fits }
 
-  module _ (m : Mark) (size i h d : ℕ) (at : IsRank mark_cmp (order_with hits m) m i) (one : more m.key ≡ count m.key + 1) (same : (q : List Part) → same_key q m.key ≡ false → more q ≡ count q) where
+  module _ (m : Mark) (order : List Mark) (is : order ≡ order_with hits m) (i : ℕ) (at : IsRank mark_cmp (order_with hits m) m i) (one : more m.key ≡ count m.key + 1) (same : (q : List Part) → same_key q m.key ≡ false → more q ≡ count q) where
     abbrev f : Mark → ℕ
     f m = count m.key
 
     abbrev g : Mark → ℕ
     g m = more m.key
 
-    one_here : (d : Mark) → g (get_or (order_with hits m) i d) ≡ f (get_or (order_with hits m) i d) + 1
-    one_here d = ap g ((order-found hits m i at).1 d) ∙ one ∙ sym (ap (λ q. f q + 1) ((order-found hits m i at).1 d))
+    found : (i < length order) × ((d : Mark) → get_or order i d ≡ m)
+    found = subst (λ (ms : List Mark). (i < length ms) × ((d : Mark) → get_or ms i d ≡ m)) (sym is) (order-found hits m i at)
 
-    same_else : (j : ℕ) (d : Mark) → j < length (order_with hits m) → (j ≡ i → ⊥) → g (get_or (order_with hits m) j d) ≡ f (get_or (order_with hits m) j d)
-    same_else j d lt ne = same _ (with-apart hits m i j d at lt ne)
+    one_here : (d : Mark) → g (get_or order i d) ≡ f (get_or order i d) + 1
+    one_here d = ap g (found.1 d) ∙ one ∙ sym (ap (λ q. f q + 1) (found.1 d))
 
-    all_more : sum_by g (order_with hits m) ≡ sum_by f (order_with hits m) + 1
-    all_more = one-more f g (order_with hits m) i m (order-found hits m i at).0 (one_here m) same_else
+    same_else : (j : ℕ) (d : Mark) → j < length order → (j ≡ i → ⊥) → g (get_or order j d) ≡ f (get_or order j d)
+    same_else j d = subst (λ (ms : List Mark). j < length ms → (j ≡ i → ⊥) → g (get_or ms j d) ≡ f (get_or ms j d)) (sym is) (λ lt ne. same _ (with-apart hits m i j d at lt ne))
+
+    all_more : sum_by g order ≡ sum_by f order + 1
+    all_more = one-more f g order i m found.0 (one_here m) same_else
 
     -- one more hit of a key in the table, and of one outside
-    pub split-up-in : i < size → IsSplit count size (order_with hits m) h d → h + d + 1 < 2 ^ 64 → IsSplit more size (order_with hits m) (h + 1) d
-    split-up-in lt is few =
-        let same_behind = one-more-before f g (order_with hits m) size i lt same_else in
+    pub split-up-in : {size h d : ℕ} → i < size → IsSplit count size order h d → h + d + 1 < 2 ^ 64 → IsSplit more size order (h + 1) d
+    split-up-in {size = size} lt is few =
+        let same_behind = one-more-before f g order size i lt same_else in
         let behind = is.behind in let whole = is.whole in let all = all_more in
         record { behind = omega arith; whole = omega arith; fits = omega arith }
 
-    pub split-up-out : size ≤ i → IsSplit count size (order_with hits m) h d → h + d + 1 < 2 ^ 64 → IsSplit more size (order_with hits m) h (d + 1)
-    split-up-out le is few =
-        let more_behind = one-more-behind f g (order_with hits m) size i m le (order-found hits m i at).0 (one_here m) same_else in
+    pub split-up-out : {size h d : ℕ} → size ≤ i → IsSplit count size order h d → h + d + 1 < 2 ^ 64 → IsSplit more size order h (d + 1)
+    split-up-out {size = size} le is few =
+        let more_behind = one-more-behind f g order size i m le found.0 (one_here m) same_else in
         let behind = is.behind in let whole = is.whole in let all = all_more in
         record { behind = omega arith; whole = omega arith; fits = omega arith }
 
     -- one less
-    pub split-down-in : i < size → IsSplit more size (order_with hits m) h d → (1 ≤ h) × IsSplit count size (order_with hits m) (h - 1) d
-    split-down-in lt is =
-        let same_behind = one-more-before f g (order_with hits m) size i lt same_else in
-        let le = sum-drop-le f (order_with hits m) size in
+    pub split-down-in : {size h d : ℕ} → i < size → IsSplit more size order h d → (1 ≤ h) × IsSplit count size order (h - 1) d
+    split-down-in {size = size} lt is =
+        let same_behind = one-more-before f g order size i lt same_else in
+        let le = sum-drop-le f order size in
         let behind = is.behind in let whole = is.whole in let all = all_more in let fits = is.fits in
         (omega arith, record { behind = omega arith; whole = omega arith; fits = omega arith })
 
-    pub split-down-out : size ≤ i → IsSplit more size (order_with hits m) h d → (1 ≤ d) × IsSplit count size (order_with hits m) h (d - 1)
-    split-down-out le is =
-        let more_behind = one-more-behind f g (order_with hits m) size i m le (order-found hits m i at).0 (one_here m) same_else in
+    pub split-down-out : {size h d : ℕ} → size ≤ i → IsSplit more size order h d → (1 ≤ d) × IsSplit count size order h (d - 1)
+    split-down-out {size = size} le is =
+        let more_behind = one-more-behind f g order size i m le found.0 (one_here m) same_else in
         let behind = is.behind in let whole = is.whole in let all = all_more in let fits = is.fits in
         (omega arith, record { behind = omega arith; whole = omega arith; fits = omega arith })
+
+-- counts with one less at a key, and with one more
+pub less_here : (count : List Part → ℕ) (key : List Part) → 0 < count key → count key ≡ with_less count key key + 1
+less_here count key some = let is : with_less count key key ≡ count key - 1 = ap (λ b. cond b (count key - 1) (count key)) (same_itself key) in omega arith
+
+pub less_else : (count : List Part → ℕ) (key q : List Part) → same_key q key ≡ false → count q ≡ with_less count key q
+less_else count key q apart = sym (ap (λ b. cond b (count q - 1) (count q)) apart)
+
+pub more_here : (count : List Part → ℕ) (key : List Part) → with_more count key key ≡ count key + 1
+more_here count key = ap (λ b. cond b (count key + 1) (count key)) (same_itself key)
+
+pub more_else : (count : List Part → ℕ) (key q : List Part) → same_key q key ≡ false → with_more count key q ≡ count q
+more_else count key q apart = ap (λ b. cond b (count q + 1) (count q)) apart

@@ -10,14 +10,14 @@ use Rattle.std.proofs.lemmas.Map.Keys.{IsDistinct-cons}
 use Rattle.std.proofs.lemmas.List.Elements.{All-nil, All-cons}
 use Rattle.std.proofs.lemmas.List.Sorted.{All-permutation}
 use Rattle.ft_hist.specs.declared.item.SortItem.{SortItem}
-use Rattle.ft_keys.specs.declared.key.Part.{Part}
+use Rattle.ft_fields.specs.declared.key.Part.{Part}
 use Rattle.ft_hist.specs.Fitting.{KeyFits}
 use Rattle.ft_hist.specs.Hist.{Hist}
 use Rattle.ft_hits.specs.declared.mark.Mark.{Mark}
-use Rattle.ft_rows.specs.Counted.{Counted}
+use Rattle.ft_table.specs.Counted.{Counted}
 use Rattle.ft_hits.specs.Hits.{Hits, same_key}
-use Rattle.ft_table.specs.Rows.{row_of, rows_of, AllFit}
-use Rattle.ft_rows.specs.Sorting.{in_order, HasDistinctKeys}
+use Rattle.ft_table.specs.Rows.{counted_row, rows_of, AllFit}
+use Rattle.ft_table.specs.Sorting.{in_order, HasDistinctKeys}
 use Rattle.ft_table.specs.Tabled.{Tabled, first_hits, is_first, order_of, keys_in}
 use Rattle.ft_table.proofs.Counts.{listed}
 use Rattle.ft_table.proofs.Firsts.{get-first_hits}
@@ -50,18 +50,18 @@ order_distinct hits = subst (λ (ms : List Mark). IsDistinct same_key (list_map 
 pub keys_distinct : (table : Tabled) → IsDistinct same_key (keys_in table)
 keys_distinct table = taken_distinct (order_of table.hits) table.size (apart_after table.hits)
 
-keys-rows : (hits : Hits) (keys : List (List Part)) → list_map (λ row. row.key) (list_map (row_of hits) keys) ≡ keys
+keys-rows : (hits : Hits) (keys : List (List Part)) → list_map (λ row. row.key) (list_map (counted_row hits) keys) ≡ keys
 keys-rows hits [] = refl
 keys-rows hits (key ∷ keys) = ap (λ rest. key ∷ rest) (keys-rows hits keys)
 
 -- the rows of a table's keys have one key each
-pub rows_distinct : (table : Tabled) → HasDistinctKeys (list_map (row_of table.hits) (keys_in table))
+pub rows_distinct : (table : Tabled) → HasDistinctKeys (list_map (counted_row table.hits) (keys_in table))
 rows_distinct table = subst (IsDistinct same_key) (sym (keys-rows table.hits (keys_in table))) (keys_distinct table)
 
 -- rows by mark are rows by key
-pub rows-marks : (hits : Hits) (ms : List Mark) → list_map (λ mark. row_of hits mark.key) ms ≡ list_map (row_of hits) (list_map key_of ms)
+pub rows-marks : (hits : Hits) (ms : List Mark) → list_map (λ mark. counted_row hits mark.key) ms ≡ list_map (counted_row hits) (list_map key_of ms)
 rows-marks hits [] = refl
-rows-marks hits (m ∷ ms) = ap (λ rest. row_of hits m.key ∷ rest) (rows-marks hits ms)
+rows-marks hits (m ∷ ms) = ap (λ rest. counted_row hits m.key ∷ rest) (rows-marks hits ms)
 
 -- so many of the first marks as there are and as there is room for
 pub first_marks : (o d : List Mark) (n l s : ℕ) → n ≡ min l s → l ≡ length o → d ≡ o → take n d ≡ take s o
@@ -69,16 +69,16 @@ first_marks o d n l s least len same =
     (λ i. take ((least ∙ ap (λ m. min m s) len ∙ min_comm (length o) s) i) (same i)) ∙ take_min s o
 
 -- the rows of so many first marks are those of the keys in the table
-pub rows-listed : (hits : Hits) (o d : List Mark) (n l s : ℕ) (rows : List Counted) → n ≡ min l s → l ≡ length o → d ≡ o → o ≡ order_of hits → rows ≡ list_map (λ mark. row_of hits mark.key) (take n d) → rows ≡ list_map (row_of hits) (keys_in (record { hits = hits; size = s }))
+pub rows-listed : (hits : Hits) (o d : List Mark) (n l s : ℕ) (rows : List Counted) → n ≡ min l s → l ≡ length o → d ≡ o → o ≡ order_of hits → rows ≡ list_map (λ mark. counted_row hits mark.key) (take n d) → rows ≡ list_map (counted_row hits) (keys_in (record { hits = hits; size = s }))
 rows-listed hits o d n l s rows least len same order is =
-    is ∙ rows-marks hits (take n d) ∙ ap (λ (ms : List Mark). list_map (row_of hits) (list_map key_of ms)) (first_marks o d n l s least len same ∙ ap (take s) order)
+    is ∙ rows-marks hits (take n d) ∙ ap (λ (ms : List Mark). list_map (counted_row hits) (list_map key_of ms)) (first_marks o d n l s least len same ∙ ap (take s) order)
 
-all_taken : (hits : Hits) (P : List Part → Type 0) (ms : List Mark) (s : ℕ) → ((j : ℕ) (d : Mark) → j < length ms → P (get_or ms j d).key) → All (λ (row : Counted). P row.key) (list_map (row_of hits) (list_map key_of (take s ms)))
+all_taken : (hits : Hits) (P : List Part → Type 0) (ms : List Mark) (s : ℕ) → ((j : ℕ) (d : Mark) → j < length ms → P (get_or ms j d).key) → All (λ (row : Counted). P row.key) (list_map (counted_row hits) (list_map key_of (take s ms)))
 all_taken hits P [] zero each = All-nil (λ (row : Counted). P row.key)
 all_taken hits P [] (suc s) each = All-nil (λ (row : Counted). P row.key)
 all_taken hits P (m ∷ ms) zero each = All-nil (λ (row : Counted). P row.key)
 all_taken hits P (m ∷ ms) (suc s) each =
-    All-cons (λ (row : Counted). P row.key) (row_of hits m.key) (list_map (row_of hits) (list_map key_of (take s ms))) (each zero m (omega arith))
+    All-cons (λ (row : Counted). P row.key) (counted_row hits m.key) (list_map (counted_row hits) (list_map key_of (take s ms))) (each zero m (omega arith))
     (all_taken hits P ms s (λ j d lt. each (suc j) d (omega arith)))
 
 -- a first hit is a hit
@@ -89,7 +89,7 @@ hit_of_first false o some = absurd cc
 -- where the keys of all hits fit, those of the rows do
 pub rows_fit : ((sort : List SortItem) (rows : List Counted) → IsPermutation rows (in_order sort rows)) → (table : Tabled) (hist : Hist) (sort : List SortItem) → AllFit table hist → All (λ (row : Counted). KeyFits hist.keys row.key) (rows_of table sort)
 rows_fit permutes table hist sort fit =
-    All-permutation (λ (row : Counted). KeyFits hist.keys row.key) (list_map (row_of table.hits) (keys_in table)) (rows_of table sort) (permutes sort (list_map (row_of table.hits) (keys_in table)))
+    All-permutation (λ (row : Counted). KeyFits hist.keys row.key) (list_map (counted_row table.hits) (keys_in table)) (rows_of table sort) (permutes sort (list_map (counted_row table.hits) (keys_in table)))
     (all_taken table.hits (KeyFits hist.keys) (order_of table.hits) table.size (λ j d lt.
     fit (get_or (order_of table.hits) j d)
     (hit_of_first (is_first table.hits (get_or (order_of table.hits) j d)) (map.get table.hits (get_or (order_of table.hits) j d))

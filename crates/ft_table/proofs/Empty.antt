@@ -1,19 +1,15 @@
 -- A table without hits.
 use Rattle.std.proofs.Common.{◌≡◌, ℕ, zero, suc, List, [], cond, Bool, true, false, refl, sym, ap, ◌∙◌, arith, None, Option}
 use Rattle.std.specs.Prelude.{ℤ}
-use Rattle.std.specs.List.{flat_map}
 use Rattle.std.specs.Map.{keys_of}
 use Rattle.std.specs.FinMap as map
 use Rattle.std.specs.FinMap.{get-empty, same_map}
-use Rattle.ft_keys.specs.declared.key.Part.{Part}
-use Rattle.ft_keys.specs.Parts.{key_cmp}
+use Rattle.ft_fields.specs.declared.key.Part.{Part}
 use Rattle.ft_hits.specs.declared.mark.Mark.{Mark}
 use Rattle.ft_hits.specs.Marks.{mark_cmp, mark_cmp_total, mark_same}
-use Rattle.ft_table.specs.inner.Split.{IsSplit}
-use Rattle.ft_hits.specs.Hits.{EntryHits}
+use Rattle.ft_table.specs.inner.Cut.{IsSplit}
 use Rattle.ft_table.specs.Tabled.{is_first, first_hits, order_of}
 use Rattle.ft_maps.specs.Entries.{entries-empty}
-use Rattle.ft_hits.proofs.Flat.{mark}
 use Rattle.ft_table.proofs.Firsts.{get-first_hits}
 
 none_either : (b : Bool) → ◌≡◌ {A = Option (List ℤ)} (cond b None None) None

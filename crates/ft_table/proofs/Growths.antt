@@ -8,13 +8,13 @@ use Rattle.std.specs.FinMap as map
 use Rattle.std.specs.FinMap.{get-insert, get-retain_keys, len-insert, same_map}
 use Rattle.ft_hits.specs.declared.spot.Spot.{Spot}
 use Rattle.ft_hits.specs.Spots.{spot_cmp}
-use Rattle.ft_keys.specs.declared.key.Part.{Part}
+use Rattle.ft_fields.specs.declared.key.Part.{Part}
 use Rattle.ft_hits.specs.declared.mark.Mark.{Mark}
-use Rattle.ft_rows.specs.Counted.{Counted}
+use Rattle.ft_table.specs.Counted.{Counted}
 use Rattle.ft_hits.specs.Marks.{mark_cmp, mark_cmp_total, mark_same}
 use Rattle.ft_hits.specs.Hits.{Hits, EntryHits, same_key, hits_of, hitcount, unsigned_at, column, sums_of, least_key, first_place}
 use Rattle.ft_table.specs.Tabled.{Tabled, keys_in, keys_out, is_in}
-use Rattle.ft_table.specs.Rows.{row_of, row_at, totals_of}
+use Rattle.ft_table.specs.Rows.{counted_row, row_at, totals_of}
 use Rattle.ft_table.specs.Growth.{ComesLast, with_hit, has_room, is_counted, empty_row, grown, InGrows, RowsGrow, TotalsGrow}
 use Rattle.ft_hits.proofs.Flat.{mark, is_equal, marks_tie, same_itself, same_is, false_and, get-hits_of}
 use Rattle.ft_table.proofs.Firsts.{hits_of-beside, no_first}
@@ -72,14 +72,14 @@ no_list [] is = refl
 no_list (e ∷ es) is = cc
 
 -- a key without hits has an empty row
-row-none : (hits : Hits) (key : List Part) → first_place hits key ≡ None → row_of hits key ≡ empty_row key
+row-none : (hits : Hits) (key : List Part) → first_place hits key ≡ None → counted_row hits key ≡ empty_row key
 row-none hits key none =
     let es : map.entries (hits_of hits key) ≡ [] = no_list (map.entries (hits_of hits key)) none in
     let sum : (j : ℕ) → column j (hits_of hits key) ≡ 0 = λ j. ap (λ (es : List (Spot × List ℤ)). sum_by (unsigned_at j) (values_of es) % 2 ^ 64) es in
     let count : hitcount hits key ≡ 0 = hitcount-none hits key none in
     λ i. record { key = key; hitcount = count i; sums = sum 0 i ∷ sum 1 i ∷ sum 2 i ∷ [] }
 
-row-more : (hits : Hits) (m : Mark) (v : List ℤ) → map.get hits m ≡ None → row_of (map.insert hits m v) m.key ≡ grown v (row_of hits m.key)
+row-more : (hits : Hits) (m : Mark) (v : List ℤ) → map.get hits m ≡ None → counted_row (map.insert hits m v) m.key ≡ grown v (counted_row hits m.key)
 row-more hits m v absent =
     let entry : EntryHits = hits_of hits m.key in
     let free : map.get entry m.spot ≡ None = get-hits_of hits m.spot m.key ∙ absent in
@@ -88,27 +88,27 @@ row-more hits m v absent =
     let count : hitcount (map.insert hits m v) m.key ≡ hitcount hits m.key + 1 = count-insert hits m v absent in
     λ i. record { key = m.key; hitcount = count i; sums = sum 0 i ∷ sum 1 i ∷ sum 2 i ∷ [] }
 
-row-beside : (hits : Hits) (m : Mark) (v : List ℤ) (key : List Part) → same_key key m.key ≡ false → row_of (map.insert hits m v) key ≡ row_of hits key
+row-beside : (hits : Hits) (m : Mark) (v : List ℤ) (key : List Part) → same_key key m.key ≡ false → counted_row (map.insert hits m v) key ≡ counted_row hits key
 row-beside hits m v key apart = ap (λ (es : EntryHits). let row : Counted = record { key = key; hitcount = map.len es; sums = sums_of es } in row) (hits_of-beside hits (map.insert hits m v) m.key key (insert-beside hits m v) apart)
 
 module _ (table : Tabled) (m : Mark) (v : List ℤ) (last : ComesLast table m) where
   -- the row that grows
-  before : (a b : Bool) → is_in table m.key ≡ a → has_room table ≡ b → (a || b) ≡ true → unwrap_or (if a then Some (row_of table.hits m.key) else None) (empty_row m.key) ≡ row_of table.hits m.key
+  before : (a b : Bool) → is_in table m.key ≡ a → has_room table ≡ b → (a || b) ≡ true → unwrap_or (if a then Some (counted_row table.hits m.key) else None) (empty_row m.key) ≡ counted_row table.hits m.key
   before true b inside room counted = refl
   before false true inside room counted = sym (row-none table.hits m.key (new_key table m v last inside room))
   before false false inside room counted = cc
 
-  row-here : (c : Bool) → is_counted table m.key ≡ c → (if c then Some (row_of (map.insert table.hits m v) m.key) else None) ≡ (if c then Some (grown v (unwrap_or (row_at table m.key) (empty_row m.key))) else row_at table m.key)
+  row-here : (c : Bool) → is_counted table m.key ≡ c → (if c then Some (counted_row (map.insert table.hits m v) m.key) else None) ≡ (if c then Some (grown v (unwrap_or (row_at table m.key) (empty_row m.key))) else row_at table m.key)
   row-here true counted = ap (λ (row : Counted). Some row) (row-more table.hits m v last.absent ∙ ap (grown v) (sym (before (is_in table m.key) (has_room table) refl refl counted)))
   row-here false counted = out (is_in table m.key) counted where
-    out : (a : Bool) → (a || has_room table) ≡ false → ◌≡◌ {A = Option Counted} None (if a then Some (row_of table.hits m.key) else None)
+    out : (a : Bool) → (a || has_room table) ≡ false → ◌≡◌ {A = Option Counted} None (if a then Some (counted_row table.hits m.key) else None)
     out true counted = cc
     out false counted = refl
 
   rows_grow_at : (key : List Part) (b : Bool) → same_key key m.key ≡ b → row_at (with_hit table m v) key ≡ (if b && is_counted table key then Some (grown v (unwrap_or (row_at table key) (empty_row key))) else row_at table key)
   rows_grow_at key true same =
       subst (λ k. row_at (with_hit table m v) k ≡ (if is_counted table k then Some (grown v (unwrap_or (row_at table k) (empty_row k))) else row_at table k)) (sym (same_is key m.key same))
-      (ap (λ b. if b then Some (row_of (map.insert table.hits m v) m.key) else None) (in-here table m v last) ∙ row-here (is_counted table m.key) refl)
+      (ap (λ b. if b then Some (counted_row (map.insert table.hits m v) m.key) else None) (in-here table m v last) ∙ row-here (is_counted table m.key) refl)
   rows_grow_at key false apart = λ i. if in-beside table m v last key apart i then Some (row-beside table.hits m v key apart i) else None
 
 pub rows_grow : RowsGrow

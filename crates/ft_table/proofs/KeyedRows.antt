@@ -6,11 +6,11 @@ use Rattle.std.specs.FinMap as map
 use Rattle.std.proofs.lemmas.Bool.{false≢true}
 use Rattle.ft_hist.specs.Fitting.{KeyFits}
 use Rattle.ft_hist.specs.Hist.{Hist}
-use Rattle.ft_keys.specs.declared.key.Part.{Part}
-use Rattle.ft_rows.specs.Counted.{Counted}
+use Rattle.ft_fields.specs.declared.key.Part.{Part}
+use Rattle.ft_table.specs.Counted.{Counted}
 use Rattle.ft_hits.specs.declared.mark.Mark.{Mark}
 use Rattle.ft_hits.specs.Hits.{same_key}
-use Rattle.ft_table.specs.Rows.{row_of, row_at, AllFit}
+use Rattle.ft_table.specs.Rows.{counted_row, row_at, AllFit}
 use Rattle.ft_table.specs.Tabled.{Tabled, first_hits, is_first, order_of, is_in}
 use Rattle.ft_table.proofs.Counts.{listed}
 use Rattle.ft_table.proofs.Firsts.{get-first_hits}
@@ -43,6 +43,6 @@ in_fits table hist key fit =
 -- and so does the key of its row
 pub row_fits : (table : Tabled) (hist : Hist) (key : List Part) (row : Counted) → AllFit table hist → row_at table key ≡ Some row → KeyFits hist.keys row.key
 row_fits table hist key row fit is = by (is_in table key) refl is where
-  by : (b : Bool) → is_in table key ≡ b → (if b then Some (row_of table.hits key) else None) ≡ Some row → KeyFits hist.keys row.key
+  by : (b : Bool) → is_in table key ≡ b → (if b then Some (counted_row table.hits key) else None) ≡ Some row → KeyFits hist.keys row.key
   by true inside same = subst (λ (r : Counted). KeyFits hist.keys r.key) (ap (λ (o : Option Counted). unwrap_or o row) same) (in_fits table hist key fit inside)
   by false outside none = absurd (false≢true (ap is_some none))

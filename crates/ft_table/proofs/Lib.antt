@@ -19,3 +19,10 @@ mod Sorted
 mod Splits
 mod Tallies
 mod Windows
+mod Added
+mod Examples
+mod Hexadecimal
+mod InOrder
+mod KeyParts
+mod Rising
+mod RowOrders

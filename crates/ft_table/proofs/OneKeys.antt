@@ -11,8 +11,8 @@ use Rattle.std.proofs.lemmas.List.{get_or_default}
 use Rattle.std.proofs.lemmas.List.Edits.{get_or-insert_below, get_or-insert_above, length-insert}
 use Rattle.ft_maps.specs.Entries.{and_left, and_right, is_less}
 use Rattle.ft_hits.specs.declared.spot.Spot.{Spot}
-use Rattle.ft_keys.specs.declared.key.Part.{Part}
-use Rattle.ft_keys.specs.Parts.{key_cmp}
+use Rattle.ft_fields.specs.declared.key.Part.{Part}
+use Rattle.ft_fields.specs.Parts.{key_cmp}
 use Rattle.ft_hits.specs.declared.mark.Mark.{Mark}
 use Rattle.ft_hits.specs.Spots.{traced, spot_cmp, spot_cmp_total}
 use Rattle.ft_hits.specs.Marks.{mark_cmp, mark_cmp_total}
@@ -21,7 +21,7 @@ use Rattle.ft_table.specs.Tabled.{order_of}
 use Rattle.ft_table.specs.inner.Moves.{order_without}
 use Rattle.ft_table.specs.OneKey.{AreSameBut, LastGoesOut, FirstComesIn, OneOtherMoves}
 use Rattle.std.proofs.lemmas.Cmp.{tied_itself}
-use Rattle.ft_keys.specs.Orders.{key_cmp_total}
+use Rattle.ft_fields.specs.Orders.{key_cmp_total}
 use Rattle.ft_hits.proofs.Flat.{mark, same_itself, same_is, get-hits_of}
 use Rattle.ft_table.proofs.Firsts.{SameBeside, first_is_hit, no_first}
 use Rattle.ft_table.proofs.Changes.{insert-beside, remove-beside, order-before, order_before-beside}

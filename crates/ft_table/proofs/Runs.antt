@@ -1,16 +1,16 @@
 -- All hits of a key at once, among those of all keys.
-use Rattle.std.proofs.Common.{◌≡◌, ℕ, Bool, true, false, cond, List, refl, sym, ap, subst, ◌∙◌, None}
+use Rattle.std.proofs.Common.{◌≡◌, ℕ, true, false, List, refl, sym, ap, ◌∙◌, None}
 use Rattle.std.specs.FinMap as map
 use Rattle.std.specs.FinMap.{get-empty, get-entries, same_map}
-use Rattle.ft_keys.specs.declared.key.Part.{Part}
+use Rattle.ft_fields.specs.declared.key.Part.{Part}
 use Rattle.ft_hits.specs.declared.mark.Mark.{Mark}
 use Rattle.ft_hits.specs.Spots.{spot_cmp, spot_cmp_total, spot_same}
 use Rattle.ft_hits.specs.Hits.{Hits, EntryHits, TakesHits, same_key, hits_of, hitcount, least_key, first_place}
 use Rattle.ft_table.specs.Tabled.{order_of}
 use Rattle.ft_table.specs.Runs.{HasNone}
 use Rattle.ft_table.specs.inner.Moves.{order_without}
-use Rattle.ft_table.specs.inner.Split.{IsSplit}
-use Rattle.ft_hits.proofs.Flat.{mark, same_itself, same_is, get-hits_of, at_key}
+use Rattle.ft_table.specs.inner.Cut.{IsSplit}
+use Rattle.ft_hits.proofs.Flat.{same_itself, get-hits_of}
 use Rattle.ft_table.proofs.Firsts.{SameBeside, no_entries, hits_of-beside, others-beside, order-none}
 use Rattle.ft_table.proofs.Counts.{split-without}
 use Rattle.ft_hits.proofs.Only.{first-empty}
@@ -50,9 +50,6 @@ module _ (key : List Part) (entry : EntryHits) (hits after : Hits) (takes : Take
   order-key none = order-none hits key (no_hits hits key none) ∙ still
 
   -- and so are the counts
-  pub split-key : (order : List Mark) (size h d : ℕ) → order ≡ order_of hits → HasNone key hits → IsSplit (hitcount hits) size order h d → IsSplit (hitcount after) size order h d
-  split-key order size h d is none split =
-      let old : order ≡ order_without hits key = is ∙ order-none hits key (no_hits hits key none) in
-      subst (λ ms. IsSplit (hitcount after) size ms h d) (sym old)
-      (split-without hits (hitcount hits) (hitcount after) key size h d (λ q differ. ap map.len (hits_of-beside hits after key q beside differ))
-      (subst (λ ms. IsSplit (hitcount hits) size ms h d) old split))
+  pub split-key : {order : List Mark} {size h d : ℕ} → order ≡ order_of hits → HasNone key hits → IsSplit (hitcount hits) size order h d → IsSplit (hitcount after) size order h d
+  split-key is none =
+      split-without hits (hitcount hits) (hitcount after) key (is ∙ order-none hits key (no_hits hits key none)) (λ q differ. ap map.len (hits_of-beside hits after key q beside differ))

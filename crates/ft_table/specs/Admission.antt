@@ -5,7 +5,7 @@ use Rattle.std.specs.Ordering.{is_lt}
 use Rattle.std.specs.FinMap as map
 use Rattle.ft_hits.specs.declared.spot.Spot.{Spot}
 use Rattle.ft_hits.specs.Spots.{spot_cmp}
-use Rattle.ft_keys.specs.declared.key.Part.{Part}
+use Rattle.ft_fields.specs.declared.key.Part.{Part}
 use Rattle.ft_hits.specs.declared.mark.Mark.{Mark}
 use Rattle.ft_hits.specs.Marks.{mark_cmp}
 use Rattle.ft_hits.specs.Hits.{Hits, same_key, hitcount}

@@ -2,9 +2,9 @@
 use Rattle.std.specs.Prelude.{◌≡◌, ℕ, ◌+◌, ◌%◌, ◌^◌, ℤ, List, [], ◌∷◌, ◌++◌, Some, None, length, Bool, ◌||◌, ◌&&◌, nat_lt, if◌then◌else◌, IsSome, unwrap_or, slice_index_or}
 use Rattle.std.specs.declared.cmp.Ordering.TheVariants.{Less}
 use Rattle.std.specs.FinMap as map
-use Rattle.ft_keys.specs.declared.key.Part.{Part}
+use Rattle.ft_fields.specs.declared.key.Part.{Part}
 use Rattle.ft_hits.specs.declared.mark.Mark.{Mark}
-use Rattle.ft_rows.specs.Counted.{Counted}
+use Rattle.ft_table.specs.Counted.{Counted}
 use Rattle.ft_hits.specs.Marks.{mark_cmp}
 use Rattle.ft_hits.specs.Hits.{Hits, same_key, unsigned_at}
 use Rattle.ft_table.specs.Tabled.{Tabled, keys_in, is_in}

@@ -1,7 +1,7 @@
 -- How little the keys in a table change with the hits of one key.
 use Rattle.std.specs.Prelude.{◌≡◌, ℤ, false, List, Some}
 use Rattle.std.specs.FinMap as map
-use Rattle.ft_keys.specs.declared.key.Part.{Part}
+use Rattle.ft_fields.specs.declared.key.Part.{Part}
 use Rattle.ft_hits.specs.declared.mark.Mark.{Mark}
 use Rattle.ft_hits.specs.Hits.{Hits}
 use Rattle.ft_table.specs.Tabled.{Tabled, is_in, last_in, first_out}

@@ -3,29 +3,29 @@ use Rattle.std.specs.Prelude.{ℕ, List, length, map as list_map, Option, Some, 
 use Rattle.std.specs.List.{sum_by}
 use Rattle.std.specs.FinMap as map
 use Rattle.ft_hist.specs.declared.item.SortItem.{SortItem}
-use Rattle.ft_keys.specs.declared.key.Part.{Part}
+use Rattle.ft_fields.specs.declared.key.Part.{Part}
 use Rattle.ft_hist.specs.Fitting.{KeyFits}
 use Rattle.ft_hist.specs.Hist.{Hist}
-use Rattle.ft_rows.specs.Counted.{Counted}
-use Rattle.ft_rows.specs.declared.row.Totals.{Totals}
+use Rattle.ft_table.specs.Counted.{Counted}
+use Rattle.ft_table.specs.declared.row.Totals.{Totals}
 use Rattle.ft_hits.specs.Hits.{Hits, hits_of, hitcount, sums_of}
 pub use Rattle.ft_hits.specs.Hits.{hit_after}
 use Rattle.ft_hits.specs.declared.mark.Mark.{Mark}
-use Rattle.ft_rows.specs.Sorting.{in_order}
+use Rattle.ft_table.specs.Sorting.{in_order}
 use Rattle.ft_table.specs.Tabled.{Tabled, keys_in, keys_out, is_in}
-use Rattle.ft_rows.specs.Text.{rows_text}
+use Rattle.ft_table.specs.Text.{rows_text}
 
 -- what the hits of a key come to (kernel: histogram.rst, the `hist` file; sums modulo 2^64 are our own choice)
-abbrev pub row_of : Hits → List Part → Counted
-row_of hits key = record { key = key; hitcount = hitcount hits key; sums = sums_of (hits_of hits key) }
+abbrev pub counted_row : Hits → List Part → Counted
+counted_row hits key = record { key = key; hitcount = hitcount hits key; sums = sums_of (hits_of hits key) }
 
 -- the row of a key in the table (kernel: histogram.rst, the `hist` file)
 abbrev pub row_at : Tabled → List Part → Option Counted
-row_at table key = if is_in table key then Some (row_of table.hits key) else None
+row_at table key = if is_in table key then Some (counted_row table.hits key) else None
 
 -- the rows of the keys in the table, in order of the sort items (kernel: histogram.rst, `sort`)
 abbrev pub rows_of : Tabled → List SortItem → List Counted
-rows_of table sort = in_order sort (list_map (row_of table.hits) (keys_in table))
+rows_of table sort = in_order sort (list_map (counted_row table.hits) (keys_in table))
 
 -- the totals: the hits of the keys in the table, these keys, and the hits of the keys outside (kernel: histogram.rst, `Hits`, `Entries` and `Dropped`)
 abbrev pub totals_of : Tabled → Totals

@@ -1,7 +1,7 @@
 -- All hits of a key at once.
 use Rattle.std.specs.Prelude.{◌≡◌, ℤ, List, None}
 use Rattle.std.specs.FinMap as map
-use Rattle.ft_keys.specs.declared.key.Part.{Part}
+use Rattle.ft_fields.specs.declared.key.Part.{Part}
 use Rattle.ft_hits.specs.declared.spot.Spot.{Spot}
 use Rattle.ft_hits.specs.Spots.{spot_cmp}
 use Rattle.ft_hits.specs.Hits.{Hits}

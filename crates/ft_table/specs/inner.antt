@@ -1,5 +1,5 @@
--- Words of private functions: ranks in an order, a key on its way, what is kept beside the hits.
+-- Words of private functions: ranks in an order, its cut, a key on its way, what is kept beside the hits.
 pub mod Ascending
+pub mod Cut
 pub mod InStep
 pub mod Moves
-pub mod Split

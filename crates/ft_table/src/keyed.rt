@@ -2,13 +2,14 @@
 
 ghost use Rattle.std.specs.Prelude.{◌≡◌, IfOk, option_map, map as list_map};
 
+use crate::row::TableRow;
 use crate::table::Table;
+use crate::text::{row_text, table_rows};
 use ft_hist::{Key, Trigger};
-use ft_rows::{TableRow, row_text, table_rows};
 use std::alloc::{AllocError, Global};
 
 impl Table {
-    ghost use Rattle.ft_rows.specs.Text.{row_text, keyed_text};
+    ghost use Rattle.ft_table.specs.Text.{row_text, keyed_text};
     ghost use Rattle.ft_table.specs.Rows.{row_at, rows_of, AllFit};
 
     /// The rows of a trigger's table in the order in which `write` adds them, each with its key,
@@ -18,7 +19,7 @@ impl Table {
         ensures { IfOk result (λ rows. rows.items
             ≡ list_map (keyed_text trigger.now) (rows_of self.now trigger.now.sort)) }
     {
-        ft_rows::laws::one_row_order();
+        crate::laws::one_row_order();
         let rows = self.rows(trigger.sort())?;
         table_rows(alloc, trigger, &rows)
     }

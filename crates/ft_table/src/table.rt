@@ -4,13 +4,14 @@ ghost use Rattle.std.specs.Prelude.{◌≡◌, ◌↔◌, ◌+◌, ◌<◌, ◌+
 ghost use Rattle.std.specs.Prelude.{map as list_map};
 ghost use Rattle.std.specs.FinMap as map;
 ghost use Rattle.ft_text.specs.Fronts.{IsFront};
-ghost use Rattle.ft_table.specs.Rows.{row_of};
+ghost use Rattle.ft_table.specs.Rows.{counted_row};
 
-use crate::order::rank_of;
-use crate::split::{Split, add_hit, add_key, drop_hit};
+use crate::ranked::Ranked;
+use crate::row::{Row, Totals};
+use crate::sorting::sort_rows;
+use crate::text::{write_heading, write_rows};
 use ft_hist::{Key, SortItem, Trigger, Work};
 use ft_hits::{Entry, Hit, HitIndex, Mark, Spot, count_puts};
-use ft_rows::{Row, Totals, sort_rows, write_heading, write_rows};
 use std::alloc::{AllocError, Global};
 use std::marker::Model;
 
@@ -30,10 +31,8 @@ pub struct Edge {
 #[derive(Drop)]
 pub struct Table {
     alloc: Global,
-    size: u32,
     hits: HitIndex,
-    order: Vec<Mark>,
-    split: Split,
+    ranked: Ranked,
 }
 
 impl Model for Table {
@@ -61,7 +60,7 @@ impl Table {
     ghost use Rattle.ft_table.specs.Rows.{row_at, rows_of, totals_of};
     ghost use Rattle.ft_table.specs.Rows.{AllFit, table_text};
     ghost use Rattle.ft_table.specs.Runs.{HasNone, TakesRun};
-    ghost use Rattle.ft_rows.specs.Text.{heading};
+    ghost use Rattle.ft_table.specs.Text.{heading};
     ghost use Rattle.ft_table.specs.Tabled.{order_of, is_in, last_in, first_out};
 
     /// A table without hits, with room for at least one key. It takes no memory.
@@ -71,13 +70,8 @@ impl Table {
     {
         Table {
             alloc,
-            size,
             hits: HitIndex::new(alloc),
-            order: Vec::new(alloc),
-            split: Split {
-                hits: 0,
-                dropped: 0,
-            },
+            ranked: Ranked::new(alloc, size),
         }
     }
 
@@ -94,14 +88,7 @@ impl Table {
         ensures evals { work.new.evals ≡ work.old.evals }
     {
         work.tick_put();
-        add_hit(
-            self.alloc,
-            &mut self.hits,
-            &mut self.order,
-            &mut self.split,
-            self.size as usize,
-            &hit,
-        )
+        self.ranked.add_hit(self.alloc, &mut self.hits, &hit)
     }
 
     /// Puts all hits of a key in that has none yet: those of a run, by spot, of those at one spot the
@@ -124,27 +111,14 @@ impl Table {
     {
         count_puts(&run, work);
         let entry = Entry::of(self.alloc, run)?;
-        add_key(
-            &mut self.hits,
-            &mut self.order,
-            &mut self.split,
-            self.size as usize,
-            key,
-            entry,
-        )
+        self.ranked.add_key(&mut self.hits, key, entry)
     }
 
     /// Takes a hit away, if one stands there. It needs no memory.
     pub fn remove(&mut self, spot: Spot, key: Key)
         ensures { self.new ≡ without_hit self.old (record { spot = spot; key = key }) }
     {
-        drop_hit(
-            &mut self.hits,
-            &mut self.order,
-            &mut self.split,
-            self.size as usize,
-            Mark { spot, key },
-        );
+        self.ranked.drop_hit(&mut self.hits, Mark { spot, key });
     }
 
     /// Whether a hit stands at a spot under a key.
@@ -158,21 +132,21 @@ impl Table {
     pub fn is_empty(&self) -> bool
         ensures { IsTrue result ↔ self.now.hits ≡ map.empty }
     {
-        self.order.is_empty()
+        self.ranked.order.is_empty()
     }
 
     /// For how many keys there is room.
     pub fn size(&self) -> u32
         ensures { result ≡ self.now.size }
     {
-        self.size
+        self.ranked.size
     }
 
     /// Where the first hits of all keys stand, in order.
     pub fn order(&self) -> &[Mark]
         ensures { result.now ≡ order_of self.now.hits }
     {
-        &self.order
+        &self.ranked.order
     }
 
     /// Whether a key is among the first so many, in order of their first hits.
@@ -181,7 +155,7 @@ impl Table {
             (list_map (λ mark. mark.key) (take place (order_of self.now.hits))) }
     {
         match self.hits.first_at(key) {
-            Some(spot) => rank_of(&self.order, &Mark { spot, key: *key }) < place,
+            Some(spot) => self.ranked.rank_of(&self.hits, &Mark { spot, key: *key }) < place,
             None => false,
         }
     }
@@ -190,7 +164,7 @@ impl Table {
     pub fn is_in(&self, key: &Key) -> bool
         ensures { result ≡ is_in self.now key.now }
     {
-        self.is_among(key, self.size as usize)
+        self.is_among(key, self.ranked.size as usize)
     }
 
     /// The row of a key, if it is in the table.
@@ -209,8 +183,8 @@ impl Table {
     pub fn rows(&self, sort: &[SortItem]) -> Result<Vec<Row>, AllocError>
         ensures { IfOk result (λ rows. rows.items ≡ rows_of self.now sort.now) }
     {
-        let inside = self.order.len().min(self.size as usize);
-        let mut rows = rows_at(self.alloc, &self.hits, &self.order[..inside])?;
+        let inside = self.ranked.order.len().min(self.ranked.size as usize);
+        let mut rows = rows_at(self.alloc, &self.hits, &self.ranked.order[..inside])?;
         sort_rows(&mut rows, sort);
         Ok(rows)
     }
@@ -253,7 +227,7 @@ impl Table {
             ≡ text.old.items ++ table_text self.now trigger.now) }
         ensures err { OnErr result (IsFront text.old.items text.new.items) }
     {
-        ft_rows::laws::one_row_order();
+        crate::laws::one_row_order();
         let rows = self.rows(trigger.sort())?;
         write_rows(trigger, &rows, self.totals(), text)
     }
@@ -262,11 +236,11 @@ impl Table {
     pub fn totals(&self) -> Totals
         ensures { result ≡ totals_of self.now }
     {
-        let keys = self.order.len().min(self.size as usize);
+        let keys = self.ranked.order.len().min(self.ranked.size as usize);
         Totals {
-            hits: self.split.hits,
+            hits: self.ranked.hits,
             entries: keys as u64,
-            dropped: self.split.dropped,
+            dropped: self.ranked.dropped,
         }
     }
 
@@ -275,15 +249,15 @@ impl Table {
         ensures last { result.last_in ≡ last_in self.now }
         ensures first { result.first_out ≡ first_out self.now }
     {
-        let size = self.size as usize;
-        let inside = self.order.len().min(size);
+        let size = self.ranked.size as usize;
+        let inside = self.ranked.order.len().min(size);
         let last_in = if inside == 0 {
             None
         } else {
-            Some(self.order[inside - 1].key)
+            Some(self.ranked.order[inside - 1].key)
         };
-        let first_out = if self.order.len() > size {
-            Some(self.order[size].key)
+        let first_out = if self.ranked.order.len() > size {
+            Some(self.ranked.order[size].key)
         } else {
             None
         };
@@ -300,7 +274,7 @@ impl Table {
 
 /// What the hits of a key come to.
 fn row_of(hits: &HitIndex, key: &Key) -> Row
-    ensures { result ≡ row_of hits.now key.now }
+    ensures { result ≡ counted_row hits.now key.now }
 {
     Row {
         key: *key,
@@ -312,7 +286,7 @@ fn row_of(hits: &HitIndex, key: &Key) -> Row
 /// What the hits of each of some keys come to.
 fn rows_at(alloc: Global, hits: &HitIndex, marks: &[Mark]) -> Result<Vec<Row>, AllocError>
     ensures { IfOk result (λ rows. rows.items
-        ≡ list_map (λ mark. row_of hits.now mark.key) marks.now) }
+        ≡ list_map (λ mark. counted_row hits.now mark.key) marks.now) }
 {
     let mut rows = Vec::with_capacity(alloc, marks.len())?;
     for mark in marks {

@@ -27,7 +27,7 @@ pub fn hit_with(trigger: &Trigger, event: &Event, spot: Spot, key: Key, read: Op
 }
 
 /// The value of a trigger's own variable at an event, in microseconds: the stamp, or the time
-/// since the stamp that was read.
+/// since the stamp of the saving that was read; 0 if the saving is later.
 fn own_value(event: &Event, read: Option<Pos>) -> i64
     ensures { (pos : Pos) → pos.stamp ≡ event.now.stamp → result ≡ own_value pos read }
 {

@@ -1,2 +1,10 @@
 pub mod Digits
 pub mod Fronts
+pub mod Tokens
+pub mod Ranged
+pub mod inner
+pub mod Items
+pub mod Spelling
+pub use Rattle.ft_text.specs.Tokens
+pub mod Glob
+pub mod Matching

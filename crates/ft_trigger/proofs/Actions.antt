@@ -9,7 +9,7 @@ use Rattle.std.specs.Str.{bytes_eq}
 use Rattle.ft_fields.specs.declared.event.Name.{Name}
 use Rattle.ft_fields.specs.declared.event.Name.TheVariants as names
 use Rattle.ft_fields.specs.declared.field.Field.{Field}
-use Rattle.ft_fields.specs.Fields.{is_named, all_fields, is_text, text_of, has_field}
+use Rattle.ft_fields.specs.Fields.{is_field_named, all_fields, is_text, field_text, has_field}
 use Rattle.ft_fields.specs.Names.{is_traced, name_text}
 use Rattle.ft_head.specs.declared.fault.TriggerFault.{TriggerFault}
 use Rattle.ft_head.specs.declared.fault.TriggerFault.TheVariants.{NoField, NotNumeric, Duplicate, LeftOut}
@@ -19,12 +19,12 @@ use Rattle.ft_hist.specs.Sound.{number_suits}
 use Rattle.ft_head.specs.Draft.{Draft, ◌>>=◌, unless, given_or, number_field, action_of, with_handed, with_onmatch, with_other}
 use Rattle.ft_head.specs.Onmatch.{Action, Handed, handed_of}
 use Rattle.ft_head.specs.PartSpelling.{IsHanded}
-use Rattle.ft_pieces.specs.Words.{Piece}
+use Rattle.ft_text.specs.Items.{Piece}
 use Rattle.ft_trigger.proofs.Inversions.{then_parts, unless_parts, given_parts}
 use Rattle.ft_head.proofs.Handing.{handed_parts, event_named}
-use Rattle.ft_pieces.proofs.Separators.{is_inner, bare_inner, names_bare}
-use Rattle.ft_pieces.proofs.Spelled.{name_told}
-use Rattle.ft_pieces.proofs.Spellings.{IsName, find_passes, bytes_same}
+use Rattle.ft_text.proofs.Separators.{is_inner, bare_inner, names_bare}
+use Rattle.ft_text.proofs.Spelled.{name_told}
+use Rattle.ft_text.proofs.Spellings.{IsName, find_passes, bytes_same}
 
 -- the part that says what events are made of
 abbrev pub action_bytes : Action → List ℕ
@@ -42,21 +42,21 @@ pub record ActionFits (event : Name) (action : Action) : Type 0 where
 -- ---- steps
 
 -- a field that is handed on is the event's, and holds numbers
-number_parts : (event : Name) (name : List ℕ) (field : Field) → number_field event name ≡ Ok field → (name ≡ text_of field) × (number_suits event field ≡ true)
+number_parts : (event : Name) (name : List ℕ) (field : Field) → number_field event name ≡ Ok field → (name ≡ field_text field) × (number_suits event field ≡ true)
 number_parts event name field e =
-    let found = given_parts NoField (find (is_named event name) all_fields) (λ field. unless ((is_text field, NotNumeric) ∷ []) (Ok field)) field e in
+    let found = given_parts NoField (find (is_field_named event name) all_fields) (λ field. unless ((is_text field, NotNumeric) ∷ []) (Ok field)) field e in
     let number = unless_parts (is_text found.0) NotNumeric [] (Ok found.0) field found.2 in
     let same : found.0 ≡ field = (let done = number.1 in cc) in
-    let both = and_parts (bytes_eq (text_of found.0) name) (has_field event found.0) (find_passes (is_named event name) all_fields found.0 found.1) in
-    subst (λ (f : Field). (name ≡ text_of f) × (number_suits event f ≡ true)) same
-    (sym (bytes_same (text_of found.0) name both.0), and_from (has_field event found.0) (not (is_text found.0)) both.1 (ap not number.0))
+    let both = and_parts (bytes_eq (field_text found.0) name) (has_field event found.0) (find_passes (is_field_named event name) all_fields found.0 found.1) in
+    subst (λ (f : Field). (name ≡ field_text f) × (number_suits event f ≡ true)) same
+    (sym (bytes_same (field_text found.0) name both.0), and_from (has_field event found.0) (not (is_text found.0)) both.1 (ap not number.0))
 
 -- what events are made of, by its words
 record Made (event : Name) (words : Handed) (action : Action) : Type 0 where
   own : words.own ≡ action.own
   called : words.event ≡ action.onmatch.event
-  pid : words.pid ≡ text_of action.onmatch.pid
-  prio : words.prio ≡ text_of action.onmatch.prio
+  pid : words.pid ≡ field_text action.onmatch.pid
+  prio : words.prio ≡ field_text action.onmatch.prio
   pid_suits : number_suits event action.onmatch.pid ≡ true
   prio_suits : number_suits event action.onmatch.prio ≡ true
 
@@ -120,7 +120,7 @@ action_spelled event part words action h m =
     ∙ ap (λ (t : List ℕ). (codes "onmatch(sched." ++ t) ++ ((((codes ").wakeup_latency($" ++ words.own) ++ (codes "," ++ words.pid)) ++ (codes "," ++ words.prio)) ++ codes ")")) (sym called)
     ∙ ap (λ (t : List ℕ). (codes "onmatch(sched." ++ unwrap_or (name_text action.onmatch.event) []) ++ ((((codes ").wakeup_latency($" ++ t) ++ (codes "," ++ words.pid)) ++ (codes "," ++ words.prio)) ++ codes ")")) m.own
     ∙ ap (λ (t : List ℕ). (codes "onmatch(sched." ++ unwrap_or (name_text action.onmatch.event) []) ++ ((((codes ").wakeup_latency($" ++ action.own) ++ (codes "," ++ t)) ++ (codes "," ++ words.prio)) ++ codes ")")) m.pid
-    ∙ ap (λ (t : List ℕ). (codes "onmatch(sched." ++ unwrap_or (name_text action.onmatch.event) []) ++ ((((codes ").wakeup_latency($" ++ action.own) ++ (codes "," ++ text_of action.onmatch.pid)) ++ (codes "," ++ t)) ++ codes ")")) m.prio
+    ∙ ap (λ (t : List ℕ). (codes "onmatch(sched." ++ unwrap_or (name_text action.onmatch.event) []) ++ ((((codes ").wakeup_latency($" ++ action.own) ++ (codes "," ++ field_text action.onmatch.pid)) ++ (codes "," ++ t)) ++ codes ")")) m.prio
 
 -- texts that can stand in a part, one after the other
 inner_both : (a b : List ℕ) → list_all is_inner a ≡ true → list_all is_inner b ≡ true → list_all is_inner (a ++ b) ≡ true

@@ -5,11 +5,11 @@ use Rattle.std.proofs.lemmas.List.Folds.{list_all-append}
 use Rattle.std.specs.List.{list_all}
 use Rattle.ft_head.specs.declared.fault.TriggerFault.{TriggerFault}
 use Rattle.ft_head.specs.declared.fault.TriggerFault.TheVariants.{Syntax}
-use Rattle.ft_pieces.specs.Words.{Piece, pieces, Word, word_of}
+use Rattle.ft_text.specs.Items.{Piece, pieces, Word, word_of}
 use Rattle.ft_head.specs.Draft.{given_or, items_from}
 use Rattle.ft_hist.specs.Canonical.{more_items}
 use Rattle.ft_trigger.proofs.Inversions.{then_parts, given_parts}
-use Rattle.ft_pieces.proofs.Separators.{Free, is_bare, is_inner, bare_inner, pieces_first, pieces_last}
+use Rattle.ft_text.proofs.Separators.{Free, is_bare, is_inner, bare_inner, pieces_first, pieces_last}
 
 -- a list grows by others, one by one, as the step says
 abbrev pub Chain : {A : Type 0} → (List A → A → Type 0) → List A → List A → Type 0

@@ -4,7 +4,7 @@ use Rattle.std.specs.Prelude.{position, unwrap_or}
 use Rattle.std.specs.List.{position_or_len, prefix_len}
 use Rattle.std.proofs.lemmas.Grind.{common_steps}
 use Rattle.std.proofs.lemmas.List.{reverse-append}
-use Rattle.ft_tokens.specs.Tokens.{is_gap, skip}
+use Rattle.ft_text.specs.Tokens.{is_gap, skip}
 
 -- the first place that passes is within the list, or its length
 pub position_or_len-le : (p : ℕ → Bool) (xs : List ℕ) → position_or_len p xs ≤ length xs

@@ -7,14 +7,14 @@ use Rattle.ft_head.specs.declared.fault.TriggerFault.{TriggerFault}
 use Rattle.ft_head.specs.declared.fault.TriggerFault.TheVariants.{Duplicate, BadSize, LeftOut}
 use Rattle.ft_head.specs.declared.draft.Kind.{Kind}
 use Rattle.ft_head.specs.declared.draft.Kind.TheVariants.{Keys, Values, Sort, Size}
-use Rattle.ft_head.specs.Draft.{Draft, blank, ◌>>=◌, given_or, items_of, with_key, with_value, with_sort, size_of, labels, is_part_left_out, with_kind, with_variable, with_onmatch, with_other, with_part, parts_from}
-use Rattle.ft_pieces.specs.Words.{Piece, pieces, Word}
+use Rattle.ft_head.specs.Draft.{Draft, empty_draft, ◌>>=◌, given_or, items_of, with_key, with_value, with_sort, size_of, labels, is_part_left_out, with_kind, with_variable, with_onmatch, with_other, with_part, parts_from}
+use Rattle.ft_text.specs.Items.{Piece, pieces, Word}
 use Rattle.ft_trigger.proofs.Actions.{ActionFits, action_fits}
 use Rattle.ft_trigger.proofs.Chains.{Chain, Steps, items_grow}
 use Rattle.ft_trigger.proofs.Inversions.{then_parts, unless_parts, given_parts}
 use Rattle.ft_trigger.proofs.Keyed.{KeyFits, key_steps}
 use Rattle.ft_head.proofs.Numerals.{SizeFits, size_fits}
-use Rattle.ft_pieces.proofs.Separators.{pieces_some}
+use Rattle.ft_text.proofs.Separators.{pieces_some}
 use Rattle.ft_trigger.proofs.Sorted.{SortFits, sort_steps}
 use Rattle.ft_trigger.proofs.Valued.{ValueFits, value_steps}
 use Rattle.ft_trigger.proofs.Variables.{VarFits, var_fits}
@@ -113,5 +113,5 @@ parts_fit event (part ∷ parts) draft more h e =
     parts_fit event parts next.0 more (part_fits event draft next.0 part h next.1) next.2
 
 -- what has been read of a head can be read again
-pub draft_fits : (event : Name) (parts : List Piece) (draft : Draft) → parts_from event blank parts ≡ Ok draft → DraftFits event draft
-draft_fits event parts draft e = parts_fit event parts blank draft (record { keys = tt; values = tt; sort = tt; size = tt; variable = tt; onmatch = tt }) e
+pub draft_fits : (event : Name) (parts : List Piece) (draft : Draft) → parts_from event empty_draft parts ≡ Ok draft → DraftFits event draft
+draft_fits event parts draft e = parts_fit event parts empty_draft draft (record { keys = tt; values = tt; sort = tt; size = tt; variable = tt; onmatch = tt }) e

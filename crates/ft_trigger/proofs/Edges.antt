@@ -7,17 +7,17 @@ use Rattle.std.specs.List.{list_all, starts_with}
 use Rattle.ft_fields.specs.declared.event.Name.{Name}
 use Rattle.ft_fields.specs.declared.field.Field.{Field}
 use Rattle.ft_fields.specs.declared.field.Field.TheVariants as fields
-use Rattle.ft_fields.specs.Fields.{text_of as field_text}
+use Rattle.ft_fields.specs.Fields.{field_text}
 use Rattle.ft_filter.specs.declared.fault.FilterFault.TheVariants.{Syntax}
 use Rattle.ft_filter.specs.declared.tree.Literal.{Literal}
 use Rattle.ft_filter.specs.declared.tree.Literal.TheVariants as literals
 use Rattle.ft_filter.specs.declared.tree.Pred.{Pred}
-use Rattle.ft_filter.specs.Canonical.{quoted, value_text, pred_text, joint_text, enclosed_if, is_joined, needs_enclosing, canonical, joined_text, more_text}
-use Rattle.ft_filter.specs.FilterIs.{both, Rule, made, closed, joined, whole_of, Reads, first, first_fails, negated, enclosed, deep, compared, Goes, ended, another, another_fails, FilterIs}
+use Rattle.ft_filter.specs.Canonical.{quoted, literal_text, pred_text, spaced_joint_text, enclosed_if, is_joined, needs_enclosing, canonical, joined_text, more_text}
+use Rattle.ft_filter.specs.FilterIs.{tree_of_joint, Rule, made, parenthesised, joined, whole_of, Reads, first, first_fails, negated, enclosed, deep, compared, Goes, ended, another, another_fails, FilterIs}
 use Rattle.ft_filter.specs.Predicate.{Read, Found, Stop, place, pred_at}
-use Rattle.ft_filter.specs.Operators.{text_of}
+use Rattle.ft_filter.specs.Operators.{op_text}
 use Rattle.ft_filter.specs.Tree.{Tree, Trees, Not, Test, End, More}
-use Rattle.ft_tokens.specs.Tokens.{is_gap, skip}
+use Rattle.ft_text.specs.Tokens.{is_gap, skip}
 
 -- ---- the ends of texts
 
@@ -101,7 +101,7 @@ quoted_closes text = from (list_all (λ byte. not (byte == 34)) text)
     from false = closes_last (codes "'" ++ text) (codes "'") (record { front = []; byte = 39; is = refl; seen = refl })
 
 -- a value ends so
-value_closes : (value : Literal) → Closes (value_text value)
+value_closes : (value : Literal) → Closes (literal_text value)
 value_closes (literals.Number (pos n)) = decimal_closes n
 value_closes (literals.Number (negsuc n)) = closes_last (45 ∷ []) (decimal (suc n)) (decimal_closes (suc n))
 value_closes (literals.Text text) = quoted_closes text
@@ -128,9 +128,9 @@ field_opens fields.Lat = record { byte = _; rest = _; is = refl; seen = refl }
 pred_edged : (pred : Pred) → Edged (pred_text pred)
 unfolding pred_text
 pred_edged pred = record {
-  opens = opens_first (field_text pred.field ++ codes " " ++ text_of pred.op ++ codes " ") (value_text pred.value)
-      (opens_first (field_text pred.field ++ codes " " ++ text_of pred.op) (codes " ") (opens_first (field_text pred.field ++ codes " ") (text_of pred.op) (opens_first (field_text pred.field) (codes " ") (field_opens pred.field))));
-  closes = closes_last (field_text pred.field ++ codes " " ++ text_of pred.op ++ codes " ") (value_text pred.value) (value_closes pred.value);
+  opens = opens_first (field_text pred.field ++ codes " " ++ op_text pred.op ++ codes " ") (literal_text pred.value)
+      (opens_first (field_text pred.field ++ codes " " ++ op_text pred.op) (codes " ") (opens_first (field_text pred.field ++ codes " ") (op_text pred.op) (opens_first (field_text pred.field) (codes " ") (field_opens pred.field))));
+  closes = closes_last (field_text pred.field ++ codes " " ++ op_text pred.op ++ codes " ") (literal_text pred.value) (value_closes pred.value);
 }
 
 -- ---- trees
@@ -157,10 +157,10 @@ Taken {A = A} f = A
 
 -- what joins operands: what has a joint's text
 abbrev Joint : Type 0
-Joint = Taken joint_text
+Joint = Taken spaced_joint_text
 
 -- operands of a joint have their joined text
-both_text : (joint : Joint) (trees : Trees) → canonical (both joint trees) ≡ joined_text joint trees
+both_text : (joint : Joint) (trees : Trees) → canonical (tree_of_joint joint trees) ≡ joined_text joint trees
 both_text joint trees = grind arith
 
 -- what is read has such ends
@@ -178,8 +178,8 @@ more_edged : (joint : Joint) (tree : Tree) (read : Read Trees) → Edged (canoni
 more_edged joint tree (Stop fault) one more = tt
 more_edged joint tree (Found trees rest) one more = λ front h.
     let operand : List ℕ = enclosed_if (needs_enclosing joint tree) (canonical tree) in
-    let next : Edged (front ++ (joint_text joint ++ operand)) = between_edged front (joint_text joint) operand h (enclosed_edged (needs_enclosing joint tree) (canonical tree) one) in
-    subst Edged (append_assoc front (joint_text joint ++ operand) (more_text joint trees)) (more (front ++ (joint_text joint ++ operand)) next)
+    let next : Edged (front ++ (spaced_joint_text joint ++ operand)) = between_edged front (spaced_joint_text joint) operand h (enclosed_edged (needs_enclosing joint tree) (canonical tree) one) in
+    subst Edged (append_assoc front (spaced_joint_text joint ++ operand) (more_text joint trees)) (more (front ++ (spaced_joint_text joint ++ operand)) next)
 
 -- operands that a joint joins, or one alone
 joined_edged : (joint : Joint) (tree : Tree) (read : Read Trees) → Edged (canonical tree) → MoreEdged joint read → ReadEdged (made (joined joint tree) read)
@@ -195,7 +195,7 @@ not_read (Stop fault) h = tt
 not_read (Found tree rest) h = not_edged (enclosed_if (is_joined tree) (canonical tree)) (enclosed_edged (is_joined tree) (canonical tree) h)
 
 -- what is in parentheses
-closed_read : (whole : ℕ) (read : Read Tree) → ReadEdged read → ReadEdged (closed whole read)
+closed_read : (whole : ℕ) (read : Read Tree) → ReadEdged read → ReadEdged (parenthesised whole read)
 closed_read whole (Stop fault) h = tt
 closed_read whole (Found tree rest) h = from (starts_with ◌==◌ (skip rest) (codes ")"))
   where

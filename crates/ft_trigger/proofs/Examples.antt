@@ -11,21 +11,21 @@ use Rattle.ft_hist.specs.declared.item.SortBy.TheVariants as sorts
 use Rattle.ft_hist.specs.declared.label.Var.TheVariants as vars
 use Rattle.ft_filter.specs.declared.fault.FilterFault.TheVariants.{BadGlob}
 use Rattle.ft_filter.specs.Operators.{op_at}
-use Rattle.ft_filter.specs.Predicate.{text_value, number_value, value_at, comparison_at, pred_at}
-use Rattle.ft_filter.specs.Matching.{items_of, is_glob}
+use Rattle.ft_filter.specs.Predicate.{text_value, number_value, literal_at, comparison_at, pred_at}
+use Rattle.ft_text.specs.Matching.{glob_items, is_glob}
 use Rattle.ft_filter.specs.Answers.{going, joined_at, operand_at, filter_of}
 use Rattle.ft_hist.specs.Hist.{Hist}
 use Rattle.ft_head.specs.Onmatch.{handed_of}
-use Rattle.ft_pieces.specs.Words.{word_with, word_of, number_in}
-use Rattle.ft_head.specs.Draft.{rounded, with_key, with_value, with_sort, stamp_of, with_kind, with_variable, with_onmatch, with_part, parts_from}
-use Rattle.ft_trigger.specs.TriggerIs.{filter_in, sort_by, finished, trigger_of}
+use Rattle.ft_text.specs.Items.{word_with, word_of, number_in}
+use Rattle.ft_head.specs.Draft.{rounded, with_key, with_value, with_sort, variable_stamp, with_kind, with_variable, with_onmatch, with_part, parts_from}
+use Rattle.ft_trigger.specs.TriggerIs.{tail_filter, sort_by, finished, trigger_of}
 use Rattle.ft_hist.specs.Canonical.{canonical}
 use Rattle.std.specs.Fmt.{digits}
 use Rattle.ft_filter.specs.Canonical.{quoted, pred_text}
-use Rattle.ft_tokens.specs.Tokens.{name_at, quoted_at, number_at, number_of}
+use Rattle.ft_text.specs.Tokens.{name_at, quoted_at, number_at, number_of}
 
 computing : Unit {0}
-unfolding name_at word_with word_of number_in with_key with_value with_sort stamp_of with_kind with_variable with_onmatch handed_of with_part parts_from filter_in sort_by finished trigger_of rounded op_at quoted_at number_at number_of text_value number_value value_at comparison_at pred_at items_of is_glob going joined_at operand_at filter_of canonical quoted pred_text digits
+unfolding name_at word_with word_of number_in with_key with_value with_sort variable_stamp with_kind with_variable with_onmatch handed_of with_part parts_from tail_filter sort_by finished trigger_of rounded op_at quoted_at number_at number_of text_value number_value literal_at comparison_at pred_at glob_items is_glob going joined_at operand_at filter_of canonical quoted pred_text digits
 computing = tt
 
 -- the canonical text of a trigger that is read

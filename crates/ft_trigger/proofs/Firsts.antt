@@ -6,10 +6,10 @@ use Rattle.std.specs.List.{list_all, list_any}
 use Rattle.ft_fields.specs.declared.event.Name.{Name}
 use Rattle.ft_head.specs.declared.fault.TriggerFault.{TriggerFault}
 use Rattle.ft_head.specs.declared.fault.TriggerFault.TheVariants.{Syntax}
-use Rattle.ft_head.specs.Draft.{Draft, blank, ◌>>=◌, given_or, items_from, items_of, with_part, parts_from}
-use Rattle.ft_pieces.specs.Words.{Piece, Word, word_of, pieces}
-use Rattle.ft_pieces.proofs.Separators.{Free, pieces_last, pieces_append}
-use Rattle.ft_trigger.specs.FirstFaults.{joined_by, AreBetween, in_front, Reading, AreRead, nothing, one_more, FailFirst, ReadAs, of_parts, of_items}
+use Rattle.ft_head.specs.Draft.{Draft, empty_draft, ◌>>=◌, given_or, items_from, items_of, with_part, parts_from}
+use Rattle.ft_text.specs.Items.{Piece, Word, word_of, pieces}
+use Rattle.ft_text.proofs.Separators.{Free, pieces_last, pieces_append}
+use Rattle.ft_trigger.specs.FirstFaults.{joined_by, AreBetween, front_text, Reading, AreRead, nothing, one_more, FailFirst, ReadAs, of_parts, of_items}
 use Rattle.ft_trigger.specs.Shape.{IsCut}
 use Rattle.ft_trigger.specs.TriggerIs.{trigger_of}
 use Rattle.ft_trigger.proofs.Standing.{parts_first}
@@ -95,13 +95,13 @@ module _ {A : Type 0} (r : Reading A) where
 
   -- where texts after others begin
   abbrev place_behind : List (List ℕ) → ℕ
-  place_behind front = r.place + length (in_front r.separator front)
+  place_behind front = r.place + length (front_text r.separator front)
 
   -- one more text in front
-  front_more : (front : List (List ℕ)) (text : List ℕ) → length (in_front r.separator (front ++ text ∷ [])) ≡ length (in_front r.separator front) + length text + 1
+  front_more : (front : List (List ℕ)) (text : List ℕ) → length (front_text r.separator (front ++ text ∷ [])) ≡ length (front_text r.separator front) + length text + 1
   front_more [] text = omega (arith, length-append text (r.separator ∷ []))
   front_more (first ∷ front) text =
-      omega (arith, front_more front text, length-append first (r.separator ∷ in_front r.separator (front ++ text ∷ [])), length-append first (r.separator ∷ in_front r.separator front))
+      omega (arith, front_more front text, length-append first (r.separator ∷ front_text r.separator (front ++ text ∷ [])), length-append first (r.separator ∷ front_text r.separator front))
 
   -- what is left is read after what has been read
   reads_from : (rest front : List (List ℕ)) (read : A) (answer : Result A TriggerFault) → AreRead r front read → walk read (placed (place_behind front) rest) ≡ answer → ReadAs r (front ++ rest) answer
@@ -155,9 +155,9 @@ parts_walk event (part ∷ parts) draft = from (λ more. parts_walk event parts 
     from later (Err fault) = refl
 
 -- the parts of a head, by the first that has a fault
-pub first_parts : (event : Name) (whole : List ℕ) (parts : List (List ℕ)) (answer : Result Draft TriggerFault) → AreBetween 58 whole parts → (parts_from event blank (pieces 58 5 whole) ≡ answer) ↔ ReadAs (of_parts event) parts answer
+pub first_parts : (event : Name) (whole : List ℕ) (parts : List (List ℕ)) (answer : Result Draft TriggerFault) → AreBetween 58 whole parts → (parts_from event empty_draft (pieces 58 5 whole) ≡ answer) ↔ ReadAs (of_parts event) parts answer
 first_parts event whole parts answer h =
-    let same = parts_walk event (pieces 58 5 whole) blank in
+    let same = parts_walk event (pieces 58 5 whole) empty_draft in
     let so = read_between (of_parts event) whole parts answer h in
     (λ is. so.0 (same ∙ is), λ read. sym same ∙ so.1 read)
 

@@ -14,10 +14,10 @@ use Rattle.ft_head.specs.declared.draft.Kind.{Kind}
 use Rattle.ft_head.specs.declared.draft.Kind.TheVariants.{Keys, Values, Sort, Size}
 use Rattle.ft_head.specs.declared.fault.TriggerFault.{TriggerFault}
 use Rattle.ft_head.specs.declared.fault.TriggerFault.TheVariants.{Syntax, Duplicate, BadSize, LeftOut}
-use Rattle.ft_head.specs.Draft.{Draft, blank, ◌>>=◌, unless, given_or, items_of, with_key, with_value, with_sort, size_of, stamp_of, is_taken, var_of, labels, is_part_left_out, action_of, with_kind, with_named, with_variable, with_handed, with_onmatch, with_other, with_part}
+use Rattle.ft_head.specs.Draft.{Draft, empty_draft, ◌>>=◌, unless, given_or, items_of, with_key, with_value, with_sort, size_of, variable_stamp, is_taken, var_of, labels, is_part_left_out, action_of, with_kind, with_named, with_variable, with_handed, with_onmatch, with_other, with_part}
 use Rattle.ft_head.specs.Onmatch.{Action, Handed, handed_of}
-use Rattle.ft_pieces.specs.Words.{Piece, Word}
-use Rattle.ft_tokens.specs.Tokens.{name_at}
+use Rattle.ft_text.specs.Items.{Piece, Word}
+use Rattle.ft_text.specs.Tokens.{name_at}
 use Rattle.ft_trigger.specs.FirstFaults.{AreRead, nothing, one_more, of_parts}
 use Rattle.ft_trigger.specs.Forms.{Form, OfKind, OfOnmatch, OfVariable, form_of, same_form, stands, has_read}
 use Rattle.ft_trigger.proofs.Actions.{onmatch_parts}
@@ -116,7 +116,7 @@ module _ (event : Name) where
   -- ---- parts
 
   -- nothing has been read at first
-  none_read : (form : Form) → has_read form blank ≡ false
+  none_read : (form : Form) → has_read form empty_draft ≡ false
   none_read (OfKind Keys) = refl
   none_read (OfKind Values) = refl
   none_read (OfKind Sort) = refl
@@ -198,7 +198,7 @@ module _ (event : Name) (draft other : Draft) (alike : Alike draft other) (fault
   named_alike place name value e =
       unless_alike (same_name event names.WakeupLatency) (same_name event names.WakeupLatency) refl (LeftOut place) _ _ fault
       (unless_alike (is_some draft.variable) (is_some other.variable) (alike OfVariable) (LeftOut place) _ _ fault
-      (given_alike (LeftOut place) (stamp_of value) _ _ fault (λ stamp. unless_alike (is_taken event name stamp) (is_taken event name stamp) refl Duplicate _ _ fault (λ e. absurd cc)))) e
+      (given_alike (LeftOut place) (variable_stamp value) _ _ fault (λ stamp. unless_alike (is_taken event name stamp) (is_taken event name stamp) refl Duplicate _ _ fault (λ e. absurd cc)))) e
 
   variable_alike : (part : Piece) → with_variable event draft part ≡ Err fault → with_variable event other part ≡ Err fault
   unfolding with_variable

@@ -6,12 +6,12 @@ use Rattle.std.proofs.lemmas.List.{take-append-drop, reverse-append, reverse-rev
 use Rattle.std.proofs.lemmas.List.Folds.{list_all-append}
 use Rattle.std.specs.Prelude.{reverse}
 use Rattle.std.specs.List.{prefix_len, list_all, list_any}
-use Rattle.ft_tokens.specs.Tokens.{is_gap, skip}
+use Rattle.ft_text.specs.Tokens.{is_gap, skip}
 use Rattle.ft_trigger.specs.Shape.{Opens, Closes, IsCut, Cut}
-use Rattle.ft_trigger.specs.TriggerIs.{head_len, behind_head, without_end, tail_of}
+use Rattle.ft_trigger.specs.TriggerIs.{head_len, behind_head, without_end, trigger_tail}
 use Rattle.ft_trigger.proofs.Cutting.{skip-front}
-use Rattle.ft_pieces.proofs.Separators.{is_seen}
-use Rattle.ft_pieces.proofs.Spellings.{run_front, run_passes}
+use Rattle.ft_text.proofs.Separators.{is_seen}
+use Rattle.ft_text.proofs.Spellings.{run_front, run_passes}
 use Rattle.ft_trigger.proofs.Tails.{skip_none}
 
 -- ---- runs
@@ -91,7 +91,7 @@ blank_ends (byte ∷ blank) rest all ends = let here = (and_parts (is_gap byte) 
 pub record Known (text head gap tail : List ℕ) : Type 0 where
   pub len : head_len text ≡ length head
   pub front : take (head_len text) text ≡ head
-  pub tail_is : tail_of text ≡ tail
+  pub tail_is : trigger_tail text ≡ tail
   pub place : (tail ≡ []) ⊎ (length text - length (behind_head text) ≡ length head + length gap)
 
 -- four texts, grouped to the right

@@ -8,18 +8,18 @@ use Rattle.ft_head.specs.declared.fault.TriggerFault.{TriggerFault}
 use Rattle.ft_head.specs.declared.fault.TriggerFault.TheVariants.{BadSize}
 use Rattle.ft_hist.specs.declared.item.KeyItem.{KeyItem}
 use Rattle.ft_hist.specs.declared.label.Var.{Var}
-use Rattle.ft_hist.specs.Canonical.{listed, more_items, key_text}
-use Rattle.ft_head.specs.Draft.{Draft, blank, ◌>>=◌, given_or, besides_hitcount, with_key, with_kind, with_part, parts_from}
+use Rattle.ft_hist.specs.Canonical.{listed, more_items, key_item_text}
+use Rattle.ft_head.specs.Draft.{Draft, empty_draft, ◌>>=◌, given_or, besides_hitcount, with_key, with_kind, with_part, parts_from}
 use Rattle.ft_head.specs.Onmatch.{Action}
-use Rattle.ft_pieces.specs.Words.{pieces, Word}
+use Rattle.ft_text.specs.Items.{pieces, Word}
 use Rattle.ft_trigger.proofs.Actions.{ActionFits, action_bytes}
 use Rattle.ft_trigger.proofs.Chains.{Chain, items_again, chain_inner}
 use Rattle.ft_trigger.proofs.Drafts.{If}
 use Rattle.ft_trigger.proofs.Keyed.{KeyFits, key_again, key_bare}
 use Rattle.ft_head.proofs.Numerals.{SizeFits}
-use Rattle.ft_pieces.proofs.Separators.{is_inner, is_seen, bare_inner, inner_free, inner_seen, pieces_first, pieces_last}
+use Rattle.ft_text.proofs.Separators.{is_inner, is_seen, bare_inner, inner_free, inner_seen, pieces_first, pieces_last}
 use Rattle.ft_trigger.proofs.Sorted.{SortFits, directed, sorts_again, sorts_inner}
-use Rattle.ft_pieces.proofs.Spellings.{word_text}
+use Rattle.ft_text.proofs.Spellings.{word_text}
 use Rattle.ft_trigger.proofs.Valued.{ValueFits, hits, values_again, values_inner}
 use Rattle.ft_trigger.proofs.Variables.{VarFits, var_bytes}
 
@@ -82,10 +82,10 @@ behind_values (Some variable) rest = var_bytes variable ++ 58 ∷ rest
 module _ (event : Name) where
   -- keys are read
   keys_read : (key : KeyItem) (keys : List KeyItem) (place : ℕ) → Chain (KeyFits event) [] (key ∷ keys)
-      → with_part event blank (record { place = place; bytes = codes "keys=" ++ listed (map key_text (key ∷ keys)) }) ≡ Ok (keyed (key ∷ keys))
+      → with_part event empty_draft (record { place = place; bytes = codes "keys=" ++ listed (map key_item_text (key ∷ keys)) }) ≡ Ok (keyed (key ∷ keys))
   unfolding with_part with_kind
   keys_read key keys place chain =
-      ap (λ (r : Result (List KeyItem) TriggerFault). r >>= (λ keys. Ok (keyed keys))) (items_again (with_key event) (KeyFits event) key_text (key_again event) keys [] key (place + 5) chain.0 chain.1)
+      ap (λ (r : Result (List KeyItem) TriggerFault). r >>= (λ keys. Ok (keyed keys))) (items_again (with_key event) (KeyFits event) key_item_text (key_again event) keys [] key (place + 5) chain.0 chain.1)
 
   -- values are read
   values_read : (keys : List KeyItem) (values : List Word) (place : ℕ) → Chain (ValueFits event) [] values
@@ -139,7 +139,7 @@ module _ (event : Name) where
   -- a head after `hist:`
   abbrev pub body : Told → List ℕ
   body t =
-      codes "keys=" ++ (listed (map key_text (t.key ∷ t.keys)) ++ 58 ∷ (codes "vals=hitcount" ++ (more_items (map word_text (besides_hitcount t.values)) ++ 58 ∷ behind_values t.variable (sort_part (t.word ∷ t.words) t.size t.onmatch))))
+      codes "keys=" ++ (listed (map key_item_text (t.key ∷ t.keys)) ++ 58 ∷ (codes "vals=hitcount" ++ (more_items (map word_text (besides_hitcount t.values)) ++ 58 ∷ behind_values t.variable (sort_part (t.word ∷ t.words) t.size t.onmatch))))
 
   -- what is read of it
   abbrev pub told : Told → Draft
@@ -185,15 +185,15 @@ module _ (event : Name) where
       (λ p. values_read _ t.values p t.values_fit) (variable_ends t)
 
   -- the texts of keys can stand in a part
-  keys_inner : (key : KeyItem) (keys : List KeyItem) → Chain (KeyFits event) [] (key ∷ keys) → list_all is_inner (listed (map key_text (key ∷ keys))) ≡ true
+  keys_inner : (key : KeyItem) (keys : List KeyItem) → Chain (KeyFits event) [] (key ∷ keys) → list_all is_inner (listed (map key_item_text (key ∷ keys))) ≡ true
   keys_inner key keys chain =
-      list_all-append is_inner (key_text key) (more_items (map key_text keys))
-      ∙ and_from _ _ (bare_inner (key_text key) (key_bare event [] key chain.0)) (chain_inner (KeyFits event) key_text (key_bare event) keys (key ∷ []) chain.1)
+      list_all-append is_inner (key_item_text key) (more_items (map key_item_text keys))
+      ∙ and_from _ _ (bare_inner (key_item_text key) (key_bare event [] key chain.0)) (chain_inner (KeyFits event) key_item_text (key_bare event) keys (key ∷ []) chain.1)
 
   -- a head is read
-  pub head_again : (t : Told) (place : ℕ) → parts_from event blank (pieces 58 place (body t)) ≡ Ok (told t)
+  pub head_again : (t : Told) (place : ℕ) → parts_from event empty_draft (pieces 58 place (body t)) ≡ Ok (told t)
   head_again t place =
-      part_step event _ _ (codes "keys=" ++ listed (map key_text (t.key ∷ t.keys))) (codes "vals=hitcount" ++ (more_items (map word_text (besides_hitcount t.values)) ++ 58 ∷ behind_values t.variable (sort_part (t.word ∷ t.words) t.size t.onmatch)))
+      part_step event _ _ (codes "keys=" ++ listed (map key_item_text (t.key ∷ t.keys))) (codes "vals=hitcount" ++ (more_items (map word_text (besides_hitcount t.values)) ++ 58 ∷ behind_values t.variable (sort_part (t.word ∷ t.words) t.size t.onmatch)))
       (Ok (told t)) place (keys_inner t.key t.keys t.keys_fit) (λ p. keys_read t.key t.keys p t.keys_fit) (values_end t)
 
   -- ---- no space and no tab stands in a head
@@ -221,7 +221,7 @@ module _ (event : Name) where
   -- a head has none
   pub body_seen : (t : Told) → list_all is_seen (body t) ≡ true
   body_seen t =
-      seen_both (listed (map key_text (t.key ∷ t.keys))) (58 ∷ (codes "vals=hitcount" ++ (more_items (map word_text (besides_hitcount t.values)) ++ 58 ∷ behind_values t.variable (sort_part (t.word ∷ t.words) t.size t.onmatch))))
+      seen_both (listed (map key_item_text (t.key ∷ t.keys))) (58 ∷ (codes "vals=hitcount" ++ (more_items (map word_text (besides_hitcount t.values)) ++ 58 ∷ behind_values t.variable (sort_part (t.word ∷ t.words) t.size t.onmatch))))
       (keys_inner t.key t.keys t.keys_fit)
       (seen_both (more_items (map word_text (besides_hitcount t.values))) (58 ∷ behind_values t.variable (sort_part (t.word ∷ t.words) t.size t.onmatch)) (values_inner event t.values t.values_fit)
       (behind_seen t.variable (sort_part (t.word ∷ t.words) t.size t.onmatch) t.variable_fits (sort_seen t)))

@@ -9,21 +9,21 @@ use Rattle.std.specs.Option.{option_map_or, option_or}
 use Rattle.std.specs.Str.{bytes_eq}
 use Rattle.ft_fields.specs.declared.event.Name.{Name}
 use Rattle.ft_fields.specs.declared.field.Field.{Field}
-use Rattle.ft_fields.specs.Fields.{is_named, all_fields, is_text, text_of, has_field}
+use Rattle.ft_fields.specs.Fields.{is_field_named, all_fields, is_text, field_text, has_field}
 use Rattle.ft_head.specs.declared.fault.TriggerFault.{TriggerFault}
 use Rattle.ft_head.specs.declared.fault.TriggerFault.TheVariants.{NoField, TooMany, Duplicate, BadModifier, LeftOut}
 use Rattle.ft_hist.specs.declared.item.KeyItem.{KeyItem}
 use Rattle.ft_hist.specs.declared.modifier.Mode.{Mode}
 use Rattle.ft_hist.specs.declared.modifier.Mode.TheVariants as modes
-use Rattle.ft_hist.specs.Canonical.{key_text}
-use Rattle.ft_hist.specs.Modifiers.{mode_name, named_modes, is_called, mode_suffix, mode_suits}
+use Rattle.ft_hist.specs.Canonical.{key_item_text}
+use Rattle.ft_hist.specs.Modifiers.{mode_name, named_modes, mode_is_called, mode_suffix, mode_suits}
 use Rattle.ft_head.specs.Draft.{unless, given_or, is_left_out, mode_of, number_mode, buckets_of, is_key, with_key}
-use Rattle.ft_pieces.specs.Words.{Word, word_of, number_in}
+use Rattle.ft_text.specs.Items.{Word, word_of, number_in}
 use Rattle.ft_trigger.proofs.Chains.{Steps, Again}
 use Rattle.ft_trigger.proofs.Inversions.{unless_parts, given_parts}
 use Rattle.ft_head.proofs.Numerals.{number_again, number_parts, decimal_bare}
-use Rattle.ft_pieces.proofs.Separators.{is_bare, names_bare, bare_free}
-use Rattle.ft_pieces.proofs.Spellings.{find_passes, IsName, suffix_text, IsSuffix, word_text, word_name, word_again, bytes_same}
+use Rattle.ft_text.proofs.Separators.{is_bare, names_bare, bare_free}
+use Rattle.ft_text.proofs.Spellings.{find_passes, IsName, suffix_text, IsSuffix, word_text, word_name, word_again, bytes_same}
 
 -- names that no key has
 abbrev unkept : List (List ℕ)
@@ -31,7 +31,7 @@ unkept = codes "common_timestamp" ∷ codes "stacktrace" ∷ codes "common_stack
 
 -- a key's word
 abbrev pub key_word : KeyItem → Word
-key_word key = record { dollar = false; name = text_of key.field; suffix = mode_suffix key.mode }
+key_word key = record { dollar = false; name = field_text key.field; suffix = mode_suffix key.mode }
 
 -- the mode is one that can be read for a field of texts or of numbers, and suits it
 pub record ModeFits (text : Bool) (mode : Mode) : Type 0 where
@@ -44,9 +44,9 @@ pub record ModeFits (text : Bool) (mode : Mode) : Type 0 where
 -- the key is one that can be read after others
 pub record KeyFits (event : Name) (keys : List KeyItem) (key : KeyItem) : Type 0 where
   pub few : nat_le 3 (length keys) ≡ false
-  pub named : IsName (text_of key.field)
-  pub kept : list_any (bytes_eq (text_of key.field)) unkept ≡ false
-  pub owned : find (is_named event (text_of key.field)) all_fields ≡ Some key.field
+  pub named : IsName (field_text key.field)
+  pub kept : list_any (bytes_eq (field_text key.field)) unkept ≡ false
+  pub owned : find (is_field_named event (field_text key.field)) all_fields ≡ Some key.field
   pub suited : ModeFits (is_text key.field) key.mode
   pub apart : is_key keys key.field ≡ false
 
@@ -62,8 +62,8 @@ found_passes test all (y ∷ xs) x e h =
     from here rest false e = rest e
 
 -- a field that is found by a name has this name
-pub field_name : (event : Name) (name : List ℕ) (field : Field) → find (is_named event name) all_fields ≡ Some field → text_of field ≡ name
-field_name event name field e = bytes_same (text_of field) name (and_parts (bytes_eq (text_of field) name) (has_field event field) (find_passes (is_named event name) all_fields field e)).0
+pub field_name : (event : Name) (name : List ℕ) (field : Field) → find (is_field_named event name) all_fields ≡ Some field → field_text field ≡ name
+field_name event name field e = bytes_same (field_text field) name (and_parts (bytes_eq (field_text field) name) (has_field event field) (find_passes (is_field_named event name) all_fields field e)).0
 
 -- ---- modes
 
@@ -88,13 +88,13 @@ name_some [] e = absurd cc
 name_some (byte ∷ name) e = tt
 
 -- a mode that is a name
-named_fits : (suffix : List ℕ) (mode : Mode) → find (is_called suffix) named_modes ≡ Some mode → ModeFits false mode
+named_fits : (suffix : List ℕ) (mode : Mode) → find (mode_is_called suffix) named_modes ≡ Some mode → ModeFits false mode
 named_fits suffix mode found =
-    let tests = and_parts _ _ (found_passes (is_called suffix) is_bare_name named_modes mode found names_are_bare) in
+    let tests = and_parts _ _ (found_passes (mode_is_called suffix) is_bare_name named_modes mode found names_are_bare) in
     let more = and_parts _ _ tests.1 in
     let rest = and_parts _ _ more.1 in
     let last = and_parts _ _ rest.1 in
-    let called : mode_name mode ≡ suffix = bytes_same (mode_name mode) suffix (find_passes (is_called suffix) named_modes mode found) in
+    let called : mode_name mode ≡ suffix = bytes_same (mode_name mode) suffix (find_passes (mode_is_called suffix) named_modes mode found) in
     let is : mode_suffix mode ≡ Some (mode_name mode) = suffix_named (mode_name mode) (mode_suffix mode) tests.0 in
     record {
       reads = ap (mode_of false) (is ∙ ap Some called) ∙ ap (λ (o : Option Mode). option_or o (buckets_of suffix)) found;
@@ -126,13 +126,13 @@ buckets_fit text mode e = from (number_in 1 4294967295 text) refl e
 
 -- a modifier of a field of numbers
 suffix_fits : (suffix : List ℕ) (mode : Mode) → number_mode suffix ≡ Some mode → ModeFits false mode
-suffix_fits suffix mode e = from (find (is_called suffix) named_modes) refl e
+suffix_fits suffix mode e = from (find (mode_is_called suffix) named_modes) refl e
   where
     buckets : (b : Bool) → cond b (option_map modes.Buckets (number_in 1 4294967295 (drop 8 suffix))) None ≡ Some mode → ModeFits false mode
     buckets true e = buckets_fit (drop 8 suffix) mode e
     buckets false e = absurd cc
 
-    from : (o : Option Mode) → find (is_called suffix) named_modes ≡ o → option_or o (buckets_of suffix) ≡ Some mode → ModeFits false mode
+    from : (o : Option Mode) → find (mode_is_called suffix) named_modes ≡ o → option_or o (buckets_of suffix) ≡ Some mode → ModeFits false mode
     from None is e = buckets (starts_with ◌==◌ suffix (codes "buckets=")) e
     from (Some named) is e = subst (ModeFits false) (same_Some named mode e) (named_fits suffix named is)
 
@@ -158,21 +158,21 @@ key_modified keys suffix field = given_or BadModifier (mode_of (is_text field) s
 
 -- a key's field
 abbrev key_found : Name → List KeyItem → ℕ → Word → Result (List KeyItem) TriggerFault
-key_found event keys place word = given_or NoField (find (is_named event word.name) all_fields) (λ field. unless ((is_left_out word.suffix, LeftOut place) ∷ []) (key_modified keys word.suffix field))
+key_found event keys place word = given_or NoField (find (is_field_named event word.name) all_fields) (λ field. unless ((is_left_out word.suffix, LeftOut place) ∷ []) (key_modified keys word.suffix field))
 
 -- a key that has been read, from what its steps say
 key_made : (event : Name) (keys more : List KeyItem) (word : Word) (field : Field) (mode : Mode) → IsName word.name → nat_le 3 (length keys) ≡ false
-    → list_any (bytes_eq word.name) unkept ≡ false → find (is_named event word.name) all_fields ≡ Some field → mode_of (is_text field) word.suffix ≡ Some mode
+    → list_any (bytes_eq word.name) unkept ≡ false → find (is_field_named event word.name) all_fields ≡ Some field → mode_of (is_text field) word.suffix ≡ Some mode
     → is_key keys field ≡ false → ◌≡◌ {A = Result (List KeyItem) TriggerFault} (Ok (with_key_at_end keys field mode)) (Ok more) → (a : KeyItem) × (more ≡ keys ++ a ∷ []) × KeyFits event keys a
 key_made event keys more word field mode named few kept found suited apart e =
-    let same : word.name ≡ text_of field = sym (field_name event word.name field found) in (
+    let same : word.name ≡ field_text field = sym (field_name event word.name field found) in (
       record { field = field; mode = mode },
       (let x : with_key_at_end keys field mode ≡ more = cc in sym x),
       record {
         few = few;
         named = subst IsName same named;
         kept = subst (λ (n : List ℕ). list_any (bytes_eq n) unkept ≡ false) same kept;
-        owned = subst (λ (n : List ℕ). find (is_named event n) all_fields ≡ Some field) same found;
+        owned = subst (λ (n : List ℕ). find (is_field_named event n) all_fields ≡ Some field) same found;
         suited = mode_fits (is_text field) word.suffix mode suited;
         apart = apart;
       },
@@ -184,7 +184,7 @@ unfolding with_key
 key_steps event keys more place bytes word is e =
     let few = unless_parts (nat_le 3 (length keys)) TooMany ((word.dollar || list_any (bytes_eq word.name) unkept, LeftOut place) ∷ []) (key_found event keys place word) more e in
     let kept = unless_parts (word.dollar || list_any (bytes_eq word.name) unkept) (LeftOut place) [] (key_found event keys place word) more few.1 in
-    let field = given_parts NoField (find (is_named event word.name) all_fields) (λ field. unless ((is_left_out word.suffix, LeftOut place) ∷ []) (key_modified keys word.suffix field)) more kept.1 in
+    let field = given_parts NoField (find (is_field_named event word.name) all_fields) (λ field. unless ((is_left_out word.suffix, LeftOut place) ∷ []) (key_modified keys word.suffix field)) more kept.1 in
     let plain = unless_parts (is_left_out word.suffix) (LeftOut place) [] (key_modified keys word.suffix field.0) more field.2 in
     let mode = given_parts BadModifier (mode_of (is_text field.0) word.suffix) (key_added keys field.0) more plain.1 in
     let apart = unless_parts (is_key keys field.0) Duplicate [] (Ok (with_key_at_end keys field.0 mode.0)) more mode.2 in
@@ -192,7 +192,7 @@ key_steps event keys more place bytes word is e =
 
 -- a key whose steps are known
 key_placed : (event : Name) (keys more : List KeyItem) (place : ℕ) (word : Word) (field : Field) → nat_le 3 (length keys) ≡ false → (word.dollar || list_any (bytes_eq word.name) unkept) ≡ false
-    → find (is_named event word.name) all_fields ≡ Some field → is_left_out word.suffix ≡ false → key_modified keys word.suffix field ≡ Ok more → with_key event keys place word ≡ Ok more
+    → find (is_field_named event word.name) all_fields ≡ Some field → is_left_out word.suffix ≡ false → key_modified keys word.suffix field ≡ Ok more → with_key event keys place word ≡ Ok more
 unfolding with_key
 key_placed event keys more place word field few kept found plain e = rw (few, kept, found, plain) e
 
@@ -202,7 +202,7 @@ unfolding with_key
 key_shift event keys more place other word e =
     let few = unless_parts (nat_le 3 (length keys)) TooMany ((word.dollar || list_any (bytes_eq word.name) unkept, LeftOut place) ∷ []) (key_found event keys place word) more e in
     let kept = unless_parts (word.dollar || list_any (bytes_eq word.name) unkept) (LeftOut place) [] (key_found event keys place word) more few.1 in
-    let field = given_parts NoField (find (is_named event word.name) all_fields) (λ field. unless ((is_left_out word.suffix, LeftOut place) ∷ []) (key_modified keys word.suffix field)) more kept.1 in
+    let field = given_parts NoField (find (is_field_named event word.name) all_fields) (λ field. unless ((is_left_out word.suffix, LeftOut place) ∷ []) (key_modified keys word.suffix field)) more kept.1 in
     let plain = unless_parts (is_left_out word.suffix) (LeftOut place) [] (key_modified keys word.suffix field.0) more field.2 in
     key_placed event keys more other word field.0 few.0 kept.0 field.1 plain.0 plain.1
 
@@ -214,14 +214,14 @@ suffix_spelled None = refl
 suffix_spelled (Some suffix) = refl
 
 -- a key's text is its word's
-key_spelled : (key : KeyItem) → word_text (key_word key) ≡ key_text key
-key_spelled key = ap (λ (t : List ℕ). text_of key.field ++ t) (sym (suffix_spelled (mode_suffix key.mode)))
+key_spelled : (key : KeyItem) → word_text (key_word key) ≡ key_item_text key
+key_spelled key = ap (λ (t : List ℕ). field_text key.field ++ t) (sym (suffix_spelled (mode_suffix key.mode)))
 
 -- a key's text can stand in a list
-pub key_bare : (event : Name) (keys : List KeyItem) (key : KeyItem) → KeyFits event keys key → list_all is_bare (key_text key) ≡ true
+pub key_bare : (event : Name) (keys : List KeyItem) (key : KeyItem) → KeyFits event keys key → list_all is_bare (key_item_text key) ≡ true
 key_bare event keys key h =
-    ap (list_all is_bare) (sym (key_spelled key)) ∙ list_all-append is_bare (text_of key.field) (suffix_text (mode_suffix key.mode))
-    ∙ and_from _ _ (names_bare (text_of key.field) h.named.inside) h.suited.bare
+    ap (list_all is_bare) (sym (key_spelled key)) ∙ list_all-append is_bare (field_text key.field) (suffix_text (mode_suffix key.mode))
+    ∙ and_from _ _ (names_bare (field_text key.field) h.named.inside) h.suited.bare
 
 -- a key's word adds it
 key_adds : (event : Name) (keys : List KeyItem) (key : KeyItem) (place : ℕ) → KeyFits event keys key → with_key event keys place (key_word key) ≡ Ok (keys ++ key ∷ [])
@@ -229,9 +229,9 @@ unfolding with_key
 key_adds event keys key place h = rw (h.few, h.kept, h.owned, h.suited.kept, h.suited.reads, h.apart) refl
 
 -- a key's text is read
-pub key_again : (event : Name) (keys : List KeyItem) (key : KeyItem) → KeyFits event keys key → Again (with_key event) (KeyFits event) (key_text key) keys key
+pub key_again : (event : Name) (keys : List KeyItem) (key : KeyItem) → KeyFits event keys key → Again (with_key event) (KeyFits event) (key_item_text key) keys key
 key_again event keys key h = record {
-  free = bare_free (key_text key) (key_bare event keys key h);
+  free = bare_free (key_item_text key) (key_bare event keys key h);
   word = key_word key;
   reads = ap word_of (sym (key_spelled key)) ∙ word_again (key_word key) h.named h.suited.some;
   adds = λ place. key_adds event keys key place h;

@@ -10,8 +10,8 @@ use Rattle.ft_hist.specs.Hist.{Hist, IsWithin}
 use Rattle.ft_head.specs.declared.fault.TriggerFault.{TriggerFault}
 use Rattle.ft_head.specs.declared.fault.TriggerFault.TheVariants.{NoField, BadSort}
 use Rattle.ft_head.specs.Draft.{Draft, ◌>>=◌, besides_hitcount}
-use Rattle.ft_pieces.specs.Words.{is_word, Word, pieces}
-use Rattle.ft_trigger.specs.TriggerIs.{head_len, behind_head, tail_of, own_name, value_item, value_items, sort_by, sorts_of, is_descending, by_hits, sort_of, trigger_of}
+use Rattle.ft_text.specs.Items.{is_word, Word, pieces}
+use Rattle.ft_trigger.specs.TriggerIs.{head_len, behind_head, trigger_tail, own_name, value_item, value_items, sort_by, sorts_of, is_descending, by_hits, sort_of, trigger_of}
 use Rattle.ft_trigger.proofs.Chains.{Chain}
 use Rattle.ft_trigger.proofs.Drafts.{Listed, If, DraftFits, draft_fits}
 use Rattle.ft_trigger.proofs.Inversions.{then_parts, given_parts}
@@ -133,11 +133,11 @@ pub within : (event : Name) (text : List ℕ) (hist : Hist) → trigger_of event
 within event text hist e =
     let read = read_so event text hist e in
     made_within event read.draft hist (draft_fits event (pieces 58 5 (drop 5 (take (head_len text) text))) read.draft read.parts)
-    (made_so event (head_len text) (length text - length (behind_head text)) (tail_of text) read.draft hist read.ends)
+    (made_so event (head_len text) (length text - length (behind_head text)) (trigger_tail text) read.draft hist read.ends)
 
 -- and its event's
 pub owned : (event : Name) (text : List ℕ) (hist : Hist) → trigger_of event text ≡ Ok hist → hist.event ≡ event
 owned event text hist e =
     let read = read_so event text hist e in
-    let m = made_so event (head_len text) (length text - length (behind_head text)) (tail_of text) read.draft hist read.ends in
+    let m = made_so event (head_len text) (length text - length (behind_head text)) (trigger_tail text) read.draft hist read.ends in
     sym (ap (λ (h : Hist). h.event) m.is)

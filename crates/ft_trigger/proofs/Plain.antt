@@ -15,7 +15,7 @@ use Rattle.ft_head.specs.declared.draft.Kind.TheVariants.{Keys, Values, Sort, Si
 use Rattle.ft_hist.specs.declared.item.KeyItem.{KeyItem}
 use Rattle.ft_hist.specs.declared.item.Item.{Item}
 use Rattle.ft_head.specs.Onmatch.{Handed}
-use Rattle.ft_pieces.specs.Words.{Piece, Word, word_of}
+use Rattle.ft_text.specs.Items.{Piece, Word, word_of}
 use Rattle.ft_head.specs.Draft.{Draft, unless, given_or, ◌>>=◌, items_from, with_field, with_key, with_value, with_sort, with_kind, with_named, with_variable, number_field, action_of, with_handed, with_onmatch, with_other, with_part, parts_from}
 use Rattle.ft_trigger.specs.TriggerIs.{value_items, sorts_of, sort_of}
 

@@ -8,7 +8,7 @@ use Rattle.std.specs.List.{prefix_len, list_all, starts_with}
 use Rattle.std.specs.Str.{bytes_eq}
 use Rattle.ft_fields.specs.declared.event.Name.{Name}
 use Rattle.ft_filter.specs.Tree.{Tree}
-use Rattle.ft_tokens.specs.Tokens.{skip}
+use Rattle.ft_text.specs.Tokens.{skip}
 use Rattle.ft_head.specs.declared.fault.TriggerFault.{TriggerFault}
 use Rattle.ft_head.specs.declared.fault.TriggerFault.TheVariants.{Syntax, NoField}
 use Rattle.ft_hist.specs.declared.item.KeyItem.{KeyItem}
@@ -16,12 +16,12 @@ use Rattle.ft_hist.specs.declared.item.Item.{Item}
 use Rattle.ft_hist.specs.declared.item.SortItem.{SortItem}
 use Rattle.ft_hist.specs.declared.label.Var.{Var}
 use Rattle.ft_hist.specs.declared.label.Var.TheVariants as vars
-use Rattle.ft_hist.specs.Canonical.{listed, more_items, key_text, name_of, variable_text, onmatch_part, onmatch_text, if_text, canonical}
-use Rattle.ft_head.specs.Draft.{Draft, blank, ◌>>=◌, unless, besides_hitcount, parts_from}
+use Rattle.ft_hist.specs.Canonical.{listed, more_items, key_item_text, variable_name, variable_text, onmatch_part, onmatch_text, if_text, canonical}
+use Rattle.ft_head.specs.Draft.{Draft, empty_draft, ◌>>=◌, unless, besides_hitcount, parts_from}
 use Rattle.ft_hist.specs.Hist.{Hist, with_filter}
-use Rattle.ft_trigger.specs.TriggerIs.{head_len, behind_head, tail_of, own_name, value_items, sort_by, sorts_of, by_hits, sort_of, hands_other, sort_in, filter_in, finished, trigger_of}
+use Rattle.ft_trigger.specs.TriggerIs.{head_len, behind_head, trigger_tail, own_name, value_items, sort_by, sorts_of, by_hits, sort_of, hands_other, sort_in, tail_filter, finished, trigger_of}
 use Rattle.ft_head.specs.Onmatch.{Action}
-use Rattle.ft_pieces.specs.Words.{pieces, Word}
+use Rattle.ft_text.specs.Items.{pieces, Word}
 use Rattle.ft_trigger.proofs.Chains.{Chain}
 use Rattle.ft_trigger.proofs.Drafts.{Listed, If, DraftFits, draft_fits}
 use Rattle.ft_trigger.proofs.Heads.{Told, behind_values, behind_size, body, whole, told, head_again, body_seen}
@@ -29,9 +29,9 @@ use Rattle.ft_trigger.proofs.Inversions.{then_parts, unless_parts, given_parts}
 use Rattle.ft_trigger.proofs.Keyed.{KeyFits}
 use Rattle.ft_head.proofs.Numerals.{SizeFits, default_fits}
 use Rattle.ft_trigger.proofs.ReadSo.{read_so}
-use Rattle.ft_pieces.proofs.Separators.{is_seen}
+use Rattle.ft_text.proofs.Separators.{is_seen}
 use Rattle.ft_trigger.proofs.Sorted.{SortFits, directed, sorts_spelled, sorts_directed}
-use Rattle.ft_pieces.proofs.Spellings.{bytes_same, run_front, word_text}
+use Rattle.ft_text.proofs.Spellings.{bytes_same, run_front, word_text}
 use Rattle.ft_trigger.proofs.Tails.{FilterLaws, TreeFits, trimmed, if_gap, filter_again, filter_fits}
 use Rattle.ft_trigger.proofs.Valued.{ValueFits, hits, values_spelled, others_fit, besides_twice}
 
@@ -39,7 +39,7 @@ use Rattle.ft_trigger.proofs.Valued.{ValueFits, hits, values_spelled, others_fit
 
 -- a text whose head and tail are known is read by them
 cut_again : (event : Name) (behind tail : List ℕ) (draft : Draft) (answer : Result Hist TriggerFault) → list_all is_seen behind ≡ true → prefix_len is_seen tail ≡ 0
-    → parts_from event blank (pieces 58 5 behind) ≡ Ok draft → ((head place : ℕ) → finished event head place (trimmed tail) draft ≡ answer) → trigger_of event (codes "hist:" ++ behind ++ tail) ≡ answer
+    → parts_from event empty_draft (pieces 58 5 behind) ≡ Ok draft → ((head place : ℕ) → finished event head place (trimmed tail) draft ≡ answer) → trigger_of event (codes "hist:" ++ behind ++ tail) ≡ answer
 unfolding trigger_of
 cut_again event behind tail draft answer seen gap parts ends = ap by_len len ∙ ap (λ (h : List ℕ). by_cut h (drop (length head) text)) (take-append_seam head tail) ∙ ap (by_cut head) (drop-append_seam head tail)
     ∙ ap (λ (r : Result Draft TriggerFault). r >>= finished event (length head) (length text - length (skip tail)) (trimmed tail)) parts ∙ ends (length head) (length text - length (skip tail))
@@ -52,11 +52,11 @@ cut_again event behind tail draft answer seen gap parts ends = ap by_len len ∙
 
     by_len : ℕ → Result Hist TriggerFault
     by_len n = unless ((not (starts_with ◌==◌ (take n text) (codes "hist:")), Syntax 0) ∷ [])
-        (parts_from event blank (pieces 58 5 (drop 5 (take n text))) >>= finished event n (length text - length (skip (drop n text))) (reverse (skip (reverse (skip (drop n text))))))
+        (parts_from event empty_draft (pieces 58 5 (drop 5 (take n text))) >>= finished event n (length text - length (skip (drop n text))) (reverse (skip (reverse (skip (drop n text))))))
 
     by_cut : List ℕ → List ℕ → Result Hist TriggerFault
     by_cut h t = unless ((not (starts_with ◌==◌ h (codes "hist:")), Syntax 0) ∷ [])
-        (parts_from event blank (pieces 58 5 (drop 5 h)) >>= finished event (length head) (length text - length (skip t)) (trimmed t))
+        (parts_from event empty_draft (pieces 58 5 (drop 5 h)) >>= finished event (length head) (length text - length (skip t)) (trimmed t))
 
     len : head_len text ≡ length head
     len = run_front is_seen head tail seen gap
@@ -82,7 +82,7 @@ pub record Made (event : Name) (draft : Draft) (hist : Hist) : Type 0 where
 
 -- after the sort items
 abbrev pub behind_sort : Name → ℕ → List ℕ → Draft → List KeyItem → List Item → List SortItem → Result Hist TriggerFault
-behind_sort event place tail draft keys values sort = filter_in event place tail >>= (λ filter. Ok (made event draft keys values sort filter))
+behind_sort event place tail draft keys values sort = tail_filter event place tail >>= (λ filter. Ok (made event draft keys values sort filter))
 
 -- after the values
 abbrev behind_items : Name → ℕ → List ℕ → Draft → List KeyItem → List Item → Result Hist TriggerFault
@@ -100,7 +100,7 @@ made_so event head place tail draft hist e =
     let values = then_parts (value_items event (own_name draft.variable) (besides_hitcount (unwrap_or draft.values []))) (behind_items event place tail draft keys.0) hist keys.2 in
     let sort = then_parts (sort_in draft keys.0 values.0) (behind_sort event place tail draft keys.0 values.0) hist values.2 in
     let owned = unless_parts (hands_other draft.variable draft.onmatch) NoField [] (sort_of keys.0 values.0 (own_name draft.variable) draft.sort) sort.0 sort.1 in
-    let filter = then_parts (filter_in event place tail) (λ filter. Ok (made event draft keys.0 values.0 sort.0 filter)) hist sort.2 in
+    let filter = then_parts (tail_filter event place tail) (λ filter. Ok (made event draft keys.0 values.0 sort.0 filter)) hist sort.2 in
     record {
       keys = keys.0;
       values = values.0;
@@ -133,7 +133,7 @@ variable_spelled (Some (vars.Saves name)) rest = refl
 variable_spelled (Some (vars.Reads own source)) rest = refl
 
 -- the variable that is handed on has the trigger's own name
-own_handed : (variable : Option Var) (action : Action) → hands_other variable (Some action) ≡ false → action.own ≡ name_of variable
+own_handed : (variable : Option Var) (action : Action) → hands_other variable (Some action) ≡ false → action.own ≡ variable_name variable
 own_handed None action h = absurd cc
 own_handed (Some (vars.Saves name)) action h = absurd cc
 own_handed (Some (vars.Reads own source)) action h = bytes_same action.own own (not-false (bytes_eq action.own own) h)
@@ -160,11 +160,11 @@ unfolding canonical
 spelled event t values sort filter owned values_are sort_is =
     let vals = values_spelled event t.variable (besides_hitcount t.values) (hits ∷ []) values (others_fit event t.values [] t.values_fit) values_are in
     let sorts = sorts_spelled (hist_of event t values sort filter) (t.word ∷ t.words) sort sort_is in
-    rw (vals, sorts) (grouped (listed (map key_text (t.key ∷ t.keys))) (more_items (map word_text (besides_hitcount t.values))) (listed (map word_text (map directed (t.word ∷ t.words)))) (decimal t.size) (if_text filter) t.variable t.onmatch owned)
+    rw (vals, sorts) (grouped (listed (map key_item_text (t.key ∷ t.keys))) (more_items (map word_text (besides_hitcount t.values))) (listed (map word_text (map directed (t.word ∷ t.words)))) (decimal t.size) (if_text filter) t.variable t.onmatch owned)
 
 -- a draft whose steps are known is a trigger
 finish_step : (event : Name) (head place : ℕ) (tail : List ℕ) (keys : List KeyItem) (words order : List Word) (variable : Option Var) (size : ℕ) (onmatch : Option Action) (values : List Item) (sort : List SortItem) (filter : Option Tree)
-    → hands_other variable onmatch ≡ false → value_items event (own_name variable) (besides_hitcount words) ≡ Ok values → sorts_of keys values (own_name variable) order ≡ Ok sort → filter_in event place tail ≡ Ok filter
+    → hands_other variable onmatch ≡ false → value_items event (own_name variable) (besides_hitcount words) ≡ Ok values → sorts_of keys values (own_name variable) order ≡ Ok sort → tail_filter event place tail ≡ Ok filter
     → finished event head place tail (whole keys words variable order size onmatch)
     ≡ Ok (record { event = event; keys = keys; values = values; sort = sort; variable = variable; size = size; onmatch = option_map (λ action. action.onmatch) onmatch; filter = filter })
 unfolding finished
@@ -268,7 +268,7 @@ pub reads_again : (laws : FilterLaws) (event : Name) (text : List ℕ) (hist : H
 reads_again laws event text hist e =
     let read = read_so event text hist e in
     made_again laws event read.draft hist (draft_fits event (pieces 58 5 (drop 5 (take (head_len text) text))) read.draft read.parts)
-    (made_so event (head_len text) (length text - length (behind_head text)) (tail_of text) read.draft hist read.ends)
+    (made_so event (head_len text) (length text - length (behind_head text)) (trigger_tail text) read.draft hist read.ends)
 
 -- so does that of a trigger that some text gives, with another filter that some text gives, or with none
 pub refiltered_again : (laws : FilterLaws) (event : Name) (text : List ℕ) (hist : Hist) (filter : Option Tree) → If (TreeFits event) filter → trigger_of event text ≡ Ok hist
@@ -276,4 +276,4 @@ pub refiltered_again : (laws : FilterLaws) (event : Name) (text : List ℕ) (his
 refiltered_again laws event text hist filter fits e =
     let read = read_so event text hist e in
     made_again laws event read.draft (with_filter hist filter) (draft_fits event (pieces 58 5 (drop 5 (take (head_len text) text))) read.draft read.parts)
-    (refiltered event read.draft hist filter fits (made_so event (head_len text) (length text - length (behind_head text)) (tail_of text) read.draft hist read.ends))
+    (refiltered event read.draft hist filter fits (made_so event (head_len text) (length text - length (behind_head text)) (trigger_tail text) read.draft hist read.ends))

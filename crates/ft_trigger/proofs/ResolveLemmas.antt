@@ -13,8 +13,8 @@ use Rattle.ft_hist.specs.declared.item.SortBy.{SortBy}
 use Rattle.ft_hist.specs.declared.item.SortItem.{SortItem}
 use Rattle.ft_hist.specs.declared.label.Var.{Var}
 use Rattle.ft_hist.specs.declared.label.Var.TheVariants as vars
-use Rattle.ft_hist.specs.Canonical.{name_of}
-use Rattle.ft_pieces.specs.Words.{Word, is_word}
+use Rattle.ft_hist.specs.Canonical.{variable_name}
+use Rattle.ft_text.specs.Items.{Word, is_word}
 use Rattle.ft_head.specs.Draft.{◌>>=◌, given_or, besides_hitcount}
 use Rattle.ft_trigger.specs.TriggerIs.{own_name, value_item, value_items, sort_by, sorts_of, is_descending}
 
@@ -86,6 +86,6 @@ pub sorts_fault : (keys : List KeyItem) (values : List Item) (own : Option (List
 sorts_fault keys values own done word words is = rw is refl
 
 -- a trigger's variable has a name
-pub own_named : (variable : Var) → own_name (Some variable) ≡ Some (name_of (Some variable))
+pub own_named : (variable : Var) → own_name (Some variable) ≡ Some (variable_name (Some variable))
 own_named (vars.Saves name) = refl
 own_named (vars.Reads own source) = refl

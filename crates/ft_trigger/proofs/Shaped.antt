@@ -11,21 +11,21 @@ use Rattle.ft_filter.specs.declared.fault.FilterFault.{FilterFault}
 use Rattle.ft_filter.specs.Answers.{filter_of}
 use Rattle.ft_filter.specs.FilterIs.{FilterIs}
 use Rattle.ft_filter.specs.Tree.{Tree}
-use Rattle.ft_tokens.specs.Tokens.{is_gap, skip}
+use Rattle.ft_text.specs.Tokens.{is_gap, skip}
 use Rattle.ft_hist.specs.declared.item.KeyItem.{KeyItem}
 use Rattle.ft_hist.specs.declared.item.Item.{Item}
 use Rattle.ft_hist.specs.declared.item.SortItem.{SortItem}
 use Rattle.ft_hist.specs.Hist.{Hist}
 use Rattle.ft_head.specs.declared.fault.TriggerFault.{TriggerFault}
 use Rattle.ft_head.specs.declared.fault.TriggerFault.TheVariants.{Syntax}
-use Rattle.ft_head.specs.Draft.{Draft, blank, ◌>>=◌, unless, given_or, besides_hitcount, parts_from}
+use Rattle.ft_head.specs.Draft.{Draft, empty_draft, ◌>>=◌, unless, given_or, besides_hitcount, parts_from}
 use Rattle.ft_trigger.specs.Shape.{Opens, IsCut, IsIf, TailIs, nothing, filtered, unread, other, with_tail, IsShaped}
-use Rattle.ft_trigger.specs.TriggerIs.{head_len, behind_head, tail_of, behind_if, filter_or_fault, filter_in, own_name, value_items, sort_in, finished, trigger_of}
-use Rattle.ft_pieces.specs.Words.{pieces}
+use Rattle.ft_trigger.specs.TriggerIs.{head_len, behind_head, trigger_tail, behind_if, filter_or_fault, tail_filter, own_name, value_items, sort_in, finished, trigger_of}
+use Rattle.ft_text.specs.Items.{pieces}
 use Rattle.ft_trigger.proofs.Halves.{Known, known, cut_of, skip_opens, skip_some, skip_blank}
 use Rattle.ft_trigger.proofs.Inversions.{then_parts, unless_parts}
 use Rattle.ft_trigger.proofs.ReadAgain.{made}
-use Rattle.ft_pieces.proofs.Spellings.{front_same, run_passes}
+use Rattle.ft_text.proofs.Spellings.{front_same, run_passes}
 use Rattle.ft_trigger.proofs.Tails.{OneFilter, filter_none}
 
 -- ---- a head, and then a filter
@@ -64,29 +64,29 @@ module _ (event : Name) (draft : Draft) (filter : Result (Option Tree) TriggerFa
   made_keys head None = refl
 
 -- a draft and a tail are the draft, and then the tail
-finished_by : (event : Name) (head place : ℕ) (tail : List ℕ) (draft : Draft) → finished event head place tail draft ≡ (make_of event head draft >>= with_made (filter_in event place tail))
+finished_by : (event : Name) (head place : ℕ) (tail : List ℕ) (draft : Draft) → finished event head place tail draft ≡ (make_of event head draft >>= with_made (tail_filter event place tail))
 unfolding finished
-finished_by event head place tail draft = made_keys event draft (filter_in event place tail) head draft.keys
+finished_by event head place tail draft = made_keys event draft (tail_filter event place tail) head draft.keys
 
 -- a head without a filter: it begins with `hist:`, and then come parts
 abbrev pub bare_of : Name → List ℕ → Result Hist TriggerFault
-bare_of event head = unless ((not (starts_with ◌==◌ head (codes "hist:")), Syntax 0) ∷ []) (parts_from event blank (pieces 58 5 (drop 5 head)) >>= make_of event (length head))
+bare_of event head = unless ((not (starts_with ◌==◌ head (codes "hist:")), Syntax 0) ∷ []) (parts_from event empty_draft (pieces 58 5 (drop 5 head)) >>= make_of event (length head))
 
 -- so are parts and a tail
-parts_by : (event : Name) (head place : ℕ) (tail : List ℕ) (draft : Result Draft TriggerFault) → (draft >>= finished event head place tail) ≡ ((draft >>= make_of event head) >>= with_made (filter_in event place tail))
+parts_by : (event : Name) (head place : ℕ) (tail : List ℕ) (draft : Result Draft TriggerFault) → (draft >>= finished event head place tail) ≡ ((draft >>= make_of event head) >>= with_made (tail_filter event place tail))
 parts_by event head place tail (Ok draft) = finished_by event head place tail draft
 parts_by event head place tail (Err fault) = refl
 
 -- so are a text's head and tail
-text_by : (event : Name) (text head gap tail : List ℕ) (filter : Result (Option Tree) TriggerFault) → Known text head gap tail → filter_in event (length text - length (behind_head text)) tail ≡ filter
+text_by : (event : Name) (text head gap tail : List ℕ) (filter : Result (Option Tree) TriggerFault) → Known text head gap tail → tail_filter event (length text - length (behind_head text)) tail ≡ filter
     → trigger_of event text ≡ (bare_of event head >>= with_made filter)
 unfolding trigger_of
 text_by event text head gap tail filter h is =
-    ap (λ (f : List ℕ). by_parts (head_len text) f (tail_of text)) h.front ∙ ap (λ (n : ℕ). by_parts n head (tail_of text)) h.len ∙ ap (by_parts (length head) head) h.tail_is
-    ∙ from (not (starts_with ◌==◌ head (codes "hist:"))) (parts_from event blank (pieces 58 5 (drop 5 head)))
+    ap (λ (f : List ℕ). by_parts (head_len text) f (trigger_tail text)) h.front ∙ ap (λ (n : ℕ). by_parts n head (trigger_tail text)) h.len ∙ ap (by_parts (length head) head) h.tail_is
+    ∙ from (not (starts_with ◌==◌ head (codes "hist:"))) (parts_from event empty_draft (pieces 58 5 (drop 5 head)))
   where
     by_parts : ℕ → List ℕ → List ℕ → Result Hist TriggerFault
-    by_parts n front back = unless ((not (starts_with ◌==◌ front (codes "hist:")), Syntax 0) ∷ []) (parts_from event blank (pieces 58 5 (drop 5 front)) >>= finished event n (length text - length (behind_head text)) back)
+    by_parts n front back = unless ((not (starts_with ◌==◌ front (codes "hist:")), Syntax 0) ∷ []) (parts_from event empty_draft (pieces 58 5 (drop 5 front)) >>= finished event n (length text - length (behind_head text)) back)
 
     from : (b : Bool) (draft : Result Draft TriggerFault)
         → (if b then Err (Syntax 0) else (draft >>= finished event (length head) (length text - length (behind_head text)) tail)) ≡ ((if b then Err (Syntax 0) else (draft >>= make_of event (length head))) >>= with_made filter)
@@ -94,14 +94,14 @@ text_by event text head gap tail filter h is =
     from false draft = parts_by event (length head) (length text - length (behind_head text)) tail draft ∙ ap (λ (f : Result (Option Tree) TriggerFault). (draft >>= make_of event (length head)) >>= with_made f) is
 
 -- the place of a tail counts where there is one
-filter_placed : (event : Name) (text head gap tail : List ℕ) → Known text head gap tail → filter_in event (length text - length (behind_head text)) tail ≡ filter_in event (length head + length gap) tail
+filter_placed : (event : Name) (text head gap tail : List ℕ) → Known text head gap tail → tail_filter event (length text - length (behind_head text)) tail ≡ tail_filter event (length head + length gap) tail
 filter_placed event text head gap tail h = elim h.place [
-  | inl none ↦ ap (filter_in event (length text - length (behind_head text))) none ∙ filter_none event _ ∙ sym (filter_none event _) ∙ ap (filter_in event (length head + length gap)) (sym none)
-  | inr place ↦ ap (λ (p : ℕ). filter_in event p tail) place
+  | inl none ↦ ap (tail_filter event (length text - length (behind_head text))) none ∙ filter_none event _ ∙ sym (filter_none event _) ∙ ap (tail_filter event (length head + length gap)) (sym none)
+  | inr place ↦ ap (λ (p : ℕ). tail_filter event p tail) place
 ]
 
 -- a text that is cut
-pub cut_by : (event : Name) (text head gap tail end : List ℕ) (filter : Result (Option Tree) TriggerFault) → IsCut text head gap tail end → filter_in event (length head + length gap) tail ≡ filter
+pub cut_by : (event : Name) (text head gap tail end : List ℕ) (filter : Result (Option Tree) TriggerFault) → IsCut text head gap tail end → tail_filter event (length head + length gap) tail ≡ filter
     → trigger_of event text ≡ (bare_of event head >>= with_made filter)
 cut_by event text head gap tail end filter cut is =
     let h = known text head gap tail end cut in
@@ -138,7 +138,7 @@ made_fault (Err found) filter fault e = let same : found ≡ fault = cc in ap Er
 -- is the text's
 pub head_first : (event : Name) (text head gap tail end : List ℕ) (fault : TriggerFault) → IsCut text head gap tail end → trigger_of event head ≡ Err fault → trigger_of event text ≡ Err fault
 head_first event text head gap tail end fault cut e =
-    let filter = filter_in event (length head + length gap) tail in
+    let filter = tail_filter event (length head + length gap) tail in
     cut_by event text head gap tail end filter cut refl ∙ made_fault (bare_of event head) filter fault (sym (head_by event text head gap tail end cut) ∙ e)
 
 -- a head's trigger, with what the tail says
@@ -151,7 +151,7 @@ made_tail (Ok first) (Ok filter) hist e =
 
 -- is the text's
 tail_next : (event : Name) (text head gap tail end : List ℕ) (filter : Result (Option Tree) TriggerFault) (hist : Hist) → IsCut text head gap tail end → trigger_of event head ≡ Ok hist
-    → filter_in event (length head + length gap) tail ≡ filter → trigger_of event text ≡ with_tail hist filter
+    → tail_filter event (length head + length gap) tail ≡ filter → trigger_of event text ≡ with_tail hist filter
 tail_next event text head gap tail end filter hist cut e is =
     cut_by event text head gap tail end filter cut is ∙ made_tail (bare_of event head) filter hist (sym (head_by event text head gap tail end cut) ∙ e)
 
@@ -189,15 +189,15 @@ behind_is tail text e =
     some (byte ∷ rest) first = rw (first, one-add) (omega arith)
 
 -- a filter's answer, after `if`
-behind_read : (event : Name) (place : ℕ) (tail text : List ℕ) (answer : Result Tree FilterFault) → IsIf tail text → filter_of event text ≡ answer → filter_in event place tail ≡ filter_or_fault answer
-unfolding filter_in
+behind_read : (event : Name) (place : ℕ) (tail text : List ℕ) (answer : Result Tree FilterFault) → IsIf tail text → filter_of event text ≡ answer → tail_filter event place tail ≡ filter_or_fault answer
+unfolding tail_filter
 behind_read event place tail text answer h is =
     let some : (length tail == 0) ≡ false = ap (λ (t : List ℕ). length t == 0) h.is ∙ eqb-suc-zero (length (102 ∷ (h.gap ++ text))) in
     rw (some, if_behind tail text h, is) refl
 
 -- anything else
-behind_none : (event : Name) (place : ℕ) (tail : List ℕ) → (length tail == 0) ≡ false → behind_if tail ≡ None → filter_in event place tail ≡ Err (Syntax place)
-unfolding filter_in
+behind_none : (event : Name) (place : ℕ) (tail : List ℕ) → (length tail == 0) ≡ false → behind_if tail ≡ None → tail_filter event place tail ≡ Err (Syntax place)
+unfolding tail_filter
 behind_none event place tail some none = rw (some, none) refl
 
 -- a tail has a byte, or is empty
@@ -207,7 +207,7 @@ tail_some (byte ∷ tail) some = eqb-suc-zero (length tail)
 
 module _ (laws : OneFilter) where
   -- what a tail says is what is read of it
-  tail_read : (event : Name) (place : ℕ) (tail : List ℕ) (answer : Result (Option Tree) TriggerFault) → TailIs event place tail answer → filter_in event place tail ≡ answer
+  tail_read : (event : Name) (place : ℕ) (tail : List ℕ) (answer : Result (Option Tree) TriggerFault) → TailIs event place tail answer → tail_filter event place tail ≡ answer
   tail_read event place tail answer nothing = filter_none event place
   tail_read event place tail answer (filtered tail' text tree h reads) = behind_read event place tail' text (Ok tree) h (sym (laws.one event text (Ok tree) reads))
   tail_read event place tail answer (unread tail' text fault h reads) = behind_read event place tail' text (Err fault) h (sym (laws.one event text (Err fault) reads))
@@ -218,7 +218,7 @@ module _ (laws : OneFilter) where
       none (Some text) is = absurd (apart text (behind_is tail' text is))
 
   -- what is read of a tail, it says
-  read_tail : (event : Name) (place : ℕ) (tail : List ℕ) → TailIs event place tail (filter_in event place tail)
+  read_tail : (event : Name) (place : ℕ) (tail : List ℕ) → TailIs event place tail (tail_filter event place tail)
   read_tail event place [] = subst (TailIs event place []) (sym (filter_none event place)) nothing
   read_tail event place (byte ∷ tail) = behind (behind_if (byte ∷ tail)) refl
     where
@@ -226,7 +226,7 @@ module _ (laws : OneFilter) where
       answered text h (Ok tree) is = filtered (byte ∷ tail) text tree h (subst (FilterIs event text) is (laws.some event text))
       answered text h (Err fault) is = unread (byte ∷ tail) text fault h (subst (FilterIs event text) is (laws.some event text))
 
-      behind : (o : Option (List ℕ)) → behind_if (byte ∷ tail) ≡ o → TailIs event place (byte ∷ tail) (filter_in event place (byte ∷ tail))
+      behind : (o : Option (List ℕ)) → behind_if (byte ∷ tail) ≡ o → TailIs event place (byte ∷ tail) (tail_filter event place (byte ∷ tail))
       behind None is =
           subst (TailIs event place (byte ∷ tail)) (sym (behind_none event place (byte ∷ tail) (eqb-suc-zero (length tail)) is))
           (other (byte ∷ tail) (λ e. cc) (λ text h. let some : Some text ≡ None = sym (if_behind (byte ∷ tail) text h) ∙ is in cc))
@@ -235,7 +235,7 @@ module _ (laws : OneFilter) where
           subst (TailIs event place (byte ∷ tail)) (sym (behind_read event place (byte ∷ tail) text (filter_of event text) h refl)) (answered text h (filter_of event text) refl)
 
   -- so a tail says one thing, and that alone
-  pub one_tail : (event : Name) (place : ℕ) (tail : List ℕ) (answer : Result (Option Tree) TriggerFault) → TailIs event place tail answer ↔ (filter_in event place tail ≡ answer)
+  pub one_tail : (event : Name) (place : ℕ) (tail : List ℕ) (answer : Result (Option Tree) TriggerFault) → TailIs event place tail answer ↔ (tail_filter event place tail ≡ answer)
   one_tail event place tail answer = (tail_read event place tail answer, λ is. subst (TailIs event place tail) is (read_tail event place tail))
 
   -- after a head without a fault the tail decides
@@ -257,10 +257,10 @@ module _ (laws : OneFilter) where
   -- a trigger's text has its shape
   cut_shaped : (event : Name) (text head gap tail end : List ℕ) (hist : Hist) → IsCut text head gap tail end → trigger_of event text ≡ Ok hist → IsShaped event text hist
   cut_shaped event text head gap tail end hist cut e =
-      let filter = filter_in event (length head + length gap) tail in
+      let filter = tail_filter event (length head + length gap) tail in
       let whole = sym (cut_by event text head gap tail end filter cut refl) ∙ e in
       let first = then_parts (bare_of event head) (with_made filter) hist whole in
-      let begins = unless_parts (not (starts_with ◌==◌ head (codes "hist:"))) (Syntax 0) [] (parts_from event blank (pieces 58 5 (drop 5 head)) >>= make_of event (length head)) first.0 first.1 in
+      let begins = unless_parts (not (starts_with ◌==◌ head (codes "hist:"))) (Syntax 0) [] (parts_from event empty_draft (pieces 58 5 (drop 5 head)) >>= make_of event (length head)) first.0 first.1 in
       let is : head ≡ codes "hist:" ++ drop 5 head = front_same head (codes "hist:") (not-false (starts_with ◌==◌ head (codes "hist:")) begins.0) in
       let parts = tail_parts filter first.0 hist first.2 in
       let alone : trigger_of event head ≡ Ok (record hist { filter = None }) = head_by event text head gap tail end cut ∙ bare_made (bare_of event head) first.0 hist first.1 parts.1 in

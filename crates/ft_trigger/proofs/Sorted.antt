@@ -8,7 +8,7 @@ use Rattle.std.specs.Prelude.{nat_le, slice_get}
 use Rattle.std.specs.List.{list_any, list_all}
 use Rattle.std.specs.Option.{option_map_or}
 use Rattle.std.specs.Str.{bytes_eq}
-use Rattle.ft_fields.specs.Fields.{text_of}
+use Rattle.ft_fields.specs.Fields.{field_text}
 use Rattle.ft_head.specs.declared.fault.TriggerFault.{TriggerFault}
 use Rattle.ft_head.specs.declared.fault.TriggerFault.TheVariants.{TooMany, Duplicate, BadSort}
 use Rattle.ft_hist.specs.declared.item.KeyItem.{KeyItem}
@@ -21,13 +21,13 @@ use Rattle.ft_hist.specs.declared.label.Var.{Var}
 use Rattle.ft_hist.specs.declared.label.Var.TheVariants as vars
 use Rattle.ft_hist.specs.Canonical.{more_items, value_text, by_text, sort_text}
 use Rattle.ft_head.specs.Draft.{◌>>=◌, items_from, is_direction, with_sort}
-use Rattle.ft_pieces.specs.Words.{is_word, same_word, Word, pieces}
+use Rattle.ft_text.specs.Items.{is_word, same_word, Word, pieces}
 use Rattle.ft_hist.specs.Hist.{Hist}
 use Rattle.ft_trigger.specs.TriggerIs.{own_name, index_where, names_value, sort_by, is_descending, sorts_of}
 use Rattle.ft_trigger.proofs.Chains.{Chain, Steps, Again, items_again, chain_inner}
 use Rattle.ft_trigger.proofs.Inversions.{then_parts, unless_parts, given_parts}
-use Rattle.ft_pieces.proofs.Separators.{is_bare, is_inner, names_bare, bare_free, bare_inner}
-use Rattle.ft_pieces.proofs.Spellings.{IsName, IsSuffix, suffix_text, word_text, word_name, word_again, bytes_same}
+use Rattle.ft_text.proofs.Separators.{is_bare, is_inner, names_bare, bare_free, bare_inner}
+use Rattle.ft_text.proofs.Spellings.{IsName, IsSuffix, suffix_text, word_text, word_name, word_again, bytes_same}
 
 -- the word is one that can be read as a sort item after others
 pub record SortFits (words : List Word) (word : Word) : Type 0 where
@@ -177,7 +177,7 @@ word_spelled word name h = from word.dollar h
 
 -- a value that a word names has this text
 named_spelled : (variable : Option Var) (word : Word) (value : Item) → names_value (own_name variable) word value ≡ true → value_text variable value ≡ bare_text word
-named_spelled variable word (items.Num field) h = word_spelled word (text_of field) h
+named_spelled variable word (items.Num field) h = word_spelled word (field_text field) h
 named_spelled None word items.Own h = absurd (let both = and_parts word.dollar false h in let x = both.1 in cc)
 named_spelled (Some (vars.Saves name)) word items.Own h = let both = and_parts word.dollar (bytes_eq word.name name) h in let d = both.0 in rw d (ap (λ (t : List ℕ). codes "$" ++ t) (sym (bytes_same word.name name both.1)))
 named_spelled (Some (vars.Reads name source)) word items.Own h = let both = and_parts word.dollar (bytes_eq word.name name) h in let d = both.0 in rw d (ap (λ (t : List ℕ). codes "$" ++ t) (sym (bytes_same word.name name both.1)))
@@ -195,20 +195,20 @@ by_spelled hist word what e = hit (is_word word (codes "hitcount")) refl e
         ap (by_text hist) (sym (same_Some (sorts.Value i) what e)) ∙ ap (λ (n : ℕ). option_map_or (value_text hist.variable) (slice_get hist.values n) []) same
         ∙ ap (λ (o : Option Item). option_map_or (value_text hist.variable) o []) found.3 ∙ named_spelled hist.variable word found.1 found.4
 
-    key_from : (o : Option ℕ) → index_where (λ key. is_word word (text_of key.field)) 0 hist.keys ≡ o
+    key_from : (o : Option ℕ) → index_where (λ key. is_word word (field_text key.field)) 0 hist.keys ≡ o
         → option_map_or (λ n. Some (sorts.Key n)) o (option_map sorts.Value (index_where (names_value (own_name hist.variable) word) 0 hist.values)) ≡ Some what → by_text hist what ≡ bare_text word
     key_from None is e = value_from (index_where (names_value (own_name hist.variable) word) 0 hist.values) refl e
     key_from (Some i) is e =
-        let found = index_parts (λ key. is_word word (text_of key.field)) 0 hist.keys i is in
+        let found = index_parts (λ key. is_word word (field_text key.field)) 0 hist.keys i is in
         let same : i ≡ found.0 = (let x = found.2 in omega arith) in
-        ap (by_text hist) (sym (same_Some (sorts.Key i) what e)) ∙ ap (λ (n : ℕ). option_map_or (λ key. text_of key.field) (slice_get hist.keys n) []) same
-        ∙ ap (λ (o : Option KeyItem). option_map_or (λ key. text_of key.field) o []) found.3 ∙ word_spelled word (text_of found.1.field) found.4
+        ap (by_text hist) (sym (same_Some (sorts.Key i) what e)) ∙ ap (λ (n : ℕ). option_map_or (λ key. field_text key.field) (slice_get hist.keys n) []) same
+        ∙ ap (λ (o : Option KeyItem). option_map_or (λ key. field_text key.field) o []) found.3 ∙ word_spelled word (field_text found.1.field) found.4
 
     hit : (b : Bool) → is_word word (codes "hitcount") ≡ b
-        → cond b (Some sorts.Hits) (option_map_or (λ n. Some (sorts.Key n)) (index_where (λ key. is_word word (text_of key.field)) 0 hist.keys)
+        → cond b (Some sorts.Hits) (option_map_or (λ n. Some (sorts.Key n)) (index_where (λ key. is_word word (field_text key.field)) 0 hist.keys)
         (option_map sorts.Value (index_where (names_value (own_name hist.variable) word) 0 hist.values))) ≡ Some what → by_text hist what ≡ bare_text word
     hit true is e = ap (by_text hist) (sym (same_Some sorts.Hits what e)) ∙ word_spelled word (codes "hitcount") is
-    hit false is e = key_from (index_where (λ key. is_word word (text_of key.field)) 0 hist.keys) refl e
+    hit false is e = key_from (index_where (λ key. is_word word (field_text key.field)) 0 hist.keys) refl e
 
 -- which way has its text
 way_spelled : (b : Bool) → (if b then codes ".descending" else []) ≡ suffix_text (way_text b)
@@ -248,7 +248,7 @@ value_directed own word items.Own = refl
 by_directed : (keys : List KeyItem) (values : List Item) (own : Option (List ℕ)) (word : Word) → sort_by keys values own (directed word) ≡ sort_by keys values own word
 unfolding sort_by
 by_directed keys values own word =
-    ap (λ (o : Option ℕ). if is_word word (codes "hitcount") then Some sorts.Hits else option_map_or (λ n. Some (sorts.Key n)) (index_where (λ key. is_word word (text_of key.field)) 0 keys) (option_map sorts.Value o))
+    ap (λ (o : Option ℕ). if is_word word (codes "hitcount") then Some sorts.Hits else option_map_or (λ n. Some (sorts.Key n)) (index_where (λ key. is_word word (field_text key.field)) 0 keys) (option_map sorts.Value o))
     (index_same (names_value own (directed word)) (names_value own word) (value_directed own word) 0 values)
 
 -- words as they are written are the same sort items

@@ -9,7 +9,7 @@ use Rattle.std.specs.Str.{bytes_eq}
 use Rattle.ft_fields.specs.declared.event.Name.{Name}
 use Rattle.ft_fields.specs.declared.event.Name.TheVariants as names
 use Rattle.ft_fields.specs.declared.field.Field.{Field}
-use Rattle.ft_fields.specs.Fields.{is_named, all_fields, is_text, text_of, has_field}
+use Rattle.ft_fields.specs.Fields.{is_field_named, all_fields, is_text, field_text, has_field}
 use Rattle.ft_head.specs.declared.fault.TriggerFault.{TriggerFault}
 use Rattle.ft_head.specs.declared.fault.TriggerFault.TheVariants.{NoField, NotNumeric, BadSort}
 use Rattle.ft_hist.specs.declared.item.KeyItem.{KeyItem}
@@ -20,14 +20,14 @@ use Rattle.ft_hist.specs.declared.item.SortBy.TheVariants as sorts
 use Rattle.ft_hist.specs.declared.item.SortItem.{SortItem}
 use Rattle.ft_hist.specs.declared.label.Var.{Var}
 use Rattle.ft_hist.specs.declared.label.Var.TheVariants as vars
-use Rattle.ft_head.specs.Draft.{Draft, blank, ◌>>=◌, besides_hitcount, value_fault, parts_from}
-use Rattle.ft_pieces.specs.Words.{is_word, Word, pieces}
-use Rattle.ft_hist.specs.Hist.{Hist, with_onmatch}
+use Rattle.ft_head.specs.Draft.{Draft, empty_draft, ◌>>=◌, besides_hitcount, value_fault, parts_from}
+use Rattle.ft_text.specs.Items.{is_word, Word, pieces}
+use Rattle.ft_hist.specs.Hist.{Hist, hist_with_onmatch}
 use Rattle.ft_filter.specs.Tree.{Tree}
 use Rattle.ft_hist.specs.declared.onmatch.Onmatch.{Onmatch}
 use Rattle.ft_hist.specs.Hit.{same_name}
 use Rattle.ft_hist.specs.Sound.{key_suits, value_suits, by_suits, is_reader, onmatch_suits, IsSound}
-use Rattle.ft_trigger.specs.TriggerIs.{own_name, value_item, value_items, index_where, names_value, sort_by, is_descending, sorts_of, by_hits, sort_of, hands_other, head_len, behind_head, tail_of, filter_in, finished, trigger_of}
+use Rattle.ft_trigger.specs.TriggerIs.{own_name, value_item, value_items, index_where, names_value, sort_by, is_descending, sorts_of, by_hits, sort_of, hands_other, head_len, behind_head, trigger_tail, tail_filter, finished, trigger_of}
 use Rattle.ft_head.specs.Onmatch.{Action}
 use Rattle.ft_trigger.proofs.Actions.{ActionFits}
 use Rattle.ft_trigger.proofs.Chains.{Chain}
@@ -37,7 +37,7 @@ use Rattle.ft_trigger.proofs.ReadAgain.{Made, made_so, keys_of, words_of}
 use Rattle.ft_trigger.proofs.Keyed.{KeyFits}
 use Rattle.ft_trigger.proofs.ReadSo.{read_so}
 use Rattle.ft_trigger.proofs.Sorted.{index_parts}
-use Rattle.ft_pieces.proofs.Spellings.{find_passes, bytes_same}
+use Rattle.ft_text.proofs.Spellings.{find_passes, bytes_same}
 use Rattle.ft_trigger.proofs.Valued.{ValueFits, hits, others_fit}
 use Rattle.ft_trigger.proofs.Variables.{VarFits}
 
@@ -46,8 +46,8 @@ use Rattle.ft_trigger.proofs.Variables.{VarFits}
 -- a key that is read suits its event
 key_sound : (event : Name) (keys : List KeyItem) (key : KeyItem) → KeyFits event keys key → key_suits event key ≡ true
 key_sound event keys key h =
-    let found = find_passes (is_named event (text_of key.field)) all_fields key.field h.owned in
-    and_from _ _ (and_parts (bytes_eq (text_of key.field) (text_of key.field)) (has_field event key.field) found).1 h.suited.suits
+    let found = find_passes (is_field_named event (field_text key.field)) all_fields key.field h.owned in
+    and_from _ _ (and_parts (bytes_eq (field_text key.field) (field_text key.field)) (has_field event key.field) found).1 h.suited.suits
 
 -- so do keys
 pub keys_sound : (event : Name) (more keys : List KeyItem) → Chain (KeyFits event) keys more → list_all (key_suits event) more ≡ true
@@ -69,18 +69,18 @@ by_sound keys values own word what e = hit (is_word word (codes "hitcount")) e
         let same = found.2 in
         subst (λ (w : SortBy). by_suits (length keys) (length values) w ≡ true) (same_Some (sorts.Value i) what e) (lt-ltb i (length values) (omega arith))
 
-    key_from : (o : Option ℕ) → index_where (λ key. is_word word (text_of key.field)) 0 keys ≡ o
+    key_from : (o : Option ℕ) → index_where (λ key. is_word word (field_text key.field)) 0 keys ≡ o
         → option_map_or (λ n. Some (sorts.Key n)) o (option_map sorts.Value (index_where (names_value own word) 0 values)) ≡ Some what → by_suits (length keys) (length values) what ≡ true
     key_from None is e = value_from (index_where (names_value own word) 0 values) refl e
     key_from (Some i) is e =
-        let found = index_parts (λ key. is_word word (text_of key.field)) 0 keys i is in
+        let found = index_parts (λ key. is_word word (field_text key.field)) 0 keys i is in
         let within = slice_get_within keys found.0 found.1 found.3 in
         let same = found.2 in
         subst (λ (w : SortBy). by_suits (length keys) (length values) w ≡ true) (same_Some (sorts.Key i) what e) (lt-ltb i (length keys) (omega arith))
 
-    hit : (b : Bool) → cond b (Some sorts.Hits) (option_map_or (λ n. Some (sorts.Key n)) (index_where (λ key. is_word word (text_of key.field)) 0 keys) (option_map sorts.Value (index_where (names_value own word) 0 values))) ≡ Some what → by_suits (length keys) (length values) what ≡ true
+    hit : (b : Bool) → cond b (Some sorts.Hits) (option_map_or (λ n. Some (sorts.Key n)) (index_where (λ key. is_word word (field_text key.field)) 0 keys) (option_map sorts.Value (index_where (names_value own word) 0 values))) ≡ Some what → by_suits (length keys) (length values) what ≡ true
     hit true e = subst (λ (w : SortBy). by_suits (length keys) (length values) w ≡ true) (same_Some sorts.Hits what e) refl
-    hit false e = key_from (index_where (λ key. is_word word (text_of key.field)) 0 keys) refl e
+    hit false e = key_from (index_where (λ key. is_word word (field_text key.field)) 0 keys) refl e
 
 -- sort items that are found are there
 pub sorts_sound : (keys : List KeyItem) (values : List Item) (own : Option (List ℕ)) (words : List Word) (sort : List SortItem) → sorts_of keys values own words ≡ Ok sort
@@ -98,8 +98,8 @@ sorts_sound keys values own (word ∷ words) sort e =
 -- ---- values
 
 -- no field is called `hitcount`
-no_hitcount : (event : Name) (name : List ℕ) (field : Field) → name ≡ codes "hitcount" → find (is_named event name) all_fields ≡ Some field → is_text field ≡ false
-no_hitcount event name field same e = absurd (let none : find (is_named event (codes "hitcount")) all_fields ≡ Some field = subst (λ (n : List ℕ). find (is_named event n) all_fields ≡ Some field) same e in cc)
+no_hitcount : (event : Name) (name : List ℕ) (field : Field) → name ≡ codes "hitcount" → find (is_field_named event name) all_fields ≡ Some field → is_text field ≡ false
+no_hitcount event name field same e = absurd (let none : find (is_field_named event (codes "hitcount")) all_fields ≡ Some field = subst (λ (n : List ℕ). find (is_field_named event n) all_fields ≡ Some field) same e in cc)
 
 -- what is wrong with a word as a value's field, by its parts
 abbrev fault_by : Bool → Bool → Option Field → Option TriggerFault
@@ -111,7 +111,7 @@ numeric field true is e = absurd cc
 numeric field false is e = is
 
 -- a word without a `$` with which nothing is wrong names a field of numbers
-names_number : (event : Name) (word : Word) (field : Field) (b : Bool) → is_word word (codes "hitcount") ≡ b → find (is_named event word.name) all_fields ≡ Some field → fault_by false b (Some field) ≡ None → is_text field ≡ false
+names_number : (event : Name) (word : Word) (field : Field) (b : Bool) → is_word word (codes "hitcount") ≡ b → find (is_field_named event word.name) all_fields ≡ Some field → fault_by false b (Some field) ≡ None → is_text field ≡ false
 names_number event word field true is found e = no_hitcount event word.name field (bytes_same word.name (codes "hitcount") (and_parts (not word.dollar) (bytes_eq word.name (codes "hitcount")) is).1) found
 names_number event word field false is found e = numeric field (is_text field) refl e
 
@@ -124,19 +124,19 @@ value_sound event variable word value sound e = from word.dollar refl e
     own_from (Some (vars.Saves name)) e = subst (λ (i : Item). value_suits event (Some (vars.Saves name)) i ≡ true) (cond_some (bytes_eq word.name name) items.Own value e).1 refl
     own_from (Some (vars.Reads name source)) e = subst (λ (i : Item). value_suits event (Some (vars.Reads name source)) i ≡ true) (cond_some (bytes_eq word.name name) items.Own value e).1 refl
 
-    plain : (field : Field) → find (is_named event word.name) all_fields ≡ Some field → is_text field ≡ false → value_suits event variable (items.Num field) ≡ true
-    plain field is number = and_from _ _ (and_parts (bytes_eq (text_of field) word.name) (has_field event field) (find_passes (is_named event word.name) all_fields field is)).1 (ap not number)
+    plain : (field : Field) → find (is_field_named event word.name) all_fields ≡ Some field → is_text field ≡ false → value_suits event variable (items.Num field) ≡ true
+    plain field is number = and_from _ _ (and_parts (bytes_eq (field_text field) word.name) (has_field event field) (find_passes (is_field_named event word.name) all_fields field is)).1 (ap not number)
 
-    field_from : word.dollar ≡ false → (o : Option Field) → find (is_named event word.name) all_fields ≡ o → option_map items.Num o ≡ Some value → value_suits event variable value ≡ true
+    field_from : word.dollar ≡ false → (o : Option Field) → find (is_field_named event word.name) all_fields ≡ o → option_map items.Num o ≡ Some value → value_suits event variable value ≡ true
     field_from bare None is e = absurd cc
     field_from bare (Some field) is e =
-        let here : fault_by false (is_word word (codes "hitcount")) (find (is_named event word.name) all_fields) ≡ None = subst (λ (d : Bool). fault_by d (is_word word (codes "hitcount")) (find (is_named event word.name) all_fields) ≡ None) bare sound in
+        let here : fault_by false (is_word word (codes "hitcount")) (find (is_field_named event word.name) all_fields) ≡ None = subst (λ (d : Bool). fault_by d (is_word word (codes "hitcount")) (find (is_field_named event word.name) all_fields) ≡ None) bare sound in
         let there : fault_by false (is_word word (codes "hitcount")) (Some field) ≡ None = subst (λ (o : Option Field). fault_by false (is_word word (codes "hitcount")) o ≡ None) is here in
         subst (λ (i : Item). value_suits event variable i ≡ true) (same_Some (items.Num field) value e) (plain field is (names_number event word field (is_word word (codes "hitcount")) refl is there))
 
-    from : (b : Bool) → word.dollar ≡ b → cond b (option_map_or (λ name. if bytes_eq word.name name then Some items.Own else None) (own_name variable) None) (option_map items.Num (find (is_named event word.name) all_fields)) ≡ Some value → value_suits event variable value ≡ true
+    from : (b : Bool) → word.dollar ≡ b → cond b (option_map_or (λ name. if bytes_eq word.name name then Some items.Own else None) (own_name variable) None) (option_map items.Num (find (is_field_named event word.name) all_fields)) ≡ Some value → value_suits event variable value ≡ true
     from true is e = own_from variable e
-    from false is e = field_from is (find (is_named event word.name) all_fields) refl e
+    from false is e = field_from is (find (is_field_named event word.name) all_fields) refl e
 
 -- so do values
 pub values_sound : (event : Name) (variable : Option Var) (words list : List Word) (values : List Item) → Chain (ValueFits event) list words → value_items event (own_name variable) words ≡ Ok values → list_all (value_suits event variable) values ≡ true
@@ -180,7 +180,7 @@ last_sound event (Some variable) onmatch var made = ap (λ b. not b || (false &&
 last_sound event None (Some action) var made = ap (λ b. not b || (true && false)) made.apart_made
 
 -- a trigger that makes no events is sound where it is with them
-pub bare_sound : (hist : Hist) → IsSound hist → IsSound (with_onmatch hist None)
+pub bare_sound : (hist : Hist) → IsSound hist → IsSound (hist_with_onmatch hist None)
 bare_sound hist h = record { keys = h.keys; values = h.values; sort = h.sort; onmatch = refl; last = from (same_name hist.event names.WakeupLatency) (is_some hist.variable) (is_some hist.onmatch) h.last }
   where
     from : (b x y : Bool) → (not b || (not x && not y)) ≡ true → (not b || (not x && true)) ≡ true
@@ -205,23 +205,23 @@ pub sound : (event : Name) (text : List ℕ) (hist : Hist) → trigger_of event 
 sound event text hist e =
     let read = read_so event text hist e in
     made_sound event read.draft hist (draft_fits event (pieces 58 5 (drop 5 (take (head_len text) text))) read.draft read.parts)
-    (made_so event (head_len text) (length text - length (behind_head text)) (tail_of text) read.draft hist read.ends)
+    (made_so event (head_len text) (length text - length (behind_head text)) (trigger_tail text) read.draft hist read.ends)
 
 -- a draft whose steps are known is a trigger
 pub finished_is : (event : Name) (head place : ℕ) (tail : List ℕ) (draft : Draft) (keys : List KeyItem) (values : List Item) (sort : List SortItem) (size : ℕ) (onmatch : Option Onmatch) (filter : Option Tree)
-    → hands_other draft.variable draft.onmatch ≡ false → draft.keys ≡ Some keys → value_items event (own_name draft.variable) (besides_hitcount (unwrap_or draft.values [])) ≡ Ok values → sort_of keys values (own_name draft.variable) draft.sort ≡ Ok sort → filter_in event place tail ≡ Ok filter → unwrap_or draft.size 2048 ≡ size → option_map (λ action. action.onmatch) draft.onmatch ≡ onmatch
+    → hands_other draft.variable draft.onmatch ≡ false → draft.keys ≡ Some keys → value_items event (own_name draft.variable) (besides_hitcount (unwrap_or draft.values [])) ≡ Ok values → sort_of keys values (own_name draft.variable) draft.sort ≡ Ok sort → tail_filter event place tail ≡ Ok filter → unwrap_or draft.size 2048 ≡ size → option_map (λ action. action.onmatch) draft.onmatch ≡ onmatch
     → finished event head place tail draft ≡ Ok (record { event = event; keys = keys; values = values; sort = sort; variable = draft.variable; size = size; onmatch = onmatch; filter = filter })
 unfolding finished
 finished_is event head place tail draft keys values sort size onmatch filter o k v s f z m = rw (k, v, o, s, f, z, m) refl
 
 -- what a text's parts and tail are made of is sound
 pub finished_sound : (event : Name) (text front behind tail : List ℕ) (place : ℕ) (draft : Draft) (hist : Hist) → front ≡ take (head_len text) text → bytes_eq (take 5 front) (codes "hist:") ≡ true → behind ≡ drop 5 front
-    → parts_from event blank (pieces 58 5 behind) ≡ Ok draft → length front ≡ head_len text → place ≡ length text - length (behind_head text) → tail ≡ tail_of text → finished event (length front) place tail draft ≡ Ok hist → IsSound hist
+    → parts_from event empty_draft (pieces 58 5 behind) ≡ Ok draft → length front ≡ head_len text → place ≡ length text - length (behind_head text) → tail ≡ trigger_tail text → finished event (length front) place tail draft ≡ Ok hist → IsSound hist
 unfolding trigger_of
 finished_sound event text front behind tail place draft hist cut begins rest parts len from end e =
     let whole : starts_with ◌==◌ front (codes "hist:") ≡ true = subst (λ (t : List ℕ). bytes_eq (codes "hist:") t ≡ true) (sym (bytes_same (take 5 front) (codes "hist:") begins)) refl in
     let seen : starts_with ◌==◌ (take (head_len text) text) (codes "hist:") ≡ true = subst (λ (f : List ℕ). starts_with ◌==◌ f (codes "hist:") ≡ true) cut whole in
-    let read : parts_from event blank (pieces 58 5 (drop 5 (take (head_len text) text))) ≡ Ok draft = subst (λ (f : List ℕ). parts_from event blank (pieces 58 5 (drop 5 f)) ≡ Ok draft) cut (subst (λ (b : List ℕ). parts_from event blank (pieces 58 5 b) ≡ Ok draft) rest parts) in
+    let read : parts_from event empty_draft (pieces 58 5 (drop 5 (take (head_len text) text))) ≡ Ok draft = subst (λ (f : List ℕ). parts_from event empty_draft (pieces 58 5 (drop 5 f)) ≡ Ok draft) cut (subst (λ (b : List ℕ). parts_from event empty_draft (pieces 58 5 b) ≡ Ok draft) rest parts) in
     sound event text hist (rw (seen, read)
     (subst (λ (t : List ℕ). finished event (head_len text) (length text - length (behind_head text)) t draft ≡ Ok hist) end
     (subst (λ (p : ℕ). finished event (head_len text) p tail draft ≡ Ok hist) from

@@ -8,7 +8,7 @@ use Rattle.ft_fields.specs.declared.event.Name.{Name}
 use Rattle.ft_filter.specs.declared.fault.FilterFault.{FilterFault}
 use Rattle.ft_filter.specs.Answers.{filter_of}
 use Rattle.ft_filter.specs.Tree.{Tree}
-use Rattle.ft_tokens.specs.Tokens.{is_gap, name_at}
+use Rattle.ft_text.specs.Tokens.{is_gap, name_at}
 use Rattle.ft_hist.specs.declared.item.KeyItem.{KeyItem}
 use Rattle.ft_hist.specs.declared.item.Item.{Item}
 use Rattle.ft_hist.specs.declared.item.SortBy.{SortBy}
@@ -16,14 +16,14 @@ use Rattle.ft_hist.specs.declared.item.SortItem.{SortItem}
 use Rattle.ft_hist.specs.Hist.{Hist}
 use Rattle.ft_head.specs.declared.fault.TriggerFault.{TriggerFault}
 use Rattle.ft_head.specs.declared.fault.TriggerFault.TheVariants.{Syntax, NoField, BadSort, BadFilter, LeftOut}
-use Rattle.ft_head.specs.Draft.{Draft, blank, ◌>>=◌, unless, given_or, besides_hitcount, with_part, with_variable, parts_from}
+use Rattle.ft_head.specs.Draft.{Draft, empty_draft, ◌>>=◌, unless, given_or, besides_hitcount, with_part, with_variable, parts_from}
 use Rattle.ft_trigger.specs.PartFaults.{PartsFail, is_late}
 use Rattle.ft_trigger.specs.Shape.{IsCut, Cut}
-use Rattle.ft_trigger.specs.TriggerIs.{behind_if, filter_or_fault, filter_in, own_name, value_item, value_items, sort_by, sorts_of, sort_of, hands_other, sort_in, is_descending, trigger_of}
-use Rattle.ft_pieces.specs.Words.{Piece, Word, pieces}
+use Rattle.ft_trigger.specs.TriggerIs.{behind_if, filter_or_fault, tail_filter, own_name, value_item, value_items, sort_by, sorts_of, sort_of, hands_other, sort_in, is_descending, trigger_of}
+use Rattle.ft_text.specs.Items.{Piece, Word, pieces}
 use Rattle.ft_trigger.proofs.Halves.{cut_of}
 use Rattle.ft_trigger.proofs.ReadAgain.{made}
-use Rattle.ft_pieces.proofs.Separators.{pieces_append}
+use Rattle.ft_text.proofs.Separators.{pieces_append}
 use Rattle.ft_trigger.proofs.Shaped.{make_of, with_made, alone_cut, cut_by}
 
 -- ---- parts after parts
@@ -40,11 +40,11 @@ parts_append event draft (part ∷ parts) more = from (λ next. parts_append eve
     from later (Err fault) = refl
 
 -- parts after parts
-behind_parts : (event : Name) (parts more : List ℕ) (read : Result Draft TriggerFault) → parts_from event blank (pieces 58 5 parts) ≡ read
-    → parts_from event blank (pieces 58 5 (parts ++ codes ":" ++ more)) ≡ (read >>= (λ draft. parts_from event draft (pieces 58 (5 + length parts + 1) more)))
+behind_parts : (event : Name) (parts more : List ℕ) (read : Result Draft TriggerFault) → parts_from event empty_draft (pieces 58 5 parts) ≡ read
+    → parts_from event empty_draft (pieces 58 5 (parts ++ codes ":" ++ more)) ≡ (read >>= (λ draft. parts_from event draft (pieces 58 (5 + length parts + 1) more)))
 behind_parts event parts more read is =
-    ap (λ (t : List ℕ). parts_from event blank (pieces 58 5 t)) (append_assoc parts (codes ":") more) ∙ ap (parts_from event blank) (pieces_append 58 5 parts more)
-    ∙ parts_append event blank (pieces 58 5 parts) (pieces 58 (5 + length parts + 1) more) ∙ ap (λ (r : Result Draft TriggerFault). r >>= (λ draft. parts_from event draft (pieces 58 (5 + length parts + 1) more))) is
+    ap (λ (t : List ℕ). parts_from event empty_draft (pieces 58 5 t)) (append_assoc parts (codes ":") more) ∙ ap (parts_from event empty_draft) (pieces_append 58 5 parts more)
+    ∙ parts_append event empty_draft (pieces 58 5 parts) (pieces 58 (5 + length parts + 1) more) ∙ ap (λ (r : Result Draft TriggerFault). r >>= (λ draft. parts_from event draft (pieces 58 (5 + length parts + 1) more))) is
 
 -- a fault stays
 pub parts_stay : (event : Name) (parts more : List ℕ) (fault : TriggerFault) → PartsFail event parts fault → PartsFail event (parts ++ codes ":" ++ more) fault
@@ -55,7 +55,7 @@ parts_stay event parts more fault fails = behind_parts event parts more (Err fau
 -- a text has the fault of its parts
 pub parts_first : (event : Name) (text parts gap tail end : List ℕ) (fault : TriggerFault) → IsCut text (codes "hist:" ++ parts) gap tail end → PartsFail event parts fault → trigger_of event text ≡ Err fault
 parts_first event text parts gap tail end fault cut fails =
-    let filter = filter_in event (length (codes "hist:" ++ parts) + length gap) tail in
+    let filter = tail_filter event (length (codes "hist:" ++ parts) + length gap) tail in
     cut_by event text (codes "hist:" ++ parts) gap tail end filter cut refl ∙ ap (λ (r : Result Draft TriggerFault). (r >>= make_of event (length (codes "hist:" ++ parts))) >>= with_made filter) fails
 
 -- a text with something after its parts
@@ -90,7 +90,7 @@ unfolding parts_from with_part
 pause_part event draft place = refl
 
 -- what is after parts without a fault has its own
-other_fault : (event : Name) (parts more : List ℕ) (draft : Draft) (fault : TriggerFault) → list_any is_gap parts ≡ false → list_any is_gap more ≡ false → parts_from event blank (pieces 58 5 parts) ≡ Ok draft
+other_fault : (event : Name) (parts more : List ℕ) (draft : Draft) (fault : TriggerFault) → list_any is_gap parts ≡ false → list_any is_gap more ≡ false → parts_from event empty_draft (pieces 58 5 parts) ≡ Ok draft
     → parts_from event draft (pieces 58 (5 + length parts + 1) more) ≡ Err fault → trigger_of event (codes "hist:" ++ parts ++ codes ":" ++ more) ≡ Err fault
 other_fault event parts more draft fault bare clean reads fails =
     let clear : list_any is_gap (parts ++ codes ":" ++ more) ≡ false = ap (list_any is_gap) (append_assoc parts (codes ":") more) ∙ list_any-append is_gap parts (58 ∷ more) ∙ or_from _ _ bare clean in
@@ -104,9 +104,9 @@ other_fault event parts more draft fault bare clean reads fails =
 -- a text has a fault, whatever is after its parts, just where the parts have it
 pub parts_just : (event : Name) (parts : List ℕ) (fault : TriggerFault) → list_any is_gap parts ≡ false
     → PartsFail event parts fault ↔ ((more : List ℕ) → trigger_of event (codes "hist:" ++ parts ++ codes ":" ++ more) ≡ Err fault)
-parts_just event parts fault bare = (parts_always event parts fault bare, from (parts_from event blank (pieces 58 5 parts)) refl)
+parts_just event parts fault bare = (parts_always event parts fault bare, from (parts_from event empty_draft (pieces 58 5 parts)) refl)
   where
-    from : (read : Result Draft TriggerFault) → parts_from event blank (pieces 58 5 parts) ≡ read → ((more : List ℕ) → trigger_of event (codes "hist:" ++ parts ++ codes ":" ++ more) ≡ Err fault) → PartsFail event parts fault
+    from : (read : Result Draft TriggerFault) → parts_from event empty_draft (pieces 58 5 parts) ≡ read → ((more : List ℕ) → trigger_of event (codes "hist:" ++ parts ++ codes ":" ++ more) ≡ Err fault) → PartsFail event parts fault
     from (Err found) is always =
         let both : ◌≡◌ {A = Result Hist TriggerFault} (Err found) (Err fault) = sym (parts_always event parts found bare is []) ∙ always [] in
         let same : found ≡ fault = cc in
@@ -172,8 +172,8 @@ make_late event head draft fault e = keyed draft.keys e
     keyed (Some keys) e = valued keys (value_items event (own_name draft.variable) (besides_hitcount (unwrap_or draft.values []))) refl e
 
 -- a tail's fault
-tail_late : (event : Name) (head place : ℕ) (tail : List ℕ) (fault : TriggerFault) → head ≤ place → filter_in event place tail ≡ Err fault → is_late head fault ≡ true
-unfolding filter_in
+tail_late : (event : Name) (head place : ℕ) (tail : List ℕ) (fault : TriggerFault) → head ≤ place → tail_filter event place tail ≡ Err fault → is_late head fault ≡ true
+unfolding tail_filter
 tail_late event head place tail fault le e = from (length tail == 0) e
   where
     answered : (answer : Result Tree FilterFault) → filter_or_fault answer ≡ Err fault → is_late head fault ≡ true
@@ -190,13 +190,13 @@ tail_late event head place tail fault le e = from (length tail == 0) e
 
 -- a fault that none of these is, the parts have
 pub parts_early : (event : Name) (text parts gap tail end : List ℕ) (fault : TriggerFault) → IsCut text (codes "hist:" ++ parts) gap tail end → trigger_of event text ≡ Err fault → is_late (length (codes "hist:" ++ parts)) fault ≡ false → PartsFail event parts fault
-parts_early event text parts gap tail end fault cut e early = from (parts_from event blank (pieces 58 5 parts)) refl (sym (cut_by event text (codes "hist:" ++ parts) gap tail end filter cut refl) ∙ e)
+parts_early event text parts gap tail end fault cut e early = from (parts_from event empty_draft (pieces 58 5 parts)) refl (sym (cut_by event text (codes "hist:" ++ parts) gap tail end filter cut refl) ∙ e)
   where
     head : ℕ
     head = length (codes "hist:" ++ parts)
 
     filter : Result (Option Tree) TriggerFault
-    filter = filter_in event (head + length gap) tail
+    filter = tail_filter event (head + length gap) tail
 
     ended : (f : Result (Option Tree) TriggerFault) (first : Hist) → filter ≡ f → with_made f first ≡ Err fault → is_late head fault ≡ true
     ended (Ok found) first is e = absurd cc
@@ -206,6 +206,6 @@ parts_early event text parts gap tail end fault cut e early = from (parts_from e
     bare draft (Ok first) is e = ended filter first refl e
     bare draft (Err found) is e = make_late event head draft fault (is ∙ (let same : found ≡ fault = cc in ap Err same))
 
-    from : (read : Result Draft TriggerFault) → parts_from event blank (pieces 58 5 parts) ≡ read → ((read >>= make_of event head) >>= with_made filter) ≡ Err fault → PartsFail event parts fault
+    from : (read : Result Draft TriggerFault) → parts_from event empty_draft (pieces 58 5 parts) ≡ read → ((read >>= make_of event head) >>= with_made filter) ≡ Err fault → PartsFail event parts fault
     from (Err found) is e = is ∙ (let same : found ≡ fault = cc in ap Err same)
     from (Ok draft) is e = absurd (let late = bare draft (make_of event head draft) refl e in cc)

@@ -6,7 +6,7 @@ use Rattle.std.specs.Prelude.{unwrap_or}
 use Rattle.std.specs.List.{list_all, list_any, starts_with}
 use Rattle.std.specs.Option.{option_map_or, is_some}
 use Rattle.ft_fields.specs.declared.event.Name.{Name}
-use Rattle.ft_tokens.specs.Tokens.{is_gap}
+use Rattle.ft_text.specs.Tokens.{is_gap}
 use Rattle.ft_hist.specs.declared.item.KeyItem.{KeyItem}
 use Rattle.ft_hist.specs.declared.label.Var.{Var}
 use Rattle.ft_hist.specs.Hist.{Hist}
@@ -14,16 +14,16 @@ use Rattle.ft_head.specs.declared.draft.Kind.{Kind}
 use Rattle.ft_head.specs.declared.draft.Kind.TheVariants.{Keys, Values, Sort, Size}
 use Rattle.ft_head.specs.declared.fault.TriggerFault.{TriggerFault}
 use Rattle.ft_head.specs.declared.fault.TriggerFault.TheVariants.{Syntax, Duplicate, BadSize, LeftOut}
-use Rattle.ft_head.specs.Draft.{Draft, blank, ◌>>=◌, given_or, items_from, items_of, with_key, with_value, with_sort, size_of, var_of, labels, is_part_left_out, with_kind, with_variable, with_onmatch, with_other, with_part, parts_from, besides_hitcount}
+use Rattle.ft_head.specs.Draft.{Draft, empty_draft, ◌>>=◌, given_or, items_from, items_of, with_key, with_value, with_sort, size_of, var_of, labels, is_part_left_out, with_kind, with_variable, with_onmatch, with_other, with_part, parts_from, besides_hitcount}
 use Rattle.ft_head.specs.Onmatch.{Action}
-use Rattle.ft_pieces.specs.Words.{Piece, grown, pieces, Word, word_of}
+use Rattle.ft_text.specs.Items.{Piece, onto_first_piece, pieces, Word, word_of}
 use Rattle.ft_trigger.proofs.Actions.{onmatch_parts, onmatch_adds}
 use Rattle.ft_trigger.proofs.Inversions.{then_parts, unless_parts, given_parts}
-use Rattle.ft_head.specs.PartSpelling.{is_part, more_parts, joined}
+use Rattle.ft_head.specs.PartSpelling.{is_part, later_parts, joined_parts}
 use Rattle.ft_trigger.specs.TriggerIs.{own_name, value_items, sort_in, trigger_of}
 use Rattle.ft_trigger.proofs.Keyed.{key_shift}
 use Rattle.ft_trigger.proofs.ReadAgain.{made}
-use Rattle.ft_pieces.proofs.Separators.{Free, is_seen, is_inner, all_weaker, pieces_first, pieces_last}
+use Rattle.ft_text.proofs.Separators.{Free, is_seen, is_inner, all_weaker, pieces_first, pieces_last}
 use Rattle.ft_trigger.proofs.Shaped.{make_of, with_made, alone_cut, cut_by}
 use Rattle.ft_trigger.proofs.Tails.{filter_none}
 use Rattle.ft_trigger.proofs.Valued.{value_shift}
@@ -36,7 +36,7 @@ abbrev pub bytes_of : List Piece → List (List ℕ)
 bytes_of list = map (λ (piece : Piece). piece.bytes) list
 
 -- a byte in front of first pieces of the same bytes
-grown_bytes : (place other byte : ℕ) (a b : List Piece) → bytes_of a ≡ bytes_of b → bytes_of (grown place byte a) ≡ bytes_of (grown other byte b)
+grown_bytes : (place other byte : ℕ) (a b : List Piece) → bytes_of a ≡ bytes_of b → bytes_of (onto_first_piece place byte a) ≡ bytes_of (onto_first_piece other byte b)
 grown_bytes place other byte [] [] e = refl
 grown_bytes place other byte [] (y ∷ b) e = absurd cc
 grown_bytes place other byte (x ∷ a) [] e = absurd cc
@@ -51,8 +51,8 @@ pieces_bytes separator place other [] = refl
 pieces_bytes separator place other (byte ∷ text) = from (pieces_bytes separator (place + 1) (other + 1) text) (byte == separator)
   where
     from : bytes_of (pieces separator (place + 1) text) ≡ bytes_of (pieces separator (other + 1) text) → (b : Bool)
-        → bytes_of (if b then (record { place = place; bytes = [] } ∷ pieces separator (place + 1) text) else grown place byte (pieces separator (place + 1) text))
-        ≡ bytes_of (if b then (record { place = other; bytes = [] } ∷ pieces separator (other + 1) text) else grown other byte (pieces separator (other + 1) text))
+        → bytes_of (if b then (record { place = place; bytes = [] } ∷ pieces separator (place + 1) text) else onto_first_piece place byte (pieces separator (place + 1) text))
+        ≡ bytes_of (if b then (record { place = other; bytes = [] } ∷ pieces separator (other + 1) text) else onto_first_piece other byte (pieces separator (other + 1) text))
     from later true = ap (λ (l : List (List ℕ)). [] ∷ l) later
     from later false = grown_bytes place other byte _ _ later
 
@@ -327,29 +327,29 @@ part_clear (byte ∷ text) h =
     or_from (is_gap byte) (list_any is_gap text) (not-true (is_gap byte) (and_parts (is_seen byte) (not (byte == 58)) both.0).0) (part_clear text both.1)
 
 -- nor in parts after a `:`
-more_clear : (parts : List (List ℕ)) → list_all is_part parts ≡ true → list_any is_gap (more_parts parts) ≡ false
+more_clear : (parts : List (List ℕ)) → list_all is_part parts ≡ true → list_any is_gap (later_parts parts) ≡ false
 more_clear [] h = refl
 more_clear (part ∷ parts) h =
     let both = and_parts (is_part part) (list_all is_part parts) h in
-    list_any-append is_gap part (more_parts parts) ∙ or_from _ _ (part_clear part both.0) (more_clear parts both.1)
+    list_any-append is_gap part (later_parts parts) ∙ or_from _ _ (part_clear part both.0) (more_clear parts both.1)
 
 -- nor in joined parts
-joined_clear : (parts : List (List ℕ)) → list_all is_part parts ≡ true → list_any is_gap (joined parts) ≡ false
+joined_clear : (parts : List (List ℕ)) → list_all is_part parts ≡ true → list_any is_gap (joined_parts parts) ≡ false
 joined_clear [] h = refl
 joined_clear (part ∷ parts) h =
     let both = and_parts (is_part part) (list_all is_part parts) h in
-    list_any-append is_gap part (more_parts parts) ∙ or_from _ _ (part_clear part both.0) (more_clear parts both.1)
+    list_any-append is_gap part (later_parts parts) ∙ or_from _ _ (part_clear part both.0) (more_clear parts both.1)
 
 -- joined parts are cut into them
-joined_bytes : (parts : List (List ℕ)) (part : List ℕ) (place : ℕ) → is_part part ≡ true → list_all is_part parts ≡ true → bytes_of (pieces 58 place (part ++ more_parts parts)) ≡ part ∷ parts
+joined_bytes : (parts : List (List ℕ)) (part : List ℕ) (place : ℕ) → is_part part ≡ true → list_all is_part parts ≡ true → bytes_of (pieces 58 place (part ++ later_parts parts)) ≡ part ∷ parts
 joined_bytes [] part place one all = ap (λ (t : List ℕ). bytes_of (pieces 58 place t)) (append-nil part) ∙ ap bytes_of (pieces_last 58 place part (part_free part one))
 joined_bytes (next ∷ parts) part place one all =
     let both = and_parts (is_part next) (list_all is_part parts) all in
-    let cut = pieces_first 58 place part (next ++ more_parts parts) (part_free part one) in
+    let cut = pieces_first 58 place part (next ++ later_parts parts) (part_free part one) in
     ap bytes_of cut.1 ∙ ap (λ (l : List (List ℕ)). part ∷ l) (joined_bytes parts next cut.0 both.0 both.1)
 
 -- so are those of a list with an item
-list_bytes : (parts : List (List ℕ)) (place : ℕ) → 0 < length parts → list_all is_part parts ≡ true → bytes_of (pieces 58 place (joined parts)) ≡ parts
+list_bytes : (parts : List (List ℕ)) (place : ℕ) → 0 < length parts → list_all is_part parts ≡ true → bytes_of (pieces 58 place (joined_parts parts)) ≡ parts
 list_bytes [] place some all = absurd (omega arith)
 list_bytes (part ∷ parts) place some all = let both = and_parts (is_part part) (list_all is_part parts) all in joined_bytes parts part place both.0 both.1
 
@@ -381,28 +381,28 @@ make_same event head other draft hist e = from draft.keys e
 
 -- what parts make, they make in the other order
 parts_swapped : (event : Name) (front behind : List (List ℕ)) (a b : List ℕ) (draft : Draft) → list_all is_part (front ++ a ∷ b ∷ behind) ≡ true
-    → parts_from event blank (pieces 58 5 (joined (front ++ a ∷ b ∷ behind))) ≡ Ok draft → parts_from event blank (pieces 58 5 (joined (front ++ b ∷ a ∷ behind))) ≡ Ok draft
+    → parts_from event empty_draft (pieces 58 5 (joined_parts (front ++ a ∷ b ∷ behind))) ≡ Ok draft → parts_from event empty_draft (pieces 58 5 (joined_parts (front ++ b ∷ a ∷ behind))) ≡ Ok draft
 parts_swapped event front behind a b draft all e =
     let here = list_bytes (front ++ a ∷ b ∷ behind) 5 (some_between front a (b ∷ behind)) all in
     let there = list_bytes (front ++ b ∷ a ∷ behind) 5 (some_between front b (a ∷ behind)) (all_swapped front a b behind all) in
-    let h = accepts event (pieces 58 5 (joined (front ++ a ∷ b ∷ behind))) blank draft e in
-    let k = swapped event front blank draft a b behind (subst (λ (l : List (List ℕ)). Accepts event blank l draft) here h) in
-    accepted event (pieces 58 5 (joined (front ++ b ∷ a ∷ behind))) blank draft (subst (λ (l : List (List ℕ)). Accepts event blank l draft) (sym there) k)
+    let h = accepts event (pieces 58 5 (joined_parts (front ++ a ∷ b ∷ behind))) empty_draft draft e in
+    let k = swapped event front empty_draft draft a b behind (subst (λ (l : List (List ℕ)). Accepts event empty_draft l draft) here h) in
+    accepted event (pieces 58 5 (joined_parts (front ++ b ∷ a ∷ behind))) empty_draft draft (subst (λ (l : List (List ℕ)). Accepts event empty_draft l draft) (sym there) k)
 
 -- a head alone is what its parts make
 head_made : (event : Name) (parts : List ℕ) → list_any is_gap parts ≡ false
-    → trigger_of event (codes "hist:" ++ parts) ≡ ((parts_from event blank (pieces 58 5 parts) >>= make_of event (length (codes "hist:" ++ parts))) >>= with_made (Ok None))
+    → trigger_of event (codes "hist:" ++ parts) ≡ ((parts_from event empty_draft (pieces 58 5 parts) >>= make_of event (length (codes "hist:" ++ parts))) >>= with_made (Ok None))
 head_made event parts clear = cut_by event (codes "hist:" ++ parts) (codes "hist:" ++ parts) [] [] [] (Ok None) (alone_cut (codes "hist:" ++ parts) clear) (filter_none event (length (codes "hist:" ++ parts) + 0))
 
 -- so is a head with two parts in the other order
 pub heads_swapped : (event : Name) (front behind : List (List ℕ)) (a b : List ℕ) (hist : Hist) → list_all is_part (front ++ a ∷ b ∷ behind) ≡ true
-    → trigger_of event (codes "hist:" ++ joined (front ++ a ∷ b ∷ behind)) ≡ Ok hist → trigger_of event (codes "hist:" ++ joined (front ++ b ∷ a ∷ behind)) ≡ Ok hist
+    → trigger_of event (codes "hist:" ++ joined_parts (front ++ a ∷ b ∷ behind)) ≡ Ok hist → trigger_of event (codes "hist:" ++ joined_parts (front ++ b ∷ a ∷ behind)) ≡ Ok hist
 heads_swapped event front behind a b hist all e =
-    let one = joined (front ++ a ∷ b ∷ behind) in
-    let two = joined (front ++ b ∷ a ∷ behind) in
+    let one = joined_parts (front ++ a ∷ b ∷ behind) in
+    let two = joined_parts (front ++ b ∷ a ∷ behind) in
     let whole = sym (head_made event one (joined_clear (front ++ a ∷ b ∷ behind) all)) ∙ e in
-    let bare = then_parts (parts_from event blank (pieces 58 5 one) >>= make_of event (length (codes "hist:" ++ one))) (with_made (Ok None)) hist whole in
-    let draft = then_parts (parts_from event blank (pieces 58 5 one)) (make_of event (length (codes "hist:" ++ one))) bare.0 bare.1 in
+    let bare = then_parts (parts_from event empty_draft (pieces 58 5 one) >>= make_of event (length (codes "hist:" ++ one))) (with_made (Ok None)) hist whole in
+    let draft = then_parts (parts_from event empty_draft (pieces 58 5 one)) (make_of event (length (codes "hist:" ++ one))) bare.0 bare.1 in
     let read = parts_swapped event front behind a b draft.0 all draft.1 in
     let made = make_same event (length (codes "hist:" ++ one)) (length (codes "hist:" ++ two)) draft.0 bare.0 draft.2 in
     head_made event two (joined_clear (front ++ b ∷ a ∷ behind) (all_swapped front a b behind all))

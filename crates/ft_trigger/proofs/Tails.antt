@@ -10,15 +10,15 @@ use Rattle.ft_filter.specs.Answers.{filter_of}
 use Rattle.ft_filter.specs.Canonical.{canonical as filter_text}
 use Rattle.ft_filter.specs.FilterIs.{FilterIs}
 use Rattle.ft_filter.specs.Tree.{Tree}
-use Rattle.ft_tokens.specs.Tokens.{is_gap, skip}
+use Rattle.ft_text.specs.Tokens.{is_gap, skip}
 use Rattle.ft_head.specs.declared.fault.TriggerFault.TheVariants.{Syntax}
 use Rattle.ft_hist.specs.Canonical.{if_text}
 use Rattle.ft_head.specs.Draft.{given_or}
-use Rattle.ft_trigger.specs.TriggerIs.{behind_if, filter_or_fault, filter_in}
+use Rattle.ft_trigger.specs.TriggerIs.{behind_if, filter_or_fault, tail_filter}
 use Rattle.ft_trigger.proofs.Drafts.{If}
 use Rattle.ft_trigger.proofs.Edges.{Opens, Closes, Edged, filter_edged}
 use Rattle.ft_trigger.proofs.Inversions.{given_parts}
-use Rattle.ft_pieces.proofs.Separators.{is_seen}
+use Rattle.ft_text.proofs.Separators.{is_seen}
 
 -- the grammar of filters relates one answer to a text
 pub record OneFilter : Type 0 where
@@ -77,13 +77,13 @@ behind_again text h =
     ap Some (skip_gap text ∙ kept)
 
 -- a filter after `if` is read
-pub filter_step : (event : Name) (place : ℕ) (tail text : List ℕ) (tree : Tree) → (length tail == 0) ≡ false → behind_if tail ≡ Some text → filter_of event text ≡ Ok tree → filter_in event place tail ≡ Ok (Some tree)
-unfolding filter_in
+pub filter_step : (event : Name) (place : ℕ) (tail text : List ℕ) (tree : Tree) → (length tail == 0) ≡ false → behind_if tail ≡ Some text → filter_of event text ≡ Ok tree → tail_filter event place tail ≡ Ok (Some tree)
+unfolding tail_filter
 filter_step event place tail text tree some is gives = rw (some, is, gives) refl
 
 -- no filter is read of nothing
-pub filter_none : (event : Name) (place : ℕ) → filter_in event place [] ≡ Ok None
-unfolding filter_in
+pub filter_none : (event : Name) (place : ℕ) → tail_filter event place [] ≡ Ok None
+unfolding tail_filter
 filter_none event place = refl
 
 module _ (laws : FilterLaws) where
@@ -94,11 +94,11 @@ module _ (laws : FilterLaws) where
       (sym (laws.answers.one event (filter_text tree) (Ok tree) (laws.again event h.text tree reads)), filter_edged event h.text tree reads)
 
   -- a filter's part is read
-  pub filter_again : (event : Name) (place : ℕ) (filter : Option Tree) → If (TreeFits event) filter → filter_in event place (trimmed (if_text filter)) ≡ Ok filter
+  pub filter_again : (event : Name) (place : ℕ) (filter : Option Tree) → If (TreeFits event) filter → tail_filter event place (trimmed (if_text filter)) ≡ Ok filter
   filter_again event place None h = filter_none event place
   filter_again event place (Some tree) h =
       let again = tree_again event tree h in
-      ap (filter_in event place) (if_trimmed (filter_text tree) again.1)
+      ap (tail_filter event place) (if_trimmed (filter_text tree) again.1)
       ∙ filter_step event place (codes "if " ++ filter_text tree) (filter_text tree) tree (eqb-suc-zero (length (102 ∷ 32 ∷ filter_text tree))) (behind_again (filter_text tree) again.1.opens) again.0
 
 -- ---- what is read can be read
@@ -109,8 +109,8 @@ tree_fits event text filter (Err fault) is e = absurd cc
 tree_fits event text filter (Ok tree) is e = let same : Some tree ≡ filter = cc in subst (If (TreeFits event)) same (record { text = text; gives = is })
 
 -- so can a filter
-pub filter_fits : (event : Name) (place : ℕ) (tail : List ℕ) (filter : Option Tree) → filter_in event place tail ≡ Ok filter → If (TreeFits event) filter
-unfolding filter_in
+pub filter_fits : (event : Name) (place : ℕ) (tail : List ℕ) (filter : Option Tree) → tail_filter event place tail ≡ Ok filter → If (TreeFits event) filter
+unfolding tail_filter
 filter_fits event place tail filter e = from (length tail == 0) e
   where
     from : (b : Bool) → cond b (Ok None) (given_or (Syntax place) (behind_if tail) (λ text. filter_or_fault (filter_of event text))) ≡ Ok filter → If (TreeFits event) filter

@@ -9,22 +9,22 @@ use Rattle.std.specs.Option.{option_map_or, is_some}
 use Rattle.std.specs.Str.{bytes_eq}
 use Rattle.ft_fields.specs.declared.event.Name.{Name}
 use Rattle.ft_fields.specs.declared.field.Field.{Field}
-use Rattle.ft_fields.specs.Fields.{is_named, all_fields}
+use Rattle.ft_fields.specs.Fields.{is_field_named, all_fields}
 use Rattle.ft_head.specs.declared.fault.TriggerFault.{TriggerFault}
 use Rattle.ft_head.specs.declared.fault.TriggerFault.TheVariants.{NoField, TooMany, Duplicate, BadModifier, LeftOut}
 use Rattle.ft_hist.specs.declared.item.Item.{Item}
 use Rattle.ft_hist.specs.declared.item.Item.TheVariants as items
 use Rattle.ft_hist.specs.declared.label.Var.{Var}
 use Rattle.ft_hist.specs.declared.label.Var.TheVariants as vars
-use Rattle.ft_hist.specs.Canonical.{more_items, name_of, value_text}
+use Rattle.ft_hist.specs.Canonical.{more_items, variable_name, value_text}
 use Rattle.ft_head.specs.Draft.{◌>>=◌, unless, items_from, is_left_out, besides_hitcount, value_fault, with_value}
-use Rattle.ft_pieces.specs.Words.{is_word, same_word, Word, pieces}
+use Rattle.ft_text.specs.Items.{is_word, same_word, Word, pieces}
 use Rattle.ft_trigger.specs.TriggerIs.{own_name, value_item, value_items}
 use Rattle.ft_trigger.proofs.Chains.{Chain, Steps, Again, items_again, chain_inner}
 use Rattle.ft_trigger.proofs.Inversions.{then_parts, unless_parts, given_parts, no_fault}
 use Rattle.ft_trigger.proofs.Keyed.{field_name}
-use Rattle.ft_pieces.proofs.Separators.{is_bare, is_inner, names_bare, bare_free}
-use Rattle.ft_pieces.proofs.Spellings.{IsName, IsSuffix, word_text, word_name, word_again, bytes_same}
+use Rattle.ft_text.proofs.Separators.{is_bare, is_inner, names_bare, bare_free}
+use Rattle.ft_text.proofs.Spellings.{IsName, IsSuffix, word_text, word_name, word_again, bytes_same}
 
 -- the name of the count of hits
 abbrev hitcount : List ℕ
@@ -199,14 +199,14 @@ values_inner event words chain = chain_inner (ValueFits event) word_text (λ lis
 value_spelled : (event : Name) (variable : Option Var) (word : Word) (value : Item) → word.suffix ≡ None → value_item event (own_name variable) word ≡ Some value → value_text variable value ≡ word_text word
 value_spelled event variable word value plain e = rw plain (from word.dollar e)
   where
-    field_from : (o : Option Field) → find (is_named event word.name) all_fields ≡ o → option_map items.Num o ≡ Some value → value_text variable value ≡ word.name ++ []
+    field_from : (o : Option Field) → find (is_field_named event word.name) all_fields ≡ o → option_map items.Num o ≡ Some value → value_text variable value ≡ word.name ++ []
     field_from None is e = absurd cc
     field_from (Some field) is e = ap (value_text variable) (sym (same_Some (items.Num field) value e)) ∙ field_name event word.name field is ∙ sym (append-nil word.name)
 
-    own_from : (name : List ℕ) (v : Option Var) → name ≡ name_of v → (if bytes_eq word.name name then Some items.Own else None) ≡ Some value → value_text v value ≡ codes "$" ++ word.name ++ []
+    own_from : (name : List ℕ) (v : Option Var) → name ≡ variable_name v → (if bytes_eq word.name name then Some items.Own else None) ≡ Some value → value_text v value ≡ codes "$" ++ word.name ++ []
     own_from name v is e =
         let found = cond_some (bytes_eq word.name name) items.Own value e in
-        let named : name_of v ≡ word.name = sym is ∙ sym (bytes_same word.name name found.0) in
+        let named : variable_name v ≡ word.name = sym is ∙ sym (bytes_same word.name name found.0) in
         ap (value_text v) (sym found.1) ∙ ap (λ (t : List ℕ). codes "$" ++ t) (named ∙ sym (append-nil word.name))
 
     var_from : (v : Option Var) → option_map_or (λ name. if bytes_eq word.name name then Some items.Own else None) (own_name v) None ≡ Some value → value_text v value ≡ codes "$" ++ word.name ++ []
@@ -214,10 +214,10 @@ value_spelled event variable word value plain e = rw plain (from word.dollar e)
     var_from (Some (vars.Saves name)) e = own_from name (Some (vars.Saves name)) refl e
     var_from (Some (vars.Reads name source)) e = own_from name (Some (vars.Reads name source)) refl e
 
-    from : (dollar : Bool) → (if dollar then option_map_or (λ name. if bytes_eq word.name name then Some items.Own else None) (own_name variable) None else option_map items.Num (find (is_named event word.name) all_fields)) ≡ Some value
+    from : (dollar : Bool) → (if dollar then option_map_or (λ name. if bytes_eq word.name name then Some items.Own else None) (own_name variable) None else option_map items.Num (find (is_field_named event word.name) all_fields)) ≡ Some value
         → value_text variable value ≡ (if dollar then codes "$" else []) ++ word.name ++ []
     from true e = var_from variable e
-    from false e = field_from (find (is_named event word.name) all_fields) refl e
+    from false e = field_from (find (is_field_named event word.name) all_fields) refl e
 
 -- so the texts of values are their words'
 pub values_spelled : (event : Name) (variable : Option Var) (more words : List Word) (values : List Item) → Chain (ValueFits event) words more → value_items event (own_name variable) more ≡ Ok values

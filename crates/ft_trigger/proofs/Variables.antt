@@ -14,12 +14,12 @@ use Rattle.ft_head.specs.declared.fault.TriggerFault.TheVariants.{Syntax, Duplic
 use Rattle.ft_hist.specs.declared.label.Var.{Var}
 use Rattle.ft_hist.specs.declared.label.Var.TheVariants as vars
 use Rattle.ft_hist.specs.Hit.{same_name}
-use Rattle.ft_head.specs.Draft.{Draft, unless, given_or, Stamp, Saved, Since, stamp_of, var_of, is_taken, labels, is_part_left_out, with_variable, with_other}
-use Rattle.ft_pieces.specs.Words.{is_name, Piece}
-use Rattle.ft_tokens.specs.Tokens.{name_at}
+use Rattle.ft_head.specs.Draft.{Draft, unless, given_or, Stamp, Saved, Since, variable_stamp, var_of, is_taken, labels, is_part_left_out, with_variable, with_other}
+use Rattle.ft_text.specs.Items.{is_name, Piece}
+use Rattle.ft_text.specs.Tokens.{name_at}
 use Rattle.ft_trigger.proofs.Inversions.{unless_parts, given_parts}
-use Rattle.ft_pieces.proofs.Separators.{is_inner, bare_inner, names_bare}
-use Rattle.ft_pieces.proofs.Spellings.{IsName, name_parts, front_same, bytes_same}
+use Rattle.ft_text.proofs.Separators.{is_inner, bare_inner, names_bare}
+use Rattle.ft_text.proofs.Spellings.{IsName, name_parts, front_same, bytes_same}
 
 -- a variable's part
 abbrev pub var_bytes : Var → List ℕ
@@ -59,8 +59,8 @@ name_inner text e = from (name_at text) refl e
         ap (list_all is_inner) whole ∙ bare_inner cut.0 (names_bare cut.0 parts.0.inside)
 
 -- a stamp that is read has its text
-stamp_parts : (value : List ℕ) (stamp : Stamp) → stamp_of value ≡ Some stamp → (value ≡ stamp_text stamp) × StampFits stamp
-unfolding stamp_of
+stamp_parts : (value : List ℕ) (stamp : Stamp) → variable_stamp value ≡ Some stamp → (value ≡ stamp_text stamp) × StampFits stamp
+unfolding variable_stamp
 stamp_parts value stamp e = from (bytes_eq value (codes "common_timestamp.usecs")) refl e
   where
     since : (starts_with ◌==◌ value (codes "common_timestamp.usecs-$") && is_name (drop 24 value)) ≡ true → (value ≡ stamp_text (Since (drop 24 value))) × StampFits (Since (drop 24 value))
@@ -99,11 +99,11 @@ var_added event draft name stamp = unless ((is_taken event name stamp, Duplicate
 
 -- a variable's value
 abbrev var_valued : Name → Draft → ℕ → List ℕ × List ℕ → Result Draft TriggerFault
-var_valued event draft place cut = given_or (LeftOut place) (stamp_of (drop 1 cut.1)) (var_added event draft cut.0)
+var_valued event draft place cut = given_or (LeftOut place) (variable_stamp (drop 1 cut.1)) (var_added event draft cut.0)
 
 -- a part whose steps are known adds its variable
 pub var_adds : (event : Name) (draft : Draft) (place : ℕ) (bytes : List ℕ) (cut : List ℕ × List ℕ) (stamp : Stamp) → starts_with ◌==◌ bytes (codes "onmatch(") ≡ false → name_at bytes ≡ Some cut → starts_with ◌==◌ cut.1 (codes "=") ≡ true
-    → same_name event names.WakeupLatency ≡ false → stamp_of (drop 1 cut.1) ≡ Some stamp → is_taken event cut.0 stamp ≡ false → draft.variable ≡ None
+    → same_name event names.WakeupLatency ≡ false → variable_stamp (drop 1 cut.1) ≡ Some stamp → is_taken event cut.0 stamp ≡ false → draft.variable ≡ None
     → with_other event draft (record { place = place; bytes = bytes }) ≡ Ok (record draft { variable = Some (var_of cut.0 stamp) })
 unfolding with_variable
 var_adds event draft place bytes cut stamp bare name equals apart stamped free none = rw (bare, name, equals, apart, none, stamped, free) refl
@@ -116,7 +116,7 @@ pub record VarParts (event : Name) (draft more : Draft) (bytes : List ℕ) : Typ
   pub equals : starts_with ◌==◌ cut.1 (codes "=") ≡ true
   pub apart_made : same_name event names.WakeupLatency ≡ false
   pub none : is_some draft.variable ≡ false
-  pub stamped : stamp_of (drop 1 cut.1) ≡ Some stamp
+  pub stamped : variable_stamp (drop 1 cut.1) ≡ Some stamp
   pub free : is_taken event cut.0 stamp ≡ false
   pub is : record draft { variable = Some (var_of cut.0 stamp) } ≡ more
 
@@ -129,7 +129,7 @@ var_parts event draft more part e =
     let equals = unless_parts (not (starts_with ◌==◌ name.0.1 (codes "="))) (Syntax part.place) ((same_name event names.WakeupLatency, LeftOut part.place) ∷ (is_some draft.variable, LeftOut part.place) ∷ []) (var_valued event draft part.place name.0) more name.2 in
     let apart = unless_parts (same_name event names.WakeupLatency) (LeftOut part.place) ((is_some draft.variable, LeftOut part.place) ∷ []) (var_valued event draft part.place name.0) more equals.1 in
     let none = unless_parts (is_some draft.variable) (LeftOut part.place) [] (var_valued event draft part.place name.0) more apart.1 in
-    let stamp = given_parts (LeftOut part.place) (stamp_of (drop 1 name.0.1)) (var_added event draft name.0.0) more none.1 in
+    let stamp = given_parts (LeftOut part.place) (variable_stamp (drop 1 name.0.1)) (var_added event draft name.0.0) more none.1 in
     let free = unless_parts (is_taken event name.0.0 stamp.0) Duplicate [] (Ok (record draft { variable = Some (var_of name.0.0 stamp.0) })) more stamp.2 in
     record {
       cut = name.0;

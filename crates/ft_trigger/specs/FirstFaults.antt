@@ -4,8 +4,8 @@ use Rattle.std.specs.List.{list_all, list_any}
 use Rattle.ft_fields.specs.declared.event.Name.{Name}
 use Rattle.ft_head.specs.declared.fault.TriggerFault.{TriggerFault}
 use Rattle.ft_head.specs.declared.fault.TriggerFault.TheVariants.{Syntax}
-use Rattle.ft_head.specs.Draft.{Draft, blank, given_or, with_part}
-use Rattle.ft_pieces.specs.Words.{Piece, Word, word_of}
+use Rattle.ft_head.specs.Draft.{Draft, empty_draft, given_or, with_part}
+use Rattle.ft_text.specs.Items.{Piece, Word, word_of}
 
 -- ---- cuts
 
@@ -22,9 +22,9 @@ pub record AreBetween (separator : ℕ) (whole : List ℕ) (texts : List (List �
   pub is : whole ≡ joined_by separator texts
 
 -- what stands in front of a text: those before it, each with a separator after it
-abbrev pub in_front : ℕ → List (List ℕ) → List ℕ
-in_front separator [] = []
-in_front separator (text ∷ texts) = text ++ separator ∷ in_front separator texts
+abbrev pub front_text : ℕ → List (List ℕ) → List ℕ
+front_text separator [] = []
+front_text separator (text ∷ texts) = text ++ separator ∷ front_text separator texts
 
 -- ---- readings
 
@@ -37,7 +37,7 @@ pub record Reading (A : Type 0) : Type 0 where
 
 -- one more text makes this of what was read of those in front, or has this fault; it begins after all that stands in front, separators counted
 abbrev pub Adds : {A : Type 0} → Reading A → List (List ℕ) → A → List ℕ → Result A TriggerFault → Type 0
-Adds r front read text answer = r.adds read (record { place = r.place + length (in_front r.separator front); bytes = text }) ≡ answer
+Adds r front read text answer = r.adds read (record { place = r.place + length (front_text r.separator front); bytes = text }) ≡ answer
 
 -- no text has a fault after those in front of it, and this is read of all (kernel: histogram.rst, hist triggers)
 pub data AreRead {A : Type 0} (r : Reading A) : List (List ℕ) → A → Type 0 where
@@ -63,7 +63,7 @@ ReadAs r texts (Err fault) = FailFirst r texts fault
 
 -- the parts of a head, which stand between `:` after `hist:` (kernel: histogram.rst, hist triggers)
 abbrev pub of_parts : Name → Reading Draft
-of_parts event = record { separator = 58; place = 5; start = blank; adds = with_part event }
+of_parts event = record { separator = 58; place = 5; start = empty_draft; adds = with_part event }
 
 -- the items of a list that begins at a place, which stand between `,`: each is a word, and adds to those in front (kernel: histogram.rst, hist triggers)
 abbrev pub of_items : {A : Type 0} → (List A → ℕ → Word → Result (List A) TriggerFault) → ℕ → Reading (List A)

@@ -5,7 +5,7 @@ use Rattle.ft_fields.specs.declared.event.Name.{Name}
 use Rattle.ft_filter.specs.declared.fault.FilterFault.{FilterFault}
 use Rattle.ft_filter.specs.FilterIs.{FilterIs}
 use Rattle.ft_filter.specs.Tree.{Tree}
-use Rattle.ft_tokens.specs.Tokens.{is_gap}
+use Rattle.ft_text.specs.Tokens.{is_gap}
 use Rattle.ft_hist.specs.Hist.{Hist, with_filter}
 use Rattle.ft_head.specs.declared.fault.TriggerFault.{TriggerFault}
 use Rattle.ft_head.specs.declared.fault.TriggerFault.TheVariants.{Syntax, BadFilter}

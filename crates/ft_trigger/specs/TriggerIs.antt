@@ -4,11 +4,11 @@ use Rattle.std.specs.List.{prefix_len, starts_with}
 use Rattle.std.specs.Option.{option_map_or}
 use Rattle.std.specs.Str.{bytes_eq}
 use Rattle.ft_fields.specs.declared.event.Name.{Name}
-use Rattle.ft_fields.specs.Fields.{is_named, all_fields, text_of}
+use Rattle.ft_fields.specs.Fields.{is_field_named, all_fields, field_text}
 use Rattle.ft_filter.specs.declared.fault.FilterFault.{FilterFault}
 use Rattle.ft_filter.specs.Tree.{Tree}
 use Rattle.ft_filter.specs.Answers.{filter_of}
-use Rattle.ft_tokens.specs.Tokens.{is_gap, skip}
+use Rattle.ft_text.specs.Tokens.{is_gap, skip}
 use Rattle.ft_head.specs.declared.fault.TriggerFault.{TriggerFault}
 use Rattle.ft_head.specs.declared.fault.TriggerFault.TheVariants.{Syntax, NoField, BadSort, BadFilter}
 use Rattle.ft_hist.specs.declared.item.KeyItem.{KeyItem}
@@ -21,8 +21,8 @@ use Rattle.ft_hist.specs.declared.label.Var.{Var}
 use Rattle.ft_hist.specs.declared.label.Var.TheVariants as vars
 use Rattle.std.specs.List.{find}
 use Rattle.ft_head.specs.Onmatch.{Action}
-use Rattle.ft_pieces.specs.Words.{pieces, Word, is_word}
-use Rattle.ft_head.specs.Draft.{Draft, blank, ◌>>=◌, unless, given_or, besides_hitcount, parts_from}
+use Rattle.ft_text.specs.Items.{pieces, Word, is_word}
+use Rattle.ft_head.specs.Draft.{Draft, empty_draft, ◌>>=◌, unless, given_or, besides_hitcount, parts_from}
 use Rattle.ft_hist.specs.Hist.{Hist}
 
 -- ---- head and tail
@@ -40,8 +40,8 @@ abbrev pub without_end : List ℕ → List ℕ
 without_end text = reverse (skip (reverse text))
 
 -- the tail: what is after the head, without spaces and tabs at both ends
-abbrev pub tail_of : List ℕ → List ℕ
-tail_of text = without_end (behind_head text)
+abbrev pub trigger_tail : List ℕ → List ℕ
+trigger_tail text = without_end (behind_head text)
 
 -- what a tail has after `if` and one or more spaces or tabs, where it begins so (kernel: events.rst, `if` before a filter)
 abbrev pub behind_if : List ℕ → Option (List ℕ)
@@ -53,8 +53,8 @@ filter_or_fault (Ok tree) = Ok (Some tree)
 filter_or_fault (Err fault) = Err (BadFilter fault)
 
 -- the filter of a tail that begins at a place: none where it is empty (kernel: events.rst, `if` before a filter)
-unfoldable pub filter_in : Name → ℕ → List ℕ → Result (Option Tree) TriggerFault
-filter_in event place tail =
+unfoldable pub tail_filter : Name → ℕ → List ℕ → Result (Option Tree) TriggerFault
+tail_filter event place tail =
     if length tail == 0 then Ok None
     else given_or (Syntax place) (behind_if tail) (λ text. filter_or_fault (filter_of event text))
 
@@ -70,7 +70,7 @@ own_name (Some (vars.Reads own source)) = Some own
 abbrev pub value_item : Name → Option (List ℕ) → Word → Option Item
 value_item event own word =
     if word.dollar then option_map_or (λ name. if bytes_eq word.name name then Some items.Own else None) own None
-    else option_map items.Num (find (is_named event word.name) all_fields)
+    else option_map items.Num (find (is_field_named event word.name) all_fields)
 
 -- values, from left to right; a `$name` that is not the trigger's own variable is a fault (kernel: histogram.rst, `values`)
 abbrev pub value_items : Name → Option (List ℕ) → List Word → Result (List Item) TriggerFault
@@ -85,14 +85,14 @@ index_where test n (x ∷ xs) = if test x then Some n else index_where test (n +
 
 -- a value is what the word names: the own variable with its `$`, or a field
 abbrev pub names_value : Option (List ℕ) → Word → Item → Bool
-names_value own word (items.Num field) = not word.dollar && bytes_eq word.name (text_of field)
+names_value own word (items.Num field) = not word.dollar && bytes_eq word.name (field_text field)
 names_value own word items.Own = word.dollar && option_map_or (bytes_eq word.name) own false
 
 -- what a sort item names: `hitcount`, a key's field, or a value; a key before a value (kernel: histogram.rst, `sort`)
 unfoldable pub sort_by : List KeyItem → List Item → Option (List ℕ) → Word → Option SortBy
 sort_by keys values own word =
     if is_word word (codes "hitcount") then Some sorts.Hits
-    else option_map_or (λ n. Some (sorts.Key n)) (index_where (λ key. is_word word (text_of key.field)) 0 keys)
+    else option_map_or (λ n. Some (sorts.Key n)) (index_where (λ key. is_word word (field_text key.field)) 0 keys)
     (option_map sorts.Value (index_where (names_value own word) 0 values))
 
 -- the sort item says that the greatest comes first (kernel: histogram.rst, `sort`)
@@ -136,7 +136,7 @@ finished event head place tail draft =
     given_or (Syntax head) draft.keys (λ keys.
     value_items event (own_name draft.variable) (besides_hitcount (unwrap_or draft.values [])) >>= (λ values.
     sort_in draft keys values >>= (λ sort.
-    filter_in event place tail >>= (λ filter.
+    tail_filter event place tail >>= (λ filter.
     Ok (record {
       event = event;
       keys = keys;
@@ -152,8 +152,8 @@ finished event head place tail draft =
 unfoldable pub trigger_of : Name → List ℕ → Result Hist TriggerFault
 trigger_of event text =
     unless ((not (starts_with ◌==◌ (take (head_len text) text) (codes "hist:")), Syntax 0) ∷ [])
-    (parts_from event blank (pieces 58 5 (drop 5 (take (head_len text) text)))
-    >>= finished event (head_len text) (length text - length (behind_head text)) (tail_of text))
+    (parts_from event empty_draft (pieces 58 5 (drop 5 (take (head_len text) text)))
+    >>= finished event (head_len text) (length text - length (behind_head text)) (trigger_tail text))
 
 -- a text on an event is this trigger, or has this first fault (kernel: histogram.rst, hist triggers)
 abbrev pub TriggerIs : Name → List ℕ → Result Hist TriggerFault → Type 0

@@ -5,20 +5,20 @@ ghost use Rattle.ft_fields.specs.declared.event.Name.{Name};
 ghost use Rattle.std.specs.List.{list_all, list_any};
 ghost use Rattle.ft_filter.specs.FilterIs.{FilterIs};
 ghost use Rattle.ft_filter.specs.Tree.{Tree};
-ghost use Rattle.ft_tokens.specs.Tokens.{is_gap};
+ghost use Rattle.ft_text.specs.Tokens.{is_gap};
 ghost use Rattle.ft_hist.specs.Canonical.{canonical};
 ghost use Rattle.ft_hist.specs.Hist.{Hist, IsWithin, with_filter};
 ghost use Rattle.ft_hist.specs.Sound.{IsSound};
 ghost use Rattle.ft_head.specs.declared.draft.Kind.{Kind};
 ghost use Rattle.ft_head.specs.declared.fault.TriggerFault.{TriggerFault};
 ghost use Rattle.ft_head.specs.declared.fault.TriggerFault.TheVariants.{Duplicate};
-ghost use Rattle.ft_head.specs.Draft.{Draft, blank, parts_from, with_part, is_part_left_out, items_of, with_key, with_value, with_sort};
-ghost use Rattle.ft_head.specs.PartSpelling.{is_part, joined};
+ghost use Rattle.ft_head.specs.Draft.{Draft, empty_draft, parts_from, with_part, is_part_left_out, items_of, with_key, with_value, with_sort};
+ghost use Rattle.ft_head.specs.PartSpelling.{is_part, joined_parts};
 ghost use Rattle.ft_hist.specs.declared.item.KeyItem.{KeyItem};
-ghost use Rattle.ft_pieces.specs.Words.{Piece, pieces, Word};
+ghost use Rattle.ft_text.specs.Items.{Piece, pieces, Word};
 ghost use Rattle.ft_trigger.specs.FirstFaults.{AreBetween, AreRead, FailFirst, ReadAs, of_parts, of_items};
 ghost use Rattle.ft_trigger.specs.Forms.{Form, OfKind, form_of, stands, has_read};
-ghost use Rattle.ft_trigger.specs.TriggerIs.{TriggerIs, trigger_of, filter_in};
+ghost use Rattle.ft_trigger.specs.TriggerIs.{TriggerIs, trigger_of, tail_filter};
 ghost use Rattle.ft_trigger.specs.PartFaults.{PartsFail, is_late};
 ghost use Rattle.ft_trigger.specs.Shape.{Cut, IsCut, TailIs, with_tail, IsShaped};
 
@@ -73,7 +73,7 @@ pub fn cuts()
 pub fn one_tail()
     ensures { (event : Name) (place : ℕ) (tail : List ℕ)
         (answer : Result (Option Tree) TriggerFault)
-        → TailIs event place tail answer ↔ (filter_in event place tail ≡ answer) }
+        → TailIs event place tail answer ↔ (tail_filter event place tail ≡ answer) }
 {
     ft_filter::laws::one_answer();
 }
@@ -125,8 +125,8 @@ pub fn faults_stay()
 pub fn any_order()
     ensures { (event : Name) (front behind : List (List ℕ)) (a b : List ℕ) (hist : Hist)
         → list_all is_part (front ++ a ∷ b ∷ behind) ≡ true
-        → TriggerIs event (codes "hist:" ++ joined (front ++ a ∷ b ∷ behind)) (Ok hist)
-        → TriggerIs event (codes "hist:" ++ joined (front ++ b ∷ a ∷ behind)) (Ok hist) }
+        → TriggerIs event (codes "hist:" ++ joined_parts (front ++ a ∷ b ∷ behind)) (Ok hist)
+        → TriggerIs event (codes "hist:" ++ joined_parts (front ++ b ∷ a ∷ behind)) (Ok hist) }
 {}
 
 /// A law: a text is cut at a separator in one way.
@@ -143,7 +143,7 @@ pub fn one_cut()
 pub fn first_parts()
     ensures parts { (event : Name) (text : List ℕ) (parts : List (List ℕ))
         (answer : Result Draft TriggerFault) → AreBetween 58 text parts
-        → (parts_from event blank (pieces 58 5 text) ≡ answer)
+        → (parts_from event empty_draft (pieces 58 5 text) ≡ answer)
         ↔ ReadAs (of_parts event) parts answer }
     ensures texts { (event : Name) (text head gap tail end : List ℕ) (parts : List (List ℕ))
         (fault : TriggerFault) → IsCut text (codes "hist:" ++ head) gap tail end

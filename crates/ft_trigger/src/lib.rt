@@ -48,8 +48,8 @@ mod tail;
 
 pub use ft_head::{TriggerFault, one_action, one_list, one_word, sizes};
 pub use ft_hist::{
-    Item, Key, KeyItem, Label, Mode, Onmatch, Part, SortBy, SortItem, Trigger, Var, Work,
-    asked_events, equal_keys, fitting_parts, mode_named, multiples, one_key_order, powers,
+    Item, Key, KeyItem, Label, Mode, Onmatch, Part, SortBy, SortItem, Trigger, TriggerParts, Var,
+    Work, asked_events, equal_keys, fitting_parts, mode_named, multiples, one_key_order, powers,
     summed_fields,
 };
 pub use laws::{

@@ -12,8 +12,8 @@ use crate::resolving::{hands_other, own_name, sort_of, value_items};
 use crate::tail::{filter_in, head_len, without_end};
 use ft_fields::Name;
 use ft_head::{Action, Draft, TriggerFault, Word, parts_of};
-use ft_hist::{Onmatch, Trigger};
-use ft_tokens::skip;
+use ft_hist::{Onmatch, Trigger, TriggerParts};
+use ft_text::skip;
 use std::alloc::Global;
 
 /// How a trigger's text begins.
@@ -88,7 +88,14 @@ fn finished(
             let filter = filter_in(alloc, event, place, tail)?;
             let size = size.unwrap_or(DEFAULT_SIZE);
             let onmatch = onmatch_of(&onmatch);
-            let mut trigger = Trigger::of(event, keys, values, sort, variable, size, filter);
+            let parts = TriggerParts {
+                keys,
+                values,
+                sort,
+                variable,
+                size,
+            };
+            let mut trigger = Trigger::of(event, parts, filter);
             trigger.set_onmatch(onmatch);
             Ok(trigger)
         }

@@ -4,11 +4,11 @@ ghost use Rattle.std.specs.Prelude.{◌≡◌, ◌<◌, ◌≤◌, length, IfOk,
 ghost use Rattle.std.specs.Option.{option_copied, option_map_or};
 ghost use Rattle.std.specs.List.{find};
 ghost use Rattle.std.specs.Str.{bytes_eq};
-ghost use Rattle.ft_fields.specs.Fields.{text_of, is_named, all_fields};
+ghost use Rattle.ft_fields.specs.Fields.{field_text, is_field_named, all_fields};
 ghost use Rattle.ft_head.specs.declared.fault.TriggerFault.TheVariants.{NoField, BadSort};
 ghost use Rattle.ft_hist.specs.declared.item.Item.TheVariants as items;
 ghost use Rattle.ft_head.specs.Draft.{given_or, besides_hitcount};
-ghost use Rattle.ft_pieces.specs.Words.{is_word};
+ghost use Rattle.ft_text.specs.Items.{is_word};
 ghost use Rattle.ft_trigger.specs.TriggerIs.{own_name, value_item, value_items, reads_as, hands_other, index_where, names_value, sort_by, is_descending, sorts_of, sort_of, by_hits};
 ghost use Rattle.ft_head.specs.Given.{Gives};
 ghost use Rattle.ft_head.specs.inner.Leaving.{Leaves};
@@ -82,7 +82,7 @@ fn value_item(event: Name, own: Option<&[u8]>, word: &Word<'_>) -> Option<Item>
 
 /// The field of a name as a value.
 fn field_value(event: Name, name: &[u8]) -> Option<Item>
-    ensures { result ≡ option_map items.Num (find (is_named event name.now) all_fields) }
+    ensures { result ≡ option_map items.Num (find (is_field_named event name.now) all_fields) }
 {
     match field_named(event, name) {
         Some(field) => Some(Item::Num(field)),
@@ -210,7 +210,7 @@ fn sort_by(keys: &[KeyItem], values: &[Item], own: Option<&[u8]>, word: &Word<'_
 /// The number of the first key of the word's field, from 0.
 fn key_named(keys: &[KeyItem], word: &Word<'_>) -> Option<u8>
     requires { length keys.now ≤ 3 }
-    ensures { result ≡ index_where (λ key. is_word word.now (text_of key.field)) 0 keys.now }
+    ensures { result ≡ index_where (λ key. is_word word.now (field_text key.field)) 0 keys.now }
 {
     let mut number = 0;
     for key in keys {

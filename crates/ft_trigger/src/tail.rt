@@ -4,15 +4,15 @@ ghost use Rattle.std.specs.Prelude.{◌≡◌, ◌≤◌, length, position, IfOk
 ghost use Rattle.std.specs.Option.{option_copied};
 ghost use Rattle.ft_filter.specs.Answers.{filter_of};
 ghost use Rattle.ft_filter.specs.declared.fault.FilterFault.{FilterFault};
-ghost use Rattle.ft_tokens.specs.Tokens.{is_gap};
-ghost use Rattle.ft_trigger.specs.TriggerIs.{head_len, without_end, behind_if, filter_in, filter_or_fault};
+ghost use Rattle.ft_text.specs.Tokens.{is_gap};
+ghost use Rattle.ft_trigger.specs.TriggerIs.{head_len, without_end, behind_if, tail_filter, filter_or_fault};
 ghost use Rattle.ft_trigger.specs.inner.FilterFaults.{of_filter};
 ghost use Rattle.ft_head.specs.Given.{Gives};
 
 use ft_fields::Name;
 use ft_filter::{Filter, FilterFault};
 use ft_head::TriggerFault;
-use ft_tokens::{is_gap, skip};
+use ft_text::{is_gap, skip};
 use std::alloc::Global;
 
 /// The place of the first space or tab.
@@ -56,7 +56,7 @@ fn behind_if(tail: &[u8]) -> Option<&[u8]>
 }
 
 /// The filter of a tail that begins at a place: none where it is empty.
-#[tactic(auto, unfolding(crate::specs::TriggerIs::filter_in))]
+#[tactic(auto, unfolding(crate::specs::TriggerIs::tail_filter))]
 pub(crate) fn filter_in(
     alloc: Global,
     event: Name,
@@ -64,7 +64,7 @@ pub(crate) fn filter_in(
     tail: &[u8],
 ) -> Result<Option<Filter>, TriggerFault>
     ensures gives { Gives (option_map (λ filter. filter.tree))
-        (filter_in event place tail.now) result }
+        (tail_filter event place tail.now) result }
     ensures event { IfOk result (λ found. IfSome found (λ filter. filter.event ≡ event)) }
     ensures memory { IfErr result (λ fault. fault ≢ TriggerFault.BadFilter FilterFault.Memory) }
 {

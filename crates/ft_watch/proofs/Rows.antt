@@ -15,13 +15,13 @@ use Rattle.std.proofs.Math.Bool.{or-false}
 use Rattle.std.proofs.Math.Seq.{drop-cons}
 use Rattle.ft_changes.specs.declared.changed.Changed.{Changed}
 use Rattle.ft_changes.specs.Reports.{is_reported}
-use Rattle.ft_keys.specs.declared.key.Part.{Part}
-use Rattle.ft_keys.specs.Parts.{key_cmp}
-use Rattle.ft_keys.specs.Orders.{key_cmp_total}
-use Rattle.ft_keys.specs.Ties.{key_same}
+use Rattle.ft_fields.specs.declared.key.Part.{Part}
+use Rattle.ft_fields.specs.Parts.{key_cmp}
+use Rattle.ft_fields.specs.Orders.{key_cmp_total}
+use Rattle.ft_fields.specs.Ties.{key_same}
 use Rattle.ft_maps.specs.Entries.{same_from_tie}
-use Rattle.ft_watch.specs.Changes.{Texts, signed_line, is_same_row, change_lines, differs, key_lines, changed_keys, table_lines, both_keys}
-use Rattle.ft_watch.specs.inner.Told.{Told, with_row, with_table, with_text, AreAmong}
+use Rattle.ft_watch.specs.ChangedRows.{Texts, signed_line, is_same_row, change_lines, differs, key_lines, changed_keys, table_lines, both_keys}
+use Rattle.ft_watch.specs.inner.Told.{ChangedLines, with_row, with_table, with_text, AreAmong}
 use Rattle.ft_watch.proofs.Same.{same_keys}
 
 bytes_eq-refl : (text : List ℕ) → bytes_eq text text ≡ true
@@ -73,15 +73,15 @@ not_again {X = X} e rest sorted = go rest (first (below_all key_cmp e.0 rest) (i
 
 module _ (id : ℕ) (before now : Texts) where
   -- the rows of these keys are told, one after the other
-  pub told_rows : List (List Part) → Told → Told
+  pub told_rows : List (List Part) → ChangedLines → ChangedLines
   told_rows [] told = told
   told_rows (key ∷ keys) told = told_rows keys (with_row id (finite.get before key) (finite.get now key) told)
 
   -- what is told of keys of which some differ
-  abbrev told_of : List (List Part) → Told → Told
+  abbrev told_of : List (List Part) → ChangedLines → ChangedLines
   told_of keys told = record { lines = told.lines ++ flat_map (key_lines id before now) keys; count = told.count + length keys }
 
-  one_told : (key : List Part) (keys : List (List Part)) (told : Told) → told_of keys (with_row id (finite.get before key) (finite.get now key) told) ≡ told_of (cond (differs before now key) (key ∷ keys) keys) told
+  one_told : (key : List Part) (keys : List (List Part)) (told : ChangedLines) → told_of keys (with_row id (finite.get before key) (finite.get now key) told) ≡ told_of (cond (differs before now key) (key ∷ keys) keys) told
   one_told key keys told = by (is_same_row (finite.get before key) (finite.get now key)) refl
     where
       by : (b : Bool) → is_same_row (finite.get before key) (finite.get now key) ≡ b
@@ -93,7 +93,7 @@ module _ (id : ℕ) (before now : Texts) where
           λ i. record { lines = lines i; count = count i }
 
   -- those that differ among them are told
-  told_rows-is : (keys : List (List Part)) (told : Told) → told_rows keys told ≡ told_of (filter (differs before now) keys) told
+  told_rows-is : (keys : List (List Part)) (told : ChangedLines) → told_rows keys told ≡ told_of (filter (differs before now) keys) told
   unfolding told_rows
   told_rows-is [] told =
       let count : told.count ≡ told.count + 0 = omega arith in
@@ -131,7 +131,7 @@ module _ (id : ℕ) (before now : Texts) where
         by None is = absurd (true≢false (sym (ap (λ o. not (is_same_row (finite.get before q) o)) (sym (among q is)) ∙ differ) ∙ ap not (same_itself (finite.get before q))))
 
     -- the rows of keys that all that differ are among are told as the table's
-    pub told_keys : (told : Told) → told_rows (finite.keys keys) told ≡ with_table id before now told
+    pub told_keys : (told : ChangedLines) → told_rows (finite.keys keys) told ≡ with_table id before now told
     told_keys told =
         told_rows-is (finite.keys keys) told
         ∙ ap (λ (ks : List (List Part)). told_of ks told) (same_keys key_cmp_total key_same (differs before now) keys (finite.from_entries {R = key_cmp} (finite.entries before ++ finite.entries now)) in_keys in_both)
@@ -139,19 +139,19 @@ module _ (id : ℕ) (before now : Texts) where
   -- ---- keys that are left, while the table takes the rows that it has now
 
   -- the keys that are left have the rows of before, and all others those of now
-  pub record Telling (keys : FinMap key_cmp (Unit {0})) (left : List (List Part × Unit {0})) (rows : Texts) (so_far start : Told) : Type 0 where
+  pub record Telling (keys : FinMap key_cmp (Unit {0})) (left : List (List Part × Unit {0})) (rows : Texts) (so_far start : ChangedLines) : Type 0 where
     pub told : told_rows (map (λ e. e.0) left) so_far ≡ told_rows (finite.keys keys) start
     pub table : (q : List Part) → finite.get rows q ≡ cond (is_some (find key_cmp q left)) (finite.get before q) (finite.get now q)
     pub sorted : T (is_sorted key_cmp left)
 
-  pub telling_all : (keys : FinMap key_cmp (Unit {0})) → AreAmong keys before now → (start : Told) → Telling keys (finite.entries keys) before start start
+  pub telling_all : (keys : FinMap key_cmp (Unit {0})) → AreAmong keys before now → (start : ChangedLines) → Telling keys (finite.entries keys) before start start
   telling_all keys among start = record { told = refl; table = λ q. by q (finite.get keys q) refl; sorted = entries_sorted keys }
     where
       by : (q : List Part) (o : Option (Unit {0})) → finite.get keys q ≡ o → finite.get before q ≡ cond (is_some (find key_cmp q (finite.entries keys))) (finite.get before q) (finite.get now q)
       by q (Some mark) is = sym (ap (λ o. cond (is_some o) (finite.get before q) (finite.get now q)) (sym (get-entries keys q) ∙ is))
       by q None is = sym (among q is) ∙ sym (ap (λ o. cond (is_some o) (finite.get before q) (finite.get now q)) (sym (get-entries keys q) ∙ is))
 
-  module _ (keys : FinMap key_cmp (Unit {0})) (e : List Part × Unit {0}) (rest : List (List Part × Unit {0})) (table : Texts) (told start : Told) (t : Telling keys (e ∷ rest) table told start) where
+  module _ (keys : FinMap key_cmp (Unit {0})) (e : List Part × Unit {0}) (rest : List (List Part × Unit {0})) (table : Texts) (told start : ChangedLines) (t : Telling keys (e ∷ rest) table told start) where
     -- the next key has still the row of before
     pub next_row : finite.get table e.0 ≡ finite.get before e.0
     next_row = t.table e.0 ∙ ap (λ b. cond (is_some (cond b (Some e.1) (find key_cmp e.0 rest))) (finite.get before e.0) (finite.get now e.0)) ((eq_by_cmp_equiv key_cmp_total).refl e.0)
@@ -173,7 +173,7 @@ module _ (id : ℕ) (before now : Texts) where
         by q false apart = t.table q ∙ ap (λ b. cond (is_some (cond b (Some e.1) (find key_cmp q rest))) (finite.get before q) (finite.get now q)) apart
 
   -- where no key is left, the table has the rows that it has now, and all keys are told
-  pub telling_none : (keys : FinMap key_cmp (Unit {0})) (left : List (List Part × Unit {0})) (table : Texts) (told start : Told) → left ≡ [] → AreAmong keys before now → Telling keys left table told start
+  pub telling_none : (keys : FinMap key_cmp (Unit {0})) (left : List (List Part × Unit {0})) (table : Texts) (told start : ChangedLines) → left ≡ [] → AreAmong keys before now → Telling keys left table told start
       → (table ≡ now) × (told ≡ with_table id before now start)
   unfolding told_rows
   telling_none keys left table told start none among t = (
@@ -182,27 +182,27 @@ module _ (id : ℕ) (before now : Texts) where
   )
 
 -- the lines of a row that differs are added
-pub row_added : (id : ℕ) (before now : Option (List ℕ)) (told : Told) (lines : List ℕ) → is_same_row before now ≡ false → lines ≡ (told.lines ++ signed_line 45 id before) ++ signed_line 43 id now
+pub row_added : (id : ℕ) (before now : Option (List ℕ)) (told : ChangedLines) (lines : List ℕ) → is_same_row before now ≡ false → lines ≡ (told.lines ++ signed_line 45 id before) ++ signed_line 43 id now
     → record { lines = lines; count = told.count + 1 } ≡ with_row id before now told
 unfolding change_lines
 row_added id before now told lines differ is =
     let both = signed_line 45 id before ++ signed_line 43 id now in
     let text : change_lines id before now ≡ both = ap (λ b. cond b [] both) differ in
     let all : lines ≡ told.lines ++ change_lines id before now = is ∙ append_assoc told.lines (signed_line 45 id before) (signed_line 43 id now) ∙ ap (λ t. told.lines ++ t) (sym text) in
-    let row : Told = record { lines = told.lines ++ change_lines id before now; count = told.count + 1 } in
+    let row : ChangedLines = record { lines = told.lines ++ change_lines id before now; count = told.count + 1 } in
     (λ i. record { lines = all i; count = told.count + 1 }) ∙ sym (ap (λ b. cond b told row) differ)
 
 -- ---- the next of some keys
 
 module _ {X : Type 0} (id : ℕ) (before now : Texts) (e : List Part × X) (es rest : List (List Part × X)) (first : es ≡ e ∷ rest) where
   -- its row is told
-  pub rows_more : (told new all : Told) → new ≡ with_row id (finite.get before e.0) (finite.get now e.0) told → told_rows id before now (map (λ e. e.0) es) told ≡ all → told_rows id before now (map (λ e. e.0) rest) new ≡ all
+  pub rows_more : (told new all : ChangedLines) → new ≡ with_row id (finite.get before e.0) (finite.get now e.0) told → told_rows id before now (map (λ e. e.0) es) told ≡ all → told_rows id before now (map (λ e. e.0) rest) new ≡ all
   unfolding told_rows
   rows_more told new all is so_far =
       ap (told_rows id before now (map (λ e. e.0) rest)) is
       ∙ sym (ap (λ (l : List (List Part × X)). told_rows id before now (map (λ e. e.0) l) told) first) ∙ so_far
 
-pub rows_at_last : {X : Type 0} (id : ℕ) (before now : Texts) (es : List (List Part × X)) (told all : Told) → es ≡ [] → told_rows id before now (map (λ e. e.0) es) told ≡ all → told ≡ all
+pub rows_at_last : {X : Type 0} (id : ℕ) (before now : Texts) (es : List (List Part × X)) (told all : ChangedLines) → es ≡ [] → told_rows id before now (map (λ e. e.0) es) told ≡ all → told ≡ all
 unfolding told_rows
 rows_at_last {X = X} id before now es told all none so_far = sym (ap (λ (l : List (List Part × X)). told_rows id before now (map (λ e. e.0) l) told) none) ∙ so_far
 

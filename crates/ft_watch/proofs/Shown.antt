@@ -11,13 +11,13 @@ use Rattle.std.specs.Cmp.{nat_cmp_total, eq_by_cmp_equiv}
 use Rattle.std.specs.FinMap as finite
 use Rattle.std.specs.FinMap.{FinMap, find, get-empty, get-insert, get-from_entries, get-entries, entries_sorted, same_map, nat_cmp-IsAntisymmetric}
 use Rattle.std.proofs.lemmas.Bool.{true≢false}
-use Rattle.ft_keys.specs.declared.key.Part.{Part}
-use Rattle.ft_keys.specs.Parts.{key_cmp}
-use Rattle.ft_keys.specs.Orders.{key_cmp_total}
+use Rattle.ft_fields.specs.declared.key.Part.{Part}
+use Rattle.ft_fields.specs.Parts.{key_cmp}
+use Rattle.ft_fields.specs.Orders.{key_cmp_total}
 use Rattle.ft_hist.specs.Hist.{Hist}
 use Rattle.ft_maps.specs.Entries.{same_from_tie, strictly_sorted, entries-from_entries}
-use Rattle.ft_rows.specs.Keyed.{KeyedText}
-use Rattle.ft_rows.specs.Text.{row_text}
+use Rattle.ft_table.specs.Keyed.{KeyedText}
+use Rattle.ft_table.specs.Text.{row_text}
 use Rattle.ft_changes.specs.declared.changed.Changed.{Changed}
 use Rattle.ft_changes.specs.Reports.{is_reported}
 use Rattle.ft_base.specs.declared.refused.Refused.{Refused}
@@ -31,8 +31,8 @@ use Rattle.ft_answers.specs.Counting.{counts_made}
 use Rattle.ft_answers.specs.Reporting.{row_in, made_row_in, IsReport, IsMadeReport}
 use Rattle.ft_answers.specs.Rows.{RowIsAmong, text_among}
 use Rattle.ft_replay.specs.Merged.{merged}
-use Rattle.ft_watch.specs.Changes.{Texts, texts_of, texts_in, texts_at, table_lines, changed_keys, changed_lines, changed_count}
-use Rattle.ft_watch.specs.inner.Told.{Tables, lines_since, count_since, AreShown, AreAttached, NamesRows, with_text}
+use Rattle.ft_watch.specs.ChangedRows.{Texts, texts_of, texts_in, texts_at, table_lines, changed_keys, changed_lines, changed_count}
+use Rattle.ft_watch.specs.inner.Told.{TextsById, lines_since, count_since, AreShown, AreAttached, NamesRows, with_text}
 
 -- ---- one table
 
@@ -107,7 +107,7 @@ keys-shown : (base : Base) (es : List (ℕ × Hist)) → keys_of (shown_list bas
 keys-shown base [] = refl
 keys-shown base (e ∷ es) = ap (λ (ks : List ℕ). e.0 ∷ ks) (keys-shown base es)
 
-module _ (base : Base) (tables : Tables) (shown : AreShown base tables) where
+module _ (base : Base) (tables : TextsById) (shown : AreShown base tables) where
   tables-are : tables ≡ finite.from_entries {R = nat_cmp} (shown_list base (finite.entries base.triggers))
   tables-are = same_map nat_cmp_total nat_cmp-IsAntisymmetric tables _ (λ id.
       shown id ∙ ap (option_map (λ _. texts_at base id)) (get-entries base.triggers id)
@@ -146,7 +146,7 @@ module _ (base : Base) (tables : Tables) (shown : AreShown base tables) where
       by None none = absurd (true≢false (sym (ap is_some (sym (ap (option_map (λ _. texts_at base e.0)) none) ∙ sym (shown e.0) ∙ there))))
 
 -- tables that took the rows of a base in which the same triggers are attached show that base
-pub shown_again : (old new : Base) (before now : Tables) → new.triggers ≡ old.triggers → AreShown old before → ((id : ℕ) → finite.get now id ≡ option_map (λ _. texts_at new id) (finite.get before id)) → AreShown new now
+pub shown_again : (old new : Base) (before now : TextsById) → new.triggers ≡ old.triggers → AreShown old before → ((id : ℕ) → finite.get now id ≡ option_map (λ _. texts_at new id) (finite.get before id)) → AreShown new now
 shown_again old new before now same shown taken id =
     taken id ∙ ap (option_map (λ _. texts_at new id)) (shown id) ∙ twice (finite.get old.triggers id) ∙ ap (λ (t : Triggers). option_map (λ _. texts_at new id) (finite.get t id)) (sym same)
   where
@@ -155,7 +155,7 @@ shown_again old new before now same shown taken id =
     twice (Some hist) = refl
 
 -- tables of the attached triggers that took the rows of the base show it
-pub shown_at_last : (base : Base) (before now : Tables) → AreAttached base before → ((id : ℕ) → finite.get now id ≡ option_map (λ _. texts_at base id) (finite.get before id)) → AreShown base now
+pub shown_at_last : (base : Base) (before now : TextsById) → AreAttached base before → ((id : ℕ) → finite.get now id ≡ option_map (λ _. texts_at base id) (finite.get before id)) → AreShown base now
 shown_at_last base before now attached taken id = taken id ∙ by (finite.get before id) (finite.get base.triggers id) (attached id)
   where
     by : (o : Option Texts) (p : Option Hist) → is_some o ≡ is_some p → option_map (λ _. texts_at base id) o ≡ option_map (λ _. texts_at base id) p
@@ -165,7 +165,7 @@ shown_at_last base before now attached taken id = taken id ∙ by (finite.get be
     by (Some texts) None both = absurd (true≢false both)
 
 -- tables that show a base are those of its triggers
-pub shown_attached : (base : Base) (tables : Tables) → AreShown base tables → AreAttached base tables
+pub shown_attached : (base : Base) (tables : TextsById) → AreShown base tables → AreAttached base tables
 shown_attached base tables shown id = ap is_some (shown id) ∙ by (finite.get base.triggers id)
   where
     by : (o : Option Hist) → is_some (option_map (λ _. texts_at base id) o) ≡ is_some o
@@ -198,7 +198,7 @@ module _ (among : RowIsAmong) (old new : Base) (same : new.triggers ≡ old.trig
       by false counts = is_held.all id hist attached counts key apart_held
 
 -- what an accepted edit names, it names of the tables that showed the base before it
-pub names_rows : RowIsAmong → (old new : Base) (edited : Edited) (tables : Tables) → new.triggers ≡ old.triggers → AreShown old tables
+pub names_rows : RowIsAmong → (old new : Base) (edited : Edited) (tables : TextsById) → new.triggers ≡ old.triggers → AreShown old tables
     → IfSome edited.report (λ rows. IsReport old new rows.items) → IfSome edited.made (λ rows. IsMadeReport old new rows.items)
     → AllByRecursion (NamesRows edited new) (finite.entries tables)
 names_rows among old new edited tables same shown reports makes =
@@ -212,9 +212,9 @@ names_rows among old new edited tables same shown reports makes =
     of_edited (Some held) (Some made) reports makes id hist attached = λ key. row_stays among old new same held.items made.items reports makes id hist attached key
 
 -- where nothing is attached, no tables show all
-pub shown_empty : (base : Base) (tables : Tables) → base ≡ empty_base → tables ≡ finite.empty → AreShown base tables
+pub shown_empty : (base : Base) (tables : TextsById) → base ≡ empty_base → tables ≡ finite.empty → AreShown base tables
 shown_empty base tables empty none id =
-    ap (λ (t : Tables). finite.get t id) none ∙ get-empty nat_cmp id
+    ap (λ (t : TextsById). finite.get t id) none ∙ get-empty nat_cmp id
     ∙ sym (ap (λ (b : Base). option_map (λ _. texts_at base id) (finite.get b.triggers id)) empty ∙ ap (option_map (λ _. texts_at base id)) (get-empty nat_cmp id))
 
 -- ---- rows that are taken from the end

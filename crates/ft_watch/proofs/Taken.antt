@@ -9,16 +9,16 @@ use Rattle.std.specs.FinMap.{find, get-empty, get-insert, get-entries, nat_cmp-I
 use Rattle.std.proofs.lemmas.List.Sums.{sum_by-cons}
 use Rattle.ft_maps.specs.Entries.{same_from_tie}
 use Rattle.ft_answers.specs.Base.{Base}
-use Rattle.ft_watch.specs.Changes.{Texts, texts_at, table_lines, changed_keys}
-use Rattle.ft_watch.specs.inner.Told.{Told, Tables, with_table, lines_since, count_since}
+use Rattle.ft_watch.specs.ChangedRows.{Texts, texts_at, table_lines, changed_keys}
+use Rattle.ft_watch.specs.inner.Told.{ChangedLines, TextsById, with_table, lines_since, count_since}
 
 module _ (base : Base) where
   -- tables with the rows that these show now
-  pub taken : Tables → List (ℕ × Texts) → Tables
+  pub taken : TextsById → List (ℕ × Texts) → TextsById
   taken tables [] = tables
   taken tables (e ∷ es) = taken (finite.insert tables e.0 (texts_at base e.0)) es
 
-  get-taken : (tables : Tables) (es : List (ℕ × Texts)) (q : ℕ) → finite.get (taken tables es) q ≡ cond (is_some (find nat_cmp q es)) (Some (texts_at base q)) (finite.get tables q)
+  get-taken : (tables : TextsById) (es : List (ℕ × Texts)) (q : ℕ) → finite.get (taken tables es) q ≡ cond (is_some (find nat_cmp q es)) (Some (texts_at base q)) (finite.get tables q)
   unfolding taken
   get-taken tables [] q = refl
   get-taken tables (e ∷ es) q =
@@ -33,7 +33,7 @@ module _ (base : Base) where
       by false there apart is = ap (λ t. cond t (Some (texts_at base q)) (finite.get tables q)) (sym is)
 
   -- all of them
-  pub all_taken : (old : Tables) (q : ℕ) → finite.get (taken finite.empty (finite.entries old)) q ≡ option_map (λ _. texts_at base q) (finite.get old q)
+  pub all_taken : (old : TextsById) (q : ℕ) → finite.get (taken finite.empty (finite.entries old)) q ≡ option_map (λ _. texts_at base q) (finite.get old q)
   all_taken old q =
       get-taken finite.empty (finite.entries old) q
       ∙ ap (λ o. cond (is_some o) (Some (texts_at base q)) (finite.get (finite.empty {X = Texts} {R = nat_cmp}) q)) (sym (get-entries old q))
@@ -45,11 +45,11 @@ module _ (base : Base) where
       by (Some texts) = refl
 
   -- what is told of tables, one after the other
-  pub told_tables : List (ℕ × Texts) → Told → Told
+  pub told_tables : List (ℕ × Texts) → ChangedLines → ChangedLines
   told_tables [] told = told
   told_tables (e ∷ es) told = told_tables es (with_table e.0 e.1 (texts_at base e.0) told)
 
-  pub told_tables-is : (es : List (ℕ × Texts)) (told : Told) → told_tables es told ≡ record { lines = told.lines ++ lines_since es base; count = told.count + count_since es base }
+  pub told_tables-is : (es : List (ℕ × Texts)) (told : ChangedLines) → told_tables es told ≡ record { lines = told.lines ++ lines_since es base; count = told.count + count_since es base }
   unfolding told_tables
   told_tables-is [] told =
       let lines = sym (append-nil told.lines) in
@@ -64,20 +64,20 @@ module _ (base : Base) where
 
 module _ (base : Base) (id : ℕ) (texts : Texts) (es rest : List (ℕ × Texts)) (first : es ≡ (id, texts) ∷ rest) where
   -- one table more
-  pub taken_more : (tables new all : Tables) → new ≡ finite.insert tables id (texts_at base id) → taken base tables es ≡ all → taken base new rest ≡ all
+  pub taken_more : (tables new all : TextsById) → new ≡ finite.insert tables id (texts_at base id) → taken base tables es ≡ all → taken base new rest ≡ all
   unfolding taken
   taken_more tables new all is so_far = ap (λ t. taken base t rest) is ∙ sym (ap (taken base tables) first) ∙ so_far
 
-  pub told_more : (told new all : Told) → new ≡ with_table id texts (texts_at base id) told → told_tables base es told ≡ all → told_tables base rest new ≡ all
+  pub told_more : (told new all : ChangedLines) → new ≡ with_table id texts (texts_at base id) told → told_tables base es told ≡ all → told_tables base rest new ≡ all
   unfolding told_tables
   told_more told new all is so_far = ap (told_tables base rest) is ∙ sym (ap (λ l. told_tables base l told) first) ∙ so_far
 
 module _ (base : Base) (es : List (ℕ × Texts)) (none : es ≡ []) where
   -- none is left
-  pub taken_at_last : (old tables : Tables) → taken base tables es ≡ taken base finite.empty (finite.entries old) → (q : ℕ) → finite.get tables q ≡ option_map (λ _. texts_at base q) (finite.get old q)
+  pub taken_at_last : (old tables : TextsById) → taken base tables es ≡ taken base finite.empty (finite.entries old) → (q : ℕ) → finite.get tables q ≡ option_map (λ _. texts_at base q) (finite.get old q)
   unfolding taken
-  taken_at_last old tables so_far q = ap (λ (t : Tables). finite.get t q) (sym (ap (taken base tables) none) ∙ so_far) ∙ all_taken base old q
+  taken_at_last old tables so_far q = ap (λ (t : TextsById). finite.get t q) (sym (ap (taken base tables) none) ∙ so_far) ∙ all_taken base old q
 
-  pub told_at_last : (old : List (ℕ × Texts)) (told start : Told) → told_tables base es told ≡ told_tables base old start → told ≡ record { lines = start.lines ++ lines_since old base; count = start.count + count_since old base }
+  pub told_at_last : (old : List (ℕ × Texts)) (told start : ChangedLines) → told_tables base es told ≡ told_tables base old start → told ≡ record { lines = start.lines ++ lines_since old base; count = start.count + count_since old base }
   unfolding told_tables
   told_at_last old told start so_far = sym (ap (λ l. told_tables base l told) none) ∙ so_far ∙ told_tables-is base old start

@@ -1,3 +1,3 @@
-pub mod Changes
+pub mod ChangedRows
 pub mod Watched
 pub mod inner

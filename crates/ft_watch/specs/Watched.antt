@@ -3,7 +3,7 @@ use Rattle.std.specs.Prelude.{ℕ, List, ◌++◌, if◌then◌else◌}
 use Rattle.ft_answers.specs.Base.{Base}
 use Rattle.ft_script.specs.Script.{Asked}
 use Rattle.ft_desk.specs.Output.{Outcome, Meaning, outcome}
-use Rattle.ft_watch.specs.Changes.{changes_text}
+use Rattle.ft_watch.specs.ChangedRows.{changes_text}
 
 -- an edit that was accepted prints also which rows it changed
 abbrev pub told : Base → Outcome → Outcome

@@ -2,13 +2,13 @@
 
 ghost use Rattle.std.specs.Prelude.{◌≡◌, ◌||◌, List, IfOk, OnOk, is_some};
 ghost use Rattle.std.specs.FinMap as map;
-ghost use Rattle.ft_keys.specs.declared.key.Part.{Part};
-ghost use Rattle.ft_keys.specs.Parts.{key_cmp};
+ghost use Rattle.ft_fields.specs.declared.key.Part.{Part};
+ghost use Rattle.ft_fields.specs.Parts.{key_cmp};
 ghost use Rattle.ft_maps.specs.Seen.{seen};
 ghost use Rattle.ft_changes.specs.Reports.{is_reported};
 
 use ft_desk::Changed;
-use ft_keys::Key;
+use ft_fields::Key;
 use ft_maps::{entries, put};
 use std::alloc::{AllocError, Global};
 use std::collections::BTreeMap;

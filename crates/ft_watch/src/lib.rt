@@ -16,7 +16,7 @@
 //!
 //! - `Watch`, a `Session`, over every board: `watched` (`specs/Watched.antt`). A command means what
 //!   it means to a desk. An accepted insert or strike prints also `changes_text` of the bases
-//!   before and after it (`specs/Changes.antt`): of each attached trigger in order of id, and of
+//!   before and after it (`specs/ChangedRows.antt`): of each attached trigger in order of id, and of
 //!   each key of its rows before or after in order, a `-` line of the row that was and a `+` line
 //!   of the row that is, where they differ; and then `changed N`, N the number of these rows.
 //!   Exact, whatever rows the board names. Lets through: running out of memory at any time, after
@@ -28,11 +28,11 @@
 //!   standard error.
 #![tactic(auto)]
 
-mod changes;
 mod keys;
+mod known_rows;
+mod known_tables;
 mod program;
-mod table;
-mod tables;
+mod signed_lines;
 mod watch;
 
 pub use program::{histwatch, run_watch};

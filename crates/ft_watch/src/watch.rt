@@ -6,18 +6,17 @@ ghost use Rattle.ft_answers.specs.Base.{empty_base};
 ghost use Rattle.ft_script.specs.Script.{asked_by};
 ghost use Rattle.ft_script.specs.Script.Asked.{About};
 ghost use Rattle.ft_script.specs.declared.script.Numbered.TheVariants.{Remove};
-ghost use Rattle.ft_printed.specs.Answered.{numbered};
+ghost use Rattle.ft_script.specs.Answered.{lane_place_text};
 ghost use Rattle.ft_desk.specs.Edits.{after_insert_text, after_attach_text};
 ghost use Rattle.ft_desk.specs.Output.{outcome, edit_outcome};
 ghost use Rattle.ft_desk.specs.inner.Printed.{Prints};
 ghost use Rattle.ft_watch.specs.Watched.{told, watched};
 ghost use Rattle.ft_watch.specs.inner.Told.{KeepsIds, AsksNoEdit};
 
-use crate::tables::{Known, Tables};
+use crate::known_tables::{Known, KnownTables};
 use ft_answers::rows_make_the_text;
 use ft_desk::{Board, Desk, Name, Performed, Session, perform, refused};
-use ft_printed::done_line;
-use ft_script::{Command, Numbered, read_command};
+use ft_script::{Command, Numbered, done_line, read_command};
 use std::alloc::{AllocError, Global};
 use std::marker::Model;
 
@@ -29,7 +28,7 @@ use std::marker::Model;
 pub struct Watch<B: Board> {
     desk: Desk<B>,
     alloc: Global,
-    tables: Tables,
+    tables: KnownTables,
 }
 
 impl<B: Board> Model for Watch<B> {
@@ -77,7 +76,7 @@ impl<B: Board> Watch<B> {
         Watch {
             desk: Desk::new(alloc, board),
             alloc,
-            tables: Tables::new(alloc),
+            tables: KnownTables::new(alloc),
         }
     }
 
@@ -100,7 +99,7 @@ impl<B: Board> Watch<B> {
 
     /// Inserts the event of a trace line.
     fn insert(&mut self, text: &[u8]) -> Result<Performed, AllocError>
-        ensures { Prints (told self.old.base (edit_outcome numbered self.old.base (codes "inserted ")
+        ensures { Prints (told self.old.base (edit_outcome lane_place_text self.old.base (codes "inserted ")
             (after_insert_text self.old.base text.now))) self.new.base result }
     {
         rows_make_the_text();
@@ -115,7 +114,7 @@ impl<B: Board> Watch<B> {
 
     /// Strikes the event of a CPU's line.
     fn strike(&mut self, cpu: u32, number: u32) -> Result<Performed, AllocError>
-        ensures { Prints (told self.old.base (edit_outcome numbered self.old.base (codes "struck ")
+        ensures { Prints (told self.old.base (edit_outcome lane_place_text self.old.base (codes "struck ")
             (after_strike self.old.base cpu number))) self.new.base result }
     {
         rows_make_the_text();

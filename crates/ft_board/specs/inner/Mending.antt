@@ -2,10 +2,13 @@
 use Rattle.std.specs.Prelude.{◌≡◌, ℕ, false, List, Option, IfSome}
 use Rattle.std.specs.Ordering.{nat_cmp, eq_by_cmp}
 use Rattle.std.specs.FinMap as map
+use Rattle.ft_hist.specs.Hist.{Hist}
 use Rattle.ft_changes.specs.Findings.{Findings, Lead}
 use Rattle.ft_changes.specs.declared.changed.ReadingChange.{ReadingChange}
+use Rattle.ft_table.specs.Tabled.{Tabled}
 use Rattle.ft_base.specs.Base.{Triggers}
 use Rattle.ft_replay.specs.Merged.{Events, merged}
+use Rattle.ft_made.specs.Turning.{CanTurn, HasTurned}
 use Rattle.ft_board.specs.MadeShelves.{MadeTables, AreMadeBy}
 use Rattle.ft_board.specs.declared.mend.Mending.{Mending}
 
@@ -30,8 +33,8 @@ pub record CanMendTo (triggers : Triggers) (events : Events) (told : Option (Lis
   pub lead : IfSome told (λ changes. Lead changes found now)
 
 -- one table may change, and those of other ids stay
-abbrev pub OthersStay : ℕ → MadeTables → MadeTables → Type 0
-OthersStay id old new = (other : ℕ) → eq_by_cmp nat_cmp other id ≡ false → map.get new other ≡ map.get old other
+abbrev pub OtherTablesStay : ℕ → MadeTables → MadeTables → Type 0
+OtherTablesStay id old new = (other : ℕ) → eq_by_cmp nat_cmp other id ≡ false → map.get new other ≡ map.get old other
 
 -- ---- by what they are mended by
 
@@ -42,3 +45,11 @@ triggers_in mending = mending.content.now.triggers
 -- the held events
 abbrev pub events_in : Mending → Events
 events_in mending = merged mending.content.now.lanes
+
+-- a trigger's table is made of what readings found, from which the changes lead on
+abbrev pub CanTurnBy : Mending → Hist → Tabled → Type 0
+CanTurnBy mending = CanTurn (triggers_in mending) (events_in mending) mending.changes.now
+
+-- it is turned to what the changes lead to
+abbrev pub HasTurnedBy : Mending → Hist → Tabled → Tabled → Type 0
+HasTurnedBy mending = HasTurned (triggers_in mending) (events_in mending) mending.changes.now

@@ -5,7 +5,7 @@ use Rattle.ft_changes.specs.declared.changed.Changed.{Changed}
 use Rattle.ft_kept.specs.Changes.{AreFew, HitsStayBut}
 use Rattle.ft_kept.specs.Shelves.{Shelves, FormsStay, role_on}
 use Rattle.ft_kept.specs.declared.changes.KeyChange.{KeyChange}
-use Rattle.ft_report.specs.Report.{report_of}
+use Rattle.ft_kept.specs.Report.{report_of}
 use Rattle.ft_base.specs.Base.{Base, Triggers}
 use Rattle.ft_answers.specs.Reporting.{IsReport}
 use Rattle.ft_repair.specs.KeptShelves.{AreKeptOf}

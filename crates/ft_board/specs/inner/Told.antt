@@ -16,12 +16,12 @@ use Rattle.ft_replay.specs.Tally.{tally_of}
 use Rattle.ft_board.specs.declared.answers.TableOf.{TableOf}
 
 -- what is kept of a trigger tells what replaying tells of it, and its hits' keys fit its key items
-pub record Tells (base : Base) (id : ℕ) (hist : Hist) (shelf : Shelved) : Type 0 where
+pub record ShelfTells (base : Base) (id : ℕ) (hist : Hist) (shelf : Shelved) : Type 0 where
   pub tally : tally_at base.triggers (merged base.lanes) id ≡ tally_of shelf.table (pairs_in shelf.readings)
   pub fit : AllFit shelf.table hist
 
 -- a table tells what is shown of a trigger, and its hits' keys fit the trigger's key items
-pub record TellsAll (base : Base) (id : ℕ) (hist : Hist) (table : Tabled) : Type 0 where
+pub record TableTells (base : Base) (id : ℕ) (hist : Hist) (table : Tabled) : Type 0 where
   pub pairs : List Pair
   pub tally : tally_shown base.triggers (merged base.lanes) id hist ≡ tally_of table pairs
   pub fit : AllFit table hist

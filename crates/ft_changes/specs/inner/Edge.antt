@@ -1,7 +1,7 @@
 -- Both sides of a place in an order of marks.
 use Rattle.std.specs.Prelude.{ℕ, not, List, take, map as list_map}
 use Rattle.std.specs.List.{filter}
-use Rattle.ft_keys.specs.declared.key.Part.{Part}
+use Rattle.ft_fields.specs.declared.key.Part.{Part}
 use Rattle.ft_hits.specs.declared.mark.Mark.{Mark}
 use Rattle.ft_changes.specs.Rivals.{is_of}
 

@@ -1,7 +1,7 @@
 -- How the program ends, by what its words name and what is told of its files. All of it is our own choice.
 use Rattle.std.specs.Prelude.{◌≡◌, ⊤, ℕ, List, [], ◌∷◌, ◌++◌, Option, Some, None, Result, Ok, Err}
 use Rattle.std.specs.Option.{option_map_or}
-use Rattle.ft_script.specs.Files.{Told, Bytes, Missing, Untold}
+use Rattle.ft_script.specs.Files.{FileAt, Bytes, Missing, Untold}
 use Rattle.ft_script.specs.Words.{Named}
 use Rattle.ft_desk.specs.declared.running.Status.{Status}
 use Rattle.ft_desk.specs.declared.program.Fault.{Fault}
@@ -11,13 +11,13 @@ use Rattle.ft_desk.specs.Program.{TellsFiles, FailsFirst}
 use Rattle.ft_desk.specs.Run.{status_of}
 
 -- the status of a script that has these bytes, where they are told
-abbrev pub StatusTells : Meaning → Told → Status → Type 0
+abbrev pub StatusTells : Meaning → FileAt → Status → Type 0
 StatusTells means (Bytes script) status = status ≡ status_of (output_by means script).refused
 StatusTells means Missing status = ⊥
 StatusTells means Untold status = ⊤
 
 -- a script's status, or a fault of a run
-abbrev pub RunTells : Meaning → Told → Result Status Fault → Type 0
+abbrev pub RunTells : Meaning → FileAt → Result Status Fault → Type 0
 RunTells means script (Ok status) = StatusTells means script status
 RunTells means script (Err Memory) = ⊤
 RunTells means script (Err Read) = ⊤
@@ -26,7 +26,7 @@ RunTells means script (Err Words) = ⊥
 RunTells means script (Err (File path)) = ⊥
 
 -- what is told of a script: nothing of standard input
-abbrev pub told_of_script : (List ℕ → Told) → Option (List ℕ) → Told
+abbrev pub told_of_script : (List ℕ → FileAt) → Option (List ℕ) → FileAt
 told_of_script told (Some path) = told path
 told_of_script told None = Untold
 
@@ -35,11 +35,11 @@ abbrev pub paths_of : Named → List (List ℕ)
 paths_of words = words.traces ++ option_map_or (λ path. path ∷ []) words.script []
 
 -- the script that the words name is run with the files at the paths that they name
-abbrev pub Runs : (List (List ℕ) → Meaning) → (List ℕ → Told) → Option Named → Result Status Fault → Type 0
+abbrev pub Runs : (List (List ℕ) → Meaning) → (List ℕ → FileAt) → Option Named → Result Status Fault → Type 0
 Runs means told named result = (words : Named) × (files : List (List ℕ)) × (named ≡ Some words) × TellsFiles told words.traces files × RunTells (means files) (told_of_script told words.script) result
 
 -- how the program ends: words that name nothing are refused, the first path that cannot be read is told, and else the script is run
-abbrev pub ProgramEnds : (List (List ℕ) → Meaning) → (List ℕ → Told) → Option Named → Result Status Fault → Type 0
+abbrev pub ProgramEnds : (List (List ℕ) → Meaning) → (List ℕ → FileAt) → Option Named → Result Status Fault → Type 0
 ProgramEnds means told named (Err Memory) = ⊤
 ProgramEnds means told named (Err Words) = named ≡ None
 ProgramEnds means told named (Err (File path)) = (words : Named) × (named ≡ Some words) × FailsFirst told (paths_of words) path.now

@@ -2,15 +2,14 @@
 
 use ft_base::AttachedTrigger;
 use ft_changes::Changed;
-use ft_fields::{Event, Name, Pos};
-use ft_keys::{Key, Part};
+use ft_fields::{Event, Key, Name, Part, Pos};
 use ft_lanes::Lanes;
 use ft_layout::{
     ChangedLayout, EventLayout, LatencyLayout, PlaceLayout, RowLayout, TriggerLayout, copy_bytes,
     copy_changed, copy_events, copy_latencies, copy_places, copy_rows, copy_triggers,
 };
 use ft_replay::Pair;
-use ft_rows::Row;
+use ft_table::Row;
 use std::test::*;
 
 #[test]

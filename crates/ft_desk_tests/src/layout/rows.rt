@@ -1,10 +1,9 @@
 //! Rows, totals and changed rows.
 
 use ft_changes::Changed;
-use ft_fields::Comm;
-use ft_keys::{Key, Part};
+use ft_fields::{Comm, Key, Part};
 use ft_layout::{ChangedLayout, KeyLayout, PartLayout, ReportLayout, RowLayout, TotalsLayout};
-use ft_rows::{Row, Totals};
+use ft_table::{Row, Totals};
 use std::mem::size_of;
 use std::test::*;
 

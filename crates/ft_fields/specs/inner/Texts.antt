@@ -3,5 +3,5 @@ use Rattle.ft_fields.specs.Fields.{Row}
 use Rattle.ft_fields.specs.declared.field.Row as declared_row
 
 -- the row that a `Row` of the code says
-abbrev pub row_text : declared_row.Row → Row
-row_text r = record { name = r.name.now; owner = r.owner; kind = r.kind }
+abbrev pub as_row : declared_row.Row → Row
+as_row r = record { name = r.name.now; owner = r.owner; kind = r.kind }

@@ -29,5 +29,5 @@ GivesTree R (Ok parsed) = R (Found (tree_of parsed.expr) parsed.rest.now)
 GivesTree R (Err fault) = (fault ≡ Memory) ⊎ R (Stop fault)
 
 -- a first operand with those after it
-abbrev pub GoesOn : Name → ℕ → Joint → ℕ → Tree → List ℕ → Read Tree → Type 0
-GoesOn event whole joint room tree rest read = (more : Read Trees) × Goes event whole joint room rest more × (read ≡ made (joined joint tree) more)
+abbrev pub OperandsFollow : Name → ℕ → Joint → ℕ → Tree → List ℕ → Read Tree → Type 0
+OperandsFollow event whole joint room tree rest read = (more : Read Trees) × Goes event whole joint room rest more × (read ≡ made (joined joint tree) more)

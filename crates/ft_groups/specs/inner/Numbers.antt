@@ -8,7 +8,7 @@ use Rattle.ft_fields.specs.declared.field.Field.{Field}
 use Rattle.ft_hist.specs.declared.item.KeyItem.{KeyItem}
 use Rattle.ft_hist.specs.Hist.{Hist}
 use Rattle.ft_hist.specs.Hit.{same_name}
-use Rattle.ft_store.specs.Stored.{bare, number_of}
+use Rattle.ft_store.specs.Stored.{bare, field_number}
 
 -- the key item is of a field that holds a text
 abbrev pub asks_text : KeyItem → Bool
@@ -29,9 +29,9 @@ only_field (item ∷ []) = Some item.field
 only_field (item ∷ other ∷ items) = None
 
 -- the field whose number alone tells the key of each of the trigger's events: it has no filter, and no other key
-abbrev pub number_field : Hist → Option Field
-number_field hist = if asks_numbers hist then only_field hist.keys else None
+abbrev pub number_key_field : Hist → Option Field
+number_key_field hist = if asks_numbers hist then only_field hist.keys else None
 
 -- the number that alone tells the key of an event, where the trigger is on its name
 abbrev pub counted_by : Hist → Traced → Option ℤ
-counted_by hist event = if same_name hist.event (name_of event.body) then option_and_then (number_of event) (number_field hist) else None
+counted_by hist event = if same_name hist.event (name_of event.body) then option_and_then (field_number event) (number_key_field hist) else None

@@ -3,7 +3,7 @@ use Rattle.std.specs.Prelude.{◌≡◌, ◌++◌, ℕ, List, [], ◌∷◌, Opt
 use Rattle.ft_changes.specs.Findings.{Lead}
 use Rattle.ft_changes.specs.declared.changed.ReadingChange.{ReadingChange}
 use Rattle.ft_hits.specs.declared.mark.Mark.{Mark}
-use Rattle.ft_keys.specs.declared.key.Part.{Part}
+use Rattle.ft_fields.specs.declared.key.Part.{Part}
 use Rattle.ft_pairs.specs.declared.role.Role.TheVariants.{Reads}
 use Rattle.ft_pairs.specs.declared.role.Variable.{Variable}
 use Rattle.ft_shelves.specs.Following.{Moves}

@@ -111,12 +111,12 @@ abbrev pub Each : {X : Type 0} → (X → Type 0) → FinMap nat_cmp X → Type 
 Each {X = X} P m = (k : ℕ) (v : X) → map.get m k ≡ Some v → P v
 
 -- slots are places of a store of this length
-abbrev pub IsWithin : ℕ → SlotsOf → Type 0
-IsWithin n slots = Each (λ place. place < n) slots.places
+abbrev pub SlotsAreWithin : ℕ → SlotsOf → Type 0
+SlotsAreWithin n slots = Each (λ place. place < n) slots.places
 
 -- all slots are places of a store of this length
 abbrev pub AreWithin : ℕ → AllSlots → Type 0
-AreWithin n all = Each (IsWithin n) all
+AreWithin n all = Each (SlotsAreWithin n) all
 
 -- how many slots there are together
 abbrev pub slots_in : AllSlots → ℕ

@@ -24,15 +24,14 @@ fn made(alloc: Global) -> Option<Trigger> {
     .ok()?;
     let variable = Some(Var::Saves(Label::of(alloc, b"ts0").ok()?));
     let filter = ft_filter::parse(alloc, b"prio<100", Name::Waking).ok()?;
-    Some(Trigger::of(
-        Name::Waking,
+    let parts = TriggerParts {
         keys,
         values,
         sort,
         variable,
-        256,
-        Some(filter),
-    ))
+        size: 256,
+    };
+    Some(Trigger::of(Name::Waking, parts, Some(filter)))
 }
 
 /// Whether the trigger's variable has that name.

@@ -46,8 +46,14 @@ fn trigger_of(alloc: Global, values: &[Item], variable: Option<Var>) -> Result<T
         what: SortBy::Hits,
         descending: false,
     })?;
-    let name = Name::Switch;
-    Ok(Trigger::of(name, keys, value_items, sort, variable, 2048, None))
+    let parts = TriggerParts {
+        keys,
+        values: value_items,
+        sort,
+        variable,
+        size: 2048,
+    };
+    Ok(Trigger::of(Name::Switch, parts, None))
 }
 
 /// A trigger that sums two fields and its own variable.

@@ -9,7 +9,7 @@ ghost use Rattle.ft_kept.specs.Signs.{event_after};
 ghost use Rattle.ft_maps.specs.Seen.{seen};
 
 use ft_event::{Body, Comm, Event, Name, Pos, Turn, Wake};
-use ft_hist::{Key, Part, Trigger, Work};
+use ft_hist::{Key, Part, Triggers, Work};
 use ft_kept::{Changes, Delta, Scene, Sign, Tables};
 use ft_lanes::Lanes;
 use ft_maps::{get, len, put, take};
@@ -78,14 +78,13 @@ pub(super) struct Shown {
 /// that have come. A table has room for two keys.
 #[derive(Drop)]
 pub(super) struct Trial {
-    triggers: BTreeMap<u32, Trigger>,
+    triggers: Triggers,
     lanes: Lanes,
     tables: Tables,
     come: BTreeMap<Pos, Event>,
 }
 
 impl Model for Trial {
-    ghost use Rattle.std.specs.Ordering.{nat_cmp};
     ghost use Rattle.ft_fields.specs.Places.{pos_cmp};
     ghost use Rattle.ft_maps.specs.Seen.{seen};
     ghost use Rattle.ft_kept.specs.Codes.{shelves_code};
@@ -98,16 +97,15 @@ impl Model for Trial {
 
     ghost view = { λ t. t.tables };
 
-    ghost invariant = { λ t. AreRight (seen nat_cmp t.triggers) t.lanes
-        (seen pos_cmp t.come) t.tables };
+    ghost invariant = { λ t. AreRight t.triggers t.lanes (seen pos_cmp t.come) t.tables };
 }
 
 impl Trial {
     /// What happens on CPU 0, held from line 1 on. None of it has come.
     pub(super) fn of(alloc: Global, events: &[What]) -> Result<Trial, Fail> {
-        let mut triggers = BTreeMap::new(alloc);
-        put(&mut triggers, SAVER, parse(alloc, Name::Waking, SAVES)?)?;
-        put(&mut triggers, READER, parse(alloc, Name::Switch, READS)?)?;
+        let mut triggers = Triggers::new(alloc);
+        triggers.insert(SAVER, parse(alloc, Name::Waking, SAVES)?)?;
+        triggers.insert(READER, parse(alloc, Name::Switch, READS)?)?;
         let mut tables = Tables::new(alloc);
         tables.add(SAVER, Role::Saves, 2)?;
         tables.add(READER, Role::Reads(SAVER), 2)?;

@@ -4,7 +4,7 @@ ghost use Rattle.std.specs.Prelude.{◌≡◌, ◌≤◌, IfOk};
 
 use crate::holds::holds;
 use ft_event::{Body, Comm, Event, Field, Name, Pos, Wake};
-use ft_hist::{Item, Key, KeyItem, Mode, Part, SortBy, SortItem, Trigger};
+use ft_hist::{Item, Key, KeyItem, Mode, Part, SortBy, SortItem, Trigger, TriggerParts};
 use ft_table::{Spot, hit_with};
 use std::alloc::{AllocError, Global};
 use std::test::*;
@@ -54,7 +54,14 @@ fn by_pid(alloc: Global) -> Result<Trigger, AllocError> {
         what: SortBy::Hits,
         descending: false,
     })?;
-    Ok(Trigger::of(Name::Waking, keys, values, sort, None, 128, None))
+    let parts = TriggerParts {
+        keys,
+        values,
+        sort,
+        variable: None,
+        size: 128,
+    };
+    Ok(Trigger::of(Name::Waking, parts, None))
 }
 
 /// Whether a trigger's hit at that waking has its place, its key and its values.

@@ -8,7 +8,7 @@ ghost use Rattle.ft_table.specs.Rows.{AllFit};
 
 use super::*;
 use ft_event::{Body, Comm, Event, Field, Name, Wake};
-use ft_hist::{Item, KeyItem, Mode, Trigger, fitting_parts};
+use ft_hist::{Item, KeyItem, Mode, Trigger, TriggerParts, fitting_parts};
 
 /// The rows of the first two of three keys in hexadecimal, the greatest sum first.
 const TWO_OF_THREE: &[u8] = b"{ pid: a } hitcount:          2  prio:        240
@@ -38,8 +38,14 @@ fn trigger_of(
     value_items.extend_from_slice(values)?;
     let mut sort_items = Vec::new(alloc);
     sort_items.push(sort)?;
-    let name = Name::Waking;
-    Ok(Trigger::of(name, key_items, value_items, sort_items, None, 2048, None))
+    let parts = TriggerParts {
+        keys: key_items,
+        values: value_items,
+        sort: sort_items,
+        variable: None,
+        size: 2048,
+    };
+    Ok(Trigger::of(Name::Waking, parts, None))
 }
 
 /// A waking of such a PID, with priority 120.

@@ -11,7 +11,7 @@ abbrev pub ends_task : List ℕ → ℕ → Bool
 ends_task text at = slice_index text at == 45 && is_digit (slice_index text (at + 1))
 
 -- the line is short enough, and neither a comment nor one of lost events
-pub record IsPlain (line : List ℕ) : Type 0 where
+pub record IsEventLine (line : List ℕ) : Type 0 where
   pub short : length line ≤ 4096
   pub comment : slice_index line 0 ≡ 35 → ⊥
   pub lost : IsLost line → ⊥

@@ -12,7 +12,7 @@ abbrev pub IsMarks : (ℕ → Bool) → ℕ → Type 0
 IsMarks p marks = (k : ℕ) → k < 64 → bit_at marks k ≡ if p k then 1 else 0
 
 -- the first marked place from here on
-pub record IsNext (marks from at : ℕ) : Type 0 where
+pub record IsNextMark (marks from at : ℕ) : Type 0 where
   pub low : from ≤ at
   pub within : at < 64
   pub here : bit_at marks at ≡ 1

@@ -7,13 +7,13 @@ use Rattle.ft_event.specs.Bytes.{is_space}
 use Rattle.ft_event.specs.LineIs.{IsTurn, IsWake, NumberIs, Stops}
 
 -- a name of at most 31 bytes, a label, `=` and the rest; no other `=` stands before this one
-pub record IsName (label text name rest : List ℕ) : Type 0 where
+pub record IsLabelledName (label text name rest : List ℕ) : Type 0 where
   pub joined : text ≡ name ++ (label ++ 61 ∷ rest)
   pub short : length name ≤ 31
   pub bare : Contains name 61 → ⊥
 
 -- a task's name, and after its labels its PID and its priority, and the rest
-pub record IsTask (pid_label prio_label text comm : List ℕ) (pid prio : ℤ) (rest : List ℕ) : Type 0 where
+pub record AreTaskParts (pid_label prio_label text comm : List ℕ) (pid prio : ℤ) (rest : List ℕ) : Type 0 where
   pub pid_text : List ℕ
   pub prio_text : List ℕ
   pub joined : text ≡ comm ++ (pid_label ++ 61 ∷ (pid_text ++ (prio_label ++ (prio_text ++ rest))))

@@ -1,4 +1,4 @@
--- What is kept while triggers join: first they get new shelves, and then their acts.
+-- What is kept while triggers join, first by new shelves, then by their acts, and while one leaves.
 use Rattle.std.specs.Prelude.{◌≡◌, ◌==◌, ℕ, Bool, true, false, List, Option, Some, None, if◌then◌else◌}
 use Rattle.std.specs.FinMap as map
 use Rattle.ft_fields.specs.Traced.{Traced}
@@ -15,7 +15,8 @@ use Rattle.ft_base.specs.Base.{Triggers}
 use Rattle.ft_base.specs.Roles.{role_of}
 use Rattle.ft_replay.specs.Merged.{merged}
 use Rattle.ft_replay.specs.Named.{events_on}
-use Rattle.ft_repair.specs.declared.trigger_joins.Joining.{Joining}
+use Rattle.ft_repair.specs.declared.scene.Member.{Member}
+use Rattle.ft_repair.specs.Outside.{acts_outside}
 use Rattle.ft_repair.specs.inner.KeptFor.{AreKeptFor}
 
 -- one trigger alone
@@ -37,20 +38,20 @@ pub record AreRenewed (triggers : Triggers) (family : ℕ → Bool) (old new : S
 -- ---- a trigger gets its acts
 
 -- an attached trigger has no act yet in the input that the shelves are kept for
-pub record CanJoin (joining : Joining) (shelves : Shelves) : Type 0 where
-  pub attached : map.get (triggers_of joining.scene) joining.id ≡ Some joining.trigger.now
-  pub kept : AreKeptFor (triggers_of joining.scene) joining.scene.lanes.now (input_of joining.scene.lanes.now shelves) shelves
-  pub idle : (pos : Pos) → input_of joining.scene.lanes.now shelves (record { pos = pos; trigger = joining.id }) ≡ None
+pub record CanJoin (member : Member) (shelves : Shelves) : Type 0 where
+  pub attached : map.get (triggers_of member.scene) member.id ≡ Some member.trigger.now
+  pub kept : AreKeptFor (triggers_of member.scene) member.scene.lanes.now (input_of member.scene.lanes.now shelves) shelves
+  pub idle : (pos : Pos) → input_of member.scene.lanes.now shelves (record { pos = pos; trigger = member.id }) ≡ None
 
 -- an input with all acts of one trigger
 abbrev pub with_trigger : Triggers → Lanes → ℕ → Acts → Acts
 with_trigger triggers lanes id input at = if is_one id at.trigger then acts_of triggers (merged lanes) at else input at
 
 -- with all its acts the trigger has joined
-abbrev pub HasJoined : Joining → Shelves → Shelves → Type 0
-HasJoined joining old new =
-    AreKeptFor (triggers_of joining.scene) joining.scene.lanes.now
-    (with_trigger (triggers_of joining.scene) joining.scene.lanes.now joining.id (input_of joining.scene.lanes.now old)) new
+abbrev pub HasItsActs : Member → Shelves → Shelves → Type 0
+HasItsActs member old new =
+    AreKeptFor (triggers_of member.scene) member.scene.lanes.now
+    (with_trigger (triggers_of member.scene) member.scene.lanes.now member.id (input_of member.scene.lanes.now old)) new
 
 -- ---- its acts are told by a list of events
 
@@ -61,6 +62,13 @@ pub record HasItsEvents (lanes : Lanes) (hist : Hist) (events : List (Pos × Tra
   pub all : events ≡ map.entries (events_on names (merged lanes))
 
 -- a trigger can join, and a list has its events
-pub record MayJoin (joining : Joining) (events : List (Pos × Traced)) (shelves : Shelves) : Type 0 where
-  pub listed : HasItsEvents joining.scene.lanes.now joining.trigger.now events
-  pub can : CanJoin joining shelves
+pub record CanJoinWith (member : Member) (events : List (Pos × Traced)) (shelves : Shelves) : Type 0 where
+  pub listed : HasItsEvents member.scene.lanes.now member.trigger.now events
+  pub can : CanJoin member shelves
+
+-- ---- a trigger's acts go
+
+-- without any of its acts the trigger has left
+abbrev pub HasLeft : Member → Shelves → Type 0
+HasLeft member shelves =
+    AreKeptFor (triggers_of member.scene) member.scene.lanes.now (acts_outside (is_one member.id) (triggers_of member.scene) member.scene.lanes.now) shelves

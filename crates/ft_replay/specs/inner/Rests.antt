@@ -21,20 +21,20 @@ lines_from None behind = []
 lines_from (Some first) behind = first ∷ behind
 
 -- a place, and the event that a reference into a store points to
-abbrev pub entry_of : Pos × Stored → Pos × Traced
-entry_of entry = (entry.0, held entry.1)
+abbrev pub traced_entry : Pos × Stored → Pos × Traced
+traced_entry entry = (entry.0, held entry.1)
 
 -- those of some names
 abbrev pub with_names : Names → List (Pos × Traced) → List (Pos × Traced)
 with_names names entries = filter (λ entry. has_name names (name_of entry.1.body)) entries
 
 -- what is listed, and those of some names that are left
-abbrev pub listed : Names → List (Pos × Stored) → List (Pos × Traced) → List (Pos × Traced)
-listed names events left = entries_by held events ++ with_names names left
+abbrev pub listed_and_left : Names → List (Pos × Stored) → List (Pos × Traced) → List (Pos × Traced)
+listed_and_left names events left = entries_by held events ++ with_names names left
 
 -- all that is left, lane by lane
-abbrev pub left_in : List (List (Pos × Traced)) → List (Pos × Traced)
-left_in rests = flat_map itself rests
+abbrev pub entries_left : List (List (Pos × Traced)) → List (Pos × Traced)
+entries_left rests = flat_map itself rests
 
 -- one entry is taken out of a list
 pub record IsTaken (old : List (Pos × Traced)) (entry : Pos × Traced) (new : List (Pos × Traced)) : Type 0 where

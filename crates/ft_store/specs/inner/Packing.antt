@@ -67,12 +67,12 @@ packed begins event = record {
 }
 
 -- an event whose names begin at a place of the text
-abbrev pub placed : ℕ → Packed → Packed
-placed begins event = record event { begins = begins }
+abbrev pub packed_at : ℕ → Packed → Packed
+packed_at begins event = record event { begins = begins }
 
 -- an event whose names begin so many bytes further on
 abbrev pub moved : ℕ → Packed → Packed
-moved by event = placed (by + event.begins) event
+moved by event = packed_at (by + event.begins) event
 
 -- how many bytes the names of a switch take
 abbrev pub turn_width : PackedTurn → ℕ
@@ -92,12 +92,12 @@ abbrev pub width : Packed → ℕ
 width event = event.task + body_width event.body
 
 -- a wake event with its name, which these bytes begin with
-abbrev pub wake_of : List ℕ → PackedWake → Wake
-wake_of names wake = record { comm = take wake.comm names; pid = wake.pid; prio = wake.prio; target_cpu = wake.target_cpu }
+abbrev pub unpacked_wake : List ℕ → PackedWake → Wake
+unpacked_wake names wake = record { comm = take wake.comm names; pid = wake.pid; prio = wake.prio; target_cpu = wake.target_cpu }
 
 -- a switch with its names, which these bytes begin with
-abbrev pub turn_of : List ℕ → PackedTurn → Turn
-turn_of names turn = record {
+abbrev pub unpacked_turn : List ℕ → PackedTurn → Turn
+unpacked_turn names turn = record {
   prev_comm = take turn.prev_comm names;
   prev_pid = turn.prev_pid;
   prev_prio = turn.prev_prio;
@@ -109,10 +109,10 @@ turn_of names turn = record {
 
 -- what was traced, with its names, which these bytes begin with
 abbrev pub body_of : List ℕ → PackedBody → Body
-body_of names (packs.Waking wake) = bodies.Waking (wake_of names wake)
-body_of names (packs.Wakeup wake) = bodies.Wakeup (wake_of names wake)
-body_of names (packs.WakeupNew wake) = bodies.WakeupNew (wake_of names wake)
-body_of names (packs.Switch turn) = bodies.Switch (turn_of names turn)
+body_of names (packs.Waking wake) = bodies.Waking (unpacked_wake names wake)
+body_of names (packs.Wakeup wake) = bodies.Wakeup (unpacked_wake names wake)
+body_of names (packs.WakeupNew wake) = bodies.WakeupNew (unpacked_wake names wake)
+body_of names (packs.Switch turn) = bodies.Switch (unpacked_turn names turn)
 body_of names (packs.WakeupLatency matched) = bodies.WakeupLatency matched
 body_of names packs.Other = bodies.Other
 
@@ -139,13 +139,13 @@ abbrev pub all_unpacked : List ℕ → List Packed → List Traced
 all_unpacked text events = map (unpacked text) events
 
 -- which event it is
-abbrev pub kind_of : PackedBody → Name
-kind_of (packs.Waking wake) = kinds.Waking
-kind_of (packs.Wakeup wake) = kinds.Wakeup
-kind_of (packs.WakeupNew wake) = kinds.WakeupNew
-kind_of (packs.Switch turn) = kinds.Switch
-kind_of (packs.WakeupLatency matched) = kinds.WakeupLatency
-kind_of packs.Other = kinds.Other
+abbrev pub packed_name : PackedBody → Name
+packed_name (packs.Waking wake) = kinds.Waking
+packed_name (packs.Wakeup wake) = kinds.Wakeup
+packed_name (packs.WakeupNew wake) = kinds.WakeupNew
+packed_name (packs.Switch turn) = kinds.Switch
+packed_name (packs.WakeupLatency matched) = kinds.WakeupLatency
+packed_name packs.Other = kinds.Other
 
 -- the names of a switch have at most 31 bytes each
 abbrev pub IsShortTurn : PackedTurn → Type 0
@@ -161,7 +161,7 @@ IsShortBody (packs.WakeupLatency matched) = Unit {0}
 IsShortBody packs.Other = Unit {0}
 
 -- an event's names have at most 31 bytes each, and its stamp and CPU are those of an event
-pub record IsSound (event : Packed) : Type 0 where
+pub record IsSoundPacked (event : Packed) : Type 0 where
   pub task : event.task ≤ 31
   pub body : IsShortBody event.body
   pub stamp : event.stamp ≤ last_stamp
@@ -170,4 +170,4 @@ pub record IsSound (event : Packed) : Type 0 where
 -- events are sound, and the names of each begin where those before it end, from one place of the text to another
 abbrev pub AreLaid : ℕ → List Packed → ℕ → Type 0
 AreLaid begins [] ends = begins ≡ ends
-AreLaid begins (event ∷ events) ends = IsSound event × (event.begins ≡ begins) × AreLaid (begins + width event) events ends
+AreLaid begins (event ∷ events) ends = IsSoundPacked event × (event.begins ≡ begins) × AreLaid (begins + width event) events ends

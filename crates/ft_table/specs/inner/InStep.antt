@@ -3,14 +3,14 @@ use Rattle.std.specs.Prelude.{◌≡◌, ◌<◌}
 use Rattle.ft_table.specs.declared.table.Table.TheInside.{Inside}
 use Rattle.ft_hits.specs.Hits.{hitcount}
 use Rattle.ft_table.specs.Tabled.{Tabled, order_of}
-use Rattle.ft_table.specs.inner.Split.{IsSplit}
+use Rattle.ft_table.specs.inner.Cut.{IsCutAtSize}
 
 -- what contracts see of a table's fields
 abbrev pub table_of : Inside → Tabled
-table_of t = record { hits = t.hits; size = t.size }
+table_of t = record { hits = t.hits; size = t.ranked.size }
 
 -- there is room for a key, the order is that of the first hits, and the counts are those of the keys in the table and outside
 pub record IsInStep (t : Inside) : Type 0 where
-  pub room : 0 < t.size
-  pub order : t.order.items ≡ order_of t.hits
-  pub split : IsSplit (hitcount t.hits) t.size t.order.items t.split.hits t.split.dropped
+  pub room : 0 < t.ranked.size
+  pub order : t.ranked.order.items ≡ order_of t.hits
+  pub cut : IsCutAtSize (hitcount t.hits) t.ranked

@@ -1,8 +1,8 @@
 -- The order of first hits, as one key comes, goes or moves.
-use Rattle.std.specs.Prelude.{◌≡◌, ℕ, ◌-◌, ◌+◌, not, List, [], Option, Some, None, cond}
+use Rattle.std.specs.Prelude.{ℕ, ◌-◌, ◌+◌, not, List, [], Option, Some, None, cond}
 use Rattle.std.specs.FinMap as map
 use Rattle.ft_hits.specs.declared.spot.Spot.{Spot}
-use Rattle.ft_keys.specs.declared.key.Part.{Part}
+use Rattle.ft_fields.specs.declared.key.Part.{Part}
 use Rattle.ft_hits.specs.declared.mark.Mark.{Mark}
 use Rattle.ft_hits.specs.Hits.{Hits, same_key}
 use Rattle.ft_table.specs.Tabled.{first_hits}

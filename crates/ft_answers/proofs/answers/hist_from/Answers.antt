@@ -1,33 +1,11 @@
-use Rattle.std.proofs.Common.{rules, ◌≡◌, true, false, ℕ, List, [], Result, Ok, sym, ap, ◌∙◌}
-use Rattle.std.specs.Ordering.{nat_cmp}
-use Rattle.ft_hist.specs.Hist.{Hist}
-use Rattle.ft_maps.specs.Seen.{seen}
-use Rattle.ft_table.specs.Tabled.{Tabled}
-use Rattle.ft_base.specs.declared.refused.Refused.{Refused}
-use Rattle.ft_answers.specs.Answers.{tally_shown, tally_text}
-use Rattle.ft_answers.specs.Counting.{counts_made}
-use Rattle.ft_base.specs.Base.{Triggers}
-use Rattle.ft_replay.specs.Merged.{Events, merged}
-use Rattle.ft_replay.specs.Tally.{tally_of}
-use Rattle.ft_answers.proofs.Answering.{of_attached-some, shown-made, shown-held}
+use Rattle.ft_replay.specs.Merged.{merged}
+use Rattle.ft_answers.specs.Answers.{tally_text}
+use Rattle.ft_answers.specs.inner.Counts.{counted_table}
+use Rattle.ft_answers.proofs.Answering.{answered}
 use Rattle.ft_answers.proofs.answers.hist_from.Goals as goal
-
-pub returns-then-counts_made-clause-gives : goal.returns-then-counts_made-clause-gives
-returns-then-counts_made-clause-gives c =
-    let triggers : Triggers = seen nat_cmp c.args.triggers.now in
-    let events : Events = merged c.args.lanes.now in
-    let hist : Hist = c.in_ok-trigger.trigger.now in
-    let counts : counts_made hist ≡ true = search rules in
-    of_attached-some triggers c.args.id (λ (h : Hist). Ok (tally_text h (tally_shown triggers events c.args.id h))) hist c.in_ok-trigger.ensures.there
-    ∙ ap (λ (text : List ℕ). let answer : Result (List ℕ) Refused = Ok text in answer)
-    (ap (tally_text hist) (shown-made triggers events c.args.id hist counts ∙ sym c.in_ok-made.ensures.tally) ∙ sym (c.in_ok-table_text.ensures []))
 
 pub returns-clause-gives : goal.returns-clause-gives
 returns-clause-gives c =
-    let triggers : Triggers = seen nat_cmp c.args.triggers.now in
-    let events : Events = merged c.args.lanes.now in
-    let hist : Hist = c.in_ok-trigger.trigger.now in
-    let counts : counts_made hist ≡ false = search rules in
-    of_attached-some triggers c.args.id (λ (h : Hist). Ok (tally_text h (tally_shown triggers events c.args.id h))) hist c.in_ok-trigger.ensures.there
-    ∙ ap (λ (text : List ℕ). let answer : Result (List ℕ) Refused = Ok text in answer)
-    (ap (tally_text hist) (shown-held triggers events c.args.id hist counts ∙ sym c.in_ok-counter.ensures.tally ∙ ap (λ (t : Tabled). tally_of t c.in_ok-counter.counter.pairs) (sym c.table.ensures)) ∙ sym (c.in_ok-table_text-2.ensures c.in_ok-counter.counter.pairs))
+    answered c.args.triggers.now (merged c.args.lanes.now) c.args.id c.in_ok-trigger.trigger.now c.in_ok-trigger.ensures.there
+    (counted_table c.in_ok-counted.counted) c.table.result.now c.table.ensures c.in_ok-counted.ensures.tally
+    tally_text _ c.in_ok-table_text.ensures

@@ -1,11 +1,9 @@
 use Rattle.std.proofs.Common.{rules, ◌≡◌, true, List, Result, Ok, sym, ap, ◌∙◌}
-use Rattle.std.specs.Ordering.{nat_cmp}
 use Rattle.ft_hist.specs.Hist.{Hist}
-use Rattle.ft_maps.specs.Seen.{seen}
 use Rattle.ft_base.specs.declared.refused.Refused.{Refused}
 use Rattle.ft_replay.specs.declared.pair.Pair.{Pair}
 use Rattle.ft_answers.specs.Answers.{tally_at, pairs_as}
-use Rattle.ft_base.specs.Base.{Triggers}
+use Rattle.ft_hist.specs.Triggers.{Triggers}
 use Rattle.ft_replay.specs.Merged.{Events, merged}
 use Rattle.ft_base.specs.Roles.{is_reader}
 use Rattle.ft_replay.specs.Counters.{tally_in}
@@ -15,7 +13,7 @@ use Rattle.ft_answers.proofs.answers.pairs_from.Goals as goal
 
 pub returns-clause-gives : goal.returns-clause-gives
 returns-clause-gives c =
-    let triggers : Triggers = seen nat_cmp c.args.triggers.now in
+    let triggers : Triggers = c.args.triggers.now in
     let events : Events = merged c.args.lanes.now in
     let hist : Hist = c.in_ok-trigger.trigger.now in
     let counter = c.in_ok-counter.counter in

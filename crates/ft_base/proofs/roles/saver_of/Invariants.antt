@@ -1,10 +1,8 @@
 use Rattle.std.proofs.Common.{◌≡◌}
-use Rattle.std.specs.Ordering.{nat_cmp}
-use Rattle.ft_maps.specs.Seen.{seen}
 use Rattle.ft_base.specs.Roles.{saver_of}
 use Rattle.ft_base.proofs.Savers.{saver_among}
 use Rattle.ft_base.proofs.roles.saver_of.Given as goal
 
 -- the saver among the triggers that are left is that of all
 abbrev pub invariant-loop-id : goal.invariant-loop-id
-invariant-loop-id l = saver_among l.name l.id-iterator ≡ saver_of (seen nat_cmp l.triggers) l.name
+invariant-loop-id l = saver_among l.name l.id-iterator ≡ saver_of l.triggers l.name

@@ -1,12 +1,10 @@
 use Rattle.std.proofs.Common.{ℕ, ◌≡◌, ◌∷◌, true, refl, sym, subst, ◌∙◌}
-use Rattle.std.specs.Ordering.{nat_cmp}
 use Rattle.std.specs.Map.Iter.{deref_pair}
 use Rattle.std.proofs.lemmas.Map.Iter.{rest_more, rest_all}
 use Rattle.std.proofs.lemmas.Bool.{true≢false}
 use Rattle.ft_hist.specs.Hist.{Hist}
-use Rattle.ft_maps.specs.Seen.{seen}
 use Rattle.ft_replay.proofs.Stepping.{grow_none, grow_more}
-use Rattle.ft_answers.specs.Counting.{counts_made}
+use Rattle.ft_hist.specs.Made.{counts_made}
 use Rattle.ft_board.specs.inner.Readings.{readings_on}
 use Rattle.ft_board.proofs.MadeShelves.{AreBut, but_all, but_none, first_attached, made_more, made_skip}
 use Rattle.ft_board.proofs.made.counting_tables.Goals as goal
@@ -16,7 +14,7 @@ made_table-requires c id hist there = (readings_on c.args.tables.now id, refl)
 
 pub loop-id-init : goal.loop-id-init
 loop-id-init c = record {
-  made = subst (AreBut _ _) (sym (c.into_iter-id-iterator.ensures.into_iter_gives ∙ c.entries-id-items.ensures.rest)) (but_all _ (seen nat_cmp c.args.triggers.now));
+  made = subst (AreBut _ _) (sym (c.into_iter-id-iterator.ensures.into_iter_gives ∙ c.iter-id-items.ensures.rest)) (but_all _ c.args.triggers.now);
   idle = λ _. refl;
   grow = grow_none _;
 }

@@ -12,7 +12,7 @@ use Rattle.ft_board.proofs.made.counting_tables.Given as goal
 -- all triggers that count made events, but those that are left, have their tables; no count of steps fell, and none rose where no trigger counts them
 abbrev pub invariant-loop-id : goal.invariant-loop-id
 invariant-loop-id l = record {
-  made : AreBut (HasMade (seen nat_cmp l.triggers) (merged l.lanes) (found_in (readings_on l.tables)) (seen nat_cmp l.made)) (seen nat_cmp l.triggers) l.id-iterator;
-  idle : CountNone (seen nat_cmp l.triggers) → l.work ≡ l.fn.work;
+  made : AreBut (HasMade l.triggers (merged l.lanes) (found_in (readings_on l.tables)) (seen nat_cmp l.made)) l.triggers l.id-iterator;
+  idle : CountNone l.triggers → l.work ≡ l.fn.work;
   grow : StepsGrow l.fn.work l.work;
 }

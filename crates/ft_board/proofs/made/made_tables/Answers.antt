@@ -26,7 +26,7 @@ returns-clause-made c =
     let base : Base = c.args.content.now in
     let events : Events = merged base.lanes in
     let found : Findings = found_in (readings_on c.args.tables.now) in
-    if_made (AreMadeBy (seen nat_cmp c.triggers-triggers.result.now) (merged c.lanes-lanes.result.now) found) (AreMade base) c.counting_tables.result
+    if_made (AreMadeBy c.triggers-triggers.result.now (merged c.lanes-lanes.result.now) found) (AreMade base) c.counting_tables.result
     (λ made are. made_less base.triggers events events (among_same events) found (are_found c.kept_shelves.ensures.readings base.triggers events c.args.tables.now c.requires) made
     (subst (λ (held : Triggers × Lanes). AreMadeBy held.0 (merged held.1) found made) (λ i. (c.triggers-triggers.ensures i, c.lanes-lanes.ensures.lanes i)) are))
     c.counting_tables.ensures.made

@@ -1,6 +1,6 @@
 use Rattle.std.proofs.Common.{Vec, Global, Bor, Option, Some, None, Err, ℕ, List, map, option_map, ap, sym, subst}
 use Rattle.ft_script.specs.Files.{Untold}
-use Rattle.ft_script.specs.Words.{Named, shown}
+use Rattle.ft_script.specs.Words.{Named, named_of_words}
 use Rattle.ft_desk.specs.declared.program.Fault.{Fault}
 use Rattle.ft_desk.specs.Program.{TellsFiles, FilesGive}
 use Rattle.ft_desk.specs.inner.Ends.{RunTells, ProgramEnds}
@@ -22,7 +22,7 @@ returns-in_err-traces g c =
     let passed = c.from_residual-in_err-traces.ensures in
     let gives = subst (λ (paths : List (Bor (List ℕ))). FilesGive told (texts_at paths) (Err c.in_err-traces.field-0.0)) c.as_slice.ensures.value c.in_err-traces.ensures in
     subst (λ (named : Option Named). ProgramEnds g.S.Session.means told named result) (sym c.in_ok-words.ensures)
-    (fault_ends g.S.Session.means told (shown c.in_ok-words.words) c.in_err-traces.field-0.0 result passed.0 passed.1 gives)
+    (fault_ends g.S.Session.means told (named_of_words c.in_ok-words.words) c.in_err-traces.field-0.0 result passed.0 passed.1 gives)
 
 pub returns-in_default : goal.returns-in_default
 returns-in_default g c =
@@ -32,7 +32,7 @@ returns-in_default g c =
     let tells = subst (λ (paths : List (Bor (List ℕ))). TellsFiles told (texts_at paths) files) c.as_slice.ensures.value c.in_ok-traces.ensures in
     let ran = subst (λ (traces : List (Vec ℕ Global)). RunTells (g.S.Session.means (bytes_of traces)) Untold result) c.as_slice-in_default.ensures.value (c.run_script.ensures Untold tt) in
     subst (λ (named : Option Named). ProgramEnds g.S.Session.means told named result) (sym c.in_ok-words.ensures)
-    (run_ends g.S.Session.means told (shown c.in_ok-words.words) None files result (ap text_of c.in_default.is) tells ran)
+    (run_ends g.S.Session.means told (named_of_words c.in_ok-words.words) None files result (ap text_of c.in_default.is) tells ran)
 
 pub returns-in-Ok : goal.returns-in-Ok
 returns-in-Ok g c =
@@ -43,13 +43,13 @@ returns-in-Ok g c =
     let tells = subst (λ (paths : List (Bor (List ℕ))). TellsFiles told (texts_at paths) files) c.as_slice.ensures.value c.in_ok-traces.ensures in
     let ran = subst (λ (traces : List (Vec ℕ Global)). RunTells (g.S.Session.means (bytes_of traces)) (told path) result) c.as_slice-in-Ok.ensures.value (c.run_script-in-Ok.ensures (told path) c.in-Ok.ensures) in
     subst (λ (named : Option Named). ProgramEnds g.S.Session.means told named result) (sym c.in_ok-words.ensures)
-    (run_ends g.S.Session.means told (shown c.in_ok-words.words) (Some path) files result (ap text_of c.in-Some.is) tells ran)
+    (run_ends g.S.Session.means told (named_of_words c.in_ok-words.words) (Some path) files result (ap text_of c.in-Some.is) tells ran)
 
 pub returns : goal.returns
 returns g c =
     let told = g.P.Paths.told c.args.rt.now in
     let files = bytes_of c.in_ok-traces.traces.items in
     let tells = subst (λ (paths : List (Bor (List ℕ))). TellsFiles told (texts_at paths) files) c.as_slice.ensures.value c.in_ok-traces.ensures in
-    let ends = script_ends g.S.Session.means told (shown c.in_ok-words.words) c.in-Some.path files c.from.result (ap text_of c.in-Some.is) tells in
+    let ends = script_ends g.S.Session.means told (named_of_words c.in_ok-words.words) c.in-Some.path files c.from.result (ap text_of c.in-Some.is) tells in
     subst (λ (named : Option Named). ProgramEnds g.S.Session.means told named (Err c.at.result)) (sym c.in_ok-words.ensures)
-    (subst (λ (fault : Fault). ProgramEnds g.S.Session.means told (Some (shown c.in_ok-words.words)) (Err fault)) (sym c.at.ensures) ends)
+    (subst (λ (fault : Fault). ProgramEnds g.S.Session.means told (Some (named_of_words c.in_ok-words.words)) (Err fault)) (sym c.at.ensures) ends)

@@ -1,7 +1,7 @@
 use Rattle.std.proofs.Common.{◌≡◌, ◌-◌, ◌++◌, ◌∷◌, [], inl, inr, arith, refl, ap, ◌∙◌, map, Some, None, false, eqb, rules, length-append}
 use Rattle.std.specs.List.{starts_with}
 use Rattle.std.proofs.lemmas.Result.{err_from_is_err_and}
-use Rattle.ft_filter.specs.FilterIs.{first_fails, behind_joint, both}
+use Rattle.ft_filter.specs.FilterIs.{first_fails, behind_joint, tree_of_joint}
 use Rattle.ft_filter.specs.Tree.{tree_of, trees}
 use Rattle.ft_filter.proofs.Steps.{gives, gives_fault, no_room, not_of, enclosing, enclosed_so, negated_so, compared_so, alone, first_of, fails_behind, completes_first, completes_next, completes_all, fails_next}
 use Rattle.ft_filter.proofs.reading.+read.Goals as goal
@@ -73,7 +73,7 @@ read_more-returns-clause-reads t c rest is =
     let inv = c.loop-behind.invariant in
     let none : behind_joint c.args.joint c.loop-behind.rest.now ≡ None = search rules in
     completes_all c.args.source.event c.args.source.len c.args.joint c.args.room c.args.behind.now c.loop-behind.rest.now inv.0 inv.3 none rest is (tree_of c.args.first) (tree_of c.joined.result) inv.2
-    (c.joined.ensures ∙ ap (λ list. both c.args.joint (trees list)) inv.1)
+    (c.joined.ensures ∙ ap (λ list. tree_of_joint c.args.joint (trees list)) inv.1)
 
 pub read_not-returns-then-room-eq0-clause-reads : goal.read_not-returns-then-room-eq0-clause-reads
 read_not-returns-then-room-eq0-clause-reads t c text is = inr (no_room c.args.source.event c.args.source.len c.args.room text c.args.behind.now 33 c.if-room-eq0.true is (inl refl))

@@ -1,6 +1,6 @@
 use Rattle.std.proofs.Common.{subst, sym, ap, ◌∙◌}
 use Rattle.ft_head.specs.declared.fault.TriggerFault.TheVariants.{Syntax}
-use Rattle.ft_pieces.specs.Words.{word_of}
+use Rattle.ft_text.specs.Items.{word_of}
 use Rattle.ft_head.specs.Draft.{given_or, with_sort}
 use Rattle.ft_head.specs.inner.Leaving.{Leaves}
 use Rattle.ft_head.proofs.lists.add_sort.Goals as goal

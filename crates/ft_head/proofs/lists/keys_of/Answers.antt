@@ -1,6 +1,6 @@
 use Rattle.std.proofs.Common.{◌≡◌, ◌<◌, ap₂, ap, sym, length, arith, subst}
 use Rattle.ft_head.specs.Draft.{items_from, with_key}
-use Rattle.ft_pieces.proofs.PieceLemmas.{pieces_some}
+use Rattle.ft_text.proofs.PieceLemmas.{pieces_some}
 use Rattle.ft_head.proofs.lists.keys_of.Goals as goal
 
 pub loop-item-init : goal.loop-item-init

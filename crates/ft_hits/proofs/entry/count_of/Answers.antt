@@ -1,10 +1,10 @@
 -- What the tree answers at a key is what the finite map has there.
 use Rattle.std.proofs.Common.{◌≡◌, sym, ap, ◌∙◌, Some, None, unwrap_or}
 use Rattle.std.specs.FinMap as map
-use Rattle.ft_keys.specs.Parts.{key_cmp}
+use Rattle.ft_fields.specs.Parts.{key_cmp}
 use Rattle.ft_hits.specs.Spots.{spot_cmp}
 use Rattle.ft_maps.specs.Seen.{seen, get-seen}
-use Rattle.ft_keys.specs.Orders.{key_cmp_total}
+use Rattle.ft_fields.specs.Orders.{key_cmp_total}
 use Rattle.ft_hits.proofs.Flat.{hits_of-flat}
 use Rattle.ft_hits.proofs.entry.count_of.Goals as goal
 use Rattle.std.specs.FinMap.{len-empty}

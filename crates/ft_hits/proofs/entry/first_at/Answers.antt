@@ -3,11 +3,11 @@ use Rattle.std.proofs.Common.{◌≡◌, sym, ap, ◌∙◌, Some, None, unwrap_
 use Rattle.std.specs.Prelude.{ℤ, List}
 use Rattle.std.specs.FinMap as map
 use Rattle.std.specs.FinMap.{FinMap}
-use Rattle.ft_keys.specs.Parts.{key_cmp}
+use Rattle.ft_fields.specs.Parts.{key_cmp}
 use Rattle.ft_hits.specs.Spots.{spot_cmp}
 use Rattle.ft_maps.specs.Seen.{seen, get-seen}
 use Rattle.ft_hits.specs.Hits.{least_key}
-use Rattle.ft_keys.specs.Orders.{key_cmp_total}
+use Rattle.ft_fields.specs.Orders.{key_cmp_total}
 use Rattle.ft_maps.specs.Entries.{entries-empty}
 use Rattle.ft_hits.proofs.Flat.{hits_of-flat}
 use Rattle.ft_hits.proofs.entry.first_at.Goals as goal

@@ -1,8 +1,8 @@
 use Rattle.std.proofs.Common.{◌≡◌, sym, ◌∙◌, ap, Some, None}
 use Rattle.std.specs.Prelude.{is_some, option_and_then}
 use Rattle.std.specs.FinMap as map
-use Rattle.ft_keys.specs.Parts.{key_cmp}
-use Rattle.ft_keys.specs.Orders.{key_cmp_total}
+use Rattle.ft_fields.specs.Parts.{key_cmp}
+use Rattle.ft_fields.specs.Orders.{key_cmp_total}
 use Rattle.ft_maps.specs.Seen.{seen, get-seen}
 use Rattle.ft_hits.proofs.Flat.{get-flat}
 use Rattle.ft_hits.proofs.entry.holds.Goals as goal

@@ -4,14 +4,14 @@ use Rattle.std.specs.Option.{option_copied}
 use Rattle.std.specs.Prelude.{ℤ, option_map}
 use Rattle.std.specs.FinMap as map
 use Rattle.ft_hits.specs.declared.spot.Spot.{Spot}
-use Rattle.ft_keys.specs.declared.key.Part.{Part}
-use Rattle.ft_keys.specs.Parts.{key_cmp}
+use Rattle.ft_fields.specs.declared.key.Part.{Part}
+use Rattle.ft_fields.specs.Parts.{key_cmp}
 use Rattle.ft_hits.specs.declared.hit.Hit.{Hit}
 use Rattle.ft_hits.specs.Spots.{spot_cmp}
 use Rattle.ft_hits.specs.Hits.{EntryHits, first_entry, hits_after, is_after}
 use Rattle.ft_maps.specs.Seen.{seen, get-seen}
 use Rattle.std.specs.List.{filter}
-use Rattle.ft_keys.specs.Orders.{key_cmp_total}
+use Rattle.ft_fields.specs.Orders.{key_cmp_total}
 use Rattle.ft_maps.specs.Entries.{entries-empty}
 use Rattle.ft_hits.proofs.Flat.{hits_of-flat}
 use Rattle.ft_hits.proofs.entry.next_hit.Goals as goal

@@ -4,13 +4,13 @@ use Rattle.std.specs.Prelude.{option_and_then, IfSome, MatchOption}
 use Rattle.std.specs.FinMap as map
 use Rattle.std.proofs.lemmas.Result.{IfOk-weaker, on_err_weaker}
 use Rattle.ft_hits.specs.declared.spot.Spot.{Spot}
-use Rattle.ft_keys.specs.Parts.{key_cmp}
+use Rattle.ft_fields.specs.Parts.{key_cmp}
 use Rattle.ft_maps.specs.Seen.{seen, get-seen, seen-found, seen-kept}
 use Rattle.ft_hits.specs.ByKey.{flat}
 use Rattle.ft_hits.specs.Marks.{mark_of}
 use Rattle.ft_hits.specs.Hits.{EntryHits, least_key}
-use Rattle.ft_keys.specs.Orders.{key_cmp_total}
-use Rattle.ft_keys.specs.Ties.{key_same}
+use Rattle.ft_fields.specs.Orders.{key_cmp_total}
+use Rattle.ft_fields.specs.Ties.{key_same}
 use Rattle.ft_hits.proofs.Flat.{get-flat, flat-insert, hits_of-flat}
 use Rattle.ft_hits.proofs.entry.put_behind.Goals as goal
 

@@ -5,11 +5,11 @@ use Rattle.std.specs.FinMap as map
 use Rattle.std.specs.FinMap.{get-empty}
 use Rattle.ft_hits.specs.Spots.{spot_cmp}
 use Rattle.std.proofs.lemmas.Result.{on_ok_weaker, on_err_weaker}
-use Rattle.ft_keys.specs.Parts.{key_cmp}
+use Rattle.ft_fields.specs.Parts.{key_cmp}
 use Rattle.ft_maps.specs.Seen.{seen, get-seen, seen-insert, seen-found, seen-kept}
 use Rattle.ft_hits.specs.ByKey.{flat}
-use Rattle.ft_keys.specs.Orders.{key_cmp_total}
-use Rattle.ft_keys.specs.Ties.{key_same}
+use Rattle.ft_fields.specs.Orders.{key_cmp_total}
+use Rattle.ft_fields.specs.Ties.{key_same}
 use Rattle.ft_hits.proofs.Flat.{get-flat, flat-insert}
 use Rattle.ft_hits.proofs.entry.put_hit.Goals as goal
 

@@ -5,11 +5,11 @@ use Rattle.std.specs.List.{sum_by}
 use Rattle.std.specs.Map.{values_of}
 use Rattle.std.specs.FinMap as map
 use Rattle.ft_hits.specs.declared.spot.Spot.{Spot}
-use Rattle.ft_keys.specs.Parts.{key_cmp}
+use Rattle.ft_fields.specs.Parts.{key_cmp}
 use Rattle.ft_hits.specs.Spots.{spot_cmp}
 use Rattle.ft_hits.specs.Hits.{unsigned_at, sums_of}
 use Rattle.ft_maps.specs.Seen.{seen, get-seen}
-use Rattle.ft_keys.specs.Orders.{key_cmp_total}
+use Rattle.ft_fields.specs.Orders.{key_cmp_total}
 use Rattle.ft_maps.specs.Entries.{entries-empty}
 use Rattle.ft_hits.proofs.Flat.{hits_of-flat}
 use Rattle.ft_hits.proofs.entry.sums_at.Goals as goal

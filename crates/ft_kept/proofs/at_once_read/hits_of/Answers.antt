@@ -5,7 +5,7 @@ use Rattle.std.specs.List.{AllByRecursion}
 use Rattle.std.proofs.lemmas.List.{drop_all}
 use Rattle.ft_fields.specs.Traced.{Traced}
 use Rattle.ft_fields.specs.declared.pos.Pos.{Pos}
-use Rattle.ft_groups.specs.Grouped.{events_of, run_of}
+use Rattle.ft_groups.specs.Grouped.{referenced_events, run_of}
 use Rattle.ft_store.specs.declared.stored.Stored.{Stored}
 use Rattle.ft_kept.specs.inner.JoiningReads.{hits_found, readings_found}
 use Rattle.ft_kept.proofs.FoundRuns.{hits_left, hits_more, length_run, readings_left, readings_more}
@@ -21,7 +21,7 @@ loop-i-init c =
     let hist = c.args.joining.now.trigger.now in
     let groups = c.args.joining.now.groups.now in
     record {
-      hits = ap (λ hits. hits ++ hits_found hist (events_of c.run-run.result.now) c.args.found.now) c.in_ok-hits.ensures.items ∙ ap (λ run. hits_found hist run c.args.found.now) c.run-run.ensures;
+      hits = ap (λ hits. hits ++ hits_found hist (referenced_events c.run-run.result.now) c.args.found.now) c.in_ok-hits.ensures.items ∙ ap (λ run. hits_found hist run c.args.found.now) c.run-run.ensures;
       told = ap (λ run. c.args.readings.now.items ++ readings_found run c.args.found.now) c.run-run.ensures;
       stamped = subst (AllByRecursion HasStamp) (sym c.run-run.ensures) (stamped_run hist groups c.requires.grouped c.args.key.now);
     }

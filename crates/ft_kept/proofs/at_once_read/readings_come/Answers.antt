@@ -1,18 +1,16 @@
 -- Key by key the reader's readings come.
 use Rattle.std.proofs.Common.{◌≡◌, ◌+◌, List, [], drop, refl, sym, subst, ◌∙◌, arith}
-use Rattle.std.specs.Ordering.{nat_cmp}
 use Rattle.std.proofs.lemmas.List.{drop_all}
 use Rattle.std.proofs.lemmas.Result.{on_ok_weaker}
 use Rattle.ft_fields.specs.declared.pos.Pos.{Pos}
-use Rattle.ft_keys.specs.declared.key.Part.{Part}
-use Rattle.ft_maps.specs.Seen.{seen}
+use Rattle.ft_fields.specs.declared.key.Part.{Part}
 use Rattle.ft_kept.proofs.AtOnceRead.{ReadingsCame, all_forms, all_kept, came_more, next_none, none_came, saver_stays}
 use Rattle.ft_shelves.proofs.KeyByKey.{IsOnce, first_key, keys_once}
 use Rattle.ft_kept.proofs.at_once_read.readings_come.Goals as goal
 
 pub loop-key-init : goal.loop-key-init
 loop-key-init c =
-    let triggers = seen nat_cmp c.args.joining.now.triggers.now in
+    let triggers = c.args.joining.now.triggers.now in
     let hist = c.args.joining.now.trigger.now in
     let groups = c.args.joining.now.groups.now in
     let id = c.args.joining.now.id in
@@ -27,7 +25,7 @@ loop-key-init c =
 
 pub key_comes-requires : goal.key_comes-requires
 key_comes-requires c =
-    let triggers = seen nat_cmp c.args.joining.now.triggers.now in
+    let triggers = c.args.joining.now.triggers.now in
     let hist = c.args.joining.now.trigger.now in
     let groups = c.args.joining.now.groups.now in
     let id = c.args.joining.now.id in
@@ -45,7 +43,7 @@ key_comes-requires c =
 
 pub loop-key-preserved : goal.loop-key-preserved
 loop-key-preserved c =
-    let triggers = seen nat_cmp c.args.joining.now.triggers.now in
+    let triggers = c.args.joining.now.triggers.now in
     let hist = c.args.joining.now.trigger.now in
     let groups = c.args.joining.now.groups.now in
     let id = c.args.joining.now.id in
@@ -70,7 +68,7 @@ loop-key-preserved c =
 
 pub returns-clause-joined : goal.returns-clause-joined
 returns-clause-joined c =
-    let triggers = seen nat_cmp c.args.joining.now.triggers.now in
+    let triggers = c.args.joining.now.triggers.now in
     let hist = c.args.joining.now.trigger.now in
     let groups = c.args.joining.now.groups.now in
     let id = c.args.joining.now.id in

@@ -3,7 +3,7 @@ use Rattle.std.proofs.Common.{◌≤◌, ◌+◌, [], ◌∷◌, sym, ap, subst,
 use Rattle.std.specs.Option.{option_copied_mut}
 use Rattle.std.proofs.lemmas.Result.{on_ok_weaker}
 use Rattle.ft_pairs.specs.declared.role.Role.TheVariants.{Plain}
-use Rattle.ft_shelves.specs.Changes.{IsFree, on_insert, sign_of, with_change}
+use Rattle.ft_shelves.specs.Changes.{PlaceIsFree, on_insert, sign_of, with_change}
 use Rattle.ft_kept.specs.Views.{triggers_of}
 use Rattle.ft_shelves.specs.Shelves.{role_on}
 use Rattle.ft_kept.specs.inner.Telling.{own_key}
@@ -19,8 +19,8 @@ pub change_hit-requires : goal.change_hit-requires
 change_hit-requires g c =
     let act = c.args.act.now in
     let old = c.args.tables.now in
-    subst (λ change. IsFree change c.in-Some.shelf.now.table.hits) (sym c.hit_change-change.ensures)
-    (hit_free c.args.scene.now act c.args.act.now.sign g.acts Plain (inl refl) old c.requires c.in-Some.shelf.now (lent_was act.at.trigger old c.shelf_mut.result c.in-Some.shelf c.in-Some.is c.shelf_mut.ensures.value))
+    subst (λ change. PlaceIsFree change c.in-Some.shelf.now.table.hits) (sym c.hit_change-change.ensures)
+    (hit_free act g.acts Plain (inl refl) old c.requires c.in-Some.shelf.now (lent_was act.at.trigger old c.shelf_mut.result c.in-Some.shelf c.in-Some.is c.shelf_mut.ensures.value))
 
 pub returns-in-Some-clause-changed : goal.returns-in-Some-clause-changed
 returns-in-Some-clause-changed g c =
@@ -28,7 +28,7 @@ returns-in-Some-clause-changed g c =
     let old = c.args.tables.now in
     let shelf = c.in-Some.shelf.now in
     let after = c.change_hit.new.self in
-    on_ok_weaker c.change_hit.result (λ e. changed c.args.scene.now act c.args.act.now.sign g.acts old c.requires shelf
+    on_ok_weaker c.change_hit.result (λ e. changed act g.acts old c.requires shelf
     (lent_was act.at.trigger old c.shelf_mut.result c.in-Some.shelf c.in-Some.is c.shelf_mut.ensures.value) _ after
     (lent_back act.at.trigger old c.shelf_mut.result c.in-Some.shelf c.in-Some.is c.shelf_mut.ensures.value _ after (c.shelf_mut.follows.holds after))
     (e ∙ ap (λ change. with_change change shelf) c.hit_change-change.ensures)) c.change_hit.ensures.ok
@@ -46,7 +46,7 @@ returns-in-Some-clause-told g c =
     on_ok_weaker c.change_hit.result (λ e.
     let changes = e ∙ ap (λ change. with_change change shelf) c.hit_change-change.ensures in
     told_few ((id, act.trigger.now) ∷ []) (own_key id act.key) c.args.changes.now c.tell_key.new.self old new (few_own (role_on old) id act.trigger.now act.key)
-    (own_told c.args.scene.now act act.sign g.acts Plain (inl refl) old c.requires shelf was new after (written old new id after back) (unwritten old new id after back)
+    (own_told act g.acts Plain (inl refl) old c.requires shelf was new after (written old new id after back) (unwritten old new id after back)
     (ap (λ s. s.table) changes) (ap (λ s. s.readings) changes) c.args.changes.now c.tell_key.new.self c.tell_key.ensures.keys c.tell_key.ensures.readings)) c.change_hit.ensures.ok
 
 pub returns-in-Some-clause-memory : goal.returns-in-Some-clause-memory
@@ -58,5 +58,5 @@ returns-in-Some-clause-puts g c =
 
 pub returns-in-None-clause-changed : goal.returns-in-None-clause-changed
 returns-in-None-clause-changed g c =
-    absurd (shelved_there (triggers_of c.args.scene.now) c.args.tables.now c.args.act.now.at.trigger c.args.act.now.trigger.now c.requires.views.shelved c.requires.attached
+    absurd (shelved_there (triggers_of c.args.act.now.scene) c.args.tables.now c.args.act.now.at.trigger c.args.act.now.trigger.now c.requires.views.shelved c.requires.attached
     (sym c.shelf_mut.ensures.value ∙ ap option_copied_mut c.in-None.is))

@@ -1,4 +1,4 @@
--- The hit comes or goes with what follows of it, and then all is settled that it made owed.
+-- The hit comes or goes with what follows of it, and then all is settled that it made stale.
 use Rattle.std.proofs.Common.{◌+◌, [], ◌∷◌, ◌++◌, arith, inl, inr}
 use Rattle.std.proofs.lemmas.Result.{on_ok_weaker}
 use Rattle.ft_shelves.specs.Changes.{table_with}
@@ -6,17 +6,17 @@ use Rattle.ft_shelves.specs.Shelves.{role_on}
 use Rattle.ft_kept.specs.inner.Changing.{change_of}
 use Rattle.ft_kept.specs.inner.Telling.{moved_keys, own_key}
 use Rattle.ft_shelves.proofs.Decided.{on_ok_both}
-use Rattle.ft_kept.proofs.MovedPaid.{can_settle, changed}
+use Rattle.ft_kept.proofs.MovedRefreshed.{can_settle, changed}
 use Rattle.ft_kept.proofs.SaverTables.{few_or_moves}
 use Rattle.ft_kept.proofs.Told.{few_saving, told_few, told_trans}
 use Rattle.ft_kept.proofs.saver.change_saving.Goals as goal
 
 pub settle_moved-requires : goal.settle_moved-requires
-settle_moved-requires g c = can_settle c.args.scene.now c.args.act.now c.args.act.now.sign g.acts c.args.tables.now c.requires c.change_shelf.new.tables c.in_ok-moved.moved c.in_ok-moved.ensures.owing
+settle_moved-requires g c = can_settle c.args.act.now g.acts c.args.tables.now c.requires c.change_shelf.new.tables c.in_ok-moved.moved c.in_ok-moved.ensures.leaves_stale
 
 pub returns-clause-changed : goal.returns-clause-changed
 returns-clause-changed g c = on_ok_both c.settle_moved.result
-    (changed c.args.scene.now c.args.act.now c.args.act.now.sign g.acts c.args.tables.now c.requires c.change_shelf.new.tables c.in_ok-moved.moved c.in_ok-moved.ensures.owing c.settle_moved.new.tables)
+    (changed c.args.act.now g.acts c.args.tables.now c.requires c.change_shelf.new.tables c.in_ok-moved.moved c.in_ok-moved.ensures.leaves_stale c.settle_moved.new.tables)
     c.settle_moved.ensures.readers c.settle_moved.ensures.right
 
 pub returns-clause-told : goal.returns-clause-told
@@ -29,13 +29,13 @@ returns-clause-told g c =
     on_ok_weaker c.settle_moved.result (λ told.
     told_few ((id, act.trigger.now) ∷ []) (own_key id act.key ++ moved_keys id act.key moves) was c.settle_moved.new.changes old c.settle_moved.new.tables (few_saving (role_on old) id act.trigger.now act.key moves)
     (told_trans (own_key id act.key) (moved_keys id act.key moves) was c.change_shelf.new.changes c.settle_moved.new.changes old c.change_shelf.new.tables c.settle_moved.new.tables
-    c.in_ok-moved.ensures.owing.forms c.in_ok-moved.ensures.told told)) c.settle_moved.ensures.told
+    c.in_ok-moved.ensures.leaves_stale.forms c.in_ok-moved.ensures.told told)) c.settle_moved.ensures.told
 
 pub returns-clause-puts : goal.returns-clause-puts
 returns-clause-puts g c =
-    let owing = c.in_ok-moved.ensures.owing in
-    few_or_moves (table_with (change_of c.args.act.now.sign c.args.act.now)) c.args.tables.now c.change_shelf.new.tables c.args.act.now.at.trigger c.requires.role owing.forms owing.table
-    c.args.act.now.key c.in_ok-moved.moved owing.moved (c.args.work.now.puts + 2) (c.args.work.now.puts + 3) c.change_shelf.new.work.puts c.settle_moved.new.work.puts (omega arith) c.change_shelf.ensures.puts c.settle_moved.ensures.puts
+    let leaves_stale = c.in_ok-moved.ensures.leaves_stale in
+    few_or_moves (table_with (change_of c.args.act.now)) c.args.tables.now c.change_shelf.new.tables c.args.act.now.at.trigger c.requires.role leaves_stale.forms leaves_stale.table
+    c.args.act.now.key c.in_ok-moved.moved leaves_stale.moved (c.args.work.now.puts + 2) (c.args.work.now.puts + 3) c.change_shelf.new.work.puts c.settle_moved.new.work.puts (omega arith) c.change_shelf.ensures.puts c.settle_moved.ensures.puts
 
 pub returns-in_err-moved-clause-puts : goal.returns-in_err-moved-clause-puts
 returns-in_err-moved-clause-puts g c = elim c.change_shelf.ensures.puts [

@@ -2,7 +2,7 @@
 use Rattle.std.proofs.Common.{◌≡◌, refl, sym, ap, subst, ◌∙◌, Some, inl, inr, arith}
 use Rattle.std.specs.FinMap as map
 use Rattle.std.specs.Option.{option_copied_mut}
-use Rattle.ft_shelves.specs.Changes.{mark_of, sign_of, table_with}
+use Rattle.ft_shelves.specs.Changes.{change_mark, sign_of, table_with}
 use Rattle.ft_shelves.specs.Following.{HitFollows, IsUnsaved, MovesKeys}
 use Rattle.ft_shelves.specs.Switches.{HasMoved}
 use Rattle.ft_pairs.specs.declared.role.Role.TheVariants.{Saves}
@@ -12,7 +12,7 @@ use Rattle.ft_shelves.proofs.Decided.{if_ok_both}
 use Rattle.ft_kept.proofs.HitShelf.{own_told}
 use Rattle.ft_kept.proofs.OneHit.{inserts_at_most}
 use Rattle.ft_kept.proofs.Putting.{written, unwritten}
-use Rattle.ft_kept.proofs.SaverHits.{forms, moved, outside, owing, saver_there, unsaved}
+use Rattle.ft_kept.proofs.SaverHits.{forms, moved, outside, leaves_stale, saver_there, unsaved}
 use Rattle.ft_kept.proofs.SaverTables.{table_written, table_moves}
 use Rattle.ft_kept.proofs.Shelving.{lent_back, lent_was}
 use Rattle.ft_kept.proofs.saver.change_shelf.Goals as goal
@@ -21,14 +21,14 @@ pub change_saver_hit-requires-clause-free : goal.change_saver_hit-requires-claus
 change_saver_hit-requires-clause-free g c =
     let id = c.args.act.now.at.trigger in
     subst (λ change. IsUnsaved id change c.in-Some.shelf.now) (sym c.hit_change-change.ensures)
-    (unsaved c.args.scene.now c.args.act.now c.args.act.now.sign g.acts c.args.tables.now c.requires c.in-Some.shelf.now (lent_was id c.args.tables.now c.shelf_mut.result c.in-Some.shelf c.in-Some.is c.shelf_mut.ensures.value))
+    (unsaved c.args.act.now g.acts c.args.tables.now c.requires c.in-Some.shelf.now (lent_was id c.args.tables.now c.shelf_mut.result c.in-Some.shelf c.in-Some.is c.shelf_mut.ensures.value))
 
 pub change_saver_hit-requires-clause-outside : goal.change_saver_hit-requires-clause-outside
 change_saver_hit-requires-clause-outside g c =
-    outside c.args.scene.now c.args.act.now c.args.act.now.sign g.acts c.args.tables.now c.requires c.in-Some.shelf.now (lent_was c.args.act.now.at.trigger c.args.tables.now c.shelf_mut.result c.in-Some.shelf c.in-Some.is c.shelf_mut.ensures.value)
+    outside c.args.act.now g.acts c.args.tables.now c.requires c.in-Some.shelf.now (lent_was c.args.act.now.at.trigger c.args.tables.now c.shelf_mut.result c.in-Some.shelf c.in-Some.is c.shelf_mut.ensures.value)
 
-pub returns-in-Some-clause-owing : goal.returns-in-Some-clause-owing
-returns-in-Some-clause-owing g c =
+pub returns-in-Some-clause-leaves_stale : goal.returns-in-Some-clause-leaves_stale
+returns-in-Some-clause-leaves_stale g c =
     let act = c.args.act.now in
     let id = act.at.trigger in
     let old = c.args.tables.now in
@@ -42,12 +42,12 @@ returns-in-Some-clause-owing g c =
     if_ok_both _ _ _ c.change_saver_hit.result c.change_saver_hit.result refl (λ moves e h.
     let follows = subst (λ change. HitFollows id change shelf after) c.hit_change-change.ensures e in
     record {
-      forms = forms c.args.scene.now act c.args.act.now.sign g.acts old c.requires shelf was new after is others follows;
+      forms = forms act g.acts old c.requires shelf was new after is others follows;
       others = others;
-      table = table_written (table_with (change_of c.args.act.now.sign act)) old new id shelf after was is (ap (λ s. s.table) follows.shelf);
-      moved = moved c.args.scene.now act c.args.act.now.sign g.acts old c.requires shelf was new after is others follows moves
-          (subst (λ change. MovesKeys (mark_of change).key moves (is_in shelf.table) (is_in after.table)) c.hit_change-change.ensures h);
-      owing = owing c.args.scene.now act c.args.act.now.sign g.acts old c.requires shelf was new after is others follows;
+      table = table_written (table_with (change_of act)) old new id shelf after was is (ap (λ s. s.table) follows.shelf);
+      moved = moved act g.acts old c.requires shelf was new after is others follows moves
+          (subst (λ change. MovesKeys (change_mark change).key moves (is_in shelf.table) (is_in after.table)) c.hit_change-change.ensures h);
+      leaves_stale = leaves_stale act g.acts old c.requires shelf was new after is others follows;
     }) c.change_saver_hit.ensures.follows c.change_saver_hit.ensures.moved
 
 pub returns-in-Some-clause-told : goal.returns-in-Some-clause-told
@@ -62,7 +62,7 @@ returns-in-Some-clause-told g c =
     let back : new ≡ map.insert old id after = lent_back id old c.shelf_mut.result c.in-Some.shelf c.in-Some.is c.shelf_mut.ensures.value new after (c.shelf_mut.follows.holds after) in
     if_ok_both _ _ _ c.change_saver_hit.result c.change_saver_hit.result refl (λ moves e h.
     let follows = subst (λ change. HitFollows id change shelf after) c.hit_change-change.ensures e in
-    own_told c.args.scene.now act act.sign g.acts Saves (inr refl) old c.requires shelf was new after (written old new id after back) (unwritten old new id after back)
+    own_told act g.acts Saves (inr refl) old c.requires shelf was new after (written old new id after back) (unwritten old new id after back)
     (ap (λ s. s.table) follows.shelf) (ap (λ s. s.readings) follows.shelf) c.args.changes.now c.tell_key.new.self c.tell_key.ensures.keys c.tell_key.ensures.readings)
     c.change_saver_hit.ensures.follows c.change_saver_hit.ensures.moved
 
@@ -73,12 +73,12 @@ returns-in-Some-clause-puts g c =
     let shelf = c.in-Some.shelf.now in
     elim c.change_saver_hit.ensures.puts [
       | inl few ↦ inl (omega (arith, few, inserts_at_most (sign_of c.hit_change-change.result) 2))
-      | inr moves ↦ inr (table_moves (table_with (change_of c.args.act.now.sign act)) old act.at.trigger shelf (lent_was act.at.trigger old c.shelf_mut.result c.in-Some.shelf c.in-Some.is c.shelf_mut.ensures.value)
+      | inr moves ↦ inr (table_moves (table_with (change_of act)) old act.at.trigger shelf (lent_was act.at.trigger old c.shelf_mut.result c.in-Some.shelf c.in-Some.is c.shelf_mut.ensures.value)
           (subst (λ change. HasMoved (is_in shelf.table) (is_in (table_with change shelf.table))) c.hit_change-change.ensures moves))
     ]
 
-pub returns-in-None-clause-owing : goal.returns-in-None-clause-owing
-returns-in-None-clause-owing g c = absurd (saver_there c.args.tables.now c.args.act.now.at.trigger c.requires.role (sym c.shelf_mut.ensures.value ∙ ap option_copied_mut c.in-None.is))
+pub returns-in-None-clause-leaves_stale : goal.returns-in-None-clause-leaves_stale
+returns-in-None-clause-leaves_stale g c = absurd (saver_there c.args.tables.now c.args.act.now.at.trigger c.requires.role (sym c.shelf_mut.ensures.value ∙ ap option_copied_mut c.in-None.is))
 
 pub returns-in-None-clause-told : goal.returns-in-None-clause-told
 returns-in-None-clause-told g c = absurd (saver_there c.args.tables.now c.args.act.now.at.trigger c.requires.role (sym c.shelf_mut.ensures.value ∙ ap option_copied_mut c.in-None.is))

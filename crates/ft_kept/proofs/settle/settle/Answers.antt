@@ -2,12 +2,11 @@
 use Rattle.std.proofs.Common.{rules, ◌≡◌, Some, None, OnOk, sym, ap, subst, ◌∙◌}
 use Rattle.std.specs.FinMap as map
 use Rattle.std.specs.Option.{option_copied_mut}
-use Rattle.std.specs.Cmp.{nat_cmp_total}
 use Rattle.std.proofs.lemmas.Result.{on_ok_weaker}
-use Rattle.ft_maps.specs.Seen.{get-seen}
 use Rattle.ft_table.specs.Spots.{traced}
 use Rattle.ft_table.specs.Values.{values_at, values_by}
-use Rattle.ft_shelves.specs.Edits.{with_hit_on}
+use Rattle.ft_hits.specs.declared.spot.Spot.{Spot}
+use Rattle.ft_shelves.specs.Edits.{with_hit_on, without_hit_on}
 use Rattle.ft_shelves.specs.Shelves.{Readings, Shelved, kept_on}
 use Rattle.ft_kept.specs.Entries.{read_here}
 use Rattle.ft_kept.specs.Signs.{FindsBy, act_after}
@@ -22,12 +21,12 @@ use Rattle.ft_kept.proofs.settle.settle.Goals as goal
 pub returns-in_default-clause-readers : goal.returns-in_default-clause-readers
 returns-in_default-clause-readers c =
     let reading = c.args.reading.now in
-    absurd (reads_attached (triggers_of c.args.scene.now) c.args.tables.now reading.at.trigger reading.variable.saver c.requires.shelved c.requires.role (get-seen nat_cmp_total c.args.scene.now.triggers.now reading.at.trigger ∙ sym c.in_default.ensures.value))
+    absurd (reads_attached (triggers_of c.args.scene.now) c.args.tables.now reading.at.trigger reading.variable.saver c.requires.shelved c.requires.role (sym c.in_default.ensures))
 
 pub returns-in_default-clause-right : goal.returns-in_default-clause-right
 returns-in_default-clause-right c =
     let reading = c.args.reading.now in
-    absurd (reads_attached (triggers_of c.args.scene.now) c.args.tables.now reading.at.trigger reading.variable.saver c.requires.shelved c.requires.role (get-seen nat_cmp_total c.args.scene.now.triggers.now reading.at.trigger ∙ sym c.in_default.ensures.value))
+    absurd (reads_attached (triggers_of c.args.scene.now) c.args.tables.now reading.at.trigger reading.variable.saver c.requires.shelved c.requires.role (sym c.in_default.ensures))
 
 pub returns-in_default-shelf_mut-clause-readers : goal.returns-in_default-shelf_mut-clause-readers
 returns-in_default-shelf_mut-clause-readers c =
@@ -49,9 +48,9 @@ put_hit-requires c =
     let reading = c.args.reading.now in
     let shelf = c.in-Some-shelf_mut.shelf.now in
     let was : map.get c.args.tables.now reading.at.trigger ≡ Some shelf = lent_was reading.at.trigger c.args.tables.now c.shelf_mut.result c.in-Some-shelf_mut.shelf c.in-Some-shelf_mut.is c.shelf_mut.ensures.value in
-    let clear : c.take_hit.new.self ≡ cleared reading.at.pos reading.variable.key shelf = c.take_hit.ensures in
+    let clear : c.take_hit.new.self ≡ cleared reading.at.pos reading.variable.key shelf = c.take_hit.ensures ∙ ap (λ (spot : Spot). without_hit_on (record { spot = spot; key = reading.variable.key }) shelf) c.traced-spot.ensures in
     ap (λ (s : Shelved). map.get s.table.hits (record { spot = c.hit_with-hit.result.spot; key = c.hit_with-hit.result.key })) clear
-    ∙ ap (λ h. map.get (cleared reading.at.pos reading.variable.key shelf).table.hits (record { spot = h.spot; key = h.key })) (traced_hit c.in-Some.trigger.now reading.event.now reading.variable.key (Some c.in-Some-found.saved.pos) c.traced.result c.hit_with-hit.result reading.at.pos c.hit_with-hit.ensures c.traced.ensures)
+    ∙ ap (λ h. map.get (cleared reading.at.pos reading.variable.key shelf).table.hits (record { spot = h.spot; key = h.key })) (traced_hit c.in-Some.trigger.now reading.event.now reading.variable.key (Some c.in-Some-found.saved.pos) c.traced-spot.result c.hit_with-hit.result reading.at.pos c.hit_with-hit.ensures c.traced-spot.ensures)
     ∙ cleared_hit reading.at.pos reading.variable.key shelf reading.event.now
     (shelf_own (values_by (triggers_of c.args.scene.now)) c.args.tables.now c.args.tables.now reading.at reading.variable.saver reading.variable.key reading.event.now shelf was c.requires.role c.requires.own) reading.variable.key
 
@@ -63,7 +62,7 @@ settled c =
     let old = c.args.tables.now in
     let shelf = c.in-Some-shelf_mut.shelf.now in
     let was : map.get old reading.at.trigger ≡ Some shelf = lent_was reading.at.trigger old c.shelf_mut.result c.in-Some-shelf_mut.shelf c.in-Some-shelf_mut.is c.shelf_mut.ensures.value in
-    let clear : c.take_hit.new.self ≡ cleared reading.at.pos reading.variable.key shelf = c.take_hit.ensures in
+    let clear : c.take_hit.new.self ≡ cleared reading.at.pos reading.variable.key shelf = c.take_hit.ensures ∙ ap (λ (spot : Spot). without_hit_on (record { spot = spot; key = reading.variable.key }) shelf) c.traced-spot.ensures in
     let new = c.shelf_mut.follows.lender c.take_hit.new.self in
     settled_none (values_by (triggers_of c.args.scene.now)) old new reading.at reading.variable.saver reading.variable.key reading.event.now shelf was c.requires.role c.requires.own c.args.sign
     (lent_back reading.at.trigger old c.shelf_mut.result c.in-Some-shelf_mut.shelf c.in-Some-shelf_mut.is c.shelf_mut.ensures.value new c.take_hit.new.self (c.shelf_mut.follows.holds c.take_hit.new.self)
@@ -87,19 +86,19 @@ put c =
     let old = c.args.tables.now in
     let shelf = c.in-Some-shelf_mut.shelf.now in
     let was : map.get old reading.at.trigger ≡ Some shelf = lent_was reading.at.trigger old c.shelf_mut.result c.in-Some-shelf_mut.shelf c.in-Some-shelf_mut.is c.shelf_mut.ensures.value in
-    let clear : c.take_hit.new.self ≡ cleared reading.at.pos reading.variable.key shelf = c.take_hit.ensures in
+    let clear : c.take_hit.new.self ≡ cleared reading.at.pos reading.variable.key shelf = c.take_hit.ensures ∙ ap (λ (spot : Spot). without_hit_on (record { spot = spot; key = reading.variable.key }) shelf) c.traced-spot.ensures in
     let new = c.shelf_mut.follows.lender c.put_hit.new.self in
     let trigger = c.in-Some.trigger.now in
     let saved = c.in-Some-found.saved in
     let added = values_at trigger reading.at.pos reading.event.now (Some saved.pos) in
-    let attached : map.get (triggers_of c.args.scene.now) reading.at.trigger ≡ Some trigger = get-seen nat_cmp_total c.args.scene.now.triggers.now reading.at.trigger ∙ sym c.in-Some.ensures.value in
+    let attached : map.get (triggers_of c.args.scene.now) reading.at.trigger ≡ Some trigger = sym c.in-Some.ensures in
     on_ok_weaker c.put_hit.result (λ is.
     settled_some (values_by (triggers_of c.args.scene.now)) old new reading.at reading.variable.saver reading.variable.key reading.event.now shelf was c.requires.role c.requires.own c.args.sign
     saved added (sym (values_there (triggers_of c.args.scene.now) reading.at.trigger trigger reading.at.pos reading.event.now (Some saved.pos) attached))
     (lent_back reading.at.trigger old c.shelf_mut.result c.in-Some-shelf_mut.shelf c.in-Some-shelf_mut.is c.shelf_mut.ensures.value new c.put_hit.new.self (c.shelf_mut.follows.holds c.put_hit.new.self)
     ∙ ap (map.insert old reading.at.trigger)
     (is ∙ ap (λ h. with_hit_on (record { spot = h.spot; key = h.key }) h.values (Some saved.pos) c.take_hit.new.self)
-    (traced_hit trigger reading.event.now reading.variable.key (Some saved.pos) c.traced.result c.hit_with-hit.result reading.at.pos c.hit_with-hit.ensures c.traced.ensures)
+    (traced_hit trigger reading.event.now reading.variable.key (Some saved.pos) c.traced-spot.result c.hit_with-hit.result reading.at.pos c.hit_with-hit.ensures c.traced-spot.ensures)
     ∙ ap (with_hit_on (record { spot = traced reading.at.pos; key = reading.variable.key }) added (Some saved.pos)) clear))
     (subst (FindsBy c.args.sign ((kept_on old).ops reading.variable) reading.at) c.in-Some-found.is c.found_at-found.ensures)) c.put_hit.ensures.ok
 

@@ -1,6 +1,4 @@
 use Rattle.std.proofs.Common.{◌≡◌, Some, None, refl, subst, ◌∙◌, arith}
-use Rattle.std.specs.Ordering.{nat_cmp}
-use Rattle.ft_maps.specs.Seen.{seen}
 use Rattle.ft_pairs.specs.Next.{IsNext}
 use Rattle.ft_pairs.specs.Source.{Ops}
 use Rattle.ft_pairs.specs.declared.at.At.{At}
@@ -10,8 +8,8 @@ use Rattle.ft_kept.specs.inner.Settling.{without_next_read, without_reads_of}
 use Rattle.ft_shelves.specs.Shelves.{role_on, kept_on}
 use Rattle.ft_table.specs.Values.{values_by}
 use Rattle.ft_kept.proofs.Forms.{readers_refl, readers_trans, readers_forms, readers_ops, shelved_stay}
-use Rattle.ft_kept.proofs.Paid.{owes_less, pays_then, pays_partly}
-use Rattle.ft_kept.proofs.Told.{reread_nothing, reread_trans, told_reread}
+use Rattle.ft_kept.proofs.Refreshed.{stale_less, refreshes_then, refreshes_partly}
+use Rattle.ft_kept.proofs.Told.{reread_nothing, reread_trans}
 use Rattle.ft_kept.proofs.Walks.{on_walk, next_there, walk_begins, walk_ends, walk_goes_on}
 use Rattle.ft_kept.proofs.settle.settle_key.Goals as goal
 
@@ -21,18 +19,18 @@ loop-next-init c =
     record {
       readers = readers_refl c.args.tables.now;
       there = next_there ops None c.next_op-next.result c.next_op-next.ensures.next;
-      right = λ admits acts owed held kept.
-          owes_less (role_on c.args.tables.now) (values_by (seen nat_cmp c.args.scene.now.triggers.now)) admits acts (kept_on c.args.tables.now) owed (on_walk ops c.next_op-next.result owed)
-          (λ q owes. walk_begins ops q c.next_op-next.result c.next_op-next.ensures.next owed owes) kept;
-      told = reread_nothing c.args.variable.now c.tell_key.new.self c.args.tables.now;
+      right = λ admits acts stale held kept.
+          stale_less (role_on c.args.tables.now) (values_by c.args.scene.now.triggers.now) admits acts (kept_on c.args.tables.now) stale (on_walk ops c.next_op-next.result stale)
+          (λ q is_stale. walk_begins ops q c.next_op-next.result c.next_op-next.ensures.next stale is_stale) kept;
+      told = reread_nothing c.args.variable.now c.args.changes.now c.args.tables.now;
       evals = refl;
       puts = omega arith;
     }
 
 pub settle_op-requires-clause-can : goal.settle_op-requires-clause-can
 settle_op-requires-clause-can c = record {
-  shelved = shelved_stay (seen nat_cmp c.args.scene.now.triggers.now) c.args.tables.now c.loop-next.tables (readers_forms c.args.tables.now c.loop-next.tables c.loop-next.invariant.readers) c.requires.shelved;
-  partly = pays_partly (seen nat_cmp c.args.scene.now.triggers.now) c.args.scene.now.lanes.now c.args.tables.now c.loop-next.tables
+  shelved = shelved_stay c.args.scene.now.triggers.now c.args.tables.now c.loop-next.tables (readers_forms c.args.tables.now c.loop-next.tables c.loop-next.invariant.readers) c.requires.shelved;
+  partly = refreshes_partly c.args.scene.now.triggers.now c.args.scene.now.lanes.now c.args.tables.now c.loop-next.tables
       (on_walk ((kept_on c.args.tables.now).ops c.args.variable.now) c.loop-next.next)
       (readers_forms c.args.tables.now c.loop-next.tables c.loop-next.invariant.readers) c.loop-next.invariant.right c.requires.partly;
 }
@@ -57,28 +55,23 @@ loop-next-preserved c =
     record {
       readers = readers;
       there = next_there ops (Some c.in-Some.at) c.next_op-next-in-Some.result is_next;
-      right = λ admits acts owed held kept.
-          owes_less (role_on first) (values_by (seen nat_cmp c.args.scene.now.triggers.now)) admits acts (kept_on after)
-          (without_next_read (Some step) (on_walk ops (Some step) owed)) (on_walk ops c.next_op-next-in-Some.result owed)
-          (λ q owes. walk_goes_on ops q step c.next_op-next-in-Some.result (c.loop-next.invariant.there step c.in-Some.is) is_next owed owes)
-          (subst (λ next. IsKeptBut (role_on first) (values_by (seen nat_cmp c.args.scene.now.triggers.now)) admits acts (kept_on after) (without_next_read (Some step) (on_walk ops next owed))) c.in-Some.is
-          (pays_then (seen nat_cmp c.args.scene.now.triggers.now) c.args.scene.now.lanes.now first before (on_walk ops c.loop-next.next)
-          (readers_forms first before c.loop-next.invariant.readers) c.loop-next.invariant.right after (without_next_read (Some step)) c.in_ok-settle_op.ensures.right admits acts owed held kept));
-      told = reread_trans c.args.variable.now c.tell_key.new.self c.loop-next.changes c.settle_op.new.changes first before after (readers_forms first before c.loop-next.invariant.readers) c.loop-next.invariant.told c.in_ok-settle_op.ensures.told;
+      right = λ admits acts stale held kept.
+          stale_less (role_on first) (values_by c.args.scene.now.triggers.now) admits acts (kept_on after)
+          (without_next_read (Some step) (on_walk ops (Some step) stale)) (on_walk ops c.next_op-next-in-Some.result stale)
+          (λ q is_stale. walk_goes_on ops q step c.next_op-next-in-Some.result (c.loop-next.invariant.there step c.in-Some.is) is_next stale is_stale)
+          (subst (λ next. IsKeptBut (role_on first) (values_by c.args.scene.now.triggers.now) admits acts (kept_on after) (without_next_read (Some step) (on_walk ops next stale))) c.in-Some.is
+          (refreshes_then c.args.scene.now.triggers.now c.args.scene.now.lanes.now first before (on_walk ops c.loop-next.next)
+          (readers_forms first before c.loop-next.invariant.readers) c.loop-next.invariant.right after (without_next_read (Some step)) c.in_ok-settle_op.ensures.right admits acts stale held kept));
+      told = reread_trans c.args.variable.now c.args.changes.now c.loop-next.changes c.settle_op.new.changes first before after (readers_forms first before c.loop-next.invariant.readers) c.loop-next.invariant.told c.in_ok-settle_op.ensures.told;
       evals = c.settle_op.ensures.evals ∙ c.loop-next.invariant.evals;
       puts = let before = c.loop-next.invariant.puts in let more = c.settle_op.ensures.grow.puts in omega (arith, before, more);
     }
 
 pub returns-clause-right : goal.returns-clause-right
-returns-clause-right c = λ admits acts owed held kept.
+returns-clause-right c = λ admits acts stale held kept.
     let ops : Ops = (kept_on c.args.tables.now).ops c.args.variable.now in
-    owes_less (role_on c.args.tables.now) (values_by (seen nat_cmp c.args.scene.now.triggers.now)) admits acts (kept_on c.loop-next.tables)
-    (on_walk ops None owed) (without_reads_of c.args.tables.now c.args.variable.now owed)
-    (λ q owes. walk_ends ops q owed owes)
-    (subst (λ next. IsKeptBut (role_on c.args.tables.now) (values_by (seen nat_cmp c.args.scene.now.triggers.now)) admits acts (kept_on c.loop-next.tables) (on_walk ops next owed)) c.in_default.is
-    (c.loop-next.invariant.right admits acts owed held kept))
-
-pub returns-clause-told : goal.returns-clause-told
-returns-clause-told c =
-    told_reread c.args.variable.now c.args.changes.now c.tell_key.new.self c.loop-next.changes c.args.tables.now c.loop-next.tables c.tell_key.ensures.keys c.tell_key.ensures.readings
-    c.loop-next.invariant.told
+    stale_less (role_on c.args.tables.now) (values_by c.args.scene.now.triggers.now) admits acts (kept_on c.loop-next.tables)
+    (on_walk ops None stale) (without_reads_of c.args.tables.now c.args.variable.now stale)
+    (λ q is_stale. walk_ends ops q stale is_stale)
+    (subst (λ next. IsKeptBut (role_on c.args.tables.now) (values_by c.args.scene.now.triggers.now) admits acts (kept_on c.loop-next.tables) (on_walk ops next stale)) c.in_default.is
+    (c.loop-next.invariant.right admits acts stale held kept))

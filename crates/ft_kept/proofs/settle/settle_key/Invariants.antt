@@ -2,7 +2,7 @@ use Rattle.std.proofs.Common.{◌≡◌, ◌≤◌, suc, Some}
 use Rattle.std.specs.Option.{option_map_or}
 use Rattle.ft_pairs.specs.declared.at.At.{At}
 use Rattle.ft_pairs.specs.declared.at.Op.{Op}
-use Rattle.ft_kept.specs.inner.Acting.{Paid}
+use Rattle.ft_kept.specs.inner.Acting.{Refreshed}
 use Rattle.ft_kept.specs.inner.Edits.{ReadersChange, left_on}
 use Rattle.ft_kept.specs.inner.Telling.{HasReread}
 use Rattle.ft_shelves.specs.Shelves.{kept_on}
@@ -13,8 +13,8 @@ abbrev pub invariant-loop-next : goal.invariant-loop-next
 invariant-loop-next l = record {
   readers : ReadersChange l.fn.tables l.tables;
   there : (step : At × Op) → l.next ≡ Some step → (kept_on l.fn.tables).ops l.variable step.0 ≡ Some step.1;
-  right : Paid l.scene l.fn.tables l.tables (on_walk ((kept_on l.fn.tables).ops l.variable) l.next);
-  told : HasReread l.variable l.initial.changes l.changes l.fn.tables l.tables;
+  right : Refreshed l.scene l.fn.tables l.tables (on_walk ((kept_on l.fn.tables).ops l.variable) l.next);
+  told : HasReread l.variable l.fn.changes l.changes l.fn.tables l.tables;
   evals : l.work.evals ≡ l.fn.work.evals;
   puts : l.fn.work.puts ≤ l.work.puts;
 }

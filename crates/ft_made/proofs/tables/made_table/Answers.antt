@@ -1,88 +1,109 @@
-use Rattle.std.proofs.Common.{◌≡◌, ◌∷◌, ℕ, List, refl, sym, ap, subst, ◌∙◌, Some}
-use Rattle.std.specs.Prelude.{fold}
+use Rattle.std.proofs.Common.{◌≡◌, ◌∷◌, ℕ, List, [], refl, sym, ap, subst, ◌∙◌, Some}
+use Rattle.std.specs.Option.{option_map_or}
+use Rattle.std.specs.Prelude.{map as list_map}
 use Rattle.std.specs.List.{AllByRecursion}
 use Rattle.std.specs.Ordering.{nat_cmp}
 use Rattle.std.specs.Cmp.{nat_cmp_total}
 use Rattle.std.specs.FinMap as map
+use Rattle.std.specs.FinMap.{FinMap}
 use Rattle.std.specs.Map.Iter.{deref_pair}
 use Rattle.std.proofs.lemmas.Map.Iter.{rest_more, rest_all}
+use Rattle.ft_fields.specs.Places.{pos_cmp}
+use Rattle.ft_fields.specs.declared.pos.Pos.{Pos}
 use Rattle.ft_hist.specs.Hist.{Hist}
-use Rattle.ft_lanes.specs.Held.{Lanes}
-use Rattle.ft_maps.specs.Seen.{seen}
 use Rattle.ft_table.specs.Tabled.{Tabled}
-use Rattle.ft_base.specs.Base.{Triggers}
-use Rattle.ft_base.proofs.Apart.{AreApart, all_of, entries_apart, entries_found}
-use Rattle.ft_replay.specs.Merged.{merged}
+use Rattle.ft_changes.specs.Findings.{Lead}
+use Rattle.ft_changes.specs.declared.changed.ReadingChange.{ReadingChange}
+use Rattle.ft_hist.specs.Triggers.{Triggers}
+use Rattle.ft_base.proofs.Apart.{AreApart, entries_apart, entries_found}
+use Rattle.ft_replay.specs.Merged.{Events, merged}
 use Rattle.ft_replay.specs.declared.pair.Pair.{Pair}
 use Rattle.ft_replay.proofs.Stepping.{grow_none, grow_more}
-use Rattle.ft_made.specs.MadeTables.{IsMadeTable, found_in}
-use Rattle.ft_made.specs.inner.Pairs.{IsIdle, with_maker}
-use Rattle.ft_made.proofs.Filling.{new_table, new_idle, idle_later, pairs_free, filled}
-use Rattle.ft_made.proofs.Views.{fold_step}
+use Rattle.ft_made.specs.MadeTables.{ArePairsOf, IsMadeTable, found_in}
+use Rattle.ft_made.specs.inner.First.{first_change, first_changes}
+use Rattle.ft_made.proofs.Filling.{new_table, readings_of, are_of, not_yet, lead_next, new_made, all_made}
 use Rattle.ft_made.proofs.tables.made_table.Goals as goal
 
 pub loop-id-init : goal.loop-id-init
 loop-id-init g c =
-    let triggers : Triggers = seen nat_cmp c.args.triggers.now in
-    let lanes : Lanes = c.args.lanes.now in
+    let triggers : Triggers = c.args.triggers.now in
+    let events : Events = merged c.args.lanes.now in
     let hist : Hist = c.args.trigger.now in
     let pairs : ℕ → List Pair = g.R.KeptReadings.pairs c.args.readings.now in
-    let all : c.into_iter-id-iterator.result ≡ map.entries triggers = c.into_iter-id-iterator.ensures.into_iter_gives ∙ c.entries-id-items.ensures.rest in
+    let all : c.into_iter-id-iterator.result ≡ map.entries triggers = c.into_iter-id-iterator.ensures.into_iter_gives ∙ c.iter-id-items.ensures.rest in
     let new : c.new-table.result ≡ new_table hist = c.new-table.ensures ∙ ap (λ (n : ℕ). let t : Tabled = record { hits = map.empty; size = n } in t) c.size.ensures.value in
     record {
-      rest = (λ i. fold (with_maker lanes hist pairs) (new i) (all i));
+      made = λ found are. subst (λ (at : List (ℕ × Hist)). IsMadeTable triggers events (not_yet triggers pairs found are at) hist c.new-table.result) (sym all)
+          (subst (IsMadeTable triggers events (not_yet triggers pairs found are (map.entries triggers)) hist) (sym new) (new_made triggers pairs found are events hist));
       apart = subst (AreApart nat_cmp) (sym all) (entries_apart nat_cmp triggers);
       attached = subst (AllByRecursion (λ (e : ℕ × Hist). map.get triggers e.0 ≡ Some e.1)) (sym all) (entries_found nat_cmp nat_cmp_total triggers);
-      idle = subst (λ (t : Tabled). AllByRecursion (λ (e : ℕ × Hist). IsIdle e.0 t) c.into_iter-id-iterator.result) (sym new) (all_of (λ (e : ℕ × Hist). IsIdle e.0 (new_table hist)) (λ e. new_idle hist e.0) c.into_iter-id-iterator.result);
       none = λ _. refl;
       grow = grow_none _;
     }
 
-pub put_maker-requires : goal.put_maker-requires
-put_maker-requires g c =
-    let triggers : Triggers = seen nat_cmp c.args.triggers.now in
-    let pairs : ℕ → List Pair = g.R.KeptReadings.pairs c.args.readings.now in
-    let e : ℕ × Hist = (c.in-Some.id.now, c.in-Some.maker.now) in
-    let more : c.loop-id.id-iterator ≡ e ∷ c.next.new.self = rest_more (deref_pair {K = ℕ} {X = Hist}) _ _ _ _ c.in-Some.is c.next.ensures.steps in
-    let attached : map.get triggers e.0 ≡ Some e.1 = (subst (AllByRecursion (λ (x : ℕ × Hist). map.get triggers x.0 ≡ Some x.1)) more c.loop-id.invariant.attached).0 in
-    let idle : IsIdle e.0 c.loop-id.table = (subst (AllByRecursion (λ (x : ℕ × Hist). IsIdle x.0 c.loop-id.table)) more c.loop-id.invariant.idle).0 in
-    pairs_free c.args.lanes.now c.args.trigger.now e.0 e.1 c.loop-id.table idle (pairs e.0) (c.requires e.0 e.1 attached)
-
-pub loop-id-preserved : goal.loop-id-preserved
-loop-id-preserved g c =
-    let triggers : Triggers = seen nat_cmp c.args.triggers.now in
-    let lanes : Lanes = c.args.lanes.now in
+pub turn_made-requires : goal.turn_made-requires
+turn_made-requires g c =
+    let triggers : Triggers = c.args.triggers.now in
+    let events : Events = merged c.args.lanes.now in
     let hist : Hist = c.args.trigger.now in
     let pairs : ℕ → List Pair = g.R.KeptReadings.pairs c.args.readings.now in
     let e : ℕ × Hist = (c.in-Some.id.now, c.in-Some.maker.now) in
-    let more : c.loop-id.id-iterator ≡ e ∷ c.next.new.self = rest_more (deref_pair {K = ℕ} {X = Hist}) _ _ _ _ c.in-Some.is c.next.ensures.steps in
-    let apart : AreApart nat_cmp (e ∷ c.next.new.self) = subst (AreApart nat_cmp) more c.loop-id.invariant.apart in
-    let attached : AllByRecursion (λ (x : ℕ × Hist). map.get triggers x.0 ≡ Some x.1) (e ∷ c.next.new.self) = subst (AllByRecursion (λ (x : ℕ × Hist). map.get triggers x.0 ≡ Some x.1)) more c.loop-id.invariant.attached in
-    let idle : AllByRecursion (λ (x : ℕ × Hist). IsIdle x.0 c.loop-id.table) (e ∷ c.next.new.self) = subst (AllByRecursion (λ (x : ℕ × Hist). IsIdle x.0 c.loop-id.table)) more c.loop-id.invariant.idle in
-    let put : c.put_maker.new.table ≡ with_maker lanes hist pairs c.loop-id.table e = c.in_ok-put_maker.ensures.ok in
+    let left : List (ℕ × Hist) = c.next.new.self in
+    let more : c.loop-id.id-iterator ≡ e ∷ left = rest_more (deref_pair {K = ℕ} {X = Hist}) _ _ _ _ c.in-Some.is c.next.ensures.steps in
+    let found : ℕ → FinMap pos_cmp Pos = readings_of triggers pairs in
+    let are : ArePairsOf triggers pairs found = are_of triggers pairs c.requires in
     record {
-      rest = fold_step (with_maker lanes hist pairs) c.loop-id.table c.put_maker.new.table (fold (with_maker lanes hist pairs) (new_table hist) (map.entries triggers)) e c.next.new.self c.loop-id.id-iterator put more c.loop-id.invariant.rest;
+      found = not_yet triggers pairs found are (e ∷ left);
+      now = not_yet triggers pairs found are left;
+      lead = subst (λ (changes : List ReadingChange). Lead changes (not_yet triggers pairs found are (e ∷ left)) (not_yet triggers pairs found are left)) (sym (c.deref.ensures.value ∙ c.in_ok-changes.ensures))
+          (lead_next triggers pairs found are e left (subst (AreApart nat_cmp) more c.loop-id.invariant.apart).0
+          (subst (AllByRecursion (λ (x : ℕ × Hist). map.get triggers x.0 ≡ Some x.1)) more c.loop-id.invariant.attached).0);
+      made = subst (λ (at : List (ℕ × Hist)). IsMadeTable triggers events (not_yet triggers pairs found are at) hist c.loop-id.table) more (c.loop-id.invariant.made found are);
+    }
+
+pub loop-id-preserved : goal.loop-id-preserved
+loop-id-preserved g c =
+    let triggers : Triggers = c.args.triggers.now in
+    let events : Events = merged c.args.lanes.now in
+    let hist : Hist = c.args.trigger.now in
+    let pairs : ℕ → List Pair = g.R.KeptReadings.pairs c.args.readings.now in
+    let e : ℕ × Hist = (c.in-Some.id.now, c.in-Some.maker.now) in
+    let left : List (ℕ × Hist) = c.next.new.self in
+    let more : c.loop-id.id-iterator ≡ e ∷ left = rest_more (deref_pair {K = ℕ} {X = Hist}) _ _ _ _ c.in-Some.is c.next.ensures.steps in
+    let apart : AreApart nat_cmp (e ∷ left) = subst (AreApart nat_cmp) more c.loop-id.invariant.apart in
+    let attached : AllByRecursion (λ (x : ℕ × Hist). map.get triggers x.0 ≡ Some x.1) (e ∷ left) = subst (AllByRecursion (λ (x : ℕ × Hist). map.get triggers x.0 ≡ Some x.1)) more c.loop-id.invariant.attached in
+    record {
+      made = λ found are.
+          c.in_ok-turn_made.ensures.turned (not_yet triggers pairs found are (e ∷ left)) (not_yet triggers pairs found are left)
+          (subst (λ (changes : List ReadingChange). Lead changes (not_yet triggers pairs found are (e ∷ left)) (not_yet triggers pairs found are left)) (sym (c.deref.ensures.value ∙ c.in_ok-changes.ensures))
+          (lead_next triggers pairs found are e left apart.0 attached.0))
+          (subst (λ (at : List (ℕ × Hist)). IsMadeTable triggers events (not_yet triggers pairs found are at) hist c.loop-id.table) more (c.loop-id.invariant.made found are));
       apart = apart.1;
       attached = attached.1;
-      idle = subst (λ (t : Tabled). AllByRecursion (λ (x : ℕ × Hist). IsIdle x.0 t) c.next.new.self) (sym put) (idle_later lanes hist pairs c.loop-id.table e c.next.new.self apart.0 idle.1);
-      none = λ none. c.in_ok-put_maker.ensures.idle (none e.0 e.1 attached.0) ∙ c.loop-id.invariant.none none;
-      grow = grow_more _ _ _ c.loop-id.invariant.grow c.in_ok-put_maker.ensures.grow;
+      none = λ none.
+          (c.in_ok-turn_made.ensures.idle (c.deref.ensures.value ∙ c.in_ok-changes.ensures
+          ∙ ap (λ o. option_map_or (λ onmatch. list_map (first_change e.0) (pairs e.0)) o []) (none e.0 e.1 attached.0))).1.1
+          ∙ c.loop-id.invariant.none none;
+      grow = grow_more _ _ _ c.loop-id.invariant.grow c.in_ok-turn_made.ensures.grow;
     }
 
 pub returns-clause-table : goal.returns-clause-table
 returns-clause-table g c =
-    let triggers : Triggers = seen nat_cmp c.args.triggers.now in
-    let lanes : Lanes = c.args.lanes.now in
+    let triggers : Triggers = c.args.triggers.now in
+    let events : Events = merged c.args.lanes.now in
     let hist : Hist = c.args.trigger.now in
     let pairs : ℕ → List Pair = g.R.KeptReadings.pairs c.args.readings.now in
-    let whole : c.loop-id.table ≡ fold (with_maker lanes hist pairs) (new_table hist) (map.entries triggers) =
-    sym (ap (fold (with_maker lanes hist pairs) c.loop-id.table) (rest_all (deref_pair {K = ℕ} {X = Hist}) _ _ _ c.in-None.is c.next.ensures.steps)) ∙ c.loop-id.invariant.rest in
-    λ found are. subst (IsMadeTable triggers (merged lanes) (found_in found) hist) (sym whole) (filled lanes hist pairs found triggers are)
+    let all : c.loop-id.id-iterator ≡ [] = rest_all (deref_pair {K = ℕ} {X = Hist}) _ _ _ c.in-None.is c.next.ensures.steps in
+    λ found are. all_made triggers pairs found are events hist c.loop-id.table
+    (subst (λ (at : List (ℕ × Hist)). IsMadeTable triggers events (not_yet triggers pairs found are at) hist c.loop-id.table) all (c.loop-id.invariant.made found are))
 
-pub returns-in_err-put_maker-clause-idle : goal.returns-in_err-put_maker-clause-idle
-returns-in_err-put_maker-clause-idle g c =
-    let triggers : Triggers = seen nat_cmp c.args.triggers.now in
+pub returns-in_err-turn_made-clause-idle : goal.returns-in_err-turn_made-clause-idle
+returns-in_err-turn_made-clause-idle g c =
+    let triggers : Triggers = c.args.triggers.now in
+    let pairs : ℕ → List Pair = g.R.KeptReadings.pairs c.args.readings.now in
     let e : ℕ × Hist = (c.in-Some.id.now, c.in-Some.maker.now) in
     let more : c.loop-id.id-iterator ≡ e ∷ c.next.new.self = rest_more (deref_pair {K = ℕ} {X = Hist}) _ _ _ _ c.in-Some.is c.next.ensures.steps in
     let attached : map.get triggers e.0 ≡ Some e.1 = (subst (AllByRecursion (λ (x : ℕ × Hist). map.get triggers x.0 ≡ Some x.1)) more c.loop-id.invariant.attached).0 in
-    λ none. c.put_maker.ensures.idle (none e.0 e.1 attached) ∙ c.loop-id.invariant.none none
+    λ none.
+    (c.turn_made.ensures.idle (c.deref.ensures.value ∙ c.in_ok-changes.ensures ∙ ap (λ o. option_map_or (λ onmatch. list_map (first_change e.0) (pairs e.0)) o []) (none e.0 e.1 attached))).1.1
+    ∙ c.loop-id.invariant.none none

@@ -1,11 +1,9 @@
 use Rattle.std.proofs.Common.{◌≡◌, ◌+◌, ◌++◌, List, arith, drop, get_or, ap, ◌∙◌}
 use Rattle.std.proofs.lemmas.List.{append_assoc, drop_all, drop_more}
-use Rattle.std.specs.Ordering.{nat_cmp}
 use Rattle.ft_hist.specs.Hist.{Hist}
-use Rattle.ft_keys.specs.declared.key.Part.{Part}
-use Rattle.ft_maps.specs.Seen.{seen}
+use Rattle.ft_fields.specs.declared.key.Part.{Part}
 use Rattle.ft_changes.specs.declared.changed.ReadingChange.{ReadingChange}
-use Rattle.ft_base.specs.Base.{Triggers}
+use Rattle.ft_hist.specs.Triggers.{Triggers}
 use Rattle.ft_replay.specs.Merged.{Events, merged}
 use Rattle.ft_replay.proofs.Stepping.{grow_more}
 use Rattle.ft_made.specs.Turning.{keys_at, keys_of_made, keys_turned, made_as}
@@ -15,7 +13,7 @@ use Rattle.ft_made.proofs.turning.put_turned_keys.Goals as goal
 
 pub loop-change-preserved : goal.loop-change-preserved
 loop-change-preserved c =
-    let triggers : Triggers = seen nat_cmp c.args.triggers.now in
+    let triggers : Triggers = c.args.triggers.now in
     let events : Events = merged c.args.lanes.now in
     let hist : Hist = c.args.trigger.now in
     let changes : List ReadingChange = c.args.changes.now in
@@ -37,5 +35,5 @@ loop-change-preserved c =
 pub returns-clause-keys : goal.returns-clause-keys
 unfolding keys_turned
 returns-clause-keys c =
-    flat_done (keys_at (seen nat_cmp c.args.triggers.now) (merged c.args.lanes.now) c.args.trigger.now) c.loop-change.keys.items _ (drop c.loop-change.change-index c.args.changes.now)
+    flat_done (keys_at c.args.triggers.now (merged c.args.lanes.now) c.args.trigger.now) c.loop-change.keys.items _ (drop c.loop-change.change-index c.args.changes.now)
     (drop_all c.loop-change.change-index c.args.changes.now (omega (arith, c.loop-change-test.false))) c.loop-change.invariant.all

@@ -1,8 +1,6 @@
 use Rattle.std.proofs.Common.{◌≡◌, ◌++◌, drop}
 use Rattle.std.specs.List.{flat_map}
-use Rattle.std.specs.Ordering.{nat_cmp}
 use Rattle.ft_hist.specs.Steps.{StepsGrow}
-use Rattle.ft_maps.specs.Seen.{seen}
 use Rattle.ft_replay.specs.Merged.{merged}
 use Rattle.ft_made.specs.Turning.{keys_at}
 use Rattle.ft_made.proofs.turning.put_turned_keys.Given as goal
@@ -10,7 +8,7 @@ use Rattle.ft_made.proofs.turning.put_turned_keys.Given as goal
 -- with the keys of the changes that are left they are all; no count of steps fell
 abbrev pub invariant-loop-change : goal.invariant-loop-change
 invariant-loop-change l = record {
-  all : l.keys.items ++ flat_map (keys_at (seen nat_cmp l.triggers) (merged l.lanes) l.trigger) (drop l.change-index l.changes)
-      ≡ l.fn.keys.items ++ flat_map (keys_at (seen nat_cmp l.triggers) (merged l.lanes) l.trigger) l.changes;
+  all : l.keys.items ++ flat_map (keys_at l.triggers (merged l.lanes) l.trigger) (drop l.change-index l.changes)
+      ≡ l.fn.keys.items ++ flat_map (keys_at l.triggers (merged l.lanes) l.trigger) l.changes;
   grow : StepsGrow l.fn.work l.work;
 }

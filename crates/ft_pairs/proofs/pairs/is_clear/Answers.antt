@@ -1,7 +1,7 @@
 use Rattle.std.proofs.Common.{◌≡◌, sym, ap, ◌∙◌, Some}
 use Rattle.std.specs.FinMap as map
-use Rattle.ft_keys.specs.Parts.{key_cmp}
-use Rattle.ft_keys.specs.Orders.{key_cmp_total}
+use Rattle.ft_fields.specs.Parts.{key_cmp}
+use Rattle.ft_fields.specs.Orders.{key_cmp_total}
 use Rattle.ft_maps.specs.Seen.{seen, get-seen}
 use Rattle.ft_pairs.specs.ByKey.{KeyOps}
 use Rattle.ft_pairs.proofs.pairs.is_clear.Goals as goal

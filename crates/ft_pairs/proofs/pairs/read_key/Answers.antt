@@ -3,15 +3,15 @@ use Rattle.std.proofs.Common.{◌≡◌, ◌⊎◌, sym, ap, subst, ◌∙◌, S
 use Rattle.std.specs.FinMap as map
 use Rattle.std.specs.FinMap.{get-empty}
 use Rattle.std.proofs.lemmas.Result.{IfOk-weaker, on_err_weaker}
-use Rattle.ft_keys.specs.Parts.{key_cmp}
-use Rattle.ft_keys.specs.Orders.{key_cmp_total}
-use Rattle.ft_keys.specs.Ties.{key_same}
+use Rattle.ft_fields.specs.Parts.{key_cmp}
+use Rattle.ft_fields.specs.Orders.{key_cmp_total}
+use Rattle.ft_fields.specs.Ties.{key_same}
 use Rattle.ft_maps.specs.Seen.{seen, get-seen, seen-found}
 use Rattle.ft_maps.specs.Entries.{get-insert_same}
 use Rattle.ft_pairs.specs.Order.{at_cmp}
 use Rattle.ft_pairs.specs.Source.{Ops}
 use Rattle.ft_pairs.specs.Runs.{with_reads, FindEach}
-use Rattle.ft_pairs.specs.ByKey.{KeyOps, ByKey, ChangesKey, PartlyChangesKey}
+use Rattle.ft_pairs.specs.ByKey.{KeyOps, OpsByKey, ChangesKey, PartlyChangesKey}
 use Rattle.ft_pairs.proofs.Found.{found_in, changed, at_key}
 use Rattle.ft_pairs.proofs.Partly.{partly_changed}
 use Rattle.ft_pairs.proofs.pairs.read_key.Goals as goal
@@ -37,7 +37,7 @@ returns-in-Some-clause-found c =
     let key = c.args.key in
     let new = c.put_reads.new.self in
     let at : map.get (seen key_cmp (c.get_mut.follows.lender new)) key ≡ Some new =
-    ap (λ (l : ByKey). map.get l key) (seen-found key_cmp_total key_same m (c.get_mut.follows.lender new) key c.in-Some.sequence.now new c.in-Some.ensures.value (c.get_mut.follows.holds new))
+    ap (λ (l : OpsByKey). map.get l key) (seen-found key_cmp_total key_same m (c.get_mut.follows.lender new) key c.in-Some.sequence.now new c.in-Some.ensures.value (c.get_mut.follows.holds new))
     ∙ get-insert_same key_cmp_total (seen key_cmp m) key new in
     IfOk-weaker c.put_reads.result _ _ (λ found finds.
     subst (λ (ops : Ops). FindEach ops c.args.reads.now found.items) (sym (at_key (seen key_cmp (c.get_mut.follows.lender new)) key (Some new) at)) finds) c.put_reads.ensures.found
@@ -60,7 +60,7 @@ returns-in_ok-put-in-None-clause-found c =
     let key = c.args.key in
     let new = c.put_reads-in-None.new.self in
     let at : map.get (seen key_cmp c.put.new.map) key ≡ Some new =
-    ap (λ (l : ByKey). map.get l key) c.in_ok-put-in-None.ensures.ok ∙ get-insert_same key_cmp_total _ key new in
+    ap (λ (l : OpsByKey). map.get l key) c.in_ok-put-in-None.ensures.ok ∙ get-insert_same key_cmp_total _ key new in
     subst (λ (ops : Ops). FindEach ops c.args.reads.now c.in_ok-found-in-None.found.items) (sym (at_key (seen key_cmp c.put.new.map) key (Some new) at)) c.in_ok-found-in-None.ensures.found
 
 pub returns-in-Some-clause-err : goal.returns-in-Some-clause-err

@@ -1,9 +1,9 @@
 -- The operations that `get_mut` finds are those that the finite map has.
 use Rattle.std.proofs.Common.{◌≡◌, sym, ap, subst, ◌∙◌, Some, None}
 use Rattle.std.specs.FinMap as map
-use Rattle.ft_keys.specs.Parts.{key_cmp}
-use Rattle.ft_keys.specs.Orders.{key_cmp_total}
-use Rattle.ft_keys.specs.Ties.{key_same}
+use Rattle.ft_fields.specs.Parts.{key_cmp}
+use Rattle.ft_fields.specs.Orders.{key_cmp_total}
+use Rattle.ft_fields.specs.Ties.{key_same}
 use Rattle.ft_maps.specs.Seen.{seen, get-seen, seen-found}
 use Rattle.ft_pairs.specs.Edits.{reads_alone, if_read}
 use Rattle.ft_pairs.specs.ByKey.{ops_of, ChangesKey}

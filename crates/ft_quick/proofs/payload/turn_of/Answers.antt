@@ -1,7 +1,7 @@
 use Rattle.std.proofs.Common.{◌+◌, ◌-◌, ℕ, List, take, drop, refl, arith, w32}
 use Rattle.std.proofs.lemmas.Int.{to_z-of_z}
 use Rattle.std.proofs.lemmas.List.{length-drop, take_rest}
-use Rattle.ft_fields.specs.Borrowed.{named}
+use Rattle.ft_fields.specs.Borrowed.{name_bytes}
 use Rattle.ft_fields.specs.declared.event.Turn.{Turn}
 use Rattle.ft_quick.proofs.Labels.{taken_short, taken_some}
 use Rattle.ft_quick.proofs.PayloadCuts.{turn_found, same_turn, nothing_left}
@@ -13,11 +13,11 @@ returns c =
     let state : List ℕ = take (c.in_ok-end.end - c.in_ok-state.state) (from c.in_ok-state.state) in
     let long = length-drop c.in_ok-state.state c.args.line.now in
     let read : Turn = record {
-      prev_comm = named c.in_ok-prev_comm.prev_comm;
+      prev_comm = name_bytes c.in_ok-prev_comm.prev_comm;
       prev_pid = c.in_ok-prev_comm.prev_pid;
       prev_prio = c.in_ok-prev_comm.prev_prio;
       prev_state = state;
-      next_comm = named c.in_ok-next_comm.next_comm;
+      next_comm = name_bytes c.in_ok-next_comm.next_comm;
       next_pid = c.in_ok-next_comm.next_pid;
       next_prio = c.in_ok-next_comm.next_prio;
     } in

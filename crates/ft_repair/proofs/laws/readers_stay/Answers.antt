@@ -1,18 +1,13 @@
-use Rattle.ft_repair.proofs.Staying.{filter_stays, ops_stay, reader_readings, reader_table}
+use Rattle.ft_repair.proofs.Staying.{filter_stays, ops_stay, reader_shelf}
 use Rattle.ft_repair.proofs.laws.readers_stay.Goals as goal
 
 pub returns-clause-operations : goal.returns-clause-operations
 returns-clause-operations c = λ triggers others events old new kept will saver alike key at. ops_stay c.one_source.ensures triggers others events old new kept will saver alike key at
 
-pub returns-clause-table : goal.returns-clause-table
-returns-clause-table c =
+pub returns-clause-shelves : goal.returns-clause-shelves
+returns-clause-shelves c =
     λ triggers others events old new kept will saver alike id reads shelf its there is.
-    reader_table c.one_source.ensures triggers others events old new kept will saver alike id reads shelf its there is
-
-pub returns-clause-readings : goal.returns-clause-readings
-returns-clause-readings c =
-    λ triggers others events old new kept will saver alike id reads shelf its there is.
-    reader_readings c.one_source.ensures triggers others events old new kept will saver alike id reads shelf its there is
+    reader_shelf c.one_source.ensures triggers others events old new kept will saver alike id reads shelf its there is
 
 pub returns-clause-filter : goal.returns-clause-filter
 returns-clause-filter c =

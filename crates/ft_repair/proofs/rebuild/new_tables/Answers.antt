@@ -1,12 +1,10 @@
 use Rattle.std.proofs.Common.{ℕ, ◌≡◌, true, List, refl, sym, ap, subst, ◌∙◌}
-use Rattle.std.specs.Ordering.{nat_cmp}
 use Rattle.std.specs.FinMap as map
 use Rattle.std.specs.Map.Iter.{deref_pair}
 use Rattle.std.proofs.lemmas.Map.Iter.{rest_more, rest_all}
 use Rattle.ft_hist.specs.Hist.{Hist}
 use Rattle.ft_kept.specs.Shelves.{Shelves, AddsShelf}
 use Rattle.ft_pairs.specs.declared.role.Role.{Role}
-use Rattle.ft_maps.specs.Seen.{seen}
 use Rattle.ft_base.specs.Base.{Triggers}
 use Rattle.ft_base.specs.Roles.{role_of}
 use Rattle.ft_repair.proofs.Putting.{AreRenewedBut, next_renewed, renewed_none, renewed_more, renewed_all}
@@ -14,13 +12,13 @@ use Rattle.ft_repair.proofs.rebuild.new_tables.Goals as goal
 
 pub loop-id-init : goal.loop-id-init
 loop-id-init c =
-    let triggers : Triggers = seen nat_cmp c.args.triggers.now in
+    let triggers : Triggers = c.args.triggers.now in
     subst (λ (s : Shelves). AreRenewedBut triggers (λ _. true) map.empty c.into_iter-id-iterator.result s) (sym c.new-tables.ensures)
-    (subst (λ (es : List (ℕ × Hist)). AreRenewedBut triggers (λ _. true) map.empty es map.empty) (sym (c.into_iter-id-iterator.ensures.into_iter_gives ∙ c.entries-id-items.ensures.rest)) (renewed_none triggers (λ _. true) map.empty))
+    (subst (λ (es : List (ℕ × Hist)). AreRenewedBut triggers (λ _. true) map.empty es map.empty) (sym (c.into_iter-id-iterator.ensures.into_iter_gives ∙ c.iter-id-items.ensures.rest)) (renewed_none triggers (λ _. true) map.empty))
 
 pub loop-id-preserved : goal.loop-id-preserved
 loop-id-preserved c =
-    let triggers : Triggers = seen nat_cmp c.args.triggers.now in
+    let triggers : Triggers = c.args.triggers.now in
     let e : ℕ × Hist = (c.in-Some.id.now, c.in-Some.attached.now) in
     let is = next_renewed (rest_more (deref_pair {K = ℕ} {X = Hist}) _ _ _ _ c.in-Some.is c.next.ensures.steps) c.loop-id.invariant in
     let role : c.role_of-role.result ≡ role_of triggers e.1.variable = c.role_of-role.ensures ∙ ap (role_of triggers) c.variable.ensures in

@@ -20,7 +20,7 @@ pub loop-id-init : goal.loop-id-init
 loop-id-init c =
     let triggers : Triggers = triggers_of c.args.scene.now in
     let lanes : Lanes = c.args.scene.now.lanes.now in
-    let all : c.into_iter-id-iterator.result ≡ map.entries triggers = c.into_iter-id-iterator.ensures.into_iter_gives ∙ c.entries-id-items.ensures.rest in
+    let all : c.into_iter-id-iterator.result ≡ map.entries triggers = c.into_iter-id-iterator.ensures.into_iter_gives ∙ c.iter-id-items.ensures.rest in
     record {
       put = subst (λ (es : List (ℕ × Hist)). IsPut triggers lanes (λ _. true) es c.in_ok-tables.tables) (sym all)
           (put_none triggers lanes (λ _. true) c.in_ok-tables.tables (new_idle triggers lanes c.requires c.in_ok-tables.tables c.in_ok-tables.ensures));

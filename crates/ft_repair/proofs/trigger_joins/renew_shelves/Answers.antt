@@ -1,11 +1,9 @@
 use Rattle.std.proofs.Common.{ℕ, ◌≡◌, true, false, List, sym, ap, subst, ◌∙◌}
-use Rattle.std.specs.Ordering.{nat_cmp}
 use Rattle.std.specs.Map.Iter.{deref_pair}
 use Rattle.std.proofs.lemmas.Map.Iter.{rest_more, rest_all}
 use Rattle.ft_hist.specs.Hist.{Hist}
 use Rattle.ft_kept.specs.Shelves.{AddsShelf}
 use Rattle.ft_pairs.specs.declared.role.Role.{Role}
-use Rattle.ft_maps.specs.Seen.{seen}
 use Rattle.ft_base.specs.Base.{Triggers}
 use Rattle.ft_base.specs.OneTrigger.{is_kin, is_in_family}
 use Rattle.ft_base.specs.Roles.{role_of}
@@ -15,13 +13,13 @@ use Rattle.ft_repair.proofs.trigger_joins.renew_shelves.Goals as goal
 
 pub loop-other-init : goal.loop-other-init
 loop-other-init c =
-    let triggers : Triggers = seen nat_cmp c.args.triggers.now in
+    let triggers : Triggers = c.args.triggers.now in
     let family = is_in_family triggers c.args.id in
-    subst (λ (es : List (ℕ × Hist)). AreRenewedBut triggers family c.args.tables.now es c.args.tables.now) (sym (c.into_iter-other-iterator.ensures.into_iter_gives ∙ c.entries-other-items.ensures.rest)) (renewed_none triggers family c.args.tables.now)
+    subst (λ (es : List (ℕ × Hist)). AreRenewedBut triggers family c.args.tables.now es c.args.tables.now) (sym (c.into_iter-other-iterator.ensures.into_iter_gives ∙ c.iter-other-items.ensures.rest)) (renewed_none triggers family c.args.tables.now)
 
 pub loop-other-preserved-in-Continue-1 : goal.loop-other-preserved-in-Continue-1
 loop-other-preserved-in-Continue-1 c =
-    let triggers : Triggers = seen nat_cmp c.args.triggers.now in
+    let triggers : Triggers = c.args.triggers.now in
     let e : ℕ × Hist = (c.in-Some.other.now, c.in-Some.attached.now) in
     let is = next_renewed (rest_more (deref_pair {K = ℕ} {X = Hist}) _ _ _ _ c.in-Some.is c.next.ensures.steps) c.loop-other.invariant in
     let role : c.role_of-role.result ≡ role_of triggers e.1.variable = c.role_of-role.ensures ∙ ap (role_of triggers) c.variable.ensures in
@@ -33,7 +31,7 @@ loop-other-preserved-in-Continue-1 c =
 
 pub loop-other-preserved : goal.loop-other-preserved
 loop-other-preserved c =
-    let triggers : Triggers = seen nat_cmp c.args.triggers.now in
+    let triggers : Triggers = c.args.triggers.now in
     let e : ℕ × Hist = (c.in-Some.other.now, c.in-Some.attached.now) in
     let is = next_renewed (rest_more (deref_pair {K = ℕ} {X = Hist}) _ _ _ _ c.in-Some.is c.next.ensures.steps) c.loop-other.invariant in
     let out = in_family triggers c.args.id e is.attached.0 (c.role_of-role.ensures ∙ ap (role_of triggers) c.variable.ensures) c.is_kin.ensures c.if-is_kin.false in

@@ -1,6 +1,6 @@
 use Rattle.ft_replay.proofs.Growing.{get-tally}
 use Rattle.ft_replay.proofs.KeptMaps.{pairs-found}
-use Rattle.ft_replay.proofs.Listed.{get-hits_of}
+use Rattle.ft_replay.proofs.Listed.{get-replayed_hits}
 use Rattle.ft_replay.proofs.OneByOne.{replayed_none}
 use Rattle.ft_replay.proofs.Replaying.{tally-replayed, admitted-rank}
 use Rattle.ft_replay.proofs.Shown.{rows-tally, totals-tally}
@@ -13,7 +13,7 @@ pub returns-clause-none : goal.returns-clause-none
 returns-clause-none c = replayed_none
 
 pub returns-clause-hits : goal.returns-clause-hits
-returns-clause-hits c = get-hits_of
+returns-clause-hits c = get-replayed_hits
 
 pub returns-clause-pairs : goal.returns-clause-pairs
 returns-clause-pairs c = pairs-found

@@ -1,9 +1,7 @@
 use Rattle.std.proofs.Common.{◌≡◌, Bool, ap, sym, ◌∙◌}
-use Rattle.std.specs.Ordering.{nat_cmp}
 use Rattle.std.specs.FinMap as map
 use Rattle.ft_fields.specs.declared.event.Name.{Name}
 use Rattle.ft_maps.specs.Mapped.{entries_by}
-use Rattle.ft_maps.specs.Seen.{seen}
 use Rattle.ft_store.specs.Stored.{held}
 use Rattle.ft_base.specs.Base.{Triggers}
 use Rattle.ft_replay.specs.Merged.{Events, merged}
@@ -14,7 +12,7 @@ use Rattle.ft_replay.proofs.merge.merged_events.Goals as goal
 
 pub returns : goal.returns
 returns c =
-    let triggers : Triggers = seen nat_cmp c.args.triggers.now in
+    let triggers : Triggers = c.args.triggers.now in
     let all : Events = merged c.args.lanes.now in
     let same = ap (λ (names : Name → Bool). map.entries (events_on names all)) (λ i name. c.of.ensures name i) ∙ ap (λ (m : Events). map.entries m) (sym (named-on triggers all)) in
     if_ok c.events_with.result

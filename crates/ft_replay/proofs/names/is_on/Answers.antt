@@ -7,4 +7,4 @@ use Rattle.ft_replay.proofs.names.is_on.Goals as goal
 
 pub loop-trigger-init : goal.loop-trigger-init
 unfolding is_on
-loop-trigger-init c = ap (list_any (λ (attached : ℕ × Hist). same_name attached.1.event c.args.name)) (c.into_iter-trigger-iterator.ensures.into_iter_gives ∙ c.entries-trigger-items.ensures.rest)
+loop-trigger-init c = ap (list_any (λ (attached : ℕ × Hist). same_name attached.1.event c.args.name)) (c.into_iter-trigger-iterator.ensures.into_iter_gives ∙ c.iter-trigger-items.ensures.rest)

@@ -15,14 +15,14 @@ use Rattle.ft_replay.proofs.replay.new_counters.Goals as goal
 
 pub loop-id-init : goal.loop-id-init
 loop-id-init c =
-    let triggers : Triggers = seen nat_cmp c.args.triggers.now in
+    let triggers : Triggers = c.args.triggers.now in
     ap (λ (counters : Counters). fold (with_counter triggers) counters c.into_iter-id-iterator.result) (seen-empty nat_cmp c.new-counters.result c.new-counters.ensures.empty)
-    ∙ ap (fold (with_counter triggers) map.empty) (c.into_iter-id-iterator.ensures.into_iter_gives ∙ c.entries-id-items.ensures.rest)
+    ∙ ap (fold (with_counter triggers) map.empty) (c.into_iter-id-iterator.ensures.into_iter_gives ∙ c.iter-id-items.ensures.rest)
     ∙ new_counters-fold triggers
 
 pub loop-id-preserved : goal.loop-id-preserved
 loop-id-preserved c =
-    let triggers : Triggers = seen nat_cmp c.args.triggers.now in
+    let triggers : Triggers = c.args.triggers.now in
     let counters : Counters = seen nat_cmp c.loop-id.counters in
     let e : ℕ × Hist = (c.in-Some.id.now, c.in-Some.attached.now) in
     let counter : c.new.result ≡ new_counter triggers e.1 =
@@ -34,5 +34,5 @@ loop-id-preserved c =
 
 pub returns : goal.returns
 returns c =
-    sym (ap (fold (with_counter (seen nat_cmp c.args.triggers.now)) (seen nat_cmp c.loop-id.counters)) (rest_all (deref_pair {K = ℕ} {X = Hist}) _ _ _ c.in-None.is c.next.ensures.steps))
+    sym (ap (fold (with_counter c.args.triggers.now) (seen nat_cmp c.loop-id.counters)) (rest_all (deref_pair {K = ℕ} {X = Hist}) _ _ _ c.in-None.is c.next.ensures.steps))
     ∙ c.loop-id.invariant

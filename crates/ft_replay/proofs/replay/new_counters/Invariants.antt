@@ -7,4 +7,4 @@ use Rattle.ft_replay.proofs.replay.new_counters.Given as goal
 
 -- the triggers that are left lead where all triggers lead
 abbrev pub invariant-loop-id : goal.invariant-loop-id
-invariant-loop-id l = fold (with_counter (seen nat_cmp l.triggers)) (seen nat_cmp l.counters) l.id-iterator ≡ new_counters (seen nat_cmp l.triggers)
+invariant-loop-id l = fold (with_counter l.triggers) (seen nat_cmp l.counters) l.id-iterator ≡ new_counters l.triggers

@@ -36,7 +36,7 @@ first es i e within is = ap (entries_by held) (drop_more es i e within ∙ ap (�
 
 pub loop-pos-init : goal.loop-pos-init
 loop-pos-init c =
-    let triggers : Triggers = seen nat_cmp c.args.triggers.now in
+    let triggers : Triggers = c.args.triggers.now in
     let events : Events = named triggers (merged c.args.lanes.now) in
     let items : List (Pos × Stored) = c.deref-pos-items.result.now in
     let all : entries_by held items ≡ map.entries events = ap (entries_by held) c.deref-pos-items.ensures.value ∙ c.in_ok-merged.ensures in
@@ -56,7 +56,7 @@ loop-pos-init c =
 
 pub loop-pos-preserved : goal.loop-pos-preserved
 loop-pos-preserved c =
-    let triggers : Triggers = seen nat_cmp c.args.triggers.now in
+    let triggers : Triggers = c.args.triggers.now in
     let items : List (Pos × Stored) = c.deref-pos-items.result.now in
     let item : Pos × Stored = c.loop-pos-item.result in
     let e : Pos × Traced = (item.0, held item.1) in
@@ -86,7 +86,7 @@ step-requires-clause-before c =
 
 pub returns-clause-tallies : goal.returns-clause-tallies
 returns-clause-tallies c =
-    let triggers : Triggers = seen nat_cmp c.args.triggers.now in
+    let triggers : Triggers = c.args.triggers.now in
     let events : Events = named triggers (merged c.args.lanes.now) in
     let items : List (Pos × Stored) = c.deref-pos-items.result.now in
     ap (λ (s : State). s.tallies)

@@ -21,11 +21,11 @@ use Rattle.ft_replay.proofs.replay.replayed.Given as goal
 -- the events that are left lead where all events lead; their places have their stamps, ascend, and stand after all hits; each trigger has its counter; no count of steps fell
 abbrev pub invariant-loop-pos : goal.invariant-loop-pos
 invariant-loop-pos l = record {
-  rest : fold (step (seen nat_cmp l.triggers)) (state_in (seen nat_cmp l.counters, seen variable_cmp l.saved)) (entries_by held (drop l.pos-index l.pos-items))
-      ≡ fold (step (seen nat_cmp l.triggers)) (record { tallies = started (seen nat_cmp l.triggers); variables = map.empty }) (map.entries (named (seen nat_cmp l.triggers) (merged l.lanes)));
+  rest : fold (step l.triggers) (state_in (seen nat_cmp l.counters, seen variable_cmp l.saved)) (entries_by held (drop l.pos-index l.pos-items))
+      ≡ fold (step l.triggers) (record { tallies = started l.triggers; variables = map.empty }) (map.entries (named l.triggers (merged l.lanes)));
   sorted : IsStrictlySortedBy pos_cmp (keys_of (entries_by held (drop l.pos-index l.pos-items)));
   stamped : AllByRecursion (λ e. e.0.stamp ≡ e.1.stamp) (entries_by held (drop l.pos-index l.pos-items));
-  complete : HaveCounters (seen nat_cmp l.triggers) (seen nat_cmp l.counters);
+  complete : HaveCounters l.triggers (seen nat_cmp l.counters);
   before : AllByRecursion (λ e. AllBeforePlace e.0 (seen nat_cmp l.counters)) (entries_by held (drop l.pos-index l.pos-items));
   grow : StepsGrow l.fn.work l.work;
 }

@@ -30,9 +30,9 @@ use Rattle.ft_replay.proofs.replay.step.Goals as goal
 
 pub loop-id-init : goal.loop-id-init
 loop-id-init c =
-    let triggers : Triggers = seen nat_cmp c.args.triggers.now in
+    let triggers : Triggers = c.args.triggers.now in
     let counters : Counters = seen nat_cmp c.args.counters.now in
-    let all : c.into_iter-id-iterator.result ≡ map.entries triggers = c.into_iter-id-iterator.ensures.into_iter_gives ∙ c.entries-id-items.ensures.rest in
+    let all : c.into_iter-id-iterator.result ≡ map.entries triggers = c.into_iter-id-iterator.ensures.into_iter_gives ∙ c.iter-id-items.ensures.rest in
     record {
       rest = ap (fold (act_at triggers (c.args.pos, c.args.event.now)) (state_in (counters, seen variable_cmp c.args.saved.now))) all;
       sorted = subst (λ (es : List (ℕ × Hist)). IsStrictlySortedBy nat_cmp (keys_of es)) (sym all) (strictly_sorted nat_cmp (map.entries triggers) (entries_sorted triggers));
@@ -43,15 +43,15 @@ loop-id-init c =
       grow = grow_none _;
     }
 
-pub act-requires-clause-free : goal.act-requires-clause-free
-act-requires-clause-free c =
+pub replay-requires-clause-free : goal.replay-requires-clause-free
+replay-requires-clause-free c =
     let more : c.loop-id.id-iterator ≡ (c.in-Some.id.now, c.in-Some.trigger.now) ∷ c.next.new.self = rest_more (deref_pair {K = ℕ} {X = Hist}) _ _ _ _ c.in-Some.is c.next.ensures.steps in
     let counters : Counters = seen nat_cmp c.loop-id.counters in
     free_before (act_of c.args.pos c.in-Some.id.now) counters (subst (AllByRecursion (λ (e : ℕ × Hist). AllBefore (act_of c.args.pos e.0) counters)) more c.loop-id.invariant.before).0
 
 pub loop-id-preserved : goal.loop-id-preserved
 loop-id-preserved c =
-    let triggers : Triggers = seen nat_cmp c.args.triggers.now in
+    let triggers : Triggers = c.args.triggers.now in
     let entry : Pos × Traced = (c.args.pos, c.args.event.now) in
     let counters : Counters = seen nat_cmp c.loop-id.counters in
     let saved : Saved = seen variable_cmp c.loop-id.saved in
@@ -61,8 +61,8 @@ loop-id-preserved c =
     let sorted : IsStrictlySortedBy nat_cmp (keys_of (e ∷ c.next.new.self)) = subst (λ (es : List (ℕ × Hist)). IsStrictlySortedBy nat_cmp (keys_of es)) more c.loop-id.invariant.sorted in
     let attached : AllByRecursion (λ (e : ℕ × Hist). map.get triggers e.0 ≡ Some e.1) (e ∷ c.next.new.self) = subst (AllByRecursion (λ (e : ℕ × Hist). map.get triggers e.0 ≡ Some e.1)) more c.loop-id.invariant.attached in
     let before : AllBefore at counters = (subst (AllByRecursion (λ (e : ℕ × Hist). AllBefore (act_of c.args.pos e.0) counters)) more c.loop-id.invariant.before).0 in
-    let acted = c.in_ok-act.ensures.acts in
-    let after : seen nat_cmp c.act.new.counters ≡ (after_act e.1 entry.1 at (counters, saved)).0 = ap (λ (p : Counters × Saved). p.0) acted in
+    let acted = c.in_ok-replay.ensures.acts in
+    let after : seen nat_cmp c.replay.new.counters ≡ (after_act e.1 entry.1 at (counters, saved)).0 = ap (λ (p : Counters × Saved). p.0) acted in
     record {
       rest =
           ap (λ (p : Counters × Saved). fold (act_at triggers entry) (state_in p) c.next.new.self) acted
@@ -78,12 +78,12 @@ loop-id-preserved c =
           (sorted_head nat_cmp e.0 (keys_of c.next.new.self) sorted));
       later = λ next less id. subst (AllBefore (act_of next id)) (sym after)
           (after_act-before at counters before e.1 entry.1 saved (act_of next id) (earlier_place c.args.pos next e.0 id less));
-      grow = grow_more _ _ _ c.loop-id.invariant.grow c.in_ok-act.ensures.grow;
+      grow = grow_more _ _ _ c.loop-id.invariant.grow c.in_ok-replay.ensures.grow;
     }
 
 pub returns-clause-state : goal.returns-clause-state
 returns-clause-state c =
-    let triggers : Triggers = seen nat_cmp c.args.triggers.now in
+    let triggers : Triggers = c.args.triggers.now in
     let entry : Pos × Traced = (c.args.pos, c.args.event.now) in
     sym (ap (fold (act_at triggers entry) (state_in (seen nat_cmp c.loop-id.counters, seen variable_cmp c.loop-id.saved))) (rest_all (deref_pair {K = ℕ} {X = Hist}) _ _ _ c.in-None.is c.next.ensures.steps))
     ∙ c.loop-id.invariant.rest

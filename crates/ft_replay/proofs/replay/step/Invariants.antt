@@ -20,11 +20,11 @@ use Rattle.ft_replay.proofs.replay.step.Given as goal
 -- the triggers that are left lead where all triggers lead; each trigger has its counter; all hits stand before what is left to act here, and before all that comes later; no count of steps fell
 abbrev pub invariant-loop-id : goal.invariant-loop-id
 invariant-loop-id l = record {
-  rest : fold (act_at (seen nat_cmp l.triggers) (l.pos, l.event)) (state_in (seen nat_cmp l.counters, seen variable_cmp l.saved)) l.id-iterator
-      ≡ fold (act_at (seen nat_cmp l.triggers) (l.pos, l.event)) (state_in (seen nat_cmp l.fn.counters, seen variable_cmp l.fn.saved)) (map.entries (seen nat_cmp l.triggers));
+  rest : fold (act_at l.triggers (l.pos, l.event)) (state_in (seen nat_cmp l.counters, seen variable_cmp l.saved)) l.id-iterator
+      ≡ fold (act_at l.triggers (l.pos, l.event)) (state_in (seen nat_cmp l.fn.counters, seen variable_cmp l.fn.saved)) (map.entries l.triggers);
   sorted : IsStrictlySortedBy nat_cmp (keys_of l.id-iterator);
-  attached : AllByRecursion (λ e. map.get (seen nat_cmp l.triggers) e.0 ≡ Some e.1) l.id-iterator;
-  complete : HaveCounters (seen nat_cmp l.triggers) (seen nat_cmp l.counters);
+  attached : AllByRecursion (λ e. map.get l.triggers e.0 ≡ Some e.1) l.id-iterator;
+  complete : HaveCounters l.triggers (seen nat_cmp l.counters);
   before : AllByRecursion (λ e. AllBefore (act_of l.pos e.0) (seen nat_cmp l.counters)) l.id-iterator;
   later : (next : Pos) → pos_cmp l.pos next ≡ Less → AllBeforePlace next (seen nat_cmp l.counters);
   grow : StepsGrow l.fn.work l.work;

@@ -5,7 +5,7 @@ use Rattle.std.specs.List.{AllByRecursion}
 use Rattle.std.proofs.lemmas.List.{drop_all}
 use Rattle.ft_fields.specs.Traced.{Traced}
 use Rattle.ft_fields.specs.declared.pos.Pos.{Pos}
-use Rattle.ft_groups.specs.Grouped.{events_of}
+use Rattle.ft_groups.specs.Grouped.{referenced_events}
 use Rattle.ft_store.specs.declared.stored.Stored.{Stored}
 use Rattle.ft_shelves.specs.Joining.{hits_of_run}
 use Rattle.ft_shelves.proofs.KeyByKey.{first_event, made_all, made_more, stamped_run}
@@ -20,7 +20,7 @@ loop-event-init c =
     let hist = c.args.joining.now.trigger.now in
     let groups = c.args.joining.now.groups.now in
     record {
-      made = ap (λ hits. hits ++ hits_of_run hist (events_of c.run-run.result.now)) c.in_ok-hits.ensures.items ∙ ap (hits_of_run hist) c.run-run.ensures;
+      made = ap (λ hits. hits ++ hits_of_run hist (referenced_events c.run-run.result.now)) c.in_ok-hits.ensures.items ∙ ap (hits_of_run hist) c.run-run.ensures;
       stamped = subst (AllByRecursion HasStamp) (sym c.run-run.ensures) (stamped_run hist groups c.requires c.args.key.now);
     }
 
@@ -41,5 +41,5 @@ loop-event-preserved c =
 pub returns : goal.returns
 returns c =
     let items : List (Bor (Pos × Stored)) = c.run-run.result.now in
-    let none : events_of (drop c.loop-event.event-index items) ≡ [] = ap (events_of) (drop_all c.loop-event.event-index items c.loop-event-test.false) in
+    let none : referenced_events (drop c.loop-event.event-index items) ≡ [] = ap (referenced_events) (drop_all c.loop-event.event-index items c.loop-event-test.false) in
     made_all c.loop-event.hits.items _ _ (ap (hits_of_run c.args.joining.now.trigger.now) none) c.loop-event.invariant.made

@@ -3,7 +3,7 @@ use Rattle.std.proofs.Common.{◌≡◌, List, [], drop, sym, ap, subst, ◌∙�
 use Rattle.std.specs.FinMap as map
 use Rattle.std.specs.FinMap.{get-empty}
 use Rattle.std.proofs.lemmas.List.{drop_all}
-use Rattle.ft_keys.specs.declared.key.Part.{Part}
+use Rattle.ft_fields.specs.declared.key.Part.{Part}
 use Rattle.ft_table.specs.Hits.{Hits}
 use Rattle.ft_table.specs.Spots.{spot_cmp}
 use Rattle.ft_shelves.specs.Joining.{hits_of_run}

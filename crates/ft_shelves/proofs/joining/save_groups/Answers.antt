@@ -5,10 +5,10 @@ use Rattle.std.specs.FinMap.{get-empty}
 use Rattle.std.proofs.lemmas.List.{drop_all}
 use Rattle.ft_groups.specs.Grouped.{run_of}
 use Rattle.ft_hist.specs.Steps.{Steps, StepsGrow}
-use Rattle.ft_keys.specs.Orders.{key_cmp_total}
-use Rattle.ft_keys.specs.Ties.{key_same}
-use Rattle.ft_keys.specs.declared.key.Part.{Part}
-use Rattle.ft_pairs.specs.ByKey.{ByKey, ops_of}
+use Rattle.ft_fields.specs.Orders.{key_cmp_total}
+use Rattle.ft_fields.specs.Ties.{key_same}
+use Rattle.ft_fields.specs.declared.key.Part.{Part}
+use Rattle.ft_pairs.specs.ByKey.{OpsByKey, ops_of}
 use Rattle.ft_pairs.specs.Order.{at_cmp}
 use Rattle.ft_table.specs.Tabled.{is_in}
 use Rattle.ft_shelves.specs.Joining.{saves_of_run}
@@ -58,7 +58,7 @@ loop-key-preserved c =
       | then-is_in+in_ok-run+in_ok-put_key w ↦
           let inside : is_in table key ≡ true = sym c.is_in.ensures ∙ w.if-is_in.true in
           record {
-            put = subst (λ (pairs : ByKey). IsPut listed (drop (c.loop-key.key-index + 1) c.keys-key-items.result.now) (ops_of pairs)) (sym w.pairs-is)
+            put = subst (λ (pairs : OpsByKey). IsPut listed (drop (c.loop-key.key-index + 1) c.keys-key-items.result.now) (ops_of pairs)) (sym w.pairs-is)
                 (put_more listed key _ (ops_of c.loop-key.pairs) (ops_of w.put_key.new.self) once put
                 (λ at.
                 w.in_ok-put_key.ensures.ok key at
@@ -76,7 +76,7 @@ loop-key-preserved c =
       | else-is_in w ↦
           let outside : is_in table key ≡ false = sym c.is_in.ensures ∙ w.if-is_in.false in
           record {
-            put = subst (λ (pairs : ByKey). IsPut listed (drop (c.loop-key.key-index + 1) c.keys-key-items.result.now) (ops_of pairs)) (sym w.pairs-is)
+            put = subst (λ (pairs : OpsByKey). IsPut listed (drop (c.loop-key.key-index + 1) c.keys-key-items.result.now) (ops_of pairs)) (sym w.pairs-is)
                 (put_more listed key _ (ops_of c.loop-key.pairs) (ops_of c.loop-key.pairs) once put
                 (λ at. put_free listed key _ (ops_of c.loop-key.pairs) put at
                 ∙ sym (ap (λ b. cond b (map.get (map.from_entries {R = at_cmp} (saves_of_run id (run_of groups key))) at) None) outside))

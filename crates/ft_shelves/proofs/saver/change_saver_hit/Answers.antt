@@ -2,13 +2,13 @@
 use Rattle.std.proofs.Common.{◌≡◌, ◌+◌, ◌≤◌, ◌⊎◌, ℕ, Bool, true, false, cond, List, refl, sym, ap, subst, ◌∙◌, Some, None, Option, inl, inr}
 use Rattle.std.specs.Prelude.{not}
 use mathlib.Core.Bool.{beq}
-use Rattle.ft_keys.specs.declared.key.Part.{Part}
+use Rattle.ft_fields.specs.declared.key.Part.{Part}
 use Rattle.ft_hist.specs.Steps.{Steps}
 use Rattle.ft_hits.specs.declared.mark.Mark.{Mark}
 use Rattle.ft_pairs.specs.ByKey.{ops_of}
 use Rattle.ft_pairs.specs.Source.{Ops}
 use Rattle.ft_table.specs.Tabled.{is_in}
-use Rattle.ft_shelves.specs.Changes.{is_insert, mark_of, on_insert, sign_of, table_with}
+use Rattle.ft_shelves.specs.Changes.{is_insert, change_mark, on_insert, sign_of, table_with}
 use Rattle.ft_shelves.specs.Edits.{OpsChange}
 use Rattle.ft_shelves.specs.Following.{MovesKeys, switched}
 use Rattle.ft_shelves.specs.Shelves.{Shelved}
@@ -18,14 +18,14 @@ use Rattle.ft_shelves.proofs.Followed.{KeyChanges, free_before, hit_follows, key
 use Rattle.ft_shelves.proofs.saver.change_saver_hit.Goals as goal
 use Rattle.ft_shelves.proofs.saver.change_saver_hit.Goals.{After-switch, After-crossed-other, in-Some+in_ok-switch-2, in_default}
 
-was_is : (c : goal.After-switch) → c.is_in-was_in.result ≡ is_in c.args.shelf.now.table (mark_of c.args.change).key
+was_is : (c : goal.After-switch) → c.is_in-was_in.result ≡ is_in c.args.shelf.now.table (change_mark c.args.change).key
 was_is c = c.is_in-was_in.ensures ∙ (λ i. is_in (c.table.ensures i) (c.mark-key.ensures i).key)
 
-now_is : (c : goal.After-switch) → is_in c.change_own.new.shelf.table c.mark-key.result.key ≡ is_in (table_with c.args.change c.args.shelf.now.table) (mark_of c.args.change).key
+now_is : (c : goal.After-switch) → is_in c.change_own.new.shelf.table c.mark-key.result.key ≡ is_in (table_with c.args.change c.args.shelf.now.table) (change_mark c.args.change).key
 now_is c = λ i. is_in (c.in_ok-change_own.ensures.ok.shelf i).table (c.mark-key.ensures i).key
 
-switches : (c : goal.After-crossed-other) → OpsChange (mark_of c.args.change).key
-    (switched c.is_in-was_in.result (is_in c.change_own.new.shelf.table (mark_of c.args.change).key) c.change_own.new.shelf.table.hits c.args.id (mark_of c.args.change).key) c.change_own.new.shelf c.switch.new.self
+switches : (c : goal.After-crossed-other) → OpsChange (change_mark c.args.change).key
+    (switched c.is_in-was_in.result (is_in c.change_own.new.shelf.table (change_mark c.args.change).key) c.change_own.new.shelf.table.hits c.args.id (change_mark c.args.change).key) c.change_own.new.shelf c.switch.new.self
 switches c =
     let mid = c.change_own.new.shelf in
     subst (λ (m : Mark). OpsChange m.key (switched c.is_in-was_in.result (is_in mid.table m.key) mid.table.hits c.args.id m.key) mid c.switch.new.self) c.mark-key.ensures c.in_ok-switch.ensures.ok
@@ -86,10 +86,10 @@ returns-clause-moved c =
     let d = (goal.at.returns-clause-moved c).After-crossed-other in
     let s = (goal.at.returns-clause-moved c).After-switch in
     let own = not (beq c.is_in-was_in.result c.is_in-is_in.result) in
-    let now : c.is_in-is_in.result ≡ is_in (table_with c.args.change c.args.shelf.now.table) (mark_of c.args.change).key = c.is_in-is_in.ensures ∙ (λ i. is_in (c.table-3.ensures i) c.mark-key.result.key) ∙ now_is s in
+    let now : c.is_in-is_in.result ≡ is_in (table_with c.args.change c.args.shelf.now.table) (change_mark c.args.change).key = c.is_in-is_in.ensures ∙ (λ i. is_in (c.table-3.ensures i) c.mark-key.result.key) ∙ now_is s in
     let moved = keys_moved c.one_key.ensures.comes c.one_key.ensures.goes c.first_outside.ensures c.args.id c.args.change c.args.shelf.now c.change_own.new.shelf c.switch.new.self c.is_in-was_in.result
     c.in_ok-change_own.ensures.ok (was_is s) (switches d) c.match-other.shelf c.crossed-other.result (is_other d) (edits c) own (differs _ _ ∙ (λ i. differ (was_is s i) (now i))) in
-    subst (λ (o : Option (List Part)). MovesKeys (mark_of c.args.change).key (record { own = own; other = o }) (is_in c.args.shelf.now.table) (is_in c.match-other.shelf.table)) (sym (is_moved c)) moved
+    subst (λ (o : Option (List Part)). MovesKeys (change_mark c.args.change).key (record { own = own; other = o }) (is_in c.args.shelf.now.table) (is_in c.match-other.shelf.table)) (sym (is_moved c)) moved
 
 -- ---- puts
 
@@ -103,7 +103,7 @@ few_puts false true most before after few same = inr refl
 own_few : (c : goal.After-switch) → (c.switch.new.work.puts ≤ c.args.work.now.puts + on_insert (sign_of c.args.change) 2) ⊎ HasMoved (is_in c.args.shelf.now.table) (is_in (table_with c.args.change c.args.shelf.now.table))
 own_few c = elim (few_puts c.is_in-was_in.result (is_in c.change_own.new.shelf.table c.mark-key.result.key) _ c.change_own.new.work.puts c.switch.new.work.puts c.change_own.ensures.puts c.switch.ensures.puts) [
   | inl few ↦ inl few
-  | inr moved ↦ inr ((mark_of c.args.change).key, sym (λ i. differ (was_is c i) (now_is c i)) ∙ moved)
+  | inr moved ↦ inr ((change_mark c.args.change).key, sym (λ i. differ (was_is c i) (now_is c i)) ∙ moved)
 ]
 
 other_moves : (c : goal.After-crossed-other) → (k : List Part) → c.crossed-other.result ≡ Some k → HasMoved (is_in c.args.shelf.now.table) (is_in (table_with c.args.change c.args.shelf.now.table))

@@ -1,5 +1,5 @@
 use Rattle.std.proofs.lemmas.Result.{err_from_is_err_and}
-use Rattle.ft_head.specs.Draft.{blank}
+use Rattle.ft_head.specs.Draft.{empty_draft}
 use Rattle.ft_trigger.proofs.Plain.{parts_no_filter}
 use Rattle.std.proofs.Common.{rules, length, ◌-◌, ap, ◌∙◌, take, ℕ}
 use Rattle.ft_trigger.proofs.SoundLemmas.{finished_sound}
@@ -8,7 +8,7 @@ use Rattle.ft_trigger.proofs.reading.parse.Goals as goal
 pub returns-in_err-draft-in-Some-clause-memory : goal.returns-in_err-draft-in-Some-clause-memory
 returns-in_err-draft-in-Some-clause-memory c =
     let p = err_from_is_err_and c.from_residual.result c.from_residual.ensures.1 in
-    rw (p.1, p.2) (parts_no_filter c.args.event blank _ _ c.in_err-draft-in-Some.ensures)
+    rw (p.1, p.2) (parts_no_filter c.args.event empty_draft _ _ c.in_err-draft-in-Some.ensures)
 
 pub finished-requires : goal.finished-requires
 finished-requires c = record {

@@ -1,6 +1,6 @@
 use Rattle.std.proofs.Common.{length, ap, ◌∙◌, arith}
 use Rattle.std.specs.Prelude.{unwrap_or}
-use Rattle.ft_tokens.specs.Tokens.{is_gap}
+use Rattle.ft_text.specs.Tokens.{is_gap}
 use Rattle.ft_trigger.proofs.Cutting.{position-unwrap_or, position_or_len-le}
 use Rattle.ft_trigger.proofs.tail.head_len.Goals as goal
 

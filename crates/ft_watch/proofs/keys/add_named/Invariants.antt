@@ -1,8 +1,8 @@
 use Rattle.std.proofs.Common.{◌≡◌, List, drop}
 use Rattle.std.specs.Prelude.{is_some, ◌||◌}
 use Rattle.std.specs.FinMap as map
-use Rattle.ft_keys.specs.declared.key.Part.{Part}
-use Rattle.ft_keys.specs.Parts.{key_cmp}
+use Rattle.ft_fields.specs.declared.key.Part.{Part}
+use Rattle.ft_fields.specs.Parts.{key_cmp}
 use Rattle.ft_maps.specs.Seen.{seen}
 use Rattle.ft_changes.specs.Reports.{is_reported}
 use Rattle.ft_watch.proofs.keys.add_named.Given as goal

@@ -2,7 +2,7 @@ use Rattle.std.proofs.Common.{◌≡◌, ap, ◌∙◌}
 use Rattle.std.specs.Prelude.{is_some, ◌||◌}
 use Rattle.std.specs.FinMap as map
 use Rattle.std.specs.FinMap.{get-empty}
-use Rattle.ft_keys.specs.Parts.{key_cmp}
+use Rattle.ft_fields.specs.Parts.{key_cmp}
 use Rattle.ft_maps.specs.Seen.{seen, seen-empty}
 use Rattle.ft_watch.proofs.Rows.{Keys}
 use Rattle.ft_watch.proofs.keys.keys_of_both.Goals as goal

@@ -1,7 +1,7 @@
 -- The board is left as it is, and the answer is that of its base.
 use Rattle.std.proofs.Common.{false, ap, subst}
 use Rattle.ft_lanes.specs.Held.{Lanes}
-use Rattle.ft_base.specs.Base.{Triggers}
+use Rattle.ft_hist.specs.Triggers.{Triggers}
 use Rattle.ft_answers.specs.Edited.{AnswerIs, AnswerKeeps}
 use Rattle.ft_answers.specs.Answers.{hist_text, hist_from}
 use Rattle.ft_replay.specs.Merged.{merged}

@@ -2,7 +2,7 @@
 use Rattle.std.proofs.Common.{false, ℕ, Vec, Global, ap, subst}
 use Rattle.std.specs.Prelude.{option_map}
 use Rattle.ft_lanes.specs.Held.{Lanes}
-use Rattle.ft_base.specs.Base.{Triggers}
+use Rattle.ft_hist.specs.Triggers.{Triggers}
 use Rattle.ft_answers.specs.Edited.{AnswerIs, AnswerKeeps}
 use Rattle.ft_answers.specs.Answers.{row_shown, row_from}
 use Rattle.ft_replay.specs.Merged.{merged}

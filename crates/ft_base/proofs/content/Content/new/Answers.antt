@@ -1,8 +1,6 @@
 -- The empty board is seen as the empty base.
-use Rattle.std.specs.Ordering.{nat_cmp}
-use Rattle.ft_maps.specs.Seen.{seen-empty}
 use Rattle.ft_base.proofs.Reachable.{empty-IsReachable}
 use Rattle.ft_base.proofs.content.Content.new.Goals as goal
 
 pub invariant_of-result : goal.invariant_of-result
-invariant_of-result c = rw (c.new.ensures, seen-empty nat_cmp c.new-2.result c.new-2.ensures.empty) empty-IsReachable
+invariant_of-result c = rw (c.new.ensures, c.new-2.ensures) empty-IsReachable

@@ -12,4 +12,4 @@ invariant_of-self c =
     let base : Base = the_view c.self.inside in
     let gives : after_remove base c.args.id ≡ Ok (record base { triggers = map.remove base.triggers c.args.id }, c.args.id) =
     subst (λ (b : Base). after_remove b c.args.id ≡ Ok (record b { triggers = map.remove b.triggers c.args.id }, c.args.id)) (sym c.self.view_is) c.requires in
-    rw (c.take.ensures) (remove-reachable base c.args.id _ c.args.id c.self.invariant gives)
+    rw (c.remove.ensures) (remove-reachable base c.args.id _ c.args.id c.self.invariant gives)

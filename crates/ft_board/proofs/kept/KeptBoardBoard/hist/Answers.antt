@@ -5,7 +5,7 @@ use Rattle.ft_table.specs.Tabled.{Tabled}
 use Rattle.ft_base.specs.Base.{Base, Triggers}
 use Rattle.ft_answers.specs.Answers.{hist_text, tally_text}
 use Rattle.ft_replay.specs.Tally.{tally_of}
-use Rattle.ft_board.specs.inner.Told.{TellsAll, tabled_in}
+use Rattle.ft_board.specs.inner.Told.{TableTells, tabled_in}
 use Rattle.ft_board.proofs.KeptBoardTold.{by_tally, told, told_by, unattached, hist-is}
 use Rattle.ft_board.proofs.kept.KeptBoardBoard.hist.Goals as goal
 
@@ -18,7 +18,7 @@ pub returns-clause-gives : goal.returns-clause-gives
 returns-clause-gives c =
     let base : Base = c.self.inside.content in
     let there : map.get base.triggers c.args.id ≡ Some c.in_ok-trigger.trigger.now = subst (λ (t : Triggers). map.get t c.args.id ≡ Some c.in_ok-trigger.trigger.now) c.triggers.ensures c.in_ok-trigger.ensures.there in
-    let its : TellsAll base c.args.id c.in_ok-trigger.trigger.now (tabled_in c.in_ok-told.told) = c.in_ok-told.ensures.tells in
+    let its : TableTells base c.args.id c.in_ok-trigger.trigger.now (tabled_in c.in_ok-told.told) = c.in_ok-told.ensures.tells in
     told (λ text. text.items) (λ b. hist_text b c.args.id) c.args.self.now base c.self.inside.views.shelves c.catch_up.new.self.shelves c.self.inside.views.work c.catch_up.new.self.work (Ok c.in_ok-table_text.field-0)
     c.self.view_is c.catch_up.ensures.now
     (told_by (λ text. text.items) hist_text tally_text hist-is base c.args.id c.in_ok-trigger.trigger.now (tabled_in c.in_ok-told.told) there its c.in_ok-table_text.field-0 (c.in_ok-table_text.ensures its.pairs ∙ ap (λ (t : Tabled). tally_text c.in_ok-trigger.trigger.now (tally_of t its.pairs)) c.as_table.ensures)

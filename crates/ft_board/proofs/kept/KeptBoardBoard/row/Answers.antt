@@ -6,7 +6,7 @@ use Rattle.ft_table.specs.Tabled.{Tabled}
 use Rattle.ft_base.specs.Base.{Base, Triggers}
 use Rattle.ft_answers.specs.Answers.{row_shown, tally_row}
 use Rattle.ft_replay.specs.Tally.{tally_of}
-use Rattle.ft_board.specs.inner.Told.{TellsAll, tabled_in}
+use Rattle.ft_board.specs.inner.Told.{TableTells, tabled_in}
 use Rattle.ft_board.proofs.KeptBoardTold.{by_tally, told, told_by, unattached, row-is}
 use Rattle.ft_board.proofs.kept.KeptBoardBoard.row.Goals as goal
 
@@ -19,7 +19,7 @@ pub returns-clause-gives : goal.returns-clause-gives
 returns-clause-gives c =
     let base : Base = c.self.inside.content in
     let there : map.get base.triggers c.args.id ≡ Some c.in_ok-trigger.trigger.now = subst (λ (t : Triggers). map.get t c.args.id ≡ Some c.in_ok-trigger.trigger.now) c.triggers.ensures c.in_ok-trigger.ensures.there in
-    let its : TellsAll base c.args.id c.in_ok-trigger.trigger.now (tabled_in c.in_ok-told.told) = c.in_ok-told.ensures.tells in
+    let its : TableTells base c.args.id c.in_ok-trigger.trigger.now (tabled_in c.in_ok-told.told) = c.in_ok-told.ensures.tells in
     told (option_map (λ (text : Vec ℕ Global). text.items)) (λ b. row_shown b c.args.id c.args.key.now) c.args.self.now base c.self.inside.views.shelves c.catch_up.new.self.shelves c.self.inside.views.work c.catch_up.new.self.work (Ok c.in_ok-table_row.field-0)
     c.self.view_is c.catch_up.ensures.now
     (told_by (option_map (λ (text : Vec ℕ Global). text.items)) (λ b id. row_shown b id c.args.key.now) (λ hist tally. tally_row hist tally c.args.key.now) (row-is c.args.key.now) base c.args.id c.in_ok-trigger.trigger.now (tabled_in c.in_ok-told.told) there its c.in_ok-table_row.field-0 (c.in_ok-table_row.ensures its.pairs ∙ ap (λ (t : Tabled). tally_row c.in_ok-trigger.trigger.now (tally_of t its.pairs) c.args.key.now) c.as_table.ensures)

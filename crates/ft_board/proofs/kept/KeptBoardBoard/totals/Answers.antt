@@ -1,14 +1,14 @@
 use Rattle.std.proofs.Common.{◌≡◌, Some, Ok, sym, ap, subst, ◌∙◌}
 use Rattle.std.proofs.lemmas.Result.{err_from_is_err_and}
 use Rattle.std.specs.FinMap as map
-use Rattle.ft_rows.specs.declared.row.Totals.{Totals}
+use Rattle.ft_table.specs.declared.row.Totals.{Totals}
 use Rattle.ft_table.specs.Rows.{totals_of}
 use Rattle.ft_table.specs.Tabled.{Tabled}
 use Rattle.ft_base.specs.Base.{Base, Triggers}
 use Rattle.ft_answers.specs.Answers.{totals}
 use Rattle.ft_replay.specs.Tally.{totals_in}
 use Rattle.ft_replay.proofs.Shown.{totals-tally}
-use Rattle.ft_board.specs.inner.Told.{TellsAll, tabled_in}
+use Rattle.ft_board.specs.inner.Told.{TableTells, tabled_in}
 use Rattle.ft_board.proofs.KeptBoardTold.{by_tally, told, told_by, unattached, totals-is}
 use Rattle.ft_board.proofs.kept.KeptBoardBoard.totals.Goals as goal
 
@@ -21,7 +21,7 @@ pub returns-clause-gives : goal.returns-clause-gives
 returns-clause-gives c =
     let base : Base = c.self.inside.content in
     let there : map.get base.triggers c.args.id ≡ Some c.in_ok-trigger.trigger.now = subst (λ (t : Triggers). map.get t c.args.id ≡ Some c.in_ok-trigger.trigger.now) c.triggers.ensures c.in_ok-trigger.ensures.there in
-    let its : TellsAll base c.args.id c.in_ok-trigger.trigger.now (tabled_in c.in_ok-told.told) = c.in_ok-told.ensures.tells in
+    let its : TableTells base c.args.id c.in_ok-trigger.trigger.now (tabled_in c.in_ok-told.told) = c.in_ok-told.ensures.tells in
     told (λ (t : Totals). t) (λ b. totals b c.args.id) c.args.self.now base c.self.inside.views.shelves c.catch_up.new.self.shelves c.self.inside.views.work c.catch_up.new.self.work (Ok c.totals.result)
     c.self.view_is c.catch_up.ensures.now
     (told_by (λ (t : Totals). t) totals (λ _. totals_in) totals-is base c.args.id c.in_ok-trigger.trigger.now (tabled_in c.in_ok-told.told) there its c.totals.result (c.totals.ensures ∙ ap (λ (t : Tabled). totals_of t) c.as_table.ensures ∙ sym (totals-tally (tabled_in c.in_ok-told.told) its.pairs))

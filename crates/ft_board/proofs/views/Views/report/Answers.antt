@@ -1,11 +1,9 @@
 use Rattle.std.proofs.Common.{◌≡◌, sym, ap, subst, ◌∙◌, List, Some, Result, Ok, Err}
 use Rattle.std.specs.Option.{IfSome, option_map}
 use Rattle.std.specs.Result.{IfOk, result_ok}
-use Rattle.std.specs.Ordering.{nat_cmp}
-use Rattle.ft_maps.specs.Seen.{seen}
 use Rattle.ft_kept.specs.Shelves.{Shelves}
 use Rattle.ft_kept.specs.declared.changes.KeyChange.{KeyChange}
-use Rattle.ft_report.specs.Report.{report_of}
+use Rattle.ft_kept.specs.Report.{report_of}
 use Rattle.ft_base.specs.Base.{Triggers}
 use Rattle.ft_board.specs.inner.Reported.{IsReportBy}
 use Rattle.ft_board.proofs.views.Views.report.Goals as goal
@@ -20,7 +18,7 @@ returns-clause-rows c =
     let shelves : Shelves = c.in-Some.tables in
     let keys : List KeyChange = c.in-Some-keys.keys.now in
     subst (λ o. IfSome o (λ rows. IsReportBy c.args.content.now.triggers c.args.self.now.shelves c.args.changes.now.keys rows.items)) (sym c.ok.ensures.value)
-    (if_answered (λ rows. rows.items ≡ report_of (seen nat_cmp c.triggers.result.now) shelves keys) (λ rows. IsReportBy c.args.content.now.triggers c.args.self.now.shelves c.args.changes.now.keys rows.items) c.changed_rows.result
+    (if_answered (λ rows. rows.items ≡ report_of c.triggers.result.now shelves keys) (λ rows. IsReportBy c.args.content.now.triggers c.args.self.now.shelves c.args.changes.now.keys rows.items) c.changed_rows.result
     (λ rows is. record {
       shelves = shelves;
       keys = keys;

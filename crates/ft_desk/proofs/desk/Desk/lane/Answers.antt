@@ -2,7 +2,7 @@ use Rattle.std.proofs.Common.{◌≡◌, ℕ, ap, sym, subst, ◌∙◌, inr, Li
 use Rattle.std.proofs.lemmas.Result.{err_from_is_err_and}
 use Rattle.ft_fields.specs.declared.pos.Pos.{Pos}
 use Rattle.ft_lanes.specs.Held.{Lanes}
-use Rattle.ft_held.specs.Places.{lane_places}
+use Rattle.ft_answers.specs.Places.{lane_places}
 use Rattle.ft_base.specs.declared.refused.Refused.{Refused}
 use Rattle.ft_answers.specs.Base.{Base}
 use Rattle.ft_answers.specs.Shown.{Shown}

@@ -3,7 +3,7 @@ use Rattle.std.proofs.lemmas.Result.{err_from_is_err_and}
 use Rattle.ft_fields.specs.declared.event.Name.{Name}
 use Rattle.ft_fields.specs.declared.pos.Pos.{Pos}
 use Rattle.ft_lanes.specs.Held.{Lanes}
-use Rattle.ft_held.specs.Places.{matching_places}
+use Rattle.ft_answers.specs.Places.{matching_places}
 use Rattle.ft_base.specs.declared.refused.Refused.{Refused}
 use Rattle.ft_answers.specs.Shown.{Shown}
 use Rattle.ft_desk.proofs.Found.{matching-refused, matching-read}

@@ -1,6 +1,6 @@
 use Rattle.std.proofs.Common.{◌∙◌, ap}
-use Rattle.ft_glob.specs.Matching.{matches}
-use Rattle.ft_glob.proofs.Deciding.{same_glob, matches_read}
+use Rattle.ft_text.specs.Matching.{matches}
+use Rattle.ft_text.proofs.Deciding.{same_glob, matches_read}
 use Rattle.ft_filter.proofs.tree.Pattern.matches.Goals as goal
 
 pub glob-requires : goal.glob-requires

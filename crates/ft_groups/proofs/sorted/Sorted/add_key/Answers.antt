@@ -4,8 +4,8 @@ use Rattle.std.specs.FinMap as map
 use Rattle.std.specs.FinMap.{FinMap}
 use Rattle.ft_fields.specs.declared.pos.Pos.{Pos}
 use Rattle.ft_fields.specs.Traced.{Traced}
-use Rattle.ft_keys.specs.Parts.{key_cmp}
-use Rattle.ft_keys.specs.Ties.{key_same}
+use Rattle.ft_fields.specs.Parts.{key_cmp}
+use Rattle.ft_fields.specs.Ties.{key_same}
 use Rattle.ft_maps.specs.Seen.{seen}
 use Rattle.ft_store.specs.Stored.{held}
 use Rattle.ft_groups.proofs.Placing.{new_placed, adds_new}

@@ -2,8 +2,8 @@
 use Rattle.std.proofs.Common.{◌<◌, List, length, Some, refl, sym, ap, ◌∙◌, ltb-true}
 use Rattle.std.specs.Prelude.{slice_get}
 use Rattle.std.proofs.lemmas.Option.{slice_get_read}
-use Rattle.ft_keys.specs.declared.key.Part.{Part}
-use Rattle.ft_keys.specs.Ties.{key_same}
+use Rattle.ft_fields.specs.declared.key.Part.{Part}
+use Rattle.ft_fields.specs.Ties.{key_same}
 use Rattle.ft_maps.specs.Entries.{same_from_tie}
 use Rattle.ft_groups.proofs.sorted.Sorted.hinted.Goals as goal
 

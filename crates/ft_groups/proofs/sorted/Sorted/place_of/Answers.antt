@@ -1,6 +1,6 @@
 -- What the tree has of a key is what the finite map has.
 use Rattle.std.proofs.Common.{sym, ◌∙◌}
-use Rattle.ft_keys.specs.Orders.{key_cmp_total}
+use Rattle.ft_fields.specs.Orders.{key_cmp_total}
 use Rattle.ft_maps.specs.Seen.{get-seen}
 use Rattle.ft_groups.proofs.sorted.Sorted.place_of.Goals as goal
 

@@ -5,17 +5,17 @@ use Rattle.std.proofs.lemmas.List.{get_or_default}
 use Rattle.std.proofs.lemmas.Result.{on_ok_weaker}
 use Rattle.ft_fields.specs.declared.pos.Pos.{Pos}
 use Rattle.ft_fields.specs.Traced.{Traced}
-use Rattle.ft_keys.specs.declared.key.Part.{Part}
-use Rattle.ft_keys.specs.Parts.{key_cmp}
+use Rattle.ft_fields.specs.declared.key.Part.{Part}
+use Rattle.ft_fields.specs.Parts.{key_cmp}
 use Rattle.ft_maps.specs.Seen.{seen}
 use Rattle.ft_store.specs.Stored.{held}
-use Rattle.ft_groups.specs.inner.Placed.{run_at}
+use Rattle.ft_groups.specs.inner.Placed.{nth_run}
 use Rattle.ft_groups.proofs.Placing.{adds_there}
 use Rattle.ft_groups.proofs.sorted.Sorted.push.Goals as goal
 
 -- a run with an event more, where it was read at its place
 pushed : (runs : List (List (Pos × Traced))) (place : ℕ) (was run : List (Pos × Traced)) (e : Pos × Traced) → place < length runs
-    → was ≡ get_or runs place was → run ≡ was ++ e ∷ [] → run ≡ run_at runs place ++ e ∷ []
+    → was ≡ get_or runs place was → run ≡ was ++ e ∷ [] → run ≡ nth_run runs place ++ e ∷ []
 pushed runs place was run e inside is more = more ∙ ap (λ (es : List (Pos × Traced)). es ++ e ∷ []) (is ∙ get_or_default runs place was [] inside)
 
 pub returns-clause-adds : goal.returns-clause-adds

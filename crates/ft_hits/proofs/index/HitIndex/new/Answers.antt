@@ -1,5 +1,5 @@
 use Rattle.std.proofs.Common.{ap, ◌∙◌}
-use Rattle.ft_keys.specs.Parts.{key_cmp}
+use Rattle.ft_fields.specs.Parts.{key_cmp}
 use Rattle.ft_maps.specs.Seen.{seen-empty}
 use Rattle.ft_hits.specs.ByKey.{flat}
 use Rattle.ft_hits.proofs.Whole.{flat-empty}

@@ -1,7 +1,7 @@
 use Rattle.std.proofs.Common.{sym, ap, subst, ◌∙◌}
 use Rattle.std.proofs.lemmas.Result.{on_ok_weaker}
-use Rattle.ft_keys.specs.Parts.{key_cmp}
-use Rattle.ft_keys.specs.Ties.{key_same}
+use Rattle.ft_fields.specs.Parts.{key_cmp}
+use Rattle.ft_fields.specs.Ties.{key_same}
 use Rattle.ft_maps.specs.Seen.{seen}
 use Rattle.ft_hits.specs.ByKey.{flat, hits_in}
 use Rattle.ft_hits.specs.Hits.{TakesHits}

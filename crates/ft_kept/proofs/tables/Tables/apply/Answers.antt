@@ -14,18 +14,19 @@ use Rattle.std.specs.List.{AllByRecursion}
 use Rattle.std.specs.List.Sorted.{IsStrictlySortedBy}
 use Rattle.std.specs.Map.{keys_of}
 use Rattle.std.specs.FinMap as map
-use Rattle.std.specs.FinMap.{FinMap, entries_sorted}
+use Rattle.std.specs.FinMap.{entries_sorted}
 use Rattle.std.specs.Map.Iter.{deref_pair}
 use Rattle.std.proofs.lemmas.Map.Iter.{rest_more, rest_all}
 use Rattle.std.proofs.lemmas.Map.Keys.{sorted_head, sorted_tail}
 use Rattle.ft_hist.specs.Hist.{Hist}
-use Rattle.ft_hist.specs.Tests.{asked, count_on}
+use Rattle.ft_hist.specs.Triggers.{Triggers}
+use Rattle.ft_hist.specs.Tests.{tests_taken, count_on}
 use Rattle.ft_lanes.specs.Held.{Lanes}
 use Rattle.ft_maps.specs.Entries.{strictly_sorted}
 use Rattle.ft_shelves.proofs.Attached.{each_found}
 use Rattle.ft_kept.specs.Input.{input_of}
 use Rattle.ft_kept.specs.Bounds.{SomeSaverMoves}
-use Rattle.ft_kept.specs.Views.{AreViewsOf, act_at, act_under, set, triggers_of, with_event, with_some}
+use Rattle.ft_kept.specs.Views.{AreViewsOf, act_by_id, act_under, set, triggers_of, with_event, with_some}
 use Rattle.ft_kept.specs.Signs.{event_before, event_after, table_edit, NeedsNoMemory, NeedsNoMemoryAt}
 use Rattle.ft_kept.specs.inner.OneAct.{IsDoneToo}
 use Rattle.ft_kept.proofs.Between.{act_of, all_but, done_too, asked_of, asked_more, not_attached}
@@ -38,12 +39,12 @@ use Rattle.ft_kept.proofs.tables.Tables.apply.Goals as goal
 
 pub loop-id-init : goal.loop-id-init
 loop-id-init c =
-    let triggers : FinMap nat_cmp Hist = triggers_of c.args.scene.now in
+    let triggers : Triggers = triggers_of c.args.scene.now in
     let lanes = c.args.scene.now.lanes.now in
     let input = input_of lanes c.args.self.now in
     let delta = c.args.delta.now in
     let event = delta.event.now in
-    let all : c.into_iter-id-iterator.result ≡ map.entries triggers = c.into_iter-id-iterator.ensures.into_iter_gives ∙ c.entries-id-items.ensures.rest in
+    let all : c.into_iter-id-iterator.result ≡ map.entries triggers = c.into_iter-id-iterator.ensures.into_iter_gives ∙ c.iter-id-items.ensures.rest in
     let none = not_attached triggers in
     record {
       sorted = subst (λ (es : List (ℕ × Hist)). IsStrictlySortedBy nat_cmp (keys_of es)) (sym all) (strictly_sorted nat_cmp (map.entries triggers) (entries_sorted triggers));
@@ -61,7 +62,7 @@ loop-id-init c =
     }
 
 -- the first of the triggers that are left
-module _ (triggers : FinMap nat_cmp Hist) (left rest : List (ℕ × Hist)) (e : ℕ × Hist) (more : left ≡ e ∷ rest) (is_sorted : IsStrictlySortedBy nat_cmp (keys_of left))
+module _ (triggers : Triggers) (left rest : List (ℕ × Hist)) (e : ℕ × Hist) (more : left ≡ e ∷ rest) (is_sorted : IsStrictlySortedBy nat_cmp (keys_of left))
     (are_attached : AllByRecursion (λ e. map.get triggers e.0 ≡ Some e.1) left) where
   sorted : IsStrictlySortedBy nat_cmp (keys_of (e ∷ rest))
   sorted = subst (λ (es : List (ℕ × Hist)). IsStrictlySortedBy nat_cmp (keys_of es)) more is_sorted
@@ -72,7 +73,7 @@ module _ (triggers : FinMap nat_cmp Hist) (left rest : List (ℕ × Hist)) (e : 
   too : IsDoneToo e.0 (all_but left) (all_but rest)
   too = subst (λ (es : List (ℕ × Hist)). IsDoneToo e.0 (all_but es) (all_but rest)) (sym more) (done_too e rest (sorted_head nat_cmp e.0 (keys_of rest) sorted))
 
-  module _ (acts now : Acts) (pos : Pos) (sign : Sign) (event : Traced) (held_before : (id : ℕ) → acts (act_of pos id) ≡ act_at triggers id (event_before sign event))
+  module _ (acts now : Acts) (pos : Pos) (sign : Sign) (event : Traced) (held_before : (id : ℕ) → acts (act_of pos id) ≡ act_by_id triggers id (event_before sign event))
       (told : now ≡ with_some triggers acts pos (event_after sign event) (all_but left)) where
     -- its acts are still to change
     as_before : now (act_of pos e.0) ≡ option_and_then (act_under e.1) (event_before sign event)
@@ -86,18 +87,18 @@ module _ (triggers : FinMap nat_cmp Hist) (left rest : List (ℕ × Hist)) (e : 
         ∙ ap (set (with_some triggers acts pos (event_after sign event) (all_but left)) (act_of pos e.0)) (sym (attached_act triggers e.0 e.1 attached.0 (event_after sign event)))
         ∙ one_done triggers acts pos (event_before sign event) (event_after sign event) held_before e.0 (all_but left) (all_but rest) too
 
-pub apply_at-requires-clause-views : goal.apply_at-requires-clause-views
-apply_at-requires-clause-views c = tells (triggers_of c.args.scene.now) c.args.scene.now.lanes.now _ c.loop-id.self c.loop-id.invariant.views
+pub apply_to-requires-clause-views : goal.apply_to-requires-clause-views
+apply_to-requires-clause-views c = tells (triggers_of c.args.scene.now) c.args.scene.now.lanes.now _ c.loop-id.self c.loop-id.invariant.views
 
-pub apply_at-requires-clause-attached : goal.apply_at-requires-clause-attached
-apply_at-requires-clause-attached c =
+pub apply_to-requires-clause-attached : goal.apply_to-requires-clause-attached
+apply_to-requires-clause-attached c =
     let e : ℕ × Hist = (c.in-Some.id.now, c.in-Some.trigger.now) in
     let more : c.loop-id.id-iterator ≡ e ∷ c.next.new.self = rest_more (deref_pair {K = ℕ} {X = Hist}) _ _ _ _ c.in-Some.is c.next.ensures.steps in
     (attached (triggers_of c.args.scene.now) c.loop-id.id-iterator c.next.new.self e more c.loop-id.invariant.sorted c.loop-id.invariant.attached).0
 
-pub apply_at-requires-clause-before : goal.apply_at-requires-clause-before
-apply_at-requires-clause-before c =
-    let triggers : FinMap nat_cmp Hist = triggers_of c.args.scene.now in
+pub apply_to-requires-clause-before : goal.apply_to-requires-clause-before
+apply_to-requires-clause-before c =
+    let triggers : Triggers = triggers_of c.args.scene.now in
     let lanes = c.args.scene.now.lanes.now in
     let delta = c.args.delta.now in
     let e : ℕ × Hist = (c.in-Some.id.now, c.in-Some.trigger.now) in
@@ -108,7 +109,7 @@ apply_at-requires-clause-before c =
 
 pub loop-id-preserved : goal.loop-id-preserved
 loop-id-preserved c =
-    let triggers : FinMap nat_cmp Hist = triggers_of c.args.scene.now in
+    let triggers : Triggers = triggers_of c.args.scene.now in
     let lanes = c.args.scene.now.lanes.now in
     let left = c.loop-id.id-iterator in
     let rest = c.next.new.self in
@@ -119,41 +120,41 @@ loop-id-preserved c =
     let e : ℕ × Hist = (c.in-Some.id.now, c.in-Some.trigger.now) in
     let more : c.loop-id.id-iterator ≡ e ∷ c.next.new.self = rest_more (deref_pair {K = ℕ} {X = Hist}) _ _ _ _ c.in-Some.is c.next.ensures.steps in
     let has = c.loop-id.invariant in
-    let did = c.in_ok-apply_at.ensures in
+    let did = c.in_ok-apply_to.ensures in
     let here = (attached triggers left rest e more has.sorted has.attached).0 in
     let its = too triggers left rest e more has.sorted has.attached in
     record {
       sorted = sorted_tail nat_cmp e.0 (keys_of rest) (sorted triggers left rest e more has.sorted has.attached);
       attached = (attached triggers left rest e more has.sorted has.attached).1;
-      forms = forms_trans c.args.self.now c.loop-id.self c.apply_at.new.tables has.forms did.forms;
-      views = views_as triggers lanes _ _ c.apply_at.new.tables
+      forms = forms_trans c.args.self.now c.loop-id.self c.apply_to.new.self has.forms did.forms;
+      views = views_as triggers lanes _ _ c.apply_to.new.self
           (did.input ∙ and_then_done triggers left rest e more has.sorted has.attached (input_of lanes c.args.self.now) (input_of lanes c.loop-id.self) delta.pos delta.sign event
           c.requires.before (acts_are triggers lanes _ c.loop-id.self has.views)) did.views;
-      told = told_more (map.entries triggers) left rest e c.args.changes.now c.loop-id.changes c.apply_at.new.changes c.args.self.now c.loop-id.self c.apply_at.new.tables more has.forms has.told did.told;
+      told = told_more (map.entries triggers) left rest e c.args.changes.now c.loop-id.changes c.apply_to.new.changes c.args.self.now c.loop-id.self c.apply_to.new.self more has.forms has.told did.told;
       evals = ap (λ n. n + asked_of event rest) did.evals ∙ omega (arith, asked_more event e rest, ap (asked_of event) more, has.evals);
-      savers = left_step e.0 (all_but left) (all_but rest) its c.args.self.now c.loop-id.self c.apply_at.new.tables has.forms did.savers has.savers;
-      puts = few_more c.loop-id.work.puts c.apply_at.new.work.puts (asked e.1 event) (asked_of event rest) limit
+      savers = left_step e.0 (all_but left) (all_but rest) its c.args.self.now c.loop-id.self c.apply_to.new.self has.forms did.savers has.savers;
+      puts = few_more c.loop-id.work.puts c.apply_to.new.work.puts (tests_taken e.1 event) (asked_of event rest) limit
           (subst (λ n. Few (SomeSaverMoves edit triggers c.args.self.now) c.loop-id.work.puts n limit) (ap (asked_of event) more ∙ asked_more event e rest) has.puts)
           (some_moves edit triggers c.args.self.now c.loop-id.self has.forms e.0 e.1 here (has.savers e.0 its.was) did.puts);
       quiet = λ plain. did.quiet (λ key counted. roles_stay c.args.self.now c.loop-id.self has.forms e.0 ∙ plain e.0 e.1 here key counted) ∙ has.quiet plain;
-      grow = steps_trans c.args.work.now c.loop-id.work c.apply_at.new.work has.grow did.grow;
+      grow = steps_trans c.args.work.now c.loop-id.work c.apply_to.new.work has.grow did.grow;
     }
 
 -- when no trigger is left, the whole event is done
-all_done : (triggers : FinMap nat_cmp Hist) (lanes : Lanes) (acts : Acts) (pos : Pos) (event : Option Traced) (shelves : Shelves) (left : List (ℕ × Hist)) → left ≡ []
+all_done : (triggers : Triggers) (lanes : Lanes) (acts : Acts) (pos : Pos) (event : Option Traced) (shelves : Shelves) (left : List (ℕ × Hist)) → left ≡ []
     → AreViewsOf triggers lanes (with_some triggers acts pos event (all_but left)) shelves → AreViewsOf triggers lanes (with_event triggers acts pos event) shelves
 all_done triggers lanes acts pos event shelves left none views = subst (λ (es : List (ℕ × Hist)). AreViewsOf triggers lanes (with_some triggers acts pos event (all_but es)) shelves) none views
 
 pub returns-clause-views : goal.returns-clause-views
 returns-clause-views c =
-    let triggers : FinMap nat_cmp Hist = triggers_of c.args.scene.now in
+    let triggers : Triggers = triggers_of c.args.scene.now in
     let lanes = c.args.scene.now.lanes.now in
     tells triggers lanes _ c.loop-id.self (all_done triggers lanes (input_of lanes c.args.self.now) c.args.delta.now.pos (event_after c.args.delta.now.sign c.args.delta.now.event.now) c.loop-id.self
     c.loop-id.id-iterator (rest_all (deref_pair {K = ℕ} {X = Hist}) _ _ _ c.in-None.is c.next.ensures.steps) c.loop-id.invariant.views)
 
 pub returns-clause-input : goal.returns-clause-input
 returns-clause-input c =
-    let triggers : FinMap nat_cmp Hist = triggers_of c.args.scene.now in
+    let triggers : Triggers = triggers_of c.args.scene.now in
     let lanes = c.args.scene.now.lanes.now in
     acts_are triggers lanes _ c.loop-id.self (all_done triggers lanes (input_of lanes c.args.self.now) c.args.delta.now.pos (event_after c.args.delta.now.sign c.args.delta.now.event.now) c.loop-id.self
     c.loop-id.id-iterator (rest_all (deref_pair {K = ℕ} {X = Hist}) _ _ _ c.in-None.is c.next.ensures.steps) c.loop-id.invariant.views)
@@ -166,9 +167,9 @@ returns-clause-told c =
 pub returns-clause-puts : goal.returns-clause-puts
 returns-clause-puts c = few_all c.loop-id.work.puts (asked_of c.args.delta.now.event.now c.loop-id.id-iterator) _ c.loop-id.invariant.puts
 
-pub returns-in_err-apply_at-clause-puts : goal.returns-in_err-apply_at-clause-puts
-returns-in_err-apply_at-clause-puts c =
-    let triggers : FinMap nat_cmp Hist = triggers_of c.args.scene.now in
+pub returns-in_err-apply_to-clause-puts : goal.returns-in_err-apply_to-clause-puts
+returns-in_err-apply_to-clause-puts c =
+    let triggers : Triggers = triggers_of c.args.scene.now in
     let left = c.loop-id.id-iterator in
     let rest = c.next.new.self in
     let delta = c.args.delta.now in
@@ -178,10 +179,10 @@ returns-in_err-apply_at-clause-puts c =
     let e : ℕ × Hist = (c.in-Some.id.now, c.in-Some.trigger.now) in
     let more : c.loop-id.id-iterator ≡ e ∷ c.next.new.self = rest_more (deref_pair {K = ℕ} {X = Hist}) _ _ _ _ c.in-Some.is c.next.ensures.steps in
     let has = c.loop-id.invariant in
-    few_all c.apply_at.new.work.puts (asked_of event rest) limit
-    (few_more c.loop-id.work.puts c.apply_at.new.work.puts (asked e.1 event) (asked_of event rest) limit
+    few_all c.apply_to.new.work.puts (asked_of event rest) limit
+    (few_more c.loop-id.work.puts c.apply_to.new.work.puts (tests_taken e.1 event) (asked_of event rest) limit
     (subst (λ n. Few (SomeSaverMoves edit triggers c.args.self.now) c.loop-id.work.puts n limit) (ap (asked_of event) more ∙ asked_more event e rest) has.puts)
-    (some_moves edit triggers c.args.self.now c.loop-id.self has.forms e.0 e.1 (attached triggers left rest e more has.sorted has.attached).0 (has.savers e.0 (too triggers left rest e more has.sorted has.attached).was) c.apply_at.ensures.puts))
+    (some_moves edit triggers c.args.self.now c.loop-id.self has.forms e.0 e.1 (attached triggers left rest e more has.sorted has.attached).0 (has.savers e.0 (too triggers left rest e more has.sorted has.attached).was) c.apply_to.ensures.puts))
 
 -- whether a call went through
 abbrev went : Result Unit AllocError → Bool
@@ -189,26 +190,26 @@ went (Ok done) = true
 went (Err fault) = false
 
 -- an event that takes no memory takes none at one trigger
-takes_none : (sign : Sign) (triggers : FinMap nat_cmp Hist) (start now : Shelves) → FormsStay start now → (event : Traced) (id : ℕ) (hist : Hist) → map.get triggers id ≡ Some hist → NeedsNoMemory sign triggers start event → NeedsNoMemoryAt sign now id hist event
+takes_none : (sign : Sign) (triggers : Triggers) (start now : Shelves) → FormsStay start now → (event : Traced) (id : ℕ) (hist : Hist) → map.get triggers id ≡ Some hist → NeedsNoMemory sign triggers start event → NeedsNoMemoryAt sign now id hist event
 takes_none Insert triggers start now forms event id hist there none = none id hist there
 takes_none Retract triggers start now forms event id hist there plain = λ key counted. roles_stay start now forms id ∙ plain id hist there key counted
 
-pub returns-in_err-apply_at-clause-memory : goal.returns-in_err-apply_at-clause-memory
-returns-in_err-apply_at-clause-memory c none =
-    let triggers : FinMap nat_cmp Hist = triggers_of c.args.scene.now in
+pub returns-in_err-apply_to-clause-memory : goal.returns-in_err-apply_to-clause-memory
+returns-in_err-apply_to-clause-memory c none =
+    let triggers : Triggers = triggers_of c.args.scene.now in
     let e : ℕ × Hist = (c.in-Some.id.now, c.in-Some.trigger.now) in
     let more : c.loop-id.id-iterator ≡ e ∷ c.next.new.self = rest_more (deref_pair {K = ℕ} {X = Hist}) _ _ _ _ c.in-Some.is c.next.ensures.steps in
     let has = c.loop-id.invariant in
-    let done : c.apply_at.result ≡ Ok tt =
-    c.apply_at.ensures.memory (takes_none c.args.delta.now.sign triggers c.args.self.now c.loop-id.self has.forms c.args.delta.now.event.now e.0 e.1 (attached triggers c.loop-id.id-iterator c.next.new.self e more has.sorted has.attached).0 none) in
-    let both : ◌≡◌ {A = Bool} true false = ap went (sym done) ∙ ap went c.branch-apply_at.ensures ∙ ap (λ flow. went (result_from_control_flow flow)) c.in_err-apply_at.is in
+    let done : c.apply_to.result ≡ Ok tt =
+    c.apply_to.ensures.memory (takes_none c.args.delta.now.sign triggers c.args.self.now c.loop-id.self has.forms c.args.delta.now.event.now e.0 e.1 (attached triggers c.loop-id.id-iterator c.next.new.self e more has.sorted has.attached).0 none) in
+    let both : ◌≡◌ {A = Bool} true false = ap went (sym done) ∙ ap went c.branch-apply_to.ensures ∙ ap (λ flow. went (result_from_control_flow flow)) c.in_err-apply_to.is in
     absurd cc
 
-pub returns-in_err-apply_at-clause-quiet : goal.returns-in_err-apply_at-clause-quiet
-returns-in_err-apply_at-clause-quiet c plain =
-    let triggers : FinMap nat_cmp Hist = triggers_of c.args.scene.now in
+pub returns-in_err-apply_to-clause-quiet : goal.returns-in_err-apply_to-clause-quiet
+returns-in_err-apply_to-clause-quiet c plain =
+    let triggers : Triggers = triggers_of c.args.scene.now in
     let e : ℕ × Hist = (c.in-Some.id.now, c.in-Some.trigger.now) in
     let more : c.loop-id.id-iterator ≡ e ∷ c.next.new.self = rest_more (deref_pair {K = ℕ} {X = Hist}) _ _ _ _ c.in-Some.is c.next.ensures.steps in
     let has = c.loop-id.invariant in
     let here = (attached triggers c.loop-id.id-iterator c.next.new.self e more has.sorted has.attached).0 in
-    c.apply_at.ensures.quiet (λ key counted. roles_stay c.args.self.now c.loop-id.self has.forms e.0 ∙ plain e.0 e.1 here key counted) ∙ has.quiet plain
+    c.apply_to.ensures.quiet (λ key counted. roles_stay c.args.self.now c.loop-id.self has.forms e.0 ∙ plain e.0 e.1 here key counted) ∙ has.quiet plain

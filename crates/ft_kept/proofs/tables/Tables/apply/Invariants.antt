@@ -8,7 +8,7 @@ use Rattle.ft_hist.specs.Steps.{StepsGrow}
 use Rattle.ft_hist.specs.Tests.{count_on}
 use Rattle.ft_kept.specs.Input.{input_of}
 use Rattle.ft_kept.specs.Bounds.{SomeSaverMoves}
-use Rattle.ft_kept.specs.Memory.{IsPlainHit}
+use Rattle.ft_kept.specs.Memory.{AllActPlainly}
 use Rattle.ft_kept.specs.Views.{AreViewsOf, triggers_of, with_some}
 use Rattle.ft_kept.specs.Signs.{table_edit, event_after}
 use Rattle.ft_shelves.specs.Shelves.{FormsStay}
@@ -30,6 +30,6 @@ invariant-loop-id l = record {
   savers : LeftStay (all_but l.id-iterator) l.fn.self l.self;
   puts : Few (SomeSaverMoves (table_edit l.delta.sign l.delta.pos l.delta.event.now) (triggers_of l.scene) l.fn.self) l.work.puts (asked_of l.delta.event.now l.id-iterator)
       (l.fn.work.puts + 3 * count_on (triggers_of l.scene) l.delta.event.now);
-  quiet : IsPlainHit (triggers_of l.scene) l.fn.self l.delta.event.now → l.changes.readings ≡ l.fn.changes.readings;
+  quiet : AllActPlainly (triggers_of l.scene) l.fn.self l.delta.event.now → l.changes.readings ≡ l.fn.changes.readings;
   grow : StepsGrow l.fn.work l.work;
 }

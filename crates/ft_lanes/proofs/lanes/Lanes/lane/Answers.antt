@@ -8,7 +8,7 @@ use Rattle.ft_maps.specs.Mapped.{entries_by}
 use Rattle.ft_lanes.specs.Held.{Lane, Lanes}
 use Rattle.ft_store.specs.Stored.{stored_at}
 use Rattle.ft_lanes.specs.inner.Slots.{SlotsOf}
-use Rattle.ft_lanes.specs.Walks.{shown}
+use Rattle.ft_lanes.specs.Walks.{traced_line}
 use Rattle.ft_lanes.proofs.Views.{lane-entries}
 use Rattle.ft_lanes.proofs.Runs.{shows_in_order}
 use Rattle.ft_lanes.proofs.lanes.Lanes.lane.Goals as goal
@@ -31,7 +31,7 @@ returns-in-None-clause-rest c =
     ∙ ap (λ (lanes : Lanes). option_map (λ (lane : Lane). map.entries lane.events) (map.get lanes c.args.cpu)) c.self.view_is
 
 pub returns-in-Some-clause-runs : goal.returns-in-Some-clause-runs
-returns-in-Some-clause-runs c = shows_in_order shown
+returns-in-Some-clause-runs c = shows_in_order traced_line
 
 pub returns-in-None-clause-runs : goal.returns-in-None-clause-runs
-returns-in-None-clause-runs c = shows_in_order shown
+returns-in-None-clause-runs c = shows_in_order traced_line

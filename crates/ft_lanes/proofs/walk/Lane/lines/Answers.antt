@@ -5,7 +5,7 @@ use Rattle.std.specs.FinMap as map
 use Rattle.ft_maps.specs.Mapped.{entries_by, entries-map_by}
 use Rattle.ft_lanes.specs.Held.{Lane}
 use Rattle.ft_store.specs.Stored.{stored_at}
-use Rattle.ft_lanes.specs.Walks.{shown}
+use Rattle.ft_lanes.specs.Walks.{traced_line}
 use Rattle.ft_lanes.proofs.Runs.{shows_in_order}
 use Rattle.ft_lanes.proofs.walk.Lane.lines.Goals as goal
 
@@ -18,4 +18,4 @@ returns-clause-rest c =
     ∙ ap (λ (lane : Lane). map.entries lane.events) c.self.view_is
 
 pub returns-clause-runs : goal.returns-clause-runs
-returns-clause-runs c = shows_in_order shown
+returns-clause-runs c = shows_in_order traced_line

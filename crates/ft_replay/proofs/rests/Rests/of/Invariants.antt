@@ -6,11 +6,11 @@ use Rattle.std.specs.FinMap.Entries.{where_key}
 use Rattle.std.specs.Ordering.{nat_cmp}
 use Rattle.ft_replay.specs.Chosen.{is_among}
 use Rattle.ft_replay.specs.Merged.{placed}
-use Rattle.ft_replay.specs.inner.Rests.{left_in}
+use Rattle.ft_replay.specs.inner.Rests.{entries_left}
 use Rattle.ft_replay.proofs.rests.Rests.of.Given as goal
 
 -- with the lanes that are still to come it is all
 abbrev pub invariant-loop-cpu : goal.invariant-loop-cpu
 invariant-loop-cpu l =
     let other : ℕ → Bool = λ cpu. not (is_among l.but cpu) in
-    left_in l.rests.rests.items ++ flat_map placed (where_key nat_cmp other l.cpu-iterator) ≡ flat_map placed (where_key nat_cmp other (map.entries l.lanes))
+    entries_left l.rests.rests.items ++ flat_map placed (where_key nat_cmp other l.cpu-iterator) ≡ flat_map placed (where_key nat_cmp other (map.entries l.lanes))

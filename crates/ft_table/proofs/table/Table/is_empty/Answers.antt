@@ -23,8 +23,8 @@ no_hits hits none =
 pub returns : goal.returns
 returns c =
     let order = c.self.invariant.order in
-    let len = c.self.inside.order.ok.0 in
+    let len = c.self.inside.ranked.order.ok.0 in
     let same : c.self.inside.hits ≡ c.args.self.now.hits = ap (λ (t : Tabled). t.hits) c.self.view_is in (
-      λ is. sym same ∙ no_hits c.self.inside.hits (sym order ∙ no_marks c.self.inside.order.items (sym len ∙ eqb-true _ 0 (sym c.is_empty.ensures ∙ is))),
+      λ is. sym same ∙ no_hits c.self.inside.hits (sym order ∙ no_marks c.self.inside.ranked.order.items (sym len ∙ eqb-true _ 0 (sym c.is_empty.ensures ∙ is))),
       λ none. c.is_empty.ensures ∙ eq-eqb _ 0 (len ∙ ap (λ (ms : List Mark). length ms) (order ∙ ap order_of (same ∙ none) ∙ order-empty)),
     )

@@ -1,6 +1,6 @@
 use Rattle.std.proofs.Common.{ℕ, List, ◌++◌, ap, ◌∙◌}
 use Rattle.ft_table.specs.Rows.{table_text}
-use Rattle.ft_rows.specs.Text.{heading}
+use Rattle.ft_table.specs.Text.{heading}
 use Rattle.ft_table.proofs.table.Table.text.Goals as goal
 
 pub returns : goal.returns

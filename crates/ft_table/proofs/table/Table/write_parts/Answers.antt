@@ -2,7 +2,7 @@
 use Rattle.std.proofs.Common.{List, sym, subst, ◌∙◌}
 use Rattle.std.specs.List.{All}
 use Rattle.ft_hist.specs.Fitting.{KeyFits}
-use Rattle.ft_rows.specs.Counted.{Counted}
+use Rattle.ft_table.specs.Counted.{Counted}
 use Rattle.ft_table.proofs.Distinct.{rows_fit}
 use Rattle.ft_table.proofs.table.Table.write_parts.Goals as goal
 

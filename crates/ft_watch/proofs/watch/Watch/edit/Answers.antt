@@ -5,7 +5,7 @@ use Rattle.std.specs.FinMap as finite
 use Rattle.ft_answers.specs.Base.{Base}
 use Rattle.ft_maps.specs.Seen.{seen}
 use Rattle.ft_script.specs.Script.{asked_by}
-use Rattle.ft_watch.specs.declared.tables.Known.{Known}
+use Rattle.ft_watch.specs.declared.known_tables.Known.{Known}
 use Rattle.ft_watch.specs.inner.Told.{AreKnown}
 use Rattle.ft_watch.proofs.Bases.{edit_keeps}
 use Rattle.ft_watch.proofs.Known.{known_edited}

@@ -2,7 +2,7 @@ use Rattle.std.proofs.Common.{sym, subst, ap, ◌∙◌}
 use Rattle.std.specs.Ordering.{nat_cmp}
 use Rattle.ft_maps.specs.Seen.{seen}
 use Rattle.ft_answers.specs.Shown.{Shown}
-use Rattle.ft_watch.specs.declared.tables.Known.{Known}
+use Rattle.ft_watch.specs.declared.known_tables.Known.{Known}
 use Rattle.ft_watch.specs.inner.Told.{AreKnown}
 use Rattle.ft_watch.proofs.Shown.{shown_empty}
 use Rattle.ft_watch.proofs.watch.Watch.new.Goals as goal

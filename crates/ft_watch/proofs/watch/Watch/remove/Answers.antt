@@ -6,8 +6,8 @@ use Rattle.ft_answers.specs.Base.{Base}
 use Rattle.ft_maps.specs.Seen.{seen}
 use Rattle.ft_script.specs.Script.{Asked}
 use Rattle.ft_desk.specs.Output.{outcome}
-use Rattle.ft_watch.specs.declared.tables.Known.{Known}
-use Rattle.ft_watch.specs.inner.Told.{AreKnown, Tables}
+use Rattle.ft_watch.specs.declared.known_tables.Known.{Known}
+use Rattle.ft_watch.specs.inner.Told.{AreKnown, TextsById}
 use Rattle.ft_watch.proofs.Bases.{Removes, remove_leaves}
 use Rattle.ft_watch.proofs.Known.{known_removed}
 use Rattle.ft_watch.proofs.watch.Watch.remove.Goals as goal
@@ -31,5 +31,5 @@ invariant_of-self-else-done g c =
     let known = known_removed c.self.inside.tables.known base new tables c.args.id
     (λ q. ap (λ (b : Base). is_some (finite.get b.triggers q)) c.in_ok-done.ensures.base ∙ left.1 (sym c.in_ok-done.ensures.refused ∙ c.if-done.false) q)
     c.self.invariant in
-    subst (λ (t : Tables). AreKnown c.remove.new.self.known new t) (sym c.remove.ensures.by_id)
+    subst (λ (t : TextsById). AreKnown c.remove.new.self.known new t) (sym c.remove.ensures.by_id)
     (subst (λ (k : Known). AreKnown k new (finite.remove tables c.args.id)) (sym c.remove.ensures.known) known)

@@ -5,11 +5,11 @@ use Rattle.ft_maps.specs.Seen.{seen}
 use Rattle.ft_answers.specs.Shown.{Shown}
 use Rattle.ft_answers.specs.Base.{Base}
 use Rattle.ft_answers.specs.After.{after_strike}
-use Rattle.ft_printed.specs.Answered.{numbered}
+use Rattle.ft_script.specs.Answered.{lane_place_text}
 use Rattle.ft_desk.specs.Output.{edit_outcome}
 use Rattle.ft_desk.specs.inner.Printed.{Prints}
 use Rattle.ft_watch.specs.Watched.{told}
-use Rattle.ft_watch.specs.declared.tables.Known.{Known}
+use Rattle.ft_watch.specs.declared.known_tables.Known.{Known}
 use Rattle.ft_watch.specs.inner.Told.{AreKnown, AreShown}
 use Rattle.ft_watch.proofs.Bases.{stayed, strike_stays}
 use Rattle.ft_watch.proofs.Shown.{names_rows}
@@ -54,8 +54,8 @@ returns-in-Ok g c =
     let shown : AreShown old tables = subst (λ (k : Known). AreKnown k old tables) c.in_ok-look.ensures.shown c.look.ensures.known in
     let at_first : old ≡ c.args.self.now.base = c.in_ok-look.ensures.base ∙ ap (λ (s : Shown). s.base) c.self.view_is in
     let prints = edit_told old new c.tell.new.desk.base (codes "struck ") c.in-Ok.done.value.place (after_strike old c.args.cpu c.args.number) tables c.tell.result shown c.in-Ok.ensures.gives.0 c.tell.ensures.base c.tell.ensures.text c.tell.ensures.refused in
-    let left = subst (λ (b : Base). Prints (told b (edit_outcome numbered b (codes "struck ") (after_strike b c.args.cpu c.args.number))) c.tell.new.desk.base c.tell.result) at_first prints in
+    let left = subst (λ (b : Base). Prints (told b (edit_outcome lane_place_text b (codes "struck ") (after_strike b c.args.cpu c.args.number))) c.tell.new.desk.base c.tell.result) at_first prints in
     elim c.match-done-2.branch [
-      | in-Some-2 w ↦ subst (λ (s : Shown). Prints (told c.args.self.now.base (edit_outcome numbered c.args.self.now.base (codes "struck ") (after_strike c.args.self.now.base c.args.cpu c.args.number))) s.base c.tell.result) (sym w.self-is) left
-      | in-None-2 w ↦ subst (λ (s : Shown). Prints (told c.args.self.now.base (edit_outcome numbered c.args.self.now.base (codes "struck ") (after_strike c.args.self.now.base c.args.cpu c.args.number))) s.base c.tell.result) (sym w.self-is) left
+      | in-Some-2 w ↦ subst (λ (s : Shown). Prints (told c.args.self.now.base (edit_outcome lane_place_text c.args.self.now.base (codes "struck ") (after_strike c.args.self.now.base c.args.cpu c.args.number))) s.base c.tell.result) (sym w.self-is) left
+      | in-None-2 w ↦ subst (λ (s : Shown). Prints (told c.args.self.now.base (edit_outcome lane_place_text c.args.self.now.base (codes "struck ") (after_strike c.args.self.now.base c.args.cpu c.args.number))) s.base c.tell.result) (sym w.self-is) left
     ]

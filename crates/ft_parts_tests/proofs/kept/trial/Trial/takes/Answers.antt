@@ -1,11 +1,10 @@
 use Rattle.std.proofs.Common.{refl, sym, ap, subst, ◌∙◌}
 use Rattle.std.specs.Prelude.{is_some}
-use Rattle.std.specs.Ordering.{nat_cmp}
 use Rattle.std.specs.FinMap.{FinMap}
 use Rattle.ft_fields.specs.Places.{pos_cmp}
 use Rattle.ft_fields.specs.Traced.{Traced}
 use Rattle.ft_fields.specs.declared.pos.Pos.{Pos}
-use Rattle.ft_hist.specs.Hist.{Hist}
+use Rattle.ft_hist.specs.Triggers.{Triggers}
 use Rattle.ft_maps.specs.Seen.{seen}
 use Rattle.ft_kept.specs.Repairs.{IsHeldAt}
 use Rattle.ft_kept.proofs.Input.{tells}
@@ -13,14 +12,14 @@ use Rattle.ft_parts_tests.proofs.OneEvent.{before, copied_some, has_before, not_
 use Rattle.ft_parts_tests.proofs.kept.trial.Trial.takes.Goals as goal
 
 pub apply-requires-clause-views : goal.apply-requires-clause-views
-apply-requires-clause-views c = tells (seen nat_cmp c.self.inside.triggers) c.self.inside.lanes _ c.self.inside.tables c.self.invariant.views
+apply-requires-clause-views c = tells c.self.inside.triggers c.self.inside.lanes _ c.self.inside.tables c.self.invariant.views
 
 pub apply-requires-clause-held : goal.apply-requires-clause-held
 apply-requires-clause-held c = subst (λ (p : Pos). IsHeldAt c.self.inside.lanes p c.in-Some.event) (sym c.place-pos.ensures) (sym c.in-Some.ensures, refl)
 
 pub apply-requires-clause-before : goal.apply-requires-clause-before
 apply-requires-clause-before c =
-    let triggers : FinMap nat_cmp Hist = seen nat_cmp c.self.inside.triggers in
+    let triggers : Triggers = c.self.inside.triggers in
     let events : FinMap pos_cmp Traced = seen pos_cmp c.self.inside.come in
     let held : IsHeldAt c.self.inside.lanes c.place-pos.result c.in-Some.event = subst (λ (p : Pos). IsHeldAt c.self.inside.lanes p c.in-Some.event) (sym c.place-pos.ensures) (sym c.in-Some.ensures, refl) in
     let was = before triggers c.self.inside.lanes events c.self.inside.tables c.self.invariant c.args.sign c.place-pos.result c.in-Some.event held
@@ -29,7 +28,7 @@ apply-requires-clause-before c =
 
 pub invariant_of-result : goal.invariant_of-result
 invariant_of-result c =
-    let triggers : FinMap nat_cmp Hist = seen nat_cmp c.self.inside.triggers in
+    let triggers : Triggers = c.self.inside.triggers in
     let events : FinMap pos_cmp Traced = seen pos_cmp c.self.inside.come in
     let held : IsHeldAt c.self.inside.lanes c.place-pos.result c.in-Some.event = subst (λ (p : Pos). IsHeldAt c.self.inside.lanes p c.in-Some.event) (sym c.place-pos.ensures) (sym c.in-Some.ensures, refl) in
     let was = before triggers c.self.inside.lanes events c.self.inside.tables c.self.invariant c.args.sign c.place-pos.result c.in-Some.event held

@@ -1,5 +1,0 @@
-use Rattle.std.proofs.Common.{rules}
-use Rattle.ft_counts.proofs.count.Count.raise.Goals as goal
-
-pub returns : goal.returns
-returns c = search rules

@@ -1,5 +1,0 @@
-use Rattle.ft_glob.proofs.Same.{same_items}
-use Rattle.ft_glob.proofs.laws.one_reading.Goals as goal
-
-pub returns : goal.returns
-returns c = λ pattern items other. same_items items other pattern

@@ -1,3 +1,0 @@
-pub mod Glob
-pub mod inner
-pub mod Matching

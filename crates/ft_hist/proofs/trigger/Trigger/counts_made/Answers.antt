@@ -1,0 +1,5 @@
+use Rattle.std.proofs.Common.{rules}
+use Rattle.ft_hist.proofs.trigger.Trigger.counts_made.Goals as goal
+
+pub returns : goal.returns
+returns c = search rules

@@ -1,0 +1,5 @@
+use Rattle.ft_kept.specs.Input.{input_of}
+use Rattle.ft_kept.proofs.tables.Tables.apply_to.Given as goal
+
+abbrev pub ghost-change_act : goal.ghost-change_act
+ghost-change_act a = input_of a.act.now.scene.lanes.now a.tables.now

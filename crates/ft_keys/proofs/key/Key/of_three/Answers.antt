@@ -1,5 +1,0 @@
-use Rattle.std.proofs.Common.{rules}
-use Rattle.ft_keys.proofs.key.Key.of_three.Goals as goal
-
-pub returns : goal.returns
-returns c = search rules

@@ -1,4 +1,0 @@
-pub mod Orders
-pub mod Parts
-pub mod Ties
-pub mod inner

@@ -1,2 +1,0 @@
--- Words of private functions and types, which no public clause says.
-pub mod Stored

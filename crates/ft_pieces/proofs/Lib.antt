@@ -1,4 +1,0 @@
-pub mod PieceLemmas
-pub mod Separators
-pub mod Spelled
-pub mod Spellings

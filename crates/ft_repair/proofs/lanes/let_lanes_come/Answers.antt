@@ -1,0 +1,88 @@
+use Rattle.std.proofs.Common.{◌≡◌, ℕ, true, List, refl, sym, ap, subst, ◌∙◌, arith}
+use Rattle.std.specs.FinMap as map
+use Rattle.std.proofs.lemmas.List.{drop_all}
+use Rattle.ft_fields.specs.Traced.{Traced}
+use Rattle.ft_fields.specs.declared.pos.Pos.{Pos}
+use Rattle.ft_kept.specs.Shelves.{FormsStay}
+use Rattle.ft_kept.specs.Views.{triggers_of}
+use Rattle.ft_kept.proofs.Forms.{forms_refl, forms_trans}
+use Rattle.ft_lanes.specs.Held.{Lanes}
+use Rattle.ft_maps.specs.Mapped.{entries_by}
+use Rattle.ft_store.specs.Stored.{held}
+use Rattle.ft_store.specs.declared.stored.Stored.{Stored}
+use Rattle.ft_base.specs.Base.{Triggers}
+use Rattle.ft_base.specs.Reachable.{HasSavers}
+use Rattle.ft_repair.specs.KeptShelves.{AreKept}
+use Rattle.ft_repair.specs.ReadingsTold.{ReadingsTold}
+use Rattle.ft_repair.specs.SomeLanes.{AreKeptOfLanes, count_coming}
+use Rattle.ft_replay.specs.Chosen.{lanes_of, lanes_but}
+use Rattle.ft_replay.specs.Merged.{merged}
+use Rattle.ft_replay.specs.Named.{named}
+use Rattle.ft_replay.proofs.Stepping.{grow_none, grow_more}
+use Rattle.ft_repair.proofs.Changing.{next_of, next_views, next_held, next_before, changing_fewer}
+use Rattle.ft_repair.proofs.LanesCome.{AreComing, coming_all, coming_none, count_events, counted}
+use Rattle.ft_repair.proofs.Outside.{if_still}
+use Rattle.ft_repair.proofs.Repaired.{if_there, there_if}
+use Rattle.ft_repair.proofs.Telling.{telling_none, telling_more}
+use Rattle.ft_repair.proofs.Unpacked.{first_left}
+use Rattle.ft_repair.proofs.lanes.let_lanes_come.Goals as goal
+
+pub loop-pos-init : goal.loop-pos-init
+loop-pos-init c =
+    let triggers : Triggers = triggers_of c.scene_of-scene.result in
+    let lanes : Lanes = c.scene_of-scene.result.lanes.now in
+    let cpus : List ℕ = c.args.before.now in
+    let items : List (Pos × Stored) = c.deref-pos-items.result.now in
+    let savers : HasSavers triggers = subst HasSavers (sym c.scene_of-scene.ensures.triggers) c.scene_of-scene.ensures.savers in
+    let all : entries_by held items ≡ map.entries (named triggers (merged (lanes_but cpus lanes))) = ap (entries_by held) c.deref-pos-items.ensures.value ∙ c.in-Ok.ensures in
+    let kept : AreKept triggers (merged (lanes_of cpus lanes)) c.in-Some.tables =
+    subst (λ (both : Triggers × Lanes). AreKept both.0 (merged (lanes_of cpus both.1)) c.in-Some.tables) (λ i. (sym c.scene_of-scene.ensures.triggers i, sym c.scene_of-scene.ensures.lanes i))
+    (there_if (AreKeptOfLanes cpus c.args.content.now) c.in-Some.tables c.args.kept.now c.in-Some.ensures.value c.requires) in
+    record {
+      coming = subst (λ (es : List (Pos × Traced)). AreComing lanes triggers cpus es c.in-Some.tables) (sym all) (coming_all lanes triggers cpus savers c.in-Some.tables kept);
+      evals = omega (arith, ap (count_events triggers) all);
+      forms = if_there (λ before. FormsStay before c.in-Some.tables) c.in-Some.tables c.args.kept.now c.in-Some.ensures.value (forms_refl c.in-Some.tables);
+      reread = if_there (λ before. ReadingsTold c.args.changes.now.readings c.args.changes.now.readings before c.in-Some.tables) c.in-Some.tables c.args.kept.now c.in-Some.ensures.value (telling_none c.args.changes.now.readings c.in-Some.tables);
+      grow = grow_none _;
+    }
+
+pub apply-requires-clause-views : goal.apply-requires-clause-views
+apply-requires-clause-views c =
+    let more = first_left c.deref-pos-items.result.now c.loop-pos.pos-index c.loop-pos-item.result c.event-event.result c.loop-pos-test.true c.loop-pos-item.is c.event-event.ensures in
+    next_views (next_of more c.loop-pos.invariant.coming)
+
+pub apply-requires-clause-held : goal.apply-requires-clause-held
+apply-requires-clause-held c =
+    let more = first_left c.deref-pos-items.result.now c.loop-pos.pos-index c.loop-pos-item.result c.event-event.result c.loop-pos-test.true c.loop-pos-item.is c.event-event.ensures in
+    next_held (next_of more c.loop-pos.invariant.coming)
+
+pub apply-requires-clause-before : goal.apply-requires-clause-before
+apply-requires-clause-before c =
+    let more = first_left c.deref-pos-items.result.now c.loop-pos.pos-index c.loop-pos-item.result c.event-event.result c.loop-pos-test.true c.loop-pos-item.is c.event-event.ensures in
+    λ id. next_before (next_of more c.loop-pos.invariant.coming) id refl
+
+pub loop-pos-preserved : goal.loop-pos-preserved
+loop-pos-preserved c =
+    let more = first_left c.deref-pos-items.result.now c.loop-pos.pos-index c.loop-pos-item.result c.event-event.result c.loop-pos-test.true c.loop-pos-item.is c.event-event.ensures in
+    record {
+      coming = changing_fewer (next_of more c.loop-pos.invariant.coming) c.apply.new.self c.in_default-apply.ensures.forms c.in_default-apply.ensures.views c.in_default-apply.ensures.input;
+      evals = let count = counted (triggers_of c.scene_of-scene.result) more in omega (arith, c.loop-pos.invariant.evals, count, c.in_default-apply.ensures.evals);
+      forms = if_still (λ before. FormsStay before c.loop-pos.tables) (λ before. FormsStay before c.apply.new.self) c.args.kept.now (λ before was. forms_trans before c.loop-pos.tables c.apply.new.self was c.in_default-apply.ensures.forms) c.loop-pos.invariant.forms;
+      reread = if_still (λ before. ReadingsTold c.args.changes.now.readings c.loop-pos.changes.readings before c.loop-pos.tables) (λ before. ReadingsTold c.args.changes.now.readings c.apply.new.changes.readings before c.apply.new.self) c.args.kept.now
+          (λ before was. telling_more c.args.changes.now.readings c.loop-pos.changes c.apply.new.changes before c.loop-pos.tables c.apply.new.self was c.in_default-apply.ensures.told.told) c.loop-pos.invariant.reread;
+      grow = grow_more _ _ _ c.loop-pos.invariant.grow c.in_default-apply.ensures.grow;
+    }
+
+pub returns-clause-kept : goal.returns-clause-kept
+returns-clause-kept c =
+    let none = ap (entries_by held) (drop_all c.loop-pos.pos-index c.deref-pos-items.result.now c.loop-pos-test.false) in
+    subst (λ (both : Triggers × Lanes). AreKept both.0 (merged both.1) c.loop-pos.tables) (λ i. (c.scene_of-scene.ensures.triggers i, c.scene_of-scene.ensures.lanes i))
+    (coming_none c.scene_of-scene.result.lanes.now (triggers_of c.scene_of-scene.result) c.args.before.now none c.loop-pos.invariant.coming)
+
+pub returns-in-Err-clause-evals : goal.returns-in-Err-clause-evals
+returns-in-Err-clause-evals c =
+    let more = first_left c.deref-pos-items.result.now c.loop-pos.pos-index c.loop-pos-item.result c.event-event.result c.loop-pos-test.true c.loop-pos-item.is c.event-event.ensures in
+    let count = counted (triggers_of c.scene_of-scene.result) more in
+    let same : count_events (triggers_of c.scene_of-scene.result) (map.entries (named (triggers_of c.scene_of-scene.result) (merged (lanes_but c.args.before.now c.scene_of-scene.result.lanes.now)))) ≡ count_coming c.args.before.now c.args.content.now =
+    λ i. count_events (c.scene_of-scene.ensures.triggers i) (map.entries (named (c.scene_of-scene.ensures.triggers i) (merged (lanes_but c.args.before.now (c.scene_of-scene.ensures.lanes i))))) in
+    omega (arith, c.loop-pos.invariant.evals, count, c.apply.ensures.evals, same)

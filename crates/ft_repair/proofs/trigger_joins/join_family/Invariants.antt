@@ -1,0 +1,15 @@
+use Rattle.std.proofs.Common.{◌+◌, ◌≤◌}
+use Rattle.ft_hist.specs.Steps.{StepsGrow}
+use Rattle.ft_kept.specs.Views.{triggers_of}
+use Rattle.ft_base.specs.OneTrigger.{is_in_family}
+use Rattle.ft_answers.specs.Costs.{family_tests}
+use Rattle.ft_repair.proofs.Putting.{IsPut, tests_in}
+use Rattle.ft_repair.proofs.trigger_joins.join_family.Given as goal
+
+-- those of the family that are left are idle, and their tests are left too; no count fell
+abbrev pub invariant-loop-other : goal.invariant-loop-other
+invariant-loop-other l = record {
+  put : IsPut (triggers_of l.scene) l.scene.lanes.now (is_in_family (triggers_of l.scene) l.id) l.other-iterator l.tables;
+  evals : l.work.evals + tests_in (is_in_family (triggers_of l.scene) l.id) l.scene.lanes.now l.other-iterator ≤ l.fn.work.evals + family_tests (triggers_of l.scene) l.scene.lanes.now l.id;
+  grow : StepsGrow l.fn.work l.work;
+}

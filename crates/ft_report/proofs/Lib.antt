@@ -1,4 +1,0 @@
-pub mod Ids
-pub mod Once
-pub mod Rows
-mod Told

@@ -1,7 +1,0 @@
-mod Added
-mod Examples
-mod Hexadecimal
-mod InOrder
-mod KeyParts
-mod Rising
-mod RowOrders

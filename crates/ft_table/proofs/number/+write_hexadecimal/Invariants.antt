@@ -1,0 +1,4 @@
+use Rattle.ft_table.proofs.number.+write_hexadecimal.Given as goal
+
+abbrev pub decreases-write_hexadecimal : goal.decreases-write_hexadecimal
+decreases-write_hexadecimal l = l.number

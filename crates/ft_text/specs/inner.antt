@@ -1,0 +1,3 @@
+-- Words of private functions, which no public clause says.
+pub mod Words
+pub mod Walk

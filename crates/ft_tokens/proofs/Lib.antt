@@ -1,2 +1,0 @@
-mod Quotes
-mod Reach

@@ -1,5 +1,0 @@
-use Rattle.std.proofs.Common.{rules}
-use Rattle.ft_tokens.proofs.numbers.below_zero.Goals as goal
-
-pub returns-in-Some-2 : goal.returns-in-Some-2
-returns-in-Some-2 c = search rules

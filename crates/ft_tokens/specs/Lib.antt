@@ -1,3 +1,0 @@
-pub mod Tokens
-pub mod Ranged
-pub mod inner

@@ -1,2 +1,0 @@
--- Words of private functions, which no public clause says.
-pub mod Words
