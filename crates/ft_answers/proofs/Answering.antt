@@ -1,6 +1,6 @@
 -- What a trigger answers, from its counter.
-use Rattle.std.proofs.Common.{◌≡◌, ℕ, Bool, true, false, List, refl, sym, ap, subst, ◌∙◌, Some, None, Option, Result, Ok, Err}
-use Rattle.std.specs.Prelude.{IsSome, option_map, unwrap_or, map as list_map, if◌then◌else◌}
+use Rattle.std.proofs.Common.{◌≡◌, ◌⊎◌, ⊎_elim, ℕ, Bool, true, false, inl, inr, List, refl, sym, ap, subst, ◌∙◌, Some, None, Option, Result, Ok, Err}
+use Rattle.std.specs.Prelude.{◌≢◌, IsSome, option_map, unwrap_or, map as list_map, if◌then◌else◌}
 use Rattle.std.specs.Option.{option_map_or}
 use Rattle.std.specs.Cmp.{nat_cmp_total}
 use Rattle.std.specs.FinMap as map
@@ -11,11 +11,15 @@ use Rattle.ft_maps.specs.Mapped.{map_by, get-map_by}
 use Rattle.ft_table.specs.Rows.{AllFit}
 use Rattle.ft_table.specs.Tabled.{Tabled}
 use Rattle.ft_base.specs.declared.refused.Refused.{Refused}
-use Rattle.ft_base.specs.declared.refused.Refused.TheVariants.{NoTrigger, NotReading}
+use Rattle.ft_base.specs.declared.refused.Refused.TheVariants.{Memory, NoTrigger, NotReading}
 use Rattle.ft_hist.specs.Triggers.{Triggers}
-use Rattle.ft_replay.specs.Merged.{Events}
+use Rattle.ft_replay.specs.Merged.{Events, merged}
 use Rattle.ft_made.specs.Laws.{HeldAreCounted}
-use Rattle.ft_answers.specs.Answers.{tally_at, tally_made, tally_shown, of_attached, latency_of, latencies_as, pairs_as}
+use Rattle.ft_base.specs.Base.{Base}
+use Rattle.ft_answers.specs.Answers.{tally_at, tally_made, tally_shown, of_attached, latencies, latency_of, latencies_as, pairs_as, pairs_shown}
+use Rattle.ft_answers.specs.Edited.{AnswersFrom}
+use Rattle.ft_answers.specs.Shown.{Shown}
+use Rattle.ft_answers.specs.declared.latency.Latency.{Latency}
 use Rattle.ft_hist.specs.Made.{counts_made}
 use Rattle.ft_replay.specs.Replay.{State, replay}
 use Rattle.ft_replay.specs.Counters.{Counting, Counters, tally_in, HasCounter, HaveCounters}
@@ -74,17 +78,6 @@ answered {T} triggers events id hist there counted table same (pairs, is) view a
     of_attached-some triggers id (λ h. Ok (view h (tally_shown triggers events id h))) hist there
     ∙ ap (λ (a : T). let result : Result T Refused = Ok a in result) (ap (view hist) (sym is ∙ ap (λ (t : Tabled). tally_of t pairs) (sym same)) ∙ sym (gives pairs))
 
--- a reader has latencies, and no one else
-pub latencies-reader : (variable : Option Var) (tally : Tally) → is_reader variable ≡ true → latencies_as variable tally ≡ Ok (list_map latency_of tally.pairs)
-latencies-reader None tally is = let both : ◌≡◌ {A = Bool} false true = is in absurd cc
-latencies-reader (Some (vars.Saves label)) tally is = let both : ◌≡◌ {A = Bool} false true = is in absurd cc
-latencies-reader (Some (vars.Reads own source)) tally is = refl
-
-pub latencies-other : (variable : Option Var) (tally : Tally) → is_reader variable ≡ false → latencies_as variable tally ≡ Err NotReading
-latencies-other None tally is = refl
-latencies-other (Some (vars.Saves label)) tally is = refl
-latencies-other (Some (vars.Reads own source)) tally is = let both : ◌≡◌ {A = Bool} true false = is in absurd cc
-
 -- a reader has read, and no one else
 pub pairs-reader : (variable : Option Var) (tally : Tally) → is_reader variable ≡ true → pairs_as variable tally ≡ Ok tally.pairs
 pairs-reader None tally is = let both : ◌≡◌ {A = Bool} false true = is in absurd cc
@@ -95,3 +88,30 @@ pub pairs-other : (variable : Option Var) (tally : Tally) → is_reader variable
 pairs-other None tally is = refl
 pairs-other (Some (vars.Saves label)) tally is = refl
 pairs-other (Some (vars.Reads own source)) tally is = let both : ◌≡◌ {A = Bool} true false = is in absurd cc
+
+-- ---- latencies
+
+-- an answer's pairs as latencies
+abbrev pub measured : Result (List Pair) Refused → Result (List Latency) Refused
+measured (Ok pairs) = Ok (list_map latency_of pairs)
+measured (Err refused) = Err refused
+
+-- what readings measured is told by what they found
+pub latencies-measured : (base : Base) (id : ℕ) → latencies base id ≡ measured (pairs_shown base id)
+unfolding latencies pairs_shown
+latencies-measured base id = by (map.get base.triggers id) where
+  of : (variable : Option Var) (tally : Tally) → latencies_as variable tally ≡ measured (pairs_as variable tally)
+  of None tally = refl
+  of (Some (vars.Saves label)) tally = refl
+  of (Some (vars.Reads own source)) tally = refl
+
+  by : (o : Option Hist) → option_map_or (λ hist. latencies_as hist.variable (tally_at base.triggers (merged base.lanes) id)) o (Err NoTrigger)
+      ≡ measured (option_map_or (λ hist. pairs_as hist.variable (tally_at base.triggers (merged base.lanes) id)) o (Err NoTrigger))
+  by None = refl
+  by (Some hist) = of hist.variable (tally_at base.triggers (merged base.lanes) id)
+
+-- a refusal of the pairs is one of the latencies
+pub unmeasured : {S : Type 0} (view : S → List Latency) (old new : Shown) (id : ℕ) (refused : Refused) (answer : Result S Refused) → new.base ≡ old.base → (refused ≡ Memory) ⊎ (pairs_shown old.base id ≡ Err refused)
+    → (new.deferred ≡ true → old.deferred ≡ true) × (refused ≢ Memory → new.deferred ≡ old.deferred) → answer ≡ Err refused → AnswersFrom view (latencies old.base id) old new answer
+unmeasured view old new id refused answer same why keeps is =
+    subst (AnswersFrom view (latencies old.base id) old new) (sym is) (same, ⊎_elim inl (λ none. inr (latencies-measured old.base id ∙ ap measured none)) why, keeps)

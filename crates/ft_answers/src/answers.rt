@@ -3,12 +3,10 @@
 ghost use Rattle.std.specs.Prelude.{option_map};
 ghost use Rattle.ft_hist.specs.Steps.{StepsGrow};
 ghost use Rattle.ft_replay.specs.Merged.{merged};
-ghost use Rattle.ft_answers.specs.Answers.{hist_from, rows_from, counts_from, row_from, totals_from};
-ghost use Rattle.ft_answers.specs.Answers.{latencies_from, pairs_from};
+ghost use Rattle.ft_answers.specs.Answers.{counts_from, hist_from, pairs_from, row_from, rows_from, totals_from};
 ghost use Rattle.ft_answers.specs.Edited.{AnswerIs};
 
 use crate::counted::{counted_at, counter_at};
-use crate::latency::{Latency, latencies_of};
 use crate::tables::{table_counts, table_row, table_rows, table_text};
 use ft_base::{Refused, attached, is_reader};
 use ft_hist::{Key, Triggers, Work};
@@ -105,27 +103,6 @@ pub(crate) fn totals_from(
     let trigger = attached(triggers, id)?;
     let counted = counted_at(alloc, lanes, triggers, id, trigger, work)?;
     Ok(counted.table().totals())
-}
-
-/// The latencies of the trigger with an id. Refused where no trigger has the id, where it reads no
-/// variable, or for memory.
-pub(crate) fn latencies_from(
-    alloc: Global,
-    lanes: &Lanes,
-    triggers: &Triggers,
-    id: u32,
-    work: &mut Work,
-) -> Result<Vec<Latency>, Refused>
-    ensures gives { AnswerIs (λ latencies. latencies.items)
-        (latencies_from triggers.now (merged lanes.now) id) result }
-    ensures grow { StepsGrow work.old work.new }
-{
-    let trigger = attached(triggers, id)?;
-    if !is_reader(trigger) {
-        return Err(Refused::NotReading);
-    }
-    let counter = counter_at(alloc, lanes, triggers, id, work)?;
-    Ok(latencies_of(alloc, counter.pairs())?)
 }
 
 /// What the readings of the trigger with an id found. Refused where no trigger has the id, where it

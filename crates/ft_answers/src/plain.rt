@@ -2,13 +2,11 @@
 
 ghost use Rattle.std.specs.Prelude.{◌≡◌, false, None};
 
-use crate::answers::{
-    counts_from, hist_from, latencies_from, pairs_from, row_from, rows_from, totals_from,
-};
+use crate::answers::{counts_from, hist_from, pairs_from, row_from, rows_from, totals_from};
 use crate::board::Board;
 use crate::done::{Done, Kept};
 use crate::edited::Edited;
-use crate::latency::Latency;
+use crate::latency::{Latency, latencies_of};
 use ft_base::{Content, Place, Refused};
 use ft_fields::{Event, Name};
 use ft_filter::Filter;
@@ -163,9 +161,8 @@ impl Board for PlainBoard {
     }
 
     fn latencies(&mut self, id: u32) -> Result<Vec<Latency>, Refused> {
-        let lanes = self.content.lanes();
-        let triggers = self.content.triggers();
-        latencies_from(self.alloc, lanes, triggers, id, &mut self.work)
+        let pairs = self.pairs(id)?;
+        Ok(latencies_of(self.alloc, &pairs)?)
     }
 
     fn pairs(&mut self, id: u32) -> Result<Vec<Pair>, Refused> {

@@ -293,6 +293,7 @@ impl Content {
         };
         match self.lanes.list(alloc, lane) {
             Ok(Some(text)) => Ok(text),
+            // The lane is held, as was just found.
             Ok(None) => Err(Refused::NoLane(cpu)),
             Err(_) => Err(Refused::Memory),
         }

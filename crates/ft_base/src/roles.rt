@@ -89,6 +89,7 @@ pub fn role_of(triggers: &Triggers, variable: Option<&Var>) -> Role
         None => Role::Plain,
         Some(Var::Saves(_)) => Role::Saves,
         Some(Var::Reads { source, .. }) => {
+            // An attached reader has a saver; else it would be 0, which is no trigger's id.
             Role::Reads(saver_of(triggers, source.bytes()).unwrap_or(0))
         }
     }

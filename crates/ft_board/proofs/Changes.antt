@@ -1,5 +1,5 @@
 -- One event comes or goes: what is kept before and after, and the report of the bases before and after.
-use Rattle.std.proofs.Common.{◌≡◌, ℕ, ◌⊎◌, ⊎_elim, inl, Bool, true, false, cond, List, [], refl, sym, ap, subst, ◌∙◌, Option, Some, None, Ok}
+use Rattle.std.proofs.Common.{◌≡◌, ◌⊎◌, ⊎_elim, inl, Bool, true, false, cond, List, [], refl, sym, ap, subst, ◌∙◌, Option, Some, None, Ok}
 use Rattle.std.specs.Prelude.{⊤}
 use Rattle.std.specs.Option.{IfSome}
 use Rattle.std.specs.Ordering.{eq_by_cmp}
@@ -36,7 +36,7 @@ use Rattle.ft_repair.proofs.MergedLanes.{absent_before, merged_one_less, merged_
 use Rattle.ft_shelves.specs.declared.sign.Sign.{Sign}
 use Rattle.ft_shelves.specs.declared.sign.Sign.TheVariants.{Insert, Retract}
 use Rattle.ft_board.specs.declared.views.Views.{Views}
-use Rattle.ft_board.specs.inner.Edits.{Edit, IsEdit}
+use Rattle.ft_board.specs.inner.Edits.{Edit, IsEdit, pos_at}
 use Rattle.ft_board.specs.MadeShelves.{AreMadeBy}
 use Rattle.ft_board.specs.inner.Mending.{CanMendTo}
 use Rattle.ft_repair.specs.OneEvent.{AreKeptAfter, ChangeCosts, EventNeedsNoMemory, events_before, events_after}
@@ -128,20 +128,14 @@ taken_out events pos event none = same_map pos_cmp_total pos_same (map.remove (m
   from q true tie = sym (ap (map.get events) (same_from_tie pos_same q pos tie) ∙ none)
   from q false apart = get-insert pos_cmp_total events pos event q ∙ ap (λ (b : Bool). cond b (Some event) (map.get events q)) apart
 
--- the place of a line in the merged order, by its event's stamp
-abbrev pub pos_at : Place → ℕ → Pos
-pos_at place stamp = record { stamp = stamp; cpu = place.cpu; line = place.line }
-
 -- an event that was put in is held, and comes by an edit
 pub record Comes (old new : Base) (pos : Pos) (event : Traced) : Type 0 where
   pub held : IsHeldAt new.lanes pos event
   pub by : IsEdit Insert new pos (record { old = old; new = new })
 
-pub inserts : (base new : Base) (event : Traced) (place : Place) → IsReachable base → after_insert base event ≡ Ok (new, place)
-    → {stamp : ℕ} → stamp ≡ event.stamp → Comes base new (pos_at place stamp) event
-inserts base new event place reachable answer {stamp} its =
-    subst (λ (n : ℕ). Comes base new (pos_at place n) event) (sym its)
-    (subst (λ (given : Base × Place). Comes base given.0 (pos_at given.1 event.stamp) event) (insert-gives base event new place answer) (record {
+pub inserts : (base new : Base) (event : Traced) (place : Place) → IsReachable base → after_insert base event ≡ Ok (new, place) → Comes base new (pos_at place event.stamp) event
+inserts base new event place reachable answer =
+    subst (λ (given : Base × Place). Comes base given.0 (pos_at given.1 event.stamp) event) (insert-gives base event new place answer) (record {
       held = (new_line_has base event, refl);
       by = record {
         same_before = refl;
@@ -149,7 +143,7 @@ inserts base new event place reachable answer {stamp} its =
         was = sym (taken_out (merged base.lanes) at event (absent_before base reachable event)) ∙ ap (λ (m : Events). map.remove m at) (merged_one_more base reachable event);
         is = refl;
       };
-    }))
+    })
   where
     at : Pos
     at = record { stamp = event.stamp; cpu = event.cpu; line = (lane_or_new base.lanes event.cpu).next }
@@ -163,8 +157,8 @@ pub record Goes (base : Base) (place : Place) (pos : Pos) (event : Traced) : Typ
   pub held : IsHeldAt base.lanes pos event
   pub by : IsEdit Retract base pos (record { old = base; new = struck base place })
 
-pub strikes : (base : Base) (place : Place) (event : Traced) → event_at base.lanes place.cpu place.line ≡ Some event → {stamp : ℕ} → stamp ≡ event.stamp → Goes base place (pos_at place stamp) event
-strikes base place event there {stamp} its = subst (λ (n : ℕ). Goes base place (pos_at place n) event) (sym its) (record {
+pub strikes : (base : Base) (place : Place) (event : Traced) → event_at base.lanes place.cpu place.line ≡ Some event → Goes base place (pos_at place event.stamp) event
+strikes base place event there = record {
   held = (there, refl);
   by = record {
     same_before = refl;
@@ -173,7 +167,7 @@ strikes base place event there {stamp} its = subst (λ (n : ℕ). Goes base plac
     is = merged_one_less base.lanes place.cpu place.line event there (map.remove (merged base.lanes) at) (get-remove_same pos_cmp_total (merged base.lanes) at)
         (put_back (merged base.lanes) at event (placed_there base.lanes place.cpu place.line event there));
   };
-})
+}
   where
     at : Pos
     at = pos_at place event.stamp

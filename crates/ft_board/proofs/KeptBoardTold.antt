@@ -1,20 +1,17 @@
 -- What a board answers from what it keeps.
-use Rattle.std.proofs.Common.{◌≡◌, ◌⊎◌, ⊎_elim, ℕ, Bool, true, false, not, inl, inr, refl, sym, ap, subst, ◌∙◌, List, [], Option, Some, None, Result, Ok, Err}
-use Rattle.std.specs.Prelude.{◌≢◌, IfSome, IsSome, unwrap_or, map as list_map, if◌then◌else◌}
+use Rattle.std.proofs.Common.{◌≡◌, ℕ, Bool, true, false, not, inl, inr, refl, sym, ap, subst, ◌∙◌, List, [], Option, Some, None, Result, Ok, Err}
+use Rattle.std.specs.Prelude.{IfSome, IsSome, unwrap_or, if◌then◌else◌}
 use Rattle.std.specs.Option.{option_map_or, is_none}
 use Rattle.std.specs.FinMap as map
 use Rattle.ft_hist.specs.Hist.{Hist}
 use Rattle.ft_hist.specs.Steps.{Steps}
-use Rattle.ft_hist.specs.declared.label.Var.{Var}
-use Rattle.ft_hist.specs.declared.label.Var.TheVariants as vars
 use Rattle.ft_fields.specs.declared.key.Part.{Part}
 use Rattle.ft_kept.specs.Shelves.{Shelved, Shelves}
 use Rattle.ft_table.specs.Rows.{AllFit}
 use Rattle.ft_table.specs.Tabled.{Tabled}
-use Rattle.ft_answers.specs.declared.latency.Latency.{Latency}
 use Rattle.ft_base.specs.declared.refused.Refused.{Refused}
-use Rattle.ft_base.specs.declared.refused.Refused.TheVariants.{Memory, NoTrigger, NotReading}
-use Rattle.ft_answers.specs.Answers.{hist_text, rows_shown, row_shown, counts_shown, totals, latencies, pairs_shown, tally_at, tally_made, tally_shown, tally_text, tally_rows, tally_row, tally_counts, latency_of, latencies_as, pairs_as}
+use Rattle.ft_base.specs.declared.refused.Refused.TheVariants.{NoTrigger, NotReading}
+use Rattle.ft_answers.specs.Answers.{hist_text, rows_shown, row_shown, counts_shown, totals, pairs_shown, tally_at, tally_made, tally_shown, tally_text, tally_rows, tally_row, tally_counts, pairs_as}
 use Rattle.ft_hist.specs.Made.{counts_made}
 use Rattle.ft_base.specs.Base.{Base, Triggers}
 use Rattle.ft_answers.specs.Edited.{AnswersFrom}
@@ -148,30 +145,3 @@ module _ (base : Base) (id : ℕ) (hist : Hist) (there : map.get base.triggers i
         pairs-is base id ∙ ap (λ (o : Option Hist). option_map_or (pairs_by base id) o (Err NoTrigger)) there
         ∙ pairs-reader hist.variable (tally_at base.triggers (merged base.lanes) id) reads
         ∙ ap (λ (pairs : List Pair). let answer : Result (List Pair) Refused = Ok pairs in answer) (ap (λ (t : Tally). t.pairs) tells.tally ∙ pairs-tally shelf.table (pairs_in shelf.readings))
-
--- ---- latencies
-
--- an answer's pairs as latencies
-abbrev pub measured : Result (List Pair) Refused → Result (List Latency) Refused
-measured (Ok pairs) = Ok (list_map latency_of pairs)
-measured (Err refused) = Err refused
-
--- what readings measured is told by what they found
-pub latencies-measured : (base : Base) (id : ℕ) → latencies base id ≡ measured (pairs_shown base id)
-unfolding latencies pairs_shown
-latencies-measured base id = by (map.get base.triggers id) where
-  of : (variable : Option Var) (tally : Tally) → latencies_as variable tally ≡ measured (pairs_as variable tally)
-  of None tally = refl
-  of (Some (vars.Saves label)) tally = refl
-  of (Some (vars.Reads own source)) tally = refl
-
-  by : (o : Option Hist) → option_map_or (λ hist. latencies_as hist.variable (tally_at base.triggers (merged base.lanes) id)) o (Err NoTrigger)
-      ≡ measured (option_map_or (λ hist. pairs_as hist.variable (tally_at base.triggers (merged base.lanes) id)) o (Err NoTrigger))
-  by None = refl
-  by (Some hist) = of hist.variable (tally_at base.triggers (merged base.lanes) id)
-
--- a refusal of the pairs is one of the latencies
-pub unmeasured : {S : Type 0} (view : S → List Latency) (old new : Shown) (id : ℕ) (refused : Refused) (answer : Result S Refused) → new.base ≡ old.base → (refused ≡ Memory) ⊎ (pairs_shown old.base id ≡ Err refused)
-    → (new.deferred ≡ true → old.deferred ≡ true) × (refused ≢ Memory → new.deferred ≡ old.deferred) → answer ≡ Err refused → AnswersFrom view (latencies old.base id) old new answer
-unmeasured view old new id refused answer same why keeps is =
-    subst (AnswersFrom view (latencies old.base id) old new) (sym is) (same, ⊎_elim inl (λ none. inr (latencies-measured old.base id ∙ ap measured none)) why, keeps)

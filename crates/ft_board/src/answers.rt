@@ -28,10 +28,7 @@ impl TableOf<'_> {
     pub(crate) fn as_table(&self) -> &Table
         ensures { result.now ≡ tabled_in self.now }
     {
-        match self.kept {
-            Some(table) => table,
-            None => &self.bare,
-        }
+        self.kept.unwrap_or(&self.bare)
     }
 }
 
@@ -75,12 +72,8 @@ impl Views {
     {
         laws::kept_shelves();
         ft_made::counted_made();
-        let Some(tables) = &self.shelves else {
-            return Err(Refused::Memory);
-        };
-        match tables.shelf(id) {
-            Some(shelf) => Ok(shelf),
-            None => Err(Refused::Memory),
-        }
+        let tables = self.shelves.as_ref().ok_or(Refused::Memory)?;
+        // Each attached trigger has a shelf.
+        tables.shelf(id).ok_or(Refused::Memory)
     }
 }

@@ -15,16 +15,15 @@ ghost use Rattle.ft_repair.specs.Outside.{AreKeptOutside};
 ghost use Rattle.ft_repair.specs.SomeLanes.{count_coming};
 ghost use Rattle.ft_kept.specs.Repairs.{IsHeldAt};
 ghost use Rattle.ft_repair.specs.OneEvent.{ChangeCosts, EventNeedsNoMemory};
-ghost use Rattle.ft_board.specs.inner.Edits.{CanChange, Edit, IsEdit, ReportsEdit};
+ghost use Rattle.ft_board.specs.inner.Edits.{CanChange, Edit, IsEdit, ReportsEdit, pos_at};
 ghost use Rattle.ft_board.specs.inner.Views.{AreFresh, AreOf, EndsAs};
 
-use crate::mend::where_kept;
 use crate::report::reported_edits;
 use crate::views::Views;
 use ft_answers::{Done, Edited, Kept};
 use ft_base::{Content, Place};
-use ft_fields::Pos;
-use ft_kept::Delta;
+use ft_fields::{Event, Pos};
+use ft_kept::{Delta, Sign};
 use ft_maps::take;
 use ft_repair::{join, kept_shelves, leave, let_change, let_lane_go, let_lanes_come, make_way};
 
@@ -32,39 +31,47 @@ impl Views {
     /// An event that is held comes to what is kept or goes from it: its place, and which rows may
     /// have changed. Where memory runs out, the shelves are given up: not as an event comes that no
     /// trigger hits, or as one goes that only triggers without a variable hit.
-    pub(crate) fn change(&mut self, delta: &Delta<'_>, content: &Content) -> Done<Edited>
-        requires held { IsHeldAt content.now.lanes delta.now.pos delta.now.event.now }
-        requires before { CanChange delta.now.sign content.now delta.now.pos self.old }
-        ensures fresh { (edit : Edit) → IsEdit delta.now.sign content.now delta.now.pos edit
+    pub(crate) fn change(
+        &mut self,
+        sign: Sign,
+        place: Place,
+        event: &Event,
+        content: &Content,
+    ) -> Done<Edited>
+        requires held { IsHeldAt content.now.lanes (pos_at place event.now.stamp) event.now }
+        requires before { CanChange sign content.now (pos_at place event.now.stamp) self.old }
+        ensures fresh { (edit : Edit) → IsEdit sign content.now (pos_at place event.now.stamp) edit
             → AreFresh edit.old self.old → AreFresh edit.new self.new }
-        ensures place { result.value.place
-            ≡ record { cpu = delta.now.pos.cpu; line = delta.now.pos.line } }
+        ensures place { result.value.place ≡ place }
         ensures ends { EndsAs result.kept self.old self.new }
-        ensures now { EventNeedsNoMemory delta.now.sign content.now.triggers delta.now.event.now
+        ensures now { EventNeedsNoMemory sign content.now.triggers event.now
             → self.new.shelves ≡ None → self.old.shelves ≡ None }
-        ensures costs { MakesNothing content.now.triggers → ChangeCosts delta.now.sign content.now
-            delta.now.pos delta.now.event.now self.old.work self.new.work }
-        ensures reports { (edit : Edit) → IsEdit delta.now.sign content.now delta.now.pos edit
+        ensures costs { MakesNothing content.now.triggers → ChangeCosts sign content.now
+            (pos_at place event.now.stamp) event.now self.old.work self.new.work }
+        ensures reports { (edit : Edit) → IsEdit sign content.now (pos_at place event.now.stamp) edit
             → AreFresh edit.old self.old → ReportsEdit edit self.new result.value }
     {
         kept_shelves();
         reported_edits();
         ft_made::made_tables();
+        let Place { cpu, line } = place;
+        let stamp = event.stamp;
+        let pos = Pos { stamp, cpu, line };
+        let delta = Delta { sign, pos, event };
         let mut changes = self.asked(content).with_keys(self.alloc);
         let_change(
             &mut self.shelves,
             content,
-            delta,
+            &delta,
             &mut changes,
             &mut self.work,
         );
         let mut made = Some(Vec::new(self.alloc));
         let kept = self.mend(content, &changes, &mut made);
-        let Pos { cpu, line, .. } = delta.pos;
         let value = Edited {
-            place: Place { cpu, line },
+            place,
             report: self.report(content, &changes),
-            made: where_kept(&self.shelves, made),
+            made: self.shelves.as_ref().and(made),
         };
         Done { value, kept }
     }

@@ -8,11 +8,11 @@ use ft_answers::{
     Board, Done, Edited, Latency, Pair, Row, TableRow, latencies_of, table_counts, table_row,
     table_rows, table_text,
 };
-use ft_base::{Content, Place, Refused, attached, is_reader};
-use ft_fields::{Event, Name, Pos};
+use ft_base::{Content, Refused, attached, is_reader};
+use ft_fields::{Event, Name};
 use ft_filter::Filter;
 use ft_hist::{Key, Trigger};
-use ft_kept::{Delta, Sign};
+use ft_kept::Sign;
 use ft_repair::{cpus_before, reads};
 use ft_store::Store;
 use ft_table::Totals;
@@ -102,30 +102,18 @@ impl Board for KeptBoard {
 
     fn insert(&mut self, event: Event) -> Result<Done<Edited>, Refused> {
         let place = self.content.insert(event)?;
-        let Place { cpu, line } = place;
-        let stamp = event.stamp;
-        let delta = Delta {
-            sign: Sign::Insert,
-            pos: Pos { stamp, cpu, line },
-            event: &event,
-        };
-        Ok(self.views.change(&delta, &self.content))
+        let content = &self.content;
+        Ok(self.views.change(Sign::Insert, place, &event, content))
     }
 
     fn strike(&mut self, cpu: u32, line: u32) -> Result<Done<Edited>, Refused> {
         let place = self.content.place_of(cpu, line)?;
-        let Place { cpu, line } = place;
+        let content = &self.content;
         // `place_of` found it there.
-        let Some(event) = self.content.lanes().get(cpu, line) else {
+        let Some(event) = content.lanes().get(place.cpu, place.line) else {
             return Err(Refused::NoEvent);
         };
-        let stamp = event.stamp;
-        let delta = Delta {
-            sign: Sign::Retract,
-            pos: Pos { stamp, cpu, line },
-            event: &event,
-        };
-        let done = self.views.change(&delta, &self.content);
+        let done = self.views.change(Sign::Retract, place, &event, content);
         self.content.strike(place);
         Ok(done)
     }

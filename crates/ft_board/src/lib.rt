@@ -1,19 +1,15 @@
 //! A board that keeps tables beside what it holds, and repairs them as it is edited, so that no
 //! answer replays the events.
 //!
-//! What is kept is one value, `Views`: a shelf of each trigger, and beside the shelves the tables
-//! of events that readings make. Each edit of the board calls one of its methods, or two. The shelves follow
-//! the base by `ft_repair`: one event more or less changes a few entries, one trigger more or less
-//! leaves those of the others, and where more events are loaded or unloaded than stay, all is built
-//! anew. As events come or go, the tables of made events are mended: the repair of the shelves
-//! tells what readings had found and what they find, and hits of made events go and come
-//! accordingly. They are made anew where shelves are built anew, as a trigger is attached or gets
-//! another filter, and as one goes that read. Where memory runs out for any of it, the edit stands,
-//! and the next answer builds it.
+//! What is kept is one value, `Views`: a shelf of each trigger, and beside the shelves the tables of
+//! events that readings make. Each edit of the board calls one of its methods, or two. The shelves
+//! follow the base by `ft_repair`, which tells what readings had found and what they find; by that the
+//! tables of made events are mended, as events come or go, and else they are made anew. Where memory
+//! runs out for any of it, the edit stands, and the next answer builds it.
 //!
 //! An event that is inserted or struck may change a few rows of each trigger that counts held
-//! events, and these are reported: they are found by the keys that the repair told and by what is
-//! kept after it. The rows of triggers that count made events are named apart (`Edited::made`).
+//! events, and these are reported. The rows of triggers that count made events are named apart
+//! (`Edited::made`).
 //!
 //! ```ignore
 //! let mut board = KeptBoard::new(rt.alloc());
@@ -49,19 +45,20 @@
 //! **Which tables an edit touches** is how the source does it: `insert` and `strike` repair the
 //! tables by the one event, `attach` and `remove` add or take one trigger's, `refilter` builds anew
 //! those of a trigger and of its readers, and `unload` and `load` let the events of lanes go or
-//! come one by one where these are fewer than stay, else build all anew. Where no made event is
-//! counted, the clause `costs` shuts out that `refilter` of a trigger that reads nothing builds all
-//! anew, and the clause `repairs` that the `unload` of a smaller lane does, or the `load` of fewer
-//! events than are held, where that takes more tests.
+//! come one by one where these are fewer than stay, else build all anew. Tables of made events are
+//! made anew where the shelves are, at `attach` and `refilter`, and at `remove` of a trigger that
+//! reads. Where no made event is counted, the clause `costs` shuts out that `refilter` of a trigger
+//! that reads nothing builds all anew, and the clause `repairs` that the `unload` of a smaller lane
+//! does, or the `load` of fewer events than are held, where that takes more tests.
 //!
-//! **Reports.** `insert` and `strike` are one method, `Views::change`, for either sign. What they
-//! name is `ft_kept`'s report of the keys that were told, which the private law `reported_edits`
-//! proves to be a report of the bases before and after the edit (`specs/inner/Reported.antt`), and
-//! the rows told as the tables of made events were mended (`specs/inner/Turned.antt`). No edit is
-//! put off for its report: where memory for keys or rows runs out there is none, and the repair goes
-//! on. Of a strike of a hit of triggers without a variable alone, the clause `now` says so; of
-//! others, a test that refuses each growth of memory in turn. That there is a report wherever the
-//! tables have the edit and memory for it is found is how the source does it.
+//! **Reports.** `insert` and `strike` are one method, `Views::change`. What they name is `ft_kept`'s
+//! report of the keys that the repair told, which the private law `reported_edits` proves to be a
+//! report of the bases before and after the edit (`specs/inner/Reported.antt`), and the rows told as
+//! the tables of made events were mended (`specs/inner/Turned.antt`). Where memory for keys or rows
+//! runs out there is no report, and the repair goes on. Of a strike of a hit of triggers without a
+//! variable alone, the clause `now` says so; of others, a test that refuses each growth of memory in
+//! turn. That there is a report wherever the tables have the edit and memory for it is found is how
+//! the source does it.
 #![tactic(auto)]
 
 mod answers;

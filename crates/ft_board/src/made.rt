@@ -5,20 +5,16 @@ ghost use Rattle.std.specs.Prelude.{◌≡◌, ◌⊎◌, true, false, is_some, 
 ghost use Rattle.std.specs.Ordering.{nat_cmp};
 ghost use Rattle.ft_hist.specs.Steps.{StepsGrow};
 ghost use Rattle.ft_maps.specs.Seen.{seen};
-ghost use Rattle.ft_replay.specs.Merged.{merged};
 ghost use Rattle.ft_made.specs.Making.{MakeNone};
-ghost use Rattle.ft_made.specs.MadeTables.{found_in};
-ghost use Rattle.ft_answers.specs.Counting.{CountNone, MakesNothing, ReadersMakeNone};
+ghost use Rattle.ft_answers.specs.Counting.{CountNone, MakesNothing};
 ghost use Rattle.ft_base.specs.Roles.{is_reader};
 ghost use Rattle.ft_repair.specs.KeptShelves.{AreKeptOf};
-ghost use Rattle.ft_board.specs.MadeShelves.{AreMade, AreMadeBy};
-ghost use Rattle.ft_board.specs.inner.Readings.{readings_on};
+ghost use Rattle.ft_board.specs.MadeShelves.{AreMade};
 
 use crate::readings::ShelfReadings;
 use ft_base::Content;
 use ft_hist::{Trigger, Triggers, Work};
 use ft_kept::Tables;
-use ft_lanes::Lanes;
 use ft_made::made_table;
 use ft_maps::put;
 use ft_repair::laws;
@@ -42,29 +38,11 @@ pub(crate) fn made_tables(
 {
     laws::kept_shelves();
     let (lanes, triggers) = (content.lanes(), content.triggers());
-    if !has_maker(triggers) {
-        return Ok(BTreeMap::new(alloc));
-    }
-    counting_tables(alloc, lanes, triggers, tables, work)
-}
-
-/// The tables of the attached triggers that count made events, by what shelves keep of readings.
-/// Refused for memory.
-fn counting_tables(
-    alloc: Global,
-    lanes: &Lanes,
-    triggers: &Triggers,
-    tables: &Tables,
-    work: &mut Work,
-) -> Result<BTreeMap<u32, Table>, AllocError>
-    ensures made { IfOk result (λ made. AreMadeBy triggers.now (merged lanes.now)
-        (found_in (readings_on tables.now)) (seen nat_cmp made)) }
-    ensures idle { CountNone triggers.now
-        → (work.new ≡ work.old) × OnErr result ⊥ }
-    ensures grow { StepsGrow work.old work.new }
-{
     let readings = ShelfReadings { alloc, tables };
     let mut made = BTreeMap::new(alloc);
+    if !are_made(triggers) {
+        return Ok(made);
+    }
     for (id, trigger) in triggers.iter() {
         if trigger.counts_made() {
             let table = made_table(alloc, lanes, triggers, &readings, trigger, work)?;
@@ -81,33 +59,8 @@ pub(crate) fn are_made(triggers: &Triggers) -> bool
         → MakeNone triggers.now ⊎ CountNone triggers.now }
     ensures nothing { MakesNothing triggers.now → result ≡ false }
 {
-    has_maker(triggers) && has_counting(triggers)
-}
-
-/// Whether some attached trigger counts made events.
-fn has_counting(triggers: &Triggers) -> bool
-    ensures none { result ≡ false → CountNone triggers.now }
-    ensures some { CountNone triggers.now → result ≡ false }
-{
-    for (_, trigger) in triggers.iter() {
-        if trigger.counts_made() {
-            return true;
-        }
-    }
-    false
-}
-
-/// Whether some attached trigger makes events of its readings.
-fn has_maker(triggers: &Triggers) -> bool
-    ensures none { result ≡ false → MakeNone triggers.now }
-    ensures some { ReadersMakeNone triggers.now → result ≡ false }
-{
-    for (_, trigger) in triggers.iter() {
-        if makes(trigger) {
-            return true;
-        }
-    }
-    false
+    triggers.iter().any(|(_, trigger)| makes(trigger))
+        && triggers.iter().any(|(_, trigger)| trigger.counts_made())
 }
 
 /// Whether a trigger makes events of its readings: then it reads.

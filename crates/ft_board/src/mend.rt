@@ -2,8 +2,7 @@
 //! readings had found and what they find; the events that were made of the one go from the tables,
 //! and those that are made of the other come. On the way the rows are told that this may change.
 
-ghost use Rattle.std.specs.Prelude.{◌≡◌, ◌⊎◌, ◌++◌, [], None, Some, IfSome, OnOk};
-ghost use Rattle.std.specs.Prelude.{option_and_then};
+ghost use Rattle.std.specs.Prelude.{◌≡◌, ◌⊎◌, [], None, Some, IfOk, IfSome, OnOk};
 ghost use Rattle.std.specs.Ordering.{nat_cmp};
 ghost use Rattle.ft_hist.specs.Steps.{StepsGrow};
 ghost use Rattle.ft_maps.specs.Seen.{seen};
@@ -12,11 +11,10 @@ ghost use Rattle.ft_made.specs.MadeTables.{found_in};
 ghost use Rattle.ft_made.specs.Making.{MakeNone};
 ghost use Rattle.ft_answers.specs.Counting.{CountNone, MakesNothing};
 ghost use Rattle.ft_board.specs.MadeShelves.{AreMadeBy, made_on};
-ghost use Rattle.ft_board.specs.inner.Mending.{CanMend, HaveMended, OtherTablesStay};
-ghost use Rattle.ft_board.specs.inner.Mending.{CanTurnBy, HasTurnedBy, events_in, triggers_in};
+ghost use Rattle.ft_board.specs.inner.Mending.{CanMend, HaveMended, OtherTablesStay, CanTurnBy, HasTurnedBy, events_in};
+ghost use Rattle.ft_board.specs.inner.Mending.{triggers_in};
 ghost use Rattle.ft_board.specs.inner.Readings.{readings_on};
-ghost use Rattle.ft_board.specs.inner.Turned.{AreTurnedRows, TellsRows};
-ghost use Rattle.ft_board.specs.inner.Turned.{rows_by_turning, rows_turned};
+ghost use Rattle.ft_board.specs.inner.Turned.{AreTurnedRows, TellsRows, keys_named, rows_by_turning, rows_turned};
 ghost use Rattle.ft_board.specs.inner.Views.{CanBeMended, EndsAs, made_in};
 
 use crate::made::are_made;
@@ -24,8 +22,8 @@ use crate::views::Views;
 use ft_answers::Kept;
 use ft_base::Content;
 use ft_changes::{Changed, ReadingChange, rivals};
-use ft_hist::{Trigger, Work};
-use ft_kept::{Changes, Tables, distinct, put_rows};
+use ft_hist::{Key, Trigger, Work};
+use ft_kept::{Changes, distinct, put_rows};
 use ft_made::{put_turned_keys, turn_made};
 use ft_maps::put;
 use ft_table::Table;
@@ -104,16 +102,6 @@ impl Views {
             Ok(()) => Kept::Now,
             Err(_) => self.give_up(),
         }
-    }
-}
-
-/// Rows that were told as tables were mended, where these are kept.
-pub(crate) fn where_kept(kept: &Option<Tables>, rows: Option<Vec<Changed>>) -> Option<Vec<Changed>>
-    ensures { result ≡ option_and_then (λ _. rows) kept.now }
-{
-    match kept {
-        Some(_) => rows,
-        None => None,
     }
 }
 
@@ -211,24 +199,24 @@ impl Mending<'_> {
         let Some(mut told) = rows.take() else {
             return;
         };
-        if self.put_rows(&mut told, table, id, trigger, work).is_ok() {
+        let Ok(keys) = self.keys_named(table, trigger, work) else {
+            return;
+        };
+        if put_rows(&mut told, id, &keys).is_ok() {
             *rows = Some(told);
         }
     }
 
-    /// Adds the rows of a trigger on which the changes bear to others: those of the keys of what the
-    /// readings made and make, and of the rivals of these in the trigger's table. Refused for
-    /// memory.
-    fn put_rows(
+    /// The keys of a trigger whose rows may change: those of what the readings made and make, and
+    /// the rivals of these in the trigger's table. Refused for memory.
+    fn keys_named(
         &self,
-        rows: &mut Vec<Changed>,
         table: &Table,
-        id: u32,
         trigger: &Trigger,
         work: &mut Work,
-    ) -> Result<(), AllocError>
-        ensures rows { OnOk result (rows.new.items
-            ≡ rows.old.items ++ rows_by_turning self.now table.now id trigger.now) }
+    ) -> Result<Vec<Key>, AllocError>
+        ensures keys { IfOk result (λ keys. keys.items ≡ keys_named (triggers_in self.now)
+            (events_in self.now) self.now.changes.now table.now trigger.now) }
         ensures grow { StepsGrow work.old work.new }
     {
         let (lanes, triggers) = (self.content.lanes(), self.content.triggers());
@@ -237,6 +225,6 @@ impl Mending<'_> {
         let mut keys = distinct(self.alloc, &turned)?;
         let others = rivals(self.alloc, table, &keys)?;
         keys.extend_from_slice(&others)?;
-        put_rows(rows, id, &keys)
+        Ok(keys)
     }
 }

@@ -8,7 +8,7 @@ ghost use Rattle.ft_replay.specs.Found.{pairs_in};
 use ft_fields::Pos;
 use ft_kept::Tables;
 use ft_made::KeptReadings;
-use ft_maps::{entries, len};
+use ft_maps::entries;
 use ft_replay::Pair;
 use std::alloc::{AllocError, Global};
 use std::collections::BTreeMap;
@@ -40,12 +40,10 @@ pub(crate) fn pairs_of(
 ) -> Result<Vec<Pair>, AllocError>
     ensures { IfOk result (λ pairs. pairs.items ≡ pairs_in (seen pos_cmp readings.now)) }
 {
-    let mut pairs = Vec::with_capacity(alloc, len(readings))?;
-    for (read, saved) in entries(readings) {
-        pairs.push(Pair {
+    entries(readings)
+        .map(|(read, saved)| Pair {
             saved: *saved,
             read: *read,
-        })?;
-    }
-    Ok(pairs)
+        })
+        .collect(alloc)
 }

@@ -18,12 +18,8 @@ impl Views {
         ensures rows { IfSome result (λ rows.
             IsReportBy content.now.triggers self.now.shelves changes.now.keys rows.items) }
     {
-        let Some(tables) = &self.shelves else {
-            return None;
-        };
-        let Some(keys) = changes.keys() else {
-            return None;
-        };
+        let tables = self.shelves.as_ref()?;
+        let keys = changes.keys()?;
         changed_rows(self.alloc, tables, content.triggers(), keys).ok()
     }
 }

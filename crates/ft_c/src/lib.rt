@@ -22,7 +22,7 @@
 //!
 //! - Each `histdesk_..` with a code: where the handle holds a session, what the session's call
 //!   says, and it is in the handle again; where it holds nothing, the code for that
-//!   (`specs/Codes.antt`), and nothing is written. A copy copies from what the session holds
+//!   (`specs/Calls.antt`), and nothing is written. A copy copies from what the session holds
 //!   (`specs/Copies.antt`), or nothing. Lets through: what the session does.
 //! - `Handle::empty`, `take`, `put`: contracts see what a handle holds: a session, or nothing,
 //!   which is null. `take` gives the session and leaves nothing; `put` drops what was there and
@@ -38,12 +38,10 @@
 //! owns its session is what every export leaves, so that C can break it only by writing to it.
 #![tactic(auto)]
 
+mod calls;
 mod codes;
 mod copies;
 mod desks;
-mod edits;
 mod handle;
-mod held;
 mod parts;
 mod refusals;
-mod tables;

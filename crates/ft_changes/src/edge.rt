@@ -51,7 +51,7 @@ fn other_keys(
 {
     marks
         .iter()
-        .filter(|mark| !has(keys, &mark.key))
+        .filter(|mark| !has_key(keys, &mark.key))
         .skip(passed)
         .take(few)
         .map(|mark| mark.key)
@@ -59,7 +59,7 @@ fn other_keys(
 }
 
 /// Whether a key is one of some.
-pub fn has(keys: &[Key], key: &Key) -> bool
+pub fn has_key(keys: &[Key], key: &Key) -> bool
     ensures { result ≡ is_of keys.now key.now }
 {
     keys.iter().any(|other| key == other)

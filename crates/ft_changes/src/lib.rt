@@ -31,7 +31,7 @@
 //! - `rivals`: the rivals of keys of which no two are the same, in order of their first hits;
 //!   exact. Lets through: running out of memory at any time; how far from the table's edge it
 //!   looks.
-//! - `has`: whether a key is one of some; exact.
+//! - `has_key`: whether a key is one of some; exact.
 #![tactic(auto)]
 
 mod changed;
@@ -39,5 +39,5 @@ mod edge;
 pub mod laws;
 
 pub use changed::{Changed, ReadingChange};
-pub use edge::{has, rivals};
+pub use edge::{has_key, rivals};
 pub use laws::some_rivals;

@@ -1,3 +1,3 @@
-mod FieldTable
+pub mod FieldTable
 mod Filled
 mod NameTable

@@ -31,24 +31,27 @@
 //!
 //! # Contracts
 //!
-//! - `Event::name`, `Event::field`, `field_named`, `field_text`, `Field::is_text`: the table of
-//!   fields (`specs/Fields.antt`), exact. A second clause of `field_named`, `meaning`: a field is
-//!   given just where the event has it and the text is its name.
+//! - `Event`, and in it `Body`, `Wake`, `Turn` and `Matched`: contracts see a record of the same
+//!   fields, whose stamp and CPU (`Event::LAST_CPU`) are within their limits. `Event::blank`: exact.
+//! - `Event::name`, `Event::field` (a `Value`), `field_named`, `field_text`, `Field::is_text`: the
+//!   table of fields (`specs/Fields.antt`), exact. A second clause of `field_named`, `meaning`: a
+//!   field is given just where the event has it and the text is its name.
 //! - `Name::text`, `Name::called`, `Name::is_traced`: the names of events, and which of them are
 //!   traced (`specs/Names.antt`), exact. `called` has a clause `meaning` too.
-//! - `Comm::of`, `Comm::filled`, `Comm::bytes`, `Event::blank`: exact. `of` gives none just where
-//!   the text has over 31 bytes; `filled` requires that it has not.
-//! - `EventRef` and the other types with borrowed names: the event that one tells is a function of
-//!   it (`specs/Borrowed.antt`), and that of `borrowed` is the event itself; exact.
-//! - `Comm`, `Pos`: lawful total orders.
-//! - Law `one_order`: places stand by stamp, then CPU, then line number; places that tie are equal.
-//! - Law `values_of_fields`: an event has a value in just the fields of its name, and a text in
-//!   just the fields that hold texts.
+//! - `Comm::of`, `Comm::filled`, `Comm::bytes`: contracts see a list of at most 31 bytes; exact. `of`
+//!   gives none just where the text is longer; `filled` requires that it is not.
+//! - `EventRef`, and in it `BodyRef`, `WakeRef`, `TurnRef` and `NameRef`: the event that one tells is
+//!   a function of it (`specs/Borrowed.antt`), and that of `Event::borrowed` is the event itself;
+//!   exact. `NameRef::text` lets through: whatever follows the name.
 //! - `Key`: contracts see a list of one to three parts. What makes one and what reads its parts is
 //!   exact.
-//! - `Key`, `Part`: lawful total orders (`specs/Parts.antt`, `specs/Orders.antt`).
-//! - Laws `one_key_order`, `equal_keys`: keys compare by their parts from the left, a beginning
-//!   before what it begins; keys that tie are equal.
+//! - `Comm`, `Pos`, `Part`, `Key`: lawful total orders.
+//! - Law `one_order`: places stand by stamp, then CPU, then line number (`specs/Places.antt`);
+//!   places that tie are equal.
+//! - Laws `one_key_order`, `equal_keys`: keys stand by their parts from the left, a beginning
+//!   before what it begins (`specs/Parts.antt`); keys that tie are equal.
+//! - Law `values_of_fields`: an event has a value in just the fields of its name, and a text in
+//!   just the fields that hold texts.
 #![tactic(auto)]
 
 mod borrowed;

@@ -10,7 +10,8 @@ use Rattle.ft_filter.specs.FilterIs.{Rule, Joined, Operand, below, behind_joint,
 use Rattle.ft_filter.specs.Predicate.{Found, pred_at}
 use Rattle.ft_filter.specs.Shape.{HasTwo, level_if, levels, most_levels}
 use Rattle.ft_filter.specs.Tree.{Tree, Trees, Any, All, Not, Test, End, More}
-use Rattle.ft_filter.proofs.Spelled.{Apart, skip_gap}
+use Rattle.ft_text.proofs.Spellings.{Apart}
+use Rattle.ft_filter.proofs.Spelled.{skip_gap}
 use Rattle.ft_filter.proofs.Preds.{PredFits, pred_again, pred_begins, pred_first}
 use Rattle.ft_filter.proofs.Fits.{needs, IsReadable, AreReadable, Fits, filter_fits}
 

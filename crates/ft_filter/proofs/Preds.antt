@@ -1,11 +1,12 @@
 -- Predicates that can be read, and how their canonical texts are read.
-use Rattle.std.proofs.Common.{◌≡◌, ◌≤◌, ◌||◌, ℕ, Bool, true, false, not, List, [], ◌∷◌, ◌++◌, Option, Some, None, refl, sym, ap, ◌∙◌, subst, arith, append_assoc, slice_index, ℤ, ◌==◌, find, ne_eqb, cond}
+use Rattle.std.proofs.Common.{◌≡◌, ◌≤◌, ◌||◌, ℕ, Bool, true, false, not, List, ◌∷◌, ◌++◌, Option, Some, None, refl, sym, ap, ◌∙◌, subst, arith, append_assoc, slice_index, ℤ, ◌==◌, find, ne_eqb, cond}
 use Rattle.std.proofs.lemmas.Bool.{and_parts, or_from}
-use Rattle.std.proofs.lemmas.Option.{same_Some}
 use Rattle.std.specs.Fmt.{signed_decimal}
 use Rattle.ft_fields.specs.declared.event.Name.{Name}
 use Rattle.ft_fields.specs.declared.field.Field.{Field}
 use Rattle.ft_fields.specs.Fields.{field_text, is_field_named, all_fields, has_field, is_text}
+use Rattle.ft_fields.proofs.FieldTable.{field_found}
+use Rattle.ft_text.proofs.Spellings.{Apart, find_passes}
 use Rattle.ft_text.specs.Ranged.{fits_i64}
 use Rattle.ft_text.specs.Tokens.{is_gap, skip, name_at, is_quote, quoted_at, number_at}
 use Rattle.ft_filter.specs.declared.fault.FilterFault.{FilterFault}
@@ -18,7 +19,7 @@ use Rattle.ft_filter.specs.Canonical.{quoted, literal_text, pred_text}
 use Rattle.ft_text.specs.Matching.{is_glob}
 use Rattle.ft_filter.specs.Operators.{op_text, op_at}
 use Rattle.ft_filter.specs.Predicate.{Read, Found, Stop, place, read_or, passed_or, is_match, literal_of, suits, text_value, number_value, literal_at, pred_with, comparison_at, pred_at}
-use Rattle.ft_filter.proofs.Spelled.{Apart, IsQuotable, skip_gap, skip_none, name_again, name_first, field_again, op_again, op_first, quotes, quoted_again, quoted_first, quotable, number_again, number_first}
+use Rattle.ft_filter.proofs.Spelled.{IsQuotable, skip_gap, skip_none, field_name_again, name_first, op_again, op_first, quotes, quoted_again, quoted_first, quotable, number_again, number_first}
 
 -- the value is one that can stand after the operator, for a field that holds texts or numbers
 abbrev pub ValueFits : Bool → Op → Literal → Type 0
@@ -111,7 +112,7 @@ pred_again event whole pred rest h apart =
     ap (comparison_at whole pred.field) behind_name ∙ comparison_step whole pred.field pred.op pred.value (op_text pred.op ++ (32 ∷ value)) (32 ∷ value) rest (op_again pred.op value) h.suited valued in
     ap (pred_at event whole) (spelled pred rest)
     ∙ pred_step event whole pred.field pred (field_text pred.field ++ (32 ∷ (op_text pred.op ++ (32 ∷ value)))) (field_text pred.field) (32 ∷ (op_text pred.op ++ (32 ∷ value))) rest
-    (name_again pred.field (32 ∷ (op_text pred.op ++ (32 ∷ value))) refl) (field_again event pred.field h.owned) compared
+    (field_name_again pred.field (32 ∷ (op_text pred.op ++ (32 ∷ value))) refl) (field_found event pred.field h.owned) compared
 
 -- a letter begins a predicate's text
 pub pred_begins : (pred : Pred) (rest : List ℕ) → 45 ≤ slice_index (pred_text pred ++ rest) 0
@@ -132,15 +133,6 @@ found_parts fault (Some a) next read rest e = (a, refl, e)
 passed_parts : {B : Type 0} (fault : FilterFault) (b : Bool) (next : Read B) (read : B) (rest : List ℕ) → passed_or fault b next ≡ Found read rest → (b ≡ true) × (next ≡ Found read rest)
 passed_parts fault true next read rest e = (refl, e)
 passed_parts fault false next read rest e = absurd cc
-
--- what is found passes
-pub find_passes : {A : Type 0} (test : A → Bool) (xs : List A) (x : A) → find test xs ≡ Some x → test x ≡ true
-find_passes test [] x e = absurd cc
-find_passes test (y ∷ xs) x e = from (find_passes test xs x) (test y) refl e
-  where
-    from : (find test xs ≡ Some x → test x ≡ true) → (b : Bool) → test y ≡ b → cond b (Some y) (find test xs) ≡ Some x → test x ≡ true
-    from later true is e = subst (λ z. test z ≡ true) (same_Some y x e) is
-    from later false is e = later e
 
 -- what was read
 same_found : {A : Type 0} (a b : A) (x y : List ℕ) → Found a x ≡ Found b y → a ≡ b

@@ -1,5 +1,5 @@
 -- Words as a canonical text spells them, and how they are read.
-use Rattle.std.proofs.Common.{◌≡◌, ◌≢◌, ◌⊎◌, ◌<◌, ◌≤◌, ◌+◌, ◌^◌, ◌||◌, ℕ, zero, suc, Bool, true, false, inl, inr, not, List, [], ◌∷◌, ◌++◌, length, take, drop, Some, None, refl, sym, ap, ◌∙◌, subst, arith, one-add, append_assoc, slice_index, if◌then◌else◌, ℤ, pos, negsuc, ◌==◌, find, leb-true, ne_eqb, eq-eqb, eqb-true, decimal}
+use Rattle.std.proofs.Common.{◌≡◌, ◌≢◌, ◌⊎◌, ◌<◌, ◌≤◌, ◌+◌, ◌^◌, ◌||◌, ℕ, zero, suc, Bool, true, false, inl, inr, not, List, [], ◌∷◌, ◌++◌, length, take, drop, Some, None, refl, sym, ap, ◌∙◌, subst, arith, one-add, append_assoc, slice_index, if◌then◌else◌, ℤ, pos, negsuc, ◌==◌, leb-true, ne_eqb, eq-eqb, eqb-true, decimal}
 use Rattle.std.proofs.Math.Dec.{eqb-suc-zero}
 use Rattle.std.proofs.Math.Seq.{take-append_seam, drop-append_seam}
 use Rattle.std.proofs.lemmas.Bool.{and_parts}
@@ -9,35 +9,17 @@ use Rattle.std.specs.Char.{is_ascii_digit}
 use Rattle.std.specs.Fmt.{signed_decimal}
 use Rattle.std.specs.List.{prefix_len, list_all}
 use Rattle.std.specs.Str.Parse.{digits_value}
-use Rattle.ft_fields.specs.declared.event.Name.{Name}
 use Rattle.ft_fields.specs.declared.field.Field.{Field}
 use Rattle.ft_fields.specs.declared.field.Field.TheVariants as fields
-use Rattle.ft_fields.specs.Fields.{field_text, is_field_named, all_fields, has_field}
+use Rattle.ft_fields.specs.Fields.{field_text}
 use Rattle.ft_text.specs.Ranged.{fits_i64}
 use Rattle.ft_text.proofs.Numbers.{digits_all}
-use Rattle.ft_text.specs.Tokens.{is_gap, skip, begins_name, is_in_name, name_at, is_quote, cut_at, quoted_at, is_decimal, number_of, word_len, number_at}
+use Rattle.ft_text.proofs.Spellings.{IsName, Apart, stops, run_front, name_again}
+use Rattle.ft_text.specs.Tokens.{is_gap, skip, is_in_name, name_at, is_quote, cut_at, quoted_at, is_decimal, number_of, word_len, number_at}
 use Rattle.ft_filter.specs.declared.tree.Op.{Op}
 use Rattle.ft_filter.specs.declared.tree.Op.TheVariants as ops
 use Rattle.ft_filter.specs.Canonical.{quoted}
 use Rattle.ft_filter.specs.Operators.{op_text, op_at}
-
--- no letter, no digit and no `_` stands first
-abbrev pub Apart : List ℕ → Type 0
-Apart rest = is_in_name (slice_index rest 0) ≡ false
-
--- a run ends before a byte that does not pass
-pub stops : (test : ℕ → Bool) (rest : List ℕ) → test (slice_index rest 0) ≡ false → prefix_len test rest ≡ 0
-stops test [] h = refl
-stops test (byte ∷ rest) h = rw h refl
-
--- a front of bytes that pass is the run
-pub run_front : (test : ℕ → Bool) (front rest : List ℕ) → list_all test front ≡ true → prefix_len test rest ≡ 0 → prefix_len test (front ++ rest) ≡ length front
-run_front test [] rest all ends = ends
-run_front test (byte ∷ front) rest all ends =
-    let both = and_parts (test byte) (list_all test front) all in
-    let more = run_front test front rest both.1 ends in
-    let here = both.0 in
-    rw here (omega arith)
 
 -- a space in front is passed
 pub skip_gap : (text : List ℕ) → skip (32 ∷ text) ≡ skip text
@@ -49,27 +31,26 @@ skip_none text h = ap (λ (n : ℕ). drop n text) (stops is_gap text h)
 
 -- ---- fields and operators
 
--- a name before what is no part of it
-name_found : (name rest : List ℕ) → begins_name (slice_index (name ++ rest) 0) ≡ true → list_all is_in_name name ≡ true → Apart rest → name_at (name ++ rest) ≡ Some (name, rest)
-unfolding name_at
-name_found name rest begins all apart = rw (begins, run_front is_in_name name rest all (stops is_in_name rest apart), take-append_seam name rest, drop-append_seam name rest) refl
+-- a field's name is a name
+field_named : (field : Field) → IsName (field_text field)
+field_named fields.CommonPid = record { begins = refl; inside = refl }
+field_named fields.CommonCpu = record { begins = refl; inside = refl }
+field_named fields.Pid = record { begins = refl; inside = refl }
+field_named fields.Prio = record { begins = refl; inside = refl }
+field_named fields.TargetCpu = record { begins = refl; inside = refl }
+field_named fields.Comm = record { begins = refl; inside = refl }
+field_named fields.PrevPid = record { begins = refl; inside = refl }
+field_named fields.PrevPrio = record { begins = refl; inside = refl }
+field_named fields.NextPid = record { begins = refl; inside = refl }
+field_named fields.NextPrio = record { begins = refl; inside = refl }
+field_named fields.PrevComm = record { begins = refl; inside = refl }
+field_named fields.PrevState = record { begins = refl; inside = refl }
+field_named fields.NextComm = record { begins = refl; inside = refl }
+field_named fields.Lat = record { begins = refl; inside = refl }
 
 -- a field's name is read
-pub name_again : (field : Field) (rest : List ℕ) → Apart rest → name_at (field_text field ++ rest) ≡ Some (field_text field, rest)
-name_again fields.CommonPid rest apart = name_found (field_text fields.CommonPid) rest refl refl apart
-name_again fields.CommonCpu rest apart = name_found (field_text fields.CommonCpu) rest refl refl apart
-name_again fields.Pid rest apart = name_found (field_text fields.Pid) rest refl refl apart
-name_again fields.Prio rest apart = name_found (field_text fields.Prio) rest refl refl apart
-name_again fields.TargetCpu rest apart = name_found (field_text fields.TargetCpu) rest refl refl apart
-name_again fields.Comm rest apart = name_found (field_text fields.Comm) rest refl refl apart
-name_again fields.PrevPid rest apart = name_found (field_text fields.PrevPid) rest refl refl apart
-name_again fields.PrevPrio rest apart = name_found (field_text fields.PrevPrio) rest refl refl apart
-name_again fields.NextPid rest apart = name_found (field_text fields.NextPid) rest refl refl apart
-name_again fields.NextPrio rest apart = name_found (field_text fields.NextPrio) rest refl refl apart
-name_again fields.PrevComm rest apart = name_found (field_text fields.PrevComm) rest refl refl apart
-name_again fields.PrevState rest apart = name_found (field_text fields.PrevState) rest refl refl apart
-name_again fields.NextComm rest apart = name_found (field_text fields.NextComm) rest refl refl apart
-name_again fields.Lat rest apart = name_found (field_text fields.Lat) rest refl refl apart
+pub field_name_again : (field : Field) (rest : List ℕ) → Apart rest → name_at (field_text field ++ rest) ≡ Some (field_text field, rest)
+field_name_again field rest = name_again (field_text field) rest (field_named field)
 
 -- a letter begins a field's name
 pub name_first : (field : Field) (rest : List ℕ) → 45 ≤ slice_index (field_text field ++ rest) 0
@@ -87,23 +68,6 @@ name_first fields.PrevComm rest = omega arith
 name_first fields.PrevState rest = omega arith
 name_first fields.NextComm rest = omega arith
 name_first fields.Lat rest = omega arith
-
--- a field of the event is found by its name
-pub field_again : (event : Name) (field : Field) → has_field event field ≡ true → find (is_field_named event (field_text field)) all_fields ≡ Some field
-field_again event fields.CommonPid h = refl
-field_again event fields.CommonCpu h = refl
-field_again event fields.Pid h = rw h refl
-field_again event fields.Prio h = rw h refl
-field_again event fields.TargetCpu h = rw h refl
-field_again event fields.Comm h = rw h refl
-field_again event fields.PrevPid h = rw h refl
-field_again event fields.PrevPrio h = rw h refl
-field_again event fields.NextPid h = rw h refl
-field_again event fields.NextPrio h = rw h refl
-field_again event fields.PrevComm h = rw h refl
-field_again event fields.PrevState h = rw h refl
-field_again event fields.NextComm h = rw h refl
-field_again event fields.Lat h = rw h refl
 
 -- an operator before a space is read
 pub op_again : (op : Op) (rest : List ℕ) → op_at (op_text op ++ 32 ∷ rest) ≡ Some (op, 32 ∷ rest)

@@ -12,14 +12,15 @@ use Rattle.std.specs.Str.{bytes_eq}
 use Rattle.ft_fields.specs.declared.event.Name.{Name}
 use Rattle.ft_fields.specs.declared.field.Field.{Field}
 use Rattle.ft_fields.specs.Fields.{field_text, is_field_named, all_fields, has_field}
+use Rattle.ft_fields.proofs.FieldTable.{field_found}
+use Rattle.ft_text.proofs.Spellings.{find_passes}
 use Rattle.ft_event.proofs.Runs.{IsRun, run_len, run_splits, label_joined}
 use Rattle.ft_text.specs.Tokens.{is_gap, skip, begins_name, is_in_name, name_at, is_quote, cut_at, quoted_at}
 use Rattle.ft_filter.specs.declared.tree.Op.{Op}
 use Rattle.ft_filter.specs.declared.tree.Op.TheVariants as ops
 use Rattle.ft_filter.specs.Operators.{op_text, all_ops, op_at}
 use Rattle.ft_filter.specs.PredIs.{IsBehindGap, BeginsWithName, IsFieldOf, IsOperator, IsQuoted}
-use Rattle.ft_filter.proofs.Preds.{find_passes}
-use Rattle.ft_filter.proofs.Spelled.{field_again, quote_cases, quotes_found}
+use Rattle.ft_filter.proofs.Spelled.{quote_cases, quotes_found}
 
 -- a text's run is found
 run_found : (p : ℕ → Bool) (text run rest : List ℕ) → IsRun p text run rest → (take (prefix_len p text) text ≡ run) × (drop (prefix_len p text) text ≡ rest)
@@ -57,7 +58,7 @@ name_from text cut e =
 -- ---- fields
 
 pub field_to : (event : Name) (name : List ℕ) (field : Field) → IsFieldOf event name field → find (is_field_named event name) all_fields ≡ Some field
-field_to event name field h = ap (λ (t : List ℕ). find (is_field_named event t) all_fields) h.0 ∙ field_again event field h.1
+field_to event name field h = ap (λ (t : List ℕ). find (is_field_named event t) all_fields) h.0 ∙ field_found event field h.1
 
 pub field_from : (event : Name) (name : List ℕ) (field : Field) → find (is_field_named event name) all_fields ≡ Some field → IsFieldOf event name field
 field_from event name field e =

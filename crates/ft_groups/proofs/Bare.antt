@@ -25,7 +25,7 @@ use Rattle.ft_hist.specs.Modifiers.{value_part}
 use Rattle.ft_hist.specs.Values.{number_of_field, value_of, value_at, values_of}
 use Rattle.ft_fields.specs.declared.key.Part.{Part}
 use Rattle.ft_store.specs.Stored.{bare_wake, bare_turn, bare_body, bare}
-use Rattle.ft_groups.specs.inner.Numbers.{asks_text, asks_numbers, asked_part}
+use Rattle.ft_groups.specs.inner.Numbers.{asks_text, asks_numbers}
 
 -- ---- what stays of a body
 
@@ -181,9 +181,8 @@ numbers_mean (Some tree) texts is = absurd (cc is)
 numbers_mean None true is = absurd (cc is)
 numbers_mean None false is = (refl, refl)
 
--- what a trigger is tested on is a hit where the event is, under the same key
-pub hit_of_part : (hist : Hist) (event : Traced) (numbers : Bool) → numbers ≡ asks_numbers hist → hit hist (asked_part numbers event) ≡ hit hist event
-hit_of_part hist event true is =
-    let means = numbers_mean hist.filter (list_any asks_text hist.keys) (sym is) in
+-- a trigger that asks for numbers alone counts an event under the same key without its names
+pub hit_of_bare : (hist : Hist) (event : Traced) → asks_numbers hist ≡ true → hit hist (bare event) ≡ hit hist event
+hit_of_bare hist event is =
+    let means = numbers_mean hist.filter (list_any asks_text hist.keys) is in
     bare_hit hist event means.0 means.1
-hit_of_part hist event false is = refl

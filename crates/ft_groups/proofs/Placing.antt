@@ -1,6 +1,6 @@
 -- Where keys stand, as one event more comes.
 use Rattle.std.proofs.Common.{◌≡◌, ◌<◌, ◌++◌, ℕ, suc, zero, Bool, true, false, cond, List, [], ◌∷◌, length, Option, Some, None, refl, sym, ap, subst, ◌∙◌, ◌⊎◌, inl, inr, arith, length-append, length-set, true≢false}
-use Rattle.std.specs.Prelude.{is_some, unwrap_or, option_map, slice_get, slice_set}
+use Rattle.std.specs.Prelude.{is_some, unwrap_or, option_map, slice_get, slice_set, map as list_map}
 use Rattle.std.specs.Cmp.{eq_by_cmp_equiv}
 use Rattle.std.specs.FinMap as map
 use Rattle.std.specs.FinMap.{FinMap, get-insert, get-empty, same_map}
@@ -46,6 +46,12 @@ module _ {X : Type 0} where
       one_more : (slice_get xs i ≡ Some y) ⊎ ((i ≡ length xs) × (x ≡ y)) → (slice_get xs i ≡ Some y) ⊎ ((suc i ≡ suc (length xs)) × (x ≡ y))
       one_more (inl e) = inl e
       one_more (inr e) = inr (ap suc e.0, e.1)
+
+  module _ {Y : Type 0} (f : X → Y) where
+    pub map_set : (xs : List X) (i : ℕ) (x : X) → list_map f (slice_set xs i x) ≡ slice_set (list_map f xs) i (f x)
+    map_set [] i x = refl
+    map_set (y ∷ xs) zero x = refl
+    map_set (y ∷ xs) (suc i) x = ap (λ (ys : List Y). f y ∷ ys) (map_set xs i x)
 
 -- ---- no keys
 

@@ -1,23 +1,23 @@
 //! Groups: events by key.
 
-ghost use Rattle.std.specs.Prelude.{◌≡◌, ◌+◌, ◌≤◌, [], length, IfOk, OnOk};
+ghost use Rattle.std.specs.Prelude.{◌≡◌, ◌+◌, ◌≤◌, length, IfOk, OnOk};
 ghost use Rattle.std.specs.List.{list_any};
 ghost use Rattle.ft_hist.specs.Hit.{hit};
 ghost use Rattle.ft_hist.specs.Steps.{StepsGrow};
 ghost use Rattle.ft_hist.specs.Tests.{tests_taken};
 ghost use Rattle.ft_maps.specs.Mapped.{entries_by};
 ghost use Rattle.ft_store.specs.Stored.{held};
-ghost use Rattle.ft_groups.specs.Grouped.{referenced_events, run_of, AreGrouped};
+ghost use Rattle.ft_groups.specs.Codes.{grouped_code};
+ghost use Rattle.ft_groups.specs.Grouped.{Grouped, referenced_events, run_of, AreGrouped};
 ghost use Rattle.ft_groups.specs.inner.Asks.{IsAskedRight};
 ghost use Rattle.ft_groups.specs.inner.Comes.{Comes};
 ghost use Rattle.ft_groups.specs.inner.Met.{AreMet};
-ghost use Rattle.ft_groups.specs.inner.Numbers.{asks_text, asks_numbers, asked_part};
-ghost use Rattle.ft_groups.specs.inner.Numbers.{only_field, counted_by};
+ghost use Rattle.ft_groups.specs.inner.Numbers.{asks_text, counted_by};
 ghost use Rattle.ft_groups.specs.inner.Sorted.{IsSorted, groups_of};
 
 use crate::met::Met;
 use crate::sorted::Sorted;
-use ft_fields::{Event, Field, Pos};
+use ft_fields::{Field, Pos};
 use ft_hist::{Key, KeyItem, Trigger, Work};
 use ft_store::Stored;
 use std::alloc::{AllocError, Global};
@@ -32,10 +32,6 @@ pub struct Groups<'a> {
 }
 
 impl<'a> Model for Groups<'a> {
-    ghost use Rattle.ft_groups.specs.Codes.{grouped_code};
-    ghost use Rattle.ft_groups.specs.Grouped.{Grouped};
-    ghost use Rattle.ft_groups.specs.inner.Sorted.{IsSorted, groups_of};
-
     ghost Value = { Grouped };
 
     ghost coded = { grouped_code };
@@ -46,7 +42,7 @@ impl<'a> Model for Groups<'a> {
 }
 
 impl<'a> Groups<'a> {
-    /// The keys, in the order of their first events, each once.
+    /// The keys, each once.
     pub fn keys(&self) -> &[Key]
         ensures { result.now ≡ self.now.keys }
     {
@@ -57,10 +53,7 @@ impl<'a> Groups<'a> {
     pub fn run(&self, key: &Key) -> &[&'a (Pos, Stored<'a>)]
         ensures { referenced_events result.now ≡ run_of self.now key.now }
     {
-        let Some(run) = self.sorted.run(key) else {
-            return no_events();
-        };
-        run.events()
+        self.sorted.run(key)
     }
 }
 
@@ -87,13 +80,6 @@ pub fn grouped<'a>(
     Ok(Groups { sorted })
 }
 
-/// No events.
-fn no_events<'g, 'a>() -> &'g [&'a (Pos, Stored<'a>)]
-    ensures { referenced_events result.now ≡ [] }
-{
-    &[]
-}
-
 /// A trigger, and what it asks events for.
 #[derive(Clone, Copy)]
 struct Asks<'a> {
@@ -110,15 +96,16 @@ impl<'a> Asks<'a> {
         ensures trigger { result.trigger.now ≡ trigger.now }
         ensures asks { IsAskedRight result }
     {
-        let bare = asks_numbers(trigger);
+        let keys = trigger.keys();
+        let bare = trigger.filter().is_none() && !has_text(keys);
+        let field = match keys.first() {
+            Some(key) if bare && keys.len() == 1 => Some(key.field),
+            _ => None,
+        };
         Asks {
             trigger,
             bare,
-            field: if bare {
-                only_field(trigger.keys())
-            } else {
-                None
-            },
+            field,
         }
     }
 
@@ -131,10 +118,7 @@ impl<'a> Asks<'a> {
         if self.trigger.event() != stored.name() {
             return None;
         }
-        match self.field {
-            Some(field) => stored.number(field),
-            None => None,
-        }
+        stored.number(self.field?)
     }
 
     /// The key that the trigger counts an event under, if the event is a hit of it. Tests it where
@@ -150,17 +134,10 @@ impl<'a> Asks<'a> {
         if trigger.event() != stored.name() {
             return None;
         }
-        trigger.hit_of(&self.asked_part(stored), work)
-    }
-
-    /// The event that the trigger is tested on: where it asks for numbers alone, without its names.
-    fn asked_part(&self, stored: &Stored<'_>) -> Event
-        ensures { result ≡ asked_part self.now.bare (held stored.now) }
-    {
         if self.bare {
-            return stored.bare();
+            return trigger.hit_of(&stored.bare(), work);
         }
-        stored.event()
+        trigger.hit_of(&stored.event(), work)
     }
 }
 
@@ -197,29 +174,9 @@ fn event_comes<'a>(
     Ok(())
 }
 
-/// Whether a trigger asks events for numbers alone: it has no filter, and no key of a text.
-fn asks_numbers(trigger: &Trigger) -> bool
-    ensures { result ≡ asks_numbers trigger.now }
-{
-    match trigger.filter() {
-        Some(_) => false,
-        None => !some_text(trigger.keys()),
-    }
-}
-
-/// The field of the only key item.
-fn only_field(items: &[KeyItem]) -> Option<Field>
-    ensures { result ≡ only_field items.now }
-{
-    match items.first() {
-        Some(item) if items.len() == 1 => Some(item.field),
-        _ => None,
-    }
-}
-
 /// Whether one of these key items is of a field that holds a text.
-fn some_text(items: &[KeyItem]) -> bool
-    ensures { result ≡ list_any asks_text items.now }
+fn has_text(keys: &[KeyItem]) -> bool
+    ensures { result ≡ list_any asks_text keys.now }
 {
-    items.iter().any(|item| item.field.is_text())
+    keys.iter().any(|key| key.field.is_text())
 }

@@ -25,23 +25,16 @@ impl Hints {
 
     /// The place that was noted last in the slot of a hash.
     pub(crate) fn get(&self, hash: u64) -> usize {
-        match self.places.get(self.slot(hash)) {
-            Some(place) => *place as usize,
-            None => 0,
-        }
+        let noted = self.places.get(slot_of(hash, self.places.len()));
+        noted.copied().unwrap_or(0) as usize
     }
 
     /// Notes a place in the slot of a hash.
     pub(crate) fn note(&mut self, hash: u64, place: usize) {
-        let slot = self.slot(hash);
+        let slot = slot_of(hash, self.places.len());
         if let Some(noted) = self.places.get_mut(slot) {
             *noted = u32::try_from(place).unwrap_or(0);
         }
-    }
-
-    /// The slot of a hash.
-    fn slot(&self, hash: u64) -> usize {
-        slot_of(hash, self.places.len())
     }
 }
 

@@ -1,7 +1,7 @@
 //! Groups: the events that a trigger counts, by the key under which it counts them.
 //!
 //! Where many events come to a trigger at once, what it keeps of each key is made in one piece, from
-//! the key's events in order. The keys stand in the order of their first events, each once.
+//! the key's events in order.
 //!
 //! ```ignore
 //! let events = merged_events(rt.alloc(), &lanes, &triggers)?;
@@ -19,15 +19,11 @@
 //!   once (`specs/Grouped.antt`). At most as many ticks of `evals` as there are events. Lets
 //!   through: running out of memory at any time, and the order of the keys, which is that of their
 //!   first events.
-//!
-//! Each event is tested once at most. Where one number tells the key, an event whose number was met
-//! before may come to that number's key untested.
 #![tactic(auto)]
 
 mod groups;
 mod hints;
 mod met;
-mod run;
 mod sorted;
 
 pub use groups::{Groups, grouped};

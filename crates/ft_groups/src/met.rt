@@ -43,17 +43,12 @@ impl Met {
         ensures { IfSome result (λ place. IsSomeAnd number (λ number.
             IsIn self.now.slots.items (noted number place))) }
     {
-        let Some(number) = number else {
-            return None;
-        };
+        let number = number?;
         let slot = self.slots.get(self.slot(number))?;
         if slot.number != number {
             return None;
         }
-        match slot.place {
-            Some(place) => Some(place as usize),
-            None => None,
-        }
+        Some(slot.place? as usize)
     }
 
     /// Notes the place of a number, if there is a number.

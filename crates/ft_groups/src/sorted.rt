@@ -1,17 +1,16 @@
 //! Sorting events by key, one after the other.
 
-ghost use Rattle.std.specs.Prelude.{◌≡◌, ◌<◌, List, [], length, Some, None, slice_get};
-ghost use Rattle.std.specs.Prelude.{IfSome, IfOk, OnOk};
+ghost use Rattle.std.specs.Prelude.{◌≡◌, ◌<◌, List, [], length, Some, None, slice_get, IfSome, IfOk, OnOk};
 ghost use Rattle.std.specs.FinMap as map;
-ghost use Rattle.std.specs.Option.{option_copied};
 ghost use Rattle.ft_fields.specs.Parts.{key_cmp};
 ghost use Rattle.ft_fields.specs.declared.key.Part.{Part};
 ghost use Rattle.ft_maps.specs.Seen.{seen};
 ghost use Rattle.ft_store.specs.Stored.{held};
+ghost use Rattle.ft_groups.specs.Grouped.{referenced_events, run_of};
 ghost use Rattle.ft_groups.specs.inner.Adding.{AddsEvent};
+ghost use Rattle.ft_groups.specs.inner.Sorted.{IsSorted, groups_of};
 
 use crate::hints::{Hints, hash_of};
-use crate::run::Run;
 use ft_fields::Pos;
 use ft_hist::Key;
 use ft_maps::put;
@@ -25,15 +24,13 @@ use std::collections::BTreeMap;
 #[derive(Drop)]
 pub(crate) struct Sorted<'a> {
     pub(crate) keys: Vec<Key>,
-    pub(crate) runs: Vec<Run<'a>>,
+    pub(crate) runs: Vec<Vec<&'a (Pos, Stored<'a>)>>,
     pub(crate) places: BTreeMap<Key, usize>,
     alloc: Global,
     hints: Hints,
 }
 
 impl<'a> Sorted<'a> {
-    ghost use Rattle.ft_groups.specs.inner.Sorted.{IsSorted, groups_of};
-
     /// No keys, with room for hints at so many events. Refused for memory.
     pub(crate) fn new(alloc: Global, events: usize) -> Result<Sorted<'a>, AllocError>
         ensures placed { IfOk result IsSorted }
@@ -91,17 +88,18 @@ impl<'a> Sorted<'a> {
             → slice_get self.old.keys.items place ≡ Some key
             → AddsEvent key (event.now.0, held event.now.1) (groups_of self.old) (groups_of self.new)) }
     {
-        self.runs[place].push(event)
+        self.runs[place].push(event)?;
+        Ok(())
     }
 
-    /// The run of a key, if it is there.
-    pub(crate) fn run(&self, key: &Key) -> Option<&Run<'a>>
+    /// The events of a key, in order.
+    pub(crate) fn run(&self, key: &Key) -> &[&'a (Pos, Stored<'a>)]
         requires { IsSorted self.now }
-        ensures { option_copied result ≡ map.get (groups_of self.now).runs key.now }
+        ensures { referenced_events result.now ≡ run_of (groups_of self.now) key.now }
     {
         match self.place_of(key, hash_of(key)) {
-            Some(place) => Some(&self.runs[place]),
-            None => None,
+            Some(place) => &self.runs[place],
+            None => &[],
         }
     }
 
@@ -138,7 +136,7 @@ impl<'a> Sorted<'a> {
             slice_get self.new.keys.items place ≡ Some key) }
     {
         let place = self.keys.len();
-        let mut run = Run::new(self.alloc);
+        let mut run = Vec::new(self.alloc);
         run.push(event)?;
         put(&mut self.places, key, place)?;
         self.runs.push(run)?;

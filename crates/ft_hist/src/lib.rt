@@ -1,11 +1,14 @@
-//! Hist triggers: their parts, their canonical text, what they count events under, and whether the
-//! keys of two match. Reading their texts stands above.
+//! Hist triggers: their parts, their canonical text, what they count events under, whether the keys
+//! of two match, and which are attached. Reading their texts stands above.
 //!
 //! A trigger belongs to one event name. It has one to three keys, which are fields of the event
 //! with or without modifiers, up to three values, at most one variable, one or two sort items, a
-//! size, and perhaps a filter and what it makes events of. An event is a hit if it has the name and
-//! passes the filter; its key is the list of the key fields' values after their modifiers. What a
-//! key is stands below, in `ft_fields`, whose items are passed on.
+//! size, and perhaps a filter and an onmatch part, by which it makes events. An event is a hit if it
+//! has the name and passes the filter; its key is the list of the key fields' values after their
+//! modifiers. Attached triggers stand by id.
+//!
+//! What a key is stands below, in `ft_fields`, whose `Key`, `Part` and laws `one_key_order` and
+//! `equal_keys` are passed on.
 //!
 //! ```ignore
 //! let parts = TriggerParts { keys, values, sort, variable, size: 2048 };
@@ -25,11 +28,18 @@
 //!
 //! # Contracts
 //!
-//! - What reads a trigger's parts: exact. A trigger keeps the limits (1 to 3 keys, at most 3
-//!   values, 1 or 2 sort items, a size of 128 to 131,072) and is sound (`specs/Sound.antt`): its
-//!   items are fields of its event that suit them, or its own variable; one with an onmatch part
-//!   reads a variable, that part names one of the four events, and both its fields are numbers of
-//!   the trigger's own event; one on `wakeup_latency` has neither variable nor onmatch part.
+//! - `Trigger::of`, `TriggerParts`: the trigger of these parts (`specs/FromParts.antt`), without an
+//!   onmatch part; exact. It requires what is said of every trigger below.
+//! - `Trigger::event`, `keys`, `values`, `sort`, `variable`, `size`, `onmatch`, `filter`: exact. A
+//!   trigger keeps the limits (1 to 3 keys, at most 3 values, 1 or 2 sort items, a size of 128 to
+//!   131,072) and is sound (`specs/Sound.antt`): its items are fields of its event that suit them,
+//!   or its own variable; one with an onmatch part reads a variable, that part names one of the
+//!   four events, and both its fields are numbers of the trigger's own event; one on
+//!   `wakeup_latency` has neither variable nor onmatch part.
+//! - `KeyItem`, `Item`, `SortItem`, `SortBy`, `Mode`, `Onmatch`, `Var`: parts with plain fields.
+//!   `mode_named`: the modifier that is a name and nothing else (`specs/Modifiers.antt`);
+//!   `Var::own_name`, `Label::bytes`: a variable's name; exact. `Label::of` lets through: running
+//!   out of memory at any time.
 //! - `Trigger::write`: the canonical text is added (`specs/Canonical.antt`); after an error the
 //!   text is as it was. Lets through: running out of memory at any time.
 //! - `Trigger::set_filter`, `Trigger::set_onmatch`: that filter or onmatch part, or none; all else
@@ -38,20 +48,20 @@
 //!   none (`specs/Hit.antt`), at exactly one tick of `evals` of the `Work` handed in and none of
 //!   `puts`. Lets through: ticks of another `Work`.
 //! - `Trigger::key_of`: that key, at one tick of `evals` where the trigger is on the event's name,
-//!   and none elsewhere.
+//!   and none elsewhere (`specs/Tests.antt`).
 //! - `Trigger::values_of`: what an event adds to the sums, in the order of the values; 0 after the
 //!   last one (`specs/Values.antt`).
 //! - `Trigger::made`: where there is an onmatch part, the event `wakeup_latency` of a reading and
 //!   the saving that it found (`specs/Made.antt`): the reading event's task, PID, CPU and stamp,
 //!   the microseconds between the two, and the numbers of both fields.
-//! - `Trigger::keys_match`: whether the keys of two triggers make parts of the same kinds; exact,
-//!   with a clause `meaning`.
+//! - `Trigger::keys_match`: whether the keys of two triggers make parts of the same kinds
+//!   (`specs/Matching.antt`); exact, with a clause `meaning`.
 //! - `Trigger::counts_made`: whether it is on the name of made events (`specs/Made.antt`); exact.
-//! - `Triggers`, attached triggers by id: contracts see a finite map (`specs/Triggers.antt`). `len`,
-//!   `get`, `iter`, `remove`, `set_filter`: exact. A refused `insert` leaves the map as it was.
-//!   `insert` lets through: running out of memory at any time.
-//! - `Work`: two counters that contracts alone see. Lets through: a tick for anything. No clause
-//!   says what a step is.
+//! - `Triggers`: contracts see a finite map from ids to triggers (`specs/Triggers.antt`). `new`,
+//!   `len`, `get`, `iter`, `remove`, `set_filter`: exact. `insert` puts a trigger at an id, or leaves
+//!   the map as it was. It lets through: running out of memory at any time.
+//! - `Work`: two counters that contracts alone see (`specs/Steps.antt`). Lets through: a tick for
+//!   anything. No clause says what a step is.
 //! - Law `powers`: `.log2` gives the least n for which 2 to the n is not below the value.
 //! - Law `multiples`: `.buckets` gives the greatest multiple that is not above the value.
 //! - Law `fitting_parts`: the key of a hit has a part of its kind for each key item.

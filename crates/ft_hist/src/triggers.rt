@@ -87,8 +87,8 @@ impl Triggers {
         take(&mut self.by_id, &id);
     }
 
-    /// Gives the trigger of an id this filter, or none, in place of its own. Answers whether there
-    /// is such a trigger.
+    /// Gives the trigger of an id this filter, or none, in place of its own; the other triggers stay.
+    /// Answers whether there is such a trigger.
     pub fn set_filter(&mut self, id: u32, filter: Option<Filter>) -> bool
         requires { (hist : Hist) → map.get self.old id ≡ Some hist
             → ForSome filter (λ f. f.event ≡ hist.event) }
@@ -101,8 +101,8 @@ impl Triggers {
     }
 }
 
-/// Gives the trigger of an id this filter, or none, in place of its own. Answers whether there is
-/// such a trigger.
+/// Has the trigger that a map holds at an id take this filter, or none, where it stands. Answers
+/// whether the map holds one there.
 fn set_filter(by_id: &mut BTreeMap<u32, Trigger>, id: u32, filter: Option<Filter>) -> bool
     requires { (hist : Hist) → map.get (seen nat_cmp by_id.old) id ≡ Some hist
         → ForSome filter (λ f. f.event ≡ hist.event) }

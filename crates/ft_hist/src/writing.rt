@@ -126,6 +126,7 @@ fn write_value(variable: Option<&Var>, item: Item, text: &mut Vec<u8>) -> Result
             text.extend_from_slice(b"$")?;
             match variable {
                 Some(variable) => text.extend_from_slice(variable.own_name()),
+                // A trigger sums its variable only where it has one.
                 None => Ok(()),
             }
         }
@@ -200,6 +201,7 @@ fn write_by(trigger: &Trigger, by: SortBy, text: &mut Vec<u8>) -> Result<(), All
         SortBy::Hits => text.extend_from_slice(b"hitcount"),
         SortBy::Key(at) => match trigger.keys().get(at as usize) {
             Some(key) => text.extend_from_slice(field_text(key.field)),
+            // A trigger sorts by keys that it has, and by values that it has.
             None => Ok(()),
         },
         SortBy::Value(at) => match trigger.values().get(at as usize) {
@@ -233,6 +235,7 @@ fn write_matching(event: Name, text: &mut Vec<u8>) -> Result<(), AllocError>
     text.extend_from_slice(b"onmatch(sched.")?;
     match event.text() {
         Some(name) => text.extend_from_slice(name),
+        // It is one of the four events that a trace names.
         None => Ok(()),
     }
 }
@@ -262,6 +265,7 @@ fn write_own(variable: Option<&Var>, text: &mut Vec<u8>) -> Result<(), AllocErro
     text.extend_from_slice(b").wakeup_latency($")?;
     match variable {
         Some(variable) => text.extend_from_slice(variable.own_name()),
+        // A trigger with an onmatch part has a variable.
         None => Ok(()),
     }
 }

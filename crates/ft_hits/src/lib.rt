@@ -1,9 +1,9 @@
 //! Hits: what events add to a trigger's table, where they stand, and how those of a key are kept.
 //!
-//! A hit stands at a spot: the place of an event, and who made the event. A spot and a key are a
-//! mark; hits stand in the order of their marks. The hits of one key are an entry, by spot, with the
-//! sums of their values modulo 2^64, and an index has an entry for each key. Contracts see an index
-//! as the values of all its hits, by mark.
+//! A hit has a *spot*: the place of an event, and who made the event, which is 0 for an event of
+//! the trace, else the id of a trigger. A spot and a key are a *mark*; hits stand in the order of
+//! their marks. The hits of one key are an entry, by spot, with the sums of their values modulo
+//! 2^64, and an index has an entry for each key.
 //!
 //! A hit comes or goes at its mark. Where a key has none yet, all its hits come as an entry of their
 //! own, made of a run: spots with values, in any order.
@@ -21,9 +21,8 @@
 //!
 //! # Contracts
 //!
-//! - `Spot::traced`: exact. A *spot* is the place of an event and who made it: 0 for an event of
-//!   the trace, else the id of the trigger that made it (`specs/Spots.antt`). A *mark* is a spot
-//!   and a key (`specs/Marks.antt`).
+//! - `Spot::traced`: the spot of an event of the trace (`specs/Spots.antt`); exact. `Mark` and
+//!   `Hit` have plain fields (`specs/Marks.antt`).
 //! - `HitIndex::new`, `put_hit`, `take_hit`: contracts see of an index all its hits: a finite map
 //!   from mark to values (`specs/Hits.antt`). `put_hit` puts one where none stands, and a refusal
 //!   changes nothing; `take_hit` takes one, tells whether it stood there, and needs no memory.
@@ -34,14 +33,14 @@
 //! - `HitIndex::put_entry`: a key has the hits of an entry, and all others stay. Lets through:
 //!   running out of memory at any time, and then all is as it was.
 //! - `HitIndex::count_of`, `sums_at`, `first_at`, `next_hit`, `holds`: how many hits a key has,
-//!   their sums modulo 2^64, the spot of the first, the first after a spot, whether one stands at a
-//!   mark (`specs/Hits.antt`); exact.
+//!   their sums modulo 2^64, the spot of the first, the first after a spot or of all, whether one
+//!   stands at a mark (`specs/Hits.antt`); exact.
 //! - `Entry::of`, `Entry::len`, `Entry::first`: contracts see of an entry its hits, a finite map
 //!   from spot to values. `of` makes it of a list, and keeps the first of several hits at one spot;
 //!   exact. `of` lets through: running out of memory at any time.
-//! - `count_puts`: one tick of `puts` for each hit of a list.
+//! - `count_puts`: one tick of `puts` for each hit of a list, and none of `evals`.
 //! - Laws `one_spot_order`, `one_mark_order`: spots stand by place, then by maker; marks by spot,
-//!   then by key.
+//!   then by key; those that tie are equal.
 #![tactic(auto)]
 
 mod entry;

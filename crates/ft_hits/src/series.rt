@@ -90,6 +90,7 @@ fn least(hits: &BTreeMap<Spot, [i64; 3]>) -> Option<Spot>
     }
     match hits.first_key_value() {
         Some((spot, _)) => Some(*spot),
+        // A tree that isn't empty has a first spot.
         None => None,
     }
 }

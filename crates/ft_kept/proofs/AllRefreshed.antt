@@ -20,7 +20,8 @@ use Rattle.ft_kept.specs.Entries.{IsKeptBut}
 use Rattle.ft_kept.specs.inner.Stale.{is_next_read, is_read, is_switched_as, reads_at}
 use Rattle.ft_kept.specs.inner.Settling.{stale_by_saver, without_moved}
 use Rattle.ft_shelves.specs.Shelves.{Shelves, admits_on, kept_on, role_on}
-use Rattle.ft_shelves.specs.Following.{Moves, MovesKeys}
+use Rattle.ft_shelves.specs.Following.{MovesKeys}
+use Rattle.ft_shelves.specs.declared.saver.Moved.{Moved}
 use Rattle.ft_shelves.specs.Switches.{differ}
 use Rattle.ft_table.specs.Values.{values_by}
 use Rattle.ft_pairs.specs.declared.role.Role.{Role}
@@ -62,7 +63,7 @@ other_decided : (o : Option (List Part)) (k : List Part) → (o ≡ Some k) ⊎ 
 other_decided None k = inr (λ e. absurd (cc))
 other_decided (Some x) k = elim (key_decided x k) [ inl e ↦ inl (ap Some e) | inr not_it ↦ inr (λ e. not_it (cc)) ]
 
-module _ (triggers : Triggers) (old mid : Shelves) (at : At) (key : List Part) (moves : Moves)
+module _ (triggers : Triggers) (old mid : Shelves) (at : At) (key : List Part) (moves : Moved)
     (others : (id : ℕ) → (id ≡ at.trigger → ⊥) → map.get mid id ≡ map.get old id) (moved : MovesKeys key moves (admits_on old at.trigger) (admits_on mid at.trigger)) where
   abbrev variable : List Part → Variable
   variable k = record { saver = at.trigger; key = k }

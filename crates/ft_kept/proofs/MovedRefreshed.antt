@@ -4,7 +4,7 @@ use Rattle.ft_pairs.specs.Next.{IsNext}
 use Rattle.ft_pairs.specs.declared.at.At.{At}
 use Rattle.ft_pairs.specs.declared.at.Op.{Op}
 use Rattle.ft_pairs.specs.declared.role.Role.TheVariants.{Saves}
-use Rattle.ft_shelves.specs.Following.{Moves}
+use Rattle.ft_shelves.specs.declared.saver.Moved.{Moved}
 use Rattle.ft_shelves.specs.Shelves.{FormsStay, Shelves, admits_on, kept_on, role_on}
 use Rattle.ft_table.specs.Values.{values_by}
 use Rattle.ft_kept.specs.Acts.{Acts}
@@ -22,7 +22,7 @@ use Rattle.ft_kept.proofs.Staleness.{kept_as, stale_more}
 use Rattle.ft_kept.proofs.SaverHits.{after_held}
 use Rattle.ft_kept.proofs.SaverTables.{savers_stay}
 
-module _ (act : Act) (acts : Acts) (old : Shelves) (may : MayChange act acts Saves old) (mid : Shelves) (moves : Moves) (leaves_stale : ChangedLeavingStale act acts moves old mid) where
+module _ (act : Act) (acts : Acts) (old : Shelves) (may : MayChange act acts Saves old) (mid : Shelves) (moves : Moved) (leaves_stale : ChangedLeavingStale act acts moves old mid) where
   abbrev after : Acts
   after = acts_after act acts
 

@@ -14,7 +14,7 @@ use Rattle.ft_kept.specs.Repairs.{AreShelved}
 use Rattle.ft_kept.specs.inner.Settling.{IsPartly, Stale, Refreshes, without_moved, without_next_read, without_reads_of}
 use Rattle.ft_shelves.specs.Shelves.{FormsStay, Shelves, kept_on, role_on}
 use Rattle.ft_kept.specs.inner.Edits.{ReadersChange}
-use Rattle.ft_shelves.specs.Following.{Moves}
+use Rattle.ft_shelves.specs.declared.saver.Moved.{Moved}
 use Rattle.ft_table.specs.Values.{values_by}
 use Rattle.ft_kept.proofs.Forms.{readers_forms, readers_ops, readers_refl, readers_trans, roles_stay, shelved_stay}
 use Rattle.ft_kept.proofs.Staleness.{kept_as, stale_more}
@@ -77,7 +77,7 @@ module _ (triggers : Triggers) (lanes : Lanes) where
         refreshes = λ admits acts stale held kept. stale_more (role_on old) (values_by triggers) admits acts (kept_on old) stale (λ q. stale q && not false) (λ q e. and_not_false (stale q) false refl e) kept;
       })
 
-  module _ (old mid : Shelves) (id : ℕ) (moves : Moves) (refreshed : IsOtherRefreshed old mid id moves.other) where
+  module _ (old mid : Shelves) (id : ℕ) (moves : Moved) (refreshed : IsOtherRefreshed old mid id moves.other) where
     pub refreshed_shelved : AreShelved triggers old → AreShelved triggers mid
     refreshed_shelved = shelved_stay triggers old mid (readers_forms old mid refreshed.readers)
 

@@ -22,7 +22,8 @@ use Rattle.ft_table.specs.Spots.{traced}
 use Rattle.ft_table.specs.Tabled.{Tabled, is_in}
 use Rattle.ft_table.specs.Values.{ValuesBy, values_by}
 use Rattle.ft_shelves.specs.Changes.{change_mark, op_after, readings_after, set_op, table_with}
-use Rattle.ft_shelves.specs.Following.{HitFollows, IsUnsaved, Moves, MovesKeys, switched}
+use Rattle.ft_shelves.specs.Following.{HitFollows, IsUnsaved, MovesKeys, switched}
+use Rattle.ft_shelves.specs.declared.saver.Moved.{Moved}
 use Rattle.ft_shelves.specs.Shelves.{FormsStay, Shelved, Shelves, admits_on, is_saver, kept_on, role_on}
 use Rattle.ft_shelves.specs.Switches.{Members}
 use Rattle.ft_shelves.specs.declared.sign.Sign.{Sign}
@@ -140,7 +141,7 @@ module _ (act : Act) (acts : Acts) (old : Shelves) (may : MayChange act acts Sav
       admits_new k = admits_by new id (Some now) is k ∙ ap (λ r. is_saver r && is_in now.table k) (ap (λ (s : Shelved). s.role) follows.shelf ∙ shelf_saves)
 
       -- the keys of the table that moved are those that are admitted
-      pub moved : (moves : Moves) → MovesKeys (change_mark (change_of act)).key moves (is_in shelf.table) (is_in now.table) → MovesKeys act.key moves (admits_on old id) (admits_on new id)
+      pub moved : (moves : Moved) → MovesKeys (change_mark (change_of act)).key moves (is_in shelf.table) (is_in now.table) → MovesKeys act.key moves (admits_on old id) (admits_on new id)
       moved moves h = subst (λ (p : List Part × (Members × Members)). MovesKeys p.0 moves p.1.0 p.1.1) (λ i. ((mark_is act act.sign i).key, (λ k. sym (admits_old k) i, λ k. sym (admits_new k) i))) h
 
       -- hits and readings stay at other places

@@ -9,7 +9,8 @@ use Rattle.ft_kept.specs.Bounds.{OtherSaversStay, TableMoves, table_on}
 use Rattle.ft_shelves.specs.Shelves.{FormsStay, Shelved, Shelves, admits_on, is_saver, role_on}
 use Rattle.ft_kept.specs.inner.Edits.{ReadersChange}
 use Rattle.ft_shelves.specs.Switches.{HasMoved, differ}
-use Rattle.ft_shelves.specs.Following.{Moves, MovesKeys}
+use Rattle.ft_shelves.specs.Following.{MovesKeys}
+use Rattle.ft_shelves.specs.declared.saver.Moved.{Moved}
 use Rattle.ft_pairs.specs.declared.role.Role.TheVariants.{Saves}
 use Rattle.ft_kept.proofs.FewPuts.{readers_savers}
 use Rattle.ft_kept.proofs.Forms.{admits_by, role_at, roles_stay, same_role}
@@ -58,7 +59,7 @@ module _ (edit : Tabled → Tabled) (old mid : Shelves) (id : ℕ) (saves : role
       )
 
   -- few puts, or a key of the table moves
-  pub few_or_moves : (key : List Part) (moves : Moves) → MovesKeys key moves (admits_on old id) (admits_on mid id)
+  pub few_or_moves : (key : List Part) (moves : Moved) → MovesKeys key moves (admits_on old id) (admits_on mid id)
       → (some most halfway done : ℕ) → some + 1 ≤ most → (halfway ≤ some) ⊎ TableMoves edit old id
       → (moves.own ≡ false → moves.other ≡ None → done ≤ halfway + 1) → (done ≤ most) ⊎ TableMoves edit old id
   few_or_moves key moves moved some most halfway done within first last = elim first [

@@ -1,5 +1,5 @@
 -- Shelves that change in one part, and the shelves of which one changes.
-use Rattle.std.proofs.Common.{◌≡◌, ℕ, MutBor, OnSome, sym, ap, subst, ◌∙◌, Some, Option, unwrap_or}
+use Rattle.std.proofs.Common.{◌≡◌, ℕ, MutBor, OnSome, refl, sym, ap, subst, ◌∙◌, None, Some, Option, unwrap_or}
 use Rattle.std.specs.Prelude.{is_some}
 use Rattle.std.specs.Cmp.{nat_cmp_total}
 use Rattle.std.specs.FinMap as map
@@ -16,6 +16,14 @@ module _ (id : ℕ) (Change : Shelved → Shelved → Type 0) (old : Shelves) wh
     others = λ i apart. get-insert_other nat_cmp_total exact_unsigned old id after i apart;
     none = λ none. absurd (true≢false (sym (ap is_some was) ∙ ap is_some none));
     here = λ s is. (after, (get-insert_same nat_cmp_total old id after, subst (λ x. Change x after) (ap (λ (o : Option Shelved). unwrap_or o s) (sym was ∙ is)) change));
+  }
+
+  -- where there is no shelf, none changes
+  pub none_changes : map.get old id ≡ None → ChangesShelf id Change old old
+  none_changes none = record {
+    others = λ i apart. refl;
+    none = λ same. same;
+    here = λ s is. absurd (true≢false (sym (ap is_some is) ∙ ap is_some none));
   }
 
 -- ---- a shelf that is lent

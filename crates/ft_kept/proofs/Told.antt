@@ -16,7 +16,7 @@ use Rattle.ft_pairs.specs.declared.role.Role.{Role}
 use Rattle.ft_pairs.specs.declared.role.Role.TheVariants.{Plain, Reads}
 use Rattle.ft_pairs.specs.declared.role.Variable.{Variable}
 use Rattle.ft_table.specs.Hits.{same_key}
-use Rattle.ft_shelves.specs.Following.{Moves}
+use Rattle.ft_shelves.specs.declared.saver.Moved.{Moved}
 use Rattle.ft_shelves.specs.Shelves.{FormsStay, Shelves, kept_on, role_on}
 use Rattle.ft_shelves.proofs.Decided.{itself}
 use Rattle.ft_kept.specs.Changes.{AreFew, HasTold, HasToldFew, HitsStayBut, Tells, Told, is_for, is_reader_of, keys_for, own_keys, readers_keys}
@@ -144,7 +144,7 @@ module _ (role : ℕ → Role) (id : ℕ) (hist : Hist) where
   no_more_own key own None i = refl
   no_more_own key own (Some other) i = refl
 
-  pub few_saving : (key : List Part) (moves : Moves) → AreFew role (asked ∷ []) (own_key id key ++ moved_keys id key moves)
+  pub few_saving : (key : List Part) (moves : Moved) → AreFew role (asked ∷ []) (own_key id key ++ moved_keys id key moves)
   few_saving key moves = record {
     own = λ i. subst (λ (ks : List (List Part)). length ks ≤ length (cond (nat_eq i id) (asked ∷ []) [])) (sym (no_more_own key key moves.other i)) (once (nat_eq i id) (record { whose = Trigger id; key = key }) asked);
     readers = λ s. let two = few_moved key moves.other s in omega (arith, two);

@@ -36,7 +36,7 @@ pub struct Attached<'a> {
 }
 
 /// What a trigger does at an event that is a hit of it, put in or taken away: it counts the event
-/// under a key.
+/// under a key. With it comes where its repair looks things up.
 #[derive(Clone, Copy)]
 pub(crate) struct Act<'a> {
     pub(crate) scene: Scene<'a>,

@@ -6,23 +6,24 @@ ghost use Rattle.ft_hist.specs.Hit.{hit};
 ghost use Rattle.ft_hist.specs.Steps.{StepsGrow};
 ghost use Rattle.ft_hist.specs.Tests.{count_on, tests_taken};
 ghost use Rattle.ft_pairs.specs.declared.role.Role.TheVariants.{Plain};
-ghost use Rattle.ft_kept.specs.Changes.{HasToldFew};
+ghost use Rattle.ft_shelves.specs.Changes.{on_insert};
+ghost use Rattle.ft_shelves.specs.Counts.{TestsNone, PutsAtMost};
+ghost use Rattle.ft_shelves.specs.Shelves.{FormsStay, role_on};
+ghost use Rattle.ft_shelves.specs.declared.sign.Sign.TheVariants.{Retract};
 ghost use Rattle.ft_kept.specs.Acts.{Acts};
 ghost use Rattle.ft_kept.specs.Bounds.{SaverMoves, SomeSaverMoves, OtherSaversStay};
+ghost use Rattle.ft_kept.specs.Changes.{HasToldFew};
 ghost use Rattle.ft_kept.specs.Input.{input_of, AreViews};
 ghost use Rattle.ft_kept.specs.Memory.{ActsPlainly, AllActPlainly};
 ghost use Rattle.ft_kept.specs.Repairs.{IsHeldAt};
 ghost use Rattle.ft_kept.specs.Signs.{event_before, event_after, table_edit, NeedsNoMemory, NeedsNoMemoryAt};
 ghost use Rattle.ft_kept.specs.Views.{HasAt, act_under, set, triggers_of, with_event};
 ghost use Rattle.ft_kept.specs.inner.Changing.{MayChange, HasChanged, HasToldAct};
-ghost use Rattle.ft_shelves.specs.Shelves.{FormsStay, role_on};
-ghost use Rattle.ft_shelves.specs.declared.sign.Sign.TheVariants.{Retract};
 
 use crate::act::{Act, Attached, Delta, Scene};
-use crate::changes::Changes;
-use crate::hits::change_hit;
-use crate::readings::change_reading;
-use crate::saver::change_saving;
+use crate::changes::{Changes, Whose};
+use crate::saver::{change_saving, hit_change};
+use crate::settle::change_reading;
 use crate::tables::Tables;
 use ft_hist::Work;
 use ft_pairs::{At, Role};
@@ -152,12 +153,36 @@ fn change_act(
     ensures puts { (work.new.puts ≤ work.old.puts + 3)
         ⊎ SaverMoves (table_edit act.now.sign act.now.at.pos act.now.event.now) act.now.trigger.now
         tables.old act.now.at.trigger }
-    ensures evals { work.new.evals ≡ work.old.evals }
-    ensures grow { StepsGrow work.old work.new }
+    ensures work { TestsNone work.old work.new }
 {
     match tables.role(act.at.trigger) {
         Role::Plain => change_hit(tables, act, changes, work),
         Role::Saves => change_saving(tables, act, changes, work),
         Role::Reads(saver) => change_reading(tables, saver, act, changes, work),
+    }
+}
+
+/// A hit of a trigger without a variable comes or goes. Refused for memory, which one that goes
+/// takes none of.
+pub(crate) fn change_hit(
+    tables: &mut Tables,
+    act: &Act<'_>,
+    changes: &mut Changes,
+    work: &mut Work,
+) -> Result<(), AllocError>
+    ghost acts: { Acts }
+    requires { MayChange act.now acts Plain tables.old }
+    ensures changed { OnOk result (HasChanged act.now acts tables.old tables.new) }
+    ensures told { OnOk result (HasToldAct act.now changes.old changes.new tables.old tables.new) }
+    ensures quiet { changes.new.readings ≡ changes.old.readings }
+    ensures memory { act.now.sign ≡ Retract → result ≡ Ok tt }
+    ensures work { PutsAtMost (on_insert act.now.sign 1) work.old work.new }
+{
+    changes.tell_key(Whose::Trigger(act.at.trigger), act.key);
+    let change = hit_change(act);
+    match tables.shelf_mut(act.at.trigger) {
+        Some(shelf) => shelf.change_hit(change, work),
+        // Each attached trigger has a shelf.
+        None => Ok(()),
     }
 }

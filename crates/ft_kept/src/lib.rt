@@ -34,21 +34,24 @@
 //!
 //! # Contracts
 //!
+//! What answers a `Result` lets through: running out of memory at any time, except where a clause
+//! `memory` shuts it out. Nothing is said of the shelves then.
+//!
 //! - `Tables::apply`, clauses `views`, `input`: contracts see a *shelf* for each trigger
 //!   (`ft_shelves/specs/Shelves.antt`). Shelves and held events tell an *input*: under which key
 //!   each trigger counts which event, place by place (`specs/Input.antt`). Shelves are *views* of
 //!   it where they hold what it says (`specs/Views.antt`, `specs/Entries.antt`). Views before are
 //!   views afterwards, and the input is as before but at the event's place: there it has what the
-//!   triggers count at the event, or nothing, by the delta's sign. No replay is in it. Lets
-//!   through: running out of memory, except where `memory` shuts it out; then nothing is said of
-//!   the shelves.
+//!   triggers count at the event, or nothing, by the delta's sign. No replay is in it.
 //! - Clauses `memory`: an event that is put in and is no hit, and one that is taken away and is a
 //!   hit of triggers without a variable alone, never run out of memory (`specs/Memory.antt`,
 //!   `specs/Signs.antt`).
 //! - Clauses `evals`, `puts`: the event is tested at most once for each trigger on its name. With m
 //!   such triggers, at most 3m is put into tables and pairs, unless the event's hit moves a key
 //!   into some saver's table or out of it (`specs/Bounds.antt`). Lets through: any walks and
-//!   look-ups, and any work where readings are kept. None of these is counted.
+//!   look-ups, and any work where readings are kept, which isn't counted. That only what an event
+//!   touches is repaired (its own hit and operation, the next reading, the readings of keys that
+//!   moved) is how the source does it.
 //! - Clause `told`: what `Changes` tells after what it told says how the shelves changed
 //!   (`specs/Changes.antt`): each trigger's hits stay but under the keys that are told of it; and
 //!   the readings that are told *lead* from what all readings found to what they find, each having
@@ -57,45 +60,34 @@
 //!   more, at any time. That only running out of memory does it is seen in the source.
 //! - Clause `quiet`: where only triggers without a variable hit the event, what is told of readings
 //!   stays as it is.
-//! - `Tables::apply_to`: as `apply`, at one trigger; the other savers' tables stay. Lets through:
-//!   what `apply` does.
+//! - `Tables::apply_to`: as `apply`, at one trigger; the other savers' tables stay.
 //! - `Tables::acts_come`, clause `right`: all acts of a trigger of which nothing is kept yet, by
 //!   its events grouped by key: where the shelves hold what the acts of the others say, they hold
 //!   afterwards what all acts say (`specs/AtOnce.antt`). No event is tested again. Lets through:
-//!   running out of memory at any time, and then nothing is said of the shelves; any number of
-//!   puts.
+//!   any number of puts.
 //! - `Tables::is_bare`: where it says so, nothing is kept of the trigger, no operation stands on
 //!   what it saves, and no other trigger reads what it reads. Lets through: saying no; then the
 //!   acts come one by one.
 //! - `Tables::new`, `add`, `drop_shelf`, `shelf`, `Changes::unasked`, `with_keys`, `with_readings`,
-//!   `keys`, `readings`: exact. `add` lets through: running out of memory at any time.
+//!   `keys`, `readings`: exact; and where `add` runs out of memory, all is as it was.
 //! - `changed_rows`: the report of an event by the keys that were told, in order of the triggers'
 //!   ids: the rows of the keys that are told of a trigger's hits and of their rivals in its table
 //!   (`specs/Report.antt`, `specs/Touched.antt`), none of triggers that count made events; exact.
-//!   Lets through: running out of memory at any time; keys other than those that were told.
+//!   Lets through: keys other than those that were told.
 //! - Law `reported_rows`: where hits stay but under these keys, the report has each row that
 //!   differs of an attached trigger that counts held events, and none twice. Where few keys are
 //!   told, it has two rows at most of a trigger that reads nothing; of a reader four, and two more
 //!   for each attached trigger that reads the same variable, itself among them
 //!   (`specs/Laws.antt`).
 //! - `distinct`, `put_rows`: some keys, each once; the rows of some keys of a trigger, added to
-//!   others; exact. Lets through: running out of memory at any time.
-//!
-//! That only what an event touches is repaired (its own hit and operation, the next reading, the
-//! readings of keys that moved) is how the source does it. The clauses bound the puts and say
-//! nothing of the rest.
+//!   others; exact.
 #![tactic(auto)]
 
 mod act;
 mod apply;
 mod at_once;
-mod at_once_read;
 mod changes;
-mod hits;
-mod keys;
 pub mod laws;
-mod moved;
-mod readings;
 mod report;
 mod saver;
 mod settle;
@@ -105,7 +97,6 @@ pub use act::{Attached, Delta, Scene};
 pub use changes::{Changes, KeyChange, Whose};
 pub use ft_changes::Changed;
 pub use ft_shelves::{Shelf, Sign};
-pub use keys::distinct;
 pub use laws::reported_rows;
-pub use report::{changed_rows, put_rows};
+pub use report::{changed_rows, distinct, put_rows};
 pub use tables::Tables;

@@ -1,24 +1,27 @@
-//! Readings made right: what they had goes, and what they find now comes.
+//! Readings that come or go, and readings made right: what they had goes, and what they find now
+//! comes.
 
-ghost use Rattle.std.specs.Prelude.{◌≡◌, ◌+◌, ◌≤◌, Option, Some, OnOk};
-ghost use Rattle.ft_hist.specs.Steps.{StepsGrow};
+ghost use Rattle.std.specs.Prelude.{◌≡◌, Option, Some, OnOk};
 ghost use Rattle.ft_pairs.specs.Next.{IsNext};
 ghost use Rattle.ft_pairs.specs.declared.at.At.{At};
 ghost use Rattle.ft_pairs.specs.declared.at.Op.{Op};
 ghost use Rattle.ft_pairs.specs.declared.role.Role.TheVariants.{Reads};
+ghost use Rattle.ft_shelves.specs.Counts.{TestsNone, PutsAtMost};
+ghost use Rattle.ft_shelves.specs.Shelves.{role_on, kept_on};
 ghost use Rattle.ft_table.specs.Values.{values_by};
+ghost use Rattle.ft_kept.specs.Acts.{Acts};
 ghost use Rattle.ft_kept.specs.Entries.{IsEntry, IsOwn, hits_here, read_here};
 ghost use Rattle.ft_kept.specs.Repairs.{AreShelved};
 ghost use Rattle.ft_kept.specs.Signs.{FindsBy, act_after};
-ghost use Rattle.ft_shelves.specs.Shelves.{role_on, kept_on};
-ghost use Rattle.ft_kept.specs.inner.Acting.{CanSettle, Refreshed};
 ghost use Rattle.ft_kept.specs.Views.{triggers_of};
+ghost use Rattle.ft_kept.specs.inner.Acting.{CanSettle, Refreshed};
+ghost use Rattle.ft_kept.specs.inner.Changing.{MayChange, HasChanged, HasToldAct};
 ghost use Rattle.ft_kept.specs.inner.Edits.{ReadersChange, StaysBut};
 ghost use Rattle.ft_kept.specs.inner.Settling.{without_next_read, without_reads_of};
 ghost use Rattle.ft_kept.specs.inner.Telling.{HasReread};
 
-use crate::act::Scene;
-use crate::changes::Changes;
+use crate::act::{Act, Scene};
+use crate::changes::{Changes, Whose};
 use crate::tables::Tables;
 use ft_changes::ReadingChange;
 use ft_fields::Event;
@@ -29,16 +32,45 @@ use ft_shelves::Sign;
 use ft_table::{Mark, Spot, hit_with};
 use std::alloc::AllocError;
 
+/// A reading of a key comes or goes: its read stands among the operations on the variable or not,
+/// and it and the next reading are made right. The key is told before what they find. Refused for
+/// memory.
+pub(crate) fn change_reading(
+    tables: &mut Tables,
+    saver: u32,
+    act: &Act<'_>,
+    changes: &mut Changes,
+    work: &mut Work,
+) -> Result<(), AllocError>
+    ghost acts: { Acts }
+    requires { MayChange act.now acts (Reads saver) tables.old }
+    ensures changed { OnOk result (HasChanged act.now acts tables.old tables.new) }
+    ensures told { OnOk result (HasToldAct act.now changes.old changes.new tables.old tables.new) }
+    ensures work { PutsAtMost 3 work.old work.new }
+{
+    changes.tell_key(Whose::ReadersOf(saver), act.key);
+    let key = act.key;
+    let variable = Variable { saver, key };
+    let reading = Reading {
+        variable,
+        at: act.at,
+        event: act.event,
+    };
+    tables.change_read(&variable, act.at, act.sign, work)?;
+    settle(tables, &act.scene, &reading, act.sign, changes, work)?;
+    settle_next(tables, &act.scene, &variable, act.at, changes, work)
+}
+
 /// A reading of a variable at a place, at the event that is held there.
 #[derive(Clone, Copy)]
-pub(crate) struct Reading<'a> {
-    pub(crate) variable: Variable,
-    pub(crate) at: At,
-    pub(crate) event: &'a Event,
+struct Reading<'a> {
+    variable: Variable,
+    at: At,
+    event: &'a Event,
 }
 
 /// Makes a reading right, where it comes or stays, or goes. Refused for memory.
-pub(crate) fn settle(
+fn settle(
     tables: &mut Tables,
     scene: &Scene<'_>,
     reading: &Reading<'_>,
@@ -59,13 +91,12 @@ pub(crate) fn settle(
         (hits_here (kept_on tables.new) reading.now.at) (read_here (kept_on tables.new) reading.now.at)) }
     ensures told { OnOk result (HasReread reading.now.variable changes.old changes.new
         tables.old tables.new) }
-    ensures puts { work.new.puts ≤ work.old.puts + 1 }
-    ensures evals { work.new.evals ≡ work.old.evals }
-    ensures grow { StepsGrow work.old work.new }
+    ensures work { PutsAtMost 1 work.old work.new }
 {
     let at = reading.at;
     let key = reading.variable.key;
     let found = found_at(tables, &reading.variable, at, sign);
+    // Each reader is attached, and has a shelf.
     let Some(trigger) = scene.triggers.get(at.trigger) else {
         return Ok(());
     };
@@ -101,45 +132,37 @@ fn found_at(tables: &Tables, variable: &Variable, at: At, sign: Sign) -> Option<
     }
 }
 
-/// An operation that stands on a variable at a place.
-#[derive(Clone, Copy)]
-pub(crate) struct Operation {
-    pub(crate) variable: Variable,
-    pub(crate) at: At,
-    pub(crate) op: Op,
-}
-
 /// Makes the reading of an operation right, if it is a read. Refused for memory.
 fn settle_op(
     tables: &mut Tables,
     scene: &Scene<'_>,
-    operation: Operation,
+    variable: &Variable,
+    operation: (At, Op),
     changes: &mut Changes,
     work: &mut Work,
 ) -> Result<(), AllocError>
     requires can { CanSettle scene.now tables.old }
-    requires there { (kept_on tables.old).ops operation.variable operation.at ≡ Some operation.op }
+    requires there { (kept_on tables.old).ops variable.now operation.0 ≡ Some operation.1 }
     ensures readers { OnOk result (ReadersChange tables.old tables.new) }
     ensures right { OnOk result (Refreshed scene.now tables.old tables.new
-        (without_next_read (Some (operation.at, operation.op)))) }
-    ensures told { OnOk result (HasReread operation.variable changes.old changes.new
+        (without_next_read (Some operation))) }
+    ensures told { OnOk result (HasReread variable.now changes.old changes.new
         tables.old tables.new) }
-    ensures puts { work.new.puts ≤ work.old.puts + 1 }
-    ensures evals { work.new.evals ≡ work.old.evals }
-    ensures grow { StepsGrow work.old work.new }
+    ensures work { PutsAtMost 1 work.old work.new }
 {
-    let Operation { variable, at, op } = operation;
+    let (at, op) = operation;
     match op {
         Op::Save => Ok(()),
         Op::Read => match scene.lanes.get(at.pos.cpu, at.pos.line) {
             Some(event) => {
                 let reading = Reading {
-                    variable,
+                    variable: *variable,
                     at,
                     event: &event,
                 };
                 settle(tables, scene, &reading, Sign::Insert, changes, work)
             }
+            // The event of each read is held.
             None => Ok(()),
         },
     }
@@ -162,17 +185,12 @@ pub(crate) fn settle_next(
         → Refreshed scene.now tables.old tables.new (without_next_read next)) }
     ensures told { OnOk result (HasReread variable.now changes.old changes.new
         tables.old tables.new) }
-    ensures puts { work.new.puts ≤ work.old.puts + 1 }
-    ensures evals { work.new.evals ≡ work.old.evals }
-    ensures grow { StepsGrow work.old work.new }
+    ensures work { PutsAtMost 1 work.old work.new }
 {
     // There is one next operation at most, so the one found here is the one that callers mean.
     one_next();
     match tables.next_op(variable, Some(at)) {
-        Some((at, op)) => {
-            let variable = *variable;
-            settle_op(tables, scene, Operation { variable, at, op }, changes, work)
-        }
+        Some(operation) => settle_op(tables, scene, variable, operation, changes, work),
         None => Ok(()),
     }
 }
@@ -191,18 +209,12 @@ pub(crate) fn settle_key(
         (without_reads_of tables.old variable.now)) }
     ensures told { OnOk result (HasReread variable.now changes.old changes.new
         tables.old tables.new) }
-    ensures evals { work.new.evals ≡ work.old.evals }
-    ensures grow { StepsGrow work.old work.new }
+    ensures work { TestsNone work.old work.new }
 {
     let mut next = tables.next_op(variable, None);
-    while let Some((at, op)) = next {
-        let operation = Operation {
-            variable: *variable,
-            at,
-            op,
-        };
-        settle_op(tables, scene, operation, changes, work)?;
-        next = tables.next_op(variable, Some(at));
+    while let Some(operation) = next {
+        settle_op(tables, scene, variable, operation, changes, work)?;
+        next = tables.next_op(variable, Some(operation.0));
     }
     Ok(())
 }

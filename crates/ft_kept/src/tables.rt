@@ -1,16 +1,16 @@
 //! Tables: the shelves of all attached triggers.
 
-ghost use Rattle.std.specs.Prelude.{◌≡◌, ◌+◌, ◌<◌, ◌≤◌, OnOk, OnErr, OnSome, IfSome, Some, None, true};
+ghost use Rattle.std.specs.Prelude.{◌≡◌, ◌<◌, OnOk, OnErr, OnSome, IfSome, Some, None, true};
 ghost use Rattle.std.specs.Borrow.{LendsSo, sem};
 ghost use Rattle.std.specs.FinMap as map;
 ghost use Rattle.std.specs.Option.{option_copied, option_copied_mut};
-ghost use Rattle.ft_hist.specs.Steps.{StepsGrow};
 ghost use Rattle.ft_pairs.specs.Next.{IsNext};
 ghost use Rattle.ft_pairs.specs.Source.{IsSource};
 ghost use Rattle.ft_pairs.specs.declared.at.Op.TheVariants.{Read};
 ghost use Rattle.ft_shelves.specs.Changes.{is_insert, op_after, set_op};
-ghost use Rattle.ft_shelves.specs.Shelves.{AddsShelf, ChangesShelf, role_on, kept_on};
+ghost use Rattle.ft_shelves.specs.Counts.{PutsAtMost};
 ghost use Rattle.ft_shelves.specs.Edits.{OpsChange};
+ghost use Rattle.ft_shelves.specs.Shelves.{AddsShelf, ChangesShelf, role_on, kept_on};
 ghost use Rattle.ft_shelves.specs.contracts.shelf.Shelf as shelf;
 ghost use Rattle.ft_kept.specs.contracts.tables.Tables.{the_row};
 ghost use Rattle.ft_kept.specs.inner.Edits.{left_on};
@@ -134,12 +134,11 @@ impl Tables {
         requires { is_insert sign ≡ true → (kept_on self.old).ops variable.now at ≡ None }
         ensures ok { OnOk result (ChangesShelf variable.now.saver
             (OpsChange variable.now.key (set_op at (op_after sign Read))) self.old self.new) }
-        ensures puts { work.new.puts ≤ work.old.puts + 1 }
-        ensures evals { work.new.evals ≡ work.old.evals }
-        ensures grow { StepsGrow work.old work.new }
+        ensures work { PutsAtMost 1 work.old work.new }
     {
         match self.shelf_mut(variable.saver) {
             Some(shelf) => shelf.change_op(variable.key, at, Op::Read, sign, work),
+            // A variable whose saver has no shelf has no operations.
             None => Ok(()),
         }
     }

@@ -1,17 +1,14 @@
 //! Laws of made events: functions that do nothing, whose clauses are proved.
 
-ghost use Rattle.ft_made.specs.Laws.{FoundMakeAll, HeldAreCounted, KeptAreTallied, KeysAreTurned};
-ghost use Rattle.ft_made.specs.Laws.{MadeAreCounted, MadeAreTallied, MadeBySpot, MadeHitsAre};
-ghost use Rattle.ft_made.specs.Laws.{MadeInOrder, MadeTablesChange, MadeTablesFit, NamedMakeAll};
-ghost use Rattle.ft_made.specs.Laws.{NoneIsMade, OthersCountNone, ReadingsAreTallied, SameIsMade};
-ghost use Rattle.ft_made.specs.Laws.{PutMadeChanges, SpotsAreDistinct, TablesAreTallied};
-ghost use Rattle.ft_made.specs.Laws.{ReplayedAreInOrder, ReplayedAreTallied, TakeMadeChanges};
-ghost use Rattle.ft_made.specs.Laws.{TurnedButForKeys};
+ghost use Rattle.ft_made.specs.Laws.{FoundMakeAll, HeldAreCounted, KeptAreTallied, KeysAreTurned, MadeAreCounted};
+ghost use Rattle.ft_made.specs.Laws.{MadeAreTallied, MadeBySpot, MadeHitsAre, MadeInOrder, MadeTablesChange};
+ghost use Rattle.ft_made.specs.Laws.{MadeTablesFit, NamedMakeAll, NoneIsMade, OthersCountNone, ReadingsAreTallied};
+ghost use Rattle.ft_made.specs.Laws.{SameIsMade, PutMadeChanges, SpotsAreDistinct, TablesAreTallied};
+ghost use Rattle.ft_made.specs.Laws.{ReplayedAreInOrder, ReplayedAreTallied, TakeMadeChanges, TurnedButForKeys};
 
-/// A law: replaying with made events comes apart into two replays. Tallies of held events and
-/// variables are those of the replay that makes none. Beside them each attached trigger counts the
-/// made events, in order of their spots, and no other id counts any. Events on whose name no
-/// trigger is change nothing; where no trigger makes an event, nothing is counted beside them.
+/// A law: replaying with made events comes apart into two replays. Held events and variables are as
+/// in the one that makes none; beside them each attached trigger, and no other id, counts the made
+/// events in order of their spots.
 pub fn counted_made()
     ensures first { HeldAreCounted }
     ensures second { MadeAreCounted }
@@ -20,18 +17,16 @@ pub fn counted_made()
     ensures idle { NoneIsMade }
 {}
 
-/// A law: the made events are a finite map from spots. At a spot it has what its trigger makes of the
-/// event there and of the saving that its reading finds in the replay that makes none; its entries
-/// are those of all attached triggers at all held events, in order, no two at one spot.
+/// A law: the made events are a finite map from spots, with what a trigger makes there of the event
+/// and of the saving that its reading finds; in order, no two at one spot.
 pub fn made_by_spot()
     ensures events { MadeBySpot }
     ensures order { MadeInOrder }
     ensures distinct { SpotsAreDistinct }
 {}
 
-/// A law: what is made depends on what readings find alone. Where a place keeps its event, its
-/// trigger and the trigger's role, and its reading finds what it found, it makes what it made. And
-/// what is kept of readings makes what the replay makes, where it is what they find.
+/// A law: what is made depends on what readings find alone, at a place that keeps its event, its
+/// trigger and the trigger's role. So what is kept of readings makes what the replay makes.
 pub fn same_made()
     ensures local { SameIsMade }
     ensures kept { FoundMakeAll }
@@ -40,8 +35,7 @@ pub fn same_made()
 }
 
 /// A law: what an attached trigger counts of made events is the tally of the table that its hits
-/// among them make. At each spot and key these are what its hit there adds; and any map that holds
-/// that gives the same tally, also where it is told by what is kept of readings.
+/// among them make, as any map gives it that holds at each spot and key what the hit there adds.
 pub fn tallied_made()
     ensures tally { MadeAreTallied }
     ensures hits { MadeHitsAre }
@@ -52,9 +46,8 @@ pub fn tallied_made()
 }
 
 /// A law: a table that holds just what the events made of kept readings add has the tally that
-/// replaying gives its trigger, where what is kept is what readings find. Its keys fit the trigger.
-/// And as what is made at one spot changes, the table need only change there, as it does where one
-/// made event's hit is put in or taken out.
+/// replaying gives its trigger, where what is kept is what readings find. Its keys fit the trigger,
+/// and as what is made at one spot changes, the table need only change there.
 pub fn made_tables()
     ensures tally { TablesAreTallied }
     ensures fit { MadeTablesFit }

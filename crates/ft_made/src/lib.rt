@@ -1,11 +1,10 @@
 //! Events that readings make: a trigger that reads may make one at each latency that it measures,
 //! and it goes past the attached triggers at once.
 //!
-//! The laws say that replaying with made events is two replays, one after the other: the held
-//! events go past as if none were made, and what their readings find says which events are made;
-//! these are counted in order of their spots. So a trigger that counts made events needs no replay:
-//! its table is made of what is kept of readings. As readings change, it changes at their places
-//! alone; the changes also tell the keys whose hits change.
+//! Replaying with made events is two replays, one after the other: the held events go past as if
+//! none were made, and what their readings find says which events are made. So a trigger that counts
+//! made events needs no replay: its table is made of what is kept of readings, and as these change,
+//! it changes at their places alone.
 //!
 //! ```ignore
 //! let mut table = made_table(rt.alloc(), lanes, triggers, &readings, trigger, &mut work)?;

@@ -70,18 +70,11 @@ fn changes_to(alloc: Global, id: u32, pairs: &[Pair]) -> Result<Vec<ReadingChang
 {
     pairs
         .iter()
-        .map(|pair| first_change(id, *pair))
+        .map(|pair| ReadingChange {
+            id,
+            pos: pair.read,
+            before: None,
+            after: Some(pair.saved),
+        })
         .collect(alloc)
-}
-
-/// A reading that had found nothing finds a saving.
-fn first_change(id: u32, pair: Pair) -> ReadingChange
-    ensures { result ≡ first_change id pair }
-{
-    ReadingChange {
-        id,
-        pos: pair.read,
-        before: None,
-        after: Some(pair.saved),
-    }
 }

@@ -1,11 +1,10 @@
 //! Tables of made events, turned from what readings had found to what they find.
 
-ghost use Rattle.std.specs.Prelude.{◌≡◌, ◌+◌, ◌≤◌, ◌==◌, ◌++◌, [], if◌then◌else◌};
-ghost use Rattle.std.specs.Prelude.{IfSome, Ok, OnOk, OnErr, Some, None};
+ghost use Rattle.std.specs.Prelude.{◌≡◌, ◌+◌, ◌≤◌, ◌==◌, ◌++◌, [], IfSome, Ok, OnOk, OnErr, Some, None};
 ghost use Rattle.std.specs.Option.{option_map_or};
 ghost use Rattle.ft_hist.specs.Steps.{StepsGrow};
 ghost use Rattle.ft_hist.specs.Tests.{tests_taken};
-ghost use Rattle.ft_replay.specs.Merged.{merged, held_at};
+ghost use Rattle.ft_replay.specs.Merged.{merged};
 ghost use Rattle.ft_made.specs.MadeTables.{IsFreeAt, with_made, without_made};
 ghost use Rattle.ft_made.specs.Turning.{CanTurn, HasTurned, keys_of_made, keys_turned, made_as};
 
@@ -157,29 +156,8 @@ fn made_of_change(
     let maker = triggers.get(change.id)?;
     maker.onmatch()?;
     let saved = found?;
-    let event = event_on(lanes, change.pos)?;
+    let event = lanes
+        .get(change.pos.cpu, change.pos.line)
+        .filter(|event| event.stamp == change.pos.stamp)?;
     maker.made(&event, saved)
-}
-
-/// The event that is held at a place.
-fn event_on(lanes: &Lanes, pos: Pos) -> Option<Event>
-    ensures held { result ≡ held_at lanes.now pos }
-    ensures stamped { IfSome result (λ event. pos.stamp ≡ event.stamp) }
-{
-    match lanes.get(pos.cpu, pos.line) {
-        Some(event) => on_stamp(event, pos.stamp),
-        None => None,
-    }
-}
-
-/// The event, where it has this stamp.
-fn on_stamp(event: Event, stamp: u64) -> Option<Event>
-    ensures held { result ≡ (if event.stamp == stamp then Some event else None) }
-    ensures stamped { IfSome result (λ event. stamp ≡ event.stamp) }
-{
-    if event.stamp == stamp {
-        Some(event)
-    } else {
-        None
-    }
 }

@@ -25,6 +25,8 @@ mod memory;
 #[cfg(test)]
 mod pairs;
 #[cfg(test)]
+mod samples;
+#[cfg(test)]
 mod script;
 #[cfg(test)]
 mod store;

@@ -4,37 +4,12 @@ mod filters;
 mod making;
 mod reading;
 
+use crate::samples::{comm_of, item, waking};
 use ft_event::{Body, Comm, Event, Field, Name, Wake};
 use ft_filter::FilterFault;
 use ft_trigger::*;
 use std::alloc::{AllocError, Global};
 use std::test::*;
-
-/// A text of at most 31 bytes.
-fn comm_of(text: &str) -> Result<Comm, &'static str> {
-    Comm::of(text.as_bytes()).ok_or("the text is too long for a name")
-}
-
-/// A waking of `w` with such a PID and priority, traced on CPU 3 under PID 7.
-fn waking(pid: i32, prio: i32) -> Result<Event, &'static str> {
-    Ok(Event {
-        task: comm_of("idle")?,
-        pid: 7,
-        cpu: 3,
-        stamp: 1_000_000,
-        body: Body::Waking(Wake {
-            comm: comm_of("w")?,
-            pid,
-            prio,
-            target_cpu: 0,
-        }),
-    })
-}
-
-/// A key item.
-fn item(field: Field, mode: Mode) -> KeyItem {
-    KeyItem { field, mode }
-}
 
 /// What a text is answered: the canonical text of the trigger that it gives, or the first fault.
 type Answer = Result<&'static str, TriggerFault>;

@@ -12,12 +12,14 @@ use Rattle.std.proofs.lemmas.Bool.{eqb-true, true≢false}
 use Rattle.std.proofs.lemmas.List.Sums.{sum_by-cons}
 use Rattle.std.proofs.lemmas.Map.Keys.{sorted_tail}
 use Rattle.ft_fields.specs.Traced.{Traced, name_of}
+use Rattle.ft_fields.specs.declared.event.Name.{Name}
 use Rattle.ft_fields.specs.declared.pos.Pos.{Pos}
 use Rattle.ft_hist.specs.Hist.{Hist}
 use Rattle.ft_hist.specs.Hit.{same_name}
 use Rattle.ft_hist.specs.Tests.{tests_taken}
 use Rattle.ft_lanes.specs.Held.{Lanes}
 use Rattle.ft_maps.specs.Entries.{same_from_tie, strictly_sorted}
+use Rattle.ft_maps.specs.Mapped.{entries_by}
 use Rattle.ft_pairs.specs.declared.at.At.{At}
 use Rattle.ft_kept.specs.Acts.{Acts, acts_of}
 use Rattle.ft_kept.specs.Input.{input_of}
@@ -27,6 +29,9 @@ use Rattle.ft_base.specs.Roles.{role_of}
 use Rattle.ft_base.proofs.Apart.{entries_found}
 use Rattle.ft_answers.specs.Costs.{named_in}
 use Rattle.ft_replay.specs.Merged.{merged}
+use Rattle.ft_replay.specs.Named.{events_on}
+use Rattle.ft_store.specs.Stored.{held}
+use Rattle.ft_store.specs.declared.stored.Stored.{Stored}
 use Rattle.ft_replay.proofs.Places.{none_later}
 use Rattle.ft_repair.specs.Outside.{acts_outside}
 use Rattle.ft_repair.specs.inner.Joining.{AreRenewed, HasNewShelf, is_one, with_trigger}
@@ -34,6 +39,7 @@ use Rattle.ft_repair.specs.inner.KeptFor.{AreKeptFor}
 use Rattle.ft_repair.proofs.Alike.{no_act_of}
 use Rattle.ft_repair.proofs.KeptFor.{input_is, told_for}
 use Rattle.ft_repair.proofs.OneTrigger.{own_events}
+use Rattle.ft_repair.proofs.Unpacked.{all_of_them}
 
 -- ---- new shelves, one by one
 
@@ -223,6 +229,14 @@ module _ {triggers : Triggers} {lanes : Lanes} {family : ℕ → Bool} {e : ℕ 
 -- how many events are on a name
 pub named_count : (lanes : Lanes) (hist : Hist) → named_in lanes hist ≡ length (map.entries (own_events lanes hist))
 named_count lanes hist = len-entries (own_events lanes hist)
+
+-- and how many references to them there are
+pub own_count : (lanes : Lanes) (hist : Hist) (names : Name → Bool) → names ≡ same_name hist.event → (items : List (Pos × Stored))
+    → entries_by held items ≡ map.entries (events_on names (merged lanes)) → length items ≡ named_in lanes hist
+own_count lanes hist names named items all =
+    sym (all_of_them items)
+    ∙ ap (λ (es : List (Pos × Traced)). length es) (all ∙ ap (λ (some : Name → Bool). map.entries (events_on some (merged lanes))) named)
+    ∙ sym (named_count lanes hist)
 
 -- one event, one test at most
 pub asked_once : (hist : Hist) (event : Traced) → tests_taken hist event ≤ 1

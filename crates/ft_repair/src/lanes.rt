@@ -71,13 +71,10 @@ pub fn let_lanes_come(
     let Ok(events) = merged_events_but(alloc, scene.lanes, scene.triggers, before) else {
         return;
     };
-    for (pos, stored) in &events {
-        let event = stored.event();
-        let delta = Delta {
-            sign: Sign::Insert,
-            pos: *pos,
-            event: &event,
-        };
+    let sign = Sign::Insert;
+    for &(pos, stored) in &events {
+        let event = &stored.event();
+        let delta = Delta { sign, pos, event };
         if let Err(_) = tables.apply(&scene, &delta, changes, work) {
             return;
         }

@@ -1,11 +1,8 @@
 //! Kept shelves that follow the base: repaired as events come and go, as triggers join and leave,
-//! or built anew. No repair replays the events.
-//!
-//! One event more or less changes a few entries. A trigger that joins or leaves lets the shelves of
-//! the others stay as they are; one that gets another filter all but its own and those of the
-//! triggers that read what it saves. A reader takes readings from the others that read its
-//! variable, or leaves them to those: there a few entries change. Where memory runs out, the
-//! shelves are given up. Where there are none, each of these calls but `restore` leaves it so.
+//! or built anew. No repair replays the events: one event more or less changes a few entries, and a
+//! trigger that joins, leaves or gets another filter lets the shelves of most others stay as they
+//! are. Where memory runs out, the shelves are given up. Where there are none, each of these calls
+//! but `restore` leaves it so.
 //!
 //! ```ignore
 //! let mut kept = Some(Tables::new(alloc));
@@ -57,15 +54,12 @@
 //!   replaying gives. Each one's table is made of its trigger's hits in the whole replay, which are
 //!   of events of the trace; its readings found there what is kept of them; the operations kept on
 //!   a variable are those of the replay (`specs/KeptShelves.antt`).
-//! - Law `others_stay`: a trigger that reads nothing keeps its table, whatever other triggers come,
-//!   go or get another filter.
-//! - Law `readers_stay`: a trigger that reads keeps its table and what its readings found, whatever
-//!   other triggers come, go or get another filter, where its saver stays and the same triggers
-//!   read that (`specs/Staying.antt`); the operations on what such a saver saves stay too. So
-//!   another filter of one trigger leaves each reader's table and readings as they are, except
-//!   where that trigger is the saver or reads it. Lets through: any change of other readers of a
-//!   variable as one of them comes, goes or gets another filter, since what this one reads, they
-//!   miss.
+//! - Laws `others_stay`, `readers_stay`: whatever other triggers come, go or get another filter, a
+//!   trigger that reads nothing keeps its table. One that reads keeps its table and what its
+//!   readings found, where its saver stays and the same triggers read that (`specs/Staying.antt`),
+//!   so where the other filter is neither the saver's nor one of theirs; the operations on what
+//!   such a saver saves stay too. Let through: any change of the other readers of a variable as one
+//!   of them comes, goes or gets another filter, since what this one reads, they miss.
 //!
 //! That the shelves outside stay as they are while a family gets new ones is a clause of the
 //! private `renew_shelves`.

@@ -22,14 +22,12 @@ fn rebuilt(alloc: Global, scene: &Scene<'_>, work: &mut Work) -> Result<Tables, 
     ensures kept { IfOk result (AreKept (triggers_of scene.now) (merged scene.now.lanes.now)) }
     ensures grow { StepsGrow work.old work.new }
 {
+    let scene = *scene;
     let events = merged_events(alloc, scene.lanes, scene.triggers)?;
     let mut tables = new_tables(alloc, scene.triggers)?;
     for (id, trigger) in scene.triggers.iter() {
-        let member = Member {
-            scene: *scene,
-            id: *id,
-            trigger,
-        };
+        let id = *id;
+        let member = Member { scene, id, trigger };
         member.put_events(&mut tables, alloc, &events, work)?;
     }
     Ok(tables)
@@ -40,9 +38,8 @@ fn new_tables(alloc: Global, triggers: &Triggers) -> Result<Tables, AllocError>
     ensures { IfOk result (AreRenewed triggers.now (λ _. true) map.empty) }
 {
     let mut tables = Tables::new(alloc);
-    for (id, attached) in triggers.iter() {
-        let role = role_of(triggers, attached.variable());
-        tables.add(*id, role, attached.size())?;
+    for (id, trigger) in triggers.iter() {
+        tables.add(*id, role_of(triggers, trigger.variable()), trigger.size())?;
     }
     Ok(tables)
 }
@@ -65,8 +62,5 @@ pub fn restore(kept: &mut Option<Tables>, alloc: Global, content: &Content, work
     ensures kept { IfSome kept.new (AreKeptOf content.now) }
     ensures grow { StepsGrow work.old work.new }
 {
-    *kept = match rebuilt(alloc, &scene_of(content), work) {
-        Ok(tables) => Some(tables),
-        Err(_) => None,
-    };
+    *kept = rebuilt(alloc, &scene_of(content), work).ok();
 }

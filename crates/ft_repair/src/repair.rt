@@ -7,8 +7,7 @@ ghost use Rattle.ft_kept.specs.Changes.{HasToldFew};
 ghost use Rattle.ft_kept.specs.Repairs.{IsHeldAt};
 ghost use Rattle.ft_kept.specs.Shelves.{FormsStay};
 ghost use Rattle.ft_answers.specs.Deferral.{IsPlainHit};
-ghost use Rattle.ft_repair.specs.OneEvent.{AreKeptBefore, AreKeptAfter};
-ghost use Rattle.ft_repair.specs.OneEvent.{ChangeCosts, EventNeedsNoMemory};
+ghost use Rattle.ft_repair.specs.OneEvent.{AreKeptBefore, AreKeptAfter, ChangeCosts, EventNeedsNoMemory};
 ghost use Rattle.ft_repair.specs.Repaired.{IfBoth};
 
 use crate::scene::scene_of;

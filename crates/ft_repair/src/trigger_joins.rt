@@ -7,11 +7,11 @@ ghost use Rattle.ft_maps.specs.Mapped.{entries_by};
 ghost use Rattle.ft_store.specs.Stored.{held};
 ghost use Rattle.ft_base.specs.OneTrigger.{is_kin, is_in_family};
 ghost use Rattle.ft_base.specs.Reachable.{HasSavers};
-ghost use Rattle.ft_answers.specs.Costs.{named_in, family_tests};
+ghost use Rattle.ft_answers.specs.Costs.{family_tests};
 ghost use Rattle.ft_replay.specs.Merged.{merged};
 ghost use Rattle.ft_repair.specs.KeptShelves.{AreKept, AreKeptOf};
 ghost use Rattle.ft_repair.specs.Outside.{AreKeptOutside};
-ghost use Rattle.ft_repair.specs.inner.Joining.{AreRenewed, CanJoin, HasItsActs, CanJoinWith};
+ghost use Rattle.ft_repair.specs.inner.Joining.{AreRenewed, HasItsActs, CanJoinWith};
 
 use crate::scene::{Member, scene_of};
 use ft_base::{Content, role_of};
@@ -49,28 +49,26 @@ fn join_family(
     tables: &mut Tables,
     alloc: Global,
     scene: &Scene<'_>,
-    id: u32,
+    head: u32,
     work: &mut Work,
 ) -> Result<(), AllocError>
     requires savers { HasSavers (triggers_of scene.now) }
-    requires outside { AreKeptOutside (is_in_family (triggers_of scene.now) id)
+    requires outside { AreKeptOutside (is_in_family (triggers_of scene.now) head)
         (triggers_of scene.now) scene.now.lanes.now tables.old }
     ensures kept { OnOk result (AreKept (triggers_of scene.now) (merged scene.now.lanes.now)
         tables.new) }
     ensures evals { work.new.evals
-        ≤ work.old.evals + family_tests (triggers_of scene.now) scene.now.lanes.now id }
+        ≤ work.old.evals + family_tests (triggers_of scene.now) scene.now.lanes.now head }
     ensures grow { StepsGrow work.old work.new }
 {
-    renew_shelves(tables, scene.triggers, id)?;
-    for (other, trigger) in scene.triggers.iter() {
-        let role = role_of(scene.triggers, trigger.variable());
-        if is_kin(id, *other, role) {
-            let member = Member {
-                scene: *scene,
-                id: *other,
-                trigger,
-            };
-            member.put_acts(tables, alloc, work)?;
+    let scene = *scene;
+    renew_shelves(tables, scene.triggers, head)?;
+    for (id, trigger) in scene.triggers.iter() {
+        let id = *id;
+        if is_kin(head, id, role_of(scene.triggers, trigger.variable())) {
+            let member = Member { scene, id, trigger };
+            let events = events_with(alloc, scene.lanes, Names::only(trigger.event()))?;
+            member.put_events(tables, alloc, &events, work)?;
         }
     }
     Ok(())
@@ -88,39 +86,20 @@ fn is_kin(id: u32, other: u32, role: Role) -> bool
 
 /// Gives a trigger and those that read what it saves shelves without hits, in place of theirs.
 /// Refused for memory.
-fn renew_shelves(tables: &mut Tables, triggers: &Triggers, id: u32) -> Result<(), AllocError>
-    ensures { OnOk result (AreRenewed triggers.now (is_in_family triggers.now id)
+fn renew_shelves(tables: &mut Tables, triggers: &Triggers, head: u32) -> Result<(), AllocError>
+    ensures { OnOk result (AreRenewed triggers.now (is_in_family triggers.now head)
         tables.old tables.new) }
 {
-    for (other, attached) in triggers.iter() {
-        let role = role_of(triggers, attached.variable());
-        if is_kin(id, *other, role) {
-            tables.add(*other, role, attached.size())?;
+    for (id, trigger) in triggers.iter() {
+        let role = role_of(triggers, trigger.variable());
+        if is_kin(head, *id, role) {
+            tables.add(*id, role, trigger.size())?;
         }
     }
     Ok(())
 }
 
 impl<'a> Member<'a> {
-    /// The events on the trigger's name come to it, in merged order. Refused for memory, and then
-    /// the tables are of no use any more.
-    fn put_acts(
-        &self,
-        tables: &mut Tables,
-        alloc: Global,
-        work: &mut Work,
-    ) -> Result<(), AllocError>
-        requires { CanJoin self.now tables.old }
-        ensures joined { OnOk result (HasItsActs self.now tables.old tables.new) }
-        ensures evals { work.new.evals
-            ≤ work.old.evals + named_in self.now.scene.lanes.now self.now.trigger.now }
-        ensures grow { StepsGrow work.old work.new }
-    {
-        let names = Names::only(self.trigger.event());
-        let events = events_with(alloc, self.scene.lanes, names)?;
-        self.put_events(tables, alloc, &events, work)
-    }
-
     /// The events of a list that the trigger counts come to it: at once where nothing is kept of it
     /// yet, else one by one. Refused for memory, and then the tables are of no use any more.
     pub(crate) fn put_events(
@@ -141,13 +120,10 @@ impl<'a> Member<'a> {
             return tables.acts_come(scene.triggers, trigger, id, &groups, work);
         }
         let attached = Attached { id, trigger };
-        for (pos, stored) in events {
-            let event = stored.event();
-            let delta = Delta {
-                sign: Sign::Insert,
-                pos: *pos,
-                event: &event,
-            };
+        let sign = Sign::Insert;
+        for &(pos, stored) in events {
+            let event = &stored.event();
+            let delta = Delta { sign, pos, event };
             tables.apply_to(&scene, &attached, &delta, &mut Changes::unasked(), work)?;
         }
         Ok(())

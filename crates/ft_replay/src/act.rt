@@ -53,6 +53,7 @@ impl<'a> Act<'a> {
         };
         match counters.get_mut(&self.at.trigger) {
             Some(counter) => self.count(key, counter, saved, work),
+            // Each attached trigger has a counter.
             None => Ok(()),
         }
     }

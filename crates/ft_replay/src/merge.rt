@@ -98,6 +98,7 @@ fn walked_places(lanes: &Lanes, but: &[u16]) -> u32 {
     if count < lanes.stored() as u64 / 8 {
         return 0;
     }
+    // The store has fewer places than 32 bits count.
     u32::try_from(lanes.stored()).unwrap_or(u32::MAX)
 }
 

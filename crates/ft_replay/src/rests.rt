@@ -121,6 +121,7 @@ impl<'a> Rests<'a> {
             return Ok(());
         }
         self.by_cpu.resize(usize::from(cpu), NO_REST)?;
+        // There are fewer CPUs than numbers; a lane without one would be listed at the end.
         self.by_cpu
             .push(u16::try_from(self.rests.len()).unwrap_or(NO_REST))?;
         self.rests.push(Rest::new(cpu, lane.lines()))?;

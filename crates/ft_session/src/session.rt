@@ -17,7 +17,7 @@ ghost use Rattle.ft_session.specs.Calls.{AnswersTotals, AnswersText, AnswersRows
 ghost use Rattle.ft_session.specs.Calls.{AnswersPairs, ReadsText, ReadsPlaces};
 ghost use Rattle.ft_session.specs.Calls.{ReadsTriggers, ReadsEvent};
 
-use crate::told::{accept, all_told, refuse, told};
+use crate::told::{accept, all_told, hold, refuse, told};
 use ft_answers::{AttachedTrigger, Changed, Edited, Pair, Refused, Row};
 use ft_board::KeptBoard;
 use ft_desk::Desk;
@@ -188,14 +188,8 @@ impl Session {
         ensures { AnswersText (hist_text self.old.desk.base id)
             self.old length.old result length.new self.new }
     {
-        match self.desk.hist(id) {
-            Ok(text) => {
-                *length = text.len() as u64;
-                self.text = text;
-                accept(&mut self.refused)
-            }
-            Err(why) => refuse(&mut self.refused, why),
-        }
+        let answer = self.desk.hist(id);
+        hold(answer, &mut self.text, length, &mut self.refused)
     }
 
     /// Asks for the rows of a trigger's table: how many they are. Refused as `Desk::counts` is.
@@ -204,14 +198,8 @@ impl Session {
         ensures { AnswersRows (counts_shown self.old.desk.base id)
             self.old count.old result count.new self.new }
     {
-        match self.desk.counts(id) {
-            Ok(rows) => {
-                *count = rows.len() as u64;
-                self.rows = rows;
-                accept(&mut self.refused)
-            }
-            Err(why) => refuse(&mut self.refused, why),
-        }
+        let answer = self.desk.counts(id);
+        hold(answer, &mut self.rows, count, &mut self.refused)
     }
 
     /// Asks for what the readings of a trigger found: how many they are. Refused as `Desk::pairs` is.
@@ -220,14 +208,8 @@ impl Session {
         ensures { AnswersPairs (pairs_shown self.old.desk.base id)
             self.old count.old result count.new self.new }
     {
-        match self.desk.pairs(id) {
-            Ok(pairs) => {
-                *count = pairs.len() as u64;
-                self.pairs = pairs;
-                accept(&mut self.refused)
-            }
-            Err(why) => refuse(&mut self.refused, why),
-        }
+        let answer = self.desk.pairs(id);
+        hold(answer, &mut self.pairs, count, &mut self.refused)
     }
 
     /// Asks for the text of a CPU's lane: its length in bytes. Refused as `Desk::list` is.
@@ -236,14 +218,8 @@ impl Session {
         ensures { ReadsText (list_text self.old.desk.base cpu)
             self.old length.old result length.new self.new }
     {
-        match self.desk.list(cpu) {
-            Ok(text) => {
-                *length = text.len() as u64;
-                self.text = text;
-                accept(&mut self.refused)
-            }
-            Err(why) => refuse(&mut self.refused, why),
-        }
+        let answer = self.desk.list(cpu);
+        hold(answer, &mut self.text, length, &mut self.refused)
     }
 
     /// Asks for the canonical text of a trigger: its length in bytes. Refused as `Desk::trigger_text`
@@ -253,14 +229,8 @@ impl Session {
         ensures { ReadsText (trigger_text self.old.desk.base id)
             self.old length.old result length.new self.new }
     {
-        match self.desk.trigger_text(id) {
-            Ok(text) => {
-                *length = text.len() as u64;
-                self.text = text;
-                accept(&mut self.refused)
-            }
-            Err(why) => refuse(&mut self.refused, why),
-        }
+        let answer = self.desk.trigger_text(id);
+        hold(answer, &mut self.text, length, &mut self.refused)
     }
 
     /// Asks for the places of all held events: how many they are. Refused as `Desk::events` is.
@@ -269,14 +239,8 @@ impl Session {
         ensures { ReadsPlaces (Ok (places self.old.desk.base.lanes))
             self.old count.old result count.new self.new }
     {
-        match self.desk.events() {
-            Ok(places) => {
-                *count = places.len() as u64;
-                self.places = places;
-                accept(&mut self.refused)
-            }
-            Err(why) => refuse(&mut self.refused, why),
-        }
+        let answer = self.desk.events();
+        hold(answer, &mut self.places, count, &mut self.refused)
     }
 
     /// Asks for the places of a CPU's events from a line on: how many they are. Refused as `Desk::lane`
@@ -286,14 +250,8 @@ impl Session {
         ensures { ReadsPlaces (lane_found self.old.desk.base cpu line)
             self.old count.old result count.new self.new }
     {
-        match self.desk.lane(cpu, line) {
-            Ok(places) => {
-                *count = places.len() as u64;
-                self.places = places;
-                accept(&mut self.refused)
-            }
-            Err(why) => refuse(&mut self.refused, why),
-        }
+        let answer = self.desk.lane(cpu, line);
+        hold(answer, &mut self.places, count, &mut self.refused)
     }
 
     /// Asks for the places of the events of a name on which a filter holds: how many they are. Refused
@@ -303,14 +261,8 @@ impl Session {
         ensures { ReadsPlaces (matching_found self.old.desk.base event filter.now)
             self.old count.old result count.new self.new }
     {
-        match self.desk.matching(event, filter) {
-            Ok(places) => {
-                *count = places.len() as u64;
-                self.places = places;
-                accept(&mut self.refused)
-            }
-            Err(why) => refuse(&mut self.refused, why),
-        }
+        let answer = self.desk.matching(event, filter);
+        hold(answer, &mut self.places, count, &mut self.refused)
     }
 
     /// Asks for the attached triggers: how many they are. Refused as `Desk::attached` is.
@@ -319,14 +271,8 @@ impl Session {
         ensures { ReadsTriggers (Ok (attached_in self.old.desk.base.triggers))
             self.old count.old result count.new self.new }
     {
-        match self.desk.attached() {
-            Ok(attached) => {
-                *count = attached.len() as u64;
-                self.attached = attached;
-                accept(&mut self.refused)
-            }
-            Err(why) => refuse(&mut self.refused, why),
-        }
+        let answer = self.desk.attached();
+        hold(answer, &mut self.attached, count, &mut self.refused)
     }
 
     /// The event of a CPU's line. Refused as `Desk::event` is.

@@ -2,6 +2,7 @@
 
 ghost use Rattle.std.specs.Prelude.{◌≡◌, [], Some, None, unwrap_or, option_map};
 ghost use Rattle.ft_base.specs.Refused.{refused_number};
+ghost use Rattle.ft_session.specs.Told.{answer_told, code_of, IsSized};
 
 use ft_answers::{Changed, Refused};
 
@@ -21,6 +22,28 @@ pub(crate) fn refuse(refused: &mut Option<Refused>, why: Refused) -> u32
 {
     *refused = Some(why);
     u32::from(why.number())
+}
+
+/// Holds the list that answers a question, and tells its size: the code 0. Of a refused question the
+/// refusal is noted, and what was held stays: the refusal's number.
+pub(crate) fn hold<T: Drop>(
+    answer: Result<Vec<T>, Refused>,
+    held: &mut Vec<T>,
+    size: &mut u64,
+    refused: &mut Option<Refused>,
+) -> u32
+    ensures answer { answer ≡ answer_told refused.new held.new }
+    ensures code { result ≡ code_of refused.new }
+    ensures size { IsSized refused.new held.old size.old held.new size.new }
+{
+    match answer {
+        Ok(list) => {
+            *size = list.len() as u64;
+            *held = list;
+            accept(refused)
+        }
+        Err(why) => refuse(refused, why),
+    }
 }
 
 /// The rows that are told, if they are.

@@ -1,9 +1,7 @@
 -- How the operations on what a saver saves follow the keys of its table.
-use Rattle.std.specs.Prelude.{◌≡◌, ◌&&◌, ℕ, Bool, true, List, Option, Some, None, is_some, if◌then◌else◌, refl}
-use Rattle.std.specs.Coded.{Coded, code_by, coded×, coded_bool, coded_list, coded_option}
+use Rattle.std.specs.Prelude.{◌≡◌, ◌&&◌, ℕ, Bool, true, List, Some, None, is_some, if◌then◌else◌}
 use Rattle.std.specs.Ordering.{nat_cmp, eq_by_cmp}
 use Rattle.std.specs.FinMap as map
-use Rattle.ft_fields.specs.contracts.key.Part as part
 use Rattle.ft_fields.specs.declared.key.Part.{Part}
 use Rattle.ft_pairs.specs.ByKey.{ops_of}
 use Rattle.ft_pairs.specs.Edits.{reads_alone}
@@ -18,6 +16,7 @@ use Rattle.ft_shelves.specs.Switches.{differ, Members}
 use Rattle.ft_shelves.specs.Shelves.{Shelved}
 use Rattle.ft_shelves.specs.declared.change.HitChange.{HitChange}
 use Rattle.ft_shelves.specs.declared.change.HitChange.TheVariants as changes
+use Rattle.ft_shelves.specs.declared.saver.Moved.{Moved}
 
 -- the operations on a key's variable with a save at each hit of the key (kernel: histogram.rst, inter-event hist triggers)
 abbrev pub with_saves : Hits → ℕ → List Part → Ops → Ops
@@ -45,17 +44,8 @@ pub record HitFollows (id : ℕ) (change : HitChange) (old new : Shelved) : Type
   pub shelf : new ≡ record (with_change change old) { ops = new.ops }
   pub ops : (key : List Part) (q : At) → ops_of new.ops key q ≡ followed old.table new.table id change key (ops_of old.ops key) q
 
--- which keys came in or went out, as hits of one key changed: whether the key itself did, and which other did, if one did
-pub record Moves : Type 0 where
-  pub own : Bool
-  pub other : Option (List Part)
-
--- moves, stored as their parts
-abbrev pub moves_code : Coded Moves
-moves_code = code_by (Bool × Option (List Part)) (coded× coded_bool (coded_option (coded_list part.the_row.coded))) (λ m. (m.own, m.other)) (λ p. record { own = p.0; other = p.1 }) (λ _. refl)
-
 -- of all keys, these came in or went out as hits of one key changed, and no others
-pub record MovesKeys (key : List Part) (moves : Moves) (was now : Members) : Type 0 where
+pub record MovesKeys (key : List Part) (moves : Moved) (was now : Members) : Type 0 where
   pub itself : moves.own ≡ differ (was key) (now key)
   pub moved : (k : List Part) → moves.other ≡ Some k → differ (was k) (now k) ≡ true
   pub stayed : (k : List Part) → (k ≡ key → ⊥) → (moves.other ≡ Some k → ⊥) → now k ≡ was k

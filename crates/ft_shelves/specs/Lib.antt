@@ -1,4 +1,5 @@
 pub mod Changes
+pub mod Counts
 pub mod Edits
 pub mod Following
 pub mod Joining

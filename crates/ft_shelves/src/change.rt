@@ -30,12 +30,9 @@ impl HitChange {
     pub fn mark(&self) -> Mark
         ensures { result ≡ change_mark self.now }
     {
-        match self {
-            HitChange::Insert(hit) => Mark {
-                spot: hit.spot,
-                key: hit.key,
-            },
-            HitChange::Retract(mark) => *mark,
+        match *self {
+            HitChange::Insert(Hit { spot, key, .. }) => Mark { spot, key },
+            HitChange::Retract(mark) => mark,
         }
     }
 }

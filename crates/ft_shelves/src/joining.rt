@@ -3,14 +3,16 @@
 
 ghost use Rattle.std.specs.Prelude.{◌≡◌, List, None, OnOk, IfOk};
 ghost use Rattle.std.specs.FinMap as map;
-ghost use Rattle.ft_hist.specs.Steps.{StepsGrow};
 ghost use Rattle.ft_groups.specs.Grouped.{run_of};
 ghost use Rattle.ft_fields.specs.declared.key.Part.{Part};
 ghost use Rattle.ft_pairs.specs.ByKey.{ops_of};
 ghost use Rattle.ft_pairs.specs.declared.at.At.{At};
+ghost use Rattle.ft_pairs.specs.declared.at.Op.TheVariants.{Save};
 ghost use Rattle.ft_shelves.specs.Joining.{AreGroupsOf, HasGroups, HasSaves, hits_of_run, saves_of_run};
+ghost use Rattle.ft_shelves.specs.Counts.{TestsNone};
 
 use crate::sums::sums_at;
+use ft_fields::Pos;
 use ft_groups::Groups;
 use ft_hist::{Key, Trigger, Triggers, Work};
 use ft_pairs::{At, Op, Pairs};
@@ -42,8 +44,7 @@ pub(crate) fn put_groups(
     requires grouped { AreGroupsOf joining.now.trigger.now joining.now.groups.now }
     ensures ok { OnOk result (HasGroups joining.now.trigger.now joining.now.groups.now
         table.old table.new) }
-    ensures evals { work.new.evals ≡ work.old.evals }
-    ensures grow { StepsGrow work.old work.new }
+    ensures work { TestsNone work.old work.new }
 {
     for key in joining.groups.keys() {
         let run = hits_of(joining, key)?;
@@ -63,8 +64,7 @@ pub(crate) fn save_groups(
     requires free { (key : List Part) (at : At) → ops_of pairs.old key at ≡ None }
     requires grouped { AreGroupsOf joining.now.trigger.now joining.now.groups.now }
     ensures ok { OnOk result (HasSaves joining.now.id joining.now.groups.now table.now pairs.new) }
-    ensures evals { work.new.evals ≡ work.old.evals }
-    ensures grow { StepsGrow work.old work.new }
+    ensures work { TestsNone work.old work.new }
 {
     for key in joining.groups.keys() {
         if table.is_in(key) {
@@ -96,13 +96,14 @@ fn saves_of(joining: &Joining<'_, '_>, key: &Key) -> Result<Vec<(At, Op)>, Alloc
         ≡ saves_of_run joining.now.id (run_of joining.now.groups.now key.now)) }
 {
     let run = joining.groups.run(key);
-    let mut saves = Vec::with_capacity(joining.alloc, run.len())?;
-    for event in run {
-        let at = At {
-            pos: event.0,
-            trigger: joining.id,
-        };
-        saves.push((at, Op::Save))?;
-    }
-    Ok(saves)
+    run.iter()
+        .map(|event| save_at(joining.id, event.0))
+        .collect(joining.alloc)
+}
+
+/// The save of a trigger at a place.
+fn save_at(trigger: u32, pos: Pos) -> (At, Op)
+    ensures { result ≡ (record { pos = pos; trigger = trigger }, Save) }
+{
+    (At { pos, trigger }, Op::Save)
 }

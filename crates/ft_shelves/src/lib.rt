@@ -17,31 +17,29 @@
 //!
 //! # Contracts
 //!
-//! - `Shelf::new`, `role`, `table`, `readings`, `take_hit`: contracts see a *shelf*
-//!   (`specs/Shelves.antt`): what the trigger does with its variable, its table's hits and size, the
-//!   operations on what it saves, and what each of its readings found. Exact.
+//! Contracts see a *shelf* (`specs/Shelves.antt`): what the trigger does with its variable, its
+//! table's hits and size, the operations on what it saves, and what each of its readings found. What
+//! an edit doesn't name stays, and none tests an event (`specs/Counts.antt`). An edit that answers a
+//! `Result` lets through: running out of memory at any time, and then nothing is said of the shelf;
+//! and any number of puts where none is named.
+//!
+//! - `Shelf::new`, `role`, `table`, `readings`, `take_hit`, `source`, `next_op`: exact.
 //! - `HitChange::sign`, `mark`, `Sign::is_insert`: exact (`specs/Changes.antt`). A *hit change* is
 //!   one hit that comes, or the mark of one that goes.
 //! - `Shelf::change_hit`, `change_op`: a hit that reads nothing, or an operation, comes where none
-//!   stands or goes, and all else stays (`specs/Changes.antt`). One that comes takes one put at most,
-//!   and lets through: running out of memory, and then nothing is said of the shelf. One that goes
-//!   takes none and needs no memory.
-//! - `Shelf::put_hit`, `set_readings`: one more hit and what it read; other readings
-//!   (`specs/Edits.antt`, `specs/Joining.antt`). All else stays. Lets through: running out of memory
-//!   at any time, and then nothing is said of the shelf.
-//! - `Shelf::put_reads`, `source`, `next_op`: reads of one key come, or its operations are looked
-//!   up, as `ft_pairs` says it, and all else stays. `put_reads` lets through: running out of memory
-//!   at any time, and then nothing is said of the shelf.
+//!   stands or goes (`specs/Changes.antt`). One that comes takes one put at most; one that goes takes
+//!   none and needs no memory.
+//! - `Shelf::put_hit`, `put_reads`, `set_readings`: one more hit and what it read, at one put at
+//!   most; reads of one key, as `ft_pairs` says it, at one put each; other readings
+//!   (`specs/Edits.antt`, `specs/Joining.antt`).
 //! - `change_saver_hit`: a saver's hit comes or goes, and the operations follow the keys of its
 //!   table: of a key that comes in each hit saves, of one that goes out none does; the reads stay
-//!   (`specs/Following.antt`). The answer names the keys that came in or went out:
-//!   the hit's own, and one other at most. Where none did, it takes two puts at most as the hit
-//!   comes, and none as it goes. Lets through: running out of memory at any time, and then nothing
-//!   is said of the shelf; any number of puts where a key moved.
+//!   (`specs/Following.antt`). The answer names the keys that came in or went out: the hit's own, and
+//!   one other at most. Where none did, it takes two puts at most as the hit comes, and none as it
+//!   goes.
 //! - `Shelf::join`, `put_run`: of a trigger that joins, the hits of all events that it counts, by
-//!   their groups, and of a saver a save at each event whose key is in the table; the hits of one
-//!   key (`specs/Joining.antt`). No event is tested. Lets through: running out of memory at any
-//!   time, and then nothing is said of the shelf; any number of puts.
+//!   their groups, and of a saver a save at each event whose key is in the table; the hits of one key
+//!   (`specs/Joining.antt`).
 //! - `sums_at`: what a trigger's hit at an event adds to its sums, by what the event read, where
 //!   the event has the stamp of its place; exact.
 //! - `Shelf::has_no_hits`, `has_no_ops`: where it says so, there are no hits; no operation stands on

@@ -2,44 +2,30 @@
 
 ghost use Rattle.std.specs.Prelude.{◌≡◌, ◌+◌, ◌≤◌, ◌⊎◌, List, false, None, OnOk, IfOk, if◌then◌else◌};
 ghost use Rattle.ft_fields.specs.declared.pos.Pos.{Pos};
-ghost use Rattle.ft_hist.specs.Steps.{StepsGrow};
 ghost use Rattle.ft_fields.specs.declared.key.Part.{Part};
 ghost use Rattle.ft_pairs.specs.ByKey.{ops_of};
-ghost use Rattle.ft_pairs.specs.declared.at.At.{At};
 ghost use Rattle.ft_table.specs.Tabled.{is_in};
 ghost use Rattle.ft_shelves.specs.Changes.{is_insert, change_mark, on_insert, sign_of, table_with};
 ghost use Rattle.ft_shelves.specs.Following.{HitFollows, IsUnsaved, MovesKeys};
 ghost use Rattle.ft_shelves.specs.Switches.{HasMoved};
 ghost use Rattle.ft_shelves.specs.inner.Following.{OwnChanges, edge_for, has_crossed};
+ghost use Rattle.ft_shelves.specs.Counts.{TestsNone, PutsAtMost};
 
 use crate::change::HitChange;
 use crate::shelf::Shelf;
 use crate::sign::Sign;
 use ft_hist::{Key, Work};
 use ft_pairs::{At, Op};
-use ft_table::{Table, first_outside, one_key};
+use ft_table::{Mark, Table, first_outside, one_key};
 use std::alloc::AllocError;
-use std::marker::Model;
 
 /// Which keys came into a saver's table or went out, as hits of one key changed.
-///
-/// Contracts see a record of the same fields.
-#[derive(Drop)]
+#[derive(Clone, Copy, Debug, PartialEq, Eq)]
 pub struct Moved {
     /// Whether the key itself did.
     pub own: bool,
     /// The other key that did, if one did.
     pub other: Option<Key>,
-}
-
-impl Model for Moved {
-    ghost use Rattle.ft_shelves.specs.Following.{Moves, moves_code};
-
-    ghost Value = { Moves };
-
-    ghost coded = { moves_code };
-
-    ghost view = { λ m. record { own = m.own; other = m.other } };
 }
 
 /// Changes what a saver counts by one hit: each key's operations follow as it comes into the table,
@@ -58,8 +44,7 @@ pub fn change_saver_hit(
         (is_in shelf.old.table) (is_in shelf.new.table)) }
     ensures puts { (work.new.puts ≤ work.old.puts + on_insert (sign_of change) 2)
         ⊎ HasMoved (is_in shelf.old.table) (is_in (table_with change shelf.old.table)) }
-    ensures evals { work.new.evals ≡ work.old.evals }
-    ensures grow { StepsGrow work.old work.new }
+    ensures work { TestsNone work.old work.new }
 {
     // Beside its own key only the one at the edge can move.
     one_key();
@@ -92,20 +77,16 @@ fn change_own(
 ) -> Result<(), AllocError>
     requires { IsUnsaved id change shelf.old }
     ensures ok { OnOk result (OwnChanges id change was_in shelf.old shelf.new) }
-    ensures puts { (work.new.puts ≤ work.old.puts + on_insert (sign_of change) 2) }
-    ensures evals { work.new.evals ≡ work.old.evals }
-    ensures grow { StepsGrow work.old work.new }
+    ensures work { PutsAtMost (on_insert (sign_of change) 2) work.old work.new }
 {
     shelf.change_hit(change, work)?;
     if !was_in {
         return Ok(());
     }
-    let mark = change.mark();
-    let at = At {
-        pos: mark.spot.pos,
-        trigger: id,
-    };
-    shelf.change_op(mark.key, at, Op::Save, change.sign(), work)
+    let Mark { spot, key } = change.mark();
+    let pos = spot.pos;
+    let at = At { pos, trigger: id };
+    shelf.change_op(key, at, Op::Save, change.sign(), work)
 }
 
 /// The key at a table's edge that a change may move: the last one in as a hit comes, the first one

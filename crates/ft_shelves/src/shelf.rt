@@ -1,6 +1,6 @@
 //! Shelves: what is kept of one attached trigger.
 
-ghost use Rattle.std.specs.Prelude.{◌≡◌, ◌+◌, ◌<◌, ◌≤◌, List, length, false, true, Some, None, Ok, OnOk, IfOk, IfSome, IsTrue};
+ghost use Rattle.std.specs.Prelude.{◌≡◌, ◌<◌, List, length, false, true, Some, None, Ok, OnOk, IfOk, IfSome, IsTrue};
 ghost use Rattle.std.specs.FinMap as map;
 ghost use Rattle.ft_fields.specs.Places.{pos_cmp};
 ghost use Rattle.ft_fields.specs.declared.pos.Pos.{Pos};
@@ -15,7 +15,6 @@ ghost use Rattle.ft_pairs.specs.declared.at.At.{At};
 ghost use Rattle.ft_pairs.specs.declared.role.Role.TheVariants.{Saves};
 ghost use Rattle.ft_table.specs.Runs.{HasNone};
 ghost use Rattle.ft_table.specs.Tabled.{is_in};
-ghost use Rattle.ft_hist.specs.Steps.{StepsGrow};
 ghost use Rattle.ft_shelves.specs.Changes.{PlaceIsFree, is_insert, on_insert, op_after, set_op, sign_of, with_change};
 ghost use Rattle.ft_shelves.specs.declared.sign.Sign.TheVariants.{Retract};
 ghost use Rattle.ft_shelves.specs.Shelves.{IsNewShelf};
@@ -23,6 +22,7 @@ ghost use Rattle.ft_shelves.specs.Edits.{OpsChange, with_hit_on, without_hit_on}
 ghost use Rattle.ft_shelves.specs.Joining.{AreGroupsOf, HasJoined, ReadingsSet, RunComes, found_last};
 ghost use Rattle.ft_shelves.specs.Following.{with_saves, switched};
 ghost use Rattle.ft_shelves.specs.inner.Following.{with_save};
+ghost use Rattle.ft_shelves.specs.Counts.{TestsNone, PutsAtMost, PutsExactly};
 
 use crate::change::HitChange;
 use crate::joining::{Joining, put_groups, save_groups};
@@ -126,9 +126,7 @@ impl Shelf {
         requires { map.get self.old.table.hits (record { spot = hit.spot; key = hit.key }) ≡ None }
         ensures ok { OnOk result (self.new
             ≡ with_hit_on (record { spot = hit.spot; key = hit.key }) hit.values read self.old) }
-        ensures puts { work.new.puts ≤ work.old.puts + 1 }
-        ensures evals { work.new.evals ≡ work.old.evals }
-        ensures grow { StepsGrow work.old work.new }
+        ensures work { PutsAtMost 1 work.old work.new }
     {
         if let Some(saved) = read {
             put(&mut self.readings, hit.spot.pos, saved)?;
@@ -150,9 +148,7 @@ impl Shelf {
         requires { PlaceIsFree change self.old.table.hits }
         ensures ok { OnOk result (self.new ≡ with_change change self.old) }
         ensures memory { sign_of change ≡ Retract → result ≡ Ok tt }
-        ensures puts { work.new.puts ≤ work.old.puts + on_insert (sign_of change) 1 }
-        ensures evals { work.new.evals ≡ work.old.evals }
-        ensures grow { StepsGrow work.old work.new }
+        ensures work { PutsAtMost (on_insert (sign_of change) 1) work.old work.new }
     {
         match change {
             HitChange::Insert(hit) => self.put_hit(hit, None, work),
@@ -176,8 +172,7 @@ impl Shelf {
         requires { is_insert sign ≡ true → ops_of self.old.ops key at ≡ None }
         ensures ok { OnOk result (OpsChange key (set_op at (op_after sign op)) self.old self.new) }
         ensures memory { sign ≡ Retract → result ≡ Ok tt }
-        ensures puts { work.new.puts ≡ work.old.puts + on_insert sign 1 }
-        ensures evals { work.new.evals ≡ work.old.evals }
+        ensures work { PutsExactly (on_insert sign 1) work.old work.new }
     {
         match sign {
             Sign::Insert => self.pairs.insert(key, at, op, work),
@@ -218,8 +213,7 @@ impl Shelf {
         requires grouped { AreGroupsOf joining.now.trigger.now joining.now.groups.now }
         ensures ok { OnOk result (HasJoined joining.now.id joining.now.trigger.now
             joining.now.groups.now self.old self.new) }
-        ensures evals { work.new.evals ≡ work.old.evals }
-        ensures grow { StepsGrow work.old work.new }
+        ensures work { TestsNone work.old work.new }
     {
         put_groups(&mut self.table, joining, work)?;
         match self.role {
@@ -243,8 +237,7 @@ impl Shelf {
             (switched was_in (is_in self.old.table key) self.old.table.hits id key)
             self.old self.new) }
         ensures puts { was_in ≡ is_in self.old.table key → work.new.puts ≡ work.old.puts }
-        ensures evals { work.new.evals ≡ work.old.evals }
-        ensures grow { StepsGrow work.old work.new }
+        ensures work { TestsNone work.old work.new }
     {
         match (was_in, self.table.is_in(&key)) {
             (false, true) => self.put_saves(id, key, work),
@@ -262,8 +255,7 @@ impl Shelf {
             → ops_of self.old.ops key (record { pos = pos; trigger = id }) ≡ None }
         ensures ok { OnOk result (OpsChange key
             (with_saves self.old.table.hits id key) self.old self.new) }
-        ensures evals { work.new.evals ≡ work.old.evals }
-        ensures grow { StepsGrow work.old work.new }
+        ensures work { TestsNone work.old work.new }
     {
         let mut next = self.table.hit_after(&key, None);
         while let Some(hit) = next {
@@ -283,9 +275,7 @@ impl Shelf {
         ensures ok { OnOk result (OpsChange key (with_reads reads.now) self.old self.new) }
         ensures found { IfOk result (λ found.
             FindEach (ops_of self.new.ops key) reads.now found.items) }
-        ensures puts { work.new.puts ≡ work.old.puts + length reads.now }
-        ensures evals { work.new.evals ≡ work.old.evals }
-        ensures grow { StepsGrow work.old work.new }
+        ensures work { PutsExactly (length reads.now) work.old work.new }
     {
         self.pairs.put_reads(key, reads, work)
     }
@@ -299,8 +289,7 @@ impl Shelf {
     ) -> Result<(), AllocError>
         requires { HasNone key self.old.table.hits }
         ensures ok { OnOk result (RunComes key run.items self.old self.new) }
-        ensures evals { work.new.evals ≡ work.old.evals }
-        ensures grow { StepsGrow work.old work.new }
+        ensures work { TestsNone work.old work.new }
     {
         self.table.put_key(key, run, work)
     }
@@ -330,17 +319,13 @@ fn put_save(
 ) -> Result<(), AllocError>
     requires { spot.maker ≡ 0 → ops_of pairs.old key (record { pos = spot.pos; trigger = id }) ≡ None }
     ensures ok { OnOk result (ChangesKey key (with_save id spot) pairs.old pairs.new) }
-    ensures evals { work.new.evals ≡ work.old.evals }
-    ensures grow { StepsGrow work.old work.new }
+    ensures work { TestsNone work.old work.new }
 {
     if spot.maker != 0 {
         return Ok(());
     }
-    let at = At {
-        pos: spot.pos,
-        trigger: id,
-    };
-    pairs.insert(key, at, Op::Save, work)
+    let pos = spot.pos;
+    pairs.insert(key, At { pos, trigger: id }, Op::Save, work)
 }
 
 /// The map of these readings, by place: of those at one place the last. Refused for memory.

@@ -1,14 +1,17 @@
 //! The table of a hist trigger: its hits, which keys are in, and its rows, totals and text.
 //!
 //! A table holds every hit, so that one may come before all others, or go again. Hits come one by
-//! one, or all hits of a key at once (`put_key`), with one look-up of the key. The keys in the
-//! table are the first `size` keys in order of their first hits. If a key is in, all its hits are
-//! counted, else all are dropped.
+//! one, or all hits of a key at once, with one look-up of the key. The keys in the table are the
+//! first `size` keys in order of their first hits. If a key is in, all its hits are counted, else
+//! all are dropped.
 //!
 //! A table shows a row for each key that is in, and totals. A row tells how often the key was hit,
 //! and what the values of its hits sum up to, modulo 2^64. Rows stand by the sort items of the
 //! trigger, and those that these leave equal by key. A table's text has lines that name the
 //! trigger, the rows, one a line, and the totals.
+//!
+//! What a hit, its spot and its mark are stands below, in `ft_hits`, whose `Hit`, `Mark`, `Spot` and
+//! laws `one_spot_order` and `one_mark_order` are passed on.
 //!
 //! ```ignore
 //! let mut table = Table::new(rt.alloc(), 128);
@@ -34,39 +37,45 @@
 //!
 //! # Contracts
 //!
-//! - `Table::insert`, `Table::remove`: contracts see of a table its hits, a finite map from mark to
-//!   values, and its size (`specs/Tabled.antt`). One hit more, at exactly one tick of `puts`, and a
-//!   refusal changes nothing; one hit less, without memory. `insert` lets through: running out of
-//!   memory at any time.
-//! - `Table::put_key`: all hits of a key that has none yet, those of a list, at a tick of `puts`
-//!   for each; a refusal changes nothing (`specs/Runs.antt`). Lets through: running out of memory
-//!   at any time.
-//! - `Table::is_empty`, `is_in`, `is_among`, `row`, `totals`, `size`, `order`, `edge`, `hit_after`,
-//!   `holds`: exact, by the first hits of keys (`specs/Tabled.antt`, `specs/Rows.antt`).
-//! - `Table::rows`, `write`, `text`: the rows of the keys in the table by the sort items; their
-//!   text and the totals' is added; the whole text of the table with its heading
-//!   (`specs/Rows.antt`, `specs/Text.antt`). Lets through: running out of memory at any time.
-//! - `Table::keyed_rows`, `text_of_row`: the same rows with their texts; the text of a key's row,
-//!   or none where the key isn't in the table. Lets through: running out of memory at any time.
+//! - `Table::new`, `insert`, `remove`: contracts see of a table its hits, a finite map from mark to
+//!   values, and its size (`specs/Tabled.antt`). `new` has no hits. `insert` puts one where none
+//!   stands, at exactly one tick of `puts`, and a refusal changes nothing; `remove` takes one, if it
+//!   is there, without memory. `insert` lets through: running out of memory at any time.
+//! - `Table::put_key`: a key that has no hits yet has those of a list, at a tick of `puts` for each;
+//!   a refusal changes nothing (`specs/Runs.antt`). Lets through: running out of memory at any time.
+//! - `Table::is_empty`, `is_in`, `is_among`, `size`, `order`, `edge` (an `Edge`), `holds`,
+//!   `hit_after`: whether there are hits, which keys are in, in what order, and which hits there are
+//!   (`specs/Tabled.antt`); exact.
+//! - `Table::row`, `rows`, `totals`: the `Row` of a key that is in, all of them by sort items, and
+//!   the `Totals` (`specs/Rows.antt`); exact. `rows` lets through: running out of memory at any
+//!   time.
+//! - `Table::write`, `Table::text`: the rows and the totals of a table, added to a text, which at a
+//!   refusal is as it was; the same with the heading, as a text of its own (`specs/Text.antt`). Both
+//!   require that the keys fit the trigger. Let through: running out of memory at any time.
+//! - `Table::keyed_rows`, `text_of_row`: the rows with their texts, each a `TableRow`, of which
+//!   contracts see the key and the text's bytes (`specs/Keyed.antt`); the text of one key's row, or
+//!   none where the key isn't in. Let through: running out of memory at any time.
 //! - `hit_with`: the hit of a trigger at an event, with its values (`specs/Values.antt`); exact.
-//! - `sort_rows`: the same rows, in order of the sort items, equal rows by key
-//!   (`specs/Sorting.antt`).
-//! - `write_heading`, `write_rows`: the lines above the rows, with the trigger's canonical text;
-//!   the text of rows and totals (`specs/Text.antt`). It is added. Lets through: running out of
-//!   memory at any time.
-//! - `row_text`, `table_rows`: the text of one row, of which `write_rows` adds just this and a line
-//!   break; rows with their texts, in the same order. Contracts see a `TableRow` as its key and its
-//!   text's bytes (`specs/Keyed.antt`). Lets through: running out of memory at any time.
+//! - `sort_rows`: rows of different keys, in order (`specs/Sorting.antt`); exact.
+//! - `write_heading`, `write_rows`: the lines above the rows, with the trigger's canonical text, and
+//!   the text of rows and totals, are added (`specs/Text.antt`). Let through: running out of memory
+//!   at any time; after a refusal of `write_rows` any bytes after the old ones, and after one of
+//!   `write_heading` any text.
+//! - `row_text`, `table_rows`: the text of a row, of which `write_rows` adds just this and a line
+//!   break; rows with their texts, in the same order. Let through: running out of memory at any
+//!   time.
 //! - Law `first_keys`: a key is in just where it has a hit and fewer than `size` other keys have an
-//!   earlier first hit.
+//!   earlier first hit (`specs/Admission.antt`).
 //! - Law `all_hits`: a key in the table has all its hits counted, all hits of the others are
-//!   dropped, and both together are all hits.
-//! - Laws `one_more_hit`, `one_key`: what a hit after all others does; with any change of one key's
-//!   hits, only it and at most one other key come in or go out.
-//! - Laws `first_outside`, `fitting_keys`: the first key outside isn't in; keys fit a trigger as
-//!   long as only keys that do come in.
+//!   dropped, and both together are all hits (`specs/Admission.antt`).
+//! - Law `one_more_hit`: what a hit after all others does (`specs/Growth.antt`).
+//! - Law `one_key`: with any change of one key's hits, only it and at most one other key come in or
+//!   go out (`specs/OneKey.antt`).
+//! - Law `first_outside`: the first key outside isn't in (`specs/OneKey.antt`).
+//! - Law `fitting_keys`: keys fit a trigger as long as only keys that do come in
+//!   (`specs/Fits.antt`).
 //! - Law `one_row_order`: the order of rows is total, and rows of distinct keys have one sorted
-//!   order.
+//!   order (`specs/Sorting.antt`).
 #![tactic(auto)]
 
 mod keyed;

@@ -42,6 +42,7 @@ fn write_part(item: KeyItem, part: Part, text: &mut Vec<u8>) -> Result<(), Alloc
         (Mode::Log2, Part::Log2(power)) => write_power(power, text),
         (Mode::Buckets(size), Part::Bucket(first)) => write_bucket(size, first, text),
         (Mode::Plain, Part::Text(name)) => write_text(&name, text),
+        // A modifier makes no other part.
         _ => Ok(()),
     }
 }

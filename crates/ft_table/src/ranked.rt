@@ -9,8 +9,7 @@ ghost use Rattle.ft_hits.specs.Hits.{TakesHits, hitcount};
 ghost use Rattle.ft_table.specs.Tabled.{order_of};
 ghost use Rattle.ft_table.specs.inner.Moves.{order_with, order_without, order_before};
 ghost use Rattle.ft_table.specs.inner.Moves.{with_more, with_less};
-ghost use Rattle.ft_hits.specs.Marks.{mark_cmp, mark_of};
-ghost use Rattle.ft_table.specs.inner.Ascending.{IsRank};
+ghost use Rattle.ft_hits.specs.Marks.{mark_of};
 ghost use Rattle.ft_table.specs.Runs.{HasNone};
 
 use crate::order::{last_rank_of, rank_of};
@@ -45,14 +44,6 @@ impl Ranked {
             hits: 0,
             dropped: 0,
         }
-    }
-
-    /// How many marks stand before that of a key's first hit.
-    pub(crate) fn rank_of(&self, hits: &HitIndex, first: &Mark) -> usize
-        requires { self.now.order.items ≡ order_with hits.now first.now }
-        ensures { IsRank mark_cmp (order_with hits.now first.now) first.now result }
-    {
-        rank_of(&self.order, first)
     }
 
     /// Puts a mark into the order at its rank, of a key with so many hits. The last key in the
@@ -144,7 +135,7 @@ impl Ranked {
         ensures fewer { all_counted self.new + hitcount hits.now mark.key ≡ all_counted self.old }
         ensures room { OrderHasRoom self.new }
     {
-        let rank = self.rank_of(hits, &mark);
+        let rank = rank_of(&self.order, &mark);
         self.take_out(hits, rank);
     }
 
@@ -188,7 +179,7 @@ impl Ranked {
             self.hits += 1;
             return;
         }
-        if self.rank_of(hits, &first) < size {
+        if rank_of(&self.order, &first) < size {
             self.hits += 1;
         } else {
             self.dropped += 1;
@@ -204,7 +195,7 @@ impl Ranked {
         ensures size { self.new.size ≡ self.old.size }
     {
         let size = self.size as usize;
-        if self.rank_of(hits, &first) < size {
+        if rank_of(&self.order, &first) < size {
             self.hits -= 1;
         } else {
             self.dropped -= 1;

@@ -6,6 +6,7 @@ ghost use Rattle.std.specs.FinMap as map;
 ghost use Rattle.ft_text.specs.Fronts.{IsFront};
 ghost use Rattle.ft_table.specs.Rows.{counted_row};
 
+use crate::order::rank_of;
 use crate::ranked::Ranked;
 use crate::row::{Row, Totals};
 use crate::sorting::sort_rows;
@@ -155,7 +156,7 @@ impl Table {
             (list_map (λ mark. mark.key) (take place (order_of self.now.hits))) }
     {
         match self.hits.first_at(key) {
-            Some(spot) => self.ranked.rank_of(&self.hits, &Mark { spot, key: *key }) < place,
+            Some(spot) => rank_of(&self.ranked.order, &Mark { spot, key: *key }) < place,
             None => false,
         }
     }

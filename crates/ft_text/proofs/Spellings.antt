@@ -100,7 +100,7 @@ run_front test (byte ∷ front) rest all ends =
     rw (here, more, one-add) refl
 
 -- a run ends before a byte that does not pass
-stops : (test : ℕ → Bool) (rest : List ℕ) → test (slice_index rest 0) ≡ false → prefix_len test rest ≡ 0
+pub stops : (test : ℕ → Bool) (rest : List ℕ) → test (slice_index rest 0) ≡ false → prefix_len test rest ≡ 0
 stops test [] h = refl
 stops test (byte ∷ rest) h = rw h refl
 

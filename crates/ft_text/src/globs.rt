@@ -137,6 +137,7 @@ fn class_step(text: &[u8], byte: u8) -> Step<'_>
                 Step::Miss
             }
         }
+        // Each class of a glob is closed.
         None => Step::Miss,
     }
 }

@@ -1,4 +1,4 @@
-//! The words that stand in pieces: items, names, numbers.
+//! What stands in pieces: words, names, numbers.
 
 ghost use Rattle.std.specs.Prelude.{◌≡◌, ◌≤◌, IfSome};
 ghost use Rattle.std.specs.Option.{option_copied};
@@ -9,7 +9,7 @@ use crate::same::is_same;
 use crate::words::name_at;
 use std::marker::Model;
 
-/// An item as it stands: a name, and what is in front of it and after it.
+/// A word as it stands: a name, and what is in front of it and after it.
 ///
 /// Contracts see the same with its texts as lists of bytes.
 #[derive(Drop)]
@@ -69,7 +69,7 @@ impl<'a> Word<'a> {
     }
 }
 
-/// The word of an item, where it has the form.
+/// The word that a text is, where it has the form.
 #[tactic(auto, unfolding(crate::specs::Items::word_of))]
 pub fn word_of(item: &[u8]) -> Option<Word<'_>>
     ensures { result ≡ word_of item.now }

@@ -13,7 +13,7 @@ pub fn one_list()
         → (pieces separator place text ≡ list) ↔ ArePieces separator place text list }
 {}
 
-/// A law: an item is read as a word just where it is the word as it stands: a `$` or none, a name,
+/// A law: a text is read as a word just where it is the word as it stands: a `$` or none, a name,
 /// and nothing or a `.` and one or more bytes.
 pub fn one_word()
     ensures { (item : List ℕ) (word : Word) → (word_of item ≡ Some word) ↔ IsItem item word }

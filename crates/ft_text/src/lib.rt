@@ -1,20 +1,20 @@
-//! Texts of bytes: numbers, words, the pieces between separators, and globs.
+//! Texts of bytes: numbers, names, pieces between separators, words, and globs.
 //!
 //! A text grows in a vector and may run out of memory. What was added before a refusal stays, so
-//! that the vector begins with its old bytes (`IsFront`), and who began the text cuts it back.
+//! that the vector begins with its old bytes, and who began the text cuts it back.
 //!
-//! The words of filters and triggers stand at the head of a text: gaps, names, quoted texts and
-//! numbers. A reader gives what it found there and the text after it, or nothing. A number is read
-//! whole however large it is, so that one which is out of range is told from a text that begins
-//! with no number.
+//! Gaps, names, quoted texts and numbers are read at the head of a text. A reader gives what it
+//! found there and the text after it, or nothing. A number is read whole however large it is, so
+//! that one which is out of range is told from a text that begins with no number.
 //!
-//! Pieces stand between separators, and keep the place of the text that they begin at, so that a
-//! fault can name it. An item is a `$` or none, a name and a suffix.
+//! A text is cut into pieces at a separator. Each piece keeps the place of the text that it begins
+//! at, so that a fault can name it. A word is what a piece of a trigger's text may be: a `$` or
+//! none, a name, and a suffix after a `.`, or none.
 //!
 //! A glob is a pattern in which `*` matches any run of bytes, `?` one byte, a class such as `[a-c]`
 //! or `[!a-c]` one byte that it has or has not, and any other byte itself. It matches a whole text
-//! or not at all. Which patterns are globs, and what each matches, is said by the items that a
-//! pattern reads as.
+//! or not at all. Each of these four is an item; a glob reads as items, and these say what it
+//! matches. A pattern with a backslash, or with a `!` in front, is no glob.
 //!
 //! Reading and matching need no memory.
 //!
@@ -35,14 +35,14 @@
 //! ```
 //!
 //! ```ignore
-//! let mut items = Pieces::of(&Piece::of(5, b"pid,$ts0,prio.log2"), b',');
-//! let Some(item) = items.next_piece() else {
-//!     return Err("a list has an item");
+//! let mut pieces = Pieces::of(&Piece::of(5, b"pid,$ts0,prio.log2"), b',');
+//! let Some(piece) = pieces.next_piece() else {
+//!     return Err("a text has a piece");
 //! };
-//! assert!(rt; item.place() == 5 && item.bytes() == b"pid");
+//! assert!(rt; piece.place() == 5 && piece.bytes() == b"pid");
 //! match word_of(b"prio.log2") {
 //!     Some(word) => assert!(rt; !word.dollar() && word.suffix() == Some(b"log2".as_slice())),
-//!     None => return Err("that item is a word"),
+//!     None => return Err("that piece is a word"),
 //! }
 //! assert!(rt; number_in(b"065", 1, 100) == Some(65) && number_in(b"101", 1, 100).is_none());
 //! ```
@@ -59,26 +59,32 @@
 //! # Contracts
 //!
 //! - `write_decimal`, `write_signed`, `write_right`, `write_fill`: the number, or the filling of
-//!   its column, stands after the old bytes; after an error the text still begins with its old
-//!   bytes (`specs/Fronts.antt`). Lets through: running out of memory at any time.
-//! - `number_within`, `are_digits`, `is_same`: exact (`specs/Digits.antt`).
-//! - `is_gap`, `skip`, `name_at`, `is_quote`, `quoted_at`, `number_at`: what stands at the head of
-//!   a text, and the text after it (`specs/Tokens.antt`, `specs/Ranged.antt`); exact.
+//!   its column, stands after the old bytes; after an error the text still begins with these
+//!   (`specs/Fronts.antt`). Lets through: running out of memory at any time, and then any bytes
+//!   after the old ones.
+//! - `are_digits`, `is_same`: whether all bytes are decimal digits, and whether two texts are the
+//!   same; exact.
+//! - `number_within`: the number that decimal digits write, or that none write, which is 0, where
+//!   it is within the limit (`specs/Digits.antt`); exact.
+//! - `is_gap`, `skip`, `name_at`, `is_quote`, `quoted_at`, `number_at`, `Number`: what stands at
+//!   the head of a text, and the text after it (`specs/Tokens.antt`, `specs/Ranged.antt`); exact.
 //! - `Pieces::of`, `Pieces::next_piece`, `Piece`: the pieces of a text between separators, in
 //!   order, each with the place at which it begins (`specs/Items.antt`); exact.
-//! - `word_of`, `Word`: an item as a `$` or none, a name and a suffix; none where it has another
-//!   form. Whether two words have the same name, both with a `$` or both without. Exact.
+//! - `word_of`, `Word`: the word that a text is, or none where it has another form; its parts;
+//!   whether it is a name without a `$` (`Word::is`); whether two words have the same name, both
+//!   with a `$` or both without (`Word::is_same`). Exact (`specs/Items.antt`).
 //! - `is_name`, `number_in`: whether a text is a name and nothing else; the number that decimal
-//!   digits write, where it is within both limits. Exact.
-//! - Laws `one_list`, `one_word`: pieces and items are what they make when they are written again
-//!   (`specs/Spelling.antt`).
-//! - `is_glob`: whether the pattern reads as items (clause `meaning`), and exact.
-//! - `glob`: whether those items match the whole text, said by splitting the text
-//!   (`specs/Glob.antt`); the code goes back to the last star alone instead. Lets through: any running
-//!   time. A test matches a long text against many stars.
+//!   digits write, at least one, where it is within both limits (`specs/Items.antt`). Exact.
+//! - Laws `one_list`, `one_word`: a text is cut into just the pieces that make it again, and is
+//!   read as just the word that writes it (`specs/Spelling.antt`).
+//! - `is_glob`: whether the pattern is a glob, by the items that it reads as (clause `meaning`), and
+//!   exact.
+//! - `glob`: whether the items of a glob match the whole text, said by splitting the text
+//!   (`specs/Glob.antt`); the code goes back to the last star alone instead. Lets through: any
+//!   running time. A test matches a long text against many stars.
 //! - Law `one_reading`: a pattern reads as items in one way.
 //! - Law `what_matches`: the truth value `matches`, by which filters are stated, is that of the
-//!   items.
+//!   items (`specs/Matching.antt`).
 #![tactic(auto)]
 
 mod digits;

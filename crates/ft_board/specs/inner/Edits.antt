@@ -1,7 +1,8 @@
 -- The bases before and after an event comes or goes.
-use Rattle.std.specs.Prelude.{◌≡◌, None, IfSome}
+use Rattle.std.specs.Prelude.{◌≡◌, ℕ, None, IfSome}
 use Rattle.ft_fields.specs.declared.pos.Pos.{Pos}
 use Rattle.ft_base.specs.Base.{Base}
+use Rattle.ft_base.specs.declared.refused.Place.{Place}
 use Rattle.ft_replay.specs.Merged.{merged}
 use Rattle.ft_answers.specs.Reporting.{IsReport, IsMadeReport}
 use Rattle.ft_answers.specs.declared.edited.Edited.{Edited}
@@ -14,6 +15,10 @@ use Rattle.ft_board.specs.inner.Views.{AreFresh}
 pub record Edit : Type 0 where
   pub old : Base
   pub new : Base
+
+-- the place of a line in the merged order, by its event's stamp
+abbrev pub pos_at : Place → ℕ → Pos
+pos_at place stamp = record { stamp = stamp; cpu = place.cpu; line = place.line }
 
 -- by an edit of this sign the event at a place comes or goes, which a base holds
 pub record IsEdit (sign : Sign) (base : Base) (pos : Pos) (edit : Edit) : Type 0 where

@@ -8,7 +8,7 @@ use Rattle.ft_fields.specs.declared.field.Field.{Field}
 use Rattle.ft_hist.specs.declared.item.KeyItem.{KeyItem}
 use Rattle.ft_hist.specs.Hist.{Hist}
 use Rattle.ft_hist.specs.Hit.{same_name}
-use Rattle.ft_store.specs.Stored.{bare, field_number}
+use Rattle.ft_store.specs.Stored.{field_number}
 
 -- the key item is of a field that holds a text
 abbrev pub asks_text : KeyItem → Bool
@@ -17,10 +17,6 @@ asks_text item = is_text item.field
 -- the trigger has no filter, and no key of a text
 abbrev pub asks_numbers : Hist → Bool
 asks_numbers hist = is_none hist.filter && not (list_any asks_text hist.keys)
-
--- the event, without its names where numbers alone are asked for
-abbrev pub asked_part : Bool → Traced → Traced
-asked_part numbers event = if numbers then bare event else event
 
 -- the field of the only key item
 abbrev pub only_field : List KeyItem → Option Field

@@ -12,7 +12,8 @@ use Rattle.ft_kept.specs.Signs.{act_before, act_after}
 use Rattle.ft_kept.specs.inner.Acting.{own_variable}
 use Rattle.ft_kept.specs.inner.Settling.{LeavesStale}
 use Rattle.ft_shelves.specs.Changes.{table_with}
-use Rattle.ft_shelves.specs.Following.{Moves, MovesKeys}
+use Rattle.ft_shelves.specs.Following.{MovesKeys}
+use Rattle.ft_shelves.specs.declared.saver.Moved.{Moved}
 use Rattle.ft_shelves.specs.Shelves.{Shelves, FormsStay, admits_on, role_on}
 use Rattle.ft_kept.specs.Views.{triggers_of}
 use Rattle.ft_kept.specs.declared.act.Act.{Act}
@@ -58,7 +59,7 @@ abbrev pub change_of : Act → HitChange
 change_of act = change_by act.sign act
 
 -- a saver's act came to its shelf or went, these keys moved, and what follows of it is stale
-pub record ChangedLeavingStale (act : Act) (acts : Acts) (moves : Moves) (old new : Shelves) : Type 0 where
+pub record ChangedLeavingStale (act : Act) (acts : Acts) (moves : Moved) (old new : Shelves) : Type 0 where
   pub forms : FormsStay old new
   pub others : (id : ℕ) → (id ≡ act.at.trigger → ⊥) → map.get new id ≡ map.get old id
   pub table : table_on new act.at.trigger ≡ option_map (table_with (change_of act)) (table_on old act.at.trigger)

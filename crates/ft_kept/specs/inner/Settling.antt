@@ -14,7 +14,7 @@ use Rattle.ft_shelves.specs.Shelves.{Shelves, role_on, admits_on, kept_on}
 use Rattle.ft_kept.specs.Entries.{IsKeptBut}
 use Rattle.ft_kept.specs.Acts.{Acts, AreHeld}
 use Rattle.ft_kept.specs.inner.Stale.{reads_at, is_next_read, is_switched}
-use Rattle.ft_shelves.specs.Following.{Moves}
+use Rattle.ft_shelves.specs.declared.saver.Moved.{Moved}
 
 -- what is stale, after some of it was settled
 abbrev pub Stale : Type 0
@@ -44,7 +44,7 @@ abbrev pub without_reads_of : Shelves → Variable → Stale → Stale
 without_reads_of shelves variable stale q = stale q && not (reads_at ((kept_on shelves).ops variable) q)
 
 -- what is stale but what a saver's hit made stale: the readings of the keys that moved, and else the next reading on the key's variable
-abbrev pub without_moved : Shelves → ℕ → List Part → Moves → Option (At × Op) → Stale → Stale
+abbrev pub without_moved : Shelves → ℕ → List Part → Moved → Option (At × Op) → Stale → Stale
 without_moved shelves id key moves next stale q =
     stale q
     && not (option_map_or (λ k. reads_at ((kept_on shelves).ops (record { saver = id; key = k })) q) moves.other false

@@ -6,7 +6,7 @@ use Rattle.ft_hits.specs.declared.mark.Mark.{Mark}
 use Rattle.ft_fields.specs.declared.key.Part.{Part}
 use Rattle.ft_pairs.specs.declared.role.Role.TheVariants.{Reads}
 use Rattle.ft_pairs.specs.declared.role.Variable.{Variable}
-use Rattle.ft_shelves.specs.Following.{Moves}
+use Rattle.ft_shelves.specs.declared.saver.Moved.{Moved}
 use Rattle.ft_shelves.specs.Shelves.{Shelves, kept_on, role_on}
 use Rattle.ft_kept.specs.Changes.{Told, Tells, HasTold}
 use Rattle.ft_kept.specs.declared.changes.KeyChange.{KeyChange}
@@ -34,7 +34,7 @@ other_key saver None = []
 other_key saver (Some key) = variable_key (record { saver = saver; key = key })
 
 -- the keys that are told where a saver's hit changed: the other one that moved, and its own
-abbrev pub moved_keys : ℕ → List Part → Moves → List KeyChange
+abbrev pub moved_keys : ℕ → List Part → Moved → List KeyChange
 moved_keys saver key moves = other_key saver moves.other ++ variable_key (record { saver = saver; key = key })
 
 -- what was told says how shelves changed, and these keys were told

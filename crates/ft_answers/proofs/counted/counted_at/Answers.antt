@@ -1,7 +1,5 @@
 use Rattle.std.proofs.Common.{rules, ◌≡◌, true, false, [], sym, ◌∙◌}
-use Rattle.std.specs.Ordering.{nat_cmp}
 use Rattle.ft_hist.specs.Hist.{Hist}
-use Rattle.ft_maps.specs.Seen.{seen}
 use Rattle.ft_replay.specs.Merged.{merged}
 use Rattle.ft_hist.specs.Made.{counts_made}
 use Rattle.ft_answers.proofs.Answering.{shown-made, shown-held}

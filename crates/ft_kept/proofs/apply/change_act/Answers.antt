@@ -29,7 +29,7 @@ pub change_reading-requires : goal.change_reading-requires
 change_reading-requires g c = subst (λ role. MayChange c.args.act.now g.acts role c.args.tables.now) (sym c.role.ensures ∙ c.in-Reads.is) c.requires.0
 
 pub returns-in-Plain-clause-puts : goal.returns-in-Plain-clause-puts
-returns-in-Plain-clause-puts g c = inl (omega (arith, c.change_hit.ensures.puts, inserts_at_most c.args.act.now.sign 1))
+returns-in-Plain-clause-puts g c = inl (omega (arith, c.change_hit.ensures.work.few, inserts_at_most c.args.act.now.sign 1))
 
 -- the table of a saver moves as the event's hit comes or goes
 table_moves : (act : Act) (shelves : Shelves) → hit act.trigger.now act.event.now ≡ Some act.key → (sign : Sign)

@@ -1,4 +1,4 @@
-use Rattle.std.proofs.Common.{◌≡◌, ◌≤◌, suc, Some}
+use Rattle.std.proofs.Common.{◌≡◌, suc, Some}
 use Rattle.std.specs.Option.{option_map_or}
 use Rattle.ft_pairs.specs.declared.at.At.{At}
 use Rattle.ft_pairs.specs.declared.at.Op.{Op}
@@ -6,6 +6,7 @@ use Rattle.ft_kept.specs.inner.Acting.{Refreshed}
 use Rattle.ft_kept.specs.inner.Edits.{ReadersChange, left_on}
 use Rattle.ft_kept.specs.inner.Telling.{HasReread}
 use Rattle.ft_shelves.specs.Shelves.{kept_on}
+use Rattle.ft_shelves.specs.Counts.{TestsNone}
 use Rattle.ft_kept.proofs.Walks.{on_walk}
 use Rattle.ft_kept.proofs.settle.settle_key.Given as goal
 
@@ -15,8 +16,7 @@ invariant-loop-next l = record {
   there : (step : At × Op) → l.next ≡ Some step → (kept_on l.fn.tables).ops l.variable step.0 ≡ Some step.1;
   right : Refreshed l.scene l.fn.tables l.tables (on_walk ((kept_on l.fn.tables).ops l.variable) l.next);
   told : HasReread l.variable l.fn.changes l.changes l.fn.tables l.tables;
-  evals : l.work.evals ≡ l.fn.work.evals;
-  puts : l.fn.work.puts ≤ l.work.puts;
+  work : TestsNone l.fn.work l.work;
 }
 
 abbrev pub decreases-loop-next : goal.decreases-loop-next

@@ -19,8 +19,8 @@ use Rattle.ft_base.proofs.Apart.{AreApart, entries_apart, entries_found}
 use Rattle.ft_replay.specs.Merged.{Events, merged}
 use Rattle.ft_replay.specs.declared.pair.Pair.{Pair}
 use Rattle.ft_replay.proofs.Stepping.{grow_none, grow_more}
-use Rattle.ft_made.specs.MadeTables.{ArePairsOf, IsMadeTable, found_in}
-use Rattle.ft_made.specs.inner.First.{first_change, first_changes}
+use Rattle.ft_made.specs.MadeTables.{ArePairsOf, IsMadeTable}
+use Rattle.ft_made.specs.inner.First.{first_change}
 use Rattle.ft_made.proofs.Filling.{new_table, readings_of, are_of, not_yet, lead_next, new_made, all_made}
 use Rattle.ft_made.proofs.tables.made_table.Goals as goal
 

@@ -1,4 +1,4 @@
-use Rattle.std.proofs.Common.{◌≡◌, ℕ, true, List, refl, sym, ap, subst, ◌∙◌, arith}
+use Rattle.std.proofs.Common.{◌≡◌, ℕ, List, refl, sym, ap, subst, ◌∙◌, arith}
 use Rattle.std.specs.FinMap as map
 use Rattle.std.proofs.lemmas.List.{drop_all}
 use Rattle.ft_fields.specs.Traced.{Traced}
@@ -48,22 +48,22 @@ loop-pos-init c =
 
 pub apply-requires-clause-views : goal.apply-requires-clause-views
 apply-requires-clause-views c =
-    let more = first_left c.deref-pos-items.result.now c.loop-pos.pos-index c.loop-pos-item.result c.event-event.result c.loop-pos-test.true c.loop-pos-item.is c.event-event.ensures in
+    let more = first_left c.deref-pos-items.result.now c.loop-pos.pos-index c.loop-pos-item.result c.event.result c.loop-pos-test.true c.loop-pos-item.is c.event.ensures in
     next_views (next_of more c.loop-pos.invariant.coming)
 
 pub apply-requires-clause-held : goal.apply-requires-clause-held
 apply-requires-clause-held c =
-    let more = first_left c.deref-pos-items.result.now c.loop-pos.pos-index c.loop-pos-item.result c.event-event.result c.loop-pos-test.true c.loop-pos-item.is c.event-event.ensures in
+    let more = first_left c.deref-pos-items.result.now c.loop-pos.pos-index c.loop-pos-item.result c.event.result c.loop-pos-test.true c.loop-pos-item.is c.event.ensures in
     next_held (next_of more c.loop-pos.invariant.coming)
 
 pub apply-requires-clause-before : goal.apply-requires-clause-before
 apply-requires-clause-before c =
-    let more = first_left c.deref-pos-items.result.now c.loop-pos.pos-index c.loop-pos-item.result c.event-event.result c.loop-pos-test.true c.loop-pos-item.is c.event-event.ensures in
+    let more = first_left c.deref-pos-items.result.now c.loop-pos.pos-index c.loop-pos-item.result c.event.result c.loop-pos-test.true c.loop-pos-item.is c.event.ensures in
     λ id. next_before (next_of more c.loop-pos.invariant.coming) id refl
 
 pub loop-pos-preserved : goal.loop-pos-preserved
 loop-pos-preserved c =
-    let more = first_left c.deref-pos-items.result.now c.loop-pos.pos-index c.loop-pos-item.result c.event-event.result c.loop-pos-test.true c.loop-pos-item.is c.event-event.ensures in
+    let more = first_left c.deref-pos-items.result.now c.loop-pos.pos-index c.loop-pos-item.result c.event.result c.loop-pos-test.true c.loop-pos-item.is c.event.ensures in
     record {
       coming = changing_fewer (next_of more c.loop-pos.invariant.coming) c.apply.new.self c.in_default-apply.ensures.forms c.in_default-apply.ensures.views c.in_default-apply.ensures.input;
       evals = let count = counted (triggers_of c.scene_of-scene.result) more in omega (arith, c.loop-pos.invariant.evals, count, c.in_default-apply.ensures.evals);
@@ -81,7 +81,7 @@ returns-clause-kept c =
 
 pub returns-in-Err-clause-evals : goal.returns-in-Err-clause-evals
 returns-in-Err-clause-evals c =
-    let more = first_left c.deref-pos-items.result.now c.loop-pos.pos-index c.loop-pos-item.result c.event-event.result c.loop-pos-test.true c.loop-pos-item.is c.event-event.ensures in
+    let more = first_left c.deref-pos-items.result.now c.loop-pos.pos-index c.loop-pos-item.result c.event.result c.loop-pos-test.true c.loop-pos-item.is c.event.ensures in
     let count = counted (triggers_of c.scene_of-scene.result) more in
     let same : count_events (triggers_of c.scene_of-scene.result) (map.entries (named (triggers_of c.scene_of-scene.result) (merged (lanes_but c.args.before.now c.scene_of-scene.result.lanes.now)))) ≡ count_coming c.args.before.now c.args.content.now =
     λ i. count_events (c.scene_of-scene.ensures.triggers i) (map.entries (named (c.scene_of-scene.ensures.triggers i) (merged (lanes_but c.args.before.now (c.scene_of-scene.ensures.lanes i))))) in

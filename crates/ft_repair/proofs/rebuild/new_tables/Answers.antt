@@ -19,9 +19,9 @@ loop-id-init c =
 pub loop-id-preserved : goal.loop-id-preserved
 loop-id-preserved c =
     let triggers : Triggers = c.args.triggers.now in
-    let e : ℕ × Hist = (c.in-Some.id.now, c.in-Some.attached.now) in
+    let e : ℕ × Hist = (c.in-Some.id.now, c.in-Some.trigger.now) in
     let is = next_renewed (rest_more (deref_pair {K = ℕ} {X = Hist}) _ _ _ _ c.in-Some.is c.next.ensures.steps) c.loop-id.invariant in
-    let role : c.role_of-role.result ≡ role_of triggers e.1.variable = c.role_of-role.ensures ∙ ap (role_of triggers) c.variable.ensures in
+    let role : c.role_of.result ≡ role_of triggers e.1.variable = c.role_of.ensures ∙ ap (role_of triggers) c.variable.ensures in
     let adds : AddsShelf e.0 (role_of triggers e.1.variable) e.1.size c.loop-id.tables c.add.new.self =
     subst (λ (n : ℕ). AddsShelf e.0 (role_of triggers e.1.variable) n c.loop-id.tables c.add.new.self) c.size.ensures.value
     (subst (λ (r : Role). AddsShelf e.0 r c.size.result c.loop-id.tables c.add.new.self) role c.in_ok-add.ensures.ok) in

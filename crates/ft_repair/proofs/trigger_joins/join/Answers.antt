@@ -1,5 +1,4 @@
 use Rattle.std.proofs.Common.{◌+◌, ◌≤◌, sym, subst}
-use Rattle.ft_kept.specs.Shelves.{Shelves}
 use Rattle.ft_lanes.specs.Held.{Lanes}
 use Rattle.ft_base.specs.Base.{Base, Triggers}
 use Rattle.ft_base.specs.OneTrigger.{is_in_family}

@@ -7,9 +7,9 @@ use Rattle.ft_repair.proofs.Putting.{IsPut, tests_in}
 use Rattle.ft_repair.proofs.trigger_joins.join_family.Given as goal
 
 -- those of the family that are left are idle, and their tests are left too; no count fell
-abbrev pub invariant-loop-other : goal.invariant-loop-other
-invariant-loop-other l = record {
-  put : IsPut (triggers_of l.scene) l.scene.lanes.now (is_in_family (triggers_of l.scene) l.id) l.other-iterator l.tables;
-  evals : l.work.evals + tests_in (is_in_family (triggers_of l.scene) l.id) l.scene.lanes.now l.other-iterator ≤ l.fn.work.evals + family_tests (triggers_of l.scene) l.scene.lanes.now l.id;
+abbrev pub invariant-loop-id : goal.invariant-loop-id
+invariant-loop-id l = record {
+  put : IsPut (triggers_of l.scene) l.scene.lanes.now (is_in_family (triggers_of l.scene) l.head) l.id-iterator l.tables;
+  evals : l.work.evals + tests_in (is_in_family (triggers_of l.scene) l.head) l.scene.lanes.now l.id-iterator ≤ l.fn.work.evals + family_tests (triggers_of l.scene) l.scene.lanes.now l.head;
   grow : StepsGrow l.fn.work l.work;
 }

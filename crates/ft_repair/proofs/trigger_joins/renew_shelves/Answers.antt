@@ -1,41 +1,41 @@
-use Rattle.std.proofs.Common.{ℕ, ◌≡◌, true, false, List, sym, ap, subst, ◌∙◌}
+use Rattle.std.proofs.Common.{ℕ, ◌≡◌, List, sym, ap, subst, ◌∙◌}
 use Rattle.std.specs.Map.Iter.{deref_pair}
 use Rattle.std.proofs.lemmas.Map.Iter.{rest_more, rest_all}
 use Rattle.ft_hist.specs.Hist.{Hist}
 use Rattle.ft_kept.specs.Shelves.{AddsShelf}
 use Rattle.ft_pairs.specs.declared.role.Role.{Role}
 use Rattle.ft_base.specs.Base.{Triggers}
-use Rattle.ft_base.specs.OneTrigger.{is_kin, is_in_family}
+use Rattle.ft_base.specs.OneTrigger.{is_in_family}
 use Rattle.ft_base.specs.Roles.{role_of}
 use Rattle.ft_repair.proofs.Families.{in_family}
 use Rattle.ft_repair.proofs.Putting.{AreRenewedBut, next_renewed, renewed_none, renewed_skip, renewed_more, renewed_all}
 use Rattle.ft_repair.proofs.trigger_joins.renew_shelves.Goals as goal
 
-pub loop-other-init : goal.loop-other-init
-loop-other-init c =
+pub loop-id-init : goal.loop-id-init
+loop-id-init c =
     let triggers : Triggers = c.args.triggers.now in
-    let family = is_in_family triggers c.args.id in
-    subst (λ (es : List (ℕ × Hist)). AreRenewedBut triggers family c.args.tables.now es c.args.tables.now) (sym (c.into_iter-other-iterator.ensures.into_iter_gives ∙ c.iter-other-items.ensures.rest)) (renewed_none triggers family c.args.tables.now)
+    let family = is_in_family triggers c.args.head in
+    subst (λ (es : List (ℕ × Hist)). AreRenewedBut triggers family c.args.tables.now es c.args.tables.now) (sym (c.into_iter-id-iterator.ensures.into_iter_gives ∙ c.iter-id-items.ensures.rest)) (renewed_none triggers family c.args.tables.now)
 
-pub loop-other-preserved-in-Continue-1 : goal.loop-other-preserved-in-Continue-1
-loop-other-preserved-in-Continue-1 c =
+pub loop-id-preserved-in-Continue-1 : goal.loop-id-preserved-in-Continue-1
+loop-id-preserved-in-Continue-1 c =
     let triggers : Triggers = c.args.triggers.now in
-    let e : ℕ × Hist = (c.in-Some.other.now, c.in-Some.attached.now) in
-    let is = next_renewed (rest_more (deref_pair {K = ℕ} {X = Hist}) _ _ _ _ c.in-Some.is c.next.ensures.steps) c.loop-other.invariant in
+    let e : ℕ × Hist = (c.in-Some.id.now, c.in-Some.trigger.now) in
+    let is = next_renewed (rest_more (deref_pair {K = ℕ} {X = Hist}) _ _ _ _ c.in-Some.is c.next.ensures.steps) c.loop-id.invariant in
     let role : c.role_of-role.result ≡ role_of triggers e.1.variable = c.role_of-role.ensures ∙ ap (role_of triggers) c.variable.ensures in
-    let adds : AddsShelf e.0 (role_of triggers e.1.variable) e.1.size c.loop-other.tables c.add.new.self =
-    subst (λ (n : ℕ). AddsShelf e.0 (role_of triggers e.1.variable) n c.loop-other.tables c.add.new.self) c.size.ensures.value
-    (subst (λ (r : Role). AddsShelf e.0 r c.size.result c.loop-other.tables c.add.new.self) role c.in_ok-add.ensures.ok) in
-    let member = in_family triggers c.args.id e is.attached.0 role c.is_kin.ensures c.if-is_kin.true in
+    let adds : AddsShelf e.0 (role_of triggers e.1.variable) e.1.size c.loop-id.tables c.add.new.self =
+    subst (λ (n : ℕ). AddsShelf e.0 (role_of triggers e.1.variable) n c.loop-id.tables c.add.new.self) c.size.ensures.value
+    (subst (λ (r : Role). AddsShelf e.0 r c.size.result c.loop-id.tables c.add.new.self) role c.in_ok-add.ensures.ok) in
+    let member = in_family triggers c.args.head e is.attached.0 role c.is_kin.ensures c.if-is_kin.true in
     renewed_more is c.add.new.self adds member
 
-pub loop-other-preserved : goal.loop-other-preserved
-loop-other-preserved c =
+pub loop-id-preserved : goal.loop-id-preserved
+loop-id-preserved c =
     let triggers : Triggers = c.args.triggers.now in
-    let e : ℕ × Hist = (c.in-Some.other.now, c.in-Some.attached.now) in
-    let is = next_renewed (rest_more (deref_pair {K = ℕ} {X = Hist}) _ _ _ _ c.in-Some.is c.next.ensures.steps) c.loop-other.invariant in
-    let out = in_family triggers c.args.id e is.attached.0 (c.role_of-role.ensures ∙ ap (role_of triggers) c.variable.ensures) c.is_kin.ensures c.if-is_kin.false in
+    let e : ℕ × Hist = (c.in-Some.id.now, c.in-Some.trigger.now) in
+    let is = next_renewed (rest_more (deref_pair {K = ℕ} {X = Hist}) _ _ _ _ c.in-Some.is c.next.ensures.steps) c.loop-id.invariant in
+    let out = in_family triggers c.args.head e is.attached.0 (c.role_of-role.ensures ∙ ap (role_of triggers) c.variable.ensures) c.is_kin.ensures c.if-is_kin.false in
     renewed_skip is out
 
 pub returns : goal.returns
-returns c = renewed_all (rest_all (deref_pair {K = ℕ} {X = Hist}) _ _ _ c.in-None.is c.next.ensures.steps) c.loop-other.invariant
+returns c = renewed_all (rest_all (deref_pair {K = ℕ} {X = Hist}) _ _ _ c.in-None.is c.next.ensures.steps) c.loop-id.invariant

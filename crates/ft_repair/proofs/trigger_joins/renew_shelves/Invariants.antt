@@ -3,5 +3,5 @@ use Rattle.ft_repair.proofs.Putting.{AreRenewedBut}
 use Rattle.ft_repair.proofs.trigger_joins.renew_shelves.Given as goal
 
 -- all of the family but those that are left have new shelves
-abbrev pub invariant-loop-other : goal.invariant-loop-other
-invariant-loop-other l = AreRenewedBut l.triggers (is_in_family l.triggers l.id) l.fn.tables l.other-iterator l.tables
+abbrev pub invariant-loop-id : goal.invariant-loop-id
+invariant-loop-id l = AreRenewedBut l.triggers (is_in_family l.triggers l.head) l.fn.tables l.id-iterator l.tables

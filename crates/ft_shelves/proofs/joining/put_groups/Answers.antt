@@ -7,6 +7,7 @@ use Rattle.ft_fields.specs.declared.key.Part.{Part}
 use Rattle.ft_table.specs.Hits.{Hits}
 use Rattle.ft_table.specs.Spots.{spot_cmp}
 use Rattle.ft_shelves.specs.Joining.{hits_of_run}
+use Rattle.ft_shelves.proofs.Counted.{tests_none}
 use Rattle.ft_shelves.proofs.Listed.{listed_hits}
 use Rattle.ft_shelves.proofs.KeyByKey.{IsOnce, IsPut, first_key, keys_once, no_run, put_free, put_more, put_none}
 use Rattle.ft_shelves.proofs.joining.put_groups.Goals as goal
@@ -22,8 +23,7 @@ loop-key-init c =
           (λ key spot none. ap (λ run. map.get (map.from_entries {R = spot_cmp} (hits_of_run hist run)) spot) (no_run hist groups c.requires.grouped key none) ∙ get-empty spot_cmp spot));
       once = subst IsOnce (sym c.keys-key-items.ensures) (keys_once hist groups c.requires.grouped);
       size = refl;
-      evals = refl;
-      grow = record { evals = omega arith; puts = omega arith };
+      work = tests_none c.args.work.now;
     }
 
 pub put_key-requires : goal.put_key-requires
@@ -50,8 +50,7 @@ loop-key-preserved c =
           (λ k spot apart. takes.others (record { spot = spot; key = k }) apart);
       once = once.1;
       size = takes.size ∙ inv.size;
-      evals = c.put_key.ensures.evals ∙ inv.evals;
-      grow = record { evals = omega (arith, inv.grow.evals, c.put_key.ensures.evals); puts = omega (arith, inv.grow.puts, c.put_key.ensures.puts) };
+      work = record { evals = c.put_key.ensures.evals ∙ inv.work.evals; puts = omega (arith, inv.work.puts, c.put_key.ensures.puts) };
     }
 
 pub returns-clause-ok : goal.returns-clause-ok

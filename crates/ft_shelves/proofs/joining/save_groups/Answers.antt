@@ -4,7 +4,6 @@ use Rattle.std.specs.FinMap as map
 use Rattle.std.specs.FinMap.{get-empty}
 use Rattle.std.proofs.lemmas.List.{drop_all}
 use Rattle.ft_groups.specs.Grouped.{run_of}
-use Rattle.ft_hist.specs.Steps.{Steps, StepsGrow}
 use Rattle.ft_fields.specs.Orders.{key_cmp_total}
 use Rattle.ft_fields.specs.Ties.{key_same}
 use Rattle.ft_fields.specs.declared.key.Part.{Part}
@@ -12,6 +11,8 @@ use Rattle.ft_pairs.specs.ByKey.{OpsByKey, ops_of}
 use Rattle.ft_pairs.specs.Order.{at_cmp}
 use Rattle.ft_table.specs.Tabled.{is_in}
 use Rattle.ft_shelves.specs.Joining.{saves_of_run}
+use Rattle.ft_shelves.specs.Counts.{TestsNone}
+use Rattle.ft_shelves.proofs.Counted.{tests_none}
 use Rattle.ft_shelves.proofs.Listed.{listed_saves}
 use Rattle.ft_shelves.proofs.Decided.{itself, untied}
 use Rattle.ft_shelves.proofs.Finding.{none_both}
@@ -33,8 +34,7 @@ loop-key-init c =
           ∙ ap (λ o. cond (is_in table key) o None) (get-empty at_cmp at)
           ∙ none_both (is_in table key)));
       once = subst IsOnce (sym c.keys-key-items.ensures) (keys_once hist groups c.requires.grouped);
-      evals = refl;
-      grow = record { evals = omega arith; puts = omega arith };
+      work = tests_none c.args.work.now;
     }
 
 pub put_key-requires : goal.put_key-requires
@@ -69,9 +69,8 @@ loop-key-preserved c =
                 w.in_ok-put_key.ensures.ok k at
                 ∙ ap (λ b. cond b (map.get (map.from_entries {R = at_cmp} w.in_ok-run.run'.items) at) (ops_of c.loop-key.pairs k at)) (untied key_cmp_total key_same k key apart)));
             once = once.1;
-            evals = ap (λ (steps : Steps). steps.evals) w.work-is ∙ w.put_key.ensures.evals ∙ inv.evals;
-            grow = subst (StepsGrow c.args.work.now) (sym w.work-is)
-                (record { evals = omega (arith, inv.grow.evals, w.put_key.ensures.evals); puts = omega (arith, inv.grow.puts, w.put_key.ensures.puts) });
+            work = subst (TestsNone c.args.work.now) (sym w.work-is)
+                (record { evals = w.put_key.ensures.evals ∙ inv.work.evals; puts = omega (arith, inv.work.puts, w.put_key.ensures.puts) });
           }
       | else-is_in w ↦
           let outside : is_in table key ≡ false = sym c.is_in.ensures ∙ w.if-is_in.false in
@@ -82,8 +81,7 @@ loop-key-preserved c =
                 ∙ sym (ap (λ b. cond b (map.get (map.from_entries {R = at_cmp} (saves_of_run id (run_of groups key))) at) None) outside))
                 (λ k at apart. refl));
             once = once.1;
-            evals = ap (λ (steps : Steps). steps.evals) w.work-is ∙ inv.evals;
-            grow = subst (StepsGrow c.args.work.now) (sym w.work-is) inv.grow;
+            work = subst (TestsNone c.args.work.now) (sym w.work-is) inv.work;
           }
     ]
 

@@ -101,7 +101,7 @@ few_puts true false most before after few same = inr refl
 few_puts false true most before after few same = inr refl
 
 own_few : (c : goal.After-switch) → (c.switch.new.work.puts ≤ c.args.work.now.puts + on_insert (sign_of c.args.change) 2) ⊎ HasMoved (is_in c.args.shelf.now.table) (is_in (table_with c.args.change c.args.shelf.now.table))
-own_few c = elim (few_puts c.is_in-was_in.result (is_in c.change_own.new.shelf.table c.mark-key.result.key) _ c.change_own.new.work.puts c.switch.new.work.puts c.change_own.ensures.puts c.switch.ensures.puts) [
+own_few c = elim (few_puts c.is_in-was_in.result (is_in c.change_own.new.shelf.table c.mark-key.result.key) _ c.change_own.new.work.puts c.switch.new.work.puts c.change_own.ensures.work.few c.switch.ensures.puts) [
   | inl few ↦ inl few
   | inr moved ↦ inr ((change_mark c.args.change).key, sym (λ i. differ (was_is c i) (now_is c i)) ∙ moved)
 ]

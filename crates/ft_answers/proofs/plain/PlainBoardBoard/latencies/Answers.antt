@@ -1,22 +1,22 @@
--- The board is left as it is, and the answer is that of its base.
-use Rattle.std.proofs.Common.{false, ap, subst}
-use Rattle.ft_lanes.specs.Held.{Lanes}
-use Rattle.ft_hist.specs.Triggers.{Triggers}
-use Rattle.ft_answers.specs.Edited.{AnswerIs, AnswerKeeps}
-use Rattle.ft_answers.specs.Answers.{latencies, latencies_from}
-use Rattle.ft_replay.specs.Merged.{merged}
-use Rattle.ft_answers.specs.Shown.{Shown}
-use Rattle.ft_answers.proofs.AnswerSteps.{never-deferred, replayed_steps}
+use Rattle.std.proofs.Common.{◌≡◌, ◌∙◌, List, Result, Ok, sym, ap}
+use Rattle.std.proofs.lemmas.Result.{err_from_is_err_and}
+use Rattle.ft_answers.specs.declared.latency.Latency.{Latency}
+use Rattle.ft_replay.specs.declared.pair.Pair.{Pair}
+use Rattle.ft_base.specs.declared.refused.Refused.{Refused}
+use Rattle.ft_answers.specs.Answers.{latencies}
+use Rattle.ft_answers.proofs.Answering.{latencies-measured, measured, unmeasured}
 use Rattle.ft_answers.proofs.plain.PlainBoardBoard.latencies.Goals as goal
 
-pub returns-clause-gives : goal.returns-clause-gives
-unfolding latencies
-returns-clause-gives c =
-    let same = subst (λ (held : Triggers × Lanes). AnswerIs (λ l. l.items) (latencies_from held.0 (merged held.1) c.args.id) c.latencies_from.result) (λ i. (c.triggers-triggers.ensures i, c.lanes-lanes.ensures.lanes i)) c.latencies_from.ensures.gives in (
-      ap (λ (s : Shown). s.base) c.self.view_is,
-      subst (λ (s : Shown). AnswerIs (λ l. l.items) (latencies s.base c.args.id) c.latencies_from.result) c.self.view_is same,
-      subst (λ (s : Shown). AnswerKeeps s.deferred false c.latencies_from.result) c.self.view_is (never-deferred c.latencies_from.result),
-    )
+pub returns-in_err-pairs-clause-gives : goal.returns-in_err-pairs-clause-gives
+returns-in_err-pairs-clause-gives c =
+    let p = err_from_is_err_and c.from_residual.result c.from_residual.ensures.1 in
+    unmeasured (λ l. l.items) c.args.self.now c.pairs.new.self c.args.id c.in_err-pairs.field-0.0 c.from_residual.result
+    c.in_err-pairs.ensures.gives.0 c.in_err-pairs.ensures.gives.1 c.in_err-pairs.ensures.gives.2 (cc (p.1, p.2))
 
-pub returns-clause-steps : goal.returns-clause-steps
-returns-clause-steps c = replayed_steps c.self.inside.content c.self.inside.work c.latencies_from.new.work c.args.self.now c.self.view_is c.latencies_from.ensures.grow
+pub returns-clause-gives : goal.returns-clause-gives
+returns-clause-gives c =
+    let gives : latencies c.args.self.now.base c.args.id ≡ Ok c.in_ok-latencies_of.field-0.items =
+    latencies-measured c.args.self.now.base c.args.id ∙ ap measured c.in_ok-pairs.ensures.gives.1
+    ∙ ap (λ (pairs : List Pair). measured (Ok pairs)) (sym c.deref.ensures.value)
+    ∙ ap (λ (l : List Latency). let given : Result (List Latency) Refused = Ok l in given) (sym c.in_ok-latencies_of.ensures) in
+    (c.in_ok-pairs.ensures.gives.0, gives, c.in_ok-pairs.ensures.gives.2)

@@ -25,7 +25,7 @@ change-done-requires-clause-held c =
     let base : Base = c.self.inside.content in
     let place : Place = c.in_ok-place.place in
     let held : event_at base.lanes place.cpu place.line ≡ Some c.in-Some.event = ap (λ (l : Lanes). event_at l place.cpu place.line) (sym c.lanes.ensures.lanes) ∙ sym c.in-Some.ensures in
-    let goes = strikes base place c.in-Some.event held (ap (λ (e : Traced). e.stamp) c.event.view_is) in
+    let goes = strikes base place c.in-Some.event held in
     goes.held
 
 pub change-done-requires-clause-before : goal.change-done-requires-clause-before
@@ -33,7 +33,7 @@ change-done-requires-clause-before c =
     let base : Base = c.self.inside.content in
     let place : Place = c.in_ok-place.place in
     let held : event_at base.lanes place.cpu place.line ≡ Some c.in-Some.event = ap (λ (l : Lanes). event_at l place.cpu place.line) (sym c.lanes.ensures.lanes) ∙ sym c.in-Some.ensures in
-    let goes = strikes base place c.in-Some.event held (ap (λ (e : Traced). e.stamp) c.event.view_is) in
+    let goes = strikes base place c.in-Some.event held in
     record { edit = record { old = base; new = struck base place }; changes = goes.by; fresh = c.self.invariant }
 
 pub invariant_of-self : goal.invariant_of-self
@@ -41,7 +41,7 @@ invariant_of-self c =
     let base : Base = c.self.inside.content in
     let place : Place = c.in_ok-place.place in
     let held : event_at base.lanes place.cpu place.line ≡ Some c.in-Some.event = ap (λ (l : Lanes). event_at l place.cpu place.line) (sym c.lanes.ensures.lanes) ∙ sym c.in-Some.ensures in
-    let goes = strikes base place c.in-Some.event held (ap (λ (e : Traced). e.stamp) c.event.view_is) in
+    let goes = strikes base place c.in-Some.event held in
     subst (λ (b : Base). AreFresh b c.change-done.new.self) (sym c.strike.ensures)
     (c.change-done.ensures.fresh (record { old = base; new = struck base place }) goes.by c.self.invariant)
 
@@ -50,7 +50,7 @@ returns-clause-repairs c event there nothing =
     let base : Base = c.self.inside.content in
     let place : Place = c.in_ok-place.place in
     let held : event_at base.lanes place.cpu place.line ≡ Some c.in-Some.event = ap (λ (l : Lanes). event_at l place.cpu place.line) (sym c.lanes.ensures.lanes) ∙ sym c.in-Some.ensures in
-    let goes = strikes base place c.in-Some.event held (ap (λ (e : Traced). e.stamp) c.event.view_is) in
+    let goes = strikes base place c.in-Some.event held in
     let asked : ◌≡◌ {A = Place} (record { cpu = c.args.cpu; line = c.args.line }) place = strike-place base c.args.cpu c.args.line _ place c.in_ok-place.ensures.gives in
     let same : event ≡ c.in-Some.event =
     same_Some _ _ (sym there ∙ ap (λ (p : Place). event_at c.args.self.now.base.lanes p.cpu p.line) asked ∙ ap (λ (s : Shown). event_at s.base.lanes place.cpu place.line) (sym c.self.view_is) ∙ held) in
@@ -64,7 +64,7 @@ returns-clause-now c event there plain up =
     let base : Base = c.self.inside.content in
     let place : Place = c.in_ok-place.place in
     let held : event_at base.lanes place.cpu place.line ≡ Some c.in-Some.event = ap (λ (l : Lanes). event_at l place.cpu place.line) (sym c.lanes.ensures.lanes) ∙ sym c.in-Some.ensures in
-    let goes = strikes base place c.in-Some.event held (ap (λ (e : Traced). e.stamp) c.event.view_is) in
+    let goes = strikes base place c.in-Some.event held in
     let asked : ◌≡◌ {A = Place} (record { cpu = c.args.cpu; line = c.args.line }) place = strike-place base c.args.cpu c.args.line _ place c.in_ok-place.ensures.gives in
     let same : event ≡ c.in-Some.event =
     same_Some _ _ (sym there ∙ ap (λ (p : Place). event_at c.args.self.now.base.lanes p.cpu p.line) asked ∙ ap (λ (s : Shown). event_at s.base.lanes place.cpu place.line) (sym c.self.view_is) ∙ held) in
@@ -76,7 +76,7 @@ returns-clause-reports c =
     let base : Base = c.self.inside.content in
     let place : Place = c.in_ok-place.place in
     let held : event_at base.lanes place.cpu place.line ≡ Some c.in-Some.event = ap (λ (l : Lanes). event_at l place.cpu place.line) (sym c.lanes.ensures.lanes) ∙ sym c.in-Some.ensures in
-    let goes = strikes base place c.in-Some.event held (ap (λ (e : Traced). e.stamp) c.event.view_is) in
+    let goes = strikes base place c.in-Some.event held in
     let edit : Edit = record { old = base; new = struck base place } in
     subst (λ (b : Base). Reports c.args.self.now (kept_shown b c.change-done.new.self.shelves c.change-done.new.self.work) (Ok c.change-done.result)) (sym c.strike.ensures)
     (board_reports edit c.change-done.new.self c.change-done.result c.args.self.now (ap (λ (s : Shown). s.base) (sym c.self.view_is)) (c.change-done.ensures.reports edit goes.by c.self.invariant))

@@ -1,5 +1,5 @@
-use Rattle.std.proofs.Common.{◌≡◌, sym, ap, subst, ◌∙◌, List, Some, Result, Ok, Err}
-use Rattle.std.specs.Option.{IfSome, option_map}
+use Rattle.std.proofs.Common.{rules, ◌≡◌, sym, ap, subst, ◌∙◌, List, Some, Result, Ok, Err}
+use Rattle.std.specs.Option.{IfSome}
 use Rattle.std.specs.Result.{IfOk, result_ok}
 use Rattle.ft_kept.specs.Shelves.{Shelves}
 use Rattle.ft_kept.specs.declared.changes.KeyChange.{KeyChange}
@@ -15,15 +15,17 @@ if_answered P Q (Err e) then is = tt
 
 pub returns-clause-rows : goal.returns-clause-rows
 returns-clause-rows c =
-    let shelves : Shelves = c.in-Some.tables in
-    let keys : List KeyChange = c.in-Some-keys.keys.now in
+    let shelves : Shelves = c.in_ok-tables.tables.now in
+    let keys : List KeyChange = c.in_ok-keys.keys.now in
+    let there : c.args.self.now.shelves ≡ Some shelves = search rules in
+    let are_told : c.args.changes.now.keys ≡ Some keys = search rules in
     subst (λ o. IfSome o (λ rows. IsReportBy c.args.content.now.triggers c.args.self.now.shelves c.args.changes.now.keys rows.items)) (sym c.ok.ensures.value)
     (if_answered (λ rows. rows.items ≡ report_of c.triggers.result.now shelves keys) (λ rows. IsReportBy c.args.content.now.triggers c.args.self.now.shelves c.args.changes.now.keys rows.items) c.changed_rows.result
     (λ rows is. record {
       shelves = shelves;
       keys = keys;
-      there = c.in-Some.is;
-      are_told = sym c.keys.ensures ∙ ap (option_map (λ ks. ks.now)) c.in-Some-keys.is;
+      there = there;
+      are_told = are_told;
       are = is ∙ ap (λ (triggers : Triggers). report_of triggers shelves keys) c.triggers.ensures;
     })
     c.changed_rows.ensures)

@@ -1,5 +1,5 @@
 -- Nothing is placed where nothing stands.
-use Rattle.std.proofs.Common.{◌≡◌, ℕ, List, [], sym, subst}
+use Rattle.std.proofs.Common.{◌≡◌, ℕ, List, [], sym, ap, subst}
 use Rattle.std.specs.FinMap as map
 use Rattle.std.specs.FinMap.{FinMap}
 use Rattle.ft_fields.specs.declared.pos.Pos.{Pos}
@@ -8,6 +8,7 @@ use Rattle.ft_fields.specs.declared.key.Part.{Part}
 use Rattle.ft_fields.specs.Parts.{key_cmp}
 use Rattle.ft_maps.specs.Seen.{seen-empty}
 use Rattle.ft_groups.specs.inner.Placed.{AreIndexed, grouped_by_places}
+use Rattle.ft_groups.specs.inner.Sorted.{runs_of}
 use Rattle.ft_groups.proofs.Placing.{none_placed, none_listed}
 use Rattle.ft_groups.proofs.sorted.Sorted.new.Goals as goal
 
@@ -19,9 +20,9 @@ of_nothing P keys runs places no_keys no_runs no_places p =
     (subst (λ (rs : List (List (Pos × Traced))). P [] rs places) (sym no_runs) (subst (P [] []) (sym no_places) p))
 
 pub returns-clause-placed : goal.returns-clause-placed
-returns-clause-placed c = of_nothing AreIndexed _ _ _ c.new-2.ensures.items c.new-3.ensures.items (seen-empty key_cmp c.new-4.result c.new-4.ensures.empty) none_placed
+returns-clause-placed c = of_nothing AreIndexed _ _ _ c.new-2.ensures.items (ap runs_of c.new-3.ensures.items) (seen-empty key_cmp c.new-4.result c.new-4.ensures.empty) none_placed
 
 pub returns-clause-none : goal.returns-clause-none
 returns-clause-none c =
-    of_nothing (λ keys runs places. grouped_by_places keys runs places ≡ record { keys = []; runs = map.empty }) _ _ _ c.new-2.ensures.items c.new-3.ensures.items
+    of_nothing (λ keys runs places. grouped_by_places keys runs places ≡ record { keys = []; runs = map.empty }) _ _ _ c.new-2.ensures.items (ap runs_of c.new-3.ensures.items)
     (seen-empty key_cmp c.new-4.result c.new-4.ensures.empty) none_listed

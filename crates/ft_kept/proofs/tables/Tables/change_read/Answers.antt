@@ -21,5 +21,7 @@ returns-in-Some-clause-ok c =
     (lent_changes variable.saver c.args.self.now c.shelf_mut.result c.in-Some.shelf c.in-Some.is c.shelf_mut.ensures.value _ c.change_op.new.self (c.shelf_mut.follows.holds c.change_op.new.self)
     (OpsChange variable.key (set_op c.args.at (op_after c.args.sign Read)))) c.change_op.ensures.ok
 
-pub returns-in-Some-clause-puts : goal.returns-in-Some-clause-puts
-returns-in-Some-clause-puts c = omega (arith, c.change_op.ensures.puts, inserts_at_most c.args.sign 1)
+pub returns-in-Some-clause-work : goal.returns-in-Some-clause-work
+returns-in-Some-clause-work c =
+    let did = c.change_op.ensures.work in
+    record { evals = did.evals; puts = omega (arith, did.puts); few = omega (arith, did.puts, inserts_at_most c.args.sign 1) }

@@ -30,7 +30,7 @@ loop-pos-init c =
 
 pub apply_to-requires-clause-views : goal.apply_to-requires-clause-views
 apply_to-requires-clause-views c =
-    let more = first_left c.args.events.now c.loop-pos.pos-index c.loop-pos-item.result c.event-event.result c.loop-pos-test.true c.loop-pos-item.is c.event-event.ensures in
+    let more = first_left c.args.events.now c.loop-pos.pos-index c.loop-pos-item.result c.event.result c.loop-pos-test.true c.loop-pos-item.is c.event.ensures in
     next_views (next_of more (c.loop-pos.invariant.joining c.requires))
 
 pub apply_to-requires-clause-attached : goal.apply_to-requires-clause-attached
@@ -39,22 +39,22 @@ apply_to-requires-clause-attached c =
 
 pub apply_to-requires-clause-held : goal.apply_to-requires-clause-held
 apply_to-requires-clause-held c =
-    let more = first_left c.args.events.now c.loop-pos.pos-index c.loop-pos-item.result c.event-event.result c.loop-pos-test.true c.loop-pos-item.is c.event-event.ensures in
+    let more = first_left c.args.events.now c.loop-pos.pos-index c.loop-pos-item.result c.event.result c.loop-pos-test.true c.loop-pos-item.is c.event.ensures in
     next_held (next_of more (c.loop-pos.invariant.joining c.requires))
 
 pub apply_to-requires-clause-before : goal.apply_to-requires-clause-before
 apply_to-requires-clause-before c =
-    let more = first_left c.args.events.now c.loop-pos.pos-index c.loop-pos-item.result c.event-event.result c.loop-pos-test.true c.loop-pos-item.is c.event-event.ensures in
+    let more = first_left c.args.events.now c.loop-pos.pos-index c.loop-pos-item.result c.event.result c.loop-pos-test.true c.loop-pos-item.is c.event.ensures in
     its_before c.args.self.now.id c.requires.can.attached (next_of more (c.loop-pos.invariant.joining c.requires))
 
 pub loop-pos-preserved : goal.loop-pos-preserved
 loop-pos-preserved c =
-    let more = first_left c.args.events.now c.loop-pos.pos-index c.loop-pos-item.result c.event-event.result c.loop-pos-test.true c.loop-pos-item.is c.event-event.ensures in
+    let more = first_left c.args.events.now c.loop-pos.pos-index c.loop-pos-item.result c.event.result c.loop-pos-test.true c.loop-pos-item.is c.event.ensures in
     record {
       joining = λ may. its_fewer c.args.self.now.id c.requires.can.attached (next_of more (c.loop-pos.invariant.joining may)) c.apply_to.new.self c.in_ok-apply_to.ensures.forms c.in_ok-apply_to.ensures.views c.in_ok-apply_to.ensures.input;
       evals =
           let count = ap (λ (es : List (Pos × Traced)). length es) more in
-          omega (arith, c.loop-pos.invariant.evals, count, c.in_ok-apply_to.ensures.evals, asked_once c.args.self.now.trigger.now c.event-event.result);
+          omega (arith, c.loop-pos.invariant.evals, count, c.in_ok-apply_to.ensures.evals, asked_once c.args.self.now.trigger.now c.event.result);
       grow = grow_more _ _ _ c.loop-pos.invariant.grow c.in_ok-apply_to.ensures.grow;
     }
 
@@ -67,9 +67,9 @@ returns-clause-evals c =
 
 pub returns-in_err-apply_to-clause-evals : goal.returns-in_err-apply_to-clause-evals
 returns-in_err-apply_to-clause-evals c =
-    let more = first_left c.args.events.now c.loop-pos.pos-index c.loop-pos-item.result c.event-event.result c.loop-pos-test.true c.loop-pos-item.is c.event-event.ensures in
+    let more = first_left c.args.events.now c.loop-pos.pos-index c.loop-pos-item.result c.event.result c.loop-pos-test.true c.loop-pos-item.is c.event.ensures in
     let count = ap (λ (es : List (Pos × Traced)). length es) more in
-    omega (arith, c.loop-pos.invariant.evals, count, c.apply_to.ensures.evals, asked_once c.args.self.now.trigger.now c.event-event.result, all_of_them c.args.events.now)
+    omega (arith, c.loop-pos.invariant.evals, count, c.apply_to.ensures.evals, asked_once c.args.self.now.trigger.now c.event.result, all_of_them c.args.events.now)
 
 pub acts_come-requires-clause-shelved : goal.acts_come-requires-clause-shelved
 acts_come-requires-clause-shelved c = c.requires.can.kept.views.shelved

@@ -1,4 +1,4 @@
-use Rattle.std.proofs.Common.{◌≡◌, ◌<◌, refl, sym, ap, subst, ◌∙◌, Some, None, Option, arith}
+use Rattle.std.proofs.Common.{◌≡◌, ◌<◌, sym, ap, subst, ◌∙◌, Some, None, Option}
 use Rattle.std.specs.Prelude.{is_some}
 use Rattle.ft_pairs.specs.ByKey.{ChangesKey, ops_of}
 use Rattle.ft_table.specs.Tabled.{Tabled}
@@ -6,6 +6,7 @@ use Rattle.ft_table.specs.Rows.{hit_after}
 use Rattle.ft_hits.specs.declared.hit.Hit.{Hit}
 use Rattle.ft_shelves.specs.Shelves.{Shelved}
 use Rattle.ft_shelves.specs.Following.{with_saves}
+use Rattle.ft_shelves.proofs.Counted.{tests_none, none_then}
 use Rattle.ft_shelves.proofs.Hitting.{next_there}
 use Rattle.ft_shelves.proofs.Saving.{with_saves_till, hits_left, begun, unsaved, one_further, fewer_left}
 use Rattle.ft_shelves.proofs.shelf.Shelf.put_saves.Goals as goal
@@ -19,8 +20,7 @@ loop-next-init c =
       readings = ap (λ (s : Shelved). s.readings) c.self.view_is;
       there = λ hit is. ap is_some (next_there hits c.args.key None hit (sym c.hit_after-next.ensures ∙ is));
       saved = λ k at. ap (λ (s : Shelved). ops_of s.ops k at) c.self.view_is ∙ begun hits c.args.id c.args.key c.args.self.now.ops c.hit_after-next.result (sym c.hit_after-next.ensures) k at;
-      evals = refl;
-      puts = omega arith;
+      work = tests_none c.args.work.now;
     }
 
 pub put_save-requires : goal.put_save-requires
@@ -50,8 +50,7 @@ loop-next-preserved c =
       there = λ hit is. ap is_some (next_there hits key (Some c.in-Some.hit.spot) hit (next ∙ is));
       saved = one_further hits c.args.id key c.in-Some.hit c.hit_after-next-in-Some.result next (known.there c.in-Some.hit c.in-Some.is) old mid c.put_save.new.pairs
           (subst (λ (n : Option Hit). ChangesKey key (with_saves_till hits c.args.id key n) old mid) c.in-Some.is known.saved) c.in_ok-put_save.ensures.ok;
-      evals = c.put_save.ensures.evals ∙ known.evals;
-      puts = let before = known.puts in let one = c.put_save.ensures.grow.puts in omega (arith, before, one);
+      work = none_then c.args.work.now c.loop-next.work c.put_save.new.work known.work c.put_save.ensures.work;
     }
 
 pub returns-clause-ok : goal.returns-clause-ok

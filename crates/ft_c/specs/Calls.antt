@@ -1,0 +1,12 @@
+-- Calls of a session through a handle. All of it is our own choice.
+use Rattle.std.specs.Prelude.{◌≡◌, ℕ, Option, None, MatchOption, IsSomeAnd}
+use Rattle.ft_c.specs.Codes.{closed}
+use Rattle.ft_c.specs.Owned.{Held}
+
+-- the session does this, and is in the handle again; a handle without one answers the code for that, and stays so
+abbrev pub Calls : Option Held → Option Held → ℕ → (Held → Held → Type 0) → Type 0
+Calls old new code does = MatchOption old ((code ≡ closed) × (new ≡ None)) (λ before. IsSomeAnd new (does before))
+
+-- the same of a call that writes: without a session nothing is written
+abbrev pub CallsWriting : {T : Type 0} → Option Held → Option Held → ℕ → T → T → (Held → Held → Type 0) → Type 0
+CallsWriting old new code before after does = MatchOption old ((code ≡ closed) × (new ≡ None) × (after ≡ before)) (λ held. IsSomeAnd new (does held))

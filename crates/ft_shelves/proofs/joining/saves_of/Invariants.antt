@@ -1,7 +1,0 @@
-use Rattle.std.proofs.Common.{◌≡◌, ◌++◌, drop}
-use Rattle.ft_groups.specs.Grouped.{referenced_events, run_of}
-use Rattle.ft_shelves.specs.Joining.{saves_of_run}
-use Rattle.ft_shelves.proofs.joining.saves_of.Given as goal
-
-abbrev pub invariant-loop-event : goal.invariant-loop-event
-invariant-loop-event l = l.saves.items ++ saves_of_run l.joining.id (referenced_events (drop l.event-index l.run)) ≡ saves_of_run l.joining.id (run_of l.joining.groups.now l.key)
